@@ -1,0 +1,5 @@
+//! The instructions of a procedure, and the container of bytes that it is stored in.
+#![tactic(auto)]
+
+pub mod instr;
+pub mod operand;
