@@ -1,0 +1,11 @@
+-- Who holds a node.
+use Rattle.std.specs.Prelude.{ℕ, List, [], ◌∷◌, ◌==◌, if◌then◌else◌, Option, Some, None}
+use Rattle.tl_protocol.specs.declared.event.Event.{Event}
+use Rattle.tl_protocol.specs.declared.event.Event.TheVariants.{Admit, Lock, Free, Done}
+
+-- the call that locked x last, if nobody has freed x since
+abbrev pub holder_of : List Event → ℕ → Option ℕ
+holder_of [] x = None
+holder_of (Lock c y found ∷ past) x = if y == x then Some c else holder_of past x
+holder_of (Free c y left ∷ past) x = if y == x then None else holder_of past x
+holder_of (_ ∷ past) x = holder_of past x
