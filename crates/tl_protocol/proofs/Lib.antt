@@ -3,3 +3,8 @@ pub mod Coming
 pub mod Orders
 pub mod Parts
 pub mod Placed
+pub mod Records
+pub mod Shared
+pub mod Laid
+pub mod Alone
+pub mod Serial

@@ -1,0 +1,83 @@
+-- What is said of a call's actions is said of those that are shared.
+use Rattle.std.proofs.Common.{◌≡◌, ◌≢◌, ℕ, ◌<◌, ◌==◌, ◌||◌, ◌&&◌, not, true, List, [], ◌∷◌, ◌++◌, map, length, set, refl, sym, ap, ◌∙◌, subst, inl, inr, arith, append_assoc}
+use Rattle.std.specs.Prelude.{if◌then◌else◌}
+use Rattle.std.proofs.lemmas.Bool.{cases_Bool, both_ways, eqb-true, eq-eqb}
+use Rattle.std.proofs.lemmas.List.{get_or-set_same, get_or-set_other, length-set, ext_get_or, append-nil}
+use Rattle.tl_tree.specs.Records.{Record}
+use Rattle.tl_tree.specs.Shape.{parent}
+use Rattle.tl_protocol.specs.declared.action.Action.{Action}
+use Rattle.tl_protocol.specs.declared.action.Action.TheVariants as A
+use Rattle.tl_protocol.specs.Actions.{locked, held, locked_any, has_ended, left_in, shared_actions, locks_and_frees, EachPermitted}
+
+pub locked-shared_actions : (done : List Action) (x : ℕ) → locked (shared_actions done) x ≡ locked done x
+locked-shared_actions [] x = refl
+locked-shared_actions (A.Lock y found ∷ done) x = ap (λ b. (y == x) || b) (locked-shared_actions done x)
+locked-shared_actions (A.Read y field n ∷ done) x = locked-shared_actions done x
+locked-shared_actions (A.Write y field n ∷ done) x = locked-shared_actions done x
+locked-shared_actions (A.Free y left ∷ done) x = locked-shared_actions done x
+locked-shared_actions (A.Emit n ∷ done) x = locked-shared_actions done x
+locked-shared_actions (A.End ∷ done) x = locked-shared_actions done x
+locked-shared_actions (A.Plain ∷ done) x = locked-shared_actions done x
+
+pub left-shared_actions : (done : List Action) (x : ℕ) (r : Record) → left_in (shared_actions done) x r ≡ left_in done x r
+left-shared_actions [] x r = refl
+left-shared_actions (A.Lock y found ∷ done) x r = left-shared_actions done x r
+left-shared_actions (A.Read y field n ∷ done) x r = left-shared_actions done x r
+left-shared_actions (A.Write y field n ∷ done) x r = left-shared_actions done x r
+left-shared_actions (A.Free y left ∷ done) x r = ap (λ s. if y == x then left else s) (left-shared_actions done x r)
+left-shared_actions (A.Emit n ∷ done) x r = left-shared_actions done x r
+left-shared_actions (A.End ∷ done) x r = left-shared_actions done x r
+left-shared_actions (A.Plain ∷ done) x r = left-shared_actions done x r
+
+pub held-shared_actions : (done : List Action) (x : ℕ) → held (shared_actions done) x ≡ held done x
+held-shared_actions [] x = refl
+held-shared_actions (A.Lock y found ∷ done) x = ap (λ b. (y == x) || b) (held-shared_actions done x)
+held-shared_actions (A.Read y field n ∷ done) x = held-shared_actions done x
+held-shared_actions (A.Write y field n ∷ done) x = held-shared_actions done x
+held-shared_actions (A.Free y left ∷ done) x = ap (λ b. not (y == x) && b) (held-shared_actions done x)
+held-shared_actions (A.Emit n ∷ done) x = held-shared_actions done x
+held-shared_actions (A.End ∷ done) x = held-shared_actions done x
+held-shared_actions (A.Plain ∷ done) x = held-shared_actions done x
+
+pub any-shared_actions : (done : List Action) → locked_any (shared_actions done) ≡ locked_any done
+any-shared_actions [] = refl
+any-shared_actions (A.Lock y found ∷ done) = refl
+any-shared_actions (A.Read y field n ∷ done) = any-shared_actions done
+any-shared_actions (A.Write y field n ∷ done) = any-shared_actions done
+any-shared_actions (A.Free y left ∷ done) = any-shared_actions done
+any-shared_actions (A.Emit n ∷ done) = any-shared_actions done
+any-shared_actions (A.End ∷ done) = any-shared_actions done
+any-shared_actions (A.Plain ∷ done) = any-shared_actions done
+
+pub ended-shared_actions : (done : List Action) → has_ended (shared_actions done) ≡ has_ended done
+ended-shared_actions [] = refl
+ended-shared_actions (A.Lock y found ∷ done) = ended-shared_actions done
+ended-shared_actions (A.Read y field n ∷ done) = ended-shared_actions done
+ended-shared_actions (A.Write y field n ∷ done) = ended-shared_actions done
+ended-shared_actions (A.Free y left ∷ done) = ended-shared_actions done
+ended-shared_actions (A.Emit n ∷ done) = ended-shared_actions done
+ended-shared_actions (A.End ∷ done) = refl
+ended-shared_actions (A.Plain ∷ done) = ended-shared_actions done
+
+-- the locks and the frees alone are among what is shared
+pub locks_and_frees-shared_actions : (done : List Action) → locks_and_frees (shared_actions done) ≡ locks_and_frees done
+locks_and_frees-shared_actions [] = refl
+locks_and_frees-shared_actions (A.Lock y found ∷ done) = ap (λ z. A.Lock y found ∷ z) (locks_and_frees-shared_actions done)
+locks_and_frees-shared_actions (A.Read y field n ∷ done) = locks_and_frees-shared_actions done
+locks_and_frees-shared_actions (A.Write y field n ∷ done) = locks_and_frees-shared_actions done
+locks_and_frees-shared_actions (A.Free y left ∷ done) = ap (λ z. A.Free y left ∷ z) (locks_and_frees-shared_actions done)
+locks_and_frees-shared_actions (A.Emit n ∷ done) = locks_and_frees-shared_actions done
+locks_and_frees-shared_actions (A.End ∷ done) = locks_and_frees-shared_actions done
+locks_and_frees-shared_actions (A.Plain ∷ done) = locks_and_frees-shared_actions done
+
+-- what is shared of permitted actions is permitted
+pub obeys_shared : (parents : List ℕ) (done : List Action) → EachPermitted parents done → EachPermitted parents (shared_actions done)
+obeys_shared parents [] h = tt
+obeys_shared parents (A.Lock x found ∷ done) h = ((locked-shared_actions done x ∙ h.0.0, λ any. held-shared_actions done (parent parents x) ∙ h.0.1 (sym (any-shared_actions done) ∙ any)), ended-shared_actions done ∙ h.1, obeys_shared parents done h.2)
+obeys_shared parents (A.Read y field n ∷ done) h = obeys_shared parents done h.2
+obeys_shared parents (A.Write y field n ∷ done) h = obeys_shared parents done h.2
+obeys_shared parents (A.Free y left ∷ done) h = (held-shared_actions done y ∙ h.0, ended-shared_actions done ∙ h.1, obeys_shared parents done h.2)
+obeys_shared parents (A.Emit n ∷ done) h = obeys_shared parents done h.2
+obeys_shared parents (A.End ∷ done) h = (λ x. held-shared_actions done x ∙ h.0 x, ended-shared_actions done ∙ h.1, obeys_shared parents done h.2)
+obeys_shared parents (A.Plain ∷ done) h = obeys_shared parents done h.2
+
