@@ -8,3 +8,5 @@ pub mod Shared
 pub mod Laid
 pub mod Alone
 pub mod Serial
+pub mod Steps
+pub mod Standstill

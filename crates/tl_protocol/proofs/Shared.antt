@@ -7,7 +7,7 @@ use Rattle.tl_tree.specs.Records.{Record}
 use Rattle.tl_tree.specs.Shape.{parent}
 use Rattle.tl_protocol.specs.declared.action.Action.{Action}
 use Rattle.tl_protocol.specs.declared.action.Action.TheVariants as A
-use Rattle.tl_protocol.specs.Actions.{locked, held, locked_any, has_ended, left_in, shared_actions, locks_and_frees, EachPermitted}
+use Rattle.tl_protocol.specs.Actions.{locked, held, locked_any, has_ended, left_in, shared_actions, locks_and_frees, Permitted, EachPermitted}
 
 pub locked-shared_actions : (done : List Action) (x : ℕ) → locked (shared_actions done) x ≡ locked done x
 locked-shared_actions [] x = refl
@@ -69,6 +69,16 @@ locks_and_frees-shared_actions (A.Free y left ∷ done) = ap (λ z. A.Free y lef
 locks_and_frees-shared_actions (A.Emit n ∷ done) = locks_and_frees-shared_actions done
 locks_and_frees-shared_actions (A.End ∷ done) = locks_and_frees-shared_actions done
 locks_and_frees-shared_actions (A.Plain ∷ done) = locks_and_frees-shared_actions done
+
+-- an action that is permitted after all that was done is permitted after what is shared of it
+pub permitted_shared : (parents : List ℕ) (done : List Action) (a : Action) → Permitted parents done a → Permitted parents (shared_actions done) a
+permitted_shared parents done (A.Lock x found) p = (locked-shared_actions done x ∙ p.0, λ any. held-shared_actions done (parent parents x) ∙ p.1 (sym (any-shared_actions done) ∙ any))
+permitted_shared parents done (A.Read x f n) p = held-shared_actions done x ∙ p
+permitted_shared parents done (A.Write x f n) p = held-shared_actions done x ∙ p
+permitted_shared parents done (A.Free x left) p = held-shared_actions done x ∙ p
+permitted_shared parents done (A.Emit n) p = tt
+permitted_shared parents done A.End p = λ x. held-shared_actions done x ∙ p x
+permitted_shared parents done A.Plain p = tt
 
 -- what is shared of permitted actions is permitted
 pub obeys_shared : (parents : List ℕ) (done : List Action) → EachPermitted parents done → EachPermitted parents (shared_actions done)
