@@ -10,3 +10,4 @@ pub mod Alone
 pub mod Serial
 pub mod Steps
 pub mod Standstill
+pub mod Reached

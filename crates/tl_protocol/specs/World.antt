@@ -102,8 +102,12 @@ admitted w alone = record w {
   counts = λ d. if admits w.past == d then 0 else w.counts d;
 }
 
+-- the world before any admission
+abbrev pub opened : List ℕ → Records → (ℕ → Records → Outcome) → World
+opened parents opening alones = record { parents = parents; opening = opening; alones = alones; past = []; counts = λ c. 0 }
+
 -- the worlds that admissions and steps lead to
 pub data Reached (parents : List ℕ) (opening : Records) : World → Type 0 where
-  Opens : (alones : ℕ → Records → Outcome) → Reached parents opening (record { parents = parents; opening = opening; alones = alones; past = []; counts = λ c. 0 })
+  Opens : (alones : ℕ → Records → Outcome) → Reached parents opening (opened parents opening alones)
   Admits : (w : World) (alone : Records → Outcome) → Reached parents opening w → IsAlone parents alone → Reached parents opening (admitted w alone)
   Moves : (w : World) (c : ℕ) (next : Action) → Reached parents opening w → MayTake w c next → Reached parents opening (moved w c next)

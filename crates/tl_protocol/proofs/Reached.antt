@@ -1,0 +1,128 @@
+-- Every world that admissions and steps lead to is sound, and ends as its calls alone do.
+use Rattle.std.proofs.Common.{◌≡◌, ◌≢◌, ℕ, zero, suc, ◌<◌, ◌≤◌, ◌==◌, true, false, List, [], ◌∷◌, length, map, refl, sym, ap, ◌∙◌, subst, inl, inr, arith, Option, Some, None, slice_get}
+use Rattle.std.proofs.lemmas.Bool.{cases_eq, cases_lt, false_from_ne_true, both_ways, eqb-true, ne_eqb, eq-eqb}
+use Rattle.tl_tree.specs.Records.{Records}
+use Rattle.tl_tree.specs.Shape.{IsTree}
+use Rattle.tl_protocol.specs.declared.action.Action.{Action}
+use Rattle.tl_protocol.specs.declared.event.Event.{Event}
+use Rattle.tl_protocol.specs.declared.event.Event.TheVariants.{Admit, Lock, Free, Done}
+use Rattle.tl_protocol.specs.Actions.{locked_any, with_found, shared_actions, taken}
+use Rattle.tl_protocol.specs.History.{part_of, is_done, admits, AllDone, InTurn, records_now}
+use Rattle.tl_protocol.specs.Order.{stands, Agrees}
+use Rattle.tl_protocol.specs.Alone.{Outcome, all_taken, IsAlone, serial}
+use Rattle.tl_protocol.specs.World.{World, alone_of, Genuine, Legal, IsSound, reply_of, MayTake, as_found, moved, admitted, opened, Reached, Opens, Admits, Moves}
+use Rattle.tl_protocol.proofs.Records.{length-with}
+use Rattle.tl_protocol.proofs.Alone.{ends_some}
+use Rattle.tl_protocol.proofs.Serial.{alone_local, serial-along}
+use Rattle.tl_protocol.proofs.Steps.{unadmitted, done_other, admits-stored, legal_moved}
+use Rattle.tl_protocol.proofs.Standstill.{sound_history}
+
+-- a call that wasn't admitted isn't done
+pub unadmitted_done : (past : List Event) → InTurn past → (c : ℕ) → admits past ≤ c → is_done c past ≡ false
+unadmitted_done [] turn c le = refl
+unadmitted_done (Admit d ∷ past) turn c le = unadmitted_done past turn.1 c (omega arith)
+unadmitted_done (Lock d x found ∷ past) turn c le = unadmitted_done past turn.1 c le
+unadmitted_done (Free d x left ∷ past) turn c le = unadmitted_done past turn.1 c le
+unadmitted_done (Done d ∷ past) turn c le =
+    let lt : d < admits past = turn.0.0 in
+    let ne : d ≢ c = λ w. omega arith in
+    let q = ne_eqb d c ne in
+    rw q (unadmitted_done past turn.1 c le)
+
+-- an admission keeps a world legal
+pub legal_admitted : (w : World) (alone : Records → Outcome) → Legal w → length w.opening ≡ length w.parents → IsAlone w.parents alone → Legal (admitted w alone)
+legal_admitted w alone legal len is_alone = record {
+  in_turn = (refl, legal.in_turn);
+  apart = legal.apart;
+  follows = legal.follows;
+  genuine = λ c lt. elim (cases_eq (admits w.past) c) [
+    | inl same ↦
+        let q = eq-eqb (admits w.past) c same in
+        let p = unadmitted w.past legal.in_turn c (omega arith) in
+        let d = unadmitted_done w.past legal.in_turn c (omega arith) in
+        let some = ends_some (alone (with_found (part_of c w.past) w.opening)).actions (is_alone.ends (with_found (part_of c w.past) w.opening) (length-with (part_of c w.past) w.opening ∙ len)) in
+        rw q (record { is_part = p; within = omega arith; ended = d ∙ sym (ne_eqb 0 (length (alone (with_found (part_of c w.past) w.opening)).actions) (λ e. omega arith)) })
+    | inr other ↦
+        let q = ne_eqb (admits w.past) c other in
+        rw q (done_other (w.alones c) w.opening w.past (Admit (admits w.past) ∷ w.past) c (w.counts c) (legal.genuine c (omega arith)) refl refl)
+  ];
+}
+
+-- ---- sound worlds
+
+pub sound_opened : (parents : List ℕ) (opening : Records) (alones : ℕ → Records → Outcome) → IsTree parents → length opening ≡ length parents → IsSound (opened parents opening alones)
+sound_opened parents opening alones tree size = record {
+  tree = tree;
+  size = size;
+  alones = λ c lt. absurd (omega arith);
+  legal = record { in_turn = tt; apart = tt; follows = tt; genuine = λ c lt. absurd (omega arith) };
+}
+
+pub sound_admitted : (w : World) (alone : Records → Outcome) → IsSound w → IsAlone w.parents alone → IsSound (admitted w alone)
+sound_admitted w alone sound is_alone = record {
+  tree = sound.tree;
+  size = sound.size;
+  alones = λ c lt. elim (cases_eq (admits w.past) c) [
+    | inl same ↦ let q = eq-eqb (admits w.past) c same in rw q is_alone
+    | inr other ↦ let q = ne_eqb (admits w.past) c other in rw q (sound.alones c (omega arith))
+  ];
+  legal = legal_admitted w alone sound.legal sound.size is_alone;
+}
+
+pub sound_moved : (w : World) (c : ℕ) (next : Action) → IsSound w → MayTake w c next → IsSound (moved w c next)
+sound_moved w c next sound may = record {
+  tree = sound.tree;
+  size = sound.size;
+  alones = λ d lt. sound.alones d (subst (λ n. d < n) (admits-stored c (as_found w next) w.past) lt);
+  legal = legal_moved w c next sound.legal sound.size sound.alones may;
+}
+
+-- a world over this shape and these opening records
+pub record IsOver (parents : List ℕ) (opening : Records) (w : World) : Type 0 where
+  pub parents_are : w.parents ≡ parents
+  pub opening_is : w.opening ≡ opening
+  pub sound : IsSound w
+
+-- every world that is reached is sound
+pub reached_sound : (parents : List ℕ) (opening : Records) → IsTree parents → length opening ≡ length parents → (w : World) → Reached parents opening w → IsOver parents opening w
+reached_sound parents opening tree size w (Opens alones) = record { parents_are = refl; opening_is = refl; sound = sound_opened parents opening alones tree size }
+reached_sound parents opening tree size w' (Admits w alone reached is_alone) =
+    let old = reached_sound parents opening tree size w reached in
+    record {
+      parents_are = old.parents_are;
+      opening_is = old.opening_is;
+      sound = sound_admitted w alone old.sound (subst (λ ps. IsAlone ps alone) (sym old.parents_are) is_alone);
+    }
+reached_sound parents opening tree size w' (Moves w c next reached may) =
+    let old = reached_sound parents opening tree size w reached in
+    record { parents_are = old.parents_are; opening_is = old.opening_is; sound = sound_moved w c next old.sound may }
+
+-- ---- once all calls are done
+
+-- a call that is done has done all that it does alone
+all_of : (w : World) (c : ℕ) → Genuine (w.alones c) w.opening w.past c (w.counts c) → is_done c w.past ≡ true → part_of c w.past ≡ shared_actions (all_taken (alone_of (w.alones c) w.opening w.past c).actions)
+all_of w c h over =
+    let n = length (alone_of (w.alones c) w.opening w.past c).actions in
+    let all : w.counts c ≡ n = eqb-true (w.counts c) n (sym h.ended ∙ over) in
+    h.is_part ∙ ap (λ k. shared_actions (taken k (alone_of (w.alones c) w.opening w.past c).actions [])) all
+
+-- the calls alone along an order that agrees leave the records now and give every reply
+pub serial-agreeing : (w : World) → IsSound w → AllDone w.past → (order : List ℕ) → Agrees order w.past
+    → ((serial w.alones order w.opening).tree ≡ records_now w.past w.opening) × ((serial w.alones order w.opening).replies ≡ map (reply_of w) order)
+serial-agreeing w sound over order agrees =
+    let legal = sound.legal in
+    let history = sound_history w sound in
+    let known : (c : ℕ) → stands c order ≡ true → c < admits w.past = λ c k. elim (cases_lt c (admits w.past)) [
+      | inl here ↦ here
+      | inr out ↦
+          let p = unadmitted w.past legal.in_turn c out in
+          let d = unadmitted_done w.past legal.in_turn c out in
+          let none : locked_any (part_of c w.past) ≡ false = ap locked_any p in
+          let m = agrees.members c in
+          absurd (both_ways (stands c order) (grind (arith, m, none, d)) k)
+    ] in
+    serial-along w.parents w.alones w.opening w.past order history agrees (record {
+      follows = legal.follows;
+      is_local = λ c k. alone_local w.parents (length w.opening) sound.size (w.alones c) (sound.alones c (known c k));
+      genuine = λ c k. let lt = known c k in all_of w c (legal.genuine c lt) (over c lt);
+    })
