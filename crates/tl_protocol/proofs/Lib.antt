@@ -11,3 +11,4 @@ pub mod Serial
 pub mod Steps
 pub mod Standstill
 pub mod Reached
+pub mod Places
