@@ -8,7 +8,7 @@ use Rattle.tl_tree.specs.Shape.{parent, IsTree}
 use Rattle.tl_protocol.specs.declared.action.Action.{Action}
 use Rattle.tl_protocol.specs.declared.action.Action.TheVariants.{Plain, Lock, Read, Write, Free, Emit, End}
 use Rattle.tl_protocol.specs.Ancestors.{nodes_above}
-use Rattle.tl_protocol.specs.Actions.{locks, is_lock, locked, held, locked_any, EachPermitted, holds_first, may_come}
+use Rattle.tl_protocol.specs.Actions.{locks, is_lock, locked, held, locked_any, EachPermitted, holds_first, holds_some, may_come}
 use Rattle.tl_protocol.proofs.Ancestors.{parent-lower, by_climbing, nodes_above-root, nodes_above-step}
 
 -- the call holds the nearest node strictly above x that it locked
@@ -195,3 +195,11 @@ may_any parents tree done x may =
     let m = may_parts parents done x may in
     let n = λ (none : locked_any done ≡ false). none_comes parents tree done none x in
     grind (arith, m, n)
+
+holds_first-some : (done : List Action) (ys : List ℕ) → holds_first done ys ≡ true → holds_some done ys ≡ true
+holds_first-some done [] h = h
+holds_first-some done (y ∷ ys) h = let ih = holds_first-some done ys in grind (arith, h, ih)
+
+-- who may still come to x holds a node strictly above x: only the holders of those need be looked at
+pub may_holds : (parents : List ℕ) (done : List Action) (x : ℕ) → may_come parents done x ≡ true → holds_some done (nodes_above parents x) ≡ true
+may_holds parents done x may = let m = may_parts parents done x may in holds_first-some done (nodes_above parents x) m.1

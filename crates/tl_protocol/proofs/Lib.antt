@@ -12,3 +12,6 @@ pub mod Steps
 pub mod Standstill
 pub mod Reached
 pub mod Places
+pub mod Holders
+pub mod Counts
+pub mod Rows

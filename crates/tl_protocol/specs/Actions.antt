@@ -1,5 +1,5 @@
 -- What one call has done: a list of actions, the latest first.
-use Rattle.std.specs.Prelude.{◌≡◌, ℕ, Bool, true, false, not, ◌&&◌, ◌||◌, List, [], ◌∷◌, ◌++◌, ◌==◌, if◌then◌else◌, ℤ}
+use Rattle.std.specs.Prelude.{◌≡◌, ℕ, ◌+◌, Bool, true, false, not, ◌&&◌, ◌||◌, List, [], ◌∷◌, ◌++◌, ◌==◌, if◌then◌else◌, ℤ}
 use Rattle.std.proofs.Common.{zero, suc}
 use Rattle.tl_tree.specs.Records.{Record, Records, put_record}
 use Rattle.tl_tree.specs.Shape.{parent}
@@ -91,10 +91,16 @@ locks_and_frees (Lock x found ∷ done) = Lock x found ∷ locks_and_frees done
 locks_and_frees (Free x left ∷ done) = Free x left ∷ locks_and_frees done
 locks_and_frees (_ ∷ done) = locks_and_frees done
 
--- how many locks there were
+-- how many locks and how many frees there were
 abbrev pub lock_count : List Action → ℕ
 lock_count [] = 0
-lock_count (a ∷ done) = if is_lock a then suc (lock_count done) else lock_count done
+lock_count (Lock x found ∷ done) = lock_count done + 1
+lock_count (_ ∷ done) = lock_count done
+
+abbrev pub free_count : List Action → ℕ
+free_count [] = 0
+free_count (Free x left ∷ done) = free_count done + 1
+free_count (_ ∷ done) = free_count done
 
 -- ---- from a list with the earliest first
 

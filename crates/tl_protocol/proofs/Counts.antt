@@ -1,0 +1,123 @@
+-- How many locks and frees a call can have done.
+use Rattle.std.proofs.Common.{◌≡◌, ℕ, ◌+◌, ◌*◌, ◌≤◌, ◌<◌, zero, suc, ◌∙◌, ◌⊎◌, ◌==◌, ◌||◌, Bool, true, false, List, [], ◌∷◌, length, refl, sym, ap, subst, inl, inr, arith}
+use Rattle.std.specs.Prelude.{if◌then◌else◌}
+use Rattle.std.proofs.lemmas.Bool.{cases_Bool, cases_eq, cases_lt, both_ways, eqb-true, ne_eqb, eq-eqb}
+use Rattle.tl_tree.specs.Records.{Record}
+use Rattle.tl_tree.specs.Shape.{below}
+use Rattle.tl_protocol.specs.declared.action.Action.{Action}
+use Rattle.tl_protocol.specs.declared.action.Action.TheVariants as A
+use Rattle.tl_protocol.specs.Actions.{locks, locked, held, lock_count, free_count, EachPermitted}
+
+abbrev has : ℕ → List ℕ → Bool
+has x [] = false
+has x (y ∷ ys) = (y == x) || has x ys
+
+abbrev without : ℕ → List ℕ → List ℕ
+without x [] = []
+without x (y ∷ ys) = if y == x then ys else y ∷ without x ys
+
+length-without : (x : ℕ) (ys : List ℕ) → has x ys ≡ true → length (without x ys) + 1 ≡ length ys
+length-without x [] h = absurd (both_ways false refl h)
+length-without x (y ∷ ys) h = elim (cases_Bool (y == x)) [
+  | inl same ↦ rw same (omega arith)
+  | inr other ↦ let i = length-without x ys (rw other at h) in rw other (omega arith)
+]
+
+has-without : (x z : ℕ) (ys : List ℕ) → (x == z) ≡ false → has z ys ≡ true → has z (without x ys) ≡ true
+has-without x z [] ne h = h
+has-without x z (y ∷ ys) ne h = elim (cases_Bool (y == x)) [
+  | inl same ↦ let e : y ≡ x = eqb-true y x same in let q : (y == z) ≡ false = subst (λ w. (w == z) ≡ false) (sym e) ne in rw same (rw q at h)
+  | inr other ↦ rw other (elim (cases_Bool (y == z)) [ inl here ↦ rw here refl | inr away ↦ rw away (has-without x z ys ne (rw away at h)) ])
+]
+
+-- the nodes still held
+abbrev still : List Action → List ℕ
+still [] = []
+still (A.Lock x found ∷ done) = x ∷ still done
+still (A.Free x left ∷ done) = without x (still done)
+still (_ ∷ done) = still done
+
+held-still : (done : List Action) (x : ℕ) → held done x ≡ true → has x (still done) ≡ true
+held-still [] x h = h
+held-still (A.Lock y found ∷ done) x h = let ih = held-still done x in grind (arith, h, ih)
+held-still (A.Read y f n ∷ done) x h = held-still done x h
+held-still (A.Write y f n ∷ done) x h = held-still done x h
+held-still (A.Free y left ∷ done) x h = elim (cases_Bool (y == x)) [
+  | inl same ↦ absurd (both_ways false refl (rw same at h))
+  | inr other ↦ has-without y x (still done) other (held-still done x (rw other at h))
+]
+held-still (A.Emit n ∷ done) x h = held-still done x h
+held-still (A.End ∷ done) x h = held-still done x h
+held-still (A.Plain ∷ done) x h = held-still done x h
+
+-- each free has its lock
+frees_locks : (parents : List ℕ) (done : List Action) → EachPermitted parents done → free_count done + length (still done) ≡ lock_count done
+frees_locks parents [] h = refl
+frees_locks parents (A.Lock y found ∷ done) h = let i = frees_locks parents done h.2 in omega arith
+frees_locks parents (A.Read y f n ∷ done) h = frees_locks parents done h.2
+frees_locks parents (A.Write y f n ∷ done) h = frees_locks parents done h.2
+frees_locks parents (A.Free y left ∷ done) h =
+    let i = frees_locks parents done h.2 in
+    let l = length-without y (still done) (held-still done y h.0) in omega arith
+frees_locks parents (A.Emit n ∷ done) h = frees_locks parents done h.2
+frees_locks parents (A.End ∷ done) h = frees_locks parents done h.2
+frees_locks parents (A.Plain ∷ done) h = frees_locks parents done h.2
+
+-- a call that locks at most so many nodes stores at most twice as many locks and frees
+pub stored_places : (parents : List ℕ) (done : List Action) (most : ℕ) → EachPermitted parents done → lock_count done ≤ most → lock_count done + free_count done ≤ 2 * most
+stored_places parents done most h le = let f = frees_locks parents done h in omega arith
+
+-- ---- a call locks each node at most once
+
+-- how many of the first n nodes were locked
+abbrev nodes_locked : ℕ → List Action → ℕ
+nodes_locked zero done = 0
+nodes_locked (suc n) done = (if locked done n then suc (nodes_locked n done) else nodes_locked n done)
+
+nodes_locked_most : (n : ℕ) (done : List Action) → nodes_locked n done ≤ n
+nodes_locked_most zero done = omega arith
+nodes_locked_most (suc n) done = let i = nodes_locked_most n done in elim (cases_Bool (locked done n)) [ inl h ↦ rw h (omega arith) | inr h ↦ rw h (omega arith) ]
+
+-- an action that locks none of the first n nodes
+nodes_locked-same : (n : ℕ) (a : Action) (done : List Action) → ((x : ℕ) → x < n → locks a x ≡ false) → nodes_locked n (a ∷ done) ≡ nodes_locked n done
+nodes_locked-same zero a done h = refl
+nodes_locked-same (suc n) a done h =
+    let i = nodes_locked-same n a done (λ x lt. h x (omega arith)) in
+    let q = h n (omega arith) in
+    rw q (ap (λ m. if locked done n then suc m else m) i)
+
+-- a first lock of one of them
+nodes_locked-more : (n x : ℕ) (found : Record) (done : List Action) → x < n → locked done x ≡ false → nodes_locked n (A.Lock x found ∷ done) ≡ suc (nodes_locked n done)
+nodes_locked-more zero x found done lt fresh = absurd (omega arith)
+nodes_locked-more (suc n) x found done lt fresh = elim (cases_eq x n) [
+  | inl same ↦
+      let q = eq-eqb x n same in
+      let f : locked done n ≡ false = subst (λ z. locked done z ≡ false) same fresh in
+      rw (q, f) (ap suc (nodes_locked-same n (A.Lock x found) done (λ z below. ne_eqb x z (λ e. omega arith))))
+  | inr other ↦
+      let q = ne_eqb x n other in
+      let i = nodes_locked-more n x found done (omega arith) fresh in
+      rw q (elim (cases_Bool (locked done n)) [ inl h ↦ rw h (ap suc i) | inr h ↦ rw h i ])
+]
+
+locks_counted : (parents : List ℕ) (n : ℕ) (done : List Action) → EachPermitted parents done → ((x : ℕ) → locked done x ≡ true → x < n) → lock_count done ≡ nodes_locked n done
+locks_counted parents n [] h inside = none n
+  where
+    none : (n : ℕ) → 0 ≡ nodes_locked n []
+    none zero = refl
+    none (suc n) = none n
+locks_counted parents n (A.Lock y found ∷ done) h inside =
+    let self = eq-eqb y y refl in
+    let i = locks_counted parents n done h.2 (λ x l. inside x (grind (arith, l))) in
+    let m = nodes_locked-more n y found done (inside y (grind (arith, self))) h.0.0 in
+    omega arith
+locks_counted parents n (A.Read y f v ∷ done) h inside = locks_counted parents n done h.2 inside ∙ sym (nodes_locked-same n (A.Read y f v) done (λ x lt. refl))
+locks_counted parents n (A.Write y f v ∷ done) h inside = locks_counted parents n done h.2 inside ∙ sym (nodes_locked-same n (A.Write y f v) done (λ x lt. refl))
+locks_counted parents n (A.Free y left ∷ done) h inside = locks_counted parents n done h.2 inside ∙ sym (nodes_locked-same n (A.Free y left) done (λ x lt. refl))
+locks_counted parents n (A.Emit v ∷ done) h inside = locks_counted parents n done h.2 inside ∙ sym (nodes_locked-same n (A.Emit v) done (λ x lt. refl))
+locks_counted parents n (A.End ∷ done) h inside = locks_counted parents n done h.2 inside ∙ sym (nodes_locked-same n A.End done (λ x lt. refl))
+locks_counted parents n (A.Plain ∷ done) h inside = locks_counted parents n done h.2 inside ∙ sym (nodes_locked-same n A.Plain done (λ x lt. refl))
+
+-- a call that locks only the first n nodes locks at most n times
+pub locks_within : (parents : List ℕ) (n : ℕ) (done : List Action) → EachPermitted parents done → ((x : ℕ) → locked done x ≡ true → x < n) → lock_count done ≤ n
+locks_within parents n done h inside = let e = locks_counted parents n done h inside in let m = nodes_locked_most n done in omega arith
