@@ -14,7 +14,6 @@ use Rattle.tl_protocol.specs.World.{World, IsSound, next_of, IsStuck, IsFree}
 use Rattle.tl_protocol.specs.Holders.{holder_of}
 use Rattle.tl_protocol.proofs.Coming.{held-locked}
 use Rattle.tl_protocol.proofs.Parts.{part_of-free, part_of-done, part_of-other, legal_before, held-lock, held-free, held-done, exclusive}
-use Rattle.tl_protocol.proofs.Placed.{kept}
 use Rattle.tl_protocol.proofs.Laid.{free_held}
 use Rattle.tl_protocol.proofs.Standstill.{sound_history, next_permitted}
 

@@ -11,7 +11,9 @@ pub mod Serial
 pub mod Steps
 pub mod Standstill
 pub mod Reached
+pub mod Lists
 pub mod Places
+pub mod Apart
 pub mod Holders
 pub mod Counts
 pub mod Rows

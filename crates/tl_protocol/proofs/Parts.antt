@@ -35,7 +35,8 @@ obeys_before parents e past c h = elim (cases_eq (caller e) c) [ inl same ↦ ob
     obeys_own parents (Free d x left) past c same h = let q = eq-eqb d c same in let g = rw q at h in g.2
     obeys_own parents (Done d) past c same h = let q = eq-eqb d c same in let g = rw q at h in g.2
 
-apart_before : (e : Event) (past : List Event) → Apart (e ∷ past) → Apart past
+-- the same of what was apart
+pub apart_before : (e : Event) (past : List Event) → Apart (e ∷ past) → Apart past
 apart_before (Admit d) past h = h
 apart_before (Lock d x found) past h = h.1
 apart_before (Free d x left) past h = h

@@ -15,7 +15,7 @@ use Rattle.tl_protocol.proofs.Orders.{stands-put, IsDistinct-put, before-put, pu
 use Rattle.tl_protocol.proofs.Parts.{part_of-lock, part_of-free, part_of-done, part_of-other, legal_before, locked-lock, exclusive, locked-free, any-free, locked-done, any-done}
 
 -- whoever has locked a node stands before each call that may still come to it
-pub record Kept (parents order : List ℕ) (past : List Event) : Type 0 where
+pub record KeepsOrder (parents order : List ℕ) (past : List Event) : Type 0 where
   pub distinct : IsDistinct order
   pub members : (c : ℕ) → stands c order ≡ (locked_any (part_of c past) || is_done c past)
   pub in_lock_order : InLockOrder order past
@@ -49,8 +49,8 @@ not_again parents past c x found may =
     grind (arith, m.0, self)
 
 -- a lock under a held parent
-kept_child : (parents : List ℕ) → IsTree parents → (order : List ℕ) (past : List Event) (c x : ℕ) (found : Record) → Apart past → Kept parents order past
-    → locked_any (part_of c past) ≡ true → locked (part_of c past) x ≡ false → held (part_of c past) (parent parents x) ≡ true → Kept parents order (Lock c x found ∷ past)
+kept_child : (parents : List ℕ) → IsTree parents → (order : List ℕ) (past : List Event) (c x : ℕ) (found : Record) → Apart past → KeepsOrder parents order past
+    → locked_any (part_of c past) ≡ true → locked (part_of c past) x ≡ false → held (part_of c past) (parent parents x) ≡ true → KeepsOrder parents order (Lock c x found ∷ past)
 kept_child parents tree order past c x found apart old some fresh under = record {
   distinct = old.distinct;
   members = λ d. elim (cases_eq c d) [
@@ -81,9 +81,9 @@ kept_child parents tree order past c x found apart old some fresh under = record
 }
 
 -- a call's first lock
-kept_first : (parents : List ℕ) → IsTree parents → (order : List ℕ) (past : List Event) (c x : ℕ) (found : Record) → ((d : ℕ) → EachPermitted parents (part_of d past)) → Kept parents order past
+kept_first : (parents : List ℕ) → IsTree parents → (order : List ℕ) (past : List Event) (c x : ℕ) (found : Record) → ((d : ℕ) → EachPermitted parents (part_of d past)) → KeepsOrder parents order past
     → locked_any (part_of c past) ≡ false → stands c order ≡ false
-    → Kept parents (put_before (λ d. may_come parents (part_of d past) x) c order) (Lock c x found ∷ past)
+    → KeepsOrder parents (put_before (λ d. may_come parents (part_of d past) x) c order) (Lock c x found ∷ past)
 kept_first parents tree order past c x found obeys old none out =
     let test : ℕ → Bool = λ d. may_come parents (part_of d past) x in
     let more : (a b : ℕ) → before order a b ≡ true → before (put_before test c order) a b ≡ true = before-put test c order out in
@@ -129,7 +129,7 @@ own_shrinks parents tree a plain e past own d y may = elim (cases_eq (caller e) 
   | inr other ↦ let q = part_of-other e d past other in rw q at may
 ]
 
-kept_free : (parents : List ℕ) → IsTree parents → (order : List ℕ) (past : List Event) (c x : ℕ) (left : Record) → Kept parents order past → Kept parents order (Free c x left ∷ past)
+kept_free : (parents : List ℕ) → IsTree parents → (order : List ℕ) (past : List Event) (c x : ℕ) (left : Record) → KeepsOrder parents order past → KeepsOrder parents order (Free c x left ∷ past)
 kept_free parents tree order past c x left old = record {
   distinct = old.distinct;
   members = λ d. let m = old.members d in let q = any-free c x left past d in grind (arith, m, q);
@@ -139,9 +139,9 @@ kept_free parents tree order past c x left old = record {
 }
 
 -- a call that is done stands in the order
-kept_done : (parents : List ℕ) → IsTree parents → (order longer : List ℕ) (past : List Event) (c : ℕ) → Kept parents order past
+kept_done : (parents : List ℕ) → IsTree parents → (order longer : List ℕ) (past : List Event) (c : ℕ) → KeepsOrder parents order past
     → IsDistinct longer → ((d : ℕ) → stands d longer ≡ ((c == d) || stands d order)) → ((a b : ℕ) → before order a b ≡ true → before longer a b ≡ true)
-    → Kept parents longer (Done c ∷ past)
+    → KeepsOrder parents longer (Done c ∷ past)
 kept_done parents tree order longer past c old distinct members more = record {
   distinct = distinct;
   members = λ d. let m = old.members d in let q = any-done c past d in let s = members d in grind (arith, m, q, s);
@@ -153,14 +153,14 @@ kept_done parents tree order longer past c old distinct members more = record {
 already : (c : ℕ) (order : List ℕ) → stands c order ≡ true → (d : ℕ) → stands d order ≡ ((c == d) || stands d order)
 already c order here d = elim (cases_eq c d) [ inl same ↦ let h : stands d order ≡ true = subst (λ z. stands z order ≡ true) same here in grind (arith, h) | inr other ↦ let ne = ne_eqb c d other in rw ne refl ]
 
-pub kept : (parents : List ℕ) → IsTree parents → (past : List Event) → IsLegalHistory parents past → Kept parents (placed parents past) past
-kept parents tree [] legal = record { distinct = tt; members = λ c. refl; in_lock_order = tt; ahead = λ x c d l may. absurd (both_ways false refl l) }
-kept parents tree (Admit c ∷ past) legal =
-    let old = kept parents tree past (legal_before parents (Admit c) past legal) in
+pub placed_keeps_order : (parents : List ℕ) → IsTree parents → (past : List Event) → IsLegalHistory parents past → KeepsOrder parents (placed parents past) past
+placed_keeps_order parents tree [] legal = record { distinct = tt; members = λ c. refl; in_lock_order = tt; ahead = λ x c d l may. absurd (both_ways false refl l) }
+placed_keeps_order parents tree (Admit c ∷ past) legal =
+    let old = placed_keeps_order parents tree past (legal_before parents (Admit c) past legal) in
     record { distinct = old.distinct; members = old.members; in_lock_order = old.in_lock_order; ahead = old.ahead }
-kept parents tree (Lock c x found ∷ past) legal =
+placed_keeps_order parents tree (Lock c x found ∷ past) legal =
     let legal' = legal_before parents (Lock c x found) past legal in
-    let old = kept parents tree past legal' in
+    let old = placed_keeps_order parents tree past legal' in
     let order = placed parents past in
     let m = old.members c in
     let q = part_of-lock c x found past in
@@ -174,9 +174,9 @@ kept parents tree (Lock c x found ∷ past) legal =
           let none : locked_any (part_of c past) ≡ false = grind (arith, m, goes_on, out) in
           rw out (kept_first parents tree order past c x found legal'.obeys old none out)
     ]
-kept parents tree (Free c x left ∷ past) legal = kept_free parents tree (placed parents past) past c x left (kept parents tree past (legal_before parents (Free c x left) past legal))
-kept parents tree (Done c ∷ past) legal =
-    let old = kept parents tree past (legal_before parents (Done c) past legal) in
+placed_keeps_order parents tree (Free c x left ∷ past) legal = kept_free parents tree (placed parents past) past c x left (placed_keeps_order parents tree past (legal_before parents (Free c x left) past legal))
+placed_keeps_order parents tree (Done c ∷ past) legal =
+    let old = placed_keeps_order parents tree past (legal_before parents (Done c) past legal) in
     let order = placed parents past in
     elim (cases_Bool (stands c order)) [
       | inl here ↦ rw here (kept_done parents tree order order past c old old.distinct (already c order here) (λ a b h. h))
@@ -188,4 +188,4 @@ kept parents tree (Done c ∷ past) legal =
 
 -- the order of a legal history agrees with it
 pub placed-agrees : (parents : List ℕ) → IsTree parents → (past : List Event) → IsLegalHistory parents past → Agrees (placed parents past) past
-placed-agrees parents tree past legal = let k = kept parents tree past legal in record { distinct = k.distinct; members = k.members; in_lock_order = k.in_lock_order }
+placed-agrees parents tree past legal = let k = placed_keeps_order parents tree past legal in record { distinct = k.distinct; members = k.members; in_lock_order = k.in_lock_order }

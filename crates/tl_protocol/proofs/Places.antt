@@ -11,42 +11,8 @@ use Rattle.tl_protocol.specs.Obeys.{IsHeldAt, IsFreedAfter, Touches, Obeys}
 use Rattle.tl_protocol.specs.Order.{before}
 use Rattle.tl_protocol.specs.Alone.{Outcome, IsAlone}
 use Rattle.tl_protocol.proofs.Coming.{locked-any}
-use Rattle.tl_protocol.proofs.Placed.{kept}
 use Rattle.tl_protocol.proofs.Alone.{obeys_taken}
-
--- the same actions, the earliest first
-abbrev earliest_first : List Action → List Action
-earliest_first [] = []
-earliest_first (a ∷ done) = earliest_first done ++ a ∷ []
-
-earliest_first-reverse : (done : List Action) → earliest_first done ≡ reverse done
-earliest_first-reverse [] = refl
-earliest_first-reverse (a ∷ done) = ap (λ z. z ++ a ∷ []) (earliest_first-reverse done) ∙ sym (reverse-append (a ∷ []) done)
-
--- ---- places in a list with one more action
-
-place_kept : (xs ys : List Action) (k : ℕ) (b : Action) → slice_get xs k ≡ Some b → slice_get (xs ++ ys) k ≡ Some b
-place_kept [] ys k b h = absurd cc
-place_kept (x ∷ xs) ys zero b h = h
-place_kept (x ∷ xs) ys (suc k) b h = place_kept xs ys k b h
-
-place_back : (xs ys : List Action) (k : ℕ) (b : Action) → k < length xs → slice_get (xs ++ ys) k ≡ Some b → slice_get xs k ≡ Some b
-place_back [] ys k b lt h = absurd (omega arith)
-place_back (x ∷ xs) ys zero b lt h = h
-place_back (x ∷ xs) ys (suc k) b lt h = place_back xs ys k b (omega arith) h
-
-place_new : (xs : List Action) (a : Action) → slice_get (xs ++ a ∷ []) (length xs) ≡ Some a
-place_new [] a = refl
-place_new (x ∷ xs) a = place_new xs a
-
-place_cases : (xs : List Action) (a b : Action) (k : ℕ) → slice_get (xs ++ a ∷ []) k ≡ Some b → ((k < length xs) × (slice_get xs k ≡ Some b)) ⊎ ((k ≡ length xs) × (a ≡ b))
-place_cases [] a b zero h = inr (refl, cc)
-place_cases [] a b (suc k) h = absurd cc
-place_cases (x ∷ xs) a b zero h = inl (omega arith, h)
-place_cases (x ∷ xs) a b (suc k) h = elim (place_cases xs a b k h) [
-  | inl old ↦ let lt = old.0 in inl (omega arith, old.1)
-  | inr new ↦ inr (ap suc new.0, new.1)
-]
+use Rattle.tl_protocol.proofs.Lists.{earliest_first, earliest_first-reverse, place_kept, place_back, place_new, place_cases}
 
 -- ---- what one action is
 

@@ -12,7 +12,7 @@ use Rattle.tl_protocol.specs.World.{World, alone_of, Legal, IsSound, next_of, Is
 use Rattle.tl_protocol.proofs.Coming.{held-locked, locked-any, child_may}
 use Rattle.tl_protocol.proofs.Orders.{before-right}
 use Rattle.tl_protocol.proofs.Parts.{part_of-done, part_of-other, legal_before}
-use Rattle.tl_protocol.proofs.Placed.{Kept, kept}
+use Rattle.tl_protocol.proofs.Placed.{KeepsOrder, placed_keeps_order}
 use Rattle.tl_protocol.proofs.Records.{length-with}
 use Rattle.tl_protocol.proofs.Shared.{permitted_shared}
 use Rattle.tl_protocol.proofs.Alone.{permitted_at}
@@ -126,7 +126,7 @@ next_permitted w sound c a is_open next =
 -- ---- enabled calls
 
 -- the earliest call of the order that isn't done is enabled
-earliest_enabled : (w : World) → IsSound w → (order : List ℕ) → Kept w.parents order w.past → (c : ℕ) → IsEarliest w.past order c → IsEnabled w c
+earliest_enabled : (w : World) → IsSound w → (order : List ℕ) → KeepsOrder w.parents order w.past → (c : ℕ) → IsEarliest w.past order c → IsEnabled w c
 earliest_enabled w sound order k c first =
     let legal = sound_history w sound in
     let m = k.members c in
@@ -149,7 +149,7 @@ pub some_enabled : (w : World) → IsSound w → (c : ℕ) → IsOpen c w.past �
 some_enabled w sound c open_c =
     let legal = sound_history w sound in
     let order = placed w.parents w.past in
-    let k = kept w.parents sound.tree w.past legal in
+    let k = placed_keeps_order w.parents sound.tree w.past legal in
     elim (earliest w.past order k.distinct) [
       | inl first ↦ (first.0, earliest_enabled w sound order k first.0 first.1)
       | inr all ↦ (
