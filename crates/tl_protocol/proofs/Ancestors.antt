@@ -59,7 +59,7 @@ contains-stands y (z ∷ zs) zero lt e = let q = eq-eqb z y e in rw q refl
 contains-stands y (z ∷ zs) (suc k) lt e = let r = contains-stands y zs k (omega arith) e in grind (arith, r)
 
 -- a node of the list has a lower number, and x leads to it
-listed_above : (parents : List ℕ) → IsTree parents → (y x : ℕ) → stands y (nodes_above parents x) ≡ true → (y < x) × Above parents y x
+pub listed_above : (parents : List ℕ) → IsTree parents → (y x : ℕ) → stands y (nodes_above parents x) ≡ true → (y < x) × Above parents y x
 listed_above parents tree y =
     by_climbing parents tree (λ x. stands y (nodes_above parents x) ≡ true → (y < x) × Above parents y x)
     (λ h. let e : stands y (nodes_above parents 0) ≡ false = rw nodes_above-root refl in absurd (both_ways (stands y (nodes_above parents 0)) e h))

@@ -7,7 +7,7 @@ use Rattle.tl_tree.specs.Records.{Record}
 use Rattle.tl_protocol.specs.declared.event.Event.{Event}
 use Rattle.tl_protocol.specs.declared.event.Event.TheVariants.{Admit, Lock, Free, Done}
 use Rattle.tl_protocol.specs.Actions.{held}
-use Rattle.tl_protocol.specs.History.{past_of, part_of, Apart}
+use Rattle.tl_protocol.specs.History.{past_of, part_of, Apart, IsFreedBetween}
 use Rattle.tl_protocol.proofs.Parts.{part_of-lock, apart_before}
 use Rattle.tl_protocol.proofs.Lists.{earliest_first, earliest_first-reverse, place_kept, place_back, place_new, place_cases}
 
@@ -29,14 +29,6 @@ free_before (Done d) past c x h = elim (cases_Bool (d == c)) [
   | inl mine ↦ let g = rw mine at h in inl (grind (arith, g))
   | inr other ↦ inl (rw other at h)
 ]
-
--- after place j, and before place k, stands a free of x by c
-pub record IsFreedBetween (events : List Event) (j k c x : ℕ) : Type 0 where
-  pub place : ℕ
-  pub left : Record
-  pub later : j < place
-  pub earlier : place < k
-  pub is_free : slice_get events place ≡ Some (Free c x left)
 
 freed_more : (past : List Event) (e : Event) (j k c x : ℕ) → IsFreedBetween (earliest_first past) j k c x → (m : ℕ) → k ≤ m → IsFreedBetween (earliest_first past ++ e ∷ []) j m c x
 freed_more past e j k c x h m le = record {

@@ -1,15 +1,16 @@
 -- One call: what its actions tell of the nodes that it may still come to.
-use Rattle.std.proofs.Common.{◌≡◌, ℕ, zero, suc, ◌<◌, ◌≤◌, ◌||◌, Bool, true, false, List, [], ◌∷◌, refl, sym, ap, subst, inl, inr, arith}
+use Rattle.std.proofs.Common.{◌≢◌, ◌==◌, ◌≡◌, ℕ, zero, suc, ◌<◌, ◌≤◌, ◌||◌, Bool, true, false, List, [], ◌∷◌, refl, sym, ap, subst, inl, inr, arith}
 use Rattle.std.specs.Prelude.{if◌then◌else◌}
-use Rattle.std.proofs.lemmas.Bool.{cases_Bool, cases_eq, both_ways}
+use Rattle.std.proofs.lemmas.Bool.{cases_Bool, cases_eq, both_ways, eq-eqb}
 use Rattle.std.proofs.lemmas.Bool.Decides.{nat_tests}
 use Rattle.tl_tree.specs.Records.{Record}
-use Rattle.tl_tree.specs.Shape.{parent, IsTree}
+use Rattle.tl_tree.specs.Shape.{parent, IsTree, Above}
 use Rattle.tl_protocol.specs.declared.action.Action.{Action}
 use Rattle.tl_protocol.specs.declared.action.Action.TheVariants.{Plain, Lock, Read, Write, Free, Emit, End}
 use Rattle.tl_protocol.specs.Ancestors.{nodes_above}
 use Rattle.tl_protocol.specs.Actions.{locks, is_lock, locked, held, locked_any, EachPermitted, holds_first, holds_some, may_come}
-use Rattle.tl_protocol.proofs.Ancestors.{parent-lower, by_climbing, nodes_above-root, nodes_above-step}
+use Rattle.tl_protocol.specs.Order.{stands}
+use Rattle.tl_protocol.proofs.Ancestors.{parent-lower, by_climbing, nodes_above-root, nodes_above-step, listed_above}
 
 -- the call holds the nearest node strictly above x that it locked
 abbrev pub comes : List ℕ → List Action → ℕ → Bool
@@ -200,6 +201,21 @@ holds_first-some : (done : List Action) (ys : List ℕ) → holds_first done ys 
 holds_first-some done [] h = h
 holds_first-some done (y ∷ ys) h = let ih = holds_first-some done ys in grind (arith, h, ih)
 
--- who may still come to x holds a node strictly above x: only the holders of those need be looked at
+-- who may still come to x holds a node of the list of those strictly above x: only the holders of those need be looked at
 pub may_holds : (parents : List ℕ) (done : List Action) (x : ℕ) → may_come parents done x ≡ true → holds_some done (nodes_above parents x) ≡ true
 may_holds parents done x may = let m = may_parts parents done x may in holds_first-some done (nodes_above parents x) m.1
+
+held_some : (done : List Action) (ys : List ℕ) → holds_some done ys ≡ true → (y : ℕ) × (stands y ys ≡ true) × (held done y ≡ true)
+held_some done [] h = absurd (both_ways false refl h)
+held_some done (y ∷ ys) h = elim (cases_Bool (held done y)) [
+  | inl here ↦ let self = eq-eqb y y refl in (y, grind (arith, self), here)
+  | inr away ↦ let r = held_some done ys (rw away at h) in let s = r.1 in (r.0, grind (arith, s), r.2)
+]
+
+-- who may still come to x holds a node strictly above x
+pub may_come_holds : (parents : List ℕ) → IsTree parents → (done : List Action) (x : ℕ) → may_come parents done x ≡ true → (y : ℕ) × Above parents y x × (y ≢ x) × (held done y ≡ true)
+may_come_holds parents tree done x may =
+    let r = held_some done (nodes_above parents x) (may_holds parents done x may) in
+    let l = listed_above parents tree r.0 x r.1 in
+    let lt = l.0 in
+    (r.0, l.1, λ e. omega arith, r.2)

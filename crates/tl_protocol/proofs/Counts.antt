@@ -63,9 +63,9 @@ frees_locks parents (A.Emit n ∷ done) h = frees_locks parents done h.2
 frees_locks parents (A.End ∷ done) h = frees_locks parents done h.2
 frees_locks parents (A.Plain ∷ done) h = frees_locks parents done h.2
 
--- a call that locks at most so many nodes stores at most twice as many locks and frees
-pub stored_places : (parents : List ℕ) (done : List Action) (most : ℕ) → EachPermitted parents done → lock_count done ≤ most → lock_count done + free_count done ≤ 2 * most
-stored_places parents done most h le = let f = frees_locks parents done h in omega arith
+-- a call frees no more than it locks
+pub frees_within : (parents : List ℕ) (done : List Action) → EachPermitted parents done → free_count done ≤ lock_count done
+frees_within parents done h = let f = frees_locks parents done h in omega arith
 
 -- ---- a call locks each node at most once
 

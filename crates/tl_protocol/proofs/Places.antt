@@ -203,3 +203,11 @@ pub obeys_first : (parents : List ℕ) (alone : Records → Outcome) → IsAlone
 obeys_first parents alone is t size k =
     let actions = (alone t).actions in
     subst (Obeys parents) (reverse-taken k actions) (obeys_places parents (taken k actions []) (obeys_taken parents k actions [] (is.obeys t size) tt))
+
+-- all actions of a call alone obey the protocol
+pub obeys_alone : (parents : List ℕ) (alone : Records → Outcome) → IsAlone parents alone → (t : Records) → length t ≡ length parents → Obeys parents (alone t).actions
+obeys_alone parents alone is t size = subst (Obeys parents) (take_all (alone t).actions) (obeys_first parents alone is t size (length (alone t).actions))
+  where
+    take_all : (actions : List Action) → take (length actions) actions ≡ actions
+    take_all [] = refl
+    take_all (a ∷ actions) = ap (λ z. a ∷ z) (take_all actions)

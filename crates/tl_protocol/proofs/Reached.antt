@@ -8,9 +8,10 @@ use Rattle.tl_protocol.specs.declared.event.Event.{Event}
 use Rattle.tl_protocol.specs.declared.event.Event.TheVariants.{Admit, Lock, Free, Done}
 use Rattle.tl_protocol.specs.Actions.{locked_any, with_found, shared_actions, taken}
 use Rattle.tl_protocol.specs.History.{part_of, is_done, admits, AllDone, InTurn, records_now}
-use Rattle.tl_protocol.specs.Order.{stands, Agrees}
+use Rattle.tl_protocol.specs.Order.{stands, placed, Agrees}
 use Rattle.tl_protocol.specs.Alone.{Outcome, all_taken, IsAlone, serial}
 use Rattle.tl_protocol.specs.World.{World, alone_of, Genuine, Legal, IsSound, reply_of, MayTake, as_found, moved, admitted, opened, Reached, Opens, Admits, Moves}
+use Rattle.tl_protocol.proofs.Placed.{placed-agrees}
 use Rattle.tl_protocol.proofs.Records.{length-with}
 use Rattle.tl_protocol.proofs.Alone.{ends_some}
 use Rattle.tl_protocol.proofs.Serial.{alone_local, serial-along}
@@ -126,3 +127,9 @@ serial-agreeing w sound over order agrees =
       is_local = λ c k. alone_local w.parents (length w.opening) sound.size (w.alones c) (sound.alones c (known c k));
       genuine = λ c k. let lt = known c k in all_of w c (legal.genuine c lt) (over c lt);
     })
+
+-- in particular along the order that the history gives
+pub serial-placed : (w : World) → IsSound w → AllDone w.past
+    → ((serial w.alones (placed w.parents w.past) w.opening).tree ≡ records_now w.past w.opening)
+    × ((serial w.alones (placed w.parents w.past) w.opening).replies ≡ map (reply_of w) (placed w.parents w.past))
+serial-placed w sound over = serial-agreeing w sound over (placed w.parents w.past) (placed-agrees w.parents sound.tree w.past (sound_history w sound))

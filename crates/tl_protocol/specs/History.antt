@@ -1,5 +1,5 @@
 -- What many calls have done: a list of events, the latest first.
-use Rattle.std.specs.Prelude.{◌≡◌, ℕ, ◌+◌, ◌<◌, Bool, true, false, ◌||◌, List, [], ◌∷◌, ◌==◌, if◌then◌else◌, reverse}
+use Rattle.std.specs.Prelude.{◌≡◌, ℕ, ◌+◌, ◌<◌, Bool, true, false, ◌||◌, List, [], ◌∷◌, ◌==◌, if◌then◌else◌, reverse, Some, slice_get}
 use Rattle.tl_tree.specs.Records.{Record, Records, record_at, put_record}
 use Rattle.tl_protocol.specs.declared.action.Action.{Action}
 use Rattle.tl_protocol.specs.declared.action.Action.TheVariants as A
@@ -61,6 +61,14 @@ abbrev pub Apart : List Event → Type 0
 Apart [] = Unit {0}
 Apart (Lock c x found ∷ past) = ((d : ℕ) → held (part_of d past) x ≡ false) × Apart past
 Apart (_ ∷ past) = Apart past
+
+-- after place j, and before place k, stands a free of x by c
+pub record IsFreedBetween (events : List Event) (j k c x : ℕ) : Type 0 where
+  pub place : ℕ
+  pub left : Record
+  pub later : j < place
+  pub earlier : place < k
+  pub is_free : slice_get events place ≡ Some (Free c x left)
 
 -- the record that was last left at x, and r where none was
 abbrev pub last_left : List Event → ℕ → Record → Record

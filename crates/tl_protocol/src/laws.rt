@@ -1,12 +1,119 @@
 // The theory of the tree protocol: what is so of every history, every order and every world.
 
-ghost use Rattle.std.specs.Prelude.{◌≡◌, ℕ, ◌<◌, List};
-ghost use Rattle.tl_tree.specs.Shape.{IsTree};
+ghost use Rattle.std.specs.Prelude.{◌≡◌, ◌≢◌, ◌↔◌, ℕ, ◌+◌, ◌<◌, ◌≤◌, true, List, [], ◌∷◌, length, map, reverse, take, slice_get, Contains};
+ghost use Rattle.tl_tree.specs.Records.{Record, Records};
+ghost use Rattle.tl_tree.specs.Shape.{IsTree, Above};
+ghost use Rattle.tl_protocol.specs.declared.action.Action.{Action};
 ghost use Rattle.tl_protocol.specs.declared.event.Event.{Event};
-ghost use Rattle.tl_protocol.specs.History.{IsLegalHistory};
-ghost use Rattle.tl_protocol.specs.Order.{placed, Agrees};
+ghost use Rattle.tl_protocol.specs.Ancestors.{nodes_above};
+ghost use Rattle.tl_protocol.specs.Actions.{held, locked, locks_and_frees, lock_count, free_count, taken, EachPermitted, holds_some, may_come};
+ghost use Rattle.tl_protocol.specs.Obeys.{Obeys};
+ghost use Rattle.tl_protocol.specs.History.{past_of, part_of, IsOpen, AllDone, Apart, IsFreedBetween, admits, records_now, IsLegalHistory};
+ghost use Rattle.tl_protocol.specs.Order.{placed, placed_after, Agrees};
+ghost use Rattle.tl_protocol.specs.Alone.{Outcome, IsAlone, serial};
+ghost use Rattle.tl_protocol.specs.World.{World, Genuine, Legal, IsSound, IsStuck, IsEnabled, MayTake, Reached, alone_of, next_of, reply_of, opened, admitted, moved};
+ghost use Rattle.tl_protocol.specs.Holders.{holder_of};
+
+// ---- the order
 
 /// The order that a history gives agrees with it.
 pub fn placed_agrees()
     ensures { (parents : List ℕ) (past : List Event) → IsTree parents → IsLegalHistory parents past → Agrees (placed parents past) past }
+{}
+
+/// The order of one more event comes from the order so far.
+pub fn placed_event_by_event()
+    ensures none { (parents : List ℕ) → placed parents [] ≡ [] }
+    ensures one_more { (parents : List ℕ) (past : List Event) (event : Event) → placed parents (event ∷ past) ≡ placed_after parents past event (placed parents past) }
+{}
+
+/// A call that may still come to a node holds a node strictly above it.
+pub fn may_come_holds()
+    ensures holder { (parents : List ℕ) (done : List Action) (x : ℕ) → IsTree parents → may_come parents done x ≡ true → (y : ℕ) × Above parents y x × (y ≢ x) × (held done y ≡ true) }
+    ensures listed { (parents : List ℕ) (done : List Action) (x : ℕ) → may_come parents done x ≡ true → holds_some done (nodes_above parents x) ≡ true }
+{}
+
+/// The list of the nodes strictly above a node has the nodes that it leads to, and not itself.
+pub fn nodes_above_listed()
+    ensures { (parents : List ℕ) (x y : ℕ) → IsTree parents → (Contains (nodes_above parents x) y ↔ (Above parents y x × (y ≢ x))) }
+{}
+
+/// Calls run alone, one after another along an order that agrees, leave the records now and give every reply.
+pub fn serial_along()
+    ensures tree { (w : World) (order : List ℕ) → IsSound w → AllDone w.past → Agrees order w.past → (serial w.alones order w.opening).tree ≡ records_now w.past w.opening }
+    ensures replies { (w : World) (order : List ℕ) → IsSound w → AllDone w.past → Agrees order w.past → (serial w.alones order w.opening).replies ≡ map (reply_of w) order }
+{}
+
+// ---- steps
+
+/// While a call is open, some call is enabled. The enabled calls are those that may take their next action.
+pub fn no_standstill()
+    ensures some_enabled { (w : World) (c : ℕ) → IsSound w → IsOpen c w.past → (d : ℕ) × IsEnabled w d }
+    ensures may_take { (w : World) (c : ℕ) → IsSound w → IsEnabled w c → (next : Action) × MayTake w c next }
+    ensures enabled { (w : World) (c : ℕ) (next : Action) → MayTake w c next → IsEnabled w c }
+{}
+
+/// Admissions and steps keep a world sound.
+pub fn steps_keep_sound()
+    ensures opened { (parents : List ℕ) (opening : Records) (alones : ℕ → Records → Outcome) → IsTree parents → length opening ≡ length parents → IsSound (opened parents opening alones) }
+    ensures admitted { (w : World) (alone : Records → Outcome) → IsSound w → IsAlone w.parents alone → IsSound (admitted w alone) }
+    ensures moved { (w : World) (c : ℕ) (next : Action) → IsSound w → MayTake w c next → IsSound (moved w c next) }
+{}
+
+/// The holder that the history names is the one call that holds the node, and a stuck call waits for it.
+pub fn holders()
+    ensures held { (parents : List ℕ) (past : List Event) (c x : ℕ) → IsLegalHistory parents past → ((holder_of past x ≡ Some c) ↔ (held (part_of c past) x ≡ true)) }
+    ensures waits { (w : World) (c : ℕ) (stuck : IsStuck w c) → IsSound w → holder_of w.past stuck.node ≡ Some stuck.holder }
+    ensures stuck { (w : World) (c x : ℕ) (found : Record) (d : ℕ) → IsSound w → IsOpen c w.past → next_of w c ≡ Some (Action.Lock x found) → holder_of w.past x ≡ Some d → IsStuck w c }
+{}
+
+// ---- the protocol
+
+/// What is permitted action by action obeys the protocol by places: of a call's part of a legal history, and of the
+/// actions of a call alone, all of them or the first so many.
+pub fn obeys_by_places()
+    ensures permitted { (parents : List ℕ) (done : List Action) → EachPermitted parents done → Obeys parents (reverse done) }
+    ensures part { (parents : List ℕ) (past : List Event) (c : ℕ) → IsLegalHistory parents past → Obeys parents (reverse (part_of c past)) }
+    ensures alone { (parents : List ℕ) (alone : Records → Outcome) (t : Records) → IsAlone parents alone → length t ≡ length parents → Obeys parents (alone t).actions }
+    ensures so_far { (parents : List ℕ) (alone : Records → Outcome) (t : Records) (k : ℕ) → IsAlone parents alone → length t ≡ length parents → Obeys parents (take k (alone t).actions) }
+{}
+
+/// A call locks no more nodes than there are, and frees no more than it locks.
+pub fn locks_counted()
+    ensures locks { (parents : List ℕ) (done : List Action) (nodes : ℕ) → EachPermitted parents done → ((x : ℕ) → locked done x ≡ true → x < nodes) → lock_count done ≤ nodes }
+    ensures frees { (parents : List ℕ) (done : List Action) → EachPermitted parents done → free_count done ≤ lock_count done }
+{}
+
+// ---- histories and worlds
+
+/// The history of a sound world is legal.
+pub fn sound_history()
+    ensures { (w : World) → IsSound w → IsLegalHistory w.parents w.past }
+{}
+
+/// Between two locks of one node stands a free of it by the first one's call. Here the earliest event is the first.
+pub fn apart_by_places()
+    ensures { (events : List Event) → Apart (past_of events) → (j k c d x : ℕ) (found again : Record) → j < k
+        → slice_get events j ≡ Some (Event.Lock c x found) → slice_get events k ≡ Some (Event.Lock d x again) → IsFreedBetween events j k c x }
+{}
+
+/// A genuine call's locks and frees are those of its first actions alone.
+pub fn genuine_locks_and_frees()
+    ensures { (alone : Records → Outcome) (opening : Records) (past : List Event) (c k : ℕ) → Genuine alone opening past c k
+        → locks_and_frees (part_of c past) ≡ locks_and_frees (taken k (alone_of alone opening past c).actions []) }
+{}
+
+/// Whatever admissions and steps come: the world is legal, and each call obeys the protocol; some call can step while
+/// one is open; once all are done, the records and the replies are those of the calls run alone, one after another
+/// along the order that the history gives.
+pub fn headline()
+    ensures legal { (parents : List ℕ) (opening : Records) (w : World) → IsTree parents → length opening ≡ length parents → Reached parents opening w → Legal w }
+    ensures obeys { (parents : List ℕ) (opening : Records) (w : World) (c : ℕ) → IsTree parents → length opening ≡ length parents → Reached parents opening w
+        → c < admits w.past → Obeys parents (take (w.counts c) (alone_of (w.alones c) opening w.past c).actions) }
+    ensures goes_on { (parents : List ℕ) (opening : Records) (w : World) (c : ℕ) → IsTree parents → length opening ≡ length parents → Reached parents opening w
+        → IsOpen c w.past → (d : ℕ) × (next : Action) × MayTake w d next }
+    ensures tree { (parents : List ℕ) (opening : Records) (w : World) → IsTree parents → length opening ≡ length parents → Reached parents opening w
+        → AllDone w.past → (serial w.alones (placed parents w.past) opening).tree ≡ records_now w.past opening }
+    ensures replies { (parents : List ℕ) (opening : Records) (w : World) → IsTree parents → length opening ≡ length parents → Reached parents opening w
+        → AllDone w.past → (serial w.alones (placed parents w.past) opening).replies ≡ map (reply_of w) (placed parents w.past) }
 {}

@@ -1,0 +1,11 @@
+use Rattle.tl_protocol.proofs.Holders.{held-holder, holder-held, stuck_holder, holder_stuck}
+use Rattle.tl_protocol.proofs.laws.holders.Goals as goal
+
+pub returns-clause-held : goal.returns-clause-held
+returns-clause-held c = λ parents past call x legal. (holder-held parents past legal call x, held-holder parents past legal call x)
+
+pub returns-clause-waits : goal.returns-clause-waits
+returns-clause-waits c = λ w call stuck sound. stuck_holder w sound call stuck
+
+pub returns-clause-stuck : goal.returns-clause-stuck
+returns-clause-stuck c = λ w call x found d sound is_open next holder. holder_stuck w sound call x found d is_open next holder

@@ -1,0 +1,15 @@
+use Rattle.tl_protocol.proofs.Places.{obeys_places, obeys_first, obeys_alone}
+use Rattle.tl_protocol.specs.History.{part_of}
+use Rattle.tl_protocol.proofs.laws.obeys_by_places.Goals as goal
+
+pub returns-clause-permitted : goal.returns-clause-permitted
+returns-clause-permitted c = λ parents done each. obeys_places parents done each
+
+pub returns-clause-part : goal.returns-clause-part
+returns-clause-part c = λ parents past call legal. obeys_places parents (part_of call past) (legal.obeys call)
+
+pub returns-clause-alone : goal.returns-clause-alone
+returns-clause-alone c = λ parents alone t is_alone size. obeys_alone parents alone is_alone t size
+
+pub returns-clause-so_far : goal.returns-clause-so_far
+returns-clause-so_far c = λ parents alone t k is_alone size. obeys_first parents alone is_alone t size k
