@@ -1,11 +1,11 @@
--- The runs of one call alone on two trees.
-use Rattle.std.proofs.Common.{◌≡◌, ℕ, zero, suc, ◌<◌, ◌==◌, ◌||◌, ◌&&◌, not, Bool, true, false, List, [], ◌∷◌, length, refl, sym, ap, ◌∙◌, subst, inl, inr, arith, ◌⊎◌, Option, Some, None, slice_get}
+-- What one call does alone on two trees, and its first actions.
+use Rattle.std.proofs.Common.{◌≡◌, ℕ, zero, suc, ◌<◌, true, false, List, [], ◌∷◌, length, refl, sym, ap, ◌∙◌, subst, inl, inr, arith, ◌⊎◌, Option, Some, None, slice_get}
 use Rattle.std.proofs.lemmas.Bool.{both_ways, eqb-true, eq-eqb, or_cases}
 use Rattle.tl_tree.specs.Records.{Record, Records, record_at}
 use Rattle.tl_protocol.specs.declared.action.Action.{Action}
 use Rattle.tl_protocol.specs.declared.action.Action.TheVariants as A
 use Rattle.tl_protocol.specs.Actions.{locks, is_end, locked, taken, Permitted, EachPermitted, PermittedAfter}
-use Rattle.tl_protocol.specs.Alone.{FindOther, SameUntilFound, Finds, EndsOnce}
+use Rattle.tl_protocol.specs.Alone.{Outcome, FindOther, SameUntilFound, Finds, EndsOnce, IsAlone}
 
 pub locked-taken : (k : ℕ) (actions done : List Action) (x : ℕ) → locked done x ≡ true → locked (taken k actions done) x ≡ true
 locked-taken zero actions done x h = h
@@ -146,3 +146,10 @@ taken_inside t (suc k) (a ∷ actions) done f x l = elim (taken_inside t k actio
   | inl here ↦ inl here
   | inr more ↦ elim (or_cases (locks a x) (locked done x) more) [ inl mine ↦ inl (lock_inside t a actions f x mine) | inr old ↦ inr old ]
 ]
+
+-- on two trees of the shape that agree at the nodes that a call's first k actions lock, it does the same k actions, and
+-- the next are alike
+pub alone_same : (parents : List ℕ) (alone : Records → Outcome) → IsAlone parents alone → (t u : Records) → length t ≡ length parents → length u ≡ length parents → (k : ℕ)
+    → ((x : ℕ) → locked (taken k (alone t).actions []) x ≡ true → record_at t x ≡ record_at u x)
+    → (taken k (alone t).actions [] ≡ taken k (alone u).actions []) × Alike (slice_get (alone t).actions k) (slice_get (alone u).actions k)
+alone_same parents alone is t u lt lu k agree = same_taken k (alone t).actions (alone u).actions [] t u (is.same t u lt lu) (is.finds t lt) (is.finds u lu) agree

@@ -1,5 +1,5 @@
 -- Steps from a node up to the root, and the nodes strictly above a node.
-use Rattle.std.proofs.Common.{◌≢◌, ◌==◌, ◌||◌, ◌⊎◌, true, false, sym, ◌∙◌, get_or, ◌≡◌, ℕ, zero, suc, ◌<◌, ◌≤◌, List, [], ◌∷◌, length, refl, ap, subst, inl, inr, arith}
+use Rattle.std.proofs.Common.{◌≢◌, ◌==◌, ◌⊎◌, true, false, sym, ◌∙◌, get_or, ◌≡◌, ℕ, zero, suc, ◌<◌, ◌≤◌, List, [], ◌∷◌, length, refl, ap, subst, inl, inr, arith}
 use Rattle.std.proofs.lemmas.Bool.{cases_Bool, cases_lt, both_ways, eqb-true, eq-eqb}
 use Rattle.std.specs.Prelude.{Contains}
 use Rattle.std.proofs.lemmas.Grind.{common_steps}

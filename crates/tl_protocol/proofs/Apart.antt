@@ -1,7 +1,6 @@
 -- Between two locks of one node stands a free of it by the first one's call.
-use Rattle.std.proofs.Common.{◌≡◌, ◌≢◌, ℕ, suc, length-append, ◌≤◌, ◌<◌, ◌==◌, ◌||◌, ◌⊎◌, Bool, true, false, List, [], ◌∷◌, ◌++◌, length, refl, sym, ap, ◌∙◌, subst, inl, inr, arith, Option, Some, slice_get, reverse}
+use Rattle.std.proofs.Common.{◌≡◌, ℕ, suc, length-append, ◌≤◌, ◌<◌, ◌==◌, ◌⊎◌, true, false, List, [], ◌∷◌, ◌++◌, length, refl, sym, ap, ◌∙◌, subst, inl, inr, arith, Some, slice_get}
 use Rattle.std.proofs.lemmas.Bool.{cases_Bool, both_ways, eqb-true, eq-eqb}
-use Rattle.std.proofs.lemmas.Bool.Decides.{nat_tests}
 use Rattle.std.proofs.lemmas.List.{reverse-reverse}
 use Rattle.tl_tree.specs.Records.{Record}
 use Rattle.tl_protocol.specs.declared.event.Event.{Event}
@@ -87,4 +86,4 @@ pub apart-between : (events : List Event) → Apart (past_of events) → (j k c 
 apart-between events apart j k c d x found again lt hj hk =
     let e : earliest_first (past_of events) ≡ events = earliest_first-reverse (past_of events) ∙ reverse-reverse events in
     subst (λ z. IsFreedBetween z j k c x) e
-        (between (past_of events) apart j k c d x found again lt (subst (λ z. slice_get z j ≡ Some (Lock c x found)) (sym e) hj) (subst (λ z. slice_get z k ≡ Some (Lock d x again)) (sym e) hk))
+    (between (past_of events) apart j k c d x found again lt (subst (λ z. slice_get z j ≡ Some (Lock c x found)) (sym e) hj) (subst (λ z. slice_get z k ≡ Some (Lock d x again)) (sym e) hk))

@@ -1,12 +1,15 @@
 -- How many locks and frees a call can have done.
-use Rattle.std.proofs.Common.{◌≡◌, ℕ, ◌+◌, ◌*◌, ◌≤◌, ◌<◌, zero, suc, ◌∙◌, ◌⊎◌, ◌==◌, ◌||◌, Bool, true, false, List, [], ◌∷◌, length, refl, sym, ap, subst, inl, inr, arith}
+use Rattle.std.proofs.Common.{◌≡◌, ℕ, ◌+◌, ◌≤◌, ◌<◌, zero, suc, ◌∙◌, ◌==◌, ◌||◌, Bool, true, false, List, [], ◌∷◌, length, refl, sym, ap, subst, inl, inr, arith}
 use Rattle.std.specs.Prelude.{if◌then◌else◌}
-use Rattle.std.proofs.lemmas.Bool.{cases_Bool, cases_eq, cases_lt, both_ways, eqb-true, ne_eqb, eq-eqb}
+use Rattle.std.proofs.lemmas.Bool.{cases_Bool, cases_eq, both_ways, eqb-true, ne_eqb, eq-eqb}
 use Rattle.tl_tree.specs.Records.{Record}
-use Rattle.tl_tree.specs.Shape.{below}
 use Rattle.tl_protocol.specs.declared.action.Action.{Action}
 use Rattle.tl_protocol.specs.declared.action.Action.TheVariants as A
 use Rattle.tl_protocol.specs.Actions.{locks, locked, held, lock_count, free_count, EachPermitted}
+use Rattle.tl_protocol.specs.History.{part_of}
+use Rattle.tl_protocol.specs.World.{World, IsSound}
+use Rattle.tl_protocol.proofs.Steps.{part_inside}
+use Rattle.tl_protocol.proofs.Standstill.{sound_history}
 
 abbrev has : ℕ → List ℕ → Bool
 has x [] = false
@@ -121,3 +124,7 @@ locks_counted parents n (A.Plain ∷ done) h inside = locks_counted parents n do
 -- a call that locks only the first n nodes locks at most n times
 pub locks_within : (parents : List ℕ) (n : ℕ) (done : List Action) → EachPermitted parents done → ((x : ℕ) → locked done x ≡ true → x < n) → lock_count done ≤ n
 locks_within parents n done h inside = let e = locks_counted parents n done h inside in let m = nodes_locked_most n done in omega arith
+
+-- a call of a sound world has locked at most all nodes
+pub part_locks_within : (w : World) → IsSound w → (c : ℕ) → lock_count (part_of c w.past) ≤ length w.parents
+part_locks_within w sound c = locks_within w.parents (length w.parents) (part_of c w.past) ((sound_history w sound).obeys c) (part_inside w sound c)

@@ -1,18 +1,17 @@
 -- The holder that a history names is the one call that holds the node.
-use Rattle.std.proofs.Common.{nat_lt, ◌≡◌, ℕ, suc, ◌<◌, ◌==◌, true, false, List, [], ◌∷◌, length, refl, sym, ap, subst, inl, inr, arith, ◌⊎◌, Option, Some, None, slice_get}
-use Rattle.std.specs.Prelude.{if◌then◌else◌}
+use Rattle.std.proofs.Common.{◌≢◌, ◌≡◌, ℕ, ◌==◌, true, false, List, [], ◌∷◌, refl, sym, ap, subst, inl, inr, arith, ◌⊎◌, Option, Some, None}
 use Rattle.std.proofs.lemmas.Bool.{cases_Bool, cases_eq, false_from_ne_true, both_ways, ne_eqb, eq-eqb}
-use Rattle.std.proofs.lemmas.Bool.{ltb-true}
 use Rattle.tl_tree.specs.Records.{Record}
+use Rattle.tl_tree.specs.Shape.{IsTree, Above}
 use Rattle.tl_protocol.specs.declared.action.Action.{Action}
 use Rattle.tl_protocol.specs.declared.action.Action.TheVariants as A
 use Rattle.tl_protocol.specs.declared.event.Event.{Event}
 use Rattle.tl_protocol.specs.declared.event.Event.TheVariants.{Admit, Lock, Free, Done}
-use Rattle.tl_protocol.specs.Actions.{locked, held, has_ended, Permitted, EachPermitted}
+use Rattle.tl_protocol.specs.Actions.{locked, held, has_ended, Permitted, EachPermitted, may_come}
 use Rattle.tl_protocol.specs.History.{part_of, IsOpen, IsLegalHistory}
 use Rattle.tl_protocol.specs.World.{World, IsSound, next_of, IsStuck, IsFree}
 use Rattle.tl_protocol.specs.Holders.{holder_of}
-use Rattle.tl_protocol.proofs.Coming.{held-locked}
+use Rattle.tl_protocol.proofs.Coming.{held-locked, may_come_holds}
 use Rattle.tl_protocol.proofs.Parts.{part_of-free, part_of-done, part_of-other, legal_before, held-lock, held-free, held-done, exclusive}
 use Rattle.tl_protocol.proofs.Laid.{free_held}
 use Rattle.tl_protocol.proofs.Standstill.{sound_history, next_permitted}
@@ -101,6 +100,13 @@ free_without_holder parents past legal (A.Free x left) none = tt
 free_without_holder parents past legal (A.Emit value) none = tt
 free_without_holder parents past legal A.End none = tt
 free_without_holder parents past legal A.Plain none = tt
+
+-- a call that may still come to x is the holder of a node strictly above x
+pub coming_holder : (parents : List ℕ) → IsTree parents → (past : List Event) → IsLegalHistory parents past → (c x : ℕ) → may_come parents (part_of c past) x ≡ true
+    → (y : ℕ) × Above parents y x × (y ≢ x) × (holder_of past y ≡ Some c)
+coming_holder parents tree past legal c x may =
+    let h = may_come_holds parents tree (part_of c past) x may in
+    (h.0, h.1, h.2, held-holder parents past legal c h.0 h.3)
 
 -- ---- stuck calls
 

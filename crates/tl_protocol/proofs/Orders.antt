@@ -1,5 +1,6 @@
 -- Lists of calls: where a call that is put in stands.
 use Rattle.std.proofs.Common.{◌≡◌, ℕ, ◌==◌, ◌||◌, Bool, true, false, List, [], ◌∷◌, ◌++◌, refl, sym, ap, subst, inl, inr, arith}
+use Rattle.std.specs.Prelude.{if◌then◌else◌}
 use Rattle.std.proofs.lemmas.Bool.{cases_Bool, both_ways, eqb-true, eq-eqb}
 use Rattle.std.proofs.lemmas.Bool.Decides.{nat_tests}
 use Rattle.tl_protocol.specs.Order.{stands, before, IsDistinct, put_before}
@@ -121,3 +122,12 @@ cut_not_behind (e ∷ es) post c d once h b =
       | inl same ↦ both_ways (stands e (es ++ c ∷ post)) out (subst (λ z. stands z (es ++ c ∷ post) ≡ true) (sym (eqb-true e d same)) (before-right (es ++ c ∷ post) c d b2))
       | inr other ↦ cut_not_behind es post c d once.1 (rw other at h) b2
     ]
+
+-- tests that agree on the calls of the order put a call in the same place
+pub put_before-same : (test other : ℕ → Bool) (c : ℕ) (order : List ℕ) → ((d : ℕ) → stands d order ≡ true → test d ≡ other d) → put_before test c order ≡ put_before other c order
+put_before-same test other c [] same = refl
+put_before-same test other c (e ∷ es) same =
+    let self = eq-eqb e e refl in
+    let here = same e (grind (arith, self)) in
+    let rest = put_before-same test other c es (λ d h. same d (grind (arith, h))) in
+    rw here (ap (λ z. if other e then c ∷ e ∷ es else e ∷ z) rest)

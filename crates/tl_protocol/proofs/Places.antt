@@ -1,14 +1,13 @@
 -- Actions each of which is permitted after those before it obey the protocol by their places.
-use Rattle.std.proofs.Common.{◌≡◌, ◌≢◌, ℕ, zero, suc, ◌+◌, ◌<◌, ◌≤◌, ◌==◌, ◌||◌, ◌⊎◌, Bool, true, false, List, [], ◌∷◌, ◌++◌, length, refl, sym, ap, ◌∙◌, subst, inl, inr, arith, Option, Some, None, slice_get, take, reverse, append_assoc, length-append}
+use Rattle.std.proofs.Common.{◌≡◌, ℕ, zero, suc, ◌≤◌, true, false, List, [], ◌∷◌, ◌++◌, length, refl, sym, ap, ◌∙◌, subst, inl, inr, arith, Some, slice_get, take, reverse, append_assoc, length-append}
 use Rattle.std.proofs.lemmas.Bool.{cases_Bool, both_ways, eqb-true, eq-eqb}
-use Rattle.std.proofs.lemmas.List.{append-nil, reverse-append}
+use Rattle.std.proofs.lemmas.List.{append-nil}
 use Rattle.tl_tree.specs.Records.{Record, Records}
 use Rattle.tl_tree.specs.Shape.{parent}
 use Rattle.tl_protocol.specs.declared.action.Action.{Action}
 use Rattle.tl_protocol.specs.declared.action.Action.TheVariants as A
-use Rattle.tl_protocol.specs.Actions.{locks, frees, is_lock, is_end, locked, held, locked_any, has_ended, taken, Permitted, EachPermitted}
+use Rattle.tl_protocol.specs.Actions.{locks, frees, is_end, locked, held, locked_any, has_ended, taken, Permitted, EachPermitted}
 use Rattle.tl_protocol.specs.Obeys.{IsHeldAt, IsFreedAfter, Touches, Obeys}
-use Rattle.tl_protocol.specs.Order.{before}
 use Rattle.tl_protocol.specs.Alone.{Outcome, IsAlone}
 use Rattle.tl_protocol.proofs.Coming.{locked-any}
 use Rattle.tl_protocol.proofs.Alone.{obeys_taken}

@@ -1,6 +1,6 @@
 -- Every world that admissions and steps lead to is sound, and ends as its calls alone do.
-use Rattle.std.proofs.Common.{◌≡◌, ◌≢◌, ℕ, zero, suc, ◌<◌, ◌≤◌, ◌==◌, true, false, List, [], ◌∷◌, length, map, refl, sym, ap, ◌∙◌, subst, inl, inr, arith, Option, Some, None, slice_get}
-use Rattle.std.proofs.lemmas.Bool.{cases_eq, cases_lt, false_from_ne_true, both_ways, eqb-true, ne_eqb, eq-eqb}
+use Rattle.std.proofs.Common.{◌≡◌, ◌≢◌, ℕ, ◌<◌, ◌≤◌, true, false, List, [], ◌∷◌, length, map, refl, sym, ap, ◌∙◌, subst, inl, inr, arith}
+use Rattle.std.proofs.lemmas.Bool.{cases_eq, cases_lt, both_ways, eqb-true, ne_eqb, eq-eqb}
 use Rattle.tl_tree.specs.Records.{Records}
 use Rattle.tl_tree.specs.Shape.{IsTree}
 use Rattle.tl_protocol.specs.declared.action.Action.{Action}
@@ -45,17 +45,17 @@ legal_admitted w alone legal len is_alone = record {
         rw q (record { is_part = p; within = omega arith; ended = d ∙ sym (ne_eqb 0 (length (alone (with_found (part_of c w.past) w.opening)).actions) (λ e. omega arith)) })
     | inr other ↦
         let q = ne_eqb (admits w.past) c other in
-        rw q (done_other (w.alones c) w.opening w.past (Admit (admits w.past) ∷ w.past) c (w.counts c) (legal.genuine c (omega arith)) refl refl)
+        rw q (done_other (w.meanings c) w.opening w.past (Admit (admits w.past) ∷ w.past) c (w.counts c) (legal.genuine c (omega arith)) refl refl)
   ];
 }
 
 -- ---- sound worlds
 
-pub sound_opened : (parents : List ℕ) (opening : Records) (alones : ℕ → Records → Outcome) → IsTree parents → length opening ≡ length parents → IsSound (opened parents opening alones)
-sound_opened parents opening alones tree size = record {
+pub sound_opened : (parents : List ℕ) (opening : Records) (meanings : ℕ → Records → Outcome) → IsTree parents → length opening ≡ length parents → IsSound (opened parents opening meanings)
+sound_opened parents opening meanings tree size = record {
   tree = tree;
   size = size;
-  alones = λ c lt. absurd (omega arith);
+  meanings = λ c lt. absurd (omega arith);
   legal = record { in_turn = tt; apart = tt; follows = tt; genuine = λ c lt. absurd (omega arith) };
 }
 
@@ -63,9 +63,9 @@ pub sound_admitted : (w : World) (alone : Records → Outcome) → IsSound w →
 sound_admitted w alone sound is_alone = record {
   tree = sound.tree;
   size = sound.size;
-  alones = λ c lt. elim (cases_eq (admits w.past) c) [
+  meanings = λ c lt. elim (cases_eq (admits w.past) c) [
     | inl same ↦ let q = eq-eqb (admits w.past) c same in rw q is_alone
-    | inr other ↦ let q = ne_eqb (admits w.past) c other in rw q (sound.alones c (omega arith))
+    | inr other ↦ let q = ne_eqb (admits w.past) c other in rw q (sound.meanings c (omega arith))
   ];
   legal = legal_admitted w alone sound.legal sound.size is_alone;
 }
@@ -74,8 +74,8 @@ pub sound_moved : (w : World) (c : ℕ) (next : Action) → IsSound w → MayTak
 sound_moved w c next sound may = record {
   tree = sound.tree;
   size = sound.size;
-  alones = λ d lt. sound.alones d (subst (λ n. d < n) (admits-stored c (as_found w next) w.past) lt);
-  legal = legal_moved w c next sound.legal sound.size sound.alones may;
+  meanings = λ d lt. sound.meanings d (subst (λ n. d < n) (admits-stored c (as_found w next) w.past) lt);
+  legal = legal_moved w c next sound.legal sound.size sound.meanings may;
 }
 
 -- a world over this shape and these opening records
@@ -86,7 +86,7 @@ pub record IsOver (parents : List ℕ) (opening : Records) (w : World) : Type 0 
 
 -- every world that is reached is sound
 pub reached_sound : (parents : List ℕ) (opening : Records) → IsTree parents → length opening ≡ length parents → (w : World) → Reached parents opening w → IsOver parents opening w
-reached_sound parents opening tree size w (Opens alones) = record { parents_are = refl; opening_is = refl; sound = sound_opened parents opening alones tree size }
+reached_sound parents opening tree size w (Opens meanings) = record { parents_are = refl; opening_is = refl; sound = sound_opened parents opening meanings tree size }
 reached_sound parents opening tree size w' (Admits w alone reached is_alone) =
     let old = reached_sound parents opening tree size w reached in
     record {
@@ -101,15 +101,15 @@ reached_sound parents opening tree size w' (Moves w c next reached may) =
 -- ---- once all calls are done
 
 -- a call that is done has done all that it does alone
-all_of : (w : World) (c : ℕ) → Genuine (w.alones c) w.opening w.past c (w.counts c) → is_done c w.past ≡ true → part_of c w.past ≡ shared_actions (all_taken (alone_of (w.alones c) w.opening w.past c).actions)
+all_of : (w : World) (c : ℕ) → Genuine (w.meanings c) w.opening w.past c (w.counts c) → is_done c w.past ≡ true → part_of c w.past ≡ shared_actions (all_taken (alone_of (w.meanings c) w.opening w.past c).actions)
 all_of w c h over =
-    let n = length (alone_of (w.alones c) w.opening w.past c).actions in
+    let n = length (alone_of (w.meanings c) w.opening w.past c).actions in
     let all : w.counts c ≡ n = eqb-true (w.counts c) n (sym h.ended ∙ over) in
-    h.is_part ∙ ap (λ k. shared_actions (taken k (alone_of (w.alones c) w.opening w.past c).actions [])) all
+    h.is_part ∙ ap (λ k. shared_actions (taken k (alone_of (w.meanings c) w.opening w.past c).actions [])) all
 
 -- the calls alone along an order that agrees leave the records now and give every reply
 pub serial-agreeing : (w : World) → IsSound w → AllDone w.past → (order : List ℕ) → Agrees order w.past
-    → ((serial w.alones order w.opening).tree ≡ records_now w.past w.opening) × ((serial w.alones order w.opening).replies ≡ map (reply_of w) order)
+    → ((serial w.meanings order w.opening).tree ≡ records_now w.past w.opening) × ((serial w.meanings order w.opening).replies ≡ map (reply_of w) order)
 serial-agreeing w sound over order agrees =
     let legal = sound.legal in
     let history = sound_history w sound in
@@ -122,14 +122,14 @@ serial-agreeing w sound over order agrees =
           let m = agrees.members c in
           absurd (both_ways (stands c order) (grind (arith, m, none, d)) k)
     ] in
-    serial-along w.parents w.alones w.opening w.past order history agrees (record {
+    serial-along w.parents w.meanings w.opening w.past order history agrees (record {
       follows = legal.follows;
-      is_local = λ c k. alone_local w.parents (length w.opening) sound.size (w.alones c) (sound.alones c (known c k));
+      is_local = λ c k. alone_local w.parents (length w.opening) sound.size (w.meanings c) (sound.meanings c (known c k));
       genuine = λ c k. let lt = known c k in all_of w c (legal.genuine c lt) (over c lt);
     })
 
 -- in particular along the order that the history gives
 pub serial-placed : (w : World) → IsSound w → AllDone w.past
-    → ((serial w.alones (placed w.parents w.past) w.opening).tree ≡ records_now w.past w.opening)
-    × ((serial w.alones (placed w.parents w.past) w.opening).replies ≡ map (reply_of w) (placed w.parents w.past))
+    → ((serial w.meanings (placed w.parents w.past) w.opening).tree ≡ records_now w.past w.opening)
+    × ((serial w.meanings (placed w.parents w.past) w.opening).replies ≡ map (reply_of w) (placed w.parents w.past))
 serial-placed w sound over = serial-agreeing w sound over (placed w.parents w.past) (placed-agrees w.parents sound.tree w.past (sound_history w sound))

@@ -1,8 +1,8 @@
 -- The records now, and those with what a call found put in place.
-use Rattle.std.proofs.Common.{◌≡◌, ◌≢◌, ℕ, ◌<◌, ◌==◌, ◌||◌, ◌&&◌, not, true, List, [], ◌∷◌, ◌++◌, map, length, set, refl, sym, ap, ◌∙◌, subst, inl, inr, arith, append_assoc}
+use Rattle.std.proofs.Common.{◌≡◌, ◌≢◌, ℕ, ◌<◌, ◌==◌, List, [], ◌∷◌, length, set, refl, sym, ap, ◌∙◌, subst, inl, inr}
 use Rattle.std.specs.Prelude.{if◌then◌else◌}
 use Rattle.std.proofs.lemmas.Bool.{cases_Bool, both_ways, eqb-true, eq-eqb}
-use Rattle.std.proofs.lemmas.List.{get_or-set_same, get_or-set_other, length-set, ext_get_or, append-nil}
+use Rattle.std.proofs.lemmas.List.{get_or-set_same, get_or-set_other, length-set}
 use Rattle.tl_tree.specs.Records.{Record, Records, record_at}
 use Rattle.tl_protocol.specs.declared.action.Action.{Action}
 use Rattle.tl_protocol.specs.declared.action.Action.TheVariants as A
@@ -51,4 +51,3 @@ at-with (A.Free y left ∷ done) t x lt = at-with done t x lt
 at-with (A.Emit n ∷ done) t x lt = at-with done t x lt
 at-with (A.End ∷ done) t x lt = at-with done t x lt
 at-with (A.Plain ∷ done) t x lt = at-with done t x lt
-

@@ -1,8 +1,7 @@
 -- Calls run alone along an order that agrees with the history.
-use Rattle.std.proofs.Common.{zero, suc, ◌≤◌, false, Option, Some, None, slice_get, ℤ, ◌≡◌, ◌≢◌, ℕ, ◌<◌, ◌==◌, ◌||◌, ◌&&◌, not, true, List, [], ◌∷◌, ◌++◌, map, length, set, refl, sym, ap, ◌∙◌, subst, inl, inr, arith, append_assoc}
-use Rattle.std.specs.Prelude.{if◌then◌else◌}
-use Rattle.std.proofs.lemmas.Bool.{cases_Bool, both_ways, eqb-true, eq-eqb}
-use Rattle.std.proofs.lemmas.List.{get_or-set_same, get_or-set_other, length-set, ext_get_or, append-nil}
+use Rattle.std.proofs.Common.{zero, suc, ◌≤◌, false, Option, Some, None, slice_get, ℤ, ◌≡◌, ℕ, ◌<◌, true, List, [], ◌∷◌, ◌++◌, map, length, refl, sym, ap, ◌∙◌, subst, inl, inr, arith, append_assoc}
+use Rattle.std.proofs.lemmas.Bool.{both_ways, eq-eqb}
+use Rattle.std.proofs.lemmas.List.{ext_get_or, append-nil}
 use Rattle.tl_tree.specs.Records.{Records, record_at}
 use Rattle.tl_protocol.specs.declared.action.Action.{Action}
 use Rattle.tl_protocol.specs.declared.event.Event.{Event}
@@ -62,64 +61,64 @@ alone_local parents n len alone is = record {
 
 -- the reply of a call to what it found
 abbrev pub reply_found : (ℕ → Records → Outcome) → Records → List Event → ℕ → List ℤ
-reply_found alones opening past c = (alone_of (alones c) opening past c).reply
+reply_found meanings opening past c = (alone_of (meanings c) opening past c).reply
 
 -- a history of calls that are all done, each of which did what it does alone on what it found
-pub record IsComplete (alones : ℕ → Records → Outcome) (opening : Records) (past : List Event) (order : List ℕ) : Type 0 where
+pub record IsComplete (meanings : ℕ → Records → Outcome) (opening : Records) (past : List Event) (order : List ℕ) : Type 0 where
   pub follows : Follows opening past
-  pub is_local : (c : ℕ) → stands c order ≡ true → IsLocal (length opening) (alones c)
-  pub genuine : (c : ℕ) → stands c order ≡ true → part_of c past ≡ shared_actions (all_taken (alone_of (alones c) opening past c).actions)
+  pub is_local : (c : ℕ) → stands c order ≡ true → IsLocal (length opening) (meanings c)
+  pub genuine : (c : ℕ) → stands c order ≡ true → part_of c past ≡ shared_actions (all_taken (alone_of (meanings c) opening past c).actions)
 
 -- a call of the order run alone after those before it: it does what it did, and leaves what it left
-record Does (alones : ℕ → Records → Outcome) (opening : Records) (past : List Event) (c : ℕ) (t : Records) : Type 0 where
-  reply : (alones c t).reply ≡ reply_found alones opening past c
-  size : length (alones c t).tree ≡ length t
-  leaves : (x : ℕ) → x < length t → record_at (alones c t).tree x ≡ left_in (part_of c past) x (record_at t x)
+record Does (meanings : ℕ → Records → Outcome) (opening : Records) (past : List Event) (c : ℕ) (t : Records) : Type 0 where
+  reply : (meanings c t).reply ≡ reply_found meanings opening past c
+  size : length (meanings c t).tree ≡ length t
+  leaves : (x : ℕ) → x < length t → record_at (meanings c t).tree x ≡ left_in (part_of c past) x (record_at t x)
 
-does : (parents : List ℕ) (alones : ℕ → Records → Outcome) (opening : Records) (past : List Event) (pre post : List ℕ) (c : ℕ)
-    → IsLegalHistory parents past → Agrees (pre ++ c ∷ post) past → IsComplete alones opening past (pre ++ c ∷ post) → stands c (pre ++ c ∷ post) ≡ true
+does : (parents : List ℕ) (meanings : ℕ → Records → Outcome) (opening : Records) (past : List Event) (pre post : List ℕ) (c : ℕ)
+    → IsLegalHistory parents past → Agrees (pre ++ c ∷ post) past → IsComplete meanings opening past (pre ++ c ∷ post) → stands c (pre ++ c ∷ post) ≡ true
     → ((d x : ℕ) → locked (part_of d past) x ≡ true → stands d (pre ++ c ∷ post) ≡ true)
-    → (t : Records) → length t ≡ length opening → ((x : ℕ) → x < length opening → record_at t x ≡ laid past x (record_at opening x) pre) → Does alones opening past c t
-does parents alones opening past pre post c legal agrees complete here in_order t len is =
+    → (t : Records) → length t ≡ length opening → ((x : ℕ) → x < length opening → record_at t x ≡ laid past x (record_at opening x) pre) → Does meanings opening past c t
+does parents meanings opening past pre post c legal agrees complete here in_order t len is =
     let done = part_of c past in
     let u = with_found done opening in
     let local = complete.is_local c here in
-    let genuine : done ≡ shared_actions (all_taken (alones c u).actions) = complete.genuine c here in
+    let genuine : done ≡ shared_actions (all_taken (meanings c u).actions) = complete.genuine c here in
     let size : length u ≡ length opening = length-with done opening in
-    let lock_in : (x : ℕ) → locked (all_taken (alones c u).actions) x ≡ locked done x = λ x. sym (locked-shared_actions (all_taken (alones c u).actions) x) ∙ ap (λ a. locked a x) (sym genuine) in
-    let found : (x : ℕ) → x < length opening → locked (all_taken (alones c u).actions) x ≡ true → record_at u x ≡ record_at t x =
+    let lock_in : (x : ℕ) → locked (all_taken (meanings c u).actions) x ≡ locked done x = λ x. sym (locked-shared_actions (all_taken (meanings c u).actions) x) ∙ ap (λ a. locked a x) (sym genuine) in
+    let found : (x : ℕ) → x < length opening → locked (all_taken (meanings c u).actions) x ≡ true → record_at u x ≡ record_at t x =
     λ x lt l.
     let l2 : locked done x ≡ true = sym (lock_in x) ∙ l in
     at-with done opening x lt ∙ sym (laid-found parents pre post c agrees.distinct opening past (record { legal = legal; sorted = agrees.in_lock_order }) complete.follows in_order x l2) ∙ sym (is x lt) in
-    let same : all_taken (alones c u).actions ≡ all_taken (alones c t).actions = local.same_actions u t size len found in
+    let same : all_taken (meanings c u).actions ≡ all_taken (meanings c t).actions = local.same_actions u t size len found in
     record {
       reply = local.reply t len ∙ ap emitted (sym same) ∙ sym (local.reply u size);
       size = local.size t len;
-      leaves = λ x lt. local.leaves t x len (subst (λ n. x < n) len lt) ∙ ap (λ a. left_in a x (record_at t x)) (sym same) ∙ sym (left-shared_actions (all_taken (alones c u).actions) x (record_at t x)) ∙ ap (λ a. left_in a x (record_at t x)) (sym genuine);
+      leaves = λ x lt. local.leaves t x len (subst (λ n. x < n) len lt) ∙ ap (λ a. left_in a x (record_at t x)) (sym same) ∙ sym (left-shared_actions (all_taken (meanings c u).actions) x (record_at t x)) ∙ ap (λ a. left_in a x (record_at t x)) (sym genuine);
     }
 
-record Ends (alones : ℕ → Records → Outcome) (opening : Records) (past : List Event) (pre suf : List ℕ) (t : Records) : Type 0 where
-  size : length (serial alones suf t).tree ≡ length opening
-  tree : (x : ℕ) → x < length opening → record_at (serial alones suf t).tree x ≡ laid past x (record_at opening x) (pre ++ suf)
-  replies : (serial alones suf t).replies ≡ map (reply_found alones opening past) suf
+record Ends (meanings : ℕ → Records → Outcome) (opening : Records) (past : List Event) (pre suf : List ℕ) (t : Records) : Type 0 where
+  size : length (serial meanings suf t).tree ≡ length opening
+  tree : (x : ℕ) → x < length opening → record_at (serial meanings suf t).tree x ≡ laid past x (record_at opening x) (pre ++ suf)
+  replies : (serial meanings suf t).replies ≡ map (reply_found meanings opening past) suf
 
-ends : (parents : List ℕ) (alones : ℕ → Records → Outcome) (opening : Records) (past : List Event) (pre suf : List ℕ)
-    → IsLegalHistory parents past → Agrees (pre ++ suf) past → IsComplete alones opening past (pre ++ suf)
-    → (t : Records) → length t ≡ length opening → ((x : ℕ) → x < length opening → record_at t x ≡ laid past x (record_at opening x) pre) → Ends alones opening past pre suf t
-ends parents alones opening past pre [] legal agrees complete t len is = record {
+ends : (parents : List ℕ) (meanings : ℕ → Records → Outcome) (opening : Records) (past : List Event) (pre suf : List ℕ)
+    → IsLegalHistory parents past → Agrees (pre ++ suf) past → IsComplete meanings opening past (pre ++ suf)
+    → (t : Records) → length t ≡ length opening → ((x : ℕ) → x < length opening → record_at t x ≡ laid past x (record_at opening x) pre) → Ends meanings opening past pre suf t
+ends parents meanings opening past pre [] legal agrees complete t len is = record {
   size = len;
   tree = λ x lt. is x lt ∙ ap (laid past x (record_at opening x)) (sym (append-nil pre));
   replies = refl;
 }
-ends parents alones opening past pre (c ∷ cs) legal agrees complete t len is =
+ends parents meanings opening past pre (c ∷ cs) legal agrees complete t len is =
     let order = pre ++ c ∷ cs in
     let longer = pre ++ c ∷ [] in
     let here : stands c order ≡ true = let s = stands-append c pre (c ∷ cs) in let self = eq-eqb c c refl in grind (arith, s, self) in
     let in_order : (d x : ℕ) → locked (part_of d past) x ≡ true → stands d order ≡ true = λ d x l. let m = agrees.members d in let any = locked-any (part_of d past) x l in grind (arith, m, any) in
-    let d = does parents alones opening past pre cs c legal agrees complete here in_order t len is in
+    let d = does parents meanings opening past pre cs c legal agrees complete here in_order t len is in
     let same : longer ++ cs ≡ order = append_assoc pre (c ∷ []) cs in
-    let size : length (alones c t).tree ≡ length opening = d.size ∙ len in
-    let rest = ends parents alones opening past longer cs legal (subst (λ o. Agrees o past) (sym same) agrees) (subst (λ o. IsComplete alones opening past o) (sym same) complete) (alones c t).tree size
+    let size : length (meanings c t).tree ≡ length opening = d.size ∙ len in
+    let rest = ends parents meanings opening past longer cs legal (subst (λ o. Agrees o past) (sym same) agrees) (subst (λ o. IsComplete meanings opening past o) (sym same) complete) (meanings c t).tree size
     (λ x lt. d.leaves x (subst (λ n. x < n) (sym len) lt) ∙ ap (left_in (part_of c past) x) (is x lt) ∙ sym (laid-append past x (record_at opening x) pre (c ∷ []))) in
     record {
       size = rest.size;
@@ -128,13 +127,13 @@ ends parents alones opening past pre (c ∷ cs) legal agrees complete t len is =
     }
 
 -- calls run alone along an order that agrees with a legal history leave the records of the history, and give its replies
-pub serial-along : (parents : List ℕ) (alones : ℕ → Records → Outcome) (opening : Records) (past : List Event) (order : List ℕ)
-    → IsLegalHistory parents past → Agrees order past → IsComplete alones opening past order
-    → ((serial alones order opening).tree ≡ records_now past opening) × ((serial alones order opening).replies ≡ map (reply_found alones opening past) order)
-serial-along parents alones opening past order legal agrees complete =
-    let e = ends parents alones opening past [] order legal agrees complete opening refl (λ x lt. refl) in
+pub serial-along : (parents : List ℕ) (meanings : ℕ → Records → Outcome) (opening : Records) (past : List Event) (order : List ℕ)
+    → IsLegalHistory parents past → Agrees order past → IsComplete meanings opening past order
+    → ((serial meanings order opening).tree ≡ records_now past opening) × ((serial meanings order opening).replies ≡ map (reply_found meanings opening past) order)
+serial-along parents meanings opening past order legal agrees complete =
+    let e = ends parents meanings opening past [] order legal agrees complete opening refl (λ x lt. refl) in
     let in_order : (d x : ℕ) → locked (part_of d past) x ≡ true → stands d order ≡ true = λ d x l. let m = agrees.members d in let any = locked-any (part_of d past) x l in grind (arith, m, any) in (
-      ext_get_or [] ((serial alones order opening).tree) (records_now past opening) (e.size ∙ sym (length-records_now past opening))
+      ext_get_or [] ((serial meanings order opening).tree) (records_now past opening) (e.size ∙ sym (length-records_now past opening))
           (λ x lt.
           let lt2 : x < length opening = subst (λ n. x < n) e.size lt in
           e.tree x lt2 ∙ laid-last_left parents order agrees.distinct past (record { legal = legal; sorted = agrees.in_lock_order }) in_order x (record_at opening x) ∙ sym (at-records_now past opening x lt2)),

@@ -1,8 +1,6 @@
 -- What is said of a call's actions is said of those that are shared.
-use Rattle.std.proofs.Common.{◌≡◌, ◌≢◌, ℕ, ◌<◌, ◌==◌, ◌||◌, ◌&&◌, not, true, List, [], ◌∷◌, ◌++◌, map, length, set, refl, sym, ap, ◌∙◌, subst, inl, inr, arith, append_assoc}
+use Rattle.std.proofs.Common.{◌≡◌, ℕ, ◌==◌, ◌||◌, ◌&&◌, not, List, [], ◌∷◌, refl, sym, ap, ◌∙◌}
 use Rattle.std.specs.Prelude.{if◌then◌else◌}
-use Rattle.std.proofs.lemmas.Bool.{cases_Bool, both_ways, eqb-true, eq-eqb}
-use Rattle.std.proofs.lemmas.List.{get_or-set_same, get_or-set_other, length-set, ext_get_or, append-nil}
 use Rattle.tl_tree.specs.Records.{Record}
 use Rattle.tl_tree.specs.Shape.{parent}
 use Rattle.tl_protocol.specs.declared.action.Action.{Action}
@@ -90,4 +88,3 @@ obeys_shared parents (A.Free y left ∷ done) h = (held-shared_actions done y �
 obeys_shared parents (A.Emit n ∷ done) h = obeys_shared parents done h.2
 obeys_shared parents (A.End ∷ done) h = (λ x. held-shared_actions done x ∙ h.0 x, ended-shared_actions done ∙ h.1, obeys_shared parents done h.2)
 obeys_shared parents (A.Plain ∷ done) h = obeys_shared parents done h.2
-

@@ -1,5 +1,5 @@
 -- While a call is open, some call is enabled.
-use Rattle.std.proofs.Common.{Option, Some, slice_get, length, sym, ap, ◌∙◌, ◌≤◌, zero, suc, ◌≡◌, ◌≢◌, ℕ, ◌<◌, ◌==◌, true, false, List, [], ◌∷◌, refl, subst, inl, inr, arith, ◌⊎◌}
+use Rattle.std.proofs.Common.{Some, slice_get, length, sym, ◌∙◌, zero, suc, ◌≡◌, ◌≢◌, ℕ, ◌<◌, ◌==◌, true, false, List, [], ◌∷◌, refl, subst, inl, inr, arith, ◌⊎◌}
 use Rattle.std.proofs.lemmas.Bool.{cases_Bool, cases_eq, both_ways, false_from_ne_true, eqb-true, ne_eqb, eq-eqb}
 use Rattle.tl_protocol.specs.declared.action.Action.{Action}
 use Rattle.tl_protocol.specs.declared.action.Action.TheVariants as A
@@ -96,7 +96,7 @@ earliest past (e ∷ es) once = elim (cases_Bool (is_done e past)) [
 
 -- the history of a sound world is legal
 pub sound_history : (w : World) → IsSound w → IsLegalHistory w.parents w.past
-sound_history w sound = legal_history w sound.legal sound.size sound.alones
+sound_history w sound = legal_history w sound.legal sound.size sound.meanings
 
 -- there is an action below the length
 element : (k : ℕ) (actions : List Action) → k < length actions → (a : Action) × (slice_get actions k ≡ Some a)
@@ -108,19 +108,19 @@ element (suc k) (b ∷ actions) lt = element k actions (omega arith)
 pub next_some : (w : World) → Legal w → (c : ℕ) → IsOpen c w.past → (a : Action) × (next_of w c ≡ Some a)
 next_some w legal c is_open =
     let h = legal.genuine c is_open.0 in
-    let n = length (alone_of (w.alones c) w.opening w.past c).actions in
+    let n = length (alone_of (w.meanings c) w.opening w.past c).actions in
     let ne : w.counts c ≢ n = λ (e : w.counts c ≡ n). both_ways (w.counts c == n) (sym h.ended ∙ is_open.1) (eq-eqb (w.counts c) n e) in
     let lt : w.counts c < n = let le = h.within in omega arith in
-    element (w.counts c) (alone_of (w.alones c) w.opening w.past c).actions lt
+    element (w.counts c) (alone_of (w.meanings c) w.opening w.past c).actions lt
 
 -- it is permitted
 pub next_permitted : (w : World) → IsSound w → (c : ℕ) (a : Action) → IsOpen c w.past → next_of w c ≡ Some a → Permitted w.parents (part_of c w.past) a
 next_permitted w sound c a is_open next =
     let h = sound.legal.genuine c is_open.0 in
     let t = with_found (part_of c w.past) w.opening in
-    let actions = (w.alones c t).actions in
+    let actions = (w.meanings c t).actions in
     let size : length t ≡ length w.parents = length-with (part_of c w.past) w.opening ∙ sound.size in
-    let p = permitted_at w.parents (w.counts c) actions [] a ((sound.alones c is_open.0).obeys t size) next in
+    let p = permitted_at w.parents (w.counts c) actions [] a ((sound.meanings c is_open.0).obeys t size) next in
     subst (λ z. Permitted w.parents z a) (sym h.is_part) (permitted_shared w.parents (taken (w.counts c) actions []) a p)
 
 -- ---- enabled calls

@@ -11,11 +11,11 @@ use Rattle.tl_protocol.specs.declared.event.Event.TheVariants.{Admit, Lock, Free
 use Rattle.tl_protocol.specs.Actions.{is_end, locked, with_found, shared_actions, taken, Permitted, EachPermitted}
 use Rattle.tl_protocol.specs.History.{part_of, is_done, admits, InTurn, Apart, last_left, Follows, IsLegalHistory}
 use Rattle.tl_protocol.specs.Alone.{Outcome, IsAlone}
-use Rattle.tl_protocol.specs.World.{World, alone_of, Genuine, Legal, MayTake, as_found, stored, moved}
+use Rattle.tl_protocol.specs.World.{World, alone_of, Genuine, Legal, IsSound, MayTake, as_found, stored, moved}
 use Rattle.tl_protocol.proofs.Parts.{part_of-lock, part_of-free, part_of-done, part_of-other}
 use Rattle.tl_protocol.proofs.Records.{at-set, length-with}
-use Rattle.tl_protocol.proofs.Shared.{obeys_shared}
-use Rattle.tl_protocol.proofs.Alone.{taken-next, obeys_taken, permitted_at, finds_at, Alike, same_taken, alike_lock, ends_there, ends_later}
+use Rattle.tl_protocol.proofs.Shared.{locked-shared_actions, obeys_shared}
+use Rattle.tl_protocol.proofs.Alone.{taken-next, obeys_taken, permitted_at, finds_at, Alike, same_taken, alike_lock, ends_there, ends_later, taken_inside}
 
 -- what a call did that wasn't admitted: nothing
 pub unadmitted : (past : List Event) → InTurn past → (c : ℕ) → admits past ≤ c → part_of c past ≡ []
@@ -25,15 +25,15 @@ unadmitted (Lock d x found ∷ past) turn c le = let lt : d < admits past = turn
 unadmitted (Free d x left ∷ past) turn c le = let lt : d < admits past = turn.0.0 in let ne : d ≢ c = λ w. omega arith in part_of-other (Free d x left) c past ne ∙ unadmitted past turn.1 c le
 unadmitted (Done d ∷ past) turn c le = let lt : d < admits past = turn.0.0 in let ne : d ≢ c = λ w. omega arith in part_of-other (Done d) c past ne ∙ unadmitted past turn.1 c le
 
--- the history of a legal world is legal: each call obeys the protocol because it does so alone
-pub legal_history : (w : World) → Legal w → length w.opening ≡ length w.parents → ((c : ℕ) → c < admits w.past → IsAlone w.parents (w.alones c)) → IsLegalHistory w.parents w.past
-legal_history w legal len alones = record {
+-- the history of a legal world is legal: what each call does is permitted because it is so alone
+pub legal_history : (w : World) → Legal w → length w.opening ≡ length w.parents → ((c : ℕ) → c < admits w.past → IsAlone w.parents (w.meanings c)) → IsLegalHistory w.parents w.past
+legal_history w legal len meanings = record {
   obeys = λ c. elim (cases_lt c (admits w.past)) [
     | inl here ↦
         let g = legal.genuine c here in
         let size : length (with_found (part_of c w.past) w.opening) ≡ length w.parents = length-with (part_of c w.past) w.opening ∙ len in
-        let o = (alones c here).obeys (with_found (part_of c w.past) w.opening) size in
-        subst (EachPermitted w.parents) (sym g.is_part) (obeys_shared w.parents (taken (w.counts c) ((alone_of (w.alones c) w.opening w.past c).actions) []) (obeys_taken w.parents (w.counts c) ((alone_of (w.alones c) w.opening w.past c).actions) [] o tt))
+        let o = (meanings c here).obeys (with_found (part_of c w.past) w.opening) size in
+        subst (EachPermitted w.parents) (sym g.is_part) (obeys_shared w.parents (taken (w.counts c) ((alone_of (w.meanings c) w.opening w.past c).actions) []) (obeys_taken w.parents (w.counts c) ((alone_of (w.meanings c) w.opening w.past c).actions) [] o tt))
     | inr out ↦ subst (EachPermitted w.parents) (sym (unadmitted w.past legal.in_turn c out)) tt
   ];
   apart = legal.apart;
@@ -51,7 +51,7 @@ done_other alone opening past more c k h same over =
       ended = over ∙ h.ended ∙ ap (λ actions. k == length actions) (sym r);
     }
 
--- after an action that finds nothing the run alone is the same
+-- after an action that finds nothing the call alone does the same
 done_next : (alone : Records → Outcome) (opening : Records) (past more : List Event) (c k : ℕ) (a : Action) → Genuine alone opening past c k
     → (alone_of alone opening more c).actions ≡ (alone_of alone opening past c).actions → slice_get ((alone_of alone opening past c).actions) k ≡ Some a
     → part_of c more ≡ shared_actions (a ∷ taken k ((alone_of alone opening past c).actions) []) → is_done c more ≡ (suc k == length ((alone_of alone opening past c).actions)) → Genuine alone opening more c (suc k)
@@ -62,7 +62,7 @@ done_next alone opening past more c k a h r next same over =
       ended = over ∙ ap (λ actions. suc k == length actions) (sym r);
     }
 
--- after a lock it is the run on the tree that has the record found, and goes on from the same actions
+-- after a lock it does what it does on the tree that has the record found, and goes on from the same actions
 done_lock : (parents : List ℕ) (alone : Records → Outcome) → IsAlone parents alone → (opening : Records) → length opening ≡ length parents → (past : List Event) (c k x : ℕ) (r found : Record)
     → Genuine alone opening past c k → is_done c past ≡ false → slice_get ((alone_of alone opening past c).actions) k ≡ Some (A.Lock x r) → Genuine alone opening (Lock c x found ∷ past) c (suc k)
 done_lock parents alone is_alone opening len past c k x r found h goes_on next =
@@ -92,29 +92,29 @@ done_lock parents alone is_alone opening len past c k x r found h goes_on next =
     }
 
 -- what isn't the end isn't the last action
-own_later : (w : World) (c : ℕ) (next : Action) → IsAlone w.parents (w.alones c) → length w.opening ≡ length w.parents → MayTake w c next → is_end next ≡ false
-    → is_done c w.past ≡ (suc (w.counts c) == length ((alone_of (w.alones c) w.opening w.past c).actions))
+own_later : (w : World) (c : ℕ) (next : Action) → IsAlone w.parents (w.meanings c) → length w.opening ≡ length w.parents → MayTake w c next → is_end next ≡ false
+    → is_done c w.past ≡ (suc (w.counts c) == length ((alone_of (w.meanings c) w.opening w.past c).actions))
 own_later w c next is_alone len may n =
-    let later = ends_later (w.counts c) ((alone_of (w.alones c) w.opening w.past c).actions) next (is_alone.ends (with_found (part_of c w.past) w.opening) (length-with (part_of c w.past) w.opening ∙ len)) may.is_next n in
-    may.is_open.1 ∙ sym (ne_eqb (suc (w.counts c)) (length ((alone_of (w.alones c) w.opening w.past c).actions)) (λ e. omega arith))
+    let later = ends_later (w.counts c) ((alone_of (w.meanings c) w.opening w.past c).actions) next (is_alone.ends (with_found (part_of c w.past) w.opening) (length-with (part_of c w.past) w.opening ∙ len)) may.is_next n in
+    may.is_open.1 ∙ sym (ne_eqb (suc (w.counts c)) (length ((alone_of (w.meanings c) w.opening w.past c).actions)) (λ e. omega arith))
 
 -- the call itself after its next action
-own : (w : World) (c : ℕ) (next : Action) → IsAlone w.parents (w.alones c) → length w.opening ≡ length w.parents → Genuine (w.alones c) w.opening w.past c (w.counts c) → MayTake w c next
-    → Genuine (w.alones c) w.opening (stored c (as_found w next) w.past) c (suc (w.counts c))
-own w c (A.Lock x r) is_alone len h may = done_lock w.parents (w.alones c) is_alone w.opening len w.past c (w.counts c) x r (last_left w.past x (record_at w.opening x)) h may.is_open.1 may.is_next
-own w c (A.Read x f n) is_alone len h may = done_next (w.alones c) w.opening w.past w.past c (w.counts c) (A.Read x f n) h refl may.is_next h.is_part (own_later w c (A.Read x f n) is_alone len may refl)
-own w c (A.Write x f n) is_alone len h may = done_next (w.alones c) w.opening w.past w.past c (w.counts c) (A.Write x f n) h refl may.is_next h.is_part (own_later w c (A.Write x f n) is_alone len may refl)
+own : (w : World) (c : ℕ) (next : Action) → IsAlone w.parents (w.meanings c) → length w.opening ≡ length w.parents → Genuine (w.meanings c) w.opening w.past c (w.counts c) → MayTake w c next
+    → Genuine (w.meanings c) w.opening (stored c (as_found w next) w.past) c (suc (w.counts c))
+own w c (A.Lock x r) is_alone len h may = done_lock w.parents (w.meanings c) is_alone w.opening len w.past c (w.counts c) x r (last_left w.past x (record_at w.opening x)) h may.is_open.1 may.is_next
+own w c (A.Read x f n) is_alone len h may = done_next (w.meanings c) w.opening w.past w.past c (w.counts c) (A.Read x f n) h refl may.is_next h.is_part (own_later w c (A.Read x f n) is_alone len may refl)
+own w c (A.Write x f n) is_alone len h may = done_next (w.meanings c) w.opening w.past w.past c (w.counts c) (A.Write x f n) h refl may.is_next h.is_part (own_later w c (A.Write x f n) is_alone len may refl)
 own w c (A.Free x left) is_alone len h may =
     let q = part_of-free c x left w.past in
-    done_next (w.alones c) w.opening w.past (Free c x left ∷ w.past) c (w.counts c) (A.Free x left) h (ap (λ p. (w.alones c (with_found p w.opening)).actions) q) may.is_next (q ∙ ap (λ z. A.Free x left ∷ z) h.is_part) (own_later w c (A.Free x left) is_alone len may refl)
-own w c (A.Emit n) is_alone len h may = done_next (w.alones c) w.opening w.past w.past c (w.counts c) (A.Emit n) h refl may.is_next h.is_part (own_later w c (A.Emit n) is_alone len may refl)
+    done_next (w.meanings c) w.opening w.past (Free c x left ∷ w.past) c (w.counts c) (A.Free x left) h (ap (λ p. (w.meanings c (with_found p w.opening)).actions) q) may.is_next (q ∙ ap (λ z. A.Free x left ∷ z) h.is_part) (own_later w c (A.Free x left) is_alone len may refl)
+own w c (A.Emit n) is_alone len h may = done_next (w.meanings c) w.opening w.past w.past c (w.counts c) (A.Emit n) h refl may.is_next h.is_part (own_later w c (A.Emit n) is_alone len may refl)
 own w c A.End is_alone len h may =
     let q = part_of-done c w.past in
     let self = eq-eqb c c refl in
-    let all = ends_there (w.counts c) ((alone_of (w.alones c) w.opening w.past c).actions) (is_alone.ends (with_found (part_of c w.past) w.opening) (length-with (part_of c w.past) w.opening ∙ len)) may.is_next in
-    done_next (w.alones c) w.opening w.past (Done c ∷ w.past) c (w.counts c) A.End h (ap (λ p. (w.alones c (with_found p w.opening)).actions) q) may.is_next (q ∙ ap (λ z. A.End ∷ z) h.is_part)
-    (rw self (sym (eq-eqb (suc (w.counts c)) (length ((alone_of (w.alones c) w.opening w.past c).actions)) (sym all))))
-own w c A.Plain is_alone len h may = done_next (w.alones c) w.opening w.past w.past c (w.counts c) A.Plain h refl may.is_next h.is_part (own_later w c A.Plain is_alone len may refl)
+    let all = ends_there (w.counts c) ((alone_of (w.meanings c) w.opening w.past c).actions) (is_alone.ends (with_found (part_of c w.past) w.opening) (length-with (part_of c w.past) w.opening ∙ len)) may.is_next in
+    done_next (w.meanings c) w.opening w.past (Done c ∷ w.past) c (w.counts c) A.End h (ap (λ p. (w.meanings c (with_found p w.opening)).actions) q) may.is_next (q ∙ ap (λ z. A.End ∷ z) h.is_part)
+    (rw self (sym (eq-eqb (suc (w.counts c)) (length ((alone_of (w.meanings c) w.opening w.past c).actions)) (sym all))))
+own w c A.Plain is_alone len h may = done_next (w.meanings c) w.opening w.past w.past c (w.counts c) A.Plain h refl may.is_next h.is_part (own_later w c A.Plain is_alone len may refl)
 
 -- other calls
 done_stored : (c d : ℕ) (a : Action) (past : List Event) → c ≢ d → is_done d (stored c a past) ≡ is_done d past
@@ -159,8 +159,8 @@ rules_kept w c A.End legal may = record { in_turn = (may.is_open, legal.in_turn)
 rules_kept w c A.Plain legal may = record { in_turn = legal.in_turn; apart = legal.apart; follows = legal.follows }
 
 -- a step keeps a world legal
-pub legal_moved : (w : World) (c : ℕ) (next : Action) → Legal w → length w.opening ≡ length w.parents → ((d : ℕ) → d < admits w.past → IsAlone w.parents (w.alones d)) → MayTake w c next → Legal (moved w c next)
-legal_moved w c next legal len alones may =
+pub legal_moved : (w : World) (c : ℕ) (next : Action) → Legal w → length w.opening ≡ length w.parents → ((d : ℕ) → d < admits w.past → IsAlone w.parents (w.meanings d)) → MayTake w c next → Legal (moved w c next)
+legal_moved w c next legal len meanings may =
     let a = as_found w next in
     let r = rules_kept w c next legal may in
     let h = legal.genuine c may.is_open.0 in
@@ -171,10 +171,30 @@ legal_moved w c next legal len alones may =
       genuine = λ d lt. elim (cases_eq c d) [
         | inl same ↦
             let q = eq-eqb c d same in
-            rw q (subst (λ e. Genuine (w.alones e) w.opening (stored c a w.past) e (suc (w.counts e))) same (own w c next (alones c may.is_open.0) len h may))
+            rw q (subst (λ e. Genuine (w.meanings e) w.opening (stored c a w.past) e (suc (w.counts e))) same (own w c next (meanings c may.is_open.0) len h may))
         | inr other ↦
             let q = ne_eqb c d other in
             let lt2 : d < admits w.past = subst (λ n. d < n) (admits-stored c a w.past) lt in
-            rw q (done_other (w.alones d) w.opening w.past (stored c a w.past) d (w.counts d) (legal.genuine d lt2) (part_of-stored c d a w.past other) (done_stored c d a w.past other))
+            rw q (done_other (w.meanings d) w.opening w.past (stored c a w.past) d (w.counts d) (legal.genuine d lt2) (part_of-stored c d a w.past other) (done_stored c d a w.past other))
       ];
     }
+
+-- the nodes that a call of a sound world has locked are those of the tree
+pub part_inside : (w : World) → IsSound w → (c x : ℕ) → locked (part_of c w.past) x ≡ true → x < length w.parents
+part_inside w sound c x l = elim (cases_lt c (admits w.past)) [
+  | inl here ↦
+      let g = sound.legal.genuine c here in
+      let t = with_found (part_of c w.past) w.opening in
+      let size : length t ≡ length w.parents = length-with (part_of c w.past) w.opening ∙ sound.size in
+      let first = taken (w.counts c) (w.meanings c t).actions [] in
+      let shared : locked (shared_actions first) x ≡ true = ap (λ z. locked z x) (sym g.is_part) ∙ l in
+      let whole : locked first x ≡ true = sym (locked-shared_actions first x) ∙ shared in
+      subst (λ n. x < n) size (elim (taken_inside t (w.counts c) (w.meanings c t).actions [] ((sound.meanings c here).finds t size) x whole) [
+        | inl in' ↦ in'
+        | inr none ↦ absurd (both_ways false refl none)
+      ])
+  | inr out ↦
+      let p = unadmitted w.past sound.legal.in_turn c out in
+      let none : locked (part_of c w.past) x ≡ false = ap (λ z. locked z x) p in
+      absurd (both_ways (locked (part_of c w.past) x) none l)
+]

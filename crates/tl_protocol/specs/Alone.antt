@@ -1,8 +1,8 @@
 -- What one call does alone on a tree, as far as the protocol has to know it, and calls run alone one after another.
 use Rattle.std.specs.Prelude.{◌≡◌, ◌≢◌, ◌⊎◌, ℕ, ◌<◌, List, [], ◌∷◌, length, ℤ}
-use Rattle.tl_tree.specs.Records.{Record, Records, record_at}
+use Rattle.tl_tree.specs.Records.{Records, record_at}
 use Rattle.tl_protocol.specs.declared.action.Action.{Action}
-use Rattle.tl_protocol.specs.declared.action.Action.TheVariants.{Plain, Lock, Read, Write, Free, Emit, End}
+use Rattle.tl_protocol.specs.declared.action.Action.TheVariants.{Lock, End}
 use Rattle.tl_protocol.specs.Actions.{left_in, emitted, taken, PermittedAfter}
 
 -- a call's actions, the earliest first, the tree that it leaves and its reply
@@ -58,7 +58,7 @@ pub record SerialOutcome : Type 0 where
 
 -- the calls of the order run alone, each on the tree that the one before left
 abbrev pub serial : (ℕ → Records → Outcome) → List ℕ → Records → SerialOutcome
-serial alones [] t = record { tree = t; replies = [] }
-serial alones (c ∷ cs) t =
-    let rest = serial alones cs (alones c t).tree in
-    record { tree = rest.tree; replies = (alones c t).reply ∷ rest.replies }
+serial meanings [] t = record { tree = t; replies = [] }
+serial meanings (c ∷ cs) t =
+    let rest = serial meanings cs (meanings c t).tree in
+    record { tree = rest.tree; replies = (meanings c t).reply ∷ rest.replies }

@@ -1,7 +1,7 @@
 -- Who holds a node.
 use Rattle.std.specs.Prelude.{ℕ, List, [], ◌∷◌, ◌==◌, if◌then◌else◌, Option, Some, None}
 use Rattle.tl_protocol.specs.declared.event.Event.{Event}
-use Rattle.tl_protocol.specs.declared.event.Event.TheVariants.{Admit, Lock, Free, Done}
+use Rattle.tl_protocol.specs.declared.event.Event.TheVariants.{Lock, Free}
 
 -- the call that locked x last, if nobody has freed x since
 abbrev pub holder_of : List Event → ℕ → Option ℕ

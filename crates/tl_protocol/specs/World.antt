@@ -16,7 +16,7 @@ use Rattle.tl_protocol.specs.Alone.{Outcome, IsAlone}
 pub record World : Type 0 where
   pub parents : List ℕ
   pub opening : Records
-  pub alones : ℕ → Records → Outcome
+  pub meanings : ℕ → Records → Outcome
   pub past : List Event
   pub counts : ℕ → ℕ
 
@@ -35,22 +35,22 @@ pub record Legal (w : World) : Type 0 where
   pub in_turn : InTurn w.past
   pub apart : Apart w.past
   pub follows : Follows w.opening w.past
-  pub genuine : (c : ℕ) → c < admits w.past → Genuine (w.alones c) w.opening w.past c (w.counts c)
+  pub genuine : (c : ℕ) → c < admits w.past → Genuine (w.meanings c) w.opening w.past c (w.counts c)
 
 -- a legal world over a tree and records of its size, whose calls have meanings alone
 pub record IsSound (w : World) : Type 0 where
   pub tree : IsTree w.parents
   pub size : length w.opening ≡ length w.parents
-  pub alones : (c : ℕ) → c < admits w.past → IsAlone w.parents (w.alones c)
+  pub meanings : (c : ℕ) → c < admits w.past → IsAlone w.parents (w.meanings c)
   pub legal : Legal w
 
 -- c's next action alone
 abbrev pub next_of : World → ℕ → Option Action
-next_of w c = slice_get (alone_of (w.alones c) w.opening w.past c).actions (w.counts c)
+next_of w c = slice_get (alone_of (w.meanings c) w.opening w.past c).actions (w.counts c)
 
 -- c's reply
 abbrev pub reply_of : World → ℕ → List ℤ
-reply_of w c = (alone_of (w.alones c) w.opening w.past c).reply
+reply_of w c = (alone_of (w.meanings c) w.opening w.past c).reply
 
 -- c is open, and next locks a node that another call holds
 pub record IsStuck (w : World) (c : ℕ) : Type 0 where
@@ -98,16 +98,16 @@ moved w c next = record w { past = stored c (as_found w next) w.past; counts = �
 abbrev pub admitted : World → (Records → Outcome) → World
 admitted w alone = record w {
   past = Admit (admits w.past) ∷ w.past;
-  alones = λ d. if admits w.past == d then alone else w.alones d;
+  meanings = λ d. if admits w.past == d then alone else w.meanings d;
   counts = λ d. if admits w.past == d then 0 else w.counts d;
 }
 
 -- the world before any admission
 abbrev pub opened : List ℕ → Records → (ℕ → Records → Outcome) → World
-opened parents opening alones = record { parents = parents; opening = opening; alones = alones; past = []; counts = λ c. 0 }
+opened parents opening meanings = record { parents = parents; opening = opening; meanings = meanings; past = []; counts = λ c. 0 }
 
 -- the worlds that admissions and steps lead to
 pub data Reached (parents : List ℕ) (opening : Records) : World → Type 0 where
-  Opens : (alones : ℕ → Records → Outcome) → Reached parents opening (opened parents opening alones)
+  Opens : (meanings : ℕ → Records → Outcome) → Reached parents opening (opened parents opening meanings)
   Admits : (w : World) (alone : Records → Outcome) → Reached parents opening w → IsAlone parents alone → Reached parents opening (admitted w alone)
   Moves : (w : World) (c : ℕ) (next : Action) → Reached parents opening w → MayTake w c next → Reached parents opening (moved w c next)

@@ -40,8 +40,8 @@ pub fn nodes_above_listed()
 
 /// Calls run alone, one after another along an order that agrees, leave the records now and give every reply.
 pub fn serial_along()
-    ensures tree { (w : World) (order : List ℕ) → IsSound w → AllDone w.past → Agrees order w.past → (serial w.alones order w.opening).tree ≡ records_now w.past w.opening }
-    ensures replies { (w : World) (order : List ℕ) → IsSound w → AllDone w.past → Agrees order w.past → (serial w.alones order w.opening).replies ≡ map (reply_of w) order }
+    ensures tree { (w : World) (order : List ℕ) → IsSound w → AllDone w.past → Agrees order w.past → (serial w.meanings order w.opening).tree ≡ records_now w.past w.opening }
+    ensures replies { (w : World) (order : List ℕ) → IsSound w → AllDone w.past → Agrees order w.past → (serial w.meanings order w.opening).replies ≡ map (reply_of w) order }
 {}
 
 // ---- steps
@@ -55,14 +55,17 @@ pub fn no_standstill()
 
 /// Admissions and steps keep a world sound.
 pub fn steps_keep_sound()
-    ensures opened { (parents : List ℕ) (opening : Records) (alones : ℕ → Records → Outcome) → IsTree parents → length opening ≡ length parents → IsSound (opened parents opening alones) }
+    ensures opened { (parents : List ℕ) (opening : Records) (meanings : ℕ → Records → Outcome) → IsTree parents → length opening ≡ length parents → IsSound (opened parents opening meanings) }
     ensures admitted { (w : World) (alone : Records → Outcome) → IsSound w → IsAlone w.parents alone → IsSound (admitted w alone) }
     ensures moved { (w : World) (c : ℕ) (next : Action) → IsSound w → MayTake w c next → IsSound (moved w c next) }
 {}
 
-/// The holder that the history names is the one call that holds the node, and a stuck call waits for it.
+/// The holder that the history names is the one call that holds the node, and a stuck call waits for it. Only the holders
+/// of the nodes strictly above a node may still come to it.
 pub fn holders()
     ensures held { (parents : List ℕ) (past : List Event) (c x : ℕ) → IsLegalHistory parents past → ((holder_of past x ≡ Some c) ↔ (held (part_of c past) x ≡ true)) }
+    ensures coming { (parents : List ℕ) (past : List Event) (c x : ℕ) → IsTree parents → IsLegalHistory parents past → may_come parents (part_of c past) x ≡ true
+        → (y : ℕ) × Above parents y x × (y ≢ x) × (holder_of past y ≡ Some c) }
     ensures waits { (w : World) (c : ℕ) (stuck : IsStuck w c) → IsSound w → holder_of w.past stuck.node ≡ Some stuck.holder }
     ensures stuck { (w : World) (c x : ℕ) (found : Record) (d : ℕ) → IsSound w → IsOpen c w.past → next_of w c ≡ Some (Action.Lock x found) → holder_of w.past x ≡ Some d → IsStuck w c }
 {}
@@ -81,6 +84,7 @@ pub fn obeys_by_places()
 /// A call locks no more nodes than there are, and frees no more than it locks.
 pub fn locks_counted()
     ensures locks { (parents : List ℕ) (done : List Action) (nodes : ℕ) → EachPermitted parents done → ((x : ℕ) → locked done x ≡ true → x < nodes) → lock_count done ≤ nodes }
+    ensures world { (w : World) (c : ℕ) → IsSound w → lock_count (part_of c w.past) ≤ length w.parents }
     ensures frees { (parents : List ℕ) (done : List Action) → EachPermitted parents done → free_count done ≤ lock_count done }
 {}
 
@@ -109,11 +113,11 @@ pub fn genuine_locks_and_frees()
 pub fn headline()
     ensures legal { (parents : List ℕ) (opening : Records) (w : World) → IsTree parents → length opening ≡ length parents → Reached parents opening w → Legal w }
     ensures obeys { (parents : List ℕ) (opening : Records) (w : World) (c : ℕ) → IsTree parents → length opening ≡ length parents → Reached parents opening w
-        → c < admits w.past → Obeys parents (take (w.counts c) (alone_of (w.alones c) opening w.past c).actions) }
+        → c < admits w.past → Obeys parents (take (w.counts c) (alone_of (w.meanings c) opening w.past c).actions) }
     ensures goes_on { (parents : List ℕ) (opening : Records) (w : World) (c : ℕ) → IsTree parents → length opening ≡ length parents → Reached parents opening w
         → IsOpen c w.past → (d : ℕ) × (next : Action) × MayTake w d next }
     ensures tree { (parents : List ℕ) (opening : Records) (w : World) → IsTree parents → length opening ≡ length parents → Reached parents opening w
-        → AllDone w.past → (serial w.alones (placed parents w.past) opening).tree ≡ records_now w.past opening }
+        → AllDone w.past → (serial w.meanings (placed parents w.past) opening).tree ≡ records_now w.past opening }
     ensures replies { (parents : List ℕ) (opening : Records) (w : World) → IsTree parents → length opening ≡ length parents → Reached parents opening w
-        → AllDone w.past → (serial w.alones (placed parents w.past) opening).replies ≡ map (reply_of w) (placed parents w.past) }
+        → AllDone w.past → (serial w.meanings (placed parents w.past) opening).replies ≡ map (reply_of w) (placed parents w.past) }
 {}

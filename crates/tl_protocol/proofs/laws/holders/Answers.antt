@@ -1,4 +1,4 @@
-use Rattle.tl_protocol.proofs.Holders.{held-holder, holder-held, stuck_holder, holder_stuck}
+use Rattle.tl_protocol.proofs.Holders.{held-holder, holder-held, coming_holder, stuck_holder, holder_stuck}
 use Rattle.tl_protocol.proofs.laws.holders.Goals as goal
 
 pub returns-clause-held : goal.returns-clause-held
@@ -9,3 +9,6 @@ returns-clause-waits c = λ w call stuck sound. stuck_holder w sound call stuck
 
 pub returns-clause-stuck : goal.returns-clause-stuck
 returns-clause-stuck c = λ w call x found d sound is_open next holder. holder_stuck w sound call x found d is_open next holder
+
+pub returns-clause-coming : goal.returns-clause-coming
+returns-clause-coming c = λ parents past call x tree legal may. coming_holder parents tree past legal call x may

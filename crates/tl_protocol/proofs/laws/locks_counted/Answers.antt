@@ -1,4 +1,4 @@
-use Rattle.tl_protocol.proofs.Counts.{locks_within, frees_within}
+use Rattle.tl_protocol.proofs.Counts.{locks_within, part_locks_within, frees_within}
 use Rattle.tl_protocol.proofs.laws.locks_counted.Goals as goal
 
 pub returns-clause-locks : goal.returns-clause-locks
@@ -6,3 +6,6 @@ returns-clause-locks c = λ parents done nodes obeys inside. locks_within parent
 
 pub returns-clause-frees : goal.returns-clause-frees
 returns-clause-frees c = λ parents done obeys. frees_within parents done obeys
+
+pub returns-clause-world : goal.returns-clause-world
+returns-clause-world c = λ w call sound. part_locks_within w sound call
