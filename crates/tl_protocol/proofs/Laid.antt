@@ -104,18 +104,18 @@ before_holder order (Lock e y found ∷ past) sorted apart c d x h l ne =
 before_holder order (Free e y left ∷ past) sorted apart c d x h l ne = let q = locked-free e y left past d x in before_holder order past sorted apart c d x (held-free e y left past c x h) (rw q at l) ne
 before_holder order (Done e ∷ past) sorted apart c d x h l ne = let q = locked-done e past d x in before_holder order past sorted apart c d x (held-done e past c x h) (rw q at l) ne
 
-left-lock : (e y : ℕ) (found : Record) (past : List Event) (c x : ℕ) (s : Record) → left_in (part_of c (Lock e y found ∷ past)) x s ≡ left_in (part_of c past) x s
-left-lock e y found past c x s = elim (cases_Bool (e == c)) [ inl h ↦ rw h refl | inr h ↦ rw h refl ]
+left_in-lock : (e y : ℕ) (found : Record) (past : List Event) (c x : ℕ) (s : Record) → left_in (part_of c (Lock e y found ∷ past)) x s ≡ left_in (part_of c past) x s
+left_in-lock e y found past c x s = elim (cases_Bool (e == c)) [ inl h ↦ rw h refl | inr h ↦ rw h refl ]
 
-left-done : (e : ℕ) (past : List Event) (c x : ℕ) (s : Record) → left_in (part_of c (Done e ∷ past)) x s ≡ left_in (part_of c past) x s
-left-done e past c x s = elim (cases_Bool (e == c)) [ inl h ↦ rw h refl | inr h ↦ rw h refl ]
+left_in-done : (e : ℕ) (past : List Event) (c x : ℕ) (s : Record) → left_in (part_of c (Done e ∷ past)) x s ≡ left_in (part_of c past) x s
+left_in-done e past c x s = elim (cases_Bool (e == c)) [ inl h ↦ rw h refl | inr h ↦ rw h refl ]
 
 -- a free of another node, or by another call
-left-free_node : (e y : ℕ) (left : Record) (past : List Event) (c x : ℕ) (s : Record) → (y == x) ≡ false → left_in (part_of c (Free e y left ∷ past)) x s ≡ left_in (part_of c past) x s
-left-free_node e y left past c x s ne = elim (cases_Bool (e == c)) [ inl h ↦ rw h (rw ne refl) | inr h ↦ rw h refl ]
+left_in-free_node : (e y : ℕ) (left : Record) (past : List Event) (c x : ℕ) (s : Record) → (y == x) ≡ false → left_in (part_of c (Free e y left ∷ past)) x s ≡ left_in (part_of c past) x s
+left_in-free_node e y left past c x s ne = elim (cases_Bool (e == c)) [ inl h ↦ rw h (rw ne refl) | inr h ↦ rw h refl ]
 
-left-free_call : (e y : ℕ) (left : Record) (past : List Event) (c x : ℕ) (s : Record) → e ≢ c → left_in (part_of c (Free e y left ∷ past)) x s ≡ left_in (part_of c past) x s
-left-free_call e y left past c x s ne = let q = ne_eqb e c ne in rw q refl
+left_in-free_call : (e y : ℕ) (left : Record) (past : List Event) (c x : ℕ) (s : Record) → e ≢ c → left_in (part_of c (Free e y left ∷ past)) x s ≡ left_in (part_of c past) x s
+left_in-free_call e y left past c x s ne = let q = ne_eqb e c ne in rw q refl
 
 -- what a free needs: the call holds the node
 pub free_held : (parents : List ℕ) (e y : ℕ) (left : Record) (past : List Event) → IsLegalHistory parents (Free e y left ∷ past) → held (part_of e past) y ≡ true
@@ -142,11 +142,11 @@ laid-last_left parents order once [] h in_order x r = laid-none [] x r order (λ
 laid-last_left parents order once (Admit c ∷ past) h in_order x r =
     laid-same (Admit c) past x r order (λ d s k. refl) ∙ laid-last_left parents order once past (sorted_before parents order (Admit c) past h) in_order x r
 laid-last_left parents order once (Lock c y found ∷ past) h in_order x r =
-    laid-same (Lock c y found) past x r order (λ d s k. left-lock c y found past d x s)
+    laid-same (Lock c y found) past x r order (λ d s k. left_in-lock c y found past d x s)
     ∙ laid-last_left parents order once past (sorted_before parents order (Lock c y found) past h)
     (λ d z l. in_order d z (elim (cases_Bool (c == d)) [ inl q ↦ rw q (grind (arith, l)) | inr q ↦ rw q l ])) x r
 laid-last_left parents order once (Done c ∷ past) h in_order x r =
-    laid-same (Done c) past x r order (λ d s k. left-done c past d x s)
+    laid-same (Done c) past x r order (λ d s k. left_in-done c past d x s)
     ∙ laid-last_left parents order once past (sorted_before parents order (Done c) past h) (λ d z l. in_order d z (let q = locked-done c past d z in rw q l)) x r
 laid-last_left parents order once (Free c y left ∷ past) h in_order x r =
     let before' = sorted_before parents order (Free c y left) past h in
@@ -162,20 +162,20 @@ laid-last_left parents order once (Free c y left ∷ past) h in_order x r =
           let q2 = part_of-other (Free c y left) d past (λ (w : c ≡ d). ne (sym w)) in
           let f2 : freed (part_of d past) x ≡ true = rw q2 at f in
           before_holder order past before'.sorted before'.legal.apart c d x holds (freed-locked parents (part_of d past) x (before'.legal.obeys d) f2) ne))
-      | inr other ↦ rw other (laid-same (Free c y left) past x r order (λ d s k. left-free_node c y left past d x s other) ∙ laid-last_left parents order once past before' in_order' x r)
+      | inr other ↦ rw other (laid-same (Free c y left) past x r order (λ d s k. left_in-free_node c y left past d x s other) ∙ laid-last_left parents order once past before' in_order' x r)
     ]
 
-found-lock_other : (e y : ℕ) (found : Record) (past : List Event) (c x : ℕ) (r : Record) → ((e ≡ c) × (y ≡ x) → ⊥) → found_in (part_of c (Lock e y found ∷ past)) x r ≡ found_in (part_of c past) x r
-found-lock_other e y found past c x r ne = elim (cases_Bool (e == c)) [
+found_in-lock_other : (e y : ℕ) (found : Record) (past : List Event) (c x : ℕ) (r : Record) → ((e ≡ c) × (y ≡ x) → ⊥) → found_in (part_of c (Lock e y found ∷ past)) x r ≡ found_in (part_of c past) x r
+found_in-lock_other e y found past c x r ne = elim (cases_Bool (e == c)) [
   | inl h ↦ elim (cases_Bool (y == x)) [ inl k ↦ absurd (ne (eqb-true e c h, eqb-true y x k)) | inr k ↦ rw h (rw k refl) ]
   | inr h ↦ rw h refl
 ]
 
-found-free : (e y : ℕ) (left : Record) (past : List Event) (c x : ℕ) (r : Record) → found_in (part_of c (Free e y left ∷ past)) x r ≡ found_in (part_of c past) x r
-found-free e y left past c x r = elim (cases_Bool (e == c)) [ inl h ↦ rw h refl | inr h ↦ rw h refl ]
+found_in-free : (e y : ℕ) (left : Record) (past : List Event) (c x : ℕ) (r : Record) → found_in (part_of c (Free e y left ∷ past)) x r ≡ found_in (part_of c past) x r
+found_in-free e y left past c x r = elim (cases_Bool (e == c)) [ inl h ↦ rw h refl | inr h ↦ rw h refl ]
 
-found-done : (e : ℕ) (past : List Event) (c x : ℕ) (r : Record) → found_in (part_of c (Done e ∷ past)) x r ≡ found_in (part_of c past) x r
-found-done e past c x r = elim (cases_Bool (e == c)) [ inl h ↦ rw h refl | inr h ↦ rw h refl ]
+found_in-done : (e : ℕ) (past : List Event) (c x : ℕ) (r : Record) → found_in (part_of c (Done e ∷ past)) x r ≡ found_in (part_of c past) x r
+found_in-done e past c x r = elim (cases_Bool (e == c)) [ inl h ↦ rw h refl | inr h ↦ rw h refl ]
 
 -- what a lock needs
 lock_fresh : (parents : List ℕ) (e y : ℕ) (found : Record) (past : List Event) → IsLegalHistory parents (Lock e y found ∷ past) → locked (part_of e past) y ≡ false
@@ -185,19 +185,19 @@ lock_fresh parents e y found past legal =
     mine.0.0
 
 -- what a call found at a node is what the calls before it in the order left there, one after another
-pub laid-found : (parents pre post : List ℕ) (c : ℕ) → IsDistinct (pre ++ c ∷ post) → (opening : Records) (past : List Event) → Sorted parents (pre ++ c ∷ post) past → Follows opening past
-    → ((d x : ℕ) → locked (part_of d past) x ≡ true → stands d (pre ++ c ∷ post) ≡ true) → (x : ℕ) → locked (part_of c past) x ≡ true
-    → laid past x (record_at opening x) pre ≡ found_in (part_of c past) x (record_at opening x)
-laid-found parents pre post c once opening [] h follows in_order x l = absurd (both_ways false refl l)
-laid-found parents pre post c once opening (Admit e ∷ past) h follows in_order x l =
-    laid-same (Admit e) past x (record_at opening x) pre (λ d s k. refl) ∙ laid-found parents pre post c once opening past (sorted_before parents (pre ++ c ∷ post) (Admit e) past h) follows in_order x l
-laid-found parents pre post c once opening (Lock e y found ∷ past) h follows in_order x l =
-    let order = pre ++ c ∷ post in
+pub laid-found : (parents front back : List ℕ) (c : ℕ) → IsDistinct (front ++ c ∷ back) → (opening : Records) (past : List Event) → Sorted parents (front ++ c ∷ back) past → Follows opening past
+    → ((d x : ℕ) → locked (part_of d past) x ≡ true → stands d (front ++ c ∷ back) ≡ true) → (x : ℕ) → locked (part_of c past) x ≡ true
+    → laid past x (record_at opening x) front ≡ found_in (part_of c past) x (record_at opening x)
+laid-found parents front back c once opening [] h follows in_order x l = absurd (both_ways false refl l)
+laid-found parents front back c once opening (Admit e ∷ past) h follows in_order x l =
+    laid-same (Admit e) past x (record_at opening x) front (λ d s k. refl) ∙ laid-found parents front back c once opening past (sorted_before parents (front ++ c ∷ back) (Admit e) past h) follows in_order x l
+laid-found parents front back c once opening (Lock e y found ∷ past) h follows in_order x l =
+    let order = front ++ c ∷ back in
     let r = record_at opening x in
     let before' = sorted_before parents order (Lock e y found) past h in
     let in_order' : (d z : ℕ) → locked (part_of d past) z ≡ true → stands d order ≡ true =
     λ d z k. in_order d z (elim (cases_Bool (e == d)) [ inl q ↦ rw q (grind (arith, k)) | inr q ↦ rw q k ]) in
-    let same = laid-same (Lock e y found) past x r pre (λ d s k. left-lock e y found past d x s) in
+    let same = laid-same (Lock e y found) past x r front (λ d s k. left_in-lock e y found past d x s) in
     elim (locked-lock e y found past c x l) [
       | inl new ↦
           let fresh : locked (part_of c past) x ≡ false = subst (λ z. locked (part_of z past) x ≡ false) new.0 (subst (λ z. locked (part_of e past) z ≡ false) new.1 (lock_fresh parents e y found past h.legal)) in
@@ -205,42 +205,42 @@ laid-found parents pre post c once opening (Lock e y found ∷ past) h follows i
           let at_y : (y == x) ≡ true = eq-eqb y x new.1 in
           let is_now : found ≡ last_left past x r = subst (λ z. found ≡ last_left past z (record_at opening z)) new.1 follows.0 in
           let whole = laid-last_left parents order once past before' in_order' x r in
-          let cut = laid-append past x r pre (c ∷ post) in
-          let rest = laid-none past x (laid past x r pre) (c ∷ post) (λ d k. elim (cases_Bool (freed (part_of d past) x)) [
+          let cut = laid-append past x r front (c ∷ back) in
+          let rest = laid-none past x (laid past x r front) (c ∷ back) (λ d k. elim (cases_Bool (freed (part_of d past) x)) [
             | inl f ↦
                 let ld = freed-locked parents (part_of d past) x (before'.legal.obeys d) f in
                 let b : before order d e ≡ true = h.sorted.0 d (subst (λ z. locked (part_of d past) z ≡ true) (sym new.1) ld) in
-                absurd (cut_apart pre post c d once (before_cut pre post c d once (subst (λ z. before order d z ≡ true) new.0 b)) k)
+                absurd (cut_apart front back c d once (before_cut front back c d once (subst (λ z. before order d z ≡ true) new.0 b)) k)
             | inr f ↦ f
           ]) in
           let value : found_in (part_of c (Lock e y found ∷ past)) x r ≡ found = rw at_e (rw at_y refl) in
           same ∙ sym rest ∙ sym cut ∙ whole ∙ sym is_now ∙ sym value
       | inr old ↦
-          same ∙ laid-found parents pre post c once opening past before' follows.1 in_order' x old
-          ∙ sym (found-lock_other e y found past c x r (λ w. both_ways (locked (part_of c past) x) (subst (λ z. locked (part_of z past) x ≡ false) w.0 (subst (λ z. locked (part_of e past) z ≡ false) w.1 (lock_fresh parents e y found past h.legal))) old))
+          same ∙ laid-found parents front back c once opening past before' follows.1 in_order' x old
+          ∙ sym (found_in-lock_other e y found past c x r (λ w. both_ways (locked (part_of c past) x) (subst (λ z. locked (part_of z past) x ≡ false) w.0 (subst (λ z. locked (part_of e past) z ≡ false) w.1 (lock_fresh parents e y found past h.legal))) old))
     ]
-laid-found parents pre post c once opening (Done e ∷ past) h follows in_order x l =
+laid-found parents front back c once opening (Done e ∷ past) h follows in_order x l =
     let q = locked-done e past c x in
-    laid-same (Done e) past x (record_at opening x) pre (λ d s k. left-done e past d x s)
-    ∙ laid-found parents pre post c once opening past (sorted_before parents (pre ++ c ∷ post) (Done e) past h) follows (λ d z k. in_order d z (let q2 = locked-done e past d z in rw q2 k)) x (rw q at l)
-    ∙ sym (found-done e past c x (record_at opening x))
-laid-found parents pre post c once opening (Free e y left ∷ past) h follows in_order x l =
-    let order = pre ++ c ∷ post in
+    laid-same (Done e) past x (record_at opening x) front (λ d s k. left_in-done e past d x s)
+    ∙ laid-found parents front back c once opening past (sorted_before parents (front ++ c ∷ back) (Done e) past h) follows (λ d z k. in_order d z (let q2 = locked-done e past d z in rw q2 k)) x (rw q at l)
+    ∙ sym (found_in-done e past c x (record_at opening x))
+laid-found parents front back c once opening (Free e y left ∷ past) h follows in_order x l =
+    let order = front ++ c ∷ back in
     let r = record_at opening x in
     let before' = sorted_before parents order (Free e y left) past h in
     let q = locked-free e y left past c x in
     let l' : locked (part_of c past) x ≡ true = rw q at l in
-    let same : (d : ℕ) (s : Record) → stands d pre ≡ true → left_in (part_of d (Free e y left ∷ past)) x s ≡ left_in (part_of d past) x s =
+    let same : (d : ℕ) (s : Record) → stands d front ≡ true → left_in (part_of d (Free e y left ∷ past)) x s ≡ left_in (part_of d past) x s =
     λ d s k. elim (cases_Bool (y == x)) [
       | inl here ↦ elim (cases_eq e d) [
         | inl mine ↦
             let holds : held (part_of d past) x ≡ true = subst (λ z. held (part_of z past) x ≡ true) mine (subst (λ z. held (part_of e past) z ≡ true) (eqb-true y x here) (free_held parents e y left past h.legal)) in
-            let ne : c ≢ d = λ (w : c ≡ d). cut_apart pre post c d once k (let self = eq-eqb c d w in grind (arith, self)) in
-            absurd (cut_not_behind pre post c d once k (before_holder order past before'.sorted before'.legal.apart d c x holds l' ne))
-        | inr other ↦ left-free_call e y left past d x s other
+            let ne : c ≢ d = λ (w : c ≡ d). cut_apart front back c d once k (let self = eq-eqb c d w in grind (arith, self)) in
+            absurd (cut_not_behind front back c d once k (before_holder order past before'.sorted before'.legal.apart d c x holds l' ne))
+        | inr other ↦ left_in-free_call e y left past d x s other
       ]
-      | inr away ↦ left-free_node e y left past d x s away
+      | inr away ↦ left_in-free_node e y left past d x s away
     ] in
-    laid-same (Free e y left) past x r pre same
-    ∙ laid-found parents pre post c once opening past before' follows (λ d z k. in_order d z (let q2 = locked-free e y left past d z in rw q2 k)) x l'
-    ∙ sym (found-free e y left past c x r)
+    laid-same (Free e y left) past x r front same
+    ∙ laid-found parents front back c once opening past before' follows (λ d z k. in_order d z (let q2 = locked-free e y left past d z in rw q2 k)) x l'
+    ∙ sym (found_in-free e y left past c x r)

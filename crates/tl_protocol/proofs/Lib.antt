@@ -13,6 +13,7 @@ pub mod Standstill
 pub mod Reached
 pub mod Lists
 pub mod Places
+pub mod Permitted
 pub mod Apart
 pub mod Holders
 pub mod Counts

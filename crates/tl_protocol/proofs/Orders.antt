@@ -85,42 +85,42 @@ stands-append d [] ds = refl
 stands-append d (c ∷ cs) ds = let ih = stands-append d cs ds in grind (arith, ih)
 
 -- who stands before c in a list cut at c is in its first part
-pub before_cut : (pre post : List ℕ) (c d : ℕ) → IsDistinct (pre ++ c ∷ post) → before (pre ++ c ∷ post) d c ≡ true → stands d pre ≡ true
-before_cut [] post c d once h = elim (cases_Bool (c == d)) [
-  | inl same ↦ absurd (both_ways (stands c post) once.0 (rw same at h))
-  | inr other ↦ let b : before post d c ≡ true = rw other at h in absurd (both_ways (stands c post) once.0 (before-right post d c b))
+pub before_cut : (front back : List ℕ) (c d : ℕ) → IsDistinct (front ++ c ∷ back) → before (front ++ c ∷ back) d c ≡ true → stands d front ≡ true
+before_cut [] back c d once h = elim (cases_Bool (c == d)) [
+  | inl same ↦ absurd (both_ways (stands c back) once.0 (rw same at h))
+  | inr other ↦ let b : before back d c ≡ true = rw other at h in absurd (both_ways (stands c back) once.0 (before-right back d c b))
 ]
-before_cut (e ∷ es) post c d once h = elim (cases_Bool (e == d)) [
+before_cut (e ∷ es) back c d once h = elim (cases_Bool (e == d)) [
   | inl same ↦ rw same refl
-  | inr other ↦ rw other (before_cut es post c d once.1 (rw other at h))
+  | inr other ↦ rw other (before_cut es back c d once.1 (rw other at h))
 ]
 
 -- nobody stands in both parts of a list cut at c, nor does c
-pub cut_apart : (pre post : List ℕ) (c d : ℕ) → IsDistinct (pre ++ c ∷ post) → stands d pre ≡ true → stands d (c ∷ post) ≡ true → ⊥
-cut_apart [] post c d once h k = both_ways false refl h
-cut_apart (e ∷ es) post c d once h k =
-    let s = stands-append e es (c ∷ post) in
-    let out : stands e (c ∷ post) ≡ false = let o = once.0 in grind (arith, s, o) in
+pub cut_apart : (front back : List ℕ) (c d : ℕ) → IsDistinct (front ++ c ∷ back) → stands d front ≡ true → stands d (c ∷ back) ≡ true → ⊥
+cut_apart [] back c d once h k = both_ways false refl h
+cut_apart (e ∷ es) back c d once h k =
+    let s = stands-append e es (c ∷ back) in
+    let out : stands e (c ∷ back) ≡ false = let o = once.0 in grind (arith, s, o) in
     elim (cases_Bool (e == d)) [
-      | inl same ↦ both_ways (stands d (c ∷ post)) (subst (λ z. stands z (c ∷ post) ≡ false) (eqb-true e d same) out) k
-      | inr other ↦ cut_apart es post c d once.1 (rw other at h) k
+      | inl same ↦ both_ways (stands d (c ∷ back)) (subst (λ z. stands z (c ∷ back) ≡ false) (eqb-true e d same) out) k
+      | inr other ↦ cut_apart es back c d once.1 (rw other at h) k
     ]
 
 -- who is in the first part_of of a list cut at c isn't behind c
-pub cut_not_behind : (pre post : List ℕ) (c d : ℕ) → IsDistinct (pre ++ c ∷ post) → stands d pre ≡ true → before (pre ++ c ∷ post) c d ≡ true → ⊥
-cut_not_behind [] post c d once h b = both_ways false refl h
-cut_not_behind (e ∷ es) post c d once h b =
-    let s = stands-append e es (c ∷ post) in
+pub cut_not_behind : (front back : List ℕ) (c d : ℕ) → IsDistinct (front ++ c ∷ back) → stands d front ≡ true → before (front ++ c ∷ back) c d ≡ true → ⊥
+cut_not_behind [] back c d once h b = both_ways false refl h
+cut_not_behind (e ∷ es) back c d once h b =
+    let s = stands-append e es (c ∷ back) in
     let self = eq-eqb c c refl in
-    let out : stands e (es ++ c ∷ post) ≡ false = once.0 in
+    let out : stands e (es ++ c ∷ back) ≡ false = once.0 in
     let ne : (e == c) ≡ false = elim (cases_Bool (e == c)) [
-      | inl same ↦ let here : stands e (c ∷ post) ≡ true = subst (λ z. stands z (c ∷ post) ≡ true) (sym (eqb-true e c same)) (grind (arith, self)) in grind (arith, s, out, here)
+      | inl same ↦ let here : stands e (c ∷ back) ≡ true = subst (λ z. stands z (c ∷ back) ≡ true) (sym (eqb-true e c same)) (grind (arith, self)) in grind (arith, s, out, here)
       | inr other ↦ other
     ] in
-    let b2 : before (es ++ c ∷ post) c d ≡ true = rw ne at b in
+    let b2 : before (es ++ c ∷ back) c d ≡ true = rw ne at b in
     elim (cases_Bool (e == d)) [
-      | inl same ↦ both_ways (stands e (es ++ c ∷ post)) out (subst (λ z. stands z (es ++ c ∷ post) ≡ true) (sym (eqb-true e d same)) (before-right (es ++ c ∷ post) c d b2))
-      | inr other ↦ cut_not_behind es post c d once.1 (rw other at h) b2
+      | inl same ↦ both_ways (stands e (es ++ c ∷ back)) out (subst (λ z. stands z (es ++ c ∷ back) ≡ true) (sym (eqb-true e d same)) (before-right (es ++ c ∷ back) c d b2))
+      | inr other ↦ cut_not_behind es back c d once.1 (rw other at h) b2
     ]
 
 -- tests that agree on the calls of the order put a call in the same place

@@ -91,11 +91,11 @@ exclusive (Done e ∷ past) apart c d x h k = exclusive past apart c d x (held-d
 pub locked-free : (c x : ℕ) (left : Record) (past : List Event) (d y : ℕ) → locked (part_of d (Free c x left ∷ past)) y ≡ locked (part_of d past) y
 locked-free c x left past d y = elim (cases_Bool (c == d)) [ inl h ↦ rw h refl | inr h ↦ rw h refl ]
 
-pub any-free : (c x : ℕ) (left : Record) (past : List Event) (d : ℕ) → locked_any (part_of d (Free c x left ∷ past)) ≡ locked_any (part_of d past)
-any-free c x left past d = elim (cases_Bool (c == d)) [ inl h ↦ rw h refl | inr h ↦ rw h refl ]
+pub locked_any-free : (c x : ℕ) (left : Record) (past : List Event) (d : ℕ) → locked_any (part_of d (Free c x left ∷ past)) ≡ locked_any (part_of d past)
+locked_any-free c x left past d = elim (cases_Bool (c == d)) [ inl h ↦ rw h refl | inr h ↦ rw h refl ]
 
 pub locked-done : (c : ℕ) (past : List Event) (d y : ℕ) → locked (part_of d (Done c ∷ past)) y ≡ locked (part_of d past) y
 locked-done c past d y = elim (cases_Bool (c == d)) [ inl h ↦ rw h refl | inr h ↦ rw h refl ]
 
-pub any-done : (c : ℕ) (past : List Event) (d : ℕ) → locked_any (part_of d (Done c ∷ past)) ≡ locked_any (part_of d past)
-any-done c past d = elim (cases_Bool (c == d)) [ inl h ↦ rw h refl | inr h ↦ rw h refl ]
+pub locked_any-done : (c : ℕ) (past : List Event) (d : ℕ) → locked_any (part_of d (Done c ∷ past)) ≡ locked_any (part_of d past)
+locked_any-done c past d = elim (cases_Bool (c == d)) [ inl h ↦ rw h refl | inr h ↦ rw h refl ]

@@ -12,7 +12,7 @@ use Rattle.tl_protocol.specs.History.{caller, part_of, is_done, Apart, IsLegalHi
 use Rattle.tl_protocol.specs.Order.{stands, before, IsDistinct, put_before, placed, InLockOrder, Agrees}
 use Rattle.tl_protocol.proofs.Coming.{held-locked, locked-any, child_pos, may_parts, may_below, child_may, may_up, may_shrinks, may_child_shrinks, may_any}
 use Rattle.tl_protocol.proofs.Orders.{stands-put, IsDistinct-put, before-put, put-before_passing, before_put_call, put_before-none}
-use Rattle.tl_protocol.proofs.Parts.{part_of-lock, part_of-free, part_of-done, part_of-other, legal_before, locked-lock, exclusive, locked-free, any-free, locked-done, any-done}
+use Rattle.tl_protocol.proofs.Parts.{part_of-lock, part_of-free, part_of-done, part_of-other, legal_before, locked-lock, exclusive, locked-free, locked_any-free, locked-done, locked_any-done}
 
 -- whoever has locked a node stands before each call that may still come to it
 pub record KeepsOrder (parents order : List ℕ) (past : List Event) : Type 0 where
@@ -132,7 +132,7 @@ own_shrinks parents tree a plain e past own d y may = elim (cases_eq (caller e) 
 kept_free : (parents : List ℕ) → IsTree parents → (order : List ℕ) (past : List Event) (c x : ℕ) (left : Record) → KeepsOrder parents order past → KeepsOrder parents order (Free c x left ∷ past)
 kept_free parents tree order past c x left old = record {
   distinct = old.distinct;
-  members = λ d. let m = old.members d in let q = any-free c x left past d in grind (arith, m, q);
+  members = λ d. let m = old.members d in let q = locked_any-free c x left past d in grind (arith, m, q);
   in_lock_order = old.in_lock_order;
   ahead = λ y e d l may. let q = locked-free c x left past e y in
       old.ahead y e d (rw q at l) (own_shrinks parents tree (A.Free x left) refl (Free c x left) past (part_of-free c x left past) d y may);
@@ -144,7 +144,7 @@ kept_done : (parents : List ℕ) → IsTree parents → (order longer : List ℕ
     → KeepsOrder parents longer (Done c ∷ past)
 kept_done parents tree order longer past c old distinct members more = record {
   distinct = distinct;
-  members = λ d. let m = old.members d in let q = any-done c past d in let s = members d in grind (arith, m, q, s);
+  members = λ d. let m = old.members d in let q = locked_any-done c past d in let s = members d in grind (arith, m, q, s);
   in_lock_order = in_lock_order-more order longer more past old.in_lock_order;
   ahead = λ y e d l may. let q = locked-done c past e y in
       more e d (old.ahead y e d (rw q at l) (own_shrinks parents tree A.End refl (Done c) past (part_of-done c past) d y may));

@@ -6,8 +6,9 @@ use Rattle.tl_tree.specs.Records.{Record, Records}
 use Rattle.tl_tree.specs.Shape.{parent}
 use Rattle.tl_protocol.specs.declared.action.Action.{Action}
 use Rattle.tl_protocol.specs.declared.action.Action.TheVariants as A
-use Rattle.tl_protocol.specs.Actions.{locks, frees, is_end, locked, held, locked_any, has_ended, taken, Permitted, EachPermitted}
+use Rattle.tl_protocol.specs.Actions.{locks, frees, is_lock, is_end, locked, held, locked_any, has_ended, taken, Permitted, EachPermitted}
 use Rattle.tl_protocol.specs.Obeys.{IsHeldAt, IsFreedAfter, Touches, Obeys}
+use Rattle.tl_protocol.specs.Order.{before}
 use Rattle.tl_protocol.specs.Alone.{Outcome, IsAlone}
 use Rattle.tl_protocol.proofs.Coming.{locked-any}
 use Rattle.tl_protocol.proofs.Alone.{obeys_taken}
@@ -15,7 +16,7 @@ use Rattle.tl_protocol.proofs.Lists.{earliest_first, earliest_first-reverse, pla
 
 -- ---- what one action is
 
-lock_is : (a : Action) (x : ℕ) → locks a x ≡ true → (found : Record) × (a ≡ A.Lock x found)
+pub lock_is : (a : Action) (x : ℕ) → locks a x ≡ true → (found : Record) × (a ≡ A.Lock x found)
 lock_is (A.Lock y found) x h = (found, ap (λ z. A.Lock z found) (eqb-true y x h))
 lock_is (A.Read y field value) x h = absurd (both_ways false refl h)
 lock_is (A.Write y field value) x h = absurd (both_ways false refl h)
@@ -24,7 +25,7 @@ lock_is (A.Emit value) x h = absurd (both_ways false refl h)
 lock_is A.End x h = absurd (both_ways false refl h)
 lock_is A.Plain x h = absurd (both_ways false refl h)
 
-free_is : (a : Action) (x : ℕ) → frees a x ≡ true → (left : Record) × (a ≡ A.Free x left)
+pub free_is : (a : Action) (x : ℕ) → frees a x ≡ true → (left : Record) × (a ≡ A.Free x left)
 free_is (A.Free y left) x h = (left, ap (λ z. A.Free z left) (eqb-true y x h))
 free_is (A.Read y field value) x h = absurd (both_ways false refl h)
 free_is (A.Write y field value) x h = absurd (both_ways false refl h)
@@ -33,22 +34,22 @@ free_is (A.Emit value) x h = absurd (both_ways false refl h)
 free_is A.End x h = absurd (both_ways false refl h)
 free_is A.Plain x h = absurd (both_ways false refl h)
 
-locks_it : (a : Action) (x : ℕ) (found : Record) → a ≡ A.Lock x found → locks a x ≡ true
+pub locks_it : (a : Action) (x : ℕ) (found : Record) → a ≡ A.Lock x found → locks a x ≡ true
 locks_it a x found e = let self = eq-eqb x x refl in rw e self
 
-frees_it : (a : Action) (x : ℕ) (left : Record) → a ≡ A.Free x left → frees a x ≡ true
+pub frees_it : (a : Action) (x : ℕ) (left : Record) → a ≡ A.Free x left → frees a x ≡ true
 frees_it a x left e = let self = eq-eqb x x refl in rw e self
 
 -- ---- what stands at a place was done
 
-locked_there : (done : List Action) (k x : ℕ) (found : Record) → slice_get (earliest_first done) k ≡ Some (A.Lock x found) → locked done x ≡ true
+pub locked_there : (done : List Action) (k x : ℕ) (found : Record) → slice_get (earliest_first done) k ≡ Some (A.Lock x found) → locked done x ≡ true
 locked_there [] k x found h = absurd cc
 locked_there (a ∷ done) k x found h = elim (place_cases (earliest_first done) a (A.Lock x found) k h) [
   | inl old ↦ let l = locked_there done k x found old.1 in grind (arith, l)
   | inr new ↦ let l = locks_it a x found new.1 in grind (arith, l)
 ]
 
-ended_there : (done : List Action) (k : ℕ) → slice_get (earliest_first done) k ≡ Some A.End → has_ended done ≡ true
+pub ended_there : (done : List Action) (k : ℕ) → slice_get (earliest_first done) k ≡ Some A.End → has_ended done ≡ true
 ended_there [] k h = absurd cc
 ended_there (a ∷ done) k h = elim (place_cases (earliest_first done) a A.End k h) [
   | inl old ↦ let l = ended_there done k old.1 in grind (arith, l)
@@ -67,7 +68,7 @@ held_more xs ys k x le h = record {
 }
 
 -- what is held at the end of what was done
-held_at : (done : List Action) (x : ℕ) → held done x ≡ true → IsHeldAt (earliest_first done) (length (earliest_first done)) x
+pub held_at : (done : List Action) (x : ℕ) → held done x ≡ true → IsHeldAt (earliest_first done) (length (earliest_first done)) x
 held_at [] x h = absurd (both_ways false refl h)
 held_at (a ∷ done) x h =
     let more : length (earliest_first done ++ a ∷ []) ≡ suc (length (earliest_first done)) = simp length-append (omega arith) in
@@ -173,7 +174,7 @@ one_more parents done a p going old = let xs = earliest_first done in record {
   ];
 }
 
-obeys_earliest : (parents : List ℕ) (done : List Action) → EachPermitted parents done → Obeys parents (earliest_first done)
+pub obeys_earliest : (parents : List ℕ) (done : List Action) → EachPermitted parents done → Obeys parents (earliest_first done)
 obeys_earliest parents [] h = record {
   parent_held = λ k x found w. absurd cc;
   once = λ j k x found again v w. absurd cc;

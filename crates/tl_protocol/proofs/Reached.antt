@@ -12,7 +12,7 @@ use Rattle.tl_protocol.specs.Order.{stands, placed, Agrees}
 use Rattle.tl_protocol.specs.Alone.{Outcome, all_taken, IsAlone, serial}
 use Rattle.tl_protocol.specs.World.{World, alone_of, Genuine, Legal, IsSound, reply_of, MayTake, as_found, moved, admitted, opened, Reached, Opens, Admits, Moves}
 use Rattle.tl_protocol.proofs.Placed.{placed-agrees}
-use Rattle.tl_protocol.proofs.Records.{length-with}
+use Rattle.tl_protocol.proofs.Records.{length-with_found}
 use Rattle.tl_protocol.proofs.Alone.{ends_some}
 use Rattle.tl_protocol.proofs.Serial.{alone_local, serial-along}
 use Rattle.tl_protocol.proofs.Steps.{unadmitted, done_other, admits-stored, legal_moved}
@@ -41,7 +41,7 @@ legal_admitted w alone legal len is_alone = record {
         let q = eq-eqb (admits w.past) c same in
         let p = unadmitted w.past legal.in_turn c (omega arith) in
         let d = unadmitted_done w.past legal.in_turn c (omega arith) in
-        let some = ends_some (alone (with_found (part_of c w.past) w.opening)).actions (is_alone.ends (with_found (part_of c w.past) w.opening) (length-with (part_of c w.past) w.opening ∙ len)) in
+        let some = ends_some (alone (with_found (part_of c w.past) w.opening)).actions (is_alone.ends (with_found (part_of c w.past) w.opening) (length-with_found (part_of c w.past) w.opening ∙ len)) in
         rw q (record { is_part = p; within = omega arith; ended = d ∙ sym (ne_eqb 0 (length (alone (with_found (part_of c w.past) w.opening)).actions) (λ e. omega arith)) })
     | inr other ↦
         let q = ne_eqb (admits w.past) c other in

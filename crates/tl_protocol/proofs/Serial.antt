@@ -12,8 +12,8 @@ use Rattle.tl_protocol.specs.Alone.{Outcome, all_taken, IsAlone, serial}
 use Rattle.tl_protocol.specs.World.{alone_of}
 use Rattle.tl_protocol.proofs.Coming.{locked-any}
 use Rattle.tl_protocol.proofs.Orders.{stands-append}
-use Rattle.tl_protocol.proofs.Records.{length-records_now, at-records_now, length-with, at-with}
-use Rattle.tl_protocol.proofs.Shared.{locked-shared_actions, left-shared_actions}
+use Rattle.tl_protocol.proofs.Records.{length-records_now, record_at-records_now, length-with_found, record_at-with_found}
+use Rattle.tl_protocol.proofs.Shared.{locked-shared_actions, left_in-shared_actions}
 use Rattle.tl_protocol.proofs.Laid.{laid, laid-append, laid-last_left, laid-found}
 use Rattle.tl_protocol.proofs.Alone.{Alike, same_taken, taken_inside}
 
@@ -75,51 +75,51 @@ record Does (meanings : ℕ → Records → Outcome) (opening : Records) (past :
   size : length (meanings c t).tree ≡ length t
   leaves : (x : ℕ) → x < length t → record_at (meanings c t).tree x ≡ left_in (part_of c past) x (record_at t x)
 
-does : (parents : List ℕ) (meanings : ℕ → Records → Outcome) (opening : Records) (past : List Event) (pre post : List ℕ) (c : ℕ)
-    → IsLegalHistory parents past → Agrees (pre ++ c ∷ post) past → IsComplete meanings opening past (pre ++ c ∷ post) → stands c (pre ++ c ∷ post) ≡ true
-    → ((d x : ℕ) → locked (part_of d past) x ≡ true → stands d (pre ++ c ∷ post) ≡ true)
-    → (t : Records) → length t ≡ length opening → ((x : ℕ) → x < length opening → record_at t x ≡ laid past x (record_at opening x) pre) → Does meanings opening past c t
-does parents meanings opening past pre post c legal agrees complete here in_order t len is =
+does : (parents : List ℕ) (meanings : ℕ → Records → Outcome) (opening : Records) (past : List Event) (front back : List ℕ) (c : ℕ)
+    → IsLegalHistory parents past → Agrees (front ++ c ∷ back) past → IsComplete meanings opening past (front ++ c ∷ back) → stands c (front ++ c ∷ back) ≡ true
+    → ((d x : ℕ) → locked (part_of d past) x ≡ true → stands d (front ++ c ∷ back) ≡ true)
+    → (t : Records) → length t ≡ length opening → ((x : ℕ) → x < length opening → record_at t x ≡ laid past x (record_at opening x) front) → Does meanings opening past c t
+does parents meanings opening past front back c legal agrees complete here in_order t len is =
     let done = part_of c past in
     let u = with_found done opening in
     let local = complete.is_local c here in
     let genuine : done ≡ shared_actions (all_taken (meanings c u).actions) = complete.genuine c here in
-    let size : length u ≡ length opening = length-with done opening in
+    let size : length u ≡ length opening = length-with_found done opening in
     let lock_in : (x : ℕ) → locked (all_taken (meanings c u).actions) x ≡ locked done x = λ x. sym (locked-shared_actions (all_taken (meanings c u).actions) x) ∙ ap (λ a. locked a x) (sym genuine) in
     let found : (x : ℕ) → x < length opening → locked (all_taken (meanings c u).actions) x ≡ true → record_at u x ≡ record_at t x =
     λ x lt l.
     let l2 : locked done x ≡ true = sym (lock_in x) ∙ l in
-    at-with done opening x lt ∙ sym (laid-found parents pre post c agrees.distinct opening past (record { legal = legal; sorted = agrees.in_lock_order }) complete.follows in_order x l2) ∙ sym (is x lt) in
+    record_at-with_found done opening x lt ∙ sym (laid-found parents front back c agrees.distinct opening past (record { legal = legal; sorted = agrees.in_lock_order }) complete.follows in_order x l2) ∙ sym (is x lt) in
     let same : all_taken (meanings c u).actions ≡ all_taken (meanings c t).actions = local.same_actions u t size len found in
     record {
       reply = local.reply t len ∙ ap emitted (sym same) ∙ sym (local.reply u size);
       size = local.size t len;
-      leaves = λ x lt. local.leaves t x len (subst (λ n. x < n) len lt) ∙ ap (λ a. left_in a x (record_at t x)) (sym same) ∙ sym (left-shared_actions (all_taken (meanings c u).actions) x (record_at t x)) ∙ ap (λ a. left_in a x (record_at t x)) (sym genuine);
+      leaves = λ x lt. local.leaves t x len (subst (λ n. x < n) len lt) ∙ ap (λ a. left_in a x (record_at t x)) (sym same) ∙ sym (left_in-shared_actions (all_taken (meanings c u).actions) x (record_at t x)) ∙ ap (λ a. left_in a x (record_at t x)) (sym genuine);
     }
 
-record Ends (meanings : ℕ → Records → Outcome) (opening : Records) (past : List Event) (pre suf : List ℕ) (t : Records) : Type 0 where
-  size : length (serial meanings suf t).tree ≡ length opening
-  tree : (x : ℕ) → x < length opening → record_at (serial meanings suf t).tree x ≡ laid past x (record_at opening x) (pre ++ suf)
-  replies : (serial meanings suf t).replies ≡ map (reply_found meanings opening past) suf
+record Ends (meanings : ℕ → Records → Outcome) (opening : Records) (past : List Event) (front behind : List ℕ) (t : Records) : Type 0 where
+  size : length (serial meanings behind t).tree ≡ length opening
+  tree : (x : ℕ) → x < length opening → record_at (serial meanings behind t).tree x ≡ laid past x (record_at opening x) (front ++ behind)
+  replies : (serial meanings behind t).replies ≡ map (reply_found meanings opening past) behind
 
-ends : (parents : List ℕ) (meanings : ℕ → Records → Outcome) (opening : Records) (past : List Event) (pre suf : List ℕ)
-    → IsLegalHistory parents past → Agrees (pre ++ suf) past → IsComplete meanings opening past (pre ++ suf)
-    → (t : Records) → length t ≡ length opening → ((x : ℕ) → x < length opening → record_at t x ≡ laid past x (record_at opening x) pre) → Ends meanings opening past pre suf t
-ends parents meanings opening past pre [] legal agrees complete t len is = record {
+ends : (parents : List ℕ) (meanings : ℕ → Records → Outcome) (opening : Records) (past : List Event) (front behind : List ℕ)
+    → IsLegalHistory parents past → Agrees (front ++ behind) past → IsComplete meanings opening past (front ++ behind)
+    → (t : Records) → length t ≡ length opening → ((x : ℕ) → x < length opening → record_at t x ≡ laid past x (record_at opening x) front) → Ends meanings opening past front behind t
+ends parents meanings opening past front [] legal agrees complete t len is = record {
   size = len;
-  tree = λ x lt. is x lt ∙ ap (laid past x (record_at opening x)) (sym (append-nil pre));
+  tree = λ x lt. is x lt ∙ ap (laid past x (record_at opening x)) (sym (append-nil front));
   replies = refl;
 }
-ends parents meanings opening past pre (c ∷ cs) legal agrees complete t len is =
-    let order = pre ++ c ∷ cs in
-    let longer = pre ++ c ∷ [] in
-    let here : stands c order ≡ true = let s = stands-append c pre (c ∷ cs) in let self = eq-eqb c c refl in grind (arith, s, self) in
+ends parents meanings opening past front (c ∷ cs) legal agrees complete t len is =
+    let order = front ++ c ∷ cs in
+    let longer = front ++ c ∷ [] in
+    let here : stands c order ≡ true = let s = stands-append c front (c ∷ cs) in let self = eq-eqb c c refl in grind (arith, s, self) in
     let in_order : (d x : ℕ) → locked (part_of d past) x ≡ true → stands d order ≡ true = λ d x l. let m = agrees.members d in let any = locked-any (part_of d past) x l in grind (arith, m, any) in
-    let d = does parents meanings opening past pre cs c legal agrees complete here in_order t len is in
-    let same : longer ++ cs ≡ order = append_assoc pre (c ∷ []) cs in
+    let d = does parents meanings opening past front cs c legal agrees complete here in_order t len is in
+    let same : longer ++ cs ≡ order = append_assoc front (c ∷ []) cs in
     let size : length (meanings c t).tree ≡ length opening = d.size ∙ len in
     let rest = ends parents meanings opening past longer cs legal (subst (λ o. Agrees o past) (sym same) agrees) (subst (λ o. IsComplete meanings opening past o) (sym same) complete) (meanings c t).tree size
-    (λ x lt. d.leaves x (subst (λ n. x < n) (sym len) lt) ∙ ap (left_in (part_of c past) x) (is x lt) ∙ sym (laid-append past x (record_at opening x) pre (c ∷ []))) in
+    (λ x lt. d.leaves x (subst (λ n. x < n) (sym len) lt) ∙ ap (left_in (part_of c past) x) (is x lt) ∙ sym (laid-append past x (record_at opening x) front (c ∷ []))) in
     record {
       size = rest.size;
       tree = λ x lt. rest.tree x lt ∙ ap (laid past x (record_at opening x)) same;
@@ -136,6 +136,6 @@ serial-along parents meanings opening past order legal agrees complete =
       ext_get_or [] ((serial meanings order opening).tree) (records_now past opening) (e.size ∙ sym (length-records_now past opening))
           (λ x lt.
           let lt2 : x < length opening = subst (λ n. x < n) e.size lt in
-          e.tree x lt2 ∙ laid-last_left parents order agrees.distinct past (record { legal = legal; sorted = agrees.in_lock_order }) in_order x (record_at opening x) ∙ sym (at-records_now past opening x lt2)),
+          e.tree x lt2 ∙ laid-last_left parents order agrees.distinct past (record { legal = legal; sorted = agrees.in_lock_order }) in_order x (record_at opening x) ∙ sym (record_at-records_now past opening x lt2)),
       e.replies,
     )

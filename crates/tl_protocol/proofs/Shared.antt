@@ -17,15 +17,15 @@ locked-shared_actions (A.Emit n ∷ done) x = locked-shared_actions done x
 locked-shared_actions (A.End ∷ done) x = locked-shared_actions done x
 locked-shared_actions (A.Plain ∷ done) x = locked-shared_actions done x
 
-pub left-shared_actions : (done : List Action) (x : ℕ) (r : Record) → left_in (shared_actions done) x r ≡ left_in done x r
-left-shared_actions [] x r = refl
-left-shared_actions (A.Lock y found ∷ done) x r = left-shared_actions done x r
-left-shared_actions (A.Read y field n ∷ done) x r = left-shared_actions done x r
-left-shared_actions (A.Write y field n ∷ done) x r = left-shared_actions done x r
-left-shared_actions (A.Free y left ∷ done) x r = ap (λ s. if y == x then left else s) (left-shared_actions done x r)
-left-shared_actions (A.Emit n ∷ done) x r = left-shared_actions done x r
-left-shared_actions (A.End ∷ done) x r = left-shared_actions done x r
-left-shared_actions (A.Plain ∷ done) x r = left-shared_actions done x r
+pub left_in-shared_actions : (done : List Action) (x : ℕ) (r : Record) → left_in (shared_actions done) x r ≡ left_in done x r
+left_in-shared_actions [] x r = refl
+left_in-shared_actions (A.Lock y found ∷ done) x r = left_in-shared_actions done x r
+left_in-shared_actions (A.Read y field n ∷ done) x r = left_in-shared_actions done x r
+left_in-shared_actions (A.Write y field n ∷ done) x r = left_in-shared_actions done x r
+left_in-shared_actions (A.Free y left ∷ done) x r = ap (λ s. if y == x then left else s) (left_in-shared_actions done x r)
+left_in-shared_actions (A.Emit n ∷ done) x r = left_in-shared_actions done x r
+left_in-shared_actions (A.End ∷ done) x r = left_in-shared_actions done x r
+left_in-shared_actions (A.Plain ∷ done) x r = left_in-shared_actions done x r
 
 pub held-shared_actions : (done : List Action) (x : ℕ) → held (shared_actions done) x ≡ held done x
 held-shared_actions [] x = refl
@@ -37,25 +37,25 @@ held-shared_actions (A.Emit n ∷ done) x = held-shared_actions done x
 held-shared_actions (A.End ∷ done) x = held-shared_actions done x
 held-shared_actions (A.Plain ∷ done) x = held-shared_actions done x
 
-pub any-shared_actions : (done : List Action) → locked_any (shared_actions done) ≡ locked_any done
-any-shared_actions [] = refl
-any-shared_actions (A.Lock y found ∷ done) = refl
-any-shared_actions (A.Read y field n ∷ done) = any-shared_actions done
-any-shared_actions (A.Write y field n ∷ done) = any-shared_actions done
-any-shared_actions (A.Free y left ∷ done) = any-shared_actions done
-any-shared_actions (A.Emit n ∷ done) = any-shared_actions done
-any-shared_actions (A.End ∷ done) = any-shared_actions done
-any-shared_actions (A.Plain ∷ done) = any-shared_actions done
+pub locked_any-shared_actions : (done : List Action) → locked_any (shared_actions done) ≡ locked_any done
+locked_any-shared_actions [] = refl
+locked_any-shared_actions (A.Lock y found ∷ done) = refl
+locked_any-shared_actions (A.Read y field n ∷ done) = locked_any-shared_actions done
+locked_any-shared_actions (A.Write y field n ∷ done) = locked_any-shared_actions done
+locked_any-shared_actions (A.Free y left ∷ done) = locked_any-shared_actions done
+locked_any-shared_actions (A.Emit n ∷ done) = locked_any-shared_actions done
+locked_any-shared_actions (A.End ∷ done) = locked_any-shared_actions done
+locked_any-shared_actions (A.Plain ∷ done) = locked_any-shared_actions done
 
-pub ended-shared_actions : (done : List Action) → has_ended (shared_actions done) ≡ has_ended done
-ended-shared_actions [] = refl
-ended-shared_actions (A.Lock y found ∷ done) = ended-shared_actions done
-ended-shared_actions (A.Read y field n ∷ done) = ended-shared_actions done
-ended-shared_actions (A.Write y field n ∷ done) = ended-shared_actions done
-ended-shared_actions (A.Free y left ∷ done) = ended-shared_actions done
-ended-shared_actions (A.Emit n ∷ done) = ended-shared_actions done
-ended-shared_actions (A.End ∷ done) = refl
-ended-shared_actions (A.Plain ∷ done) = ended-shared_actions done
+pub has_ended-shared_actions : (done : List Action) → has_ended (shared_actions done) ≡ has_ended done
+has_ended-shared_actions [] = refl
+has_ended-shared_actions (A.Lock y found ∷ done) = has_ended-shared_actions done
+has_ended-shared_actions (A.Read y field n ∷ done) = has_ended-shared_actions done
+has_ended-shared_actions (A.Write y field n ∷ done) = has_ended-shared_actions done
+has_ended-shared_actions (A.Free y left ∷ done) = has_ended-shared_actions done
+has_ended-shared_actions (A.Emit n ∷ done) = has_ended-shared_actions done
+has_ended-shared_actions (A.End ∷ done) = refl
+has_ended-shared_actions (A.Plain ∷ done) = has_ended-shared_actions done
 
 -- the locks and the frees alone are among what is shared
 pub locks_and_frees-shared_actions : (done : List Action) → locks_and_frees (shared_actions done) ≡ locks_and_frees done
@@ -70,7 +70,7 @@ locks_and_frees-shared_actions (A.Plain ∷ done) = locks_and_frees-shared_actio
 
 -- an action that is permitted after all that was done is permitted after what is shared of it
 pub permitted_shared : (parents : List ℕ) (done : List Action) (a : Action) → Permitted parents done a → Permitted parents (shared_actions done) a
-permitted_shared parents done (A.Lock x found) p = (locked-shared_actions done x ∙ p.0, λ any. held-shared_actions done (parent parents x) ∙ p.1 (sym (any-shared_actions done) ∙ any))
+permitted_shared parents done (A.Lock x found) p = (locked-shared_actions done x ∙ p.0, λ any. held-shared_actions done (parent parents x) ∙ p.1 (sym (locked_any-shared_actions done) ∙ any))
 permitted_shared parents done (A.Read x f n) p = held-shared_actions done x ∙ p
 permitted_shared parents done (A.Write x f n) p = held-shared_actions done x ∙ p
 permitted_shared parents done (A.Free x left) p = held-shared_actions done x ∙ p
@@ -81,10 +81,10 @@ permitted_shared parents done A.Plain p = tt
 -- what is shared of permitted actions is permitted
 pub obeys_shared : (parents : List ℕ) (done : List Action) → EachPermitted parents done → EachPermitted parents (shared_actions done)
 obeys_shared parents [] h = tt
-obeys_shared parents (A.Lock x found ∷ done) h = ((locked-shared_actions done x ∙ h.0.0, λ any. held-shared_actions done (parent parents x) ∙ h.0.1 (sym (any-shared_actions done) ∙ any)), ended-shared_actions done ∙ h.1, obeys_shared parents done h.2)
+obeys_shared parents (A.Lock x found ∷ done) h = ((locked-shared_actions done x ∙ h.0.0, λ any. held-shared_actions done (parent parents x) ∙ h.0.1 (sym (locked_any-shared_actions done) ∙ any)), has_ended-shared_actions done ∙ h.1, obeys_shared parents done h.2)
 obeys_shared parents (A.Read y field n ∷ done) h = obeys_shared parents done h.2
 obeys_shared parents (A.Write y field n ∷ done) h = obeys_shared parents done h.2
-obeys_shared parents (A.Free y left ∷ done) h = (held-shared_actions done y ∙ h.0, ended-shared_actions done ∙ h.1, obeys_shared parents done h.2)
+obeys_shared parents (A.Free y left ∷ done) h = (held-shared_actions done y ∙ h.0, has_ended-shared_actions done ∙ h.1, obeys_shared parents done h.2)
 obeys_shared parents (A.Emit n ∷ done) h = obeys_shared parents done h.2
-obeys_shared parents (A.End ∷ done) h = (λ x. held-shared_actions done x ∙ h.0 x, ended-shared_actions done ∙ h.1, obeys_shared parents done h.2)
+obeys_shared parents (A.End ∷ done) h = (λ x. held-shared_actions done x ∙ h.0 x, has_ended-shared_actions done ∙ h.1, obeys_shared parents done h.2)
 obeys_shared parents (A.Plain ∷ done) h = obeys_shared parents done h.2

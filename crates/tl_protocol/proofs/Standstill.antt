@@ -13,7 +13,7 @@ use Rattle.tl_protocol.proofs.Coming.{held-locked, locked-any, child_may}
 use Rattle.tl_protocol.proofs.Orders.{before-right}
 use Rattle.tl_protocol.proofs.Parts.{part_of-done, part_of-other, legal_before}
 use Rattle.tl_protocol.proofs.Placed.{KeepsOrder, placed_keeps_order}
-use Rattle.tl_protocol.proofs.Records.{length-with}
+use Rattle.tl_protocol.proofs.Records.{length-with_found}
 use Rattle.tl_protocol.proofs.Shared.{permitted_shared}
 use Rattle.tl_protocol.proofs.Alone.{permitted_at}
 use Rattle.tl_protocol.proofs.Steps.{legal_history}
@@ -119,7 +119,7 @@ next_permitted w sound c a is_open next =
     let h = sound.legal.genuine c is_open.0 in
     let t = with_found (part_of c w.past) w.opening in
     let actions = (w.meanings c t).actions in
-    let size : length t ≡ length w.parents = length-with (part_of c w.past) w.opening ∙ sound.size in
+    let size : length t ≡ length w.parents = length-with_found (part_of c w.past) w.opening ∙ sound.size in
     let p = permitted_at w.parents (w.counts c) actions [] a ((sound.meanings c is_open.0).obeys t size) next in
     subst (λ z. Permitted w.parents z a) (sym h.is_part) (permitted_shared w.parents (taken (w.counts c) actions []) a p)
 

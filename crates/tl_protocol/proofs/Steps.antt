@@ -13,7 +13,7 @@ use Rattle.tl_protocol.specs.History.{part_of, is_done, admits, InTurn, Apart, l
 use Rattle.tl_protocol.specs.Alone.{Outcome, IsAlone}
 use Rattle.tl_protocol.specs.World.{World, alone_of, Genuine, Legal, IsSound, MayTake, as_found, stored, moved}
 use Rattle.tl_protocol.proofs.Parts.{part_of-lock, part_of-free, part_of-done, part_of-other}
-use Rattle.tl_protocol.proofs.Records.{at-set, length-with}
+use Rattle.tl_protocol.proofs.Records.{record_at-put_record, length-with_found}
 use Rattle.tl_protocol.proofs.Shared.{locked-shared_actions, obeys_shared}
 use Rattle.tl_protocol.proofs.Alone.{taken-next, obeys_taken, permitted_at, finds_at, Alike, same_taken, alike_lock, ends_there, ends_later, taken_inside}
 
@@ -31,7 +31,7 @@ legal_history w legal len meanings = record {
   obeys = λ c. elim (cases_lt c (admits w.past)) [
     | inl here ↦
         let g = legal.genuine c here in
-        let size : length (with_found (part_of c w.past) w.opening) ≡ length w.parents = length-with (part_of c w.past) w.opening ∙ len in
+        let size : length (with_found (part_of c w.past) w.opening) ≡ length w.parents = length-with_found (part_of c w.past) w.opening ∙ len in
         let o = (meanings c here).obeys (with_found (part_of c w.past) w.opening) size in
         subst (EachPermitted w.parents) (sym g.is_part) (obeys_shared w.parents (taken (w.counts c) ((alone_of (w.meanings c) w.opening w.past c).actions) []) (obeys_taken w.parents (w.counts c) ((alone_of (w.meanings c) w.opening w.past c).actions) [] o tt))
     | inr out ↦ subst (EachPermitted w.parents) (sym (unadmitted w.past legal.in_turn c out)) tt
@@ -72,7 +72,7 @@ done_lock parents alone is_alone opening len past c k x r found h goes_on next =
     let actions = (alone t).actions in
     let others = (alone u).actions in
     let run2 : (alone_of alone opening (Lock c x found ∷ past) c).actions ≡ others = ap (λ p. (alone (with_found p opening)).actions) q in
-    let size : length t ≡ length parents = length-with (part_of c past) opening ∙ len in
+    let size : length t ≡ length parents = length-with_found (part_of c past) opening ∙ len in
     let size2 : length u ≡ length t = length-set t x found in
     let p : Permitted parents (taken k actions []) (A.Lock x r) = permitted_at parents k actions [] (A.Lock x r) (is_alone.obeys t size) next in
     let agree : (y : ℕ) → locked (taken k actions []) y ≡ true → record_at t y ≡ record_at u y =
@@ -82,7 +82,7 @@ done_lock parents alone is_alone opening len past c k x r found h goes_on next =
     let next2 = alike_lock x r (slice_get others k) like in
     let finds2 = finds_at u k others x next2.0 (is_alone.finds u (size2 ∙ size)) next2.1 in
     let self = eq-eqb x x refl in
-    let is_found : next2.0 ≡ found = finds2.1 ∙ at-set t x found x (subst (λ n. x < n) size2 finds2.0) ∙ (rw self refl) in
+    let is_found : next2.0 ≡ found = finds2.1 ∙ record_at-put_record t x found x (subst (λ n. x < n) size2 finds2.0) ∙ (rw self refl) in
     let later = ends_later k others (A.Lock x next2.0) (is_alone.ends u (size2 ∙ size)) next2.1 refl in
     let list : A.Lock x found ∷ taken k actions [] ≡ taken (suc k) others [] = (λ i. A.Lock x (sym is_found i) ∷ s.0 i) ∙ sym (taken-next k others [] (A.Lock x next2.0) next2.1) in
     record {
@@ -95,7 +95,7 @@ done_lock parents alone is_alone opening len past c k x r found h goes_on next =
 own_later : (w : World) (c : ℕ) (next : Action) → IsAlone w.parents (w.meanings c) → length w.opening ≡ length w.parents → MayTake w c next → is_end next ≡ false
     → is_done c w.past ≡ (suc (w.counts c) == length ((alone_of (w.meanings c) w.opening w.past c).actions))
 own_later w c next is_alone len may n =
-    let later = ends_later (w.counts c) ((alone_of (w.meanings c) w.opening w.past c).actions) next (is_alone.ends (with_found (part_of c w.past) w.opening) (length-with (part_of c w.past) w.opening ∙ len)) may.is_next n in
+    let later = ends_later (w.counts c) ((alone_of (w.meanings c) w.opening w.past c).actions) next (is_alone.ends (with_found (part_of c w.past) w.opening) (length-with_found (part_of c w.past) w.opening ∙ len)) may.is_next n in
     may.is_open.1 ∙ sym (ne_eqb (suc (w.counts c)) (length ((alone_of (w.meanings c) w.opening w.past c).actions)) (λ e. omega arith))
 
 -- the call itself after its next action
@@ -111,7 +111,7 @@ own w c (A.Emit n) is_alone len h may = done_next (w.meanings c) w.opening w.pas
 own w c A.End is_alone len h may =
     let q = part_of-done c w.past in
     let self = eq-eqb c c refl in
-    let all = ends_there (w.counts c) ((alone_of (w.meanings c) w.opening w.past c).actions) (is_alone.ends (with_found (part_of c w.past) w.opening) (length-with (part_of c w.past) w.opening ∙ len)) may.is_next in
+    let all = ends_there (w.counts c) ((alone_of (w.meanings c) w.opening w.past c).actions) (is_alone.ends (with_found (part_of c w.past) w.opening) (length-with_found (part_of c w.past) w.opening ∙ len)) may.is_next in
     done_next (w.meanings c) w.opening w.past (Done c ∷ w.past) c (w.counts c) A.End h (ap (λ p. (w.meanings c (with_found p w.opening)).actions) q) may.is_next (q ∙ ap (λ z. A.End ∷ z) h.is_part)
     (rw self (sym (eq-eqb (suc (w.counts c)) (length ((alone_of (w.meanings c) w.opening w.past c).actions)) (sym all))))
 own w c A.Plain is_alone len h may = done_next (w.meanings c) w.opening w.past w.past c (w.counts c) A.Plain h refl may.is_next h.is_part (own_later w c A.Plain is_alone len may refl)
@@ -185,7 +185,7 @@ part_inside w sound c x l = elim (cases_lt c (admits w.past)) [
   | inl here ↦
       let g = sound.legal.genuine c here in
       let t = with_found (part_of c w.past) w.opening in
-      let size : length t ≡ length w.parents = length-with (part_of c w.past) w.opening ∙ sound.size in
+      let size : length t ≡ length w.parents = length-with_found (part_of c w.past) w.opening ∙ sound.size in
       let first = taken (w.counts c) (w.meanings c t).actions [] in
       let shared : locked (shared_actions first) x ≡ true = ap (λ z. locked z x) (sym g.is_part) ∙ l in
       let whole : locked first x ≡ true = sym (locked-shared_actions first x) ∙ shared in

@@ -1,5 +1,5 @@
 -- The rules of the tree protocol, by the places of a call's actions in a list with the earliest first.
-use Rattle.std.specs.Prelude.{◌≡◌, ◌≢◌, ◌⊎◌, ℕ, ◌<◌, List, Some, slice_get}
+use Rattle.std.specs.Prelude.{◌≡◌, ◌≢◌, ◌⊎◌, ℕ, ◌+◌, ◌<◌, List, length, Some, slice_get}
 use Rattle.tl_tree.specs.Records.{Record}
 use Rattle.tl_tree.specs.Shape.{parent}
 use Rattle.tl_protocol.specs.declared.action.Action.{Action}
@@ -44,3 +44,7 @@ pub record Obeys (parents : List ℕ) (actions : List Action) : Type 0 where
   pub touched_held : (k x : ℕ) (a : Action) → slice_get actions k ≡ Some a → Touches a x → IsHeldAt actions k x
   -- in a list with an end each lock is followed by a free of its node
   pub all_freed : (e k x : ℕ) (found : Record) → slice_get actions e ≡ Some End → slice_get actions k ≡ Some (Lock x found) → IsFreedAfter actions k x
+
+-- nothing comes after an end
+abbrev pub EndsLast : List Action → Type 0
+EndsLast actions = (e : ℕ) → slice_get actions e ≡ Some End → e + 1 ≡ length actions

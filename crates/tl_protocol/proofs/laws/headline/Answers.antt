@@ -6,7 +6,7 @@ use Rattle.tl_protocol.specs.Order.{placed}
 use Rattle.tl_protocol.specs.Alone.{IsAlone, serial}
 use Rattle.tl_protocol.specs.World.{reply_of}
 use Rattle.tl_protocol.proofs.Places.{obeys_first}
-use Rattle.tl_protocol.proofs.Records.{length-with}
+use Rattle.tl_protocol.proofs.Records.{length-with_found}
 use Rattle.tl_protocol.proofs.Standstill.{some_may_take}
 use Rattle.tl_protocol.proofs.Reached.{reached_sound, serial-placed}
 use Rattle.tl_protocol.proofs.laws.headline.Goals as goal
@@ -19,7 +19,7 @@ returns-clause-obeys c = λ parents opening w call tree size reached lt.
     let over = reached_sound parents opening tree size w reached in
     let t = with_found (part_of call w.past) opening in
     let is_alone = subst (λ ps. IsAlone ps (w.meanings call)) over.parents_are (over.sound.meanings call lt) in
-    obeys_first parents (w.meanings call) is_alone t (length-with (part_of call w.past) opening ∙ size) (w.counts call)
+    obeys_first parents (w.meanings call) is_alone t (length-with_found (part_of call w.past) opening ∙ size) (w.counts call)
 
 pub returns-clause-goes_on : goal.returns-clause-goes_on
 returns-clause-goes_on c = λ parents opening w call tree size reached is_open. some_may_take w (reached_sound parents opening tree size w reached).sound call is_open
