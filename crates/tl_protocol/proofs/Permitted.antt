@@ -1,13 +1,16 @@
 -- Actions that obey the protocol by their places, none of them after an end, are permitted one after another.
 use Rattle.std.proofs.Common.{◌≡◌, ◌≢◌, ℕ, suc, ◌+◌, ◌<◌, ◌≤◌, ◌==◌, ◌||◌, ◌⊎◌, Bool, true, false, List, [], ◌∷◌, ◌++◌, length, refl, sym, ap, ◌∙◌, subst, inl, inr, arith, Option, Some, slice_get, reverse, length-append}
-use Rattle.std.proofs.lemmas.Bool.{cases_Bool, false_from_ne_true, both_ways}
+use Rattle.std.proofs.lemmas.Bool.{cases_Bool, false_from_ne_true, both_ways, eqb-true}
 use Rattle.std.proofs.lemmas.Option.{slice_get_within}
 use Rattle.tl_tree.specs.Records.{Record}
 use Rattle.tl_tree.specs.Shape.{parent, below}
 use Rattle.tl_protocol.specs.declared.action.Action.{Action}
 use Rattle.tl_protocol.specs.declared.action.Action.TheVariants as A
+use Rattle.tl_protocol.specs.declared.event.Event.{Event}
+use Rattle.tl_protocol.specs.declared.event.Event.TheVariants.{Admit, Lock, Free, Done}
 use Rattle.tl_protocol.specs.Actions.{locks, frees, is_lock, is_end, locked, held, locked_any, has_ended, Permitted, EachPermitted}
 use Rattle.tl_protocol.specs.Obeys.{IsHeldAt, Touches, Obeys, EndsLast}
+use Rattle.tl_protocol.specs.History.{part_of, is_done, IsOpen, InTurn, Apart, IsLegalHistory}
 use Rattle.tl_protocol.proofs.Lists.{earliest_first, earliest_first-reverse, place_kept, place_back, place_new, place_cases}
 use Rattle.tl_protocol.proofs.Places.{lock_is, free_is, locks_it, ended_there, held_at}
 
@@ -159,3 +162,58 @@ pub places_permitted : (parents : List ℕ) (done : List Action) → Obeys paren
 places_permitted parents done whole ends =
     let e = earliest_first-reverse done in
     permitted_earliest parents done (subst (Obeys parents) (sym e) whole) (subst EndsLast (sym e) ends)
+
+-- ---- nothing comes after an end
+
+-- one more action, where none so far was the end
+ends_more : (done : List Action) (a : Action) → has_ended done ≡ false → EndsLast (earliest_first (a ∷ done))
+ends_more done a going e h =
+    let xs = earliest_first done in
+    let more : length (xs ++ a ∷ []) ≡ suc (length xs) = simp length-append (omega arith) in
+    elim (place_cases xs a A.End e h) [
+      | inl old ↦ absurd (both_ways (has_ended done) going (ended_there done e old.1))
+      | inr new ↦ let at_end = new.0 in omega arith
+    ]
+
+pub permitted_ends : (parents : List ℕ) (done : List Action) → EachPermitted parents done → EndsLast (reverse done)
+permitted_ends parents done h = subst EndsLast (earliest_first-reverse done) (go done h)
+  where
+    go : (done : List Action) → EachPermitted parents done → EndsLast (earliest_first done)
+    go [] h = λ e w. absurd cc
+    go (a ∷ done) h = ends_more done a h.1
+
+-- a call has ended exactly if it is done
+pub has_ended-part_of : (c : ℕ) (past : List Event) → has_ended (part_of c past) ≡ is_done c past
+has_ended-part_of c [] = refl
+has_ended-part_of c (Admit d ∷ past) = has_ended-part_of c past
+has_ended-part_of c (Lock d x found ∷ past) = elim (cases_Bool (d == c)) [ inl mine ↦ rw mine (has_ended-part_of c past) | inr other ↦ rw other (has_ended-part_of c past) ]
+has_ended-part_of c (Free d x left ∷ past) = elim (cases_Bool (d == c)) [ inl mine ↦ rw mine (has_ended-part_of c past) | inr other ↦ rw other (has_ended-part_of c past) ]
+has_ended-part_of c (Done d ∷ past) = elim (cases_Bool (d == c)) [ inl mine ↦ rw mine refl | inr other ↦ rw other (has_ended-part_of c past) ]
+
+-- in turn, an event of a call comes while it isn't done
+going_on : (past : List Event) (c d : ℕ) → IsOpen d past → (d == c) ≡ true → has_ended (part_of c past) ≡ false
+going_on past c d is_open mine = has_ended-part_of c past ∙ subst (λ z. is_done z past ≡ false) (eqb-true d c mine) is_open.1
+
+part_ends : (past : List Event) → InTurn past → (c : ℕ) → EndsLast (earliest_first (part_of c past))
+part_ends [] turn c = λ e w. absurd cc
+part_ends (Admit d ∷ past) turn c = part_ends past turn.1 c
+part_ends (Lock d x found ∷ past) turn c = elim (cases_Bool (d == c)) [
+  | inl mine ↦ rw mine (ends_more (part_of c past) (A.Lock x found) (going_on past c d turn.0 mine))
+  | inr other ↦ rw other (part_ends past turn.1 c)
+]
+part_ends (Free d x left ∷ past) turn c = elim (cases_Bool (d == c)) [
+  | inl mine ↦ rw mine (ends_more (part_of c past) (A.Free x left) (going_on past c d turn.0 mine))
+  | inr other ↦ rw other (part_ends past turn.1 c)
+]
+part_ends (Done d ∷ past) turn c = elim (cases_Bool (d == c)) [
+  | inl mine ↦ rw mine (ends_more (part_of c past) A.End (going_on past c d turn.0 mine))
+  | inr other ↦ rw other (part_ends past turn.1 c)
+]
+
+-- a history in turn each of whose parts obeys by places is legal, if its locks are apart
+pub places_legal : (parents : List ℕ) (past : List Event) → ((c : ℕ) → Obeys parents (reverse (part_of c past))) → Apart past → InTurn past → IsLegalHistory parents past
+places_legal parents past obeys apart turn = record {
+  obeys = λ c. places_permitted parents (part_of c past) (obeys c) (subst EndsLast (earliest_first-reverse (part_of c past)) (part_ends past turn c));
+  apart = apart;
+  in_turn = turn;
+}

@@ -7,8 +7,8 @@ ghost use Rattle.tl_protocol.specs.declared.action.Action.{Action};
 ghost use Rattle.tl_protocol.specs.declared.event.Event.{Event};
 ghost use Rattle.tl_protocol.specs.Ancestors.{nodes_above};
 ghost use Rattle.tl_protocol.specs.Actions.{held, locked, locks_and_frees, lock_count, free_count, taken, EachPermitted, holds_some, may_come};
-ghost use Rattle.tl_protocol.specs.Obeys.{Obeys};
-ghost use Rattle.tl_protocol.specs.History.{past_of, part_of, IsOpen, AllDone, Apart, IsFreedBetween, admits, records_now, IsLegalHistory};
+ghost use Rattle.tl_protocol.specs.Obeys.{Obeys, EndsLast};
+ghost use Rattle.tl_protocol.specs.History.{past_of, part_of, IsOpen, AllDone, InTurn, Apart, IsFreedBetween, admits, records_now, IsLegalHistory};
 ghost use Rattle.tl_protocol.specs.Order.{placed, placed_after, Agrees};
 ghost use Rattle.tl_protocol.specs.Alone.{Outcome, IsAlone, serial};
 ghost use Rattle.tl_protocol.specs.World.{World, Genuine, Legal, IsSound, IsStuck, IsEnabled, MayTake, Reached, alone_of, next_of, reply_of, opened, admitted, moved};
@@ -72,11 +72,12 @@ pub fn holders()
 
 // ---- the protocol
 
-/// What is permitted action by action obeys the protocol by places: of a call's part of a legal history, and of the
-/// actions of a call alone, all of them or the first so many.
+/// What is permitted action by action obeys the protocol by places, and the other way where nothing comes after an end.
+/// So a call's part of a legal history obeys it, and of the actions of a call alone all and the first so many.
 pub fn obeys_by_places()
-    ensures permitted { (parents : List ℕ) (done : List Action) → EachPermitted parents done → Obeys parents (reverse done) }
+    ensures permitted { (parents : List ℕ) (done : List Action) → (EachPermitted parents done ↔ (Obeys parents (reverse done) × EndsLast (reverse done))) }
     ensures part { (parents : List ℕ) (past : List Event) (c : ℕ) → IsLegalHistory parents past → Obeys parents (reverse (part_of c past)) }
+    ensures legal { (parents : List ℕ) (past : List Event) → ((c : ℕ) → Obeys parents (reverse (part_of c past))) → Apart past → InTurn past → IsLegalHistory parents past }
     ensures alone { (parents : List ℕ) (alone : Records → Outcome) (t : Records) → IsAlone parents alone → length t ≡ length parents → Obeys parents (alone t).actions }
     ensures so_far { (parents : List ℕ) (alone : Records → Outcome) (t : Records) (k : ℕ) → IsAlone parents alone → length t ≡ length parents → Obeys parents (take k (alone t).actions) }
 {}
