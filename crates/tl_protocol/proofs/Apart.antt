@@ -1,13 +1,15 @@
--- Between two locks of one node stands a free of it by the first one's call.
-use Rattle.std.proofs.Common.{◌≡◌, ℕ, suc, length-append, ◌≤◌, ◌<◌, ◌==◌, ◌⊎◌, true, false, List, [], ◌∷◌, ◌++◌, length, refl, sym, ap, ◌∙◌, subst, inl, inr, arith, Some, slice_get}
-use Rattle.std.proofs.lemmas.Bool.{cases_Bool, both_ways, eqb-true, eq-eqb}
+-- Locks are apart exactly if between two locks of one node stands a free of it by the first one's call.
+use Rattle.std.proofs.Common.{◌≡◌, ◌≢◌, ℕ, suc, length-append, ◌≤◌, ◌<◌, ◌==◌, ◌⊎◌, true, false, List, [], ◌∷◌, ◌++◌, length, refl, sym, ap, ◌∙◌, subst, inl, inr, arith, Some, slice_get}
+use Rattle.std.proofs.lemmas.Bool.{cases_Bool, false_from_ne_true, both_ways, eqb-true, eq-eqb}
+use Rattle.std.proofs.lemmas.Option.{slice_get_within}
 use Rattle.std.proofs.lemmas.List.{reverse-reverse}
 use Rattle.tl_tree.specs.Records.{Record}
+use Rattle.tl_protocol.specs.declared.action.Action.TheVariants as A
 use Rattle.tl_protocol.specs.declared.event.Event.{Event}
 use Rattle.tl_protocol.specs.declared.event.Event.TheVariants.{Admit, Lock, Free, Done}
-use Rattle.tl_protocol.specs.Actions.{held}
-use Rattle.tl_protocol.specs.History.{past_of, part_of, Apart, IsFreedBetween}
-use Rattle.tl_protocol.proofs.Parts.{part_of-lock, apart_before}
+use Rattle.tl_protocol.specs.Actions.{frees, held}
+use Rattle.tl_protocol.specs.History.{past_of, part_of, Apart, IsFreedBetween, FreesBetweenLocks}
+use Rattle.tl_protocol.proofs.Parts.{part_of-lock, apart_before, held-lock, held-free, held-done}
 use Rattle.tl_protocol.proofs.Lists.{earliest_first, earliest_first-reverse, place_kept, place_back, place_new, place_cases}
 
 -- a node that c doesn't hold after an event it didn't hold before, or the event is its free
@@ -80,10 +82,80 @@ between (e ∷ past) apart j k c d x found again lt hj hk = elim (place_cases (e
       freed_more past e j (length (earliest_first past)) c x f k (omega arith)
 ]
 
--- in a history with the earliest first, between two locks of one node stands a free of it by the first one's call
-pub apart-between : (events : List Event) → Apart (past_of events) → (j k c d x : ℕ) (found again : Record) → j < k → slice_get events j ≡ Some (Lock c x found) → slice_get events k ≡ Some (Lock d x again)
-    → IsFreedBetween events j k c x
-apart-between events apart j k c d x found again lt hj hk =
-    let e : earliest_first (past_of events) ≡ events = earliest_first-reverse (past_of events) ∙ reverse-reverse events in
-    subst (λ z. IsFreedBetween z j k c x) e
-    (between (past_of events) apart j k c d x found again lt (subst (λ z. slice_get z j ≡ Some (Lock c x found)) (sym e) hj) (subst (λ z. slice_get z k ≡ Some (Lock d x again)) (sym e) hk))
+-- ---- the other way
+
+-- a lock of x by c, after which c didn't free it
+record IsHeldSince (events : List Event) (c x : ℕ) : Type 0 where
+  place : ℕ
+  found : Record
+  is_lock : slice_get events place ≡ Some (Lock c x found)
+  kept : (i : ℕ) (left : Record) → place < i → slice_get events i ≢ Some (Free c x left)
+
+held_longer : (xs : List Event) (e : Event) (c x : ℕ) → ((left : Record) → e ≢ Free c x left) → IsHeldSince xs c x → IsHeldSince (xs ++ e ∷ []) c x
+held_longer xs e c x other h = record {
+  place = h.place;
+  found = h.found;
+  is_lock = place_kept xs (e ∷ []) h.place (Lock c x h.found) h.is_lock;
+  kept = λ i left low w. elim (place_cases xs e (Free c x left) i w) [ inl old ↦ h.kept i left low old.1 | inr new ↦ other left new.1 ];
+}
+
+held_since : (past : List Event) (c x : ℕ) → held (part_of c past) x ≡ true → IsHeldSince (earliest_first past) c x
+held_since [] c x h = absurd (both_ways false refl h)
+held_since (Admit d ∷ past) c x h = held_longer (earliest_first past) (Admit d) c x (λ left w. cc) (held_since past c x h)
+held_since (Lock d y found ∷ past) c x h = elim (held-lock d y found past c x h) [
+  | inl new ↦
+      let xs = earliest_first past in
+      let more : length (xs ++ Lock d y found ∷ []) ≡ suc (length xs) = simp length-append (omega arith) in
+      record {
+        place = length xs;
+        found = found;
+        is_lock = place_new xs (Lock d y found) ∙ (λ i. Some (Lock (new.0 i) (new.1 i) found));
+        kept = λ i left low w. let lt = slice_get_within (xs ++ Lock d y found ∷ []) i (Free c x left) w in omega arith;
+      }
+  | inr old ↦ held_longer (earliest_first past) (Lock d y found) c x (λ left w. cc) (held_since past c x old)
+]
+held_since (Free d y left ∷ past) c x h = held_longer (earliest_first past) (Free d y left) c x
+    (λ other w.
+    let who : d ≡ c = cc in
+    let node : y ≡ x = cc in
+    let p = eq-eqb d c who in
+    let q = eq-eqb y x node in
+    let g : held (A.Free y left ∷ part_of c past) x ≡ true = rw p at h in
+    both_ways false refl (rw q at g))
+    (held_since past c x (held-free d y left past c x h))
+held_since (Done d ∷ past) c x h = held_longer (earliest_first past) (Done d) c x (λ left w. cc) (held_since past c x (held-done d past c x h))
+
+frees_before : (xs : List Event) (e : Event) → FreesBetweenLocks (xs ++ e ∷ []) → FreesBetweenLocks xs
+frees_before xs e frees j k c d x found again lt hj hk =
+    let f = frees j k c d x found again lt (place_kept xs (e ∷ []) j (Lock c x found) hj) (place_kept xs (e ∷ []) k (Lock d x again) hk) in
+    let low = f.earlier in
+    let high = slice_get_within xs k (Lock d x again) hk in
+    record { place = f.place; left = f.left; later = f.later; earlier = f.earlier; is_free = place_back xs (e ∷ []) f.place (Free c x f.left) (omega arith) f.is_free }
+
+from_frees : (past : List Event) → FreesBetweenLocks (earliest_first past) → Apart past
+from_frees [] frees = tt
+from_frees (Admit d ∷ past) frees = from_frees past (frees_before (earliest_first past) (Admit d) frees)
+from_frees (Lock d x again ∷ past) frees =
+    let xs = earliest_first past in (
+      λ c. false_from_ne_true (held (part_of c past) x) (λ h.
+          let s = held_since past c x h in
+          let lt = slice_get_within xs s.place (Lock c x s.found) s.is_lock in
+          let f = frees s.place (length xs) c d x s.found again lt (place_kept xs (Lock d x again ∷ []) s.place (Lock c x s.found) s.is_lock) (place_new xs (Lock d x again)) in
+          s.kept f.place f.left f.later (place_back xs (Lock d x again ∷ []) f.place (Free c x f.left) f.earlier f.is_free)),
+      from_frees past (frees_before xs (Lock d x again) frees),
+    )
+from_frees (Free d x left ∷ past) frees = from_frees past (frees_before (earliest_first past) (Free d x left) frees)
+from_frees (Done d ∷ past) frees = from_frees past (frees_before (earliest_first past) (Done d) frees)
+
+-- ---- of a history as it is stored
+
+past_of-earliest : (events : List Event) → earliest_first (past_of events) ≡ events
+past_of-earliest events = earliest_first-reverse (past_of events) ∙ reverse-reverse events
+
+-- between two locks of one node stands a free of it by the first one's call
+pub apart_frees : (events : List Event) → Apart (past_of events) → FreesBetweenLocks events
+apart_frees events apart = subst FreesBetweenLocks (past_of-earliest events) (between (past_of events) apart)
+
+-- where that is so each node is locked only while nobody holds it
+pub frees_apart : (events : List Event) → FreesBetweenLocks events → Apart (past_of events)
+frees_apart events frees = from_frees (past_of events) (subst FreesBetweenLocks (sym (past_of-earliest events)) frees)

@@ -9,7 +9,7 @@ use Rattle.tl_protocol.specs.declared.event.Event.{Event}
 use Rattle.tl_protocol.specs.declared.event.Event.TheVariants.{Admit, Lock, Free, Done}
 use Rattle.tl_protocol.specs.Actions.{locked, held, has_ended, Permitted, EachPermitted, may_come}
 use Rattle.tl_protocol.specs.History.{part_of, IsOpen, IsLegalHistory}
-use Rattle.tl_protocol.specs.World.{World, IsSound, next_of, IsStuck, IsFree}
+use Rattle.tl_protocol.specs.World.{World, IsSound, next_of, IsStuck, IsFree, MayTake}
 use Rattle.tl_protocol.specs.Holders.{holder_of}
 use Rattle.tl_protocol.proofs.Coming.{held-locked, may_come_holds}
 use Rattle.tl_protocol.proofs.Parts.{part_of-free, part_of-done, part_of-other, legal_before, held-lock, held-free, held-done, exclusive}
@@ -128,3 +128,7 @@ holder_stuck w sound c x found d is_open next h =
       is_other = λ (same : d ≡ c). both_ways (locked (part_of c w.past) x) p.0 (held-locked (part_of c w.past) x (subst (λ z. held (part_of z w.past) x ≡ true) same holds));
       holds = holds;
     }
+
+-- an open call may take its next action where the node that it locks has no holder
+pub holderless_may_take : (w : World) → IsSound w → (c : ℕ) (next : Action) → IsOpen c w.past → next_of w c ≡ Some next → ((x : ℕ) (found : Record) → next ≡ A.Lock x found → holder_of w.past x ≡ None) → MayTake w c next
+holderless_may_take w sound c next is_open is_next none = record { is_open = is_open; is_next = is_next; is_free = free_without_holder w.parents w.past (sound_history w sound) next none }

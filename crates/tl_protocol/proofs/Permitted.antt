@@ -1,9 +1,9 @@
 -- Actions that obey the protocol by their places, none of them after an end, are permitted one after another.
-use Rattle.std.proofs.Common.{◌≡◌, ◌≢◌, ℕ, suc, ◌+◌, ◌<◌, ◌≤◌, ◌==◌, ◌||◌, ◌⊎◌, Bool, true, false, List, [], ◌∷◌, ◌++◌, length, refl, sym, ap, ◌∙◌, subst, inl, inr, arith, Option, Some, slice_get, reverse, length-append}
+use Rattle.std.proofs.Common.{◌≡◌, ◌≢◌, ℕ, suc, ◌≤◌, ◌==◌, true, false, List, [], ◌∷◌, ◌++◌, length, refl, sym, ap, ◌∙◌, subst, inl, inr, arith, Some, slice_get, reverse, length-append}
 use Rattle.std.proofs.lemmas.Bool.{cases_Bool, false_from_ne_true, both_ways, eqb-true}
 use Rattle.std.proofs.lemmas.Option.{slice_get_within}
 use Rattle.tl_tree.specs.Records.{Record}
-use Rattle.tl_tree.specs.Shape.{parent, below}
+use Rattle.tl_tree.specs.Shape.{parent}
 use Rattle.tl_protocol.specs.declared.action.Action.{Action}
 use Rattle.tl_protocol.specs.declared.action.Action.TheVariants as A
 use Rattle.tl_protocol.specs.declared.event.Event.{Event}
@@ -135,13 +135,13 @@ last_permitted parents done (A.Emit value) whole = tt
 last_permitted parents done A.End whole = λ x.
     let xs = earliest_first done in
     false_from_ne_true (held done x) (λ h.
-        let at_end = held_at done x h in
-        let lock = place_kept xs (A.End ∷ []) at_end.place (A.Lock x at_end.found) at_end.is_lock in
-        let f = whole.all_freed (length xs) at_end.place x at_end.found (place_new xs A.End) lock in
-        elim (place_cases xs A.End (A.Free x f.left) f.place f.is_free) [
-          | inl old ↦ at_end.kept f.place f.left f.later old.0 old.1
-          | inr new ↦ let e : A.End ≡ A.Free x f.left = new.1 in absurd cc
-        ])
+    let at_end = held_at done x h in
+    let lock = place_kept xs (A.End ∷ []) at_end.place (A.Lock x at_end.found) at_end.is_lock in
+    let f = whole.all_freed (length xs) at_end.place x at_end.found (place_new xs A.End) lock in
+    elim (place_cases xs A.End (A.Free x f.left) f.place f.is_free) [
+      | inl old ↦ at_end.kept f.place f.left f.later old.0 old.1
+      | inr new ↦ let e : A.End ≡ A.Free x f.left = new.1 in absurd cc
+    ])
 last_permitted parents done A.Plain whole = tt
 
 permitted_earliest : (parents : List ℕ) (done : List Action) → Obeys parents (earliest_first done) → EndsLast (earliest_first done) → EachPermitted parents done
@@ -150,10 +150,10 @@ permitted_earliest parents (a ∷ done) whole ends =
     let xs = earliest_first done in
     let more : length (xs ++ a ∷ []) ≡ suc (length xs) = simp length-append (omega arith) in
     let going : has_ended done ≡ false = false_from_ne_true (has_ended done) (λ h.
-        let r = ended_place done h in
-        let lt = slice_get_within xs r.0 A.End r.1 in
-        let at_end = ends r.0 (place_kept xs (a ∷ []) r.0 A.End r.1) in
-        omega arith) in
+    let r = ended_place done h in
+    let lt = slice_get_within xs r.0 A.End r.1 in
+    let at_end = ends r.0 (place_kept xs (a ∷ []) r.0 A.End r.1) in
+    omega arith) in
     let none : (e : ℕ) → slice_get xs e ≢ Some A.End = λ e w. both_ways (has_ended done) going (ended_there done e w) in
     (last_permitted parents done a whole, going, permitted_earliest parents done (one_less parents xs a none whole) (λ e w. absurd (none e w)))
 

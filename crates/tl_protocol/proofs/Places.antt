@@ -6,9 +6,8 @@ use Rattle.tl_tree.specs.Records.{Record, Records}
 use Rattle.tl_tree.specs.Shape.{parent}
 use Rattle.tl_protocol.specs.declared.action.Action.{Action}
 use Rattle.tl_protocol.specs.declared.action.Action.TheVariants as A
-use Rattle.tl_protocol.specs.Actions.{locks, frees, is_lock, is_end, locked, held, locked_any, has_ended, taken, Permitted, EachPermitted}
+use Rattle.tl_protocol.specs.Actions.{locks, frees, is_end, locked, held, locked_any, has_ended, taken, Permitted, EachPermitted}
 use Rattle.tl_protocol.specs.Obeys.{IsHeldAt, IsFreedAfter, Touches, Obeys}
-use Rattle.tl_protocol.specs.Order.{before}
 use Rattle.tl_protocol.specs.Alone.{Outcome, IsAlone}
 use Rattle.tl_protocol.proofs.Coming.{locked-any}
 use Rattle.tl_protocol.proofs.Alone.{obeys_taken}

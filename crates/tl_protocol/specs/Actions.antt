@@ -115,7 +115,8 @@ taken (suc k) (a ∷ actions) done = taken k actions (a ∷ done)
 -- what the protocol asks of the next action: a lock is the first of all or comes under a held parent, and is of a node
 -- that wasn't locked; what is read, written or freed is held; at the end nothing is held
 abbrev pub Permitted : List ℕ → List Action → Action → Type 0
-Permitted parents done (Lock x found) = (locked done x ≡ false) × (locked_any done ≡ true → held done (parent parents x) ≡ true)
+Permitted parents done (Lock x found) =
+    (locked done x ≡ false) × (locked_any done ≡ true → held done (parent parents x) ≡ true)
 Permitted parents done (Read x field value) = held done x ≡ true
 Permitted parents done (Write x field value) = held done x ≡ true
 Permitted parents done (Free x left) = held done x ≡ true
@@ -131,7 +132,8 @@ EachPermitted parents (a ∷ done) = Permitted parents done a × (has_ended done
 -- the same of further actions, the earliest first, after what was done
 abbrev pub PermittedAfter : List ℕ → List Action → List Action → Type 0
 PermittedAfter parents done [] = Unit {0}
-PermittedAfter parents done (a ∷ actions) = Permitted parents done a × (has_ended done ≡ false) × PermittedAfter parents (a ∷ done) actions
+PermittedAfter parents done (a ∷ actions) =
+    Permitted parents done a × (has_ended done ≡ false) × PermittedAfter parents (a ∷ done) actions
 
 -- ---- where the call may still come
 

@@ -43,12 +43,14 @@ all_taken actions = taken (length actions) actions []
 -- finds different records; its locks find the tree's records; it keeps to the protocol; it ends, once; it leaves what
 -- it freed, and all other records as they were; its reply is what it emitted.
 pub record IsAlone (parents : List ℕ) (alone : Records → Outcome) : Type 0 where
-  pub same : (t u : Records) → length t ≡ length parents → length u ≡ length parents → SameUntilFound (alone t).actions (alone u).actions
+  pub same : (t u : Records) → length t ≡ length parents → length u ≡ length parents
+      → SameUntilFound (alone t).actions (alone u).actions
   pub finds : (t : Records) → length t ≡ length parents → Finds t (alone t).actions
   pub obeys : (t : Records) → length t ≡ length parents → PermittedAfter parents [] (alone t).actions
   pub ends : (t : Records) → length t ≡ length parents → EndsOnce (alone t).actions
   pub size : (t : Records) → length t ≡ length parents → length (alone t).tree ≡ length t
-  pub leaves : (t : Records) (x : ℕ) → length t ≡ length parents → x < length t → record_at (alone t).tree x ≡ left_in (all_taken (alone t).actions) x (record_at t x)
+  pub leaves : (t : Records) (x : ℕ) → length t ≡ length parents → x < length t
+      → record_at (alone t).tree x ≡ left_in (all_taken (alone t).actions) x (record_at t x)
   pub reply : (t : Records) → length t ≡ length parents → (alone t).reply ≡ emitted (all_taken (alone t).actions)
 
 -- the last tree, and the replies in order

@@ -70,6 +70,13 @@ pub record IsFreedBetween (events : List Event) (j k c x : ℕ) : Type 0 where
   pub earlier : place < k
   pub is_free : slice_get events place ≡ Some (Free c x left)
 
+-- the same as apart by places, of a history with the earliest event first: between two locks of one node stands a free
+-- of it by the first one's call
+abbrev pub FreesBetweenLocks : List Event → Type 0
+FreesBetweenLocks events =
+    (j k c d x : ℕ) (found again : Record) → j < k → slice_get events j ≡ Some (Lock c x found)
+    → slice_get events k ≡ Some (Lock d x again) → IsFreedBetween events j k c x
+
 -- the record that was last left at x, and r where none was
 abbrev pub last_left : List Event → ℕ → Record → Record
 last_left [] x r = r

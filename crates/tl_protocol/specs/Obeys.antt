@@ -37,13 +37,16 @@ Touches Plain y = ⊥
 -- the rules of the protocol, and that nothing is left locked
 pub record Obeys (parents : List ℕ) (actions : List Action) : Type 0 where
   -- each lock but the first of the list comes under a held parent
-  pub parent_held : (k x : ℕ) (found : Record) → slice_get actions k ≡ Some (Lock x found) → IsFirstLock actions k ⊎ IsHeldAt actions k (parent parents x)
+  pub parent_held : (k x : ℕ) (found : Record) → slice_get actions k ≡ Some (Lock x found)
+      → IsFirstLock actions k ⊎ IsHeldAt actions k (parent parents x)
   -- no node is locked twice
-  pub once : (j k x : ℕ) (found again : Record) → slice_get actions j ≡ Some (Lock x found) → slice_get actions k ≡ Some (Lock x again) → j ≡ k
+  pub once : (j k x : ℕ) (found again : Record) → slice_get actions j ≡ Some (Lock x found)
+      → slice_get actions k ≡ Some (Lock x again) → j ≡ k
   -- what is read, written or freed is held
   pub touched_held : (k x : ℕ) (a : Action) → slice_get actions k ≡ Some a → Touches a x → IsHeldAt actions k x
   -- in a list with an end each lock is followed by a free of its node
-  pub all_freed : (e k x : ℕ) (found : Record) → slice_get actions e ≡ Some End → slice_get actions k ≡ Some (Lock x found) → IsFreedAfter actions k x
+  pub all_freed : (e k x : ℕ) (found : Record) → slice_get actions e ≡ Some End
+      → slice_get actions k ≡ Some (Lock x found) → IsFreedAfter actions k x
 
 -- nothing comes after an end
 abbrev pub EndsLast : List Action → Type 0

@@ -31,13 +31,15 @@ pub record Genuine (alone : Records → Outcome) (opening : Records) (past : Lis
   pub within : k ≤ length (alone_of alone opening past c).actions
   pub ended : is_done c past ≡ (k == length (alone_of alone opening past c).actions)
 
+-- the calls take turns as they may: admissions in order, locks apart, each finding the record left last, and each call
+-- doing what it does alone
 pub record Legal (w : World) : Type 0 where
   pub in_turn : InTurn w.past
   pub apart : Apart w.past
   pub follows : Follows w.opening w.past
   pub genuine : (c : ℕ) → c < admits w.past → Genuine (w.meanings c) w.opening w.past c (w.counts c)
 
--- a legal world over a tree and records of its size, whose calls have meanings alone
+-- a legal world over a tree and records of its size, each of whose calls has a meaning alone
 pub record IsSound (w : World) : Type 0 where
   pub tree : IsTree w.parents
   pub size : length w.opening ≡ length w.parents
@@ -92,7 +94,10 @@ stored c _ past = past
 
 -- the world after c's next action
 abbrev pub moved : World → ℕ → Action → World
-moved w c next = record w { past = stored c (as_found w next) w.past; counts = λ d. if c == d then suc (w.counts d) else w.counts d }
+moved w c next = record w {
+  past = stored c (as_found w next) w.past;
+  counts = λ d. if c == d then suc (w.counts d) else w.counts d;
+}
 
 -- the world after an admission of a call that does this alone
 abbrev pub admitted : World → (Records → Outcome) → World
@@ -104,10 +109,18 @@ admitted w alone = record w {
 
 -- the world before any admission
 abbrev pub opened : List ℕ → Records → (ℕ → Records → Outcome) → World
-opened parents opening meanings = record { parents = parents; opening = opening; meanings = meanings; past = []; counts = λ c. 0 }
+opened parents opening meanings = record {
+  parents = parents;
+  opening = opening;
+  meanings = meanings;
+  past = [];
+  counts = λ c. 0;
+}
 
 -- the worlds that admissions and steps lead to
 pub data Reached (parents : List ℕ) (opening : Records) : World → Type 0 where
   Opens : (meanings : ℕ → Records → Outcome) → Reached parents opening (opened parents opening meanings)
-  Admits : (w : World) (alone : Records → Outcome) → Reached parents opening w → IsAlone parents alone → Reached parents opening (admitted w alone)
-  Moves : (w : World) (c : ℕ) (next : Action) → Reached parents opening w → MayTake w c next → Reached parents opening (moved w c next)
+  Admits : (w : World) (alone : Records → Outcome) → Reached parents opening w → IsAlone parents alone
+      → Reached parents opening (admitted w alone)
+  Moves : (w : World) (c : ℕ) (next : Action) → Reached parents opening w → MayTake w c next
+      → Reached parents opening (moved w c next)

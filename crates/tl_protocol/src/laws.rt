@@ -8,7 +8,7 @@ ghost use Rattle.tl_protocol.specs.declared.event.Event.{Event};
 ghost use Rattle.tl_protocol.specs.Ancestors.{nodes_above};
 ghost use Rattle.tl_protocol.specs.Actions.{held, locked, locks_and_frees, lock_count, free_count, taken, EachPermitted, holds_some, may_come};
 ghost use Rattle.tl_protocol.specs.Obeys.{Obeys, EndsLast};
-ghost use Rattle.tl_protocol.specs.History.{past_of, part_of, IsOpen, AllDone, InTurn, Apart, IsFreedBetween, admits, records_now, IsLegalHistory};
+ghost use Rattle.tl_protocol.specs.History.{past_of, part_of, IsOpen, AllDone, InTurn, Apart, FreesBetweenLocks, admits, records_now, IsLegalHistory};
 ghost use Rattle.tl_protocol.specs.Order.{placed, placed_after, Agrees};
 ghost use Rattle.tl_protocol.specs.Alone.{Outcome, IsAlone, serial};
 ghost use Rattle.tl_protocol.specs.World.{World, Genuine, Legal, IsSound, IsStuck, IsEnabled, MayTake, Reached, alone_of, next_of, reply_of, opened, admitted, moved};
@@ -18,30 +18,38 @@ ghost use Rattle.tl_protocol.specs.Holders.{holder_of};
 
 /// The order that a history gives agrees with it.
 pub fn placed_agrees()
-    ensures { (parents : List ℕ) (past : List Event) → IsTree parents → IsLegalHistory parents past → Agrees (placed parents past) past }
+    ensures { (parents : List ℕ) (past : List Event) → IsTree parents → IsLegalHistory parents past
+        → Agrees (placed parents past) past }
 {}
 
 /// The order of one more event comes from the order so far.
 pub fn placed_event_by_event()
     ensures none { (parents : List ℕ) → placed parents [] ≡ [] }
-    ensures one_more { (parents : List ℕ) (past : List Event) (event : Event) → placed parents (event ∷ past) ≡ placed_after parents past event (placed parents past) }
+    ensures one_more { (parents : List ℕ) (past : List Event) (event : Event)
+        → placed parents (event ∷ past) ≡ placed_after parents past event (placed parents past) }
 {}
 
 /// A call that may still come to a node holds a node strictly above it.
 pub fn may_come_holds()
-    ensures holder { (parents : List ℕ) (done : List Action) (x : ℕ) → IsTree parents → may_come parents done x ≡ true → (y : ℕ) × Above parents y x × (y ≢ x) × (held done y ≡ true) }
-    ensures listed { (parents : List ℕ) (done : List Action) (x : ℕ) → may_come parents done x ≡ true → holds_some done (nodes_above parents x) ≡ true }
+    ensures holder { (parents : List ℕ) (done : List Action) (x : ℕ) → IsTree parents
+        → may_come parents done x ≡ true
+        → (y : ℕ) × Above parents y x × (y ≢ x) × (held done y ≡ true) }
+    ensures listed { (parents : List ℕ) (done : List Action) (x : ℕ) → may_come parents done x ≡ true
+        → holds_some done (nodes_above parents x) ≡ true }
 {}
 
 /// The list of the nodes strictly above a node has the nodes that it leads to, and not itself.
 pub fn nodes_above_listed()
-    ensures { (parents : List ℕ) (x y : ℕ) → IsTree parents → (Contains (nodes_above parents x) y ↔ (Above parents y x × (y ≢ x))) }
+    ensures { (parents : List ℕ) (x y : ℕ) → IsTree parents
+        → (Contains (nodes_above parents x) y ↔ (Above parents y x × (y ≢ x))) }
 {}
 
 /// Calls run alone, one after another along an order that agrees, leave the records now and give every reply.
 pub fn serial_along()
-    ensures tree { (w : World) (order : List ℕ) → IsSound w → AllDone w.past → Agrees order w.past → (serial w.meanings order w.opening).tree ≡ records_now w.past w.opening }
-    ensures replies { (w : World) (order : List ℕ) → IsSound w → AllDone w.past → Agrees order w.past → (serial w.meanings order w.opening).replies ≡ map (reply_of w) order }
+    ensures tree { (w : World) (order : List ℕ) → IsSound w → AllDone w.past → Agrees order w.past
+        → (serial w.meanings order w.opening).tree ≡ records_now w.past w.opening }
+    ensures replies { (w : World) (order : List ℕ) → IsSound w → AllDone w.past → Agrees order w.past
+        → (serial w.meanings order w.opening).replies ≡ map (reply_of w) order }
 {}
 
 // ---- steps
@@ -55,19 +63,29 @@ pub fn no_standstill()
 
 /// Admissions and steps keep a world sound.
 pub fn steps_keep_sound()
-    ensures opened { (parents : List ℕ) (opening : Records) (meanings : ℕ → Records → Outcome) → IsTree parents → length opening ≡ length parents → IsSound (opened parents opening meanings) }
-    ensures admitted { (w : World) (alone : Records → Outcome) → IsSound w → IsAlone w.parents alone → IsSound (admitted w alone) }
-    ensures moved { (w : World) (c : ℕ) (next : Action) → IsSound w → MayTake w c next → IsSound (moved w c next) }
+    ensures opened { (parents : List ℕ) (opening : Records) (meanings : ℕ → Records → Outcome) → IsTree parents
+        → length opening ≡ length parents → IsSound (opened parents opening meanings) }
+    ensures admitted { (w : World) (alone : Records → Outcome) → IsSound w → IsAlone w.parents alone
+        → IsSound (admitted w alone) }
+    ensures moved { (w : World) (c : ℕ) (next : Action) → IsSound w → MayTake w c next
+        → IsSound (moved w c next) }
 {}
 
 /// The holder that the history names is the one call that holds the node, and a stuck call waits for it. Only the holders
-/// of the nodes strictly above a node may still come to it.
+/// of the nodes strictly above a node may still come to it. Where the node has no holder, a call may lock it.
 pub fn holders()
-    ensures held { (parents : List ℕ) (past : List Event) (c x : ℕ) → IsLegalHistory parents past → ((holder_of past x ≡ Some c) ↔ (held (part_of c past) x ≡ true)) }
-    ensures coming { (parents : List ℕ) (past : List Event) (c x : ℕ) → IsTree parents → IsLegalHistory parents past → may_come parents (part_of c past) x ≡ true
+    ensures held { (parents : List ℕ) (past : List Event) (c x : ℕ) → IsLegalHistory parents past
+        → ((holder_of past x ≡ Some c) ↔ (held (part_of c past) x ≡ true)) }
+    ensures coming { (parents : List ℕ) (past : List Event) (c x : ℕ) → IsTree parents
+        → IsLegalHistory parents past → may_come parents (part_of c past) x ≡ true
         → (y : ℕ) × Above parents y x × (y ≢ x) × (holder_of past y ≡ Some c) }
-    ensures waits { (w : World) (c : ℕ) (stuck : IsStuck w c) → IsSound w → holder_of w.past stuck.node ≡ Some stuck.holder }
-    ensures stuck { (w : World) (c x : ℕ) (found : Record) (d : ℕ) → IsSound w → IsOpen c w.past → next_of w c ≡ Some (Action.Lock x found) → holder_of w.past x ≡ Some d → IsStuck w c }
+    ensures waits { (w : World) (c : ℕ) (stuck : IsStuck w c) → IsSound w
+        → holder_of w.past stuck.node ≡ Some stuck.holder }
+    ensures stuck { (w : World) (c x : ℕ) (found : Record) (d : ℕ) → IsSound w → IsOpen c w.past
+        → next_of w c ≡ Some (Action.Lock x found) → holder_of w.past x ≡ Some d → IsStuck w c }
+    ensures free { (w : World) (c : ℕ) (next : Action) → IsSound w → IsOpen c w.past → next_of w c ≡ Some next
+        → ((x : ℕ) (found : Record) → next ≡ Action.Lock x found → holder_of w.past x ≡ None)
+        → MayTake w c next }
 {}
 
 // ---- the protocol
@@ -75,18 +93,26 @@ pub fn holders()
 /// What is permitted action by action obeys the protocol by places, and the other way where nothing comes after an end.
 /// So a call's part of a legal history obeys it, and of the actions of a call alone all and the first so many.
 pub fn obeys_by_places()
-    ensures permitted { (parents : List ℕ) (done : List Action) → (EachPermitted parents done ↔ (Obeys parents (reverse done) × EndsLast (reverse done))) }
-    ensures part { (parents : List ℕ) (past : List Event) (c : ℕ) → IsLegalHistory parents past → Obeys parents (reverse (part_of c past)) }
-    ensures legal { (parents : List ℕ) (past : List Event) → ((c : ℕ) → Obeys parents (reverse (part_of c past))) → Apart past → InTurn past → IsLegalHistory parents past }
-    ensures alone { (parents : List ℕ) (alone : Records → Outcome) (t : Records) → IsAlone parents alone → length t ≡ length parents → Obeys parents (alone t).actions }
-    ensures so_far { (parents : List ℕ) (alone : Records → Outcome) (t : Records) (k : ℕ) → IsAlone parents alone → length t ≡ length parents → Obeys parents (take k (alone t).actions) }
+    ensures permitted { (parents : List ℕ) (done : List Action)
+        → (EachPermitted parents done ↔ (Obeys parents (reverse done) × EndsLast (reverse done))) }
+    ensures part { (parents : List ℕ) (past : List Event) (c : ℕ) → IsLegalHistory parents past
+        → Obeys parents (reverse (part_of c past)) }
+    ensures legal { (parents : List ℕ) (past : List Event)
+        → ((c : ℕ) → Obeys parents (reverse (part_of c past))) → Apart past → InTurn past
+        → IsLegalHistory parents past }
+    ensures alone { (parents : List ℕ) (alone : Records → Outcome) (t : Records) → IsAlone parents alone
+        → length t ≡ length parents → Obeys parents (alone t).actions }
+    ensures so_far { (parents : List ℕ) (alone : Records → Outcome) (t : Records) (k : ℕ) → IsAlone parents alone
+        → length t ≡ length parents → Obeys parents (take k (alone t).actions) }
 {}
 
 /// A call locks no more nodes than there are, and frees no more than it locks.
 pub fn locks_counted()
-    ensures locks { (parents : List ℕ) (done : List Action) (nodes : ℕ) → EachPermitted parents done → ((x : ℕ) → locked done x ≡ true → x < nodes) → lock_count done ≤ nodes }
+    ensures locks { (parents : List ℕ) (done : List Action) (nodes : ℕ) → EachPermitted parents done
+        → ((x : ℕ) → locked done x ≡ true → x < nodes) → lock_count done ≤ nodes }
     ensures world { (w : World) (c : ℕ) → IsSound w → lock_count (part_of c w.past) ≤ length w.parents }
-    ensures frees { (parents : List ℕ) (done : List Action) → EachPermitted parents done → free_count done ≤ lock_count done }
+    ensures frees { (parents : List ℕ) (done : List Action) → EachPermitted parents done
+        → free_count done ≤ lock_count done }
 {}
 
 // ---- histories and worlds
@@ -96,15 +122,16 @@ pub fn sound_history()
     ensures { (w : World) → IsSound w → IsLegalHistory w.parents w.past }
 {}
 
-/// Between two locks of one node stands a free of it by the first one's call. Here the earliest event is the first.
+/// Each node is locked only while nobody holds it exactly if between two locks of one node stands a free of it by the
+/// first one's call. Here the earliest event is the first.
 pub fn apart_by_places()
-    ensures { (events : List Event) → Apart (past_of events) → (j k c d x : ℕ) (found again : Record) → j < k
-        → slice_get events j ≡ Some (Event.Lock c x found) → slice_get events k ≡ Some (Event.Lock d x again) → IsFreedBetween events j k c x }
+    ensures { (events : List Event) → (Apart (past_of events) ↔ FreesBetweenLocks events) }
 {}
 
 /// A genuine call's locks and frees are those of its first actions alone.
 pub fn genuine_locks_and_frees()
-    ensures { (alone : Records → Outcome) (opening : Records) (past : List Event) (c k : ℕ) → Genuine alone opening past c k
+    ensures { (alone : Records → Outcome) (opening : Records) (past : List Event) (c k : ℕ)
+        → Genuine alone opening past c k
         → locks_and_frees (part_of c past) ≡ locks_and_frees (taken k (alone_of alone opening past c).actions []) }
 {}
 
@@ -112,13 +139,18 @@ pub fn genuine_locks_and_frees()
 /// one is open; once all are done, the records and the replies are those of the calls run alone, one after another
 /// along the order that the history gives.
 pub fn headline()
-    ensures legal { (parents : List ℕ) (opening : Records) (w : World) → IsTree parents → length opening ≡ length parents → Reached parents opening w → Legal w }
-    ensures obeys { (parents : List ℕ) (opening : Records) (w : World) (c : ℕ) → IsTree parents → length opening ≡ length parents → Reached parents opening w
-        → c < admits w.past → Obeys parents (take (w.counts c) (alone_of (w.meanings c) opening w.past c).actions) }
-    ensures goes_on { (parents : List ℕ) (opening : Records) (w : World) (c : ℕ) → IsTree parents → length opening ≡ length parents → Reached parents opening w
-        → IsOpen c w.past → (d : ℕ) × (next : Action) × MayTake w d next }
-    ensures tree { (parents : List ℕ) (opening : Records) (w : World) → IsTree parents → length opening ≡ length parents → Reached parents opening w
-        → AllDone w.past → (serial w.meanings (placed parents w.past) opening).tree ≡ records_now w.past opening }
-    ensures replies { (parents : List ℕ) (opening : Records) (w : World) → IsTree parents → length opening ≡ length parents → Reached parents opening w
-        → AllDone w.past → (serial w.meanings (placed parents w.past) opening).replies ≡ map (reply_of w) (placed parents w.past) }
+    ensures legal { (parents : List ℕ) (opening : Records) (w : World) → IsTree parents
+        → length opening ≡ length parents → Reached parents opening w → Legal w }
+    ensures obeys { (parents : List ℕ) (opening : Records) (w : World) (c : ℕ) → IsTree parents
+        → length opening ≡ length parents → Reached parents opening w → c < admits w.past
+        → Obeys parents (take (w.counts c) (alone_of (w.meanings c) opening w.past c).actions) }
+    ensures goes_on { (parents : List ℕ) (opening : Records) (w : World) (c : ℕ) → IsTree parents
+        → length opening ≡ length parents → Reached parents opening w → IsOpen c w.past
+        → (d : ℕ) × (next : Action) × MayTake w d next }
+    ensures tree { (parents : List ℕ) (opening : Records) (w : World) → IsTree parents
+        → length opening ≡ length parents → Reached parents opening w → AllDone w.past
+        → (serial w.meanings (placed parents w.past) opening).tree ≡ records_now w.past opening }
+    ensures replies { (parents : List ℕ) (opening : Records) (w : World) → IsTree parents
+        → length opening ≡ length parents → Reached parents opening w → AllDone w.past
+        → (serial w.meanings (placed parents w.past) opening).replies ≡ map (reply_of w) (placed parents w.past) }
 {}

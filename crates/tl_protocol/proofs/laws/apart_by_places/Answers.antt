@@ -1,5 +1,5 @@
-use Rattle.tl_protocol.proofs.Apart.{apart-between}
+use Rattle.tl_protocol.proofs.Apart.{apart_frees, frees_apart}
 use Rattle.tl_protocol.proofs.laws.apart_by_places.Goals as goal
 
 pub returns : goal.returns
-returns c = λ events apart j k call other x found again lt first second. apart-between events apart j k call other x found again lt first second
+returns c = λ events. (apart_frees events, frees_apart events)

@@ -1,4 +1,4 @@
-use Rattle.tl_protocol.proofs.Holders.{held-holder, holder-held, coming_holder, stuck_holder, holder_stuck}
+use Rattle.tl_protocol.proofs.Holders.{held-holder, holder-held, coming_holder, stuck_holder, holder_stuck, holderless_may_take}
 use Rattle.tl_protocol.proofs.laws.holders.Goals as goal
 
 pub returns-clause-held : goal.returns-clause-held
@@ -12,3 +12,6 @@ returns-clause-stuck c = λ w call x found d sound is_open next holder. holder_s
 
 pub returns-clause-coming : goal.returns-clause-coming
 returns-clause-coming c = λ parents past call x tree legal may. coming_holder parents tree past legal call x may
+
+pub returns-clause-free : goal.returns-clause-free
+returns-clause-free c = λ w call next sound is_open is_next none. holderless_may_take w sound call next is_open is_next none
