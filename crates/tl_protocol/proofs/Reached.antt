@@ -10,12 +10,12 @@ use Rattle.tl_protocol.specs.Actions.{locked_any, with_found, shared_actions, ta
 use Rattle.tl_protocol.specs.History.{part_of, is_done, admits, AllDone, InTurn, records_now}
 use Rattle.tl_protocol.specs.Order.{stands, placed, Agrees}
 use Rattle.tl_protocol.specs.Alone.{Outcome, all_taken, IsAlone, serial}
-use Rattle.tl_protocol.specs.World.{World, alone_of, Genuine, Legal, IsSound, reply_of, MayTake, as_found, moved, admitted, opened, Reached, Opens, Admits, Moves}
+use Rattle.tl_protocol.specs.World.{World, alone_of, Genuine, Legal, IsSound, reply_of, MayTake, as_found, after_step, after_admission, opening_world, Reached, Opens, Admits, Moves}
 use Rattle.tl_protocol.proofs.Placed.{placed-agrees}
 use Rattle.tl_protocol.proofs.Records.{length-with_found}
 use Rattle.tl_protocol.proofs.Alone.{ends_some}
 use Rattle.tl_protocol.proofs.Serial.{alone_local, serial-along}
-use Rattle.tl_protocol.proofs.Steps.{unadmitted, done_other, admits-stored, legal_moved}
+use Rattle.tl_protocol.proofs.Steps.{unadmitted, done_other, admits-past_after, legal_after_step}
 use Rattle.tl_protocol.proofs.Standstill.{sound_history}
 
 -- a call that wasn't admitted isn't done
@@ -31,8 +31,8 @@ unadmitted_done (Done d ∷ past) turn c le =
     rw q (unadmitted_done past turn.1 c le)
 
 -- an admission keeps a world legal
-pub legal_admitted : (w : World) (alone : Records → Outcome) → Legal w → length w.opening ≡ length w.parents → IsAlone w.parents alone → Legal (admitted w alone)
-legal_admitted w alone legal len is_alone = record {
+pub legal_after_admission : (w : World) (alone : Records → Outcome) → Legal w → length w.opening ≡ length w.parents → IsAlone w.parents alone → Legal (after_admission w alone)
+legal_after_admission w alone legal len is_alone = record {
   in_turn = (refl, legal.in_turn);
   apart = legal.apart;
   follows = legal.follows;
@@ -51,31 +51,31 @@ legal_admitted w alone legal len is_alone = record {
 
 -- ---- sound worlds
 
-pub sound_opened : (parents : List ℕ) (opening : Records) (meanings : ℕ → Records → Outcome) → IsTree parents → length opening ≡ length parents → IsSound (opened parents opening meanings)
-sound_opened parents opening meanings tree size = record {
+pub sound_opening : (parents : List ℕ) (opening : Records) (meanings : ℕ → Records → Outcome) → IsTree parents → length opening ≡ length parents → IsSound (opening_world parents opening meanings)
+sound_opening parents opening meanings tree size = record {
   tree = tree;
   size = size;
   meanings = λ c lt. absurd (omega arith);
   legal = record { in_turn = tt; apart = tt; follows = tt; genuine = λ c lt. absurd (omega arith) };
 }
 
-pub sound_admitted : (w : World) (alone : Records → Outcome) → IsSound w → IsAlone w.parents alone → IsSound (admitted w alone)
-sound_admitted w alone sound is_alone = record {
+pub sound_after_admission : (w : World) (alone : Records → Outcome) → IsSound w → IsAlone w.parents alone → IsSound (after_admission w alone)
+sound_after_admission w alone sound is_alone = record {
   tree = sound.tree;
   size = sound.size;
   meanings = λ c lt. elim (cases_eq (admits w.past) c) [
     | inl same ↦ let q = eq-eqb (admits w.past) c same in rw q is_alone
     | inr other ↦ let q = ne_eqb (admits w.past) c other in rw q (sound.meanings c (omega arith))
   ];
-  legal = legal_admitted w alone sound.legal sound.size is_alone;
+  legal = legal_after_admission w alone sound.legal sound.size is_alone;
 }
 
-pub sound_moved : (w : World) (c : ℕ) (next : Action) → IsSound w → MayTake w c next → IsSound (moved w c next)
-sound_moved w c next sound may = record {
+pub sound_after_step : (w : World) (c : ℕ) (next : Action) → IsSound w → MayTake w c next → IsSound (after_step w c next)
+sound_after_step w c next sound may = record {
   tree = sound.tree;
   size = sound.size;
-  meanings = λ d lt. sound.meanings d (subst (λ n. d < n) (admits-stored c (as_found w next) w.past) lt);
-  legal = legal_moved w c next sound.legal sound.size sound.meanings may;
+  meanings = λ d lt. sound.meanings d (subst (λ n. d < n) (admits-past_after c (as_found w next) w.past) lt);
+  legal = legal_after_step w c next sound.legal sound.size sound.meanings may;
 }
 
 -- a world over this shape and these opening records
@@ -86,17 +86,17 @@ pub record IsOver (parents : List ℕ) (opening : Records) (w : World) : Type 0 
 
 -- every world that is reached is sound
 pub reached_sound : (parents : List ℕ) (opening : Records) → IsTree parents → length opening ≡ length parents → (w : World) → Reached parents opening w → IsOver parents opening w
-reached_sound parents opening tree size w (Opens meanings) = record { parents_are = refl; opening_is = refl; sound = sound_opened parents opening meanings tree size }
+reached_sound parents opening tree size w (Opens meanings) = record { parents_are = refl; opening_is = refl; sound = sound_opening parents opening meanings tree size }
 reached_sound parents opening tree size w' (Admits w alone reached is_alone) =
     let old = reached_sound parents opening tree size w reached in
     record {
       parents_are = old.parents_are;
       opening_is = old.opening_is;
-      sound = sound_admitted w alone old.sound (subst (λ ps. IsAlone ps alone) (sym old.parents_are) is_alone);
+      sound = sound_after_admission w alone old.sound (subst (λ ps. IsAlone ps alone) (sym old.parents_are) is_alone);
     }
 reached_sound parents opening tree size w' (Moves w c next reached may) =
     let old = reached_sound parents opening tree size w reached in
-    record { parents_are = old.parents_are; opening_is = old.opening_is; sound = sound_moved w c next old.sound may }
+    record { parents_are = old.parents_are; opening_is = old.opening_is; sound = sound_after_step w c next old.sound may }
 
 -- ---- once all calls are done
 

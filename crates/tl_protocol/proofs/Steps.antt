@@ -11,7 +11,7 @@ use Rattle.tl_protocol.specs.declared.event.Event.TheVariants.{Admit, Lock, Free
 use Rattle.tl_protocol.specs.Actions.{is_end, locked, with_found, shared_actions, taken, Permitted, EachPermitted}
 use Rattle.tl_protocol.specs.History.{part_of, is_done, admits, InTurn, Apart, last_left, Follows, IsLegalHistory}
 use Rattle.tl_protocol.specs.Alone.{Outcome, IsAlone}
-use Rattle.tl_protocol.specs.World.{World, alone_of, Genuine, Legal, IsSound, MayTake, as_found, stored, moved}
+use Rattle.tl_protocol.specs.World.{World, alone_of, Genuine, Legal, IsSound, MayTake, as_found, past_after, after_step}
 use Rattle.tl_protocol.proofs.Parts.{part_of-lock, part_of-free, part_of-done, part_of-other}
 use Rattle.tl_protocol.proofs.Records.{record_at-put_record, length-with_found}
 use Rattle.tl_protocol.proofs.Shared.{locked-shared_actions, obeys_shared}
@@ -100,7 +100,7 @@ own_later w c next is_alone len may n =
 
 -- the call itself after its next action
 own : (w : World) (c : ℕ) (next : Action) → IsAlone w.parents (w.meanings c) → length w.opening ≡ length w.parents → Genuine (w.meanings c) w.opening w.past c (w.counts c) → MayTake w c next
-    → Genuine (w.meanings c) w.opening (stored c (as_found w next) w.past) c (suc (w.counts c))
+    → Genuine (w.meanings c) w.opening (past_after c (as_found w next) w.past) c (suc (w.counts c))
 own w c (A.Lock x r) is_alone len h may = done_lock w.parents (w.meanings c) is_alone w.opening len w.past c (w.counts c) x r (last_left w.past x (record_at w.opening x)) h may.is_open.1 may.is_next
 own w c (A.Read x f n) is_alone len h may = done_next (w.meanings c) w.opening w.past w.past c (w.counts c) (A.Read x f n) h refl may.is_next h.is_part (own_later w c (A.Read x f n) is_alone len may refl)
 own w c (A.Write x f n) is_alone len h may = done_next (w.meanings c) w.opening w.past w.past c (w.counts c) (A.Write x f n) h refl may.is_next h.is_part (own_later w c (A.Write x f n) is_alone len may refl)
@@ -117,39 +117,39 @@ own w c A.End is_alone len h may =
 own w c A.Plain is_alone len h may = done_next (w.meanings c) w.opening w.past w.past c (w.counts c) A.Plain h refl may.is_next h.is_part (own_later w c A.Plain is_alone len may refl)
 
 -- other calls
-done_stored : (c d : ℕ) (a : Action) (past : List Event) → c ≢ d → is_done d (stored c a past) ≡ is_done d past
-done_stored c d (A.Lock x r) past ne = refl
-done_stored c d (A.Read x f n) past ne = refl
-done_stored c d (A.Write x f n) past ne = refl
-done_stored c d (A.Free x left) past ne = refl
-done_stored c d (A.Emit n) past ne = refl
-done_stored c d A.End past ne = let q = ne_eqb c d ne in rw q refl
-done_stored c d A.Plain past ne = refl
+is_done-past_after : (c d : ℕ) (a : Action) (past : List Event) → c ≢ d → is_done d (past_after c a past) ≡ is_done d past
+is_done-past_after c d (A.Lock x r) past ne = refl
+is_done-past_after c d (A.Read x f n) past ne = refl
+is_done-past_after c d (A.Write x f n) past ne = refl
+is_done-past_after c d (A.Free x left) past ne = refl
+is_done-past_after c d (A.Emit n) past ne = refl
+is_done-past_after c d A.End past ne = let q = ne_eqb c d ne in rw q refl
+is_done-past_after c d A.Plain past ne = refl
 
-part_of-stored : (c d : ℕ) (a : Action) (past : List Event) → c ≢ d → part_of d (stored c a past) ≡ part_of d past
-part_of-stored c d (A.Lock x r) past ne = part_of-other (Lock c x r) d past ne
-part_of-stored c d (A.Read x f n) past ne = refl
-part_of-stored c d (A.Write x f n) past ne = refl
-part_of-stored c d (A.Free x left) past ne = part_of-other (Free c x left) d past ne
-part_of-stored c d (A.Emit n) past ne = refl
-part_of-stored c d A.End past ne = part_of-other (Done c) d past ne
-part_of-stored c d A.Plain past ne = refl
+part_of-past_after : (c d : ℕ) (a : Action) (past : List Event) → c ≢ d → part_of d (past_after c a past) ≡ part_of d past
+part_of-past_after c d (A.Lock x r) past ne = part_of-other (Lock c x r) d past ne
+part_of-past_after c d (A.Read x f n) past ne = refl
+part_of-past_after c d (A.Write x f n) past ne = refl
+part_of-past_after c d (A.Free x left) past ne = part_of-other (Free c x left) d past ne
+part_of-past_after c d (A.Emit n) past ne = refl
+part_of-past_after c d A.End past ne = part_of-other (Done c) d past ne
+part_of-past_after c d A.Plain past ne = refl
 
-pub admits-stored : (c : ℕ) (a : Action) (past : List Event) → admits (stored c a past) ≡ admits past
-admits-stored c (A.Lock x r) past = refl
-admits-stored c (A.Read x f n) past = refl
-admits-stored c (A.Write x f n) past = refl
-admits-stored c (A.Free x left) past = refl
-admits-stored c (A.Emit n) past = refl
-admits-stored c A.End past = refl
-admits-stored c A.Plain past = refl
+pub admits-past_after : (c : ℕ) (a : Action) (past : List Event) → admits (past_after c a past) ≡ admits past
+admits-past_after c (A.Lock x r) past = refl
+admits-past_after c (A.Read x f n) past = refl
+admits-past_after c (A.Write x f n) past = refl
+admits-past_after c (A.Free x left) past = refl
+admits-past_after c (A.Emit n) past = refl
+admits-past_after c A.End past = refl
+admits-past_after c A.Plain past = refl
 
 record Rules (opening : Records) (past : List Event) : Type 0 where
   in_turn : InTurn past
   apart : Apart past
   follows : Follows opening past
 
-rules_kept : (w : World) (c : ℕ) (next : Action) → Legal w → MayTake w c next → Rules w.opening (stored c (as_found w next) w.past)
+rules_kept : (w : World) (c : ℕ) (next : Action) → Legal w → MayTake w c next → Rules w.opening (past_after c (as_found w next) w.past)
 rules_kept w c (A.Lock x r) legal may = record { in_turn = (may.is_open, legal.in_turn); apart = (may.is_free, legal.apart); follows = (refl, legal.follows) }
 rules_kept w c (A.Read x f n) legal may = record { in_turn = legal.in_turn; apart = legal.apart; follows = legal.follows }
 rules_kept w c (A.Write x f n) legal may = record { in_turn = legal.in_turn; apart = legal.apart; follows = legal.follows }
@@ -159,8 +159,8 @@ rules_kept w c A.End legal may = record { in_turn = (may.is_open, legal.in_turn)
 rules_kept w c A.Plain legal may = record { in_turn = legal.in_turn; apart = legal.apart; follows = legal.follows }
 
 -- a step keeps a world legal
-pub legal_moved : (w : World) (c : ℕ) (next : Action) → Legal w → length w.opening ≡ length w.parents → ((d : ℕ) → d < admits w.past → IsAlone w.parents (w.meanings d)) → MayTake w c next → Legal (moved w c next)
-legal_moved w c next legal len meanings may =
+pub legal_after_step : (w : World) (c : ℕ) (next : Action) → Legal w → length w.opening ≡ length w.parents → ((d : ℕ) → d < admits w.past → IsAlone w.parents (w.meanings d)) → MayTake w c next → Legal (after_step w c next)
+legal_after_step w c next legal len meanings may =
     let a = as_found w next in
     let r = rules_kept w c next legal may in
     let h = legal.genuine c may.is_open.0 in
@@ -171,11 +171,11 @@ legal_moved w c next legal len meanings may =
       genuine = λ d lt. elim (cases_eq c d) [
         | inl same ↦
             let q = eq-eqb c d same in
-            rw q (subst (λ e. Genuine (w.meanings e) w.opening (stored c a w.past) e (suc (w.counts e))) same (own w c next (meanings c may.is_open.0) len h may))
+            rw q (subst (λ e. Genuine (w.meanings e) w.opening (past_after c a w.past) e (suc (w.counts e))) same (own w c next (meanings c may.is_open.0) len h may))
         | inr other ↦
             let q = ne_eqb c d other in
-            let lt2 : d < admits w.past = subst (λ n. d < n) (admits-stored c a w.past) lt in
-            rw q (done_other (w.meanings d) w.opening w.past (stored c a w.past) d (w.counts d) (legal.genuine d lt2) (part_of-stored c d a w.past other) (done_stored c d a w.past other))
+            let lt2 : d < admits w.past = subst (λ n. d < n) (admits-past_after c a w.past) lt in
+            rw q (done_other (w.meanings d) w.opening w.past (past_after c a w.past) d (w.counts d) (legal.genuine d lt2) (part_of-past_after c d a w.past other) (is_done-past_after c d a w.past other))
       ];
     }
 

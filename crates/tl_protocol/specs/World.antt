@@ -86,30 +86,30 @@ as_found w (A.Lock x found) = A.Lock x (record_now w.past w.opening x)
 as_found w a = a
 
 -- the history after an action of c
-abbrev pub stored : ℕ → Action → List Event → List Event
-stored c (A.Lock x found) past = Lock c x found ∷ past
-stored c (A.Free x left) past = Free c x left ∷ past
-stored c A.End past = Done c ∷ past
-stored c _ past = past
+abbrev pub past_after : ℕ → Action → List Event → List Event
+past_after c (A.Lock x found) past = Lock c x found ∷ past
+past_after c (A.Free x left) past = Free c x left ∷ past
+past_after c A.End past = Done c ∷ past
+past_after c _ past = past
 
 -- the world after c's next action
-abbrev pub moved : World → ℕ → Action → World
-moved w c next = record w {
-  past = stored c (as_found w next) w.past;
+abbrev pub after_step : World → ℕ → Action → World
+after_step w c next = record w {
+  past = past_after c (as_found w next) w.past;
   counts = λ d. if c == d then suc (w.counts d) else w.counts d;
 }
 
 -- the world after an admission of a call that does this alone
-abbrev pub admitted : World → (Records → Outcome) → World
-admitted w alone = record w {
+abbrev pub after_admission : World → (Records → Outcome) → World
+after_admission w alone = record w {
   past = Admit (admits w.past) ∷ w.past;
   meanings = λ d. if admits w.past == d then alone else w.meanings d;
   counts = λ d. if admits w.past == d then 0 else w.counts d;
 }
 
 -- the world before any admission
-abbrev pub opened : List ℕ → Records → (ℕ → Records → Outcome) → World
-opened parents opening meanings = record {
+abbrev pub opening_world : List ℕ → Records → (ℕ → Records → Outcome) → World
+opening_world parents opening meanings = record {
   parents = parents;
   opening = opening;
   meanings = meanings;
@@ -119,8 +119,8 @@ opened parents opening meanings = record {
 
 -- the worlds that admissions and steps lead to
 pub data Reached (parents : List ℕ) (opening : Records) : World → Type 0 where
-  Opens : (meanings : ℕ → Records → Outcome) → Reached parents opening (opened parents opening meanings)
+  Opens : (meanings : ℕ → Records → Outcome) → Reached parents opening (opening_world parents opening meanings)
   Admits : (w : World) (alone : Records → Outcome) → Reached parents opening w → IsAlone parents alone
-      → Reached parents opening (admitted w alone)
+      → Reached parents opening (after_admission w alone)
   Moves : (w : World) (c : ℕ) (next : Action) → Reached parents opening w → MayTake w c next
-      → Reached parents opening (moved w c next)
+      → Reached parents opening (after_step w c next)

@@ -11,7 +11,7 @@ ghost use Rattle.tl_protocol.specs.Obeys.{Obeys, EndsLast};
 ghost use Rattle.tl_protocol.specs.History.{past_of, part_of, IsOpen, AllDone, InTurn, Apart, FreesBetweenLocks, admits, records_now, IsLegalHistory};
 ghost use Rattle.tl_protocol.specs.Order.{placed, placed_after, Agrees};
 ghost use Rattle.tl_protocol.specs.Alone.{Outcome, IsAlone, serial};
-ghost use Rattle.tl_protocol.specs.World.{World, Genuine, Legal, IsSound, IsStuck, IsEnabled, MayTake, Reached, alone_of, next_of, reply_of, opened, admitted, moved};
+ghost use Rattle.tl_protocol.specs.World.{World, Genuine, Legal, IsSound, IsStuck, IsEnabled, MayTake, Reached, alone_of, next_of, reply_of, opening_world, after_admission, after_step};
 ghost use Rattle.tl_protocol.specs.Holders.{holder_of};
 
 // ---- the order
@@ -63,12 +63,12 @@ pub fn no_standstill()
 
 /// Admissions and steps keep a world sound.
 pub fn steps_keep_sound()
-    ensures opened { (parents : List ℕ) (opening : Records) (meanings : ℕ → Records → Outcome) → IsTree parents
-        → length opening ≡ length parents → IsSound (opened parents opening meanings) }
-    ensures admitted { (w : World) (alone : Records → Outcome) → IsSound w → IsAlone w.parents alone
-        → IsSound (admitted w alone) }
-    ensures moved { (w : World) (c : ℕ) (next : Action) → IsSound w → MayTake w c next
-        → IsSound (moved w c next) }
+    ensures opening { (parents : List ℕ) (opening : Records) (meanings : ℕ → Records → Outcome) → IsTree parents
+        → length opening ≡ length parents → IsSound (opening_world parents opening meanings) }
+    ensures admission { (w : World) (alone : Records → Outcome) → IsSound w → IsAlone w.parents alone
+        → IsSound (after_admission w alone) }
+    ensures step { (w : World) (c : ℕ) (next : Action) → IsSound w → MayTake w c next
+        → IsSound (after_step w c next) }
 {}
 
 /// The holder that the history names is the one call that holds the node, and a stuck call waits for it. Only the holders
