@@ -17,4 +17,4 @@ pub mod Permitted
 pub mod Apart
 pub mod Holders
 pub mod Counts
-pub mod Rows
+mod Rows
