@@ -45,12 +45,19 @@ impl Code {
         let count = instrs.len() as u16;
         for position in 0..count {
             let instr = instrs[usize::from(position)];
-            instr.operands_are_in_range();
+            let _cell = instr.cell();
             if instr.target().is_some_and(|target| target > count) {
                 return Err(CodeFault::BadOperand(position));
             }
         }
         Ok(Code { arity, instrs })
+    }
+
+    pub(crate) fn from_parts(arity: Arity, instrs: Vec<Instr>) -> Code
+        requires { IsCode (record { arity = arity; instrs = instrs.items }) }
+        ensures { result ≡ record { arity = arity; instrs = instrs.items } }
+    {
+        Code { arity, instrs }
     }
 
     /// How many arguments a call gives, 0 to 8.

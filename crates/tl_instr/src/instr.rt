@@ -1,5 +1,6 @@
 // The instructions.
 
+use crate::cell::Cell;
 use crate::operand::{Field, NodeRegister, ValueRegister};
 
 /// One instruction. A target is the position that control goes to, counted from 0.
@@ -50,6 +51,7 @@ pub enum Instr {
 impl Instr {
     ghost use Rattle.std.specs.Prelude.{◌≡◌};
     ghost use Rattle.tl_instr.specs.Instructions.{target, InRange};
+    ghost use Rattle.tl_instr.specs.Spelling.{cell_of};
 
     /// The position that control may go to in place of the next one.
     pub fn target(&self) -> Option<u16>
@@ -66,46 +68,39 @@ impl Instr {
         }
     }
 
-    /// Does nothing: a caller's proof learns what the types of the operands say.
-    pub fn operands_are_in_range(&self)
-        ensures { InRange self.now }
+    /// The opcode and the operands: what isn't used is 0.
+    pub(crate) fn cell(&self) -> Cell
+        ensures value { result ≡ cell_of self.now }
+        ensures in_range { InRange self.now }
     {
         match *self {
-            Instr::Set { to, number } => {
-                to.number();
-                let _number = number;
-            }
+            Instr::Set { to, number } => Cell::new(1, to.number(), 0, 0, number.cast_unsigned()),
             Instr::Add {
                 to,
                 left,
                 right,
-                ..
-            } => {
-                to.number();
-                left.number();
-                right.number();
-            }
-            Instr::First { to, number, .. } => {
-                to.number();
-                number.number();
-            }
-            Instr::Release { node } => {
-                node.number();
-            }
+                otherwise,
+            } => Cell::new(
+                3,
+                to.number(),
+                left.number(),
+                right.number(),
+                u32::from(otherwise),
+            ),
+            Instr::First {
+                to,
+                number,
+                otherwise,
+            } => Cell::new(12, to.number(), number.number(), 0, u32::from(otherwise)),
+            Instr::Release { node } => Cell::new(15, node.number(), 0, 0, 0),
             Instr::Get { to, node, field } => {
-                to.number();
-                node.number();
-                field.number();
+                Cell::new(16, to.number(), node.number(), field.number(), 0)
             }
             Instr::Put { node, field, from } => {
-                node.number();
-                field.number();
-                from.number();
+                Cell::new(17, node.number(), field.number(), from.number(), 0)
             }
-            Instr::Emit { from } => {
-                from.number();
-            }
-            Instr::Return => {}
+            Instr::Emit { from } => Cell::new(19, from.number(), 0, 0, 0),
+            Instr::Return => Cell::new(20, 0, 0, 0, 0),
         }
     }
 }
