@@ -5,3 +5,4 @@ pub mod Bytes
 pub mod Walk
 pub mod Laws
 pub mod Read
+pub mod Rows
