@@ -1,5 +1,5 @@
 -- The instruction that a cell names is the one that has this cell, if any has.
-use Rattle.std.proofs.Common.{◌≡◌, ◌≢◌, ℕ, ◌+◌, ◌<◌, ◌≤◌, ◌^◌, Bool, true, eqb, ◌&&◌, not, Option, Some, None, refl, sym, ◌∙◌, ap, arith}
+use Rattle.std.proofs.Common.{◌≡◌, ◌≢◌, ℕ, ◌<◌, ◌≤◌, ◌^◌, Bool, true, eqb, ◌&&◌, not, Option, Some, None, refl, sym, ◌∙◌, ap, arith}
 use Rattle.std.specs.Prelude.{IfSome, IsSomeAnd}
 use Rattle.std.specs.Int.{w32}
 use Rattle.std.proofs.lemmas.Bool.{lt-ltb, eq-eqb, false≢true}
@@ -7,7 +7,7 @@ use Rattle.std.proofs.lemmas.Int.{to_z-of_z}
 use Rattle.tl_instr.specs.declared.cell.Cell.{Cell}
 use Rattle.tl_instr.specs.declared.instr.Instr.{Instr}
 use Rattle.tl_instr.specs.declared.instr.Instr.TheVariants.{Set, Add, First, Release, Get, Put, Emit, Return}
-use Rattle.tl_instr.specs.Instructions.{target, GoesWithin, IsInstr}
+use Rattle.tl_instr.specs.Instructions.{IsInstr}
 use Rattle.tl_instr.specs.Spelling.{cell_of}
 use Rattle.tl_instr.specs.Reading.{below, set_in, add_in, first_in, release_in, get_in, put_in, emit_in, instr_in}
 

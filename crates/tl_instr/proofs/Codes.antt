@@ -1,11 +1,11 @@
 -- What makes a code.
-use Rattle.std.proofs.Common.{◌≡◌, ℕ, ◌+◌, ◌<◌, ◌≤◌, List, length, take, drop, get_or, subst, sym, arith, ◌∙◌, ap}
+use Rattle.std.proofs.Common.{◌≡◌, ℕ, ◌+◌, ◌<◌, ◌≤◌, List, length, take, get_or, subst, arith}
 use Rattle.std.specs.List.{All}
 use Rattle.std.proofs.lemmas.List.{take_all}
 use Rattle.std.proofs.lemmas.List.Elements.{All-more}
 use Rattle.tl_instr.specs.declared.instr.Instr.{Instr}
 use Rattle.tl_instr.specs.Instructions.{InRange, GoesWithin, IsInstr}
-use Rattle.tl_instr.specs.Codes.{CodeValue, IsCode, IsArity}
+use Rattle.tl_instr.specs.Codes.{IsCode, IsArity}
 
 -- one more instruction of the code
 pub one_more : (count : ℕ) (instrs : List Instr) (pc : ℕ) (i : Instr) → pc < length instrs → i ≡ get_or instrs pc i → All (IsInstr count) (take pc instrs) → InRange i → GoesWithin count i → All (IsInstr count) (take (pc + 1) instrs)

@@ -1,8 +1,6 @@
 -- No code has two spellings, no bytes spell two codes, and what is spelled has no fault.
-use Rattle.std.proofs.Common.{◌≡◌, ℕ, zero, suc, ◌+◌, ◌-◌, ◌*◌, ◌^◌, ◌<◌, ◌≤◌, List, [], ◌∷◌, ◌++◌, length, take, drop, get_or, refl, sym, ◌∙◌, ap, subst, arith, inl, inr, length-append}
-use Rattle.std.specs.Prelude.{slice_index, slice_range}
-use Rattle.std.specs.Int.{w16, from_be_bytes}
-use Rattle.std.specs.List.{All, AllByRecursion, flat_map}
+use Rattle.std.proofs.Common.{◌≡◌, ℕ, zero, suc, ◌+◌, ◌-◌, ◌*◌, ◌^◌, ◌<◌, List, [], ◌∷◌, ◌++◌, length, take, drop, get_or, refl, sym, ◌∙◌, ap, subst, arith, inl, inr, length-append}
+use Rattle.std.specs.List.{AllByRecursion, flat_map}
 use Rattle.std.proofs.lemmas.Nat.{from_be_bytes-to_be_bytes_2}
 use Rattle.std.proofs.lemmas.List.{drop_at, take_at, drop-drop}
 use Rattle.std.proofs.lemmas.List.Concat.{flat_map-cons}
@@ -12,7 +10,7 @@ use Rattle.tl_instr.specs.declared.fault.CodeFault.TheVariants.{BadMagic, BadLen
 use Rattle.tl_instr.specs.declared.instr.Instr.{Instr}
 use Rattle.tl_instr.specs.Instructions.{IsInstr}
 use Rattle.tl_instr.specs.Codes.{CodeValue, IsCode, IsCount}
-use Rattle.tl_instr.specs.Faults.{HasMagic, HasArity, HasLength, IsCell, FirstFault, count_at, cell_at}
+use Rattle.tl_instr.specs.Faults.{IsCell, FirstFault, count_at, cell_at}
 use Rattle.tl_instr.specs.Spelling.{instr_bytes, spelling, Spelled}
 use Rattle.tl_instr.proofs.Bytes.{same_instr}
 

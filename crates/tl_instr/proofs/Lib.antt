@@ -6,3 +6,4 @@ pub mod Walk
 pub mod Laws
 pub mod Read
 pub mod Rows
+pub mod OneFault

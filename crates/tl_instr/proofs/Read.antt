@@ -1,6 +1,6 @@
 -- What the walk over a container has read is what the container spells.
-use Rattle.std.proofs.Common.{◌≡◌, ◌≢◌, ℕ, suc, ◌+◌, ◌-◌, ◌*◌, ◌^◌, ◌<◌, ◌≤◌, List, [], ◌∷◌, ◌++◌, length, take, drop, get_or, refl, sym, ◌∙◌, ap, subst, arith, inl, inr}
-use Rattle.std.specs.Prelude.{slice_index, slice_range}
+use Rattle.std.proofs.Common.{◌≡◌, ◌≢◌, ℕ, ◌+◌, ◌<◌, ◌≤◌, List, ◌∷◌, ◌++◌, length, take, drop, get_or, refl, sym, ◌∙◌, ap, subst, arith, inl, inr}
+use Rattle.std.specs.Prelude.{slice_index}
 use Rattle.std.specs.Int.{w16, to_be_bytes}
 use Rattle.std.specs.List.{All, flat_map}
 use Rattle.std.proofs.Math.Seq.{drop-cons}
@@ -13,7 +13,7 @@ use Rattle.tl_instr.specs.declared.instr.Instr.{Instr}
 use Rattle.tl_instr.specs.Instructions.{IsInstr}
 use Rattle.tl_instr.specs.Codes.{CodeValue, IsCode, IsArity, IsCount}
 use Rattle.tl_instr.specs.Faults.{IsFramed, FirstFault, count_at}
-use Rattle.tl_instr.specs.Spelling.{magic, header, instr_bytes, spelling, Spelled}
+use Rattle.tl_instr.specs.Spelling.{magic, header, instr_bytes, Spelled}
 use Rattle.tl_instr.proofs.Laws.{faultless}
 
 -- the two bytes of the count

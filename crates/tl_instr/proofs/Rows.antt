@@ -1,12 +1,12 @@
 -- Worked examples of the definitions.
-use Rattle.std.proofs.Common.{◌≡◌, ◌++◌, List, ℕ, [], ◌∷◌, refl, length, take, drop, Some, None, negsuc, pos}
+use Rattle.std.proofs.Common.{◌≡◌, ◌++◌, List, ℕ, [], ◌∷◌, refl, Some, None, negsuc}
 use Rattle.tl_instr.specs.declared.fault.CodeFault.TheVariants.{BadOperand}
 use Rattle.tl_instr.specs.declared.instr.Instr.TheVariants.{Set, Add, First, Release, Get, Put, Emit, Return}
 use Rattle.tl_instr.specs.Codes.{CodeValue}
 use Rattle.tl_instr.specs.Faults.{numbers_of, count_at, cell_at, opcode_at}
 use Rattle.tl_instr.specs.Instructions.{target}
 use Rattle.tl_instr.specs.Reading.{instr_in, add_in}
-use Rattle.tl_instr.specs.Spelling.{cell, cell_of, instr_bytes, spelling}
+use Rattle.tl_instr.specs.Spelling.{cell, instr_bytes, spelling}
 
 -- first n0 v0 else 6; get v2 n0 0; add v2 v2 v1 else 4; put n0 0 v2; emit v2; rel n0; ret
 abbrev add_code : CodeValue

@@ -1,6 +1,6 @@
 -- Walking over the instructions of a container.
 use Rattle.std.proofs.Common.{◌≡◌, ◌≢◌, ℕ, ◌+◌, ◌-◌, ◌*◌, ◌^◌, ◌<◌, ◌≤◌, List, [], ◌∷◌, ◌++◌, length, take, drop, refl, sym, ◌∙◌, ap, subst, arith, below_more, inl, inr, length-append}
-use Rattle.std.specs.Prelude.{slice_range, slice_index}
+use Rattle.std.specs.Prelude.{slice_index}
 use Rattle.std.specs.List.{All, flat_map}
 use Rattle.std.proofs.Math.Seq.{take-add}
 use Rattle.std.proofs.lemmas.List.{drop-drop, take_all, flat_map_more, length-drop}

@@ -45,6 +45,7 @@ impl Code {
         let count = instrs.len() as u16;
         for position in 0..count {
             let instr = instrs[usize::from(position)];
+            // Its operands are in range by their types: here a proof learns that.
             let _cell = instr.cell();
             if instr.target().is_some_and(|target| target > count) {
                 return Err(CodeFault::BadOperand(position));

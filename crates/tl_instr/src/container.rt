@@ -129,14 +129,14 @@ pub fn encode(alloc: Global, code: &Code) -> Result<Vec<u8>, CodeFault>
     Ok(bytes)
 }
 
-/// The laws of spellings: each code has one, no bytes are the spelling of two codes, and what spells a code has no
-/// fault.
+/// The laws of spellings: each code has one, and no bytes are the spelling of two codes. Bytes have a first fault only
+/// where they spell no code, and no more than one.
 pub fn one_spelling()
     ensures each { (c : CodeValue) → IsCode c → Spelled (spelling c) c }
     ensures one_code { (bytes : List ℕ) (c d : CodeValue) → Spelled bytes c → Spelled bytes d → c ≡ d }
     ensures one_spelling { (a b : List ℕ) (c : CodeValue) → Spelled a c → Spelled b c → a ≡ b }
-    ensures faultless { (bytes : List ℕ) (c : CodeValue) (f : CodeFault) → Spelled bytes c →
-        FirstFault bytes f → ⊥ }
+    ensures faultless { (bytes : List ℕ) (c : CodeValue) (f : CodeFault) → Spelled bytes c → ¬ FirstFault bytes f }
+    ensures one_fault { (bytes : List ℕ) (f g : CodeFault) → FirstFault bytes f → FirstFault bytes g → f ≡ g }
 {}
 
 #[cfg(test)]

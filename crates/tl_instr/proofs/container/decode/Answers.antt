@@ -1,4 +1,4 @@
-use Rattle.std.proofs.Common.{rules, ◌≡◌, refl, arith}
+use Rattle.std.proofs.Common.{arith}
 use Rattle.std.proofs.lemmas.Result.{err_from_is_err_and}
 use Rattle.tl_instr.proofs.Laws.{same_code, faultless}
 use Rattle.tl_instr.proofs.Read.{is_spelled, memory_alone}

@@ -1,4 +1,4 @@
-use Rattle.std.proofs.Common.{rules, true, false, ℕ, ◌≡◌, refl, sym, ◌∙◌}
+use Rattle.std.proofs.Common.{rules, sym, ◌∙◌}
 use Rattle.std.proofs.lemmas.Bool.{false≢true}
 use Rattle.std.proofs.lemmas.Option.{MatchOption-at_none}
 use Rattle.tl_instr.proofs.Walk.{operand_fault, opcode_fault}

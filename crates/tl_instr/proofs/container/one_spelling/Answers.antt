@@ -1,5 +1,6 @@
 use Rattle.std.proofs.Common.{refl, sym, ◌∙◌}
 use Rattle.tl_instr.proofs.Laws.{same_code, faultless}
+use Rattle.tl_instr.proofs.OneFault.{one_fault}
 use Rattle.tl_instr.proofs.container.one_spelling.Goals as goal
 
 pub returns : goal.returns
@@ -8,4 +9,5 @@ returns c = record {
   one_code = same_code;
   one_spelling = λ a b code p q. p.same ∙ sym q.same;
   faultless = faultless;
+  one_fault = one_fault;
 }

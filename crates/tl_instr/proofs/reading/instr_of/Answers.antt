@@ -1,7 +1,5 @@
-use Rattle.std.proofs.Common.{rules, ◌≡◌, ◌<◌, Some, None, subst, sym, ◌∙◌, ap, true}
+use Rattle.std.proofs.Common.{rules, ◌≡◌, ◌<◌, Some, None, subst, sym, ◌∙◌, ap}
 use Rattle.std.specs.Prelude.{IsSomeAnd}
-use Rattle.tl_instr.specs.declared.instr.Instr.{Instr}
-use Rattle.tl_instr.specs.declared.cell.Cell.{Cell}
 use Rattle.tl_instr.specs.Instructions.{target, GoesWithin}
 use Rattle.tl_instr.specs.Reading.{instr_in}
 use Rattle.tl_instr.specs.Spelling.{cell_of}

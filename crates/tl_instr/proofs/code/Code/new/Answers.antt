@@ -1,5 +1,4 @@
-use Rattle.std.proofs.Common.{rules, arith, refl, ◌≤◌}
-use Rattle.std.proofs.lemmas.Grind.{common_steps}
+use Rattle.std.proofs.Common.{rules, refl}
 use Rattle.tl_instr.specs.Instructions.{GoesWithin}
 use Rattle.tl_instr.proofs.Codes.{one_more, is_code}
 use Rattle.tl_instr.proofs.code.Code.new.Goals as goal
