@@ -1,8 +1,9 @@
 //! A code: an arity and instructions, valid by its type.
 
-ghost use Rattle.std.specs.Prelude.{◌≡◌, ◌↔◌, length, slice_get, IsOk, IfOk, IfErr};
+ghost use Rattle.std.specs.Prelude.{◌≡◌, ◌↔◌, length, slice_get, IsOk, IfOk, IfErr, IfSome};
 ghost use Rattle.tl_instr.specs.Codes.{CodeValue, IsCode};
 ghost use Rattle.tl_instr.specs.Faults.{IsFaultOf};
+ghost use Rattle.tl_instr.specs.Instructions.{IsInstr};
 
 use crate::fault::CodeFault;
 use crate::instr::Instr;
@@ -87,6 +88,7 @@ impl Code {
     /// The instruction at a position; there is none at the code's end.
     pub fn instr_at(&self, position: u16) -> Option<Instr>
         ensures value { result ≡ slice_get self.now.instrs position }
+        ensures within { IfSome result (IsInstr (length self.now.instrs)) }
         ensures valid { IsCode self.now }
     {
         self.instrs.get(usize::from(position)).copied()
