@@ -1,0 +1,5 @@
+pub mod Instructions
+pub mod Codes
+pub mod Spelling
+pub mod Faults
+pub mod Reading

@@ -1,0 +1,56 @@
+-- The instruction that a cell names is the one that has this cell, if any has.
+use Rattle.std.proofs.Common.{◌≡◌, ◌≢◌, ℕ, ◌<◌, ◌≤◌, ◌^◌, Bool, true, eqb, ◌&&◌, not, Option, Some, None, refl, sym, ◌∙◌, ap, arith}
+use Rattle.std.specs.Prelude.{IfSome, IsSomeAnd}
+use Rattle.std.specs.Int.{w32}
+use Rattle.std.proofs.lemmas.Bool.{lt-ltb, eq-eqb, false≢true}
+use Rattle.std.proofs.lemmas.Int.{to_z-of_z}
+use Rattle.tl_instr.specs.declared.cell.Cell.{Cell}
+use Rattle.tl_instr.specs.declared.instr.Instr.{Instr}
+use Rattle.tl_instr.specs.declared.instr.Instr.TheVariants.{Set, Add, First, Release, Get, Put, Emit, Return}
+use Rattle.tl_instr.specs.Instructions.{IsInstr}
+use Rattle.tl_instr.specs.Spelling.{cell_of}
+use Rattle.tl_instr.specs.Reading.{below, set_in, add_in, first_in, release_in, get_in, put_in, emit_in, instr_in}
+
+below_is : (limit n : ℕ) → n < limit → below limit n ≡ Some n
+below_is limit n lt = rw (lt-ltb n limit lt) refl
+
+-- an instruction's cell names the instruction
+pub instr_in-cell_of : (count : ℕ) (i : Instr) → count < 2 ^ 16 → IsInstr count i → instr_in (cell_of i) ≡ Some i
+unfolding instr_in set_in add_in first_in release_in get_in put_in emit_in
+instr_in-cell_of count (Set to number) lt h =
+    rw (below_is 16 to h.in_range.0, to_z-of_z w32 number h.in_range.1) refl
+instr_in-cell_of count (Add to left right otherwise) lt h =
+    rw (below_is 16 to h.in_range.0, below_is 16 left h.in_range.1, below_is 16 right h.in_range.2, below_is (2 ^ 16) otherwise (omega (arith, h.goes_within))) refl
+instr_in-cell_of count (First to number otherwise) lt h =
+    rw (below_is 8 to h.in_range.0, below_is 16 number h.in_range.1, below_is (2 ^ 16) otherwise (omega (arith, h.goes_within))) refl
+instr_in-cell_of count (Release node) lt h = rw (below_is 8 node h.in_range) refl
+instr_in-cell_of count (Get to node field) lt h =
+    rw (below_is 16 to h.in_range.0, below_is 8 node h.in_range.1, below_is 4 field h.in_range.2) refl
+instr_in-cell_of count (Put node field from) lt h =
+    rw (below_is 8 node h.in_range.0, below_is 4 field h.in_range.1, below_is 16 from h.in_range.2) refl
+instr_in-cell_of count (Emit from) lt h = rw (below_is 16 from h.in_range) refl
+instr_in-cell_of count Return lt h = refl
+
+-- where a cell names none, none has it
+pub none_has : (count : ℕ) (c : Cell) → count < 2 ^ 16 → instr_in c ≡ None → (i : Instr) → IsInstr count i → cell_of i ≢ c
+none_has count c lt none i h e =
+    let some : instr_in c ≡ Some i = ap instr_in (sym e) ∙ instr_in-cell_of count i lt h in
+    cc
+
+-- where a cell names j, no other has it
+pub no_other_has : (count : ℕ) (c : Cell) (j : Instr) → count < 2 ^ 16 → instr_in c ≡ Some j → (i : Instr) → IsInstr count i → cell_of i ≡ c → i ≡ j
+no_other_has count c j lt named i h e =
+    let some : instr_in c ≡ Some i = ap instr_in (sym e) ∙ instr_in-cell_of count i lt h in
+    cc
+
+same_tests : (a b : Cell) → a ≡ b → (eqb a.opcode b.opcode && (eqb a.x b.x && (eqb a.y b.y && (eqb a.z b.z && eqb a.w b.w)))) ≡ true
+same_tests a b e =
+    rw (eq-eqb a.opcode b.opcode (ap (λ (c : Cell). c.opcode) e), eq-eqb a.x b.x (ap (λ (c : Cell). c.x) e), eq-eqb a.y b.y (ap (λ (c : Cell). c.y) e), eq-eqb a.z b.z (ap (λ (c : Cell). c.z) e), eq-eqb a.w b.w (ap (λ (c : Cell). c.w) e)) refl
+
+-- `!=` doesn't hold of equal cells
+pub never_differ : (a b : Cell) (r : Bool) → r ≡ not (eqb a.opcode b.opcode && (eqb a.x b.x && (eqb a.y b.y && (eqb a.z b.z && eqb a.w b.w)))) → r ≡ true → a ≡ b → ⊥
+never_differ a b r is differs e = false≢true (sym (is ∙ ap not (same_tests a b e)) ∙ differs)
+
+pub within_or_beyond : (o : Option ℕ) (n : ℕ) → IfSome o (λ t. t ≤ n) → IsSomeAnd o (λ t. n < t) → ⊥
+within_or_beyond None n within beyond = beyond
+within_or_beyond (Some t) n within beyond = omega arith

@@ -1,0 +1,72 @@
+-- Walking over the instructions of a container.
+use Rattle.std.proofs.Common.{◌≡◌, ◌≢◌, ℕ, ◌+◌, ◌-◌, ◌*◌, ◌^◌, ◌<◌, ◌≤◌, List, [], ◌∷◌, ◌++◌, length, take, drop, refl, sym, ◌∙◌, ap, subst, arith, below_more, inl, inr, length-append}
+use Rattle.std.specs.Prelude.{slice_index}
+use Rattle.std.specs.List.{All, flat_map}
+use Rattle.std.proofs.Math.Seq.{take-add}
+use Rattle.std.proofs.lemmas.List.{drop-drop, take_all, flat_map_more, length-drop}
+use Rattle.std.proofs.lemmas.List.Elements.{All-push}
+use Rattle.tl_instr.specs.declared.cell.Cell.{Cell}
+use Rattle.tl_instr.specs.declared.fault.CodeFault.{CodeFault}
+use Rattle.tl_instr.specs.declared.fault.CodeFault.TheVariants.{BadOpcode, BadOperand}
+use Rattle.tl_instr.specs.declared.instr.Instr.{Instr}
+use Rattle.tl_instr.specs.Instructions.{IsInstr}
+use Rattle.tl_instr.specs.Faults.{IsFramed, IsOpcode, IsCell, IsFirstBad, IsCellFault, FirstFault, HasLength, count_at, cell_at, opcode_at}
+use Rattle.tl_instr.specs.Spelling.{cell_of, cell_bytes, instr_bytes}
+use Rattle.tl_instr.proofs.Bytes.{no_cell}
+
+-- These instructions stand at the positions below pos.
+pub record Walked (bytes : List ℕ) (count pos : ℕ) (instrs : List Instr) : Type 0 where
+  pub valid : All (IsInstr count) instrs
+  pub counted : length instrs ≡ pos
+  pub spelled : take (8 * pos) (drop 8 bytes) ≡ flat_map instr_bytes instrs
+  pub before : (k : ℕ) → k < pos → IsCell count (cell_at bytes k)
+
+pub none_walked : (bytes : List ℕ) (count : ℕ) → Walked bytes count 0 []
+none_walked bytes count = record {
+  valid = λ k d lt. absurd (omega arith);
+  counted = refl;
+  spelled = refl;
+  before = λ k lt. absurd (omega arith);
+}
+
+-- the bytes at pos come after those before it
+next_bytes : (bytes : List ℕ) (pos : ℕ) → take (8 * (pos + 1)) (drop 8 bytes) ≡ take (8 * pos) (drop 8 bytes) ++ cell_at bytes pos
+next_bytes bytes pos =
+    let more : 8 * (pos + 1) ≡ 8 * pos + 8 = omega arith in
+    let eight : 16 + 8 * pos - (8 + 8 * pos) ≡ 8 = omega arith in
+    rw (more, take-add (8 * pos) 8 (drop 8 bytes), drop-drop (8 * pos) 8 bytes, eight) refl
+
+pub one_walked : (bytes : List ℕ) (count pos : ℕ) (instrs : List Instr) (i : Instr) → Walked bytes count pos instrs → IsInstr count i → instr_bytes i ≡ cell_at bytes pos → Walked bytes count (pos + 1) (instrs ++ i ∷ [])
+one_walked bytes count pos instrs i walked h e = record {
+  valid = All-push (IsInstr count) instrs i walked.valid h;
+  counted = length-append instrs (i ∷ []) ∙ ap (λ (n : ℕ). n + 1) walked.counted;
+  spelled = next_bytes bytes pos ∙ rw (walked.spelled, ← e) (flat_map_more instr_bytes [] instrs i);
+  before = below_more (λ k. IsCell count (cell_at bytes k)) pos walked.before (i, h, e);
+}
+
+pub all_walked : (bytes : List ℕ) (count pos : ℕ) (instrs : List Instr) → count ≤ pos → HasLength bytes → count ≡ count_at bytes → Walked bytes count pos instrs → drop 8 bytes ≡ flat_map instr_bytes instrs
+all_walked bytes count pos instrs le size e walked =
+    let long : length (drop 8 bytes) ≤ 8 * pos = omega (arith, length-drop 8 bytes, size, e) in
+    sym (take_all (8 * pos) (drop 8 bytes) long) ∙ walked.spelled
+
+-- the fault at the first position that has one is the first
+pub first_bad : (bytes : List ℕ) (count pos : ℕ) (f : CodeFault) → IsFramed bytes → count ≡ count_at bytes → pos < count → ((k : ℕ) → k < pos → IsCell count (cell_at bytes k)) → IsCellFault bytes pos f → FirstFault bytes f
+first_bad bytes count pos f framed e lt before fault =
+    let bad : IsFirstBad bytes pos = record { framed = framed; inside = omega arith; before = λ k below. subst (λ (n : ℕ). IsCell n (cell_at bytes k)) e (before k below); here = fault.0 } in
+    elim fault.1 [
+      | inl opcode ↦ subst (FirstFault bytes) (sym opcode.0) (bad, opcode.1)
+      | inr operand ↦ subst (FirstFault bytes) (sym operand.0) (bad, operand.1)
+    ]
+
+cell_opcode : (bytes : List ℕ) (pos : ℕ) (c : Cell) → cell_bytes c ≡ cell_at bytes pos → c.opcode ≡ opcode_at bytes pos
+cell_opcode bytes pos c e = ap (λ (l : List ℕ). slice_index l 0) e
+
+-- no instruction has the cell at pos, and one has its opcode
+pub operand_fault : (bytes : List ℕ) (count pos : ℕ) (c : Cell) → count ≡ count_at bytes → count < 2 ^ 16 → c.w < 2 ^ 32 → cell_bytes c ≡ cell_at bytes pos → ((i : Instr) → IsInstr count i → cell_of i ≢ c) → IsOpcode c.opcode → IsCellFault bytes pos (BadOperand pos)
+operand_fault bytes count pos c counted lt fits e none known =
+    (λ has. no_cell count c (cell_at bytes pos) lt fits e none (subst (λ (n : ℕ). IsCell n (cell_at bytes pos)) (sym counted) has), inr (refl, subst IsOpcode (cell_opcode bytes pos c e) known))
+
+-- no instruction has the cell at pos, nor its opcode
+pub opcode_fault : (bytes : List ℕ) (count pos : ℕ) (c : Cell) → count ≡ count_at bytes → count < 2 ^ 16 → c.w < 2 ^ 32 → cell_bytes c ≡ cell_at bytes pos → ((i : Instr) → IsInstr count i → cell_of i ≢ c) → ¬ IsOpcode c.opcode → IsCellFault bytes pos (BadOpcode pos)
+opcode_fault bytes count pos c counted lt fits e none unknown =
+    (λ has. no_cell count c (cell_at bytes pos) lt fits e none (subst (λ (n : ℕ). IsCell n (cell_at bytes pos)) (sym counted) has), inl (refl, λ known. unknown (subst IsOpcode (sym (cell_opcode bytes pos c e)) known)))

@@ -1,0 +1,88 @@
+-- The faults: their numbers, and which one comes first.
+use Rattle.std.specs.Prelude.{◌≡◌, ◌⊎◌, ℕ, ◌+◌, ◌*◌, ◌<◌, ◌≤◌, List, [], ◌∷◌, length, take, slice_index, slice_range}
+use Rattle.std.specs.Int.{w16, from_be_bytes}
+use Rattle.tl_instr.specs.declared.fault.CodeFault.{CodeFault}
+use Rattle.tl_instr.specs.declared.fault.CodeFault.TheVariants.{BadMagic, BadLength, BadOpcode, BadOperand, BadCount, BadArity, Memory}
+use Rattle.tl_instr.specs.declared.instr.Instr.{Instr}
+use Rattle.tl_instr.specs.Codes.{CodeValue, IsArity, IsCount, IsFirstBeyond}
+use Rattle.tl_instr.specs.Instructions.{IsInstr}
+use Rattle.tl_instr.specs.Spelling.{magic, cell_of, instr_bytes}
+
+-- a fault's number, and then its parts
+abbrev pub numbers_of : CodeFault → List ℕ
+numbers_of BadMagic = 201 ∷ []
+numbers_of BadLength = 202 ∷ []
+numbers_of (BadOpcode pc) = 203 ∷ pc ∷ []
+numbers_of (BadOperand pc) = 204 ∷ pc ∷ []
+numbers_of BadCount = 205 ∷ []
+numbers_of BadArity = 206 ∷ []
+numbers_of Memory = 290 ∷ []
+
+-- The first fault of an arity and of instructions with operands in range: the arity, the count, the first target beyond the code.
+abbrev pub IsFaultOf : CodeValue → CodeFault → Type 0
+IsFaultOf c BadMagic = ⊥
+IsFaultOf c BadLength = ⊥
+IsFaultOf c (BadOpcode pc) = ⊥
+IsFaultOf c (BadOperand pc) = IsArity c.arity × IsCount (length c.instrs) × IsFirstBeyond c.instrs pc
+IsFaultOf c BadCount = IsArity c.arity × ¬ IsCount (length c.instrs)
+IsFaultOf c BadArity = ¬ IsArity c.arity
+IsFaultOf c Memory = ⊥
+
+-- ---- the parts of a container
+
+abbrev pub HasMagic : List ℕ → Type 0
+HasMagic bytes = take 4 bytes ≡ magic
+
+-- the arity, and the 0 after it
+abbrev pub HasArity : List ℕ → Type 0
+HasArity bytes = IsArity (slice_index bytes 4) × (slice_index bytes 5 ≡ 0)
+
+abbrev pub count_at : List ℕ → ℕ
+count_at bytes = from_be_bytes w16 (slice_range bytes 6 8)
+
+abbrev pub HasLength : List ℕ → Type 0
+HasLength bytes = length bytes ≡ 8 + 8 * count_at bytes
+
+-- the eight bytes of the instruction at pc
+abbrev pub cell_at : List ℕ → ℕ → List ℕ
+cell_at bytes pc = slice_range bytes (8 + 8 * pc) (16 + 8 * pc)
+
+-- the opcode of an instruction
+abbrev pub IsOpcode : ℕ → Type 0
+IsOpcode n = (i : Instr) × ((cell_of i).opcode ≡ n)
+
+-- the bytes of an instruction of a code of that many
+abbrev pub IsCell : ℕ → List ℕ → Type 0
+IsCell count bytes = (i : Instr) × IsInstr count i × (instr_bytes i ≡ bytes)
+
+-- The bytes before the instructions are right, and there is room for each of them.
+pub record IsFramed (bytes : List ℕ) : Type 0 where
+  pub magic : HasMagic bytes
+  pub header : 8 ≤ length bytes
+  pub arity : HasArity bytes
+  pub count : IsCount (count_at bytes)
+  pub size : HasLength bytes
+
+abbrev pub opcode_at : List ℕ → ℕ → ℕ
+opcode_at bytes pc = slice_index (cell_at bytes pc) 0
+
+-- No instruction's bytes stand at pc, and one's at each position before it.
+pub record IsFirstBad (bytes : List ℕ) (pc : ℕ) : Type 0 where
+  pub framed : IsFramed bytes
+  pub inside : pc < count_at bytes
+  pub before : (k : ℕ) → k < pc → IsCell (count_at bytes) (cell_at bytes k)
+  pub here : ¬ IsCell (count_at bytes) (cell_at bytes pc)
+
+-- The first fault of bytes that are no container.
+abbrev pub FirstFault : List ℕ → CodeFault → Type 0
+FirstFault bytes BadMagic = ¬ HasMagic bytes
+FirstFault bytes BadLength = HasMagic bytes × ((length bytes < 8) ⊎ ((8 ≤ length bytes) × HasArity bytes × IsCount (count_at bytes) × ¬ HasLength bytes))
+FirstFault bytes BadArity = HasMagic bytes × (8 ≤ length bytes) × ¬ HasArity bytes
+FirstFault bytes BadCount = HasMagic bytes × (8 ≤ length bytes) × HasArity bytes × ¬ IsCount (count_at bytes)
+FirstFault bytes (BadOpcode pc) = IsFirstBad bytes pc × ¬ IsOpcode (opcode_at bytes pc)
+FirstFault bytes (BadOperand pc) = IsFirstBad bytes pc × IsOpcode (opcode_at bytes pc)
+FirstFault bytes Memory = ⊥
+
+-- what is wrong with the bytes at pc alone
+abbrev pub IsCellFault : List ℕ → ℕ → CodeFault → Type 0
+IsCellFault bytes pc f = ¬ IsCell (count_at bytes) (cell_at bytes pc) × (((f ≡ BadOpcode pc) × ¬ IsOpcode (opcode_at bytes pc)) ⊎ ((f ≡ BadOperand pc) × IsOpcode (opcode_at bytes pc)))

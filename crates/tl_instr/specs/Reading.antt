@@ -1,0 +1,81 @@
+-- The instruction that a cell's opcode and the operands which that opcode uses name.
+use Rattle.std.specs.Prelude.{ℕ, ◌^◌, Option, Some, None, option_and_then, nat_lt, ◌==◌, if◌then◌else◌}
+use Rattle.std.specs.Int.{w32, cast_signed}
+use Rattle.tl_instr.specs.declared.cell.Cell.{Cell}
+use Rattle.tl_instr.specs.declared.instr.Instr.{Instr}
+use Rattle.tl_instr.specs.declared.instr.Instr.TheVariants.{Set, Add, First, Release, Get, Put, Emit, Return}
+
+infixl 10 ◌>>=◌
+abbrev pub ◌>>=◌ : {A B : Type 0} → Option A → (A → Option B) → Option B
+o >>= f = option_and_then f o
+
+abbrev pub below : ℕ → ℕ → Option ℕ
+below limit n = if nat_lt n limit then Some n else None
+
+abbrev pub value_register : ℕ → Option ℕ
+value_register n = below 16 n
+
+abbrev pub node_register : ℕ → Option ℕ
+node_register n = below 8 n
+
+abbrev pub field : ℕ → Option ℕ
+field n = below 4 n
+
+abbrev pub position : ℕ → Option ℕ
+position n = below (2 ^ 16) n
+
+unfoldable pub set_in : Cell → Option Instr
+set_in c = do
+  to ← value_register c.x
+  Some (Set to (cast_signed w32 c.w))
+
+unfoldable pub add_in : Cell → Option Instr
+add_in c = do
+  to ← value_register c.x
+  left ← value_register c.y
+  right ← value_register c.z
+  otherwise ← position c.w
+  Some (Add to left right otherwise)
+
+unfoldable pub first_in : Cell → Option Instr
+first_in c = do
+  to ← node_register c.x
+  number ← value_register c.y
+  otherwise ← position c.w
+  Some (First to number otherwise)
+
+unfoldable pub release_in : Cell → Option Instr
+release_in c = do
+  node ← node_register c.x
+  Some (Release node)
+
+unfoldable pub get_in : Cell → Option Instr
+get_in c = do
+  to ← value_register c.x
+  node ← node_register c.y
+  from ← field c.z
+  Some (Get to node from)
+
+unfoldable pub put_in : Cell → Option Instr
+put_in c = do
+  node ← node_register c.x
+  to ← field c.y
+  from ← value_register c.z
+  Some (Put node to from)
+
+unfoldable pub emit_in : Cell → Option Instr
+emit_in c = do
+  from ← value_register c.x
+  Some (Emit from)
+
+unfoldable pub instr_in : Cell → Option Instr
+instr_in c =
+    if c.opcode == 1 then set_in c
+    else (if c.opcode == 3 then add_in c
+    else (if c.opcode == 12 then first_in c
+    else (if c.opcode == 15 then release_in c
+    else (if c.opcode == 16 then get_in c
+    else (if c.opcode == 17 then put_in c
+    else (if c.opcode == 19 then emit_in c
+    else (if c.opcode == 20 then Some Return
+    else None)))))))

@@ -1,0 +1,44 @@
+-- The container's bytes: the one spelling of each code.
+use Rattle.std.specs.Prelude.{◌≡◌, ℕ, List, [], ◌∷◌, ◌++◌, length}
+use Rattle.std.specs.List.{flat_map}
+use Rattle.std.specs.Int.{w16, w32, cast_unsigned, to_be_bytes}
+use Rattle.tl_instr.specs.declared.cell.Cell.{Cell}
+use Rattle.tl_instr.specs.declared.instr.Instr.{Instr}
+use Rattle.tl_instr.specs.declared.instr.Instr.TheVariants.{Set, Add, First, Release, Get, Put, Emit, Return}
+use Rattle.tl_instr.specs.Codes.{CodeValue, IsCode}
+
+abbrev pub cell : ℕ → ℕ → ℕ → ℕ → ℕ → Cell
+cell opcode x y z w = record { opcode = opcode; x = x; y = y; z = z; w = w }
+
+-- An instruction's opcode and operands: a register, a field or a target is its number, and what isn't used is 0.
+abbrev pub cell_of : Instr → Cell
+cell_of (Set to number) = cell 1 to 0 0 (cast_unsigned w32 number)
+cell_of (Add to left right otherwise) = cell 3 to left right otherwise
+cell_of (First to number otherwise) = cell 12 to number 0 otherwise
+cell_of (Release node) = cell 15 node 0 0 0
+cell_of (Get to node field) = cell 16 to node field 0
+cell_of (Put node field from) = cell 17 node field from 0
+cell_of (Emit from) = cell 19 from 0 0 0
+cell_of Return = cell 20 0 0 0 0
+
+-- eight bytes, of which w has four
+abbrev pub cell_bytes : Cell → List ℕ
+cell_bytes c = (c.opcode ∷ c.x ∷ c.y ∷ c.z ∷ []) ++ to_be_bytes w32 c.w
+
+abbrev pub instr_bytes : Instr → List ℕ
+instr_bytes i = cell_bytes (cell_of i)
+
+-- `TLP1`
+abbrev pub magic : List ℕ
+magic = 0x54 ∷ 0x4C ∷ 0x50 ∷ 0x31 ∷ []
+
+abbrev pub header : ℕ → ℕ → List ℕ
+header arity count = magic ++ (arity ∷ 0 ∷ []) ++ to_be_bytes w16 count
+
+abbrev pub spelling : CodeValue → List ℕ
+spelling c = header c.arity (length c.instrs) ++ flat_map instr_bytes c.instrs
+
+-- the bytes are the container of that code
+pub record Spelled (bytes : List ℕ) (c : CodeValue) : Type 0 where
+  pub valid : IsCode c
+  pub same : bytes ≡ spelling c

@@ -1,0 +1,143 @@
+//! The container: a code as bytes.
+
+ghost use Rattle.std.specs.Prelude.{◌≡◌, ◌≢◌, ℕ, List, ◌+◌, ◌*◌, ◌<◌, ◌≤◌, length, drop, slice_index, IfOk, IfErr, MatchResult};
+ghost use Rattle.std.specs.List.{All, flat_map};
+ghost use Rattle.tl_instr.specs.Codes.{CodeValue, IsCode};
+ghost use Rattle.tl_instr.specs.Faults.{IsFramed, IsCellFault, FirstFault, count_at, cell_at};
+ghost use Rattle.tl_instr.specs.Instructions.{IsInstr};
+ghost use Rattle.tl_instr.specs.Spelling.{Spelled, spelling, instr_bytes};
+
+use crate::cell::Cell;
+use crate::code::{Code, MAX_COUNT};
+use crate::fault::CodeFault;
+use crate::instr::Instr;
+use crate::operand::Arity;
+use crate::reading;
+use std::alloc::Global;
+
+/// What a container begins with.
+const MAGIC: [u8; 4] = *b"TLP1";
+
+/// How many bytes stand before the instructions.
+const HEADER_SIZE: usize = 8;
+
+#[derive(Drop)]
+struct Header {
+    arity: Arity,
+    count: u16,
+}
+
+/// What stands before the instructions, where the bytes are as many as it says.
+fn header_of(bytes: &[u8]) -> Result<Header, CodeFault>
+    ensures { MatchResult result
+        (λ h. IsFramed bytes.now × (h.arity ≡ slice_index bytes.now 4) × (h.count ≡ count_at bytes.now))
+        (FirstFault bytes.now) }
+{
+    if !bytes.starts_with(&MAGIC) {
+        return Err(CodeFault::BadMagic);
+    }
+    if bytes.len() < HEADER_SIZE {
+        return Err(CodeFault::BadLength);
+    }
+    let arity = Arity::new(bytes[4]).ok_or(CodeFault::BadArity)?;
+    if bytes[5] != 0 {
+        return Err(CodeFault::BadArity);
+    }
+    let count = u16::from_be_bytes([bytes[6], bytes[7]]);
+    if count == 0 || usize::from(count) > MAX_COUNT {
+        return Err(CodeFault::BadCount);
+    }
+    if bytes.len() != HEADER_SIZE + Cell::SIZE * usize::from(count) {
+        return Err(CodeFault::BadLength);
+    }
+    Ok(Header { arity, count })
+}
+
+/// The instruction at a position.
+fn instr_at(bytes: &[u8], count: u16, position: u16) -> Result<Instr, CodeFault>
+    requires framed { IsFramed bytes.now }
+    requires counted { count ≡ count_at bytes.now }
+    requires inside { position < count }
+    ensures { MatchResult result
+        (λ i. IsInstr count i × (instr_bytes i ≡ cell_at bytes.now position))
+        (IsCellFault bytes.now position) }
+{
+    let start = HEADER_SIZE + Cell::SIZE * usize::from(position);
+    let cell = Cell::from_bytes(&bytes[start..start + Cell::SIZE]);
+    if let Some(instr) = reading::instr_of(cell, count) {
+        return Ok(instr);
+    }
+    if reading::is_opcode(cell.opcode) {
+        Err(CodeFault::BadOperand(position))
+    } else {
+        Err(CodeFault::BadOpcode(position))
+    }
+}
+
+/// The instructions after the header.
+fn instrs_of(alloc: Global, bytes: &[u8], count: u16) -> Result<Vec<Instr>, CodeFault>
+    requires framed { IsFramed bytes.now }
+    requires counted { count ≡ count_at bytes.now }
+    ensures valid { IfOk result (λ v. All (IsInstr count) v.items × (length v.items ≡ count)) }
+    ensures spelled { IfOk result (λ v. drop 8 bytes.now ≡ flat_map instr_bytes v.items) }
+    ensures fault { IfErr result (λ f. f ≢ CodeFault.Memory → FirstFault bytes.now f) }
+{
+    let mut instrs = Vec::with_capacity(alloc, usize::from(count))?;
+    for position in 0..count {
+        instrs.push(instr_at(bytes, count, position)?)?;
+    }
+    Ok(instrs)
+}
+
+/// The code that the bytes spell, all of the bytes.
+///
+/// The first of these faults: 201 where the first four bytes aren't `TLP1`; 202 where there are fewer than 8 bytes;
+/// 206 where the arity is above 8, or the byte after it isn't 0; 205 where the count isn't 1 to 1,024; 202 where the
+/// bytes aren't 8, and 8 an instruction; and then at the first position whose eight bytes are no instruction's, 203
+/// where no instruction has that opcode, and else 204. 290 where memory is refused.
+pub fn decode(alloc: Global, bytes: &[u8]) -> Result<Code, CodeFault>
+    // What is read is spelled so.
+    ensures found { IfOk result (λ code. Spelled bytes.now code) }
+    // What is spelled so is read, unless memory is refused.
+    ensures only { (c : CodeValue) → Spelled bytes.now c → MatchResult result
+        (λ code. code ≡ c)
+        (λ f. f ≡ CodeFault.Memory) }
+    // Which fault it is.
+    ensures fault { IfErr result (λ f. f ≢ CodeFault.Memory → FirstFault bytes.now f) }
+{
+    let Header { arity, count } = header_of(bytes)?;
+    let instrs = instrs_of(alloc, bytes, count)?;
+    Ok(Code::from_parts(arity, instrs))
+}
+
+/// The one spelling of the code.
+///
+/// 290 where memory is refused.
+pub fn encode(alloc: Global, code: &Code) -> Result<Vec<u8>, CodeFault>
+    ensures spelled { IfOk result (λ bytes. Spelled bytes.items code.now) }
+    ensures memory { IfErr result (λ f. f ≡ CodeFault.Memory) }
+{
+    let count = code.count();
+    let size = HEADER_SIZE + Cell::SIZE * usize::from(count);
+    let mut bytes = Vec::with_capacity(alloc, size)?;
+    bytes.extend_from_slice(&MAGIC)?;
+    bytes.extend_from_slice(&[code.arity().number(), 0])?;
+    bytes.extend_from_slice(&count.to_be_bytes())?;
+    for instr in code.instrs() {
+        bytes.extend_from_slice(&instr.cell().to_bytes())?;
+    }
+    Ok(bytes)
+}
+
+/// The laws of spellings: each code has one, and no bytes are the spelling of two codes. Bytes have a first fault only
+/// where they spell no code, and no more than one.
+pub fn one_spelling()
+    ensures each { (c : CodeValue) → IsCode c → Spelled (spelling c) c }
+    ensures one_code { (bytes : List ℕ) (c d : CodeValue) → Spelled bytes c → Spelled bytes d → c ≡ d }
+    ensures one_spelling { (a b : List ℕ) (c : CodeValue) → Spelled a c → Spelled b c → a ≡ b }
+    ensures faultless { (bytes : List ℕ) (c : CodeValue) (f : CodeFault) → Spelled bytes c → ¬ FirstFault bytes f }
+    ensures one_fault { (bytes : List ℕ) (f g : CodeFault) → FirstFault bytes f → FirstFault bytes g → f ≡ g }
+{}
+
+#[cfg(test)]
+mod tests;

@@ -1,0 +1,77 @@
+//! Why bytes or instructions are no code.
+
+ghost use Rattle.std.specs.Prelude.{◌≡◌};
+ghost use Rattle.tl_instr.specs.declared.fault.CodeFault.TheVariants.{Memory};
+
+use arrayvec::ArrayVec;
+use std::alloc::{AllocError, AllocFailed};
+use thiserror::Error;
+
+/// What is wrong with a code, or with the bytes of its container.
+#[derive(Clone, Copy, Debug, PartialEq, Eq, Error)]
+pub enum CodeFault {
+    /// 201: the bytes don't begin with `TLP1`.
+    #[error("the bytes don't begin with TLP1")]
+    BadMagic,
+    /// 202: the header ends early, or the bytes aren't as many as the count says.
+    #[error("the container's length is wrong")]
+    BadLength,
+    /// 203: the language has no such opcode, at this position.
+    #[error("no such opcode at position {0}")]
+    BadOpcode(u16),
+    /// 204: an operand is out of its range, or an unused one isn't 0, at this position.
+    #[error("a bad operand at position {0}")]
+    BadOperand(u16),
+    /// 205: there are not 1 to 1,024 instructions.
+    #[error("a code has 1 to 1024 instructions")]
+    BadCount,
+    /// 206: the arity is above 8, or the byte after it isn't 0.
+    #[error("a procedure takes 0 to 8 arguments")]
+    BadArity,
+    /// 290: memory was refused.
+    #[error("out of memory")]
+    Memory,
+}
+
+impl CodeFault {
+    ghost use Rattle.tl_instr.specs.Faults.{numbers_of};
+
+    /// The fault's number, and then the position where it has one.
+    pub fn numbers(&self) -> ArrayVec<u64, 2>
+        ensures { result.items ≡ numbers_of self.now }
+    {
+        let mut numbers = ArrayVec::new();
+        match *self {
+            CodeFault::BadMagic => numbers.push(201),
+            CodeFault::BadLength => numbers.push(202),
+            CodeFault::BadOpcode(position) => {
+                numbers.push(203);
+                numbers.push(u64::from(position));
+            }
+            CodeFault::BadOperand(position) => {
+                numbers.push(204);
+                numbers.push(u64::from(position));
+            }
+            CodeFault::BadCount => numbers.push(205),
+            CodeFault::BadArity => numbers.push(206),
+            CodeFault::Memory => numbers.push(290),
+        }
+        numbers
+    }
+}
+
+impl From<AllocError> for CodeFault {
+    ghost from_gives = { λ _ e. e ≡ Memory };
+
+    fn from(_error: AllocError) -> CodeFault {
+        CodeFault::Memory
+    }
+}
+
+impl<T: Drop> From<AllocFailed<T>> for CodeFault {
+    ghost from_gives = { λ _ e. e ≡ Memory };
+
+    fn from(_error: AllocFailed<T>) -> CodeFault {
+        CodeFault::Memory
+    }
+}
