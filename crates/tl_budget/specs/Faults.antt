@@ -1,0 +1,23 @@
+-- The numbers of a fault, and when the costs are too high.
+use Rattle.std.specs.Prelude.{ℕ, ◌<◌, ◌≤◌, List, [], ◌∷◌}
+use Rattle.tl_instr.specs.declared.instr.Instr.{Instr}
+use Rattle.tl_budget.specs.declared.fault.NestFault.{NestFault}
+use Rattle.tl_budget.specs.declared.fault.NestFault.TheVariants.{StepsOver, LocksOver, EmitsOver}
+use Rattle.tl_budget.specs.Loops.{budget, lock_bound, emit_bound}
+
+abbrev pub numbers_of : NestFault → List ℕ
+numbers_of StepsOver = 305 ∷ []
+numbers_of LocksOver = 306 ∷ []
+numbers_of EmitsOver = 307 ∷ []
+
+-- what a procedure may cost
+pub record IsWithinLimits (code : List Instr) : Type 0 where
+  pub steps : budget code ≤ 1000000
+  pub locks : lock_bound code ≤ 4096
+  pub emits : emit_bound code ≤ 32
+
+-- the first limit that is broken: of the steps, then of the locks, then of the emitted values
+abbrev pub IsOver : List Instr → NestFault → Type 0
+IsOver code StepsOver = 1000000 < budget code
+IsOver code LocksOver = (budget code ≤ 1000000) × (4096 < lock_bound code)
+IsOver code EmitsOver = (budget code ≤ 1000000) × (lock_bound code ≤ 4096) × (32 < emit_bound code)

@@ -1,0 +1,6 @@
+//! Loops, and what a procedure costs at most.
+#![tactic(auto)]
+
+pub mod fault;
+pub mod limits;
+pub mod sums;

@@ -1,0 +1,18 @@
+// What a procedure may cost.
+
+pub const MAX_STEPS: u32 = 1_000_000;
+
+pub const MAX_LOCKS: u16 = 4_096;
+
+pub const MAX_EMITS: u8 = 32;
+
+/// What a call does at most, whatever its arguments and the tree.
+#[derive(Clone, Copy, Debug, PartialEq, Eq)]
+pub struct Bounds {
+    /// How many instructions, up to 1,000,000.
+    pub steps: u32,
+    /// How many nodes it locks, up to 4,096.
+    pub locks: u16,
+    /// How many values it emits, up to 32.
+    pub emits: u8,
+}

@@ -1,0 +1,10 @@
+pub mod Accepting
+pub mod Alike
+pub mod Comes
+pub mod Fitting
+pub mod Gathering
+pub mod Jumping
+pub mod Knowing
+pub mod Objecting
+pub mod Settling
+pub mod Walking

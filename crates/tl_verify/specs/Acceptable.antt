@@ -1,0 +1,49 @@
+-- Which codes are accepted.
+use Rattle.std.specs.Prelude.{◌≡◌, ℕ, ◌<◌, ◌≤◌, List, true, false, Option, Some, None, length, slice_get, get_or}
+use Rattle.tl_instr.specs.declared.instr.Instr.{Instr}
+use Rattle.tl_instr.specs.Instructions.{target}
+use Rattle.tl_budget.specs.Loops.{Loop, Matched, IsAround, around, budget, lock_bound, emit_bound}
+use Rattle.tl_verify.specs.declared.marks.Marks.{Marks}
+use Rattle.tl_verify.specs.Marks.{is_held, entry, source, destination, is_first, is_return, Leads}
+
+-- the registers are as the instruction wants them
+pub record Allows (i : Instr) (m : Marks) : Type 0 where
+  pub held : (n : ℕ) → source i ≡ Some n → is_held m n ≡ true
+  pub empty : (n : ℕ) → destination i ≡ Some n → is_held m n ≡ false
+  pub is_open : is_first i ≡ true → m.is_open ≡ true
+  pub returns : is_return i ≡ true → (n : ℕ) → is_held m n ≡ false
+
+-- The position lies in the code and has those marks, except that first may have become spent.
+pub record Arrives (code : List Instr) (list : List (Option Marks)) (to : ℕ) (m : Marks) : Type 0 where
+  pub inside : to < length code
+  pub marks : Marks
+  pub there : get_or list to None ≡ Some marks
+  pub held : marks.held ≡ m.held
+  pub is_open : marks.is_open ≡ true → m.is_open ≡ true
+
+-- The list gives some positions marks: position 0 those of the start, and where a position has marks,
+-- its instruction is allowed, and control finds the marks that it brings wherever it may go.
+pub record Fits (code : List Instr) (list : List (Option Marks)) : Type 0 where
+  pub start : get_or list 0 None ≡ Some entry
+  pub allows : (p : ℕ) (i : Instr) (m : Marks) → slice_get code p ≡ Some i → get_or list p None ≡ Some m → Allows i m
+  pub arrives : (p : ℕ) (i : Instr) (m : Marks) → slice_get code p ≡ Some i → get_or list p None ≡ Some m
+      → (to : ℕ) (k : Marks) → Leads code i p m to k → Arrives code list to k
+
+-- the registers fit
+pub record HasFit (code : List Instr) : Type 0 where
+  pub list : List (Option Marks)
+  pub fits : Fits code list
+
+-- Loops match, nest at most four deep, and jumps go ahead, stay in the code and enter no loop;
+-- the sums of the weights are within the limits; and the registers fit.
+pub record Acceptable (code : List Instr) : Type 0 where
+  pub matched : Matched code
+  pub deep : (p : ℕ) → length (around code p) ≤ 4
+  pub ahead : (p l : ℕ) (i : Instr) → slice_get code p ≡ Some i → target i ≡ Some l → p < l
+  pub inside : (p l : ℕ) (i : Instr) → slice_get code p ≡ Some i → target i ≡ Some l → l < length code
+  pub into_none : (p l : ℕ) (i : Instr) → slice_get code p ≡ Some i → target i ≡ Some l
+      → (o : ℕ) (k : Loop) → IsAround code o k l → IsAround code o k p
+  pub steps : budget code ≤ 1000000
+  pub locks : lock_bound code ≤ 4096
+  pub emits : emit_bound code ≤ 32
+  pub registers : HasFit code

@@ -1,0 +1,113 @@
+-- What may be found wrong with a code, and what comes first.
+use Rattle.std.specs.Prelude.{◌≡◌, ◌≢◌, ◌⊎◌, ℕ, ◌+◌, ◌<◌, ◌≤◌, List, true, false, Some, length, slice_get}
+use Rattle.tl_instr.specs.declared.instr.Instr.{Instr}
+use Rattle.tl_instr.specs.Instructions.{target}
+use Rattle.tl_budget.specs.Loops.{budget, lock_bound, emit_bound}
+use Rattle.tl_budget.specs.declared.fault.NestFault.TheVariants as nest
+use Rattle.tl_verify.specs.declared.marks.Marks.{Marks}
+use Rattle.tl_verify.specs.declared.fault.VerifyFault.{VerifyFault}
+use Rattle.tl_verify.specs.declared.fault.VerifyFault.TheVariants as fault
+use Rattle.tl_verify.specs.Marks.{is_held, source, destination, is_first, is_return, goes_on}
+use Rattle.tl_verify.specs.Ways.{Way}
+
+pub data Finding : Type 0 where
+  -- of a target
+  TargetBack : (p : ℕ) → Finding
+  TargetPastEnd : (p : ℕ) → Finding
+  -- of the registers at a position that control may come to
+  Joined : (p : ℕ) → Finding
+  Spent : (p : ℕ) → Finding
+  Missing : (p n : ℕ) → Finding
+  Taken : (p n : ℕ) → Finding
+  LeftHeld : (p n : ℕ) → Finding
+  NextPastEnd : (p : ℕ) → Finding
+  -- of the sums
+  Steps : Finding
+  Locks : Finding
+  Emits : Finding
+
+-- control may come to the instruction at p with these marks
+pub record Meets (code : List Instr) (p : ℕ) (i : Instr) (m : Marks) : Type 0 where
+  pub at : slice_get code p ≡ Some i
+  pub way : Way code p m
+
+-- A finding arises.
+abbrev pub Arises : List Instr → Finding → Type 0
+-- the target is at or before the jump, or past the end, at any instruction
+Arises code (TargetBack p) = (i : Instr) × (l : ℕ) × (slice_get code p ≡ Some i) × (target i ≡ Some l) × (l ≤ p)
+Arises code (TargetPastEnd p) = (i : Instr) × (l : ℕ) × (slice_get code p ≡ Some i) × (target i ≡ Some l) × (length code ≤ l)
+-- two ways differ in what they hold
+Arises code (Joined p) = (i : Instr) × (m k : Marks) × Meets code p i m × Meets code p i k × (m.held ≢ k.held)
+-- first, spent in some way
+Arises code (Spent p) = (i : Instr) × (m : Marks) × Meets code p i m × (is_first i ≡ true) × (m.is_open ≡ false)
+-- a register that has to hold a node is empty
+Arises code (Missing p n) = (i : Instr) × (m : Marks) × Meets code p i m × (source i ≡ Some n) × (is_held m n ≡ false)
+-- a register that takes a node holds one
+Arises code (Taken p n) = (i : Instr) × (m : Marks) × Meets code p i m × (destination i ≡ Some n) × (is_held m n ≡ true)
+-- the call ends while a register holds a node: the least such
+Arises code (LeftHeld p n) = (i : Instr) × (m : Marks) × Meets code p i m × (is_return i ≡ true) × (is_held m n ≡ true) × ((k : ℕ) → k < n → is_held m k ≡ false)
+-- control goes on past the end
+Arises code (NextPastEnd p) = (i : Instr) × (m : Marks) × Meets code p i m × (goes_on i ≡ true) × (length code ≤ p + 1)
+-- the sums are above their limits
+Arises code Steps = 1000000 < budget code
+Arises code Locks = 4096 < lock_bound code
+Arises code Emits = 32 < emit_bound code
+
+-- what is looked at first: targets, then registers, then sums
+abbrev pub pass : Finding → ℕ
+pass (TargetBack p) = 0
+pass (TargetPastEnd p) = 0
+pass Steps = 2
+pass Locks = 2
+pass Emits = 2
+pass f = 1
+
+-- in one pass the least position comes first
+abbrev pub position : Finding → ℕ
+position (TargetBack p) = p
+position (TargetPastEnd p) = p
+position (Joined p) = p
+position (Spent p) = p
+position (Missing p n) = p
+position (Taken p n) = p
+position (LeftHeld p n) = p
+position (NextPastEnd p) = p
+position f = 0
+
+-- and at one position, or of the sums, this order
+abbrev pub rank : Finding → ℕ
+rank (TargetBack p) = 0
+rank (TargetPastEnd p) = 1
+rank (Joined p) = 0
+rank (Spent p) = 1
+rank (Missing p n) = 2
+rank (Taken p n) = 3
+rank (LeftHeld p n) = 4
+rank (NextPastEnd p) = 5
+rank Steps = 0
+rank Locks = 1
+rank Emits = 2
+
+-- one finding comes before another
+abbrev pub Precedes : Finding → Finding → Type 0
+Precedes f g = (pass f < pass g) ⊎ ((pass f ≡ pass g) × ((position f < position g) ⊎ ((position f ≡ position g) × (rank f < rank g))))
+
+abbrev pub fault_of : Finding → VerifyFault
+fault_of (TargetBack p) = fault.BackJump p
+fault_of (TargetPastEnd p) = fault.OffEnd p
+fault_of (Joined p) = fault.Joins p
+fault_of (Spent p) = fault.FirstSpent p
+fault_of (Missing p n) = fault.NotHeld p n
+fault_of (Taken p n) = fault.Occupied p n
+fault_of (LeftHeld p n) = fault.HeldAtReturn p n
+fault_of (NextPastEnd p) = fault.OffEnd p
+fault_of Steps = fault.Nest nest.StepsOver
+fault_of Locks = fault.Nest nest.LocksOver
+fault_of Emits = fault.Nest nest.EmitsOver
+
+-- It is the fault of a finding that arises, before which no other does.
+pub record IsFirstFault (code : List Instr) (f : VerifyFault) : Type 0 where
+  pub finding : Finding
+  pub arises : Arises code finding
+  pub first : (other : Finding) → Arises code other → Precedes other finding → ⊥
+  pub fault : f ≡ fault_of finding

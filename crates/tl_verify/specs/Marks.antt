@@ -1,0 +1,58 @@
+-- What an instruction asks of the node registers, and what it leaves of them.
+use Rattle.std.specs.Prelude.{◌≡◌, ℕ, ◌+◌, List, [], ◌∷◌, Bool, true, false, Option, Some, None, slice_set, get_or, replicate}
+use Rattle.tl_instr.specs.declared.instr.Instr.{Instr}
+use Rattle.tl_instr.specs.declared.instr.Instr.TheVariants.{First, Release, Get, Put, Return}
+use Rattle.tl_instr.specs.Instructions.{target}
+use Rattle.tl_verify.specs.declared.marks.Marks.{Marks}
+
+abbrev pub is_held : Marks → ℕ → Bool
+is_held m n = get_or m.held n false
+
+abbrev pub with_held : Marks → ℕ → Bool → Marks
+with_held m n b = record m { held = slice_set m.held n b }
+
+abbrev pub all_empty : List Bool → Bool
+all_empty [] = true
+all_empty (true ∷ bs) = false
+all_empty (false ∷ bs) = all_empty bs
+
+-- at the start all registers are empty, and first is open
+abbrev pub entry : Marks
+entry = record { held = replicate 8 false; is_open = true }
+
+-- the register that has to hold a node
+abbrev pub source : Instr → Option ℕ
+source (Release n) = Some n
+source (Get v n f) = Some n
+source (Put n f v) = Some n
+source i = None
+
+-- the register that takes a node, and has to be empty
+abbrev pub destination : Instr → Option ℕ
+destination (First n v otherwise) = Some n
+destination i = None
+
+-- the marks behind an instruction that didn't go to its target
+abbrev pub after : Instr → Marks → Marks
+after (First n v otherwise) m = record { held = slice_set m.held n true; is_open = false }
+after (Release n) m = with_held m n false
+after i m = m
+
+-- whether control may go to the next position
+abbrev pub goes_on : Instr → Bool
+goes_on Return = false
+goes_on i = true
+
+abbrev pub is_first : Instr → Bool
+is_first (First n v otherwise) = true
+is_first i = false
+
+abbrev pub is_return : Instr → Bool
+is_return Return = true
+is_return i = false
+
+-- Control may go from the instruction at p with the marks m to the position q with the marks k.
+pub data Leads (code : List Instr) (i : Instr) (p : ℕ) (m : Marks) (q : ℕ) (k : Marks) : Type 0 where
+  to_next : goes_on i ≡ true → q ≡ p + 1 → k ≡ after i m → Leads code i p m q k
+  -- the marks are those from before the instruction
+  to_target : target i ≡ Some q → k ≡ m → Leads code i p m q k

@@ -1,0 +1,58 @@
+-- What one pass over the positions, by rising position, remembers.
+use Rattle.std.specs.Prelude.{◌≡◌, ◌≢◌, ◌⊎◌, ◌&&◌, not, ℕ, suc, ◌+◌, List, [], ◌∷◌, Bool, true, false, Option, Some, None, nat_le}
+use Rattle.tl_instr.specs.declared.instr.Instr.{Instr}
+use Rattle.tl_verify.specs.declared.marks.Marks.{Marks}
+use Rattle.tl_verify.specs.declared.arrivals.Arrivals.{Arrivals}
+use Rattle.tl_verify.specs.Marks.{is_held, source, destination, is_first, is_return, goes_on}
+use Rattle.tl_verify.specs.Findings.{Finding, Joined, Spent, Missing, Taken, LeftHeld, NextPastEnd}
+
+-- with one more state
+pub record MergesWith (old : Arrivals) (m : Marks) (new : Arrivals) : Type 0 where
+  pub held : new.marks.held ≡ old.marks.held
+  pub is_open : new.marks.is_open ≡ (old.marks.is_open && m.is_open)
+  pub alike : new.differ ≡ false → (old.differ ≡ false) × (old.marks.held ≡ m.held)
+  pub differs : new.differ ≡ true → (old.differ ≡ true) ⊎ (old.marks.held ≢ m.held)
+
+abbrev pub Merges : Option Arrivals → Marks → Arrivals → Type 0
+Merges None m new = new ≡ record { marks = m; differ = false }
+Merges (Some old) m new = MergesWith old m new
+
+-- the first of two that is there
+abbrev pub or_else : Option Finding → Option Finding → Option Finding
+or_else (Some f) g = Some f
+or_else None g = g
+
+abbrev pub when : Bool → Finding → Option Finding
+when true f = Some f
+when false f = None
+
+-- the register that has to hold a node
+abbrev pub missing : ℕ → Marks → Option ℕ → Option Finding
+missing p m (Some n) = when (not (is_held m n)) (Missing p n)
+missing p m None = None
+
+-- the register that has to be empty
+abbrev pub taken : ℕ → Marks → Option ℕ → Option Finding
+taken p m (Some n) = when (is_held m n) (Taken p n)
+taken p m None = None
+
+-- the least register that holds a node, counted from n
+abbrev pub first_held : List Bool → ℕ → Option ℕ
+first_held [] n = None
+first_held (true ∷ bs) n = Some n
+first_held (false ∷ bs) n = first_held bs (suc n)
+
+abbrev pub left_held : ℕ → Bool → Option ℕ → Option Finding
+left_held p true (Some n) = Some (LeftHeld p n)
+left_held p true None = None
+left_held p false o = None
+
+-- what is found first at a position of a code of so many instructions
+unfoldable pub objection : ℕ → ℕ → Instr → Arrivals → Option Finding
+objection count p i a =
+    or_else (when a.differ (Joined p))
+    (or_else (when (is_first i && not a.marks.is_open) (Spent p))
+    (or_else (missing p a.marks (source i))
+    (or_else (taken p a.marks (destination i))
+    (or_else (left_held p (is_return i) (first_held a.marks.held 0))
+    (when (goes_on i && nat_le count (p + 1)) (NextPastEnd p))))))

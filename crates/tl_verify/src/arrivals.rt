@@ -1,0 +1,63 @@
+// The states that have come to a position so far.
+
+ghost use Rattle.std.specs.Prelude.{◌≡◌, ℕ, ◌<◌, List, length, slice_set, get_or, Some, None, false};
+ghost use Rattle.tl_verify.specs.declared.arrivals.Arrivals.{Arrivals as Arrivals'};
+ghost use Rattle.tl_verify.specs.Pass.{Merges, MergesWith};
+
+use crate::marks::Marks;
+
+/// The states that have come to a position so far, as one: `first` is spent where it was in any of them, and it is
+/// remembered whether they differ in what they hold.
+#[derive(Clone, Copy, Debug, PartialEq, Eq)]
+pub struct Arrivals {
+    pub marks: Marks,
+    pub differ: bool,
+}
+
+impl Arrivals {
+    /// What comes to the first position: all registers are empty, and `first` is open.
+    pub const ENTRY: Arrivals = Arrivals {
+        marks: Marks {
+            held: [false; 8],
+            is_open: true,
+        },
+        differ: false,
+    };
+
+    // The first state that comes.
+    fn of(marks: Marks) -> Self
+        ensures { result ≡ record { marks = marks; differ = false } }
+    {
+        Arrivals {
+            marks,
+            differ: false,
+        }
+    }
+
+    // With one more state.
+    fn with(self, marks: Marks) -> Self
+        ensures { MergesWith self marks result }
+    {
+        let differ = self.differ | (self.marks.held != marks.held);
+        let is_open = self.marks.is_open & marks.is_open;
+        Arrivals {
+            marks: Marks {
+                held: self.marks.held,
+                is_open,
+            },
+            differ,
+        }
+    }
+}
+
+/// One more state comes to a position.
+pub fn arrive(states: &mut [Option<Arrivals>], to: usize, marks: Marks)
+    requires { to < length states.old }
+    ensures { (a : Arrivals') × (states.new ≡ slice_set states.old to (Some a)) × Merges (get_or states.old to None) marks a }
+{
+    let arrivals = match states[to] {
+        None => Arrivals::of(marks),
+        Some(earlier) => earlier.with(marks),
+    };
+    states[to] = Some(arrivals);
+}

@@ -1,0 +1,68 @@
+// Why a code isn't accepted.
+
+ghost use Rattle.std.specs.Prelude.{◌≡◌};
+ghost use Rattle.tl_verify.specs.Faults.{numbers_of};
+
+use arrayvec::ArrayVec;
+use thiserror::Error;
+use tl_budget::fault::NestFault;
+
+/// Why a code isn't accepted. Positions are counted from 0.
+#[derive(Clone, Copy, Debug, PartialEq, Eq, Error)]
+pub enum VerifyFault {
+    /// 305 to 307: the code may cost too much.
+    #[error(transparent)]
+    Nest(NestFault),
+    /// 401: the target is at or before the jump.
+    #[error("instruction {0}: the target is not ahead")]
+    BackJump(u16),
+    /// 403: the target, or the next position, is past the end.
+    #[error("instruction {0}: control goes past the end of the code")]
+    OffEnd(u16),
+    /// 404: `first` where a call may have locked a node already.
+    #[error("instruction {0}: first comes only before all other locks")]
+    FirstSpent(u16),
+    /// 405: the register, named last, is empty.
+    #[error("instruction {0}: register n{1} holds no node")]
+    NotHeld(u16, u8),
+    /// 406: the register that is to take a node, named last, holds one already.
+    #[error("instruction {0}: register n{1} holds a node already")]
+    Occupied(u16, u8),
+    /// 407: the call ends while it holds the node of the register, the least such.
+    #[error("instruction {0}: register n{1} still holds a node at the end")]
+    HeldAtReturn(u16, u8),
+    /// 408: control comes here with a register held, and with the same register empty.
+    #[error("instruction {0}: ways that join here differ in what they hold")]
+    Joins(u16),
+    /// 490: memory was refused.
+    #[error("out of memory")]
+    Memory,
+}
+
+impl VerifyFault {
+    /// The fault's number, then its parts.
+    pub fn numbers(&self) -> ArrayVec<u64, 3>
+        ensures { result.items ≡ numbers_of self.now }
+    {
+        let (number, position, register) = match *self {
+            VerifyFault::Nest(fault) => return fault.numbers(),
+            VerifyFault::BackJump(position) => (401, Some(position), None),
+            VerifyFault::OffEnd(position) => (403, Some(position), None),
+            VerifyFault::FirstSpent(position) => (404, Some(position), None),
+            VerifyFault::NotHeld(position, register) => (405, Some(position), Some(register)),
+            VerifyFault::Occupied(position, register) => (406, Some(position), Some(register)),
+            VerifyFault::HeldAtReturn(position, register) => (407, Some(position), Some(register)),
+            VerifyFault::Joins(position) => (408, Some(position), None),
+            VerifyFault::Memory => (490, None, None),
+        };
+        let mut numbers = ArrayVec::new();
+        numbers.push(number);
+        if let Some(position) = position {
+            numbers.push(u64::from(position));
+        }
+        if let Some(register) = register {
+            numbers.push(u64::from(register));
+        }
+        numbers
+    }
+}

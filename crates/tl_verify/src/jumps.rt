@@ -1,0 +1,28 @@
+// The pass over the targets.
+
+ghost use Rattle.std.specs.Prelude.{◌≤◌, length, IfSome, IfNone};
+ghost use Rattle.tl_verify.specs.Findings.{IsFirstFault};
+ghost use Rattle.tl_verify.specs.Known.{Ahead};
+
+use crate::fault::VerifyFault;
+use tl_instr::instr::Instr;
+
+/// The first target that isn't ahead of its jump, or is past the end.
+pub fn jumps(code: &[Instr]) -> Option<VerifyFault>
+    requires { length code.now ≤ 1024 }
+    ensures fault { IfSome result (IsFirstFault code.now) }
+    ensures ahead { IfNone result (Ahead code.now) }
+{
+    for position in 0..code.len() {
+        let Some(target) = code[position].target() else {
+            continue;
+        };
+        if target as usize <= position {
+            return Some(VerifyFault::BackJump(position as u16));
+        }
+        if target as usize >= code.len() {
+            return Some(VerifyFault::OffEnd(position as u16));
+        }
+    }
+    None
+}

@@ -1,0 +1,8 @@
+// What is known of the node registers at a position.
+
+/// Which node registers are held, and whether `first` is still open: it is spent once a call may have locked a node.
+#[derive(Clone, Copy, Debug, PartialEq, Eq)]
+pub struct Marks {
+    pub held: [bool; 8],
+    pub is_open: bool,
+}

@@ -1,0 +1,107 @@
+// What an instruction asks of the node registers.
+
+ghost use Rattle.std.specs.Prelude.{◌≡◌, ◌<◌, option_map};
+ghost use Rattle.tl_verify.specs.Marks.{source as source_of, destination as destination_of, goes_on as goes_on_from, after as marks_after};
+ghost use Rattle.tl_verify.specs.Findings.{fault_of};
+ghost use Rattle.tl_verify.specs.Pass.{first_held as first_held_of, objection as objection_at};
+
+use crate::arrivals::Arrivals;
+use crate::fault::VerifyFault;
+use crate::marks::Marks;
+use tl_instr::instr::Instr;
+use tl_instr::operand::NodeRegister;
+
+// The register that has to hold a node.
+fn source(instr: &Instr) -> Option<NodeRegister>
+    ensures { result ≡ source_of instr.now }
+{
+    match *instr {
+        Instr::Release { node } | Instr::Get { node, .. } | Instr::Put { node, .. } => Some(node),
+        _ => None,
+    }
+}
+
+// The register that takes a node, and has to be empty.
+fn destination(instr: &Instr) -> Option<NodeRegister>
+    ensures { result ≡ destination_of instr.now }
+{
+    match *instr {
+        Instr::First { to, .. } => Some(to),
+        _ => None,
+    }
+}
+
+/// Whether control may go to the next position.
+pub fn goes_on(instr: &Instr) -> bool
+    ensures { result ≡ goes_on_from instr.now }
+{
+    !matches!(*instr, Instr::Return)
+}
+
+/// The registers behind an instruction that didn't go to its target.
+pub fn after(instr: &Instr, mut marks: Marks) -> Marks
+    ensures { result ≡ marks_after instr.now marks }
+{
+    match *instr {
+        Instr::First { to, .. } => {
+            marks.held[to.index()] = true;
+            marks.is_open = false;
+        }
+        Instr::Release { node } => marks.held[node.index()] = false,
+        _ => {}
+    }
+    marks
+}
+
+// The least register that holds a node.
+fn first_held(held: &[bool; 8]) -> Option<u8>
+    ensures { result ≡ first_held_of held.now 0 }
+{
+    for (register, is_held) in held.iter().enumerate() {
+        if *is_held {
+            return Some(register as u8);
+        }
+    }
+    None
+}
+
+/// What is wrong with the registers at a position of a code of so many instructions.
+#[tactic(auto, unfolding(crate::specs::Pass::objection))]
+pub fn objection(
+    count: u16,
+    position: u16,
+    instr: &Instr,
+    arrivals: Arrivals,
+) -> Option<VerifyFault>
+    requires { 0 < count }
+    ensures { result ≡ option_map fault_of (objection_at count position instr.now arrivals) }
+{
+    let marks = arrivals.marks;
+    let source = source(instr);
+    let destination = destination(instr);
+    if arrivals.differ {
+        return Some(VerifyFault::Joins(position));
+    }
+    if matches!(*instr, Instr::First { .. }) && !marks.is_open {
+        return Some(VerifyFault::FirstSpent(position));
+    }
+    if let Some(register) = source
+        && !marks.held[register.index()]
+    {
+        return Some(VerifyFault::NotHeld(position, register.number()));
+    }
+    if let Some(register) = destination
+        && marks.held[register.index()]
+    {
+        return Some(VerifyFault::Occupied(position, register.number()));
+    }
+    if matches!(*instr, Instr::Return)
+        && let Some(register) = first_held(&marks.held)
+    {
+        return Some(VerifyFault::HeldAtReturn(position, register));
+    }
+    if goes_on(instr) && count - 1 <= position {
+        return Some(VerifyFault::OffEnd(position));
+    }
+    None
+}

@@ -1,0 +1,93 @@
+// Procedures: codes that were accepted.
+
+ghost use Rattle.std.specs.Prelude.{◌≡◌, ◌≢◌, IfOk, IfErr, length};
+ghost use Rattle.tl_instr.specs.Codes.{CodeValue, IsCode};
+ghost use Rattle.tl_budget.specs.Loops.{budget, lock_bound, emit_bound};
+ghost use Rattle.tl_verify.specs.Acceptable.{Acceptable};
+ghost use Rattle.tl_verify.specs.Findings.{IsFirstFault};
+ghost use Rattle.tl_verify.specs.Procedure.{AreBounds};
+ghost use Rattle.tl_verify.specs.declared.fault.VerifyFault.TheVariants as fault;
+
+use crate::fault::VerifyFault;
+use crate::jumps::jumps;
+use crate::registers::registers;
+use std::alloc::Global;
+use std::marker::Model;
+use tl_budget::limits::Bounds;
+use tl_budget::sums::bounds;
+use tl_instr::code::Code;
+
+/// A code that was accepted, with its bounds. Only `verify` makes one.
+#[derive(Debug, Drop)]
+pub struct Proc {
+    code: Code,
+    bounds: Bounds,
+}
+
+impl Model for Proc {
+    ghost use Rattle.tl_instr.specs.Codes.{CodeValue};
+    ghost use Rattle.tl_verify.specs.Procedure.{IsProc};
+
+    ghost Value = { CodeValue };
+
+    ghost view = { λ p. p.code };
+
+    ghost invariant = { λ p. IsProc p.code p.bounds };
+}
+
+impl Proc {
+    pub fn code(&self) -> &Code
+        ensures value { result.now ≡ self.now }
+        ensures accepted { Acceptable self.now.instrs }
+        ensures valid { IsCode self.now }
+    {
+        &self.code
+    }
+
+    /// What a call does at most.
+    pub fn bounds(&self) -> Bounds
+        ensures { AreBounds self.now.instrs result }
+    {
+        self.bounds
+    }
+}
+
+// The bounds of an accepted code, or its first fault.
+fn examine(alloc: Global, code: &Code) -> Result<Bounds, VerifyFault>
+    ensures accepted { IfOk result (λ _. Acceptable code.now.instrs) }
+    ensures bounds { IfOk result (AreBounds code.now.instrs) }
+    ensures fault { IfErr result (λ f. f ≢ fault.Memory → IsFirstFault code.now.instrs f) }
+{
+    if let Some(fault) = jumps(code.instrs()) {
+        return Err(fault);
+    }
+    let Ok(fault) = registers(alloc, code.instrs()) else {
+        return Err(VerifyFault::Memory);
+    };
+    if let Some(fault) = fault {
+        return Err(fault);
+    }
+    match bounds(code) {
+        Ok(bounds) => Ok(bounds),
+        Err(fault) => Err(VerifyFault::Nest(fault)),
+    }
+}
+
+/// Admits a code: from then on it can't fail, whatever its arguments and the tree.
+///
+/// A code is accepted where its jumps go ahead and stay in the code, its registers fit, and its bounds are within the
+/// limits: 1,000,000 instructions, 4,096 locks, 32 emitted values. Else the code is handed back with the first fault
+/// of the first pass that finds one: 401 and 403 of the targets, 403 to 408 of the registers, 305 to 307 of the bounds.
+/// 490 where memory was refused.
+pub fn verify(alloc: Global, code: Code) -> Result<Proc, (Code, VerifyFault)>
+    ensures value { IfOk result (λ p. p ≡ code) }
+    ensures accepted { IfOk result (λ _. Acceptable code.instrs) }
+    ensures accepts { Acceptable code.instrs → IfErr result (λ e. e.1 ≡ fault.Memory) }
+    ensures handed_back { IfErr result (λ e. e.0 ≡ code) }
+    ensures fault { IfErr result (λ e. e.1 ≢ fault.Memory → IsFirstFault code.instrs e.1) }
+{
+    match examine(alloc, &code) {
+        Ok(bounds) => Ok(Proc { code, bounds }),
+        Err(fault) => Err((code, fault)),
+    }
+}
