@@ -1,5 +1,8 @@
 -- The shape of a tree is the list of its nodes' parents. Node 0 is the root.
-use Rattle.std.specs.Prelude.{◌≡◌, ℕ, ◌+◌, ◌<◌, ◌≤◌, List, [], ◌∷◌, length, slice_index, nat_eq, drop, if◌then◌else◌}
+use Rattle.std.specs.Prelude.{◌≡◌, ℕ, ◌+◌, ◌<◌, ◌≤◌, ◌==◌, ℤ, pos, negsuc, unsigned_abs, List, [], ◌∷◌, length, map, slice_index, slice_index_or, nat_eq, nat_lt, drop, Bool, true, false, if◌then◌else◌, Option, Some, None, option_map, Result, Ok, Err, Vec}
+use Rattle.std.specs.declared.alloc.Global.{Global}
+use Rattle.tl_tree.specs.declared.fault.TreeFault.{TreeFault}
+use Rattle.tl_tree.specs.declared.fault.TreeFault.TheVariants.{Empty, TooMany, BadRoot, BadParent}
 
 abbrev pub parent : List ℕ → ℕ → ℕ
 parent parents x = slice_index parents x
@@ -24,3 +27,55 @@ kids_from (p ∷ ps) i x = if nat_eq p x then i ∷ kids_from ps (i + 1) x else 
 -- the children of x by rising number; the root is nobody's child
 abbrev pub kids : List ℕ → ℕ → List ℕ
 kids parents x = kids_from (drop 1 parents) 1 x
+
+-- the node is below the root, and x is its parent
+pub record IsKid (parents : List ℕ) (x kid : ℕ) : Type 0 where
+  pub below_root : 0 < kid
+  pub inside : kid < length parents
+  pub parent_is : parent parents kid ≡ x
+
+abbrev pub lists_of : List (Vec ℕ Global) → List (List ℕ)
+lists_of vectors = map (λ v. v.items) vectors
+
+-- the lists hold each node's children
+pub record IsIndex (parents : List ℕ) (lists : List (List ℕ)) : Type 0 where
+  pub size : length lists ≡ length parents
+  pub each : (x : ℕ) → x < length parents → slice_index_or lists x [] ≡ kids parents x
+
+-- ---- integers that may be the parents of a tree
+
+abbrev pub is_root : ℤ → Bool
+is_root (pos p) = p == 0
+is_root (negsuc p) = false
+
+-- the integer is a node before x
+abbrev pub is_lower : ℤ → ℕ → Bool
+is_lower (pos p) x = nat_lt p x
+is_lower (negsuc p) x = false
+
+-- the first node whose parent is no node before it, where the nodes from x on have these parents
+abbrev pub first_astray : ℕ → List ℤ → Option ℕ
+first_astray x [] = None
+first_astray x (p ∷ ps) = if is_lower p x then first_astray (x + 1) ps else Some x
+
+-- the first thing that is wrong with the parents
+abbrev pub shape_fault : List ℤ → Option TreeFault
+shape_fault [] = Some Empty
+shape_fault (p ∷ ps) =
+    if nat_lt 4096 (length (p ∷ ps)) then Some TooMany
+    else (if is_root p then option_map BadParent (first_astray 1 ps) else Some BadRoot)
+
+abbrev pub unless_fault : {X : Type 0} → Option TreeFault → X → Result X TreeFault
+unless_fault None x = Ok x
+unless_fault (Some fault) x = Err fault
+
+-- the shape that has these parents, or what is wrong first
+abbrev pub shape_of : List ℤ → Result (List ℕ) TreeFault
+shape_of numbers = unless_fault (shape_fault numbers) (map unsigned_abs numbers)
+
+-- x is the least node from 1 on whose parent is no node before it
+pub record IsFirstAstray (numbers : List ℤ) (x : ℕ) : Type 0 where
+  pub below_root : 0 < x
+  pub inside : x < length numbers
+  pub astray : is_lower (slice_index_or numbers x (pos 0)) x ≡ false
+  pub least : (y : ℕ) → 0 < y → y < x → is_lower (slice_index_or numbers y (pos 0)) y ≡ true

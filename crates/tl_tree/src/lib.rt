@@ -1,4 +1,11 @@
 //! Trees of records: the shape that a tree has, the records of its nodes, and the text that it is read from.
 #![tactic(auto)]
 
+pub mod fault;
 pub mod record;
+pub mod shape;
+#[cfg(test)]
+mod tests;
+pub mod text;
+pub mod tree;
+pub mod value;

@@ -1,0 +1,8 @@
+use Rattle.std.proofs.Common.{◌≡◌, drop}
+use Rattle.serde_json.specs.View.{items_view}
+use Rattle.tl_tree.specs.Reading.{each_item, integer_of}
+use Rattle.tl_tree.proofs.Items.{onto}
+use Rattle.tl_tree.proofs.value.integers_from_items.Given as goal
+
+abbrev pub invariant-loop-item : goal.invariant-loop-item
+invariant-loop-item l = onto l.integers.items (each_item integer_of (items_view (drop l.item-index l.items))) ≡ each_item integer_of (items_view l.items)

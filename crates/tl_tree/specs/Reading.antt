@@ -1,0 +1,79 @@
+-- What a JSON value or a text is: numbers, records, or a tree.
+use Rattle.std.specs.Prelude.{◌≡◌, ℕ, ◌==◌, ℤ, pos, map, List, [], ◌∷◌, length, codes, if◌then◌else◌, Option, Some, None, option_map, option_and_then, Result, Ok, Err}
+use Rattle.serde_json.specs.Data.{Data, Items, no_items, item, Members}
+use Rattle.serde_json.specs.Events.{members_len}
+use Rattle.serde_json.specs.Find.{as_number, as_i64, as_array, as_object, get_member}
+use Rattle.serde_json.specs.Read.{read}
+use Rattle.tl_tree.specs.declared.record.TheConstants.{FIELD_COUNT}
+use Rattle.tl_tree.specs.declared.fault.TreeFault.{TreeFault}
+use Rattle.tl_tree.specs.declared.fault.TreeFault.TheVariants.{WrongCount, NotTree}
+use Rattle.tl_tree.specs.Records.{Record, Records}
+use Rattle.tl_tree.specs.Shape.{shape_of}
+use Rattle.tl_tree.specs.Trees.{TreeValue, IsWhole}
+
+abbrev pub both : {A B : Type 0} → Option A → Option B → Option (A × B)
+both a b = option_and_then (λ x. option_map (λ y. (x, y)) b) a
+
+-- each item under f, where f takes each
+abbrev pub each_item : {A : Type 0} → (Data → Option A) → Items → Option (List A)
+each_item f no_items = Some []
+each_item f (item d ds) = option_and_then (λ x. option_map (λ xs. x ∷ xs) (each_item f ds)) (f d)
+
+-- a number of 64 bits with its sign
+abbrev pub integer_of : Data → Option ℤ
+integer_of d = option_and_then as_i64 (as_number d)
+
+-- a list of such numbers
+abbrev pub integers_of : Data → Option (List ℤ)
+integers_of d = option_and_then (each_item integer_of) (as_array d)
+
+abbrev pub if_record : List ℤ → Option Record
+if_record fields = if length fields == FIELD_COUNT then Some fields else None
+
+-- a list of as many numbers as a record has fields
+abbrev pub record_of : Data → Option Record
+record_of d = option_and_then if_record (integers_of d)
+
+abbrev pub records_of : Data → Option Records
+records_of d = option_and_then (each_item record_of) (as_array d)
+
+-- the parents and the records of an object that has these two members and no others
+abbrev pub parts_of : Data → Option (Data × Data)
+parts_of d = option_and_then (λ ms. if members_len ms == 2 then both (get_member (codes "parents") ms) (get_member (codes "records") ms) else None) (as_object d)
+
+-- what has a tree's form: integers for the parents, and records
+abbrev pub form_of : Data → Option (List ℤ × Records)
+form_of d = option_and_then (λ parts. both (integers_of parts.0) (records_of parts.1)) (parts_of d)
+
+abbrev pub tree_with : Records → Result (List ℕ) TreeFault → Result TreeValue TreeFault
+tree_with records (Err fault) = Err fault
+tree_with records (Ok parents) = if length records == length parents then Ok (record { parents = parents; records = records }) else Err WrongCount
+
+abbrev pub tree_from : Option (List ℤ × Records) → Result TreeValue TreeFault
+tree_from None = Err NotTree
+tree_from (Some form) = tree_with form.1 (shape_of form.0)
+
+-- the tree that a value stands for, or what is wrong first
+abbrev pub tree_of : Data → Result TreeValue TreeFault
+tree_of d = tree_from (form_of d)
+
+abbrev pub tree_of_read : Option Data → Result TreeValue TreeFault
+tree_of_read None = Err NotTree
+tree_of_read (Some d) = tree_of d
+
+-- the tree that a text stands for, or what is wrong first
+abbrev pub tree_of_text : List ℕ → Result TreeValue TreeFault
+tree_of_text text = tree_of_read (read text)
+
+-- The value is an object of two members, whose `parents` are the tree's and whose `records` are the tree's.
+pub record StandsFor (d : Data) (tree : TreeValue) : Type 0 where
+  pub members : Members
+  pub parents_member : Data
+  pub records_member : Data
+  pub object_is : as_object d ≡ Some members
+  pub two : members_len members ≡ 2
+  pub parents_found : get_member (codes "parents") members ≡ Some parents_member
+  pub records_found : get_member (codes "records") members ≡ Some records_member
+  pub parents_are : integers_of parents_member ≡ Some (map pos tree.parents)
+  pub records_are : records_of records_member ≡ Some tree.records
+  pub whole : IsWhole tree

@@ -1,0 +1,157 @@
+// The shape of a tree.
+
+ghost use Rattle.std.specs.Prelude.{◌≡◌, ◌≢◌, ◌<◌, ◌≤◌, ◌↔◌, ℕ, List, ◌∷◌, Some, None, map, option_map, length, drop, pos, unsigned_abs, slice_index, slice_index_or, IsTrue, IfOk, IfErr, MatchResult};
+ghost use Rattle.tl_tree.specs.Shape.{parent, kids, Above, IsTree, IsKid, IsIndex, lists_of, shape_of, first_astray, IsFirstAstray};
+
+use crate::fault::TreeFault;
+use std::alloc::{AllocError, Global};
+use std::marker::Model;
+
+/// How many nodes a tree may have.
+pub const MAX_NODES: usize = 4096;
+
+/// The shape of a tree of 1 to 4,096 nodes, which are numbered from 0. Node 0 is the root. Each other node has a
+/// parent of a lower number. A contract sees a shape as the list of the nodes' parents, and the root as its own parent.
+#[derive(Debug, Drop)]
+pub struct Shape {
+    parents: Vec<u16>,
+    // Of each node its children, by rising number.
+    kid_lists: Vec<Vec<u16>>,
+}
+
+impl Model for Shape {
+    ghost use Rattle.std.specs.Prelude.{List, ℕ};
+    ghost use Rattle.tl_tree.specs.Shape.{IsTree, IsIndex, lists_of};
+
+    ghost Value = { List ℕ };
+
+    ghost view = { λ s. s.parents.items };
+
+    ghost invariant = { λ s. IsTree s.parents.items
+        × IsIndex s.parents.items (lists_of s.kid_lists.items) };
+}
+
+impl Shape {
+    /// The shape with these parents: 0 for node 0, and for each other node one of the nodes before it.
+    ///
+    /// What is wrong first, in this order: 101 for no node, 102 for more than 4,096, 103 where the root's parent is not
+    /// 0, and 104 at the first other node whose parent is no node before it. 190 where memory is refused.
+    pub fn new(alloc: Global, parents: &[i64]) -> Result<Shape, TreeFault>
+        ensures ok { IfOk result (λ s. shape_of parents.now ≡ Ok s) }
+        ensures fault { IfErr result (λ e. e ≢ TreeFault.Memory → shape_of parents.now ≡ Err e) }
+
+        // What is taken is a tree's parents, a tree's parents are taken, and the node of 104 is the least.
+        ensures tree { IfOk result (λ s. IsTree s × (map pos s ≡ parents.now)) }
+        ensures taken { (s : List ℕ) → IsTree s → map pos s ≡ parents.now
+            → MatchResult result (λ r. r ≡ s) (λ e. e ≡ TreeFault.Memory) }
+        ensures astray { IfErr result
+            (λ e. (x : ℕ) → e ≡ TreeFault.BadParent x → IsFirstAstray parents.now x) }
+    {
+        let parents = node_parents(alloc, parents)?;
+        let kid_lists = kid_lists(alloc, &parents)?;
+        Ok(Shape { parents, kid_lists })
+    }
+
+    /// How many nodes there are: 1 to 4,096.
+    pub fn node_count(&self) -> u16
+        ensures count { result ≡ length self.now }
+        ensures tree { IsTree self.now }
+    {
+        self.parents.len() as u16
+    }
+
+    /// The parent of a node; the root's is the root.
+    pub fn parent(&self, node: u16) -> u16
+        requires { node < length self.now }
+        ensures parent { result ≡ parent self.now node }
+        ensures inside { result < length self.now }
+    {
+        self.parents[usize::from(node)]
+    }
+
+    /// How many children a node has.
+    pub fn kids(&self, node: u16) -> u16
+        requires { node < length self.now }
+        ensures { result ≡ length (kids self.now node) }
+    {
+        self.kid_lists[usize::from(node)].len() as u16
+    }
+
+    /// A node's child of that number, from 0. Children are numbered by rising node number.
+    pub fn kid(&self, node: u16, number: u16) -> u16
+        requires node { node < length self.now }
+        requires number { number < length (kids self.now node) }
+        ensures kid { result ≡ slice_index (kids self.now node) number }
+        ensures child { IsKid self.now node result }
+    {
+        self.kid_lists[usize::from(node)][usize::from(number)]
+    }
+
+    /// Whether zero or more steps from a node to its parent lead from `lower` to `upper`.
+    pub fn is_above(&self, upper: u16, lower: u16) -> bool
+        requires upper { upper < length self.now }
+        requires lower { lower < length self.now }
+        ensures { IsTrue result ↔ Above self.now upper lower }
+    {
+        let mut step = lower;
+        while step > upper {
+            step = self.parents[usize::from(step)];
+        }
+        step == upper
+    }
+}
+
+// The parents as node numbers, where they are a tree's.
+fn node_parents(alloc: Global, parents: &[i64]) -> Result<Vec<u16>, TreeFault>
+    ensures ok { IfOk result (λ v. shape_of parents.now ≡ Ok v.items) }
+    ensures fault { IfErr result (λ e. e ≢ TreeFault.Memory → shape_of parents.now ≡ Err e) }
+{
+    if parents.is_empty() {
+        return Err(TreeFault::Empty);
+    }
+    if parents.len() > MAX_NODES {
+        return Err(TreeFault::TooMany);
+    }
+    if parents[0] != 0 {
+        return Err(TreeFault::BadRoot);
+    }
+    lower_parents(alloc, parents)
+}
+
+// The same, where what is left to see is whether each node but the root has a parent before it.
+fn lower_parents(alloc: Global, parents: &[i64]) -> Result<Vec<u16>, TreeFault>
+    requires some { 0 < length parents.now }
+    requires few { length parents.now ≤ MAX_NODES }
+    requires root { slice_index_or parents.now 0 (pos 0) ≡ pos 0 }
+    ensures none { IfOk result (λ v. first_astray 1 (drop 1 parents.now) ≡ None) }
+    ensures same { IfOk result (λ v. v.items ≡ map unsigned_abs parents.now) }
+    ensures fault { IfErr result (λ e. e ≢ TreeFault.Memory
+        → option_map TreeFault.BadParent (first_astray 1 (drop 1 parents.now)) ≡ Some e) }
+{
+    let mut lower = Vec::with_capacity(alloc, parents.len())?;
+    lower.push(0)?;
+    for node in 1..parents.len() {
+        let parent = parents[node];
+        if parent < 0 || parent >= node as i64 {
+            return Err(TreeFault::BadParent(node as u16));
+        }
+        lower.push(parent as u16)?;
+    }
+    Ok(lower)
+}
+
+// Of each node its children.
+fn kid_lists(alloc: Global, parents: &[u16]) -> Result<Vec<Vec<u16>>, AllocError>
+    requires { IsTree parents.now }
+    ensures { IfOk result (λ v. IsIndex parents.now (lists_of v.items)) }
+{
+    let mut lists = Vec::with_capacity(alloc, parents.len())?;
+    for _node in 0..parents.len() {
+        lists.push(Vec::new(alloc))?;
+    }
+    for node in 1..parents.len() {
+        let parent = usize::from(parents[node]);
+        lists[parent].push(node as u16)?;
+    }
+    Ok(lists)
+}

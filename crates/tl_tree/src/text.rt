@@ -1,0 +1,39 @@
+// The text of a tree.
+
+ghost use Rattle.std.specs.Prelude.{◌≡◌, ◌≢◌, Err, Ok, IfOk, IfErr, string_bytes};
+ghost use Rattle.tl_tree.specs.Reading.{tree_of_text};
+ghost use Rattle.tl_tree.specs.Writing.{tree_text};
+
+use crate::fault::TreeFault;
+use crate::tree::Tree;
+use crate::value;
+use serde_json::Value;
+use std::alloc::Global;
+
+/// The tree that a text of JSON is: `{"parents":[..],"records":[record,..]}`, an object with these two members and no
+/// others. The parents are integers, and a record is a list of as many integers as a record has fields.
+///
+/// What is wrong first: 106 for a text of another form, and then 101 to 105 in their order. 190 where memory is refused.
+pub fn read_tree(alloc: Global, text: &str) -> Result<Tree, TreeFault>
+    ensures ok { IfOk result (λ t. tree_of_text text.now ≡ Ok t) }
+    ensures fault { IfErr result (λ e. e ≢ TreeFault.Memory → tree_of_text text.now ≡ Err e) }
+{
+    match Value::from_str(alloc, text) {
+        Ok(value) => value::tree_from_value(alloc, &value),
+        Err(e) => if e.is_memory() {
+            Err(TreeFault::Memory)
+        } else {
+            Err(TreeFault::NotTree)
+        },
+    }
+}
+
+/// The text of a tree, with no space. 190 where memory is refused.
+pub fn write_tree(alloc: Global, tree: &Tree) -> Result<String, TreeFault>
+    ensures text { IfOk result (λ s. string_bytes s ≡ tree_text tree.now) }
+    ensures reads_back { IfOk result (λ s. tree_of_text (string_bytes s) ≡ Ok tree.now) }
+    ensures err { IfErr result (λ e. e ≡ TreeFault.Memory) }
+{
+    let value = value::tree_to_value(alloc, tree)?;
+    Ok(value.to_string(alloc)?)
+}

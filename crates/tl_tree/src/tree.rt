@@ -1,0 +1,87 @@
+// Trees.
+
+ghost use Rattle.std.specs.Prelude.{◌≡◌, ◌<◌, length, OkIff, IfOk, IfErr};
+ghost use Rattle.std.specs.Arc.{arc_value};
+ghost use Rattle.tl_tree.specs.Records.{record_at as record_of_node, put_record};
+ghost use Rattle.tl_tree.specs.Trees.{IsWhole};
+
+use crate::fault::TreeFault;
+use crate::record::Record;
+use crate::shape::Shape;
+use std::marker::Model;
+use std::sync::Arc;
+
+/// A shape, and a record for each of its nodes.
+#[derive(Debug, Drop)]
+pub struct Tree {
+    shape: Arc<Shape>,
+    records: Vec<Record>,
+}
+
+impl Model for Tree {
+    ghost use Rattle.std.specs.Arc.{arc_value};
+    ghost use Rattle.tl_tree.specs.Trees.{TreeValue, IsWhole};
+
+    ghost Value = { TreeValue };
+
+    ghost view = { λ t. record { parents = arc_value t.shape; records = t.records.items } };
+
+    ghost invariant = { λ t. IsWhole
+        (record { parents = arc_value t.shape; records = t.records.items }) };
+}
+
+impl Tree {
+    /// The tree of that shape with these records, the first for node 0. 105 where there are more or fewer records than
+    /// nodes.
+    pub fn new(shape: Arc<Shape>, records: Vec<Record>) -> Result<Tree, TreeFault>
+        ensures ok { OkIff result (length records.items ≡ length (arc_value shape))
+            (record { parents = arc_value shape; records = records.items }) }
+        ensures err { IfErr result (λ e. e ≡ TreeFault.WrongCount) }
+    {
+        if records.len() != usize::from(shape.node_count()) {
+            return Err(TreeFault::WrongCount);
+        }
+        Ok(Tree { shape, records })
+    }
+
+    pub fn shape(&self) -> &Arc<Shape>
+        ensures shape { arc_value result.now ≡ self.now.parents }
+        ensures whole { IsWhole self.now }
+    {
+        &self.shape
+    }
+
+    /// The records, the first of node 0.
+    pub fn records(&self) -> &[Record]
+        ensures records { result.now ≡ self.now.records }
+        ensures whole { IsWhole self.now }
+    {
+        &self.records
+    }
+
+    /// A node's record.
+    pub fn record_at(&self, node: u16) -> Record
+        requires { node < length self.now.records }
+        ensures { result ≡ record_of_node self.now.records node }
+    {
+        self.records[usize::from(node)]
+    }
+
+    /// Gives a node another record.
+    pub fn put_at(&mut self, node: u16, fields: Record)
+        requires { node < length self.old.records }
+        ensures { self.new ≡ record self.old { records = put_record self.old.records node fields } }
+    {
+        self.records[usize::from(node)] = fields;
+    }
+
+    /// A tree of its own, equal to this one. 190 where memory is refused.
+    pub fn copy(&self) -> Result<Tree, TreeFault>
+        ensures ok { IfOk result (λ t. t ≡ self.now) }
+        ensures err { IfErr result (λ e. e ≡ TreeFault.Memory) }
+    {
+        let shape = Arc::try_clone(&self.shape)?;
+        let records = self.records.clone()?;
+        Ok(Tree { shape, records })
+    }
+}

@@ -1,0 +1,212 @@
+// Trees, records and numbers in JSON values: what a larger document reads and writes them by.
+
+ghost use Rattle.std.specs.Prelude.{◌≡◌, ◌≢◌, codes, map, option_map, option_and_then, length, pos, Err, Ok, IfOk, IfErr, OnOk, MatchResult, All, FitsSigned};
+ghost use Rattle.std.specs.Int.{w64};
+ghost use Rattle.serde_json.specs.Data.{object, member, no_members};
+ghost use Rattle.serde_json.specs.View.{view, items_view};
+ghost use Rattle.tl_tree.specs.Reading.{each_item, integer_of, integers_of, if_record, record_of, records_of, parts_of, form_of, tree_of, StandsFor};
+ghost use Rattle.tl_tree.specs.Trees.{TreeValue, IsRecord};
+ghost use Rattle.tl_tree.specs.Writing.{integer_data, integers_data, records_data, tree_data};
+
+use crate::fault::TreeFault;
+use crate::record::{FIELD_COUNT, Record};
+use crate::shape::Shape;
+use crate::tree::Tree;
+use serde_json::{Value, json};
+use std::alloc::{AllocError, Global};
+use std::sync::Arc;
+
+/// The numbers of a list of integers of 64 bits, or `None` for another value.
+pub fn integers_from_value(alloc: Global, value: &Value) -> Result<Option<Vec<i64>>, AllocError>
+    ensures { IfOk result (λ found. option_map (λ v. v.items) found
+        ≡ integers_of (view value.now)) }
+{
+    match value.as_array() {
+        Some(items) => integers_from_items(alloc, items),
+        None => Ok(None),
+    }
+}
+
+fn integers_from_items(alloc: Global, items: &[Value]) -> Result<Option<Vec<i64>>, AllocError>
+    ensures { IfOk result (λ found. option_map (λ v. v.items) found
+        ≡ each_item integer_of (items_view items.now)) }
+{
+    let mut integers = Vec::with_capacity(alloc, items.len())?;
+    for item in items {
+        let Some(integer) = item.as_i64() else {
+            return Ok(None);
+        };
+        integers.push(integer)?;
+    }
+    Ok(Some(integers))
+}
+
+/// The record that a value is: a list of as many integers of 64 bits as a record has fields.
+pub fn record_from_value(value: &Value) -> Option<Record>
+    ensures { result ≡ record_of (view value.now) }
+{
+    record_from_items(value.as_array()?)
+}
+
+fn record_from_items(items: &[Value]) -> Option<Record>
+    ensures { result ≡ option_and_then if_record (each_item integer_of (items_view items.now)) }
+{
+    if items.len() != FIELD_COUNT {
+        return None;
+    }
+    let mut fields = [0; FIELD_COUNT];
+    for i in 0..FIELD_COUNT {
+        fields[i] = items[i].as_i64()?;
+    }
+    Some(fields)
+}
+
+/// The records of a list of records, or `None` for another value.
+pub fn records_from_value(alloc: Global, value: &Value) -> Result<Option<Vec<Record>>, AllocError>
+    ensures { IfOk result (λ found. option_map (λ v. v.items) found
+        ≡ records_of (view value.now)) }
+{
+    match value.as_array() {
+        Some(items) => records_from_items(alloc, items),
+        None => Ok(None),
+    }
+}
+
+fn records_from_items(alloc: Global, items: &[Value]) -> Result<Option<Vec<Record>>, AllocError>
+    ensures { IfOk result (λ found. option_map (λ v. v.items) found
+        ≡ each_item record_of (items_view items.now)) }
+{
+    let mut records = Vec::with_capacity(alloc, items.len())?;
+    for item in items {
+        let Some(record) = record_from_value(item) else {
+            return Ok(None);
+        };
+        records.push(record)?;
+    }
+    Ok(Some(records))
+}
+
+/// The tree that a value is: an object with the members `parents` and `records` and no others.
+///
+/// What is wrong first: 106 where the members are no list of integers and list of records, and then 101 to 105 in
+/// their order. 190 where memory is refused.
+pub fn tree_from_value(alloc: Global, value: &Value) -> Result<Tree, TreeFault>
+    ensures ok { IfOk result (λ t. tree_of (view value.now) ≡ Ok t) }
+    ensures fault { IfErr result (λ e. e ≢ TreeFault.Memory → tree_of (view value.now) ≡ Err e) }
+
+    // What is read stands for the tree, and what stands for a tree is read.
+    ensures stands { IfOk result (λ t. StandsFor (view value.now) t) }
+    ensures taken { (t : TreeValue) → StandsFor (view value.now) t
+        → MatchResult result (λ r. r ≡ t) (λ e. e ≡ TreeFault.Memory) }
+{
+    checked_tree(alloc, value)
+}
+
+// The same, said by the definition alone.
+fn checked_tree(alloc: Global, value: &Value) -> Result<Tree, TreeFault>
+    ensures ok { IfOk result (λ t. tree_of (view value.now) ≡ Ok t) }
+    ensures fault { IfErr result (λ e. e ≢ TreeFault.Memory → tree_of (view value.now) ≡ Err e) }
+{
+    let Some((parents, records)) = form_from_value(alloc, value)? else {
+        return Err(TreeFault::NotTree);
+    };
+    let shape = Shape::new(alloc, &parents)?;
+    Tree::new(Arc::new(alloc, shape)?, records)
+}
+
+// The parents and the records, where the value has a tree's form.
+fn form_from_value(
+    alloc: Global,
+    value: &Value,
+) -> Result<Option<(Vec<i64>, Vec<Record>)>, AllocError>
+    ensures { IfOk result (λ found. option_map (λ form. (form.0.items, form.1.items)) found
+        ≡ form_of (view value.now)) }
+{
+    let Some((parents, records)) = parts_of_value(value) else {
+        return Ok(None);
+    };
+    let Some(parents) = integers_from_value(alloc, parents)? else {
+        return Ok(None);
+    };
+    let Some(records) = records_from_value(alloc, records)? else {
+        return Ok(None);
+    };
+    Ok(Some((parents, records)))
+}
+
+// The members of an object that has these two and no others.
+fn parts_of_value(value: &Value) -> Option<(&Value, &Value)>
+    ensures { option_map (λ parts. (view parts.0.now, view parts.1.now)) result
+        ≡ parts_of (view value.now) }
+{
+    if value.as_object()?.len() != 2 {
+        return None;
+    }
+    Some((value.get("parents")?, value.get("records")?))
+}
+
+fn integer_to_value(integer: i64) -> Value
+    ensures value { view result ≡ integer_data integer }
+    ensures fits { FitsSigned w64 integer }
+{
+    Value::from(integer)
+}
+
+/// The list of these numbers.
+pub fn integers_to_value(alloc: Global, integers: &[i64]) -> Result<Value, AllocError>
+    ensures value { IfOk result (λ v. view v ≡ integers_data integers.now) }
+    ensures fit { OnOk result (All (FitsSigned w64) integers.now) }
+{
+    let mut items = Vec::with_capacity(alloc, integers.len())?;
+    for integer in integers {
+        items.push(integer_to_value(*integer))?;
+    }
+    Ok(Value::Array(items))
+}
+
+/// The list of a record's fields.
+pub fn record_to_value(alloc: Global, fields: &Record) -> Result<Value, AllocError>
+    ensures value { IfOk result (λ v. view v ≡ integers_data fields.now) }
+    ensures record { OnOk result (IsRecord fields.now) }
+{
+    integers_to_value(alloc, fields)
+}
+
+/// The list of these records.
+pub fn records_to_value(alloc: Global, records: &[Record]) -> Result<Value, AllocError>
+    ensures value { IfOk result (λ v. view v ≡ records_data records.now) }
+    ensures each { OnOk result (All IsRecord records.now) }
+{
+    let mut items = Vec::with_capacity(alloc, records.len())?;
+    for fields in records {
+        items.push(record_to_value(alloc, fields)?)?;
+    }
+    Ok(Value::Array(items))
+}
+
+/// The object that stands for a tree: its members `parents` and `records`.
+pub fn tree_to_value(alloc: Global, tree: &Tree) -> Result<Value, AllocError>
+    ensures value { IfOk result (λ v. view v ≡ tree_data tree.now) }
+    ensures reads_back { IfOk result (λ v. tree_of (view v) ≡ Ok tree.now) }
+{
+    let parents = shape_to_value(alloc, tree.shape())?;
+    let records = records_to_value(alloc, tree.records())?;
+    parts_to_value(alloc, parents, records)
+}
+
+fn parts_to_value(alloc: Global, parents: Value, records: Value) -> Result<Value, AllocError>
+    ensures { IfOk result (λ v. view v ≡ object (member (codes "parents") (view parents)
+        (member (codes "records") (view records) no_members))) }
+{
+    json!(in alloc; {"parents": parents, "records": records})
+}
+
+fn shape_to_value(alloc: Global, shape: &Shape) -> Result<Value, AllocError>
+    ensures { IfOk result (λ v. view v ≡ integers_data (map pos shape.now)) }
+{
+    let mut items = Vec::with_capacity(alloc, usize::from(shape.node_count()))?;
+    for node in 0..shape.node_count() {
+        items.push(Value::from(shape.parent(node)))?;
+    }
+    Ok(Value::Array(items))
+}
