@@ -1,0 +1,17 @@
+-- Worked examples, by computation.
+use Rattle.std.proofs.Common.{◌≡◌, ℕ, [], ◌∷◌, refl}
+use Rattle.tl_protocol.specs.declared.event.Event.TheVariants.{Admit}
+use Rattle.tl_history.specs.Stored.{Stored, room_of}
+
+-- two events are stored
+abbrev stored : ℕ → ℕ → Stored
+stored limit reserved = record { past = Admit 1 ∷ Admit 0 ∷ []; limit = limit; reserved = reserved }
+
+some_room : room_of (stored 9 3) ≡ 4
+some_room = refl
+
+one_place : room_of (stored 9 6) ≡ 1
+one_place = refl
+
+no_room : room_of (stored 9 7) ≡ 0
+no_room = refl
