@@ -1,0 +1,10 @@
+pub mod RunLaws
+pub mod LeftLaws
+pub mod Frames
+pub mod Copies
+pub mod Effects
+pub mod Rooms
+pub mod Steps
+pub mod Standing
+pub mod Moves
+pub mod Going

@@ -1,0 +1,14 @@
+use Rattle.std.proofs.Common.{refl, ◌∙◌, ap, length, ◌++◌, drop}
+use Rattle.std.specs.Prelude.{pos, replicate}
+use Rattle.tl_machine.proofs.Going.{drop-replicate}
+use Rattle.tl_machine.proofs.alone_run.start.Goals as goal
+
+pub returns-clause-start : goal.returns-clause-start
+returns-clause-start c = record {
+  position = refl;
+  running = refl;
+  values = ap (λ xs. xs ++ drop (length c.args.args.now) (replicate 16 (pos 0))) c.copy_from_slice.ensures.after ∙ ap (λ ys. c.args.args.now ++ ys) (drop-replicate (length c.args.args.now) 16 (pos 0));
+  nodes = refl;
+  emits = refl;
+  steps = refl;
+}

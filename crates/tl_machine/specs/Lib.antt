@@ -1,0 +1,6 @@
+pub mod Runs
+pub mod Alone
+pub mod Left
+pub mod Call
+pub mod Stands
+pub mod Outcomes

@@ -1,0 +1,92 @@
+// One call, alone on a tree.
+
+ghost use Rattle.std.specs.Prelude.{◌≡◌, ◌≢◌, ◌↔◌, ℕ, List, length, IsErr, IsOk, IfOk, OnErr, ◌≤◌, Option};
+ghost use Rattle.std.specs.Arc.{arc_value};
+ghost use Rattle.tl_verify.specs.Acceptable.{Acceptable};
+ghost use Rattle.tl_machine.specs.Stands.{Stands, run_left};
+ghost use Rattle.tl_machine.specs.Outcomes.{IsAnswer, IsStart, outcome_of};
+ghost use Rattle.tl_machine.specs.Alone.{alone as run_alone};
+
+use crate::attempt::Attempt;
+use crate::call::{CallState, MAX_EMITS};
+use crate::fault::WrongArgs;
+use crate::reply::Reply;
+use crate::step::{attempt, finish, free, lock};
+use std::sync::Arc;
+use tl_instr::code::Code;
+use tl_tree::tree::Tree;
+use tl_verify::procedure::Proc;
+
+/// What a call run alone answers, and how many instructions it did.
+#[derive(Debug, Drop)]
+pub struct Answer {
+    pub reply: Reply,
+    pub steps: u32,
+}
+
+/// The state of a call at its start: the arguments stand in the first registers, and all else is 0 or empty.
+pub fn start(procedure: &Proc, args: &[i64]) -> Result<CallState, WrongArgs>
+    ensures wrong { IsOk result ↔ (length args.now ≡ procedure.now.arity) }
+    ensures start { IfOk result (IsStart args.now) }
+{
+    let arity = usize::from(procedure.code().arity().number());
+    if args.len() != arity {
+        return Err(WrongArgs);
+    }
+    let mut values = [0; 16];
+    values[..args.len()].copy_from_slice(args);
+    Ok(CallState {
+        position: 0,
+        is_over: false,
+        values,
+        nodes: [None; 8],
+        counters: [0; 4],
+        emitted: [0; MAX_EMITS],
+        emit_count: 0,
+        steps: 0,
+    })
+}
+
+// Runs a call to its end, from its start.
+fn run(code: &Code, mut call: CallState, tree: &mut Tree) -> Answer
+    requires accepted { Acceptable code.now.instrs }
+    requires stands { Stands code.now.instrs tree.old.parents call }
+    requires steps { call.steps ≡ 0 }
+    requires emits { call.emit_count ≡ 0 }
+    ensures answer { IsAnswer (outcome_of (run_left code.now.instrs tree.old.parents call tree.old.records)) result.reply result.steps }
+    ensures tree { tree.new ≡ record tree.old { records = (outcome_of (run_left code.now.instrs tree.old.parents call tree.old.records)).records } }
+{
+    loop {
+        match attempt(code, tree.shape(), &mut call) {
+            Attempt::Done(_) => {}
+            Attempt::Lock(node) => {
+                let found = tree.record_at(node);
+                lock(code, tree.shape(), &mut call, found);
+            }
+            Attempt::Free(_) => {
+                let held = free(code, tree.shape(), &mut call);
+                tree.put_at(held.node, held.record);
+            }
+            Attempt::Finish => {
+                finish(code, tree.shape(), &mut call);
+                return Answer {
+                    reply: Reply::of(&call),
+                    steps: call.steps,
+                };
+            }
+        }
+    }
+}
+
+/// Runs a procedure alone on a tree, from its start to its end. Takes no memory.
+///
+/// 501 where there are more or fewer arguments than the procedure takes; the tree then stays as it was.
+pub fn alone(procedure: &Arc<Proc>, args: &[i64], tree: &mut Tree) -> Result<Answer, WrongArgs>
+    ensures wrong { IsOk result ↔ (length args.now ≡ (arc_value procedure.now).arity) }
+    ensures unchanged { OnErr result (tree.new ≡ tree.old) }
+    ensures answer { IfOk result (λ a. IsAnswer (outcome_of (run_alone (arc_value procedure.now).instrs tree.old.parents args.now tree.old.records)) a.reply a.steps) }
+    ensures tree { IfOk result (λ _. tree.new ≡ record tree.old { records = (outcome_of (run_alone (arc_value procedure.now).instrs tree.old.parents args.now tree.old.records)).records }) }
+{
+    let call = start(procedure, args)?;
+    Ok(run(procedure.code(), call, tree))
+}
