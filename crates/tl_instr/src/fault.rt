@@ -37,7 +37,7 @@ impl CodeFault {
     ghost use Rattle.tl_instr.specs.Faults.{numbers_of};
 
     /// The fault's number, and then the position where it has one.
-    pub fn numbers(&self) -> ArrayVec<u64, 2>
+    pub fn numbers(&self) -> ArrayVec<u64, 3>
         ensures { result.items ≡ numbers_of self.now }
     {
         let mut numbers = ArrayVec::new();

@@ -37,7 +37,7 @@ impl TreeFault {
     ghost use Rattle.tl_tree.specs.Faults.{numbers_of};
 
     /// The fault's number, and then its parts.
-    pub fn numbers(&self) -> ArrayVec<u64, 2>
+    pub fn numbers(&self) -> ArrayVec<u64, 3>
         ensures { result.items ≡ numbers_of self.now }
     {
         let (number, part) = match self {

@@ -1,0 +1,28 @@
+-- The numbers of the program's faults, and its exit statuses.
+use Rattle.std.specs.Prelude.{ℕ, List, [], ◌∷◌}
+use Rattle.tl_tree.specs.Faults.{numbers_of as tree_numbers_of}
+use Rattle.tl_tree.specs.declared.fault.TreeFault.TheVariants as tree
+use Rattle.tl_instr.specs.Faults.{numbers_of as code_numbers_of}
+use Rattle.tl_instr.specs.declared.fault.CodeFault.TheVariants as code
+use Rattle.tl_verify.specs.Faults.{numbers_of as verify_numbers_of}
+use Rattle.tl_verify.specs.declared.fault.VerifyFault.TheVariants as verify
+use Rattle.tl_cli.specs.declared.fault.CliFault.{CliFault}
+use Rattle.tl_cli.specs.declared.fault.CliFault.TheVariants.{Unreadable, Tree, Code, Verify, NotArgs, WrongArgs, Memory}
+
+abbrev pub numbers_of : CliFault → List ℕ
+numbers_of Unreadable = 31 ∷ []
+numbers_of (Tree f) = tree_numbers_of f
+numbers_of (Code f) = code_numbers_of f
+numbers_of (Verify f) = verify_numbers_of f
+numbers_of NotArgs = 732 ∷ []
+numbers_of WrongArgs = 501 ∷ []
+numbers_of Memory = 990 ∷ []
+
+-- 3 for a device, 4 for want of memory, 1 for all else
+abbrev pub status_of : CliFault → ℕ
+status_of Unreadable = 3
+status_of (Tree tree.Memory) = 4
+status_of (Code code.Memory) = 4
+status_of (Verify verify.Memory) = 4
+status_of Memory = 4
+status_of f = 1

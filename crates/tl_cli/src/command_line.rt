@@ -1,0 +1,83 @@
+// The command line.
+
+use clap::error::ErrorKind;
+use clap::{Arg, ArgMatches, Command, Error};
+use std::alloc::{AllocError, Global};
+
+/// What the program is asked to do.
+#[derive(Clone, Copy)]
+pub enum Request<'a> {
+    /// Run a procedure alone on a tree.
+    Alone {
+        tree: &'a str,
+        procedure: &'a str,
+        args: &'a str,
+    },
+}
+
+/// What a command line comes to: a request, or a text for the one who wrote it (help among them).
+#[derive(Drop)]
+pub enum Asked<'a> {
+    Request(Request<'a>),
+    Told(Error),
+}
+
+fn alone_command<'a>(alloc: Global) -> Result<Command<'a>, AllocError> {
+    let tree = Arg::new(alloc, "tree")
+        .long("tree")
+        .value_name("T")
+        .required(true)
+        .help("The file of the tree, as JSON");
+    let procedure = Arg::new(alloc, "proc")
+        .long("proc")
+        .value_name("P")
+        .required(true)
+        .help("The file of the procedure, a container");
+    let args = Arg::new(alloc, "args")
+        .long("args")
+        .value_name("A")
+        .default_value("[]")
+        .help("The arguments, a JSON list of numbers");
+    Command::new(alloc, "alone")
+        .about("Runs a procedure alone on a tree, and prints its reply and the tree as it is then")
+        .arg(tree)?
+        .arg(procedure)?
+        .arg(args)
+}
+
+fn command<'a>(alloc: Global) -> Result<Command<'a>, AllocError> {
+    Command::new(alloc, "treedb")
+        .about("A database of trees, whose procedures are verified before they run")
+        .subcommand_required(true)
+        .arg_required_else_help(true)
+        .subcommand(alone_command(alloc)?)
+}
+
+fn request_of<'a>(matches: &ArgMatches<'a>) -> Option<Request<'a>> {
+    let (_, alone) = matches.subcommand()?;
+    Some(Request::Alone {
+        tree: alone.get_str("tree")?,
+        procedure: alone.get_str("proc")?,
+        args: alone.get_str("args")?,
+    })
+}
+
+/// Reads a command line, the program's name first.
+pub fn parse<'a>(alloc: Global, words: &'a [String]) -> Result<Asked<'a>, AllocError> {
+    match command(alloc)?.try_get_matches_from(words) {
+        Ok(matches) => match request_of(&matches) {
+            Some(request) => Ok(Asked::Request(request)),
+            None => Err(AllocError),
+        },
+        Err(error) => Ok(Asked::Told(error)),
+    }
+}
+
+/// The exit status for a text of the command line's: 0 for help, 2 for a mistake, 4 for want of memory.
+pub fn status(error: &Error) -> u8 {
+    match error.kind() {
+        ErrorKind::OutOfMemory => 4,
+        ErrorKind::DisplayHelp | ErrorKind::DisplayVersion => 0,
+        _ => 2,
+    }
+}

@@ -1,0 +1,69 @@
+// What the program answers in the place of a result.
+
+ghost use Rattle.std.specs.Prelude.{◌≡◌};
+ghost use Rattle.tl_cli.specs.Faults.{numbers_of, status_of};
+
+use arrayvec::ArrayVec;
+use thiserror::Error;
+use tl_instr::fault::CodeFault;
+use tl_tree::fault::TreeFault;
+use tl_verify::fault::VerifyFault;
+
+/// Why the program has no result to print.
+#[derive(Clone, Copy, Debug, PartialEq, Eq, Error)]
+pub enum CliFault {
+    /// 31: a file can't be read.
+    #[error("a file can't be read")]
+    Unreadable,
+    /// 101 to 106, 190: the tree.
+    #[error("the tree: {0}")]
+    Tree(TreeFault),
+    /// 201 to 206, 290: the container.
+    #[error("the procedure: {0}")]
+    Code(CodeFault),
+    /// 305 to 307, 401 to 408, 490: the code isn't accepted.
+    #[error("the procedure: {0}")]
+    Verify(VerifyFault),
+    /// 732: the arguments are no JSON list of integers of 64 bits.
+    #[error("the arguments are not a list of numbers")]
+    NotArgs,
+    /// 501: another number of arguments than the procedure takes.
+    #[error("another number of arguments than the procedure takes")]
+    WrongArgs,
+    /// 990: memory was refused.
+    #[error("out of memory")]
+    Memory,
+}
+
+impl CliFault {
+    /// The fault's number, then its parts.
+    pub fn numbers(&self) -> ArrayVec<u64, 3>
+        ensures { result.items ≡ numbers_of self.now }
+    {
+        let mut numbers = ArrayVec::new();
+        match self {
+            CliFault::Unreadable => numbers.push(31),
+            CliFault::Tree(fault) => return fault.numbers(),
+            CliFault::Code(fault) => return fault.numbers(),
+            CliFault::Verify(fault) => return fault.numbers(),
+            CliFault::NotArgs => numbers.push(732),
+            CliFault::WrongArgs => numbers.push(501),
+            CliFault::Memory => numbers.push(990),
+        }
+        numbers
+    }
+
+    /// The program's exit status: 3 for a device, 4 for want of memory, else 1.
+    pub fn status(&self) -> u8
+        ensures { result ≡ status_of self.now }
+    {
+        match self {
+            CliFault::Unreadable => 3,
+            CliFault::Tree(TreeFault::Memory)
+            | CliFault::Code(CodeFault::Memory)
+            | CliFault::Verify(VerifyFault::Memory)
+            | CliFault::Memory => 4,
+            _ => 1,
+        }
+    }
+}

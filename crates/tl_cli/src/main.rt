@@ -1,0 +1,77 @@
+//! The program `treedb`.
+#![tactic(auto)]
+
+mod alone;
+mod command_line;
+mod fault;
+mod output;
+#[cfg(test)]
+mod tests;
+
+use command_line::{Asked, Request};
+use fault::CliFault;
+use std::alloc::{AllocError, Global};
+use std::io;
+use std::io::ErrorKind;
+use std::process::ExitCode;
+use std::rt::Files;
+
+// The bytes of a file. 31 where it can't be read, 990 where memory was refused.
+fn file<R: Files + AllocGlobal>(rt: &R, path: &str) -> Result<Vec<u8>, CliFault> {
+    match std::fs::read(rt, path) {
+        Ok(bytes) => Ok(bytes),
+        Err(error) => Err(if error.kind() == ErrorKind::OutOfMemory {
+            CliFault::Memory
+        } else {
+            CliFault::Unreadable
+        }),
+    }
+}
+
+// What the program prints for a request.
+fn answer<R: Files + AllocGlobal>(rt: &R, request: &Request) -> Result<String, CliFault> {
+    match *request {
+        Request::Alone {
+            tree,
+            procedure,
+            args,
+        } => {
+            let tree = file(rt, tree)?;
+            let procedure = file(rt, procedure)?;
+            alone::alone_cmd(rt.alloc(), &tree, &procedure, args)
+        }
+    }
+}
+
+// Prints what a request gives, and answers the program's status.
+fn carry_out<R: Files + Print + Eprint + AllocGlobal>(
+    rt: &R,
+    request: &Request,
+) -> io::Result<ExitCode> {
+    match answer(rt, request) {
+        Ok(text) => {
+            rt.print(text.as_str())?;
+            Ok(ExitCode::SUCCESS)
+        }
+        Err(fault) => {
+            output::print_fault(rt, &fault)?;
+            Ok(ExitCode::from(fault.status()))
+        }
+    }
+}
+
+fn main(rt: HostRuntime) -> io::Result<ExitCode> {
+    let alloc = rt.alloc();
+    let words: Result<Vec<String>, AllocError> = std::env::args(&rt)?.collect(alloc);
+    let Ok(words) = words else {
+        return Ok(ExitCode::from(4));
+    };
+    match command_line::parse(alloc, &words) {
+        Ok(Asked::Request(request)) => carry_out(&rt, &request),
+        Ok(Asked::Told(error)) => {
+            error.print(&rt)?;
+            Ok(ExitCode::from(command_line::status(&error)))
+        }
+        Err(_) => Ok(ExitCode::from(4)),
+    }
+}
