@@ -7,3 +7,5 @@ pub mod call;
 pub mod fault;
 pub mod reply;
 pub mod step;
+#[cfg(test)]
+mod tests;

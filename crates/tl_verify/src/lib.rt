@@ -8,3 +8,5 @@ pub mod marks;
 pub mod objection;
 pub mod procedure;
 pub mod registers;
+#[cfg(test)]
+mod tests;
