@@ -16,7 +16,7 @@ const ADD: [u8; 64] = [
 ];
 
 /// The numbers of the fault, or none where the bytes are read.
-fn fault_in(alloc: Global, bytes: &[u8]) -> ArrayVec<u64, 2> {
+fn fault_in(alloc: Global, bytes: &[u8]) -> ArrayVec<u64, 3> {
     match decode(alloc, bytes) {
         Ok(_) => ArrayVec::new(),
         Err(fault) => fault.numbers(),
