@@ -2,13 +2,19 @@
 use Rattle.std.specs.Prelude.{ℕ, ◌<◌, ◌≤◌, List, [], ◌∷◌}
 use Rattle.tl_instr.specs.declared.instr.Instr.{Instr}
 use Rattle.tl_budget.specs.declared.fault.NestFault.{NestFault}
-use Rattle.tl_budget.specs.declared.fault.NestFault.TheVariants.{StepsOver, LocksOver, EmitsOver}
+use Rattle.tl_budget.specs.declared.fault.NestFault.TheVariants.{EndAlone, ZeroCount, TooDeep, LoopOpen, StepsOver, LocksOver, EmitsOver, Memory}
 use Rattle.tl_budget.specs.Loops.{budget, lock_bound, emit_bound}
 
+-- a fault's number, and then its parts
 abbrev pub numbers_of : NestFault → List ℕ
+numbers_of (LoopOpen p) = 301 ∷ p ∷ []
+numbers_of (EndAlone p) = 302 ∷ p ∷ []
+numbers_of (TooDeep p) = 303 ∷ p ∷ []
+numbers_of (ZeroCount p) = 304 ∷ p ∷ []
 numbers_of StepsOver = 305 ∷ []
 numbers_of LocksOver = 306 ∷ []
 numbers_of EmitsOver = 307 ∷ []
+numbers_of Memory = 390 ∷ []
 
 -- what a procedure may cost
 pub record IsWithinLimits (code : List Instr) : Type 0 where
@@ -21,3 +27,4 @@ abbrev pub IsOver : List Instr → NestFault → Type 0
 IsOver code StepsOver = 1000000 < budget code
 IsOver code LocksOver = (budget code ≤ 1000000) × (4096 < lock_bound code)
 IsOver code EmitsOver = (budget code ≤ 1000000) × (lock_bound code ≤ 4096) × (32 < emit_bound code)
+IsOver code f = ⊥

@@ -1,2 +1,4 @@
 pub mod Loops
+pub mod Findings
+pub mod Nested
 pub mod Faults

@@ -4,11 +4,24 @@ ghost use Rattle.std.specs.Prelude.{◌≡◌};
 ghost use Rattle.tl_budget.specs.Faults.{numbers_of};
 
 use arrayvec::ArrayVec;
+use std::alloc::AllocError;
 use thiserror::Error;
 
-/// Why the loops or the costs of a code aren't accepted.
+/// Why the loops or the costs of a code aren't accepted. Positions are counted from 0.
 #[derive(Clone, Copy, Debug, PartialEq, Eq, Error)]
 pub enum NestFault {
+    /// 301: the loop that opens here has no end.
+    #[error("instruction {0}: the loop has no end")]
+    LoopOpen(u16),
+    /// 302: an end without an open loop.
+    #[error("instruction {0}: an end without a loop")]
+    EndAlone(u16),
+    /// 303: a loop opens with four others open.
+    #[error("instruction {0}: more than four loops in one another")]
+    TooDeep(u16),
+    /// 304: a loop that turns no time.
+    #[error("instruction {0}: a loop of no turns")]
+    ZeroCount(u16),
     /// 305: the code may do more than 1,000,000 instructions.
     #[error("more than 1000000 steps")]
     StepsOver,
@@ -18,6 +31,17 @@ pub enum NestFault {
     /// 307: the code may emit more than 32 values.
     #[error("more than 32 emitted values")]
     EmitsOver,
+    /// 390: memory was refused.
+    #[error("out of memory")]
+    Memory,
+}
+
+impl From<AllocError> for NestFault {
+    fn from(_: AllocError) -> NestFault
+        ensures { result ≡ NestFault.Memory }
+    {
+        NestFault::Memory
+    }
 }
 
 impl NestFault {
@@ -25,12 +49,21 @@ impl NestFault {
     pub fn numbers(&self) -> ArrayVec<u64, 3>
         ensures { result.items ≡ numbers_of self.now }
     {
+        let (number, position) = match *self {
+            NestFault::LoopOpen(position) => (301, Some(position)),
+            NestFault::EndAlone(position) => (302, Some(position)),
+            NestFault::TooDeep(position) => (303, Some(position)),
+            NestFault::ZeroCount(position) => (304, Some(position)),
+            NestFault::StepsOver => (305, None),
+            NestFault::LocksOver => (306, None),
+            NestFault::EmitsOver => (307, None),
+            NestFault::Memory => (390, None),
+        };
         let mut numbers = ArrayVec::new();
-        numbers.push(match *self {
-            NestFault::StepsOver => 305,
-            NestFault::LocksOver => 306,
-            NestFault::EmitsOver => 307,
-        });
+        numbers.push(number);
+        if let Some(position) = position {
+            numbers.push(u64::from(position));
+        }
         numbers
     }
 }

@@ -3,4 +3,6 @@
 
 pub mod fault;
 pub mod limits;
+pub mod nested;
+pub mod nesting;
 pub mod sums;

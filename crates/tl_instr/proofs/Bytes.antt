@@ -5,7 +5,7 @@ use Rattle.std.proofs.lemmas.Nat.{from_be_bytes-to_be_bytes_4}
 use Rattle.std.proofs.Math.Facts.{Fits-of_z}
 use Rattle.tl_instr.specs.declared.cell.Cell.{Cell}
 use Rattle.tl_instr.specs.declared.instr.Instr.{Instr}
-use Rattle.tl_instr.specs.declared.instr.Instr.TheVariants.{Set, Add, First, Release, Get, Put, Emit, Return}
+use Rattle.tl_instr.specs.declared.instr.Instr.TheVariants.{Set, Copy, Add, Subtract, Multiply, Divide, Jump, JumpIfLess, JumpIfEqual, Repeat, End, First, Child, Move, Release, Get, Put, Kids, Emit, Return}
 use Rattle.tl_instr.specs.Instructions.{IsInstr}
 use Rattle.tl_instr.specs.Faults.{IsCell}
 use Rattle.tl_instr.specs.Spelling.{cell, cell_of, cell_bytes, instr_bytes}
@@ -15,11 +15,23 @@ use Rattle.tl_instr.specs.Reading.{instr_in}
 -- what a cell's last operand says has 32 bits
 pub w_fits : (count : ℕ) (i : Instr) → count < 2 ^ 16 → IsInstr count i → (cell_of i).w < 2 ^ 32
 w_fits count (Set to number) lt h = (Fits-of_z h.in_range.1).fits
+w_fits count (Copy to from) lt h = omega arith
 w_fits count (Add to left right otherwise) lt h = omega (arith, h.goes_within)
+w_fits count (Subtract to left right otherwise) lt h = omega (arith, h.goes_within)
+w_fits count (Multiply to left right otherwise) lt h = omega (arith, h.goes_within)
+w_fits count (Divide to left right otherwise) lt h = omega (arith, h.goes_within)
+w_fits count (Jump to) lt h = omega (arith, h.goes_within)
+w_fits count (JumpIfLess left right to) lt h = omega (arith, h.goes_within)
+w_fits count (JumpIfEqual left right to) lt h = omega (arith, h.goes_within)
+w_fits many (Repeat count) lt h = omega (arith, h.in_range)
+w_fits count End lt h = omega arith
 w_fits count (First to number otherwise) lt h = omega (arith, h.goes_within)
+w_fits count (Child to parent number otherwise) lt h = omega (arith, h.goes_within)
+w_fits count (Move to from) lt h = omega arith
 w_fits count (Release node) lt h = omega arith
 w_fits count (Get to node field) lt h = omega arith
 w_fits count (Put node field from) lt h = omega arith
+w_fits count (Kids to node) lt h = omega arith
 w_fits count (Emit from) lt h = omega arith
 w_fits count Return lt h = omega arith
 

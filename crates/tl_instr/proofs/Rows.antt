@@ -44,7 +44,7 @@ out_of_range : instr_in (cell 3 16 2 1 4) ≡ None
 unfolding instr_in add_in
 out_of_range = refl
 
-no_such_opcode : instr_in (cell 2 0 0 0 0) ≡ None
+no_such_opcode : instr_in (cell 21 0 0 0 0) ≡ None
 unfolding instr_in
 no_such_opcode = refl
 

@@ -4,7 +4,7 @@ use Rattle.std.specs.List.{flat_map}
 use Rattle.std.specs.Int.{w16, w32, cast_unsigned, to_be_bytes}
 use Rattle.tl_instr.specs.declared.cell.Cell.{Cell}
 use Rattle.tl_instr.specs.declared.instr.Instr.{Instr}
-use Rattle.tl_instr.specs.declared.instr.Instr.TheVariants.{Set, Add, First, Release, Get, Put, Emit, Return}
+use Rattle.tl_instr.specs.declared.instr.Instr.TheVariants.{Set, Copy, Add, Subtract, Multiply, Divide, Jump, JumpIfLess, JumpIfEqual, Repeat, End, First, Child, Move, Release, Get, Put, Kids, Emit, Return}
 use Rattle.tl_instr.specs.Codes.{CodeValue, IsCode}
 
 abbrev pub cell : ℕ → ℕ → ℕ → ℕ → ℕ → Cell
@@ -13,11 +13,23 @@ cell opcode x y z w = record { opcode = opcode; x = x; y = y; z = z; w = w }
 -- An instruction's opcode and operands: a register, a field or a target is its number, and what isn't used is 0.
 abbrev pub cell_of : Instr → Cell
 cell_of (Set to number) = cell 1 to 0 0 (cast_unsigned w32 number)
+cell_of (Copy to from) = cell 2 to from 0 0
 cell_of (Add to left right otherwise) = cell 3 to left right otherwise
+cell_of (Subtract to left right otherwise) = cell 4 to left right otherwise
+cell_of (Multiply to left right otherwise) = cell 5 to left right otherwise
+cell_of (Divide to left right otherwise) = cell 6 to left right otherwise
+cell_of (Jump to) = cell 7 0 0 0 to
+cell_of (JumpIfLess left right to) = cell 8 left right 0 to
+cell_of (JumpIfEqual left right to) = cell 9 left right 0 to
+cell_of (Repeat count) = cell 10 0 0 0 count
+cell_of End = cell 11 0 0 0 0
 cell_of (First to number otherwise) = cell 12 to number 0 otherwise
+cell_of (Child to parent number otherwise) = cell 13 to parent number otherwise
+cell_of (Move to from) = cell 14 to from 0 0
 cell_of (Release node) = cell 15 node 0 0 0
 cell_of (Get to node field) = cell 16 to node field 0
 cell_of (Put node field from) = cell 17 node field from 0
+cell_of (Kids to node) = cell 18 to node 0 0
 cell_of (Emit from) = cell 19 from 0 0 0
 cell_of Return = cell 20 0 0 0 0
 

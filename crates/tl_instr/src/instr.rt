@@ -11,6 +11,11 @@ pub enum Instr {
         to: ValueRegister,
         number: i32,
     },
+    /// `copy vx vy`: the register takes the other's value.
+    Copy {
+        to: ValueRegister,
+        from: ValueRegister,
+    },
     /// `add vx vy vz else L`: the sum, or the target where it doesn't fit 64 bits.
     Add {
         to: ValueRegister,
@@ -18,11 +23,67 @@ pub enum Instr {
         right: ValueRegister,
         otherwise: u16,
     },
+    /// `sub vx vy vz else L`: the difference, or the target where it doesn't fit 64 bits.
+    Subtract {
+        to: ValueRegister,
+        left: ValueRegister,
+        right: ValueRegister,
+        otherwise: u16,
+    },
+    /// `mul vx vy vz else L`: the product, or the target where it doesn't fit 64 bits.
+    Multiply {
+        to: ValueRegister,
+        left: ValueRegister,
+        right: ValueRegister,
+        otherwise: u16,
+    },
+    /// `div vx vy vz else L`: the quotient, rounded toward 0, or the target where the divisor is 0 or it doesn't fit.
+    Divide {
+        to: ValueRegister,
+        left: ValueRegister,
+        right: ValueRegister,
+        otherwise: u16,
+    },
+    /// `jmp L`: control goes to the target.
+    Jump {
+        target: u16,
+    },
+    /// `jlt vx vy L`: control goes to the target if the left value is less than the right one.
+    JumpIfLess {
+        left: ValueRegister,
+        right: ValueRegister,
+        target: u16,
+    },
+    /// `jeq vx vy L`: control goes to the target if the values are equal.
+    JumpIfEqual {
+        left: ValueRegister,
+        right: ValueRegister,
+        target: u16,
+    },
+    /// `rep w`: the body up to the end that matches runs that many times.
+    Repeat {
+        count: u16,
+    },
+    /// `end`: a turn of the innermost loop ends.
+    End,
     /// `first nx vy else L`: locks the node of that number, or the target where there is none.
     First {
         to: NodeRegister,
         number: ValueRegister,
         otherwise: u16,
+    },
+    /// `child nx ny vz else L`: locks that child of a held node, or the target where its cursor is past that child, or
+    /// there is none.
+    Child {
+        to: NodeRegister,
+        parent: NodeRegister,
+        number: ValueRegister,
+        otherwise: u16,
+    },
+    /// `move nx ny`: the register takes the other's node and cursor, and the other is empty then.
+    Move {
+        to: NodeRegister,
+        from: NodeRegister,
     },
     /// `rel nx`: unlocks the node, and the register is empty then.
     Release {
@@ -39,6 +100,11 @@ pub enum Instr {
         node: NodeRegister,
         field: Field,
         from: ValueRegister,
+    },
+    /// `kids vx ny`: the register takes the number of the held node's children.
+    Kids {
+        to: ValueRegister,
+        node: NodeRegister,
     },
     /// `emit vx`: appends the value to the reply.
     Emit {
@@ -58,11 +124,24 @@ impl Instr {
         ensures { result ≡ target self.now }
     {
         match *self {
-            Instr::Add { otherwise, .. } | Instr::First { otherwise, .. } => Some(otherwise),
+            Instr::Jump { target }
+            | Instr::JumpIfLess { target, .. }
+            | Instr::JumpIfEqual { target, .. } => Some(target),
+            Instr::Add { otherwise, .. }
+            | Instr::Subtract { otherwise, .. }
+            | Instr::Multiply { otherwise, .. }
+            | Instr::Divide { otherwise, .. }
+            | Instr::First { otherwise, .. }
+            | Instr::Child { otherwise, .. } => Some(otherwise),
             Instr::Set { .. }
+            | Instr::Copy { .. }
+            | Instr::Repeat { .. }
+            | Instr::End
+            | Instr::Move { .. }
             | Instr::Release { .. }
             | Instr::Get { .. }
             | Instr::Put { .. }
+            | Instr::Kids { .. }
             | Instr::Emit { .. }
             | Instr::Return => None,
         }
@@ -75,6 +154,7 @@ impl Instr {
     {
         match *self {
             Instr::Set { to, number } => Cell::new(1, to.number(), 0, 0, number.cast_unsigned()),
+            Instr::Copy { to, from } => Cell::new(2, to.number(), from.number(), 0, 0),
             Instr::Add {
                 to,
                 left,
@@ -87,11 +167,73 @@ impl Instr {
                 right.number(),
                 u32::from(otherwise),
             ),
+            Instr::Subtract {
+                to,
+                left,
+                right,
+                otherwise,
+            } => Cell::new(
+                4,
+                to.number(),
+                left.number(),
+                right.number(),
+                u32::from(otherwise),
+            ),
+            Instr::Multiply {
+                to,
+                left,
+                right,
+                otherwise,
+            } => Cell::new(
+                5,
+                to.number(),
+                left.number(),
+                right.number(),
+                u32::from(otherwise),
+            ),
+            Instr::Divide {
+                to,
+                left,
+                right,
+                otherwise,
+            } => Cell::new(
+                6,
+                to.number(),
+                left.number(),
+                right.number(),
+                u32::from(otherwise),
+            ),
+            Instr::Jump { target } => Cell::new(7, 0, 0, 0, u32::from(target)),
+            Instr::JumpIfLess {
+                left,
+                right,
+                target,
+            } => Cell::new(8, left.number(), right.number(), 0, u32::from(target)),
+            Instr::JumpIfEqual {
+                left,
+                right,
+                target,
+            } => Cell::new(9, left.number(), right.number(), 0, u32::from(target)),
+            Instr::Repeat { count } => Cell::new(10, 0, 0, 0, u32::from(count)),
+            Instr::End => Cell::new(11, 0, 0, 0, 0),
             Instr::First {
                 to,
                 number,
                 otherwise,
             } => Cell::new(12, to.number(), number.number(), 0, u32::from(otherwise)),
+            Instr::Child {
+                to,
+                parent,
+                number,
+                otherwise,
+            } => Cell::new(
+                13,
+                to.number(),
+                parent.number(),
+                number.number(),
+                u32::from(otherwise),
+            ),
+            Instr::Move { to, from } => Cell::new(14, to.number(), from.number(), 0, 0),
             Instr::Release { node } => Cell::new(15, node.number(), 0, 0, 0),
             Instr::Get { to, node, field } => {
                 Cell::new(16, to.number(), node.number(), field.number(), 0)
@@ -99,6 +241,7 @@ impl Instr {
             Instr::Put { node, field, from } => {
                 Cell::new(17, node.number(), field.number(), from.number(), 0)
             }
+            Instr::Kids { to, node } => Cell::new(18, to.number(), node.number(), 0, 0),
             Instr::Emit { from } => Cell::new(19, from.number(), 0, 0, 0),
             Instr::Return => Cell::new(20, 0, 0, 0, 0),
         }

@@ -3,7 +3,7 @@
 ghost use Rattle.std.specs.Prelude.{◌≡◌, ◌≢◌, ◌↔◌, IsTrue, MatchOption};
 ghost use Rattle.tl_instr.specs.Faults.{IsOpcode};
 ghost use Rattle.tl_instr.specs.Instructions.{IsInstr};
-ghost use Rattle.tl_instr.specs.Reading.{set_in, add_in, first_in, release_in, get_in, put_in, emit_in, instr_in};
+ghost use Rattle.tl_instr.specs.Reading.{set_in, copy_in, add_in, subtract_in, multiply_in, divide_in, jump_in, jump_if_less_in, jump_if_equal_in, repeat_in, first_in, child_in, move_in, release_in, get_in, put_in, kids_in, emit_in, instr_in};
 ghost use Rattle.tl_instr.specs.Spelling.{cell_of};
 
 use crate::cell::Cell;
@@ -20,6 +20,16 @@ fn set(cell: Cell) -> Option<Instr>
     })
 }
 
+#[tactic(auto, unfolding(crate::specs::Reading::copy_in))]
+fn copy(cell: Cell) -> Option<Instr>
+    ensures { result ≡ copy_in cell }
+{
+    Some(Instr::Copy {
+        to: ValueRegister::new(cell.x)?,
+        from: ValueRegister::new(cell.y)?,
+    })
+}
+
 #[tactic(auto, unfolding(crate::specs::Reading::add_in))]
 fn add(cell: Cell) -> Option<Instr>
     ensures { result ≡ add_in cell }
@@ -32,6 +42,82 @@ fn add(cell: Cell) -> Option<Instr>
     })
 }
 
+#[tactic(auto, unfolding(crate::specs::Reading::subtract_in))]
+fn subtract(cell: Cell) -> Option<Instr>
+    ensures { result ≡ subtract_in cell }
+{
+    Some(Instr::Subtract {
+        to: ValueRegister::new(cell.x)?,
+        left: ValueRegister::new(cell.y)?,
+        right: ValueRegister::new(cell.z)?,
+        otherwise: u16::try_from(cell.w).ok()?,
+    })
+}
+
+#[tactic(auto, unfolding(crate::specs::Reading::multiply_in))]
+fn multiply(cell: Cell) -> Option<Instr>
+    ensures { result ≡ multiply_in cell }
+{
+    Some(Instr::Multiply {
+        to: ValueRegister::new(cell.x)?,
+        left: ValueRegister::new(cell.y)?,
+        right: ValueRegister::new(cell.z)?,
+        otherwise: u16::try_from(cell.w).ok()?,
+    })
+}
+
+#[tactic(auto, unfolding(crate::specs::Reading::divide_in))]
+fn divide(cell: Cell) -> Option<Instr>
+    ensures { result ≡ divide_in cell }
+{
+    Some(Instr::Divide {
+        to: ValueRegister::new(cell.x)?,
+        left: ValueRegister::new(cell.y)?,
+        right: ValueRegister::new(cell.z)?,
+        otherwise: u16::try_from(cell.w).ok()?,
+    })
+}
+
+#[tactic(auto, unfolding(crate::specs::Reading::jump_in))]
+fn jump(cell: Cell) -> Option<Instr>
+    ensures { result ≡ jump_in cell }
+{
+    Some(Instr::Jump {
+        target: u16::try_from(cell.w).ok()?,
+    })
+}
+
+#[tactic(auto, unfolding(crate::specs::Reading::jump_if_less_in))]
+fn jump_if_less(cell: Cell) -> Option<Instr>
+    ensures { result ≡ jump_if_less_in cell }
+{
+    Some(Instr::JumpIfLess {
+        left: ValueRegister::new(cell.x)?,
+        right: ValueRegister::new(cell.y)?,
+        target: u16::try_from(cell.w).ok()?,
+    })
+}
+
+#[tactic(auto, unfolding(crate::specs::Reading::jump_if_equal_in))]
+fn jump_if_equal(cell: Cell) -> Option<Instr>
+    ensures { result ≡ jump_if_equal_in cell }
+{
+    Some(Instr::JumpIfEqual {
+        left: ValueRegister::new(cell.x)?,
+        right: ValueRegister::new(cell.y)?,
+        target: u16::try_from(cell.w).ok()?,
+    })
+}
+
+#[tactic(auto, unfolding(crate::specs::Reading::repeat_in))]
+fn repeat(cell: Cell) -> Option<Instr>
+    ensures { result ≡ repeat_in cell }
+{
+    Some(Instr::Repeat {
+        count: u16::try_from(cell.w).ok()?,
+    })
+}
+
 #[tactic(auto, unfolding(crate::specs::Reading::first_in))]
 fn first(cell: Cell) -> Option<Instr>
     ensures { result ≡ first_in cell }
@@ -40,6 +126,28 @@ fn first(cell: Cell) -> Option<Instr>
         to: NodeRegister::new(cell.x)?,
         number: ValueRegister::new(cell.y)?,
         otherwise: u16::try_from(cell.w).ok()?,
+    })
+}
+
+#[tactic(auto, unfolding(crate::specs::Reading::child_in))]
+fn child(cell: Cell) -> Option<Instr>
+    ensures { result ≡ child_in cell }
+{
+    Some(Instr::Child {
+        to: NodeRegister::new(cell.x)?,
+        parent: NodeRegister::new(cell.y)?,
+        number: ValueRegister::new(cell.z)?,
+        otherwise: u16::try_from(cell.w).ok()?,
+    })
+}
+
+#[tactic(auto, unfolding(crate::specs::Reading::move_in))]
+fn move_node(cell: Cell) -> Option<Instr>
+    ensures { result ≡ move_in cell }
+{
+    Some(Instr::Move {
+        to: NodeRegister::new(cell.x)?,
+        from: NodeRegister::new(cell.y)?,
     })
 }
 
@@ -74,6 +182,16 @@ fn put(cell: Cell) -> Option<Instr>
     })
 }
 
+#[tactic(auto, unfolding(crate::specs::Reading::kids_in))]
+fn kids(cell: Cell) -> Option<Instr>
+    ensures { result ≡ kids_in cell }
+{
+    Some(Instr::Kids {
+        to: ValueRegister::new(cell.x)?,
+        node: NodeRegister::new(cell.y)?,
+    })
+}
+
 #[tactic(auto, unfolding(crate::specs::Reading::emit_in))]
 fn emit(cell: Cell) -> Option<Instr>
     ensures { result ≡ emit_in cell }
@@ -90,11 +208,23 @@ fn named(cell: Cell) -> Option<Instr>
 {
     match cell.opcode {
         1 => set(cell),
+        2 => copy(cell),
         3 => add(cell),
+        4 => subtract(cell),
+        5 => multiply(cell),
+        6 => divide(cell),
+        7 => jump(cell),
+        8 => jump_if_less(cell),
+        9 => jump_if_equal(cell),
+        10 => repeat(cell),
+        11 => Some(Instr::End),
         12 => first(cell),
+        13 => child(cell),
+        14 => move_node(cell),
         15 => release(cell),
         16 => get(cell),
         17 => put(cell),
+        18 => kids(cell),
         19 => emit(cell),
         20 => Some(Instr::Return),
         _ => None,
@@ -102,7 +232,9 @@ fn named(cell: Cell) -> Option<Instr>
 }
 
 /// The language's opcodes.
-const OPCODES: [u8; 8] = [1, 3, 12, 15, 16, 17, 19, 20];
+const OPCODES: [u8; 20] = [
+    1, 2, 3, 4, 5, 6, 7, 8, 9, 10, 11, 12, 13, 14, 15, 16, 17, 18, 19, 20,
+];
 
 pub fn is_opcode(opcode: u8) -> bool
     ensures { IsTrue result ↔ IsOpcode opcode }

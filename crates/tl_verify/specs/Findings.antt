@@ -2,7 +2,8 @@
 use Rattle.std.specs.Prelude.{◌≡◌, ◌≢◌, ◌⊎◌, ℕ, ◌+◌, ◌<◌, ◌≤◌, List, true, false, Some, length, slice_get}
 use Rattle.tl_instr.specs.declared.instr.Instr.{Instr}
 use Rattle.tl_instr.specs.Instructions.{target}
-use Rattle.tl_budget.specs.Loops.{budget, lock_bound, emit_bound}
+use Rattle.tl_budget.specs.Loops.{Loop, IsAround, loop_at, budget, lock_bound, emit_bound}
+use Rattle.tl_budget.specs.Findings as loops
 use Rattle.tl_budget.specs.declared.fault.NestFault.TheVariants as nest
 use Rattle.tl_verify.specs.declared.marks.Marks.{Marks}
 use Rattle.tl_verify.specs.declared.fault.VerifyFault.{VerifyFault}
@@ -11,15 +12,19 @@ use Rattle.tl_verify.specs.Marks.{is_held, source, destination, is_first, is_ret
 use Rattle.tl_verify.specs.Ways.{Way}
 
 pub data Finding : Type 0 where
+  -- of the loops
+  OfLoops : (f : loops.Finding) → Finding
   -- of a target
   TargetBack : (p : ℕ) → Finding
   TargetPastEnd : (p : ℕ) → Finding
+  TargetInLoop : (p : ℕ) → Finding
   -- of the registers at a position that control may come to
   Joined : (p : ℕ) → Finding
   Spent : (p : ℕ) → Finding
   Missing : (p n : ℕ) → Finding
   Taken : (p n : ℕ) → Finding
   LeftHeld : (p n : ℕ) → Finding
+  Changed : (p : ℕ) → Finding
   NextPastEnd : (p : ℕ) → Finding
   -- of the sums
   Steps : Finding
@@ -31,11 +36,20 @@ pub record Meets (code : List Instr) (p : ℕ) (i : Instr) (m : Marks) : Type 0 
   pub at : slice_get code p ≡ Some i
   pub way : Way code p m
 
+-- What control brings to the end of the loop's body isn't what it brought to the body's start: another register is held, or
+-- first is spent in some way that was open in all ways to the start.
+pub record Changes (code : List Instr) (l : Loop) (m : Marks) : Type 0 where
+  pub start : Marks
+  pub way : Way code (l.opening + 1) start
+  pub differs : (m.held ≢ start.held) ⊎ ((m.is_open ≡ false) × ((k : Marks) → Way code (l.opening + 1) k → k.is_open ≡ true))
+
 -- A finding arises.
 abbrev pub Arises : List Instr → Finding → Type 0
--- the target is at or before the jump, or past the end, at any instruction
+Arises code (OfLoops f) = loops.Arises code f
+-- the target is at or before the jump, or past the end, or in a loop that the jump isn't in, at any instruction
 Arises code (TargetBack p) = (i : Instr) × (l : ℕ) × (slice_get code p ≡ Some i) × (target i ≡ Some l) × (l ≤ p)
 Arises code (TargetPastEnd p) = (i : Instr) × (l : ℕ) × (slice_get code p ≡ Some i) × (target i ≡ Some l) × (length code ≤ l)
+Arises code (TargetInLoop p) = (i : Instr) × (l o : ℕ) × (k : Loop) × (slice_get code p ≡ Some i) × (target i ≡ Some l) × IsAround code o k l × (IsAround code o k p → ⊥)
 -- two ways differ in what they hold
 Arises code (Joined p) = (i : Instr) × (m k : Marks) × Meets code p i m × Meets code p i k × (m.held ≢ k.held)
 -- first, spent in some way
@@ -46,6 +60,8 @@ Arises code (Missing p n) = (i : Instr) × (m : Marks) × Meets code p i m × (s
 Arises code (Taken p n) = (i : Instr) × (m : Marks) × Meets code p i m × (destination i ≡ Some n) × (is_held m n ≡ true)
 -- the call ends while a register holds a node: the least such
 Arises code (LeftHeld p n) = (i : Instr) × (m : Marks) × Meets code p i m × (is_return i ≡ true) × (is_held m n ≡ true) × ((k : ℕ) → k < n → is_held m k ≡ false)
+-- a turn of a loop changes what is held, or spends first
+Arises code (Changed p) = (i : Instr) × (m : Marks) × (o : ℕ) × (l : Loop) × Meets code p i m × (loop_at code o ≡ Some l) × (l.close ≡ p) × Changes code l m
 -- control goes on past the end
 Arises code (NextPastEnd p) = (i : Instr) × (m : Marks) × Meets code p i m × (goes_on i ≡ true) × (length code ≤ p + 1)
 -- the sums are above their limits
@@ -53,37 +69,45 @@ Arises code Steps = 1000000 < budget code
 Arises code Locks = 4096 < lock_bound code
 Arises code Emits = 32 < emit_bound code
 
--- what is looked at first: targets, then registers, then sums
+-- what is looked at first: loops, in two passes, then targets, then registers, then sums
 abbrev pub pass : Finding → ℕ
-pass (TargetBack p) = 0
-pass (TargetPastEnd p) = 0
-pass Steps = 2
-pass Locks = 2
-pass Emits = 2
-pass f = 1
+pass (OfLoops f) = loops.pass f
+pass (TargetBack p) = 2
+pass (TargetPastEnd p) = 2
+pass (TargetInLoop p) = 2
+pass Steps = 4
+pass Locks = 4
+pass Emits = 4
+pass f = 3
 
 -- in one pass the least position comes first
 abbrev pub position : Finding → ℕ
+position (OfLoops f) = loops.position f
 position (TargetBack p) = p
 position (TargetPastEnd p) = p
+position (TargetInLoop p) = p
 position (Joined p) = p
 position (Spent p) = p
 position (Missing p n) = p
 position (Taken p n) = p
 position (LeftHeld p n) = p
+position (Changed p) = p
 position (NextPastEnd p) = p
 position f = 0
 
 -- and at one position, or of the sums, this order
 abbrev pub rank : Finding → ℕ
+rank (OfLoops f) = loops.rank f
 rank (TargetBack p) = 0
 rank (TargetPastEnd p) = 1
+rank (TargetInLoop p) = 2
 rank (Joined p) = 0
 rank (Spent p) = 1
 rank (Missing p n) = 2
 rank (Taken p n) = 3
 rank (LeftHeld p n) = 4
-rank (NextPastEnd p) = 5
+rank (Changed p) = 5
+rank (NextPastEnd p) = 6
 rank Steps = 0
 rank Locks = 1
 rank Emits = 2
@@ -93,13 +117,16 @@ abbrev pub Precedes : Finding → Finding → Type 0
 Precedes f g = (pass f < pass g) ⊎ ((pass f ≡ pass g) × ((position f < position g) ⊎ ((position f ≡ position g) × (rank f < rank g))))
 
 abbrev pub fault_of : Finding → VerifyFault
+fault_of (OfLoops f) = fault.Nest (loops.fault_of f)
 fault_of (TargetBack p) = fault.BackJump p
 fault_of (TargetPastEnd p) = fault.OffEnd p
+fault_of (TargetInLoop p) = fault.IntoLoop p
 fault_of (Joined p) = fault.Joins p
 fault_of (Spent p) = fault.FirstSpent p
 fault_of (Missing p n) = fault.NotHeld p n
 fault_of (Taken p n) = fault.Occupied p n
 fault_of (LeftHeld p n) = fault.HeldAtReturn p n
+fault_of (Changed p) = fault.LoopChanges p
 fault_of (NextPastEnd p) = fault.OffEnd p
 fault_of Steps = fault.Nest nest.StepsOver
 fault_of Locks = fault.Nest nest.LocksOver

@@ -1,8 +1,9 @@
 -- What an instruction asks of the node registers, and what it leaves of them.
 use Rattle.std.specs.Prelude.{◌≡◌, ℕ, ◌+◌, List, [], ◌∷◌, Bool, true, false, Option, Some, None, slice_set, get_or, replicate}
 use Rattle.tl_instr.specs.declared.instr.Instr.{Instr}
-use Rattle.tl_instr.specs.declared.instr.Instr.TheVariants.{First, Release, Get, Put, Return}
+use Rattle.tl_instr.specs.declared.instr.Instr.TheVariants.{Jump, First, Child, Move, Release, Get, Put, Kids, Return}
 use Rattle.tl_instr.specs.Instructions.{target}
+use Rattle.tl_budget.specs.Loops.{Loop, loop_at}
 use Rattle.tl_verify.specs.declared.marks.Marks.{Marks}
 
 abbrev pub is_held : Marks → ℕ → Bool
@@ -22,24 +23,32 @@ entry = record { held = replicate 8 false; is_open = true }
 
 -- the register that has to hold a node
 abbrev pub source : Instr → Option ℕ
+source (Child n parent v otherwise) = Some parent
+source (Move n from) = Some from
 source (Release n) = Some n
 source (Get v n f) = Some n
 source (Put n f v) = Some n
+source (Kids v n) = Some n
 source i = None
 
 -- the register that takes a node, and has to be empty
 abbrev pub destination : Instr → Option ℕ
 destination (First n v otherwise) = Some n
+destination (Child n parent v otherwise) = Some n
+destination (Move n from) = Some n
 destination i = None
 
 -- the marks behind an instruction that didn't go to its target
 abbrev pub after : Instr → Marks → Marks
 after (First n v otherwise) m = record { held = slice_set m.held n true; is_open = false }
+after (Child n parent v otherwise) m = with_held m n true
+after (Move n from) m = with_held (with_held m from false) n true
 after (Release n) m = with_held m n false
 after i m = m
 
 -- whether control may go to the next position
 abbrev pub goes_on : Instr → Bool
+goes_on (Jump to) = false
 goes_on Return = false
 goes_on i = true
 
@@ -56,3 +65,5 @@ pub data Leads (code : List Instr) (i : Instr) (p : ℕ) (m : Marks) (q : ℕ) (
   to_next : goes_on i ≡ true → q ≡ p + 1 → k ≡ after i m → Leads code i p m q k
   -- the marks are those from before the instruction
   to_target : target i ≡ Some q → k ≡ m → Leads code i p m q k
+  -- from a loop's end to the first position of its body
+  to_body : (o : ℕ) (l : Loop) → loop_at code o ≡ Some l → l.close ≡ p → q ≡ o + 1 → k ≡ m → Leads code i p m q k

@@ -3,6 +3,8 @@ use Rattle.std.specs.Prelude.{◌≡◌, List}
 use Rattle.tl_instr.specs.declared.instr.Instr.{Instr}
 use Rattle.tl_instr.specs.Codes.{CodeValue, IsCode}
 use Rattle.tl_budget.specs.declared.limits.Bounds.{Bounds}
+use Rattle.tl_budget.specs.declared.nested.Place.{Place}
+use Rattle.tl_budget.specs.Nested.{IsNest}
 use Rattle.tl_budget.specs.Loops.{budget, lock_bound, emit_bound}
 use Rattle.tl_verify.specs.Acceptable.{Acceptable}
 
@@ -12,7 +14,8 @@ pub record AreBounds (code : List Instr) (b : Bounds) : Type 0 where
   pub locks : b.locks ≡ lock_bound code
   pub emits : b.emits ≡ emit_bound code
 
-pub record IsProc (code : CodeValue) (b : Bounds) : Type 0 where
+pub record IsProc (code : CodeValue) (nest : List Place) (b : Bounds) : Type 0 where
   pub valid : IsCode code
   pub accepted : Acceptable code.instrs
+  pub nest : IsNest code.instrs nest
   pub bounds : AreBounds code.instrs b
