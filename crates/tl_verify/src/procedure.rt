@@ -2,6 +2,7 @@
 
 ghost use Rattle.std.specs.Prelude.{◌≡◌, ◌≢◌, IfOk, IfErr, length};
 ghost use Rattle.tl_instr.specs.Codes.{CodeValue, IsCode};
+ghost use Rattle.tl_budget.specs.Nested.{IsNest};
 ghost use Rattle.tl_budget.specs.Loops.{budget, lock_bound, emit_bound};
 ghost use Rattle.tl_verify.specs.Acceptable.{Acceptable};
 ghost use Rattle.tl_verify.specs.Findings.{IsFirstFault};
@@ -14,13 +15,16 @@ use crate::registers::registers;
 use std::alloc::Global;
 use std::marker::Model;
 use tl_budget::limits::Bounds;
+use tl_budget::nested::Nest;
+use tl_budget::nesting::nest;
 use tl_budget::sums::bounds;
 use tl_instr::code::Code;
 
-/// A code that was accepted, with its bounds. Only `verify` makes one.
+/// A code that was accepted, with its loops and its bounds. Only `verify` makes one.
 #[derive(Debug, Drop)]
 pub struct Proc {
     code: Code,
+    nest: Nest,
     bounds: Bounds,
 }
 
@@ -32,7 +36,7 @@ impl Model for Proc {
 
     ghost view = { λ p. p.code };
 
-    ghost invariant = { λ p. IsProc p.code p.bounds };
+    ghost invariant = { λ p. IsProc p.code p.nest p.bounds };
 }
 
 impl Proc {
@@ -42,6 +46,13 @@ impl Proc {
         ensures valid { IsCode self.now }
     {
         &self.code
+    }
+
+    /// The loops of the code.
+    pub fn nest(&self) -> &Nest
+        ensures { IsNest self.now.instrs result.now }
+    {
+        &self.nest
     }
 
     /// What a call does at most.
