@@ -1,5 +1,7 @@
 -- The numbers of a fault.
 use Rattle.std.specs.Prelude.{ℕ, List, [], ◌∷◌}
+use Rattle.tl_budget.specs.declared.fault.NestFault.{NestFault}
+use Rattle.tl_budget.specs.declared.fault.NestFault.TheVariants as nest
 use Rattle.tl_budget.specs.Faults.{numbers_of as nest_numbers_of}
 use Rattle.tl_verify.specs.declared.fault.VerifyFault.{VerifyFault}
 use Rattle.tl_verify.specs.declared.fault.VerifyFault.TheVariants.{Nest, BackJump, IntoLoop, OffEnd, FirstSpent, NotHeld, Occupied, HeldAtReturn, Joins, LoopChanges, Memory}
@@ -16,3 +18,14 @@ numbers_of (HeldAtReturn p n) = 407 ∷ p ∷ n ∷ []
 numbers_of (Joins p) = 408 ∷ p ∷ []
 numbers_of (LoopChanges p) = 409 ∷ p ∷ []
 numbers_of Memory = 490 ∷ []
+
+-- where memory was refused no fault was found
+abbrev pub of_nest : NestFault → VerifyFault
+of_nest (nest.LoopOpen p) = Nest (nest.LoopOpen p)
+of_nest (nest.EndAlone p) = Nest (nest.EndAlone p)
+of_nest (nest.TooDeep p) = Nest (nest.TooDeep p)
+of_nest (nest.ZeroCount p) = Nest (nest.ZeroCount p)
+of_nest nest.StepsOver = Nest nest.StepsOver
+of_nest nest.LocksOver = Nest nest.LocksOver
+of_nest nest.EmitsOver = Nest nest.EmitsOver
+of_nest nest.Memory = Memory

@@ -31,13 +31,13 @@ pub record Known (code : List Instr) (b : ℕ) (states : List (Option Arrivals))
   pub long : length states ≡ length code
   pub each : (q : ℕ) → q < length code → Collects (Comes code b q) (get_or states q None)
 
--- no target is back or past the end
+-- nothing is found of the loops and of the targets
 pub record Ahead (code : List Instr) : Type 0 where
-  pub none : (f : Finding) → pass f ≡ 0 → Arises code f → ⊥
+  pub none : (f : Finding) → pass f < 3 → Arises code f → ⊥
 
 -- nothing is found of the registers at a position below b
 pub record ClearTo (code : List Instr) (b : ℕ) : Type 0 where
-  pub none : (f : Finding) → pass f ≡ 1 → position f < b → Arises code f → ⊥
+  pub none : (f : Finding) → pass f ≡ 3 → position f < b → Arises code f → ⊥
 
 -- one more state came to a position, or to none
 abbrev pub Arrived : Option ℕ → Marks → List (Option Arrivals) → List (Option Arrivals) → Type 0
@@ -56,15 +56,15 @@ pub record PassesOn (i : Instr) (p : ℕ) (m : Marks) (old new : List (Option Ar
 -- The finding arises at the position, and none that comes before it does there.
 pub record IsFirstAt (code : List Instr) (p : ℕ) (f : Finding) : Type 0 where
   pub arises : Arises code f
-  pub pass_is : pass f ≡ 1
+  pub pass_is : pass f ≡ 3
   pub position_is : position f ≡ p
-  pub first : (g : Finding) → pass g ≡ 1 → position g ≡ p → rank g < rank f → Arises code g → ⊥
+  pub first : (g : Finding) → pass g ≡ 3 → position g ≡ p → rank g < rank f → Arises code g → ⊥
 
 -- the states of all ways are known, and nothing is found of the registers
 pub record Settled (code : List Instr) (states : List (Option Arrivals)) : Type 0 where
   pub known : Known code (length code) states
   pub clear : ClearTo code (length code)
 
--- no target of an instruction below b is back or past the end
+-- nothing is found of the targets of instructions below b
 pub record AheadTo (code : List Instr) (b : ℕ) : Type 0 where
-  pub none : (f : Finding) → pass f ≡ 0 → position f < b → Arises code f → ⊥
+  pub none : (f : Finding) → pass f ≡ 2 → position f < b → Arises code f → ⊥

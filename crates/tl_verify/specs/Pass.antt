@@ -1,10 +1,11 @@
 -- What one pass over the positions, by rising position, remembers.
 use Rattle.std.specs.Prelude.{◌≡◌, ◌≢◌, ◌⊎◌, ◌&&◌, not, ℕ, suc, ◌+◌, List, [], ◌∷◌, Bool, true, false, Option, Some, None, nat_le}
 use Rattle.tl_instr.specs.declared.instr.Instr.{Instr}
+use Rattle.tl_instr.specs.declared.instr.Instr.TheVariants.{End}
 use Rattle.tl_verify.specs.declared.marks.Marks.{Marks}
 use Rattle.tl_verify.specs.declared.arrivals.Arrivals.{Arrivals}
 use Rattle.tl_verify.specs.Marks.{is_held, source, destination, is_first, is_return, goes_on}
-use Rattle.tl_verify.specs.Findings.{Finding, Joined, Spent, Missing, Taken, LeftHeld, NextPastEnd}
+use Rattle.tl_verify.specs.Findings.{Finding, Joined, Spent, Missing, Taken, LeftHeld, Changed, NextPastEnd}
 
 -- with one more state
 pub record MergesWith (old : Arrivals) (m : Marks) (new : Arrivals) : Type 0 where
@@ -47,12 +48,23 @@ left_held p true (Some n) = Some (LeftHeld p n)
 left_held p true None = None
 left_held p false o = None
 
--- what is found first at a position of a code of so many instructions
-unfoldable pub objection : ℕ → ℕ → Instr → Arrivals → Option Finding
-objection count p i a =
+abbrev pub is_end : Instr → Bool
+is_end End = true
+is_end i = false
+
+-- At the end of a loop's body it is told whether what came to it isn't what came to the body's start: other registers are held, or
+-- first is spent that was open.
+pub record Compares (i : Instr) (start : Option Arrivals) (m : Marks) (changed : Bool) : Type 0 where
+  pub changes : changed ≡ true → (a : Arrivals) × (is_end i ≡ true) × (start ≡ Some a) × ((m.held ≢ a.marks.held) ⊎ ((a.marks.is_open ≡ true) × (m.is_open ≡ false)))
+  pub keeps : changed ≡ false → is_end i ≡ true → (a : Arrivals) → start ≡ Some a → (m.held ≡ a.marks.held) × (a.marks.is_open ≡ true → m.is_open ≡ true)
+
+-- what is found first at a position of a code of so many instructions, where a turn changes the marks or doesn't
+unfoldable pub objection : ℕ → ℕ → Instr → Arrivals → Bool → Option Finding
+objection count p i a changed =
     or_else (when a.differ (Joined p))
     (or_else (when (is_first i && not a.marks.is_open) (Spent p))
     (or_else (missing p a.marks (source i))
     (or_else (taken p a.marks (destination i))
     (or_else (left_held p (is_return i) (first_held a.marks.held 0))
-    (when (goes_on i && nat_le count (p + 1)) (NextPastEnd p))))))
+    (or_else (when changed (Changed p))
+    (when (goes_on i && nat_le count (p + 1)) (NextPastEnd p)))))))

@@ -1,9 +1,10 @@
 // Why a code isn't accepted.
 
 ghost use Rattle.std.specs.Prelude.{◌≡◌};
-ghost use Rattle.tl_verify.specs.Faults.{numbers_of};
+ghost use Rattle.tl_verify.specs.Faults.{numbers_of, of_nest};
 
 use arrayvec::ArrayVec;
+use std::alloc::AllocError;
 use thiserror::Error;
 use tl_budget::fault::NestFault;
 
@@ -43,6 +44,25 @@ pub enum VerifyFault {
     /// 490: memory was refused.
     #[error("out of memory")]
     Memory,
+}
+
+impl From<AllocError> for VerifyFault {
+    fn from(_: AllocError) -> VerifyFault
+        ensures { result ≡ VerifyFault.Memory }
+    {
+        VerifyFault::Memory
+    }
+}
+
+impl From<NestFault> for VerifyFault {
+    fn from(fault: NestFault) -> VerifyFault
+        ensures { result ≡ of_nest fault }
+    {
+        match fault {
+            NestFault::Memory => VerifyFault::Memory,
+            fault => VerifyFault::Nest(fault),
+        }
+    }
 }
 
 impl VerifyFault {

@@ -1,15 +1,18 @@
 // The pass over the targets.
 
 ghost use Rattle.std.specs.Prelude.{◌≤◌, length, IfSome, IfNone};
+ghost use Rattle.tl_budget.specs.Nested.{IsNest};
 ghost use Rattle.tl_verify.specs.Findings.{IsFirstFault};
 ghost use Rattle.tl_verify.specs.Known.{Ahead};
 
 use crate::fault::VerifyFault;
+use tl_budget::nested::Nest;
 use tl_instr::instr::Instr;
 
-/// The first target that isn't ahead of its jump, or is past the end.
-pub fn jumps(code: &[Instr]) -> Option<VerifyFault>
-    requires { length code.now ≤ 1024 }
+/// The first target that isn't ahead of its jump, or is past the end, or in a loop that the jump isn't in.
+pub fn jumps(code: &[Instr], nest: &Nest) -> Option<VerifyFault>
+    requires short { length code.now ≤ 1024 }
+    requires nest { IsNest code.now nest.now }
     ensures fault { IfSome result (IsFirstFault code.now) }
     ensures ahead { IfNone result (Ahead code.now) }
 {
@@ -22,6 +25,9 @@ pub fn jumps(code: &[Instr]) -> Option<VerifyFault>
         }
         if target as usize >= code.len() {
             return Some(VerifyFault::OffEnd(position as u16));
+        }
+        if nest.depth_at(target) > 0 && nest.opening_of(target) as usize >= position {
+            return Some(VerifyFault::IntoLoop(position as u16));
         }
     }
     None

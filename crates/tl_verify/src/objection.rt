@@ -16,7 +16,12 @@ fn source(instr: &Instr) -> Option<NodeRegister>
     ensures { result ≡ source_of instr.now }
 {
     match *instr {
-        Instr::Release { node } | Instr::Get { node, .. } | Instr::Put { node, .. } => Some(node),
+        Instr::Child { parent: node, .. }
+        | Instr::Move { from: node, .. }
+        | Instr::Release { node }
+        | Instr::Get { node, .. }
+        | Instr::Put { node, .. }
+        | Instr::Kids { node, .. } => Some(node),
         _ => None,
     }
 }
@@ -26,7 +31,7 @@ fn destination(instr: &Instr) -> Option<NodeRegister>
     ensures { result ≡ destination_of instr.now }
 {
     match *instr {
-        Instr::First { to, .. } => Some(to),
+        Instr::First { to, .. } | Instr::Child { to, .. } | Instr::Move { to, .. } => Some(to),
         _ => None,
     }
 }
@@ -35,7 +40,7 @@ fn destination(instr: &Instr) -> Option<NodeRegister>
 pub fn goes_on(instr: &Instr) -> bool
     ensures { result ≡ goes_on_from instr.now }
 {
-    !matches!(*instr, Instr::Return)
+    !matches!(*instr, Instr::Jump { .. } | Instr::Return)
 }
 
 /// The registers behind an instruction that didn't go to its target.
@@ -46,6 +51,11 @@ pub fn after(instr: &Instr, mut marks: Marks) -> Marks
         Instr::First { to, .. } => {
             marks.held[to.index()] = true;
             marks.is_open = false;
+        }
+        Instr::Child { to, .. } => marks.held[to.index()] = true,
+        Instr::Move { to, from } => {
+            marks.held[from.index()] = false;
+            marks.held[to.index()] = true;
         }
         Instr::Release { node } => marks.held[node.index()] = false,
         _ => {}
@@ -65,16 +75,18 @@ fn first_held(held: &[bool; 8]) -> Option<u8>
     None
 }
 
-/// What is wrong with the registers at a position of a code of so many instructions.
+/// What is wrong with the registers at a position of a code of so many instructions, where a turn of the loop that ends here changes
+/// the marks or doesn't.
 #[tactic(auto, unfolding(crate::specs::Pass::objection))]
 pub fn objection(
     count: u16,
     position: u16,
     instr: &Instr,
     arrivals: Arrivals,
+    is_changed: bool,
 ) -> Option<VerifyFault>
     requires { 0 < count }
-    ensures { result ≡ option_map fault_of (objection_at count position instr.now arrivals) }
+    ensures { result ≡ option_map fault_of (objection_at count position instr.now arrivals is_changed) }
 {
     let marks = arrivals.marks;
     let source = source(instr);
@@ -99,6 +111,9 @@ pub fn objection(
         && let Some(register) = first_held(&marks.held)
     {
         return Some(VerifyFault::HeldAtReturn(position, register));
+    }
+    if is_changed {
+        return Some(VerifyFault::LoopChanges(position));
     }
     if goes_on(instr) && count - 1 <= position {
         return Some(VerifyFault::OffEnd(position));

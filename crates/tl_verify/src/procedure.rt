@@ -63,32 +63,35 @@ impl Proc {
     }
 }
 
-// The bounds of an accepted code, or its first fault.
-fn examine(alloc: Global, code: &Code) -> Result<Bounds, VerifyFault>
+// The loops and the bounds of an accepted code, or its first fault.
+fn examine(alloc: Global, code: &Code) -> Result<(Nest, Bounds), VerifyFault>
     ensures accepted { IfOk result (λ _. Acceptable code.now.instrs) }
-    ensures bounds { IfOk result (AreBounds code.now.instrs) }
+    ensures nest { IfOk result (λ r. IsNest code.now.instrs r.0) }
+    ensures bounds { IfOk result (λ r. AreBounds code.now.instrs r.1) }
     ensures fault { IfErr result (λ f. f ≢ fault.Memory → IsFirstFault code.now.instrs f) }
 {
-    if let Some(fault) = jumps(code.instrs()) {
+    let loops = nest(alloc, code)?;
+    if let Some(fault) = jumps(code.instrs(), &loops) {
         return Err(fault);
     }
-    let Ok(fault) = registers(alloc, code.instrs()) else {
-        return Err(VerifyFault::Memory);
-    };
-    if let Some(fault) = fault {
+    if let Some(fault) = registers(alloc, code.instrs(), &loops)? {
         return Err(fault);
     }
-    match bounds(code) {
-        Ok(bounds) => Ok(bounds),
-        Err(fault) => Err(VerifyFault::Nest(fault)),
-    }
+    let sums = bounds(code, &loops)?;
+    Ok((loops, sums))
 }
 
 /// Admits a code: from then on it can't fail, whatever its arguments and the tree.
 ///
-/// A code is accepted where its jumps go ahead and stay in the code, its registers fit, and its bounds are within the
-/// limits: 1,000,000 instructions, 4,096 locks, 32 emitted values. Else the code is handed back with the first fault
-/// of the first pass that finds one: 401 and 403 of the targets, 403 to 408 of the registers, 305 to 307 of the bounds.
+/// A code is accepted where its loops match and nest at most four deep, its jumps go ahead, stay in the code and enter no loop, its
+/// registers fit, and its bounds are within the limits: 1,000,000 instructions, 4,096 locks, 32 emitted values. Else the
+/// code is handed back with the first fault of the first pass that finds one:
+///
+/// - of the loops 302, 304, 303 at the least position, and only where there is none of these 301;
+/// - of the targets 401, 403, 402 at the least position;
+/// - of the registers 408, 404, 405, 406, 407, 409, 403 at the least position that control may come to;
+/// - of the bounds 305, 306, 307.
+///
 /// 490 where memory was refused.
 pub fn verify(alloc: Global, code: Code) -> Result<Proc, (Code, VerifyFault)>
     ensures value { IfOk result (λ p. p ≡ code) }
@@ -98,7 +101,7 @@ pub fn verify(alloc: Global, code: Code) -> Result<Proc, (Code, VerifyFault)>
     ensures fault { IfErr result (λ e. e.1 ≢ fault.Memory → IsFirstFault code.instrs e.1) }
 {
     match examine(alloc, &code) {
-        Ok(bounds) => Ok(Proc { code, bounds }),
+        Ok((nest, bounds)) => Ok(Proc { code, nest, bounds }),
         Err(fault) => Err((code, fault)),
     }
 }

@@ -1,17 +1,20 @@
 // The pass over the node registers, by rising position.
 
-ghost use Rattle.std.specs.Prelude.{◌≡◌, ℕ, ◌+◌, ◌<◌, ◌≤◌, length, slice_get, Option, Some, None, true, IfSome, IfNone, IfOk, MatchOption};
+ghost use Rattle.std.specs.Prelude.{◌≡◌, ℕ, ◌+◌, ◌<◌, ◌≤◌, length, get_or, slice_get, Option, Some, None, true, IfSome, IfNone, IfOk, MatchOption};
 ghost use Rattle.tl_instr.specs.Instructions.{target};
+ghost use Rattle.tl_budget.specs.Nested.{IsNest, place_at};
 ghost use Rattle.tl_verify.specs.Marks.{goes_on as goes_on_from};
 ghost use Rattle.tl_verify.specs.Acceptable.{HasFit};
 ghost use Rattle.tl_verify.specs.Findings.{IsFirstFault};
-ghost use Rattle.tl_verify.specs.Known.{Known, Ahead, ClearTo, PassesOn, Settled};
+ghost use Rattle.tl_verify.specs.Known.{Known, Ahead, PassesOn, Settled};
+ghost use Rattle.tl_verify.specs.Pass.{Compares, is_end};
 
 use crate::arrivals::{Arrivals, arrive};
 use crate::fault::VerifyFault;
 use crate::marks::Marks;
 use crate::objection::{after, goes_on, objection};
 use std::alloc::{AllocError, Global};
+use tl_budget::nested::Nest;
 use tl_instr::instr::Instr;
 
 // The states behind an instruction come to where it leads.
@@ -28,9 +31,34 @@ fn pass_on(states: &mut [Option<Arrivals>], position: usize, instr: &Instr, mark
     }
 }
 
+// Whether control comes to the end of a loop's body with other marks than to its start.
+fn is_changed(
+    states: &[Option<Arrivals>],
+    nest: &Nest,
+    position: u16,
+    instr: &Instr,
+    marks: &Marks,
+) -> bool
+    requires inside { position < length nest.now }
+    requires start { is_end instr.now ≡ true → (place_at nest.now position).opening + 1 < length states.now }
+    ensures { Compares instr.now (get_or states.now ((place_at nest.now position).opening + 1) None) marks.now result }
+{
+    if !matches!(*instr, Instr::End) {
+        return false;
+    }
+    let start = usize::from(nest.opening_of(position)) + 1;
+    match states[start] {
+        None => false,
+        Some(earlier) => {
+            earlier.marks.held != marks.held || (earlier.marks.is_open && !marks.is_open)
+        }
+    }
+}
+
 // Visits each position that has a state.
-fn walk(code: &[Instr], states: &mut [Option<Arrivals>]) -> Option<VerifyFault>
+fn walk(code: &[Instr], nest: &Nest, states: &mut [Option<Arrivals>]) -> Option<VerifyFault>
     requires short { length code.now ≤ 1024 }
+    requires nest { IsNest code.now nest.now }
     requires ahead { Ahead code.now }
     requires known { Known code.now 0 states.old }
     ensures fault { IfSome result (IsFirstFault code.now) }
@@ -41,7 +69,9 @@ fn walk(code: &[Instr], states: &mut [Option<Arrivals>]) -> Option<VerifyFault>
             continue;
         };
         let instr = &code[position];
-        if let Some(fault) = objection(code.len() as u16, position as u16, instr, arrivals) {
+        let changed = is_changed(states, nest, position as u16, instr, &arrivals.marks);
+        let count = code.len() as u16;
+        if let Some(fault) = objection(count, position as u16, instr, arrivals, changed) {
             return Some(fault);
         }
         pass_on(states, position, instr, arrivals.marks);
@@ -49,14 +79,19 @@ fn walk(code: &[Instr], states: &mut [Option<Arrivals>]) -> Option<VerifyFault>
     None
 }
 
-/// The first fault of the registers, of a code whose targets are ahead. Where there is none, they fit.
-pub fn registers(alloc: Global, code: &[Instr]) -> Result<Option<VerifyFault>, AllocError>
+/// The first fault of the registers, of a code whose loops and targets have none. Where there is none, they fit.
+pub fn registers(
+    alloc: Global,
+    code: &[Instr],
+    nest: &Nest,
+) -> Result<Option<VerifyFault>, AllocError>
     requires some { 0 < length code.now }
     requires short { length code.now ≤ 1024 }
+    requires nest { IsNest code.now nest.now }
     requires ahead { Ahead code.now }
     ensures { IfOk result (λ o. MatchOption o (HasFit code.now) (IsFirstFault code.now)) }
 {
     let mut states: Vec<Option<Arrivals>> = vec![in alloc; None; code.len()]?;
     states[0] = Some(Arrivals::ENTRY);
-    Ok(walk(code, &mut states))
+    Ok(walk(code, nest, &mut states))
 }
