@@ -1,10 +1,12 @@
 pub mod Accepting
 pub mod Alike
+pub mod Bodies
 pub mod Comes
 pub mod Fitting
 pub mod Gathering
 pub mod Jumping
 pub mod Knowing
+pub mod Nesting
 pub mod Objecting
 pub mod Settling
 pub mod Walking

@@ -14,8 +14,8 @@ pub record AreBounds (code : List Instr) (b : Bounds) : Type 0 where
   pub locks : b.locks ≡ lock_bound code
   pub emits : b.emits ≡ emit_bound code
 
-pub record IsProc (code : CodeValue) (nest : List Place) (b : Bounds) : Type 0 where
+pub record IsProc (code : CodeValue) (places : List Place) (b : Bounds) : Type 0 where
   pub valid : IsCode code
   pub accepted : Acceptable code.instrs
-  pub nest : IsNest code.instrs nest
+  pub nest : IsNest code.instrs places
   pub bounds : AreBounds code.instrs b
