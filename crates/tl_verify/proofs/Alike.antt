@@ -1,6 +1,10 @@
 -- Registers compared.
-use Rattle.std.proofs.Common.{◌≡◌, List, [], ◌∷◌, Bool, true, false, refl, sym, ap, ◌∙◌, ◌⊎◌, inl, inr}
+use Rattle.std.proofs.Common.{◌≡◌, List, [], ◌∷◌, Option, Some, Bool, true, false, refl, sym, ap, ◌∙◌, ◌⊎◌, inl, inr, ⊎_elim}
 use Rattle.std.specs.Prelude.{◌≢◌, ◌||◌}
+use Rattle.tl_instr.specs.declared.instr.Instr.{Instr}
+use Rattle.tl_verify.specs.declared.marks.Marks.{Marks}
+use Rattle.tl_verify.specs.declared.arrivals.Arrivals.{Arrivals}
+use Rattle.tl_verify.specs.Pass.{Compares, is_end}
 use lib.Pointwise.{pointwise}
 use mathlib.Core.Bool.{beq, not}
 
@@ -45,3 +49,34 @@ pub or_true : (a b : Bool) → (a || b) ≡ true → (a ≡ true) ⊎ (b ≡ tru
 or_true true b e = inl refl
 or_true false true e = inr refl
 or_true false false e = cc
+
+-- registers are the same or not
+pub same_or_not : (xs ys : List Bool) → (xs ≡ ys) ⊎ (xs ≢ ys)
+same_or_not xs ys = by (pointwise beq xs ys) refl
+  where
+    by : (b : Bool) → pointwise beq xs ys ≡ b → (xs ≡ ys) ⊎ (xs ≢ ys)
+    by true e = inl (pointwise_same xs ys e)
+    by false e = inr (differs true xs ys (sym (ap not e)) refl)
+
+module _ (i : Instr) (start : Option Arrivals) (m : Marks) (a : Arrivals) (ends : is_end i ≡ true) (is : start ≡ Some a) where
+  pub other_registers : (r : Bool) → r ≡ not (pointwise beq a.marks.held m.held) → r ≡ true → Compares i start m r
+  other_registers r e f = record {
+    changes = λ g. (a, ends, is, inl (λ same. differs r a.marks.held m.held e f (sym same)));
+    keeps = λ g. cc;
+  }
+
+  module _ (r : Bool) (e : r ≡ not (pointwise beq a.marks.held m.held)) (f : r ≡ false) where
+    -- where the same registers are held first decides
+    first_decides : (changed : Bool) → (changed ≡ true → (a.marks.is_open ≡ true) × (m.is_open ≡ false)) → (changed ≡ false → a.marks.is_open ≡ true → m.is_open ≡ true) → Compares i start m changed
+    first_decides changed spent kept = record {
+      changes = λ g. (a, ends, is, inr (spent g));
+      keeps = λ g h b there.
+          let same : a ≡ b = let k : Some a ≡ Some b = sym is ∙ there in cc in
+          (sym (not_differs r a.marks.held m.held e f) ∙ ap (λ (x : Arrivals). x.marks.held) same, λ o. kept g (ap (λ (x : Arrivals). x.marks.is_open) same ∙ o));
+    }
+
+    pub where_open : a.marks.is_open ≡ true → Compares i start m (not m.is_open)
+    where_open o = first_decides (not m.is_open) (λ g. (o, not_true m.is_open g)) (λ g h. not_false m.is_open g)
+
+    pub where_spent : a.marks.is_open ≡ false → Compares i start m a.marks.is_open
+    where_spent o = first_decides a.marks.is_open (λ g. cc) (λ g h. cc)

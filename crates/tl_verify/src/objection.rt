@@ -3,7 +3,7 @@
 ghost use Rattle.std.specs.Prelude.{◌≡◌, ◌<◌, option_map};
 ghost use Rattle.tl_verify.specs.Marks.{source as source_of, destination as destination_of, goes_on as goes_on_from, after as marks_after};
 ghost use Rattle.tl_verify.specs.Findings.{fault_of};
-ghost use Rattle.tl_verify.specs.Pass.{first_held as first_held_of, objection as objection_at};
+ghost use Rattle.tl_verify.specs.Pass.{first_held as first_held_of, is_end as is_end_of, objection as objection_at};
 
 use crate::arrivals::Arrivals;
 use crate::fault::VerifyFault;
@@ -41,6 +41,13 @@ pub fn goes_on(instr: &Instr) -> bool
     ensures { result ≡ goes_on_from instr.now }
 {
     !matches!(*instr, Instr::Jump { .. } | Instr::Return)
+}
+
+/// Whether a turn of a loop ends.
+pub fn is_end(instr: &Instr) -> bool
+    ensures { result ≡ is_end_of instr.now }
+{
+    matches!(*instr, Instr::End)
 }
 
 /// The registers behind an instruction that didn't go to its target.

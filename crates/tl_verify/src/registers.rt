@@ -7,12 +7,12 @@ ghost use Rattle.tl_verify.specs.Marks.{goes_on as goes_on_from};
 ghost use Rattle.tl_verify.specs.Acceptable.{HasFit};
 ghost use Rattle.tl_verify.specs.Findings.{IsFirstFault};
 ghost use Rattle.tl_verify.specs.Known.{Known, Ahead, PassesOn, Settled};
-ghost use Rattle.tl_verify.specs.Pass.{Compares, is_end};
+ghost use Rattle.tl_verify.specs.Pass.{Compares, is_end as is_end_of};
 
 use crate::arrivals::{Arrivals, arrive};
 use crate::fault::VerifyFault;
 use crate::marks::Marks;
-use crate::objection::{after, goes_on, objection};
+use crate::objection::{after, goes_on, is_end, objection};
 use std::alloc::{AllocError, Global};
 use tl_budget::nested::Nest;
 use tl_instr::instr::Instr;
@@ -40,10 +40,10 @@ fn is_changed(
     marks: &Marks,
 ) -> bool
     requires inside { position < length nest.now }
-    requires start { is_end instr.now ≡ true → (place_at nest.now position).opening + 1 < length states.now }
+    requires start { is_end_of instr.now ≡ true → (place_at nest.now position).opening + 1 < length states.now }
     ensures { Compares instr.now (get_or states.now ((place_at nest.now position).opening + 1) None) marks.now result }
 {
-    if !matches!(*instr, Instr::End) {
+    if !is_end(instr) {
         return false;
     }
     let start = usize::from(nest.opening_of(position)) + 1;
