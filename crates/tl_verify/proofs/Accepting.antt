@@ -15,7 +15,7 @@ use Rattle.tl_verify.specs.declared.fault.VerifyFault.TheVariants.{Nest, Memory}
 use Rattle.tl_verify.specs.Acceptable.{Acceptable, HasFit}
 use Rattle.tl_verify.specs.Findings.{Finding, TargetBack, TargetPastEnd, Joined, Spent, Missing, Taken, LeftHeld, NextPastEnd, Steps, Locks, Emits, Arises, Precedes, IsFirstFault, fault_of, pass, position, rank}
 use Rattle.tl_verify.specs.Known.{Ahead}
-use Rattle.tl_verify.proofs.Fitting.{fit_finds_nothing, nothing_found}
+use Rattle.tl_verify.proofs.Looking.{fit_finds_nothing, nothing_found}
 
 -- no instruction opens or closes a loop
 no_opening : (code : List Instr) (p w : ℕ) → kind_at code p ≡ Some (Opens w) → ⊥

@@ -1,6 +1,7 @@
 -- Targets, one position after another.
 use Rattle.std.proofs.Common.{◌≡◌, ℕ, ◌+◌, ◌<◌, ◌≤◌, List, [], ◌∷◌, length, Some, None, refl, sym, ap, ◌∙◌, arith, ◌⊎◌, inl, inr, ⊎_elim}
-use Rattle.std.specs.Prelude.{slice_get}
+use Rattle.std.specs.Prelude.{slice_get, Bool, true, false, nat_le}
+use Rattle.std.proofs.lemmas.Bool.{leb-true, leb-false}
 use Rattle.std.proofs.lemmas.Option.{slice_get_within}
 use Rattle.tl_instr.specs.declared.instr.Instr.{Instr}
 use Rattle.tl_instr.specs.Instructions.{target}
@@ -9,7 +10,7 @@ use Rattle.tl_budget.specs.Nested.{IsNested, IsNest, place_at}
 use Rattle.tl_budget.specs.declared.nested.Place.{Place}
 use Rattle.tl_verify.specs.Findings.{Finding, OfLoops, TargetBack, TargetPastEnd, TargetInLoop, Arises, Precedes, IsFirstFault, fault_of, pass, position, rank}
 use Rattle.tl_verify.specs.Known.{Ahead, AheadTo}
-use Rattle.tl_verify.proofs.Bodies.{innermost_around, others_before, none_around}
+use Rattle.tl_verify.proofs.Bodies.{EntersNone, innermost_around, others_before, none_around}
 use Rattle.tl_verify.proofs.Nesting.{nested_clear, loops_first}
 
 -- before the targets come the loops
@@ -121,3 +122,31 @@ all_ahead code nested a = record { none = by }
     by (TargetPastEnd p) e (j, l, there, is, h) = a.none (TargetPastEnd p) refl (slice_get_within code p j there) (j, l, there, is, h)
     by (TargetInLoop p) e (j, l, o, k, there, is, h, g) = a.none (TargetInLoop p) refl (slice_get_within code p j there) (j, l, o, k, there, is, h, g)
     by f e x = absurd (omega arith)
+
+-- ---- what is known of targets where nothing is found of them
+
+module _ (code : List Instr) (ahead : Ahead code) where
+  module _ (p l : ℕ) (i : Instr) (at : slice_get code p ≡ Some i) (is : target i ≡ Some l) where
+    pub target_ahead : p < l
+    target_ahead = by (nat_le l p) refl
+      where
+        by : (b : Bool) → nat_le l p ≡ b → p < l
+        by true e = absurd (ahead.none (TargetBack p) (omega arith) (i, l, at, is, leb-true l p e))
+        by false e = leb-false l p e
+
+    pub target_in_code : l < length code
+    target_in_code = by (nat_le (length code) l) refl
+      where
+        by : (b : Bool) → nat_le (length code) l ≡ b → l < length code
+        by true e = absurd (ahead.none (TargetPastEnd p) (omega arith) (i, l, at, is, leb-true (length code) l e))
+        by false e = leb-false (length code) l e
+
+  pub enters_none : EntersNone code
+  enters_none p l i at is o k inside = by (nat_le p o) refl
+    where
+      by : (b : Bool) → nat_le p o ≡ b → IsAround code o k p
+      by true e = let le = leb-true p o e in absurd (ahead.none (TargetInLoop p) (omega arith) (i, l, o, k, at, is, inside, λ x. let h = x.after in omega arith))
+      by false e =
+          let far = inside.before in
+          let lt = target_ahead p l i at is in
+          record { there = inside.there; after = leb-false p o e; before = omega arith }

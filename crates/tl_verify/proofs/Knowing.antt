@@ -1,24 +1,26 @@
 -- The states of all ways, one position further.
-use Rattle.std.proofs.Common.{◌≡◌, ℕ, ◌+◌, ◌<◌, List, length, Option, Some, None, Bool, true, false, refl, sym, ap, ◌∙◌, arith, ◌⊎◌, inl, inr, ⊎_elim, subst}
+use Rattle.std.proofs.Common.{◌≡◌, ℕ, ◌+◌, ◌<◌, ◌≤◌, List, length, Option, Some, None, Bool, true, false, refl, sym, ap, ◌∙◌, arith, ◌⊎◌, inl, inr, ⊎_elim, subst}
 use Rattle.std.specs.Prelude.{slice_get, get_or, cond, nat_le}
-use Rattle.std.proofs.lemmas.Bool.{leb-true, leb-false}
 use Rattle.std.proofs.lemmas.List.{length-set}
 use Rattle.tl_instr.specs.declared.instr.Instr.{Instr}
-use Rattle.tl_instr.specs.declared.instr.Instr.TheVariants.{First, Release}
+use Rattle.tl_instr.specs.declared.instr.Instr.TheVariants.{First, Child, Move, Release}
 use Rattle.tl_instr.specs.Instructions.{target}
 use Rattle.tl_verify.specs.declared.marks.Marks.{Marks}
 use Rattle.tl_verify.specs.declared.arrivals.Arrivals.{Arrivals}
-use Rattle.tl_verify.specs.Marks.{after, Leads, to_next, to_target, goes_on}
+use Rattle.tl_verify.specs.Marks.{after, Leads, to_next, to_target, to_body, goes_on}
 use Rattle.tl_verify.specs.Ways.{Way}
-use Rattle.tl_verify.specs.Findings.{TargetBack}
 use Rattle.tl_verify.specs.Known.{Comes, begins, steps, Gathers, Collects, Known, Ahead, Arrived, PassesOn}
+use Rattle.tl_verify.proofs.Bodies.{reach}
 use Rattle.tl_verify.proofs.Comes.{comes_way, way_comes}
 use Rattle.tl_verify.proofs.Fitting.{held-after}
 use Rattle.tl_verify.proofs.Gathering.{IsClass, collects_same, joins, joins_none}
+use Rattle.tl_verify.proofs.Jumping.{target_ahead}
 
 -- behind an instruction first is spent for all, or as it was
 pub is_open-after : (i : Instr) → ((m : Marks) → (after i m).is_open ≡ false) ⊎ ((m : Marks) → (after i m).is_open ≡ m.is_open)
 is_open-after (First n v l) = inl (λ m. refl)
+is_open-after (Child n parent v l) = inr (λ m. refl)
+is_open-after (Move n from) = inr (λ m. refl)
 is_open-after (Release n) = inr (λ m. refl)
 is_open-after i = inr (λ m. refl)
 
@@ -54,6 +56,7 @@ module _ (code : List Instr) (b : ℕ) (i : Instr) (at : slice_get code b ≡ So
               by : Leads code j p m q k → (Comes code b q k ⊎ Next q k) ⊎ Aside q k
               by (to_next goes is got) = inl (inr (m, way', ap goes_on (sym same) ∙ goes, is ∙ ap (λ r. r + 1) e, got ∙ ap (λ x. after x m) same))
               by (to_target is got) = inr (m, way', ap target (sym same) ∙ is, got, omega arith)
+              by (to_body o l opens ends is got) = let h = (reach code o l opens).1 in absurd (omega arith)
 
   back : (q : ℕ) (k : Marks) → (Comes code b q k ⊎ Next q k) ⊎ Aside q k → Comes code (b + 1) q k
   unfolding Next Aside
@@ -89,11 +92,14 @@ module _ (code : List Instr) (b : ℕ) (i : Instr) (at : slice_get code b ≡ So
       alike = λ k t. ap (λ (x : Marks). x.held) t.3 ∙ gathers.alike alike t.0 t.1;
     }
 
--- what is remembered at the position itself is true of all ways to it
+-- what is remembered at the position itself, or at one before it, is true of all ways to it
+pub up_to_here : (code : List Instr) (b q : ℕ) (states : List (Option Arrivals)) → Known code b states → q ≤ b → q < length code → (o : Option Arrivals) → get_or states q None ≡ o → Collects (Way code q) o
+up_to_here code b q states known le lt o is =
+    collects_same (Comes code b q) (Way code q) o (comes_way code b q) (λ k way. way_comes code q k way b le)
+    (subst (Collects (Comes code b q)) is (known.each q lt))
+
 pub here : (code : List Instr) (b : ℕ) (states : List (Option Arrivals)) → Known code b states → b < length code → (o : Option Arrivals) → get_or states b None ≡ o → Collects (Way code b) o
-here code b states known lt o is =
-    collects_same (Comes code b b) (Way code b) o (comes_way code b b) (λ k way. way_comes code b k way b (omega arith))
-    (subst (Collects (Comes code b b)) is (known.each b lt))
+here code b states known lt o is = up_to_here code b b states known (omega arith) lt o is
 
 -- one position further, where a state was remembered
 pub known_next : (code : List Instr) (b : ℕ) (i : Instr) (a : Arrivals) (old new : List (Option Arrivals)) → slice_get code b ≡ Some i → b < length code → Ahead code → Known code b old → get_or old b None ≡ Some a → a.differ ≡ false → PassesOn i b a.marks old new → Known code (b + 1) new
@@ -126,14 +132,7 @@ known_next code b i a old new at lt ahead known is alike passes = record {
     second (Some l) g e =
         rw e.2 (joins n (λ q k. Comes code b q k ⊎ Next code b i at q k) (Aside code b i at) l a.marks passes.middle e.0 e.1
         (λ q k t. let h : Some l ≡ Some q = sym g ∙ t.2 in cc)
-        (aside_class code b i at a gathers alike l g (less l g)) e.3 (first (goes_on i) refl passes.next))
-      where
-        less : (l : ℕ) → target i ≡ Some l → b < l
-        less l g = strict (nat_le l b) refl
-          where
-            strict : (x : Bool) → nat_le l b ≡ x → b < l
-            strict true e = absurd (ahead.none (TargetBack b) refl (i, l, at, g, leb-true l b e))
-            strict false e = leb-false l b e
+        (aside_class code b i at a gathers alike l g (target_ahead code ahead b l i at g)) e.3 (first (goes_on i) refl passes.next))
 
 -- one position further, where none was
 pub known_skip : (code : List Instr) (b : ℕ) (i : Instr) (states : List (Option Arrivals)) → slice_get code b ≡ Some i → b < length code → Known code b states → get_or states b None ≡ None → Known code (b + 1) states

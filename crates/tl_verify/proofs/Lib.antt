@@ -6,7 +6,9 @@ pub mod Fitting
 pub mod Gathering
 pub mod Jumping
 pub mod Knowing
+pub mod Looking
 pub mod Nesting
 pub mod Objecting
 pub mod Settling
+pub mod Turning
 pub mod Walking

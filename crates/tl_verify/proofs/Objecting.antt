@@ -7,9 +7,10 @@ use Rattle.tl_verify.specs.declared.marks.Marks.{Marks}
 use Rattle.tl_verify.specs.declared.arrivals.Arrivals.{Arrivals}
 use Rattle.tl_verify.specs.Marks.{is_held, source, destination, is_first, is_return, goes_on}
 use Rattle.tl_verify.specs.Ways.{Way}
-use Rattle.tl_verify.specs.Findings.{Finding, TargetBack, TargetPastEnd, Joined, Spent, Missing, Taken, LeftHeld, NextPastEnd, Steps, Locks, Emits, Arises, Meets, pass, position, rank}
+use Rattle.tl_verify.specs.Findings.{Finding, OfLoops, TargetBack, TargetPastEnd, TargetInLoop, Joined, Spent, Missing, Taken, LeftHeld, Changed, NextPastEnd, Steps, Locks, Emits, Arises, Meets, pass, position, rank}
 use Rattle.tl_verify.specs.Known.{Gathers, IsFirstAt}
 use Rattle.tl_verify.specs.Pass.{or_else, when, missing, taken, first_held, left_held, objection}
+use Rattle.tl_verify.proofs.Nesting.{loops_first}
 
 and_true : (a b : Bool) → (a && b) ≡ true → (a ≡ true) × (b ≡ true)
 and_true true true e = (refl, refl)
@@ -73,7 +74,8 @@ left_held_none p true None e f = refl
 left_held_none p true (Some n) e f = cc
 left_held_none p false o e f = cc
 
-module _ (code : List Instr) (p : ℕ) (i : Instr) (at : slice_get code p ≡ Some i) (a : Arrivals) (gathers : Gathers (Way code p) a) where
+module _ (code : List Instr) (p : ℕ) (i : Instr) (at : slice_get code p ≡ Some i) (a : Arrivals) (gathers : Gathers (Way code p) a)
+    (changed : Bool) (changes : changed ≡ true → Arises code (Changed p)) (keeps : changed ≡ false → a.differ ≡ false → Arises code (Changed p) → ⊥) where
   same_instr : (j : Instr) (m : Marks) → Meets code p j m → j ≡ i
   same_instr j m x = let h : Some j ≡ Some i = sym x.at ∙ at in cc
 
@@ -128,16 +130,20 @@ module _ (code : List Instr) (p : ℕ) (i : Instr) (at : slice_get code p ≡ So
     pub missing_none : 2 < r → missing p a.marks (source i) ≡ None
     pub taken_none : 3 < r → taken p a.marks (destination i) ≡ None
     pub left_held_none' : 4 < r → left_held p (is_return i) (first_held a.marks.held 0) ≡ None
-    pub next : 5 < r → (goes_on i && nat_le (length code) (p + 1)) ≡ false
+    pub same : 5 < r → changed ≡ false
+    pub next : 6 < r → (goes_on i && nat_le (length code) (p + 1)) ≡ false
 
-  below : (r : ℕ) → Passed r → (g : Finding) → pass g ≡ 1 → position g ≡ p → rank g < r → Arises code g → ⊥
+  below : (r : ℕ) → Passed r → (g : Finding) → pass g ≡ 3 → position g ≡ p → rank g < r → Arises code g → ⊥
+  below r t (OfLoops q) e f lt x = let h = loops_first q in absurd (omega arith)
   below r t (TargetBack q) e f lt x = absurd (omega arith)
   below r t (TargetPastEnd q) e f lt x = absurd (omega arith)
+  below r t (TargetInLoop q) e f lt x = absurd (omega arith)
   below r t (Joined q) e f lt x = clear_joined (t.joined lt) (subst (λ q. Arises code (Joined q)) f x)
   below r t (Spent q) e f lt x = clear_spent (t.spent lt) (subst (λ q. Arises code (Spent q)) f x)
   below r t (Missing q n) e f lt x = clear_missing (t.joined (omega arith)) (t.missing_none lt) n (subst (λ q. Arises code (Missing q n)) f x)
   below r t (Taken q n) e f lt x = clear_taken (t.joined (omega arith)) (t.taken_none lt) n (subst (λ q. Arises code (Taken q n)) f x)
   below r t (LeftHeld q n) e f lt x = clear_left_held (t.joined (omega arith)) (t.left_held_none' lt) n (subst (λ q. Arises code (LeftHeld q n)) f x)
+  below r t (Changed q) e f lt x = keeps (t.same lt) (t.joined (omega arith)) (subst (λ q. Arises code (Changed q)) f x)
   below r t (NextPastEnd q) e f lt x = clear_next (t.next lt) (subst (λ q. Arises code (NextPastEnd q)) f x)
   below r t Steps e f lt x = absurd (omega arith)
   below r t Locks e f lt x = absurd (omega arith)
@@ -205,73 +211,83 @@ module _ (code : List Instr) (p : ℕ) (i : Instr) (at : slice_get code p ≡ So
         first = below 4 t;
       })
 
-  found_next : Passed 5 → (goes_on i && nat_le (length code) (p + 1)) ≡ true → IsFirstAt code p (NextPastEnd p)
+  found_changed : Passed 5 → changed ≡ true → IsFirstAt code p (Changed p)
+  found_changed t e = record { arises = changes e; pass_is = refl; position_is = refl; first = below 5 t }
+
+  found_next : Passed 6 → (goes_on i && nat_le (length code) (p + 1)) ≡ true → IsFirstAt code p (NextPastEnd p)
   found_next t e =
       let both = and_true (goes_on i) (nat_le (length code) (p + 1)) e in
       record {
         arises = (i, some_way.0, meets, both.0, leb-true (length code) (p + 1) both.1);
         pass_is = refl;
         position_is = refl;
-        first = below 5 t;
+        first = below 6 t;
       }
 
   -- ---- all tests, one after another
 
-  chain : (d s n : Bool) (m t l : Option Finding)
+  chain : (d s c n : Bool) (m t l : Option Finding)
       → a.differ ≡ d → (is_first i && not a.marks.is_open) ≡ s → missing p a.marks (source i) ≡ m → taken p a.marks (destination i) ≡ t
-      → left_held p (is_return i) (first_held a.marks.held 0) ≡ l → (goes_on i && nat_le (length code) (p + 1)) ≡ n
-      → (f : Finding) → or_else (when d (Joined p)) (or_else (when s (Spent p)) (or_else m (or_else t (or_else l (when n (NextPastEnd p)))))) ≡ Some f → IsFirstAt code p f
-  chain true s n m t l e0 e1 e2 e3 e4 e5 f e = let same : Joined p ≡ f = cc in subst (IsFirstAt code p) same (found_joined e0)
-  chain false true n m t l e0 e1 e2 e3 e4 e5 f e =
+      → left_held p (is_return i) (first_held a.marks.held 0) ≡ l → changed ≡ c → (goes_on i && nat_le (length code) (p + 1)) ≡ n
+      → (f : Finding) → or_else (when d (Joined p)) (or_else (when s (Spent p)) (or_else m (or_else t (or_else l (or_else (when c (Changed p)) (when n (NextPastEnd p))))))) ≡ Some f → IsFirstAt code p f
+  chain true s c n m t l e0 e1 e2 e3 e4 e5 e6 f e = let same : Joined p ≡ f = cc in subst (IsFirstAt code p) same (found_joined e0)
+  chain false true c n m t l e0 e1 e2 e3 e4 e5 e6 f e =
       let same : Spent p ≡ f = cc in
-      subst (IsFirstAt code p) same (found_spent (record { joined = λ lt. e0; spent = λ lt. absurd (omega arith); missing_none = λ lt. absurd (omega arith); taken_none = λ lt. absurd (omega arith); left_held_none' = λ lt. absurd (omega arith); next = λ lt. absurd (omega arith) }) e1)
-  chain false false n (Some g) t l e0 e1 e2 e3 e4 e5 f e =
+      subst (IsFirstAt code p) same (found_spent (record { joined = λ lt. e0; spent = λ lt. absurd (omega arith); missing_none = λ lt. absurd (omega arith); taken_none = λ lt. absurd (omega arith); left_held_none' = λ lt. absurd (omega arith); same = λ lt. absurd (omega arith); next = λ lt. absurd (omega arith) }) e1)
+  chain false false c n (Some g) t l e0 e1 e2 e3 e4 e5 e6 f e =
       let same : g ≡ f = cc in
-      found_missing (record { joined = λ lt. e0; spent = λ lt. e1; missing_none = λ lt. absurd (omega arith); taken_none = λ lt. absurd (omega arith); left_held_none' = λ lt. absurd (omega arith); next = λ lt. absurd (omega arith) }) f (e2 ∙ ap Some same)
-  chain false false n None (Some g) l e0 e1 e2 e3 e4 e5 f e =
+      found_missing (record { joined = λ lt. e0; spent = λ lt. e1; missing_none = λ lt. absurd (omega arith); taken_none = λ lt. absurd (omega arith); left_held_none' = λ lt. absurd (omega arith); same = λ lt. absurd (omega arith); next = λ lt. absurd (omega arith) }) f (e2 ∙ ap Some same)
+  chain false false c n None (Some g) l e0 e1 e2 e3 e4 e5 e6 f e =
       let same : g ≡ f = cc in
-      found_taken (record { joined = λ lt. e0; spent = λ lt. e1; missing_none = λ lt. e2; taken_none = λ lt. absurd (omega arith); left_held_none' = λ lt. absurd (omega arith); next = λ lt. absurd (omega arith) }) f (e3 ∙ ap Some same)
-  chain false false n None None (Some g) e0 e1 e2 e3 e4 e5 f e =
+      found_taken (record { joined = λ lt. e0; spent = λ lt. e1; missing_none = λ lt. e2; taken_none = λ lt. absurd (omega arith); left_held_none' = λ lt. absurd (omega arith); same = λ lt. absurd (omega arith); next = λ lt. absurd (omega arith) }) f (e3 ∙ ap Some same)
+  chain false false c n None None (Some g) e0 e1 e2 e3 e4 e5 e6 f e =
       let same : g ≡ f = cc in
-      found_left_held (record { joined = λ lt. e0; spent = λ lt. e1; missing_none = λ lt. e2; taken_none = λ lt. e3; left_held_none' = λ lt. absurd (omega arith); next = λ lt. absurd (omega arith) }) f (e4 ∙ ap Some same)
-  chain false false true None None None e0 e1 e2 e3 e4 e5 f e =
+      found_left_held (record { joined = λ lt. e0; spent = λ lt. e1; missing_none = λ lt. e2; taken_none = λ lt. e3; left_held_none' = λ lt. absurd (omega arith); same = λ lt. absurd (omega arith); next = λ lt. absurd (omega arith) }) f (e4 ∙ ap Some same)
+  chain false false true n None None None e0 e1 e2 e3 e4 e5 e6 f e =
+      let same : Changed p ≡ f = cc in
+      subst (IsFirstAt code p) same (found_changed (record { joined = λ lt. e0; spent = λ lt. e1; missing_none = λ lt. e2; taken_none = λ lt. e3; left_held_none' = λ lt. e4; same = λ lt. absurd (omega arith); next = λ lt. absurd (omega arith) }) e5)
+  chain false false false true None None None e0 e1 e2 e3 e4 e5 e6 f e =
       let same : NextPastEnd p ≡ f = cc in
-      subst (IsFirstAt code p) same (found_next (record { joined = λ lt. e0; spent = λ lt. e1; missing_none = λ lt. e2; taken_none = λ lt. e3; left_held_none' = λ lt. e4; next = λ lt. absurd (omega arith) }) e5)
-  chain false false false None None None e0 e1 e2 e3 e4 e5 f e = cc
+      subst (IsFirstAt code p) same (found_next (record { joined = λ lt. e0; spent = λ lt. e1; missing_none = λ lt. e2; taken_none = λ lt. e3; left_held_none' = λ lt. e4; same = λ lt. e5; next = λ lt. absurd (omega arith) }) e6)
+  chain false false false false None None None e0 e1 e2 e3 e4 e5 e6 f e = cc
 
   -- what is found arises, and nothing does before it at the position
-  pub finds : (f : Finding) → objection (length code) p i a ≡ Some f → IsFirstAt code p f
+  pub finds : (f : Finding) → objection (length code) p i a changed ≡ Some f → IsFirstAt code p f
   unfolding objection
-  finds f e = chain a.differ (is_first i && not a.marks.is_open) (goes_on i && nat_le (length code) (p + 1)) (missing p a.marks (source i)) (taken p a.marks (destination i)) (left_held p (is_return i) (first_held a.marks.held 0)) refl refl refl refl refl refl f e
+  finds f e = chain a.differ (is_first i && not a.marks.is_open) changed (goes_on i && nat_le (length code) (p + 1)) (missing p a.marks (source i)) (taken p a.marks (destination i)) (left_held p (is_return i) (first_held a.marks.held 0)) refl refl refl refl refl refl refl f e
 
-  all_passed : (d s n : Bool) (m t l : Option Finding)
+  all_passed : (d s c n : Bool) (m t l : Option Finding)
       → a.differ ≡ d → (is_first i && not a.marks.is_open) ≡ s → missing p a.marks (source i) ≡ m → taken p a.marks (destination i) ≡ t
-      → left_held p (is_return i) (first_held a.marks.held 0) ≡ l → (goes_on i && nat_le (length code) (p + 1)) ≡ n
-      → or_else (when d (Joined p)) (or_else (when s (Spent p)) (or_else m (or_else t (or_else l (when n (NextPastEnd p)))))) ≡ None → Passed 6
-  all_passed true s n m t l e0 e1 e2 e3 e4 e5 e = cc
-  all_passed false true n m t l e0 e1 e2 e3 e4 e5 e = cc
-  all_passed false false n (Some g) t l e0 e1 e2 e3 e4 e5 e = cc
-  all_passed false false n None (Some g) l e0 e1 e2 e3 e4 e5 e = cc
-  all_passed false false n None None (Some g) e0 e1 e2 e3 e4 e5 e = cc
-  all_passed false false true None None None e0 e1 e2 e3 e4 e5 e = cc
-  all_passed false false false None None None e0 e1 e2 e3 e4 e5 e = record { joined = λ lt. e0; spent = λ lt. e1; missing_none = λ lt. e2; taken_none = λ lt. e3; left_held_none' = λ lt. e4; next = λ lt. e5 }
+      → left_held p (is_return i) (first_held a.marks.held 0) ≡ l → changed ≡ c → (goes_on i && nat_le (length code) (p + 1)) ≡ n
+      → or_else (when d (Joined p)) (or_else (when s (Spent p)) (or_else m (or_else t (or_else l (or_else (when c (Changed p)) (when n (NextPastEnd p))))))) ≡ None → Passed 7
+  all_passed true s c n m t l e0 e1 e2 e3 e4 e5 e6 e = cc
+  all_passed false true c n m t l e0 e1 e2 e3 e4 e5 e6 e = cc
+  all_passed false false c n (Some g) t l e0 e1 e2 e3 e4 e5 e6 e = cc
+  all_passed false false c n None (Some g) l e0 e1 e2 e3 e4 e5 e6 e = cc
+  all_passed false false c n None None (Some g) e0 e1 e2 e3 e4 e5 e6 e = cc
+  all_passed false false true n None None None e0 e1 e2 e3 e4 e5 e6 e = cc
+  all_passed false false false true None None None e0 e1 e2 e3 e4 e5 e6 e = cc
+  all_passed false false false false None None None e0 e1 e2 e3 e4 e5 e6 e = record { joined = λ lt. e0; spent = λ lt. e1; missing_none = λ lt. e2; taken_none = λ lt. e3; left_held_none' = λ lt. e4; same = λ lt. e5; next = λ lt. e6 }
 
-  pub passed : objection (length code) p i a ≡ None → Passed 6
+  pub passed : objection (length code) p i a changed ≡ None → Passed 7
   unfolding objection
-  passed e = all_passed a.differ (is_first i && not a.marks.is_open) (goes_on i && nat_le (length code) (p + 1)) (missing p a.marks (source i)) (taken p a.marks (destination i)) (left_held p (is_return i) (first_held a.marks.held 0)) refl refl refl refl refl refl e
+  passed e = all_passed a.differ (is_first i && not a.marks.is_open) changed (goes_on i && nat_le (length code) (p + 1)) (missing p a.marks (source i)) (taken p a.marks (destination i)) (left_held p (is_return i) (first_held a.marks.held 0)) refl refl refl refl refl refl refl e
 
   -- where nothing is found, nothing arises
-  pub clear : objection (length code) p i a ≡ None → (g : Finding) → pass g ≡ 1 → position g ≡ p → Arises code g → ⊥
-  clear e g is there x = below 6 (passed e) g is there (ranks g is) x
+  pub clear : objection (length code) p i a changed ≡ None → (g : Finding) → pass g ≡ 3 → position g ≡ p → Arises code g → ⊥
+  clear e g is there x = below 7 (passed e) g is there (ranks g is) x
     where
-      ranks : (g : Finding) → pass g ≡ 1 → rank g < 6
+      ranks : (g : Finding) → pass g ≡ 3 → rank g < 7
+      ranks (OfLoops q) e = let h = loops_first q in absurd (omega arith)
       ranks (TargetBack q) e = absurd (omega arith)
       ranks (TargetPastEnd q) e = absurd (omega arith)
+      ranks (TargetInLoop q) e = absurd (omega arith)
       ranks (Joined q) e = omega arith
       ranks (Spent q) e = omega arith
       ranks (Missing q n) e = omega arith
       ranks (Taken q n) e = omega arith
       ranks (LeftHeld q n) e = omega arith
+      ranks (Changed q) e = omega arith
       ranks (NextPastEnd q) e = omega arith
       ranks Steps e = omega arith
       ranks Locks e = omega arith

@@ -1,22 +1,25 @@
 -- Where nothing is found, what was remembered fits.
-use Rattle.std.proofs.Common.{◌≡◌, ℕ, ◌+◌, ◌<◌, List, length, Option, Some, None, Bool, true, false, refl, sym, ap, ◌∙◌, arith, ◌⊎◌, inl, inr, subst, map}
-use Rattle.std.specs.Prelude.{slice_get, get_or, nat_le, option_map}
+use Rattle.std.proofs.Common.{◌≡◌, ℕ, ◌+◌, ◌<◌, List, length, Option, Some, None, Bool, true, false, refl, sym, ap, ◌∙◌, arith, ◌⊎◌, inl, inr, ⊎_elim, subst, map}
+use Rattle.std.specs.Prelude.{slice_get, get_or, nat_le, option_map, ◌≢◌}
 use Rattle.std.proofs.Math.ListN.{get_or-map}
 use Rattle.std.proofs.lemmas.Option.{slice_get_within, slice_get-get_or}
 use Rattle.std.proofs.lemmas.Bool.{leb-true, leb-false}
 use Rattle.tl_instr.specs.declared.instr.Instr.{Instr}
-use Rattle.tl_instr.specs.Instructions.{target}
+use Rattle.tl_budget.specs.Loops.{Loop}
 use Rattle.tl_verify.specs.declared.marks.Marks.{Marks}
 use Rattle.tl_verify.specs.declared.arrivals.Arrivals.{Arrivals}
-use Rattle.tl_verify.specs.Marks.{entry, is_held, after, Leads, to_next, to_target, source, destination, is_first, is_return, goes_on}
+use Rattle.tl_verify.specs.Marks.{entry, is_held, after, Leads, to_next, to_target, to_body, source, destination, is_first, is_return, goes_on}
 use Rattle.tl_verify.specs.Ways.{Way, onward}
 use Rattle.tl_verify.specs.Acceptable.{Fits, Arrives, Allows}
-use Rattle.tl_verify.specs.Findings.{TargetBack, TargetPastEnd, Joined, Spent, Missing, Taken, LeftHeld, NextPastEnd, Meets}
+use Rattle.tl_verify.specs.Findings.{Joined, Spent, Missing, Taken, LeftHeld, Changed, NextPastEnd, Meets}
 use Rattle.tl_verify.specs.Known.{Comes, begins, steps, Gathers, Collects, Known, Ahead, ClearTo}
 use Rattle.tl_verify.specs.Pass.{first_held}
+use Rattle.tl_verify.proofs.Alike.{same_or_not}
+use Rattle.tl_verify.proofs.Bodies.{reach, entered}
 use Rattle.tl_verify.proofs.Comes.{comes_way, way_comes}
 use Rattle.tl_verify.proofs.Fitting.{held-after}
 use Rattle.tl_verify.proofs.Gathering.{collects_same}
+use Rattle.tl_verify.proofs.Jumping.{target_ahead, target_in_code, enters_none}
 use Rattle.tl_verify.proofs.Knowing.{is_open-after}
 use Rattle.tl_verify.proofs.Objecting.{first_held_is, first_held_none}
 
@@ -125,24 +128,48 @@ module _ (code : List Instr) (states : List (Option Arrivals)) (known : Known co
         strict false e = leb-false (length code) (q + 1) e
         strict true e = let x = gathers.some in absurd (clear.none (NextPastEnd q) refl inside (i, x.0, meets x.0 x.1, goes, leb-true (length code) (q + 1) e))
 
-    target_within : (l : ℕ) → target i ≡ Some l → (l < length code) × (q < l)
-    target_within l is = (in_code (nat_le (length code) l) refl, further (nat_le l q) refl)
-      where
-        in_code : (b : Bool) → nat_le (length code) l ≡ b → l < length code
-        in_code false e = leb-false (length code) l e
-        in_code true e = absurd (ahead.none (TargetPastEnd q) refl (i, l, at, is, leb-true (length code) l e))
-
-        further : (b : Bool) → nat_le l q ≡ b → q < l
-        further false e = leb-false l q e
-        further true e = absurd (ahead.none (TargetBack q) refl (i, l, at, is, leb-true l q e))
-
     arrives : (to : ℕ) (k : Marks) → Leads code i q a.marks to k → Arrives code (marks_of states) to k
     arrives to k (to_next goes is got) =
         let within : to < length code = subst (λ r. r < length code) (sym is) (next_within goes) in
         rw got (there to within (omega arith) (after i) (λ m. to_next goes is refl) (λ m e. held-after i m a.marks e) (is_open-after i) (get_or states to None) refl)
     arrives to k (to_target is got) =
-        let within = target_within to is in
-        rw got (there to within.0 within.1 (λ m. m) (λ m. to_target is refl) (λ m e. e) (inr (λ m. refl)) (get_or states to None) refl)
+        rw got (there to (target_in_code code ahead q to i at is) (target_ahead code ahead q to i at is) (λ m. m) (λ m. to_target is refl) (λ m e. e) (inr (λ m. refl)) (get_or states to None) refl)
+    arrives to k (to_body o l opens ends is got) = rw (is, got) (turn (get_or states (o + 1) None) refl)
+      where
+        r : (l.opening ≡ o) × (o < l.close)
+        r = reach code o l opens
+
+        within : o + 1 < length code
+        within = let g = inside in let h = r.1 in omega arith
+
+        turn : (s : Option Arrivals) → get_or states (o + 1) None ≡ s → Arrives code (marks_of states) (o + 1) a.marks
+        turn None e =
+            let x = gathers.some in
+            let y = entered code (enters_none code ahead) o l opens q x.0 x.1 (let h = r.1 in omega arith) (omega arith) in
+            absurd (all_ways (o + 1) within None e y.0 y.1)
+        turn (Some s) e = record {
+          inside = within;
+          marks = s.marks;
+          there = get_or-map (option_map (λ (a : Arrivals). a.marks)) states (o + 1) None ∙ ap (option_map (λ (a : Arrivals). a.marks)) e;
+          held = ⊎_elim (λ same. same) (λ ne. absurd (other ne)) (same_or_not s.marks.held a.marks.held);
+          is_open = λ opened. kept opened a.marks.is_open refl;
+        }
+          where
+            first : Gathers (Way code (l.opening + 1)) s
+            first = subst (λ n. Gathers (Way code (n + 1)) s) (sym r.0) (all_ways (o + 1) within (Some s) e)
+
+            other : s.marks.held ≢ a.marks.held → ⊥
+            other ne =
+                let x = gathers.some in
+                let y = first.some in
+                clear.none (Changed q) refl inside (i, x.0, o, l, meets x.0 x.1, opens, ends, record { start = y.0; way = y.1; differs = inl (λ same. ne (sym y.2 ∙ sym same ∙ x.2)) })
+
+            kept : s.marks.is_open ≡ true → (c : Bool) → a.marks.is_open ≡ c → a.marks.is_open ≡ true
+            kept opened true f = f
+            kept opened false f =
+                let x = gathers.spent f in
+                let y = first.some in
+                absurd (clear.none (Changed q) refl inside (i, x.0, o, l, meets x.0 x.1, opens, ends, record { start = y.0; way = y.1; differs = inr (x.2, λ k way. first.is_open opened k way) }))
 
   pub fits : 0 < length code → Fits code (marks_of states)
   fits some = record {
