@@ -2,7 +2,7 @@ use Rattle.std.proofs.Common.{◌<◌, length, refl, get_or}
 use Rattle.std.proofs.lemmas.Option.{slice_get-get_or, slice_get_read}
 use Rattle.tl_instr.specs.declared.instr.Instr.TheVariants.{Return}
 use Rattle.tl_verify.proofs.Knowing.{known_next, known_skip}
-use Rattle.tl_verify.proofs.Walking.{clear_skip, clear_next, fault_here, passes, next_inside, target_inside}
+use Rattle.tl_verify.proofs.Walking.{clear_skip, clear_next, fault_here, alike, next_inside, target_inside, body_inside}
 use Rattle.tl_verify.proofs.registers.walk.Goals as goal
 
 pub loop-position-preserved-in_default : goal.loop-position-preserved-in_default
@@ -14,21 +14,34 @@ loop-position-preserved-in_default c =
       clear_skip code p c.loop-position.states c.loop-position.invariant.1 c.loop-position.invariant.0 lt c.in_default.is,
     )
 
+pub is_changed-changed-requires-clause-start : goal.is_changed-changed-requires-clause-start
+is_changed-changed-requires-clause-start c ends =
+    let p = c.loop-position.position in
+    let code = c.args.code.now in
+    let lt : p < length code = c.loop-position-test.true in
+    let i = c.index-code-position.result in
+    let at = slice_get_read code (length code) p i refl lt c.index-code-position.is in
+    body_inside code c.args.nest.now c.requires.nest p i c.loop-position.states at c.loop-position.invariant.0 ends
+
 pub returns-in-Some-objection-clause-fault : goal.returns-in-Some-objection-clause-fault
 returns-in-Some-objection-clause-fault c =
     let p = c.loop-position.position in
     let code = c.args.code.now in
     let lt : p < length code = c.loop-position-test.true in
-    let at = slice_get_read code (length code) p c.index-code-position.result refl lt c.index-code-position.is in
-    fault_here code p c.index-code-position.result c.in-Some.arrivals c.loop-position.states c.in-Some-objection.fault at c.requires.ahead c.loop-position.invariant.1 c.loop-position.invariant.0 lt c.in-Some.is c.in-Some-objection.ensures
+    let i = c.index-code-position.result in
+    let at = slice_get_read code (length code) p i refl lt c.index-code-position.is in
+    fault_here code p c.args.nest.now c.requires.nest i at c.loop-position.states c.loop-position.invariant.0 c.loop-position.invariant.1 c.in-Some.arrivals c.in-Some.is c.is_changed-changed.result c.is_changed-changed.ensures
+    c.in-Some-objection.fault c.requires.ahead c.in-Some-objection.ensures
 
 pub pass_on-requires-clause-next : goal.pass_on-requires-clause-next
 pass_on-requires-clause-next c =
     let p = c.loop-position.position in
     let code = c.args.code.now in
     let lt : p < length code = c.loop-position-test.true in
-    let at = slice_get_read code (length code) p c.index-code-position.result refl lt c.index-code-position.is in
-    next_inside code p c.index-code-position.result c.in-Some.arrivals c.loop-position.states at c.loop-position.invariant.0 lt c.in-Some.is c.in_default-objection.ensures
+    let i = c.index-code-position.result in
+    let at = slice_get_read code (length code) p i refl lt c.index-code-position.is in
+    next_inside code p c.args.nest.now c.requires.nest i at c.loop-position.states c.loop-position.invariant.0 c.loop-position.invariant.1 c.in-Some.arrivals c.in-Some.is c.is_changed-changed.result c.is_changed-changed.ensures
+    c.in_default-objection.ensures
 
 pub pass_on-requires-clause-aside : goal.pass_on-requires-clause-aside
 pass_on-requires-clause-aside c l is =
@@ -48,7 +61,7 @@ loop-position-preserved c =
     let known = c.loop-position.invariant.0 in
     let lt : p < length code = c.loop-position-test.true in
     let at = slice_get_read code (length code) p i refl lt c.index-code-position.is in
-    let ok = passes code p i a states at known lt c.in-Some.is c.in_default-objection.ensures in (
-      known_next code p i a states c.pass_on.new.states at lt c.requires.ahead known c.in-Some.is ok.1 c.pass_on.ensures,
-      clear_next code p i a states at c.loop-position.invariant.1 known lt c.in-Some.is ok.0,
+    let same = alike code p c.args.nest.now c.requires.nest i at states known c.loop-position.invariant.1 a c.in-Some.is c.is_changed-changed.result c.is_changed-changed.ensures c.in_default-objection.ensures in (
+      known_next code p i a states c.pass_on.new.states at lt c.requires.ahead known c.in-Some.is same c.pass_on.ensures,
+      clear_next code p c.args.nest.now c.requires.nest i at states known c.loop-position.invariant.1 a c.in-Some.is c.is_changed-changed.result c.is_changed-changed.ensures c.in_default-objection.ensures,
     )
