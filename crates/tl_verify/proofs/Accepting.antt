@@ -1,5 +1,5 @@
 -- Where all passes find nothing the code is accepted, and what the last one finds is first.
-use Rattle.std.proofs.Common.{◌≡◌, ℕ, ◌<◌, List, length, Option, Some, None, refl, ap, ◌∙◌, arith, ◌⊎◌, inl, inr, ⊎_elim}
+use Rattle.std.proofs.Common.{◌≡◌, ◌<◌, List, refl, ap, ◌∙◌, arith, ◌⊎◌, inl, inr, ⊎_elim}
 use Rattle.std.specs.Prelude.{◌≢◌}
 use Rattle.tl_instr.specs.declared.instr.Instr.{Instr}
 use Rattle.tl_budget.specs.declared.fault.NestFault.{NestFault}
@@ -95,6 +95,11 @@ module _ (code : List Instr) (ahead : Ahead code) (fit : HasFit code) where
       by (OfLoops g) e lt x = let h = loops_first g in absurd (omega arith)
       by Steps e lt x = let h = over.0 in absurd (omega arith)
       by g e lt x = absurd (omega arith)
+  over_is_first (nest.LoopOpen p) over = absurd over
+  over_is_first (nest.EndAlone p) over = absurd over
+  over_is_first (nest.TooDeep p) over = absurd over
+  over_is_first (nest.ZeroCount p) over = absurd over
+  over_is_first nest.Memory over = absurd over
   over_is_first nest.EmitsOver over = of_sums Emits refl over.2 by
     where
       by : (g : Finding) → pass g ≡ 4 → rank g < 2 → Arises code g → ⊥

@@ -1,5 +1,5 @@
 -- Registers compared.
-use Rattle.std.proofs.Common.{◌≡◌, List, [], ◌∷◌, Option, Some, Bool, true, false, refl, sym, ap, ◌∙◌, ◌⊎◌, inl, inr, ⊎_elim}
+use Rattle.std.proofs.Common.{◌≡◌, List, [], ◌∷◌, Option, Some, Bool, true, false, refl, sym, ap, ◌∙◌, ◌⊎◌, inl, inr}
 use Rattle.std.specs.Prelude.{◌≢◌, ◌||◌}
 use Rattle.tl_instr.specs.declared.instr.Instr.{Instr}
 use Rattle.tl_verify.specs.declared.marks.Marks.{Marks}

@@ -1,10 +1,10 @@
 -- The bodies of loops: where they begin, and that all ways into them go through their first position.
-use Rattle.std.proofs.Common.{◌≡◌, ℕ, zero, suc, ◌+◌, ◌<◌, ◌≤◌, List, [], ◌∷◌, Option, Some, None, Bool, true, false, refl, sym, ap, ◌∙◌, arith, ◌⊎◌, inl, inr, ⊎_elim, subst}
+use Rattle.std.proofs.Common.{◌≡◌, ℕ, zero, suc, ◌+◌, ◌<◌, ◌≤◌, List, [], ◌∷◌, Option, Some, None, Bool, true, false, refl, sym, ap, ◌∙◌, arith, ◌⊎◌, ⊎_elim, subst}
 use Rattle.std.specs.Prelude.{slice_get, option_map, nat_le, drop, cond}
 use Rattle.std.proofs.lemmas.Bool.{leb-true, leb-false}
 use Rattle.tl_instr.specs.declared.instr.Instr.{Instr}
 use Rattle.tl_instr.specs.Instructions.{target}
-use Rattle.tl_budget.specs.Loops.{Kind, Opens, Closes, Returns, Acts, kind_at, closing, Loop, loop_at, loop_by, with_loop, around_from, around, IsAround}
+use Rattle.tl_budget.specs.Loops.{Kind, Opens, Closes, Returns, Acts, kind_at, closing, Loop, loop_at, loop_by, with_loop, around_from, IsAround}
 use Rattle.tl_verify.specs.declared.marks.Marks.{Marks}
 use Rattle.tl_verify.specs.Marks.{Leads, to_next, to_target, to_body}
 use Rattle.tl_verify.specs.Ways.{Way, start, onward}

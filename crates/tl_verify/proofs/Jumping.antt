@@ -5,7 +5,7 @@ use Rattle.std.proofs.lemmas.Bool.{leb-true, leb-false}
 use Rattle.std.proofs.lemmas.Option.{slice_get_within}
 use Rattle.tl_instr.specs.declared.instr.Instr.{Instr}
 use Rattle.tl_instr.specs.Instructions.{target}
-use Rattle.tl_budget.specs.Loops.{Loop, loop_at, around, IsAround}
+use Rattle.tl_budget.specs.Loops.{Loop, around, IsAround}
 use Rattle.tl_budget.specs.Nested.{IsNested, IsNest, place_at}
 use Rattle.tl_budget.specs.declared.nested.Place.{Place}
 use Rattle.tl_verify.specs.Findings.{Finding, OfLoops, TargetBack, TargetPastEnd, TargetInLoop, Arises, Precedes, IsFirstFault, fault_of, pass, position, rank}

@@ -1,6 +1,6 @@
 -- The states of all ways, one position further.
 use Rattle.std.proofs.Common.{◌≡◌, ℕ, ◌+◌, ◌<◌, ◌≤◌, List, length, Option, Some, None, Bool, true, false, refl, sym, ap, ◌∙◌, arith, ◌⊎◌, inl, inr, ⊎_elim, subst}
-use Rattle.std.specs.Prelude.{slice_get, get_or, cond, nat_le}
+use Rattle.std.specs.Prelude.{slice_get, get_or, cond}
 use Rattle.std.proofs.lemmas.List.{length-set}
 use Rattle.tl_instr.specs.declared.instr.Instr.{Instr}
 use Rattle.tl_instr.specs.declared.instr.Instr.TheVariants.{First, Child, Move, Release}

@@ -10,7 +10,7 @@ use Rattle.tl_verify.specs.Ways.{Way, start, onward}
 use Rattle.tl_verify.specs.Acceptable.{Fits, Arrives, HasFit, Acceptable}
 use Rattle.tl_verify.specs.Findings.{Finding, OfLoops, TargetBack, TargetPastEnd, TargetInLoop, Joined, Spent, Missing, Taken, LeftHeld, Changed, NextPastEnd, Steps, Locks, Emits, Arises, Changes, pass}
 use Rattle.tl_verify.proofs.Bodies.{EntersNone, reach, from_body, first_or_behind}
-use Rattle.tl_verify.proofs.Fitting.{Agrees, agrees, same_held, open-after}
+use Rattle.tl_verify.proofs.Fitting.{Agrees, agrees, same_held}
 use Rattle.tl_verify.proofs.Nesting.{nested_clear, loops_first}
 
 -- only first spends
@@ -71,8 +71,8 @@ module _ (code : List Instr) (enters_none : EntersNone code) (list : List (Optio
             ap (λ (x : Marks). x.is_open) (sym e) ∙ spent;
       })
       (λ behind.
-          let inside = from_body code enters_none o l there p q before m i at leads less behind le in
-          onward_unspent p q before m i at (agrees code list fits p before way) leads less (unspent p before way inside (omega arith)))
+      let inside = from_body code enters_none o l there p q before m i at leads less behind le in
+      onward_unspent p q before m i at (agrees code list fits p before way) leads less (unspent p before way inside (omega arith)))
       (first_or_behind code enters_none o l there q lt)
 
 -- a turn of a loop changes nothing

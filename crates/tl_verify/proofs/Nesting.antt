@@ -1,11 +1,11 @@
 -- Where loops match and nest, nothing is found of them.
 use Rattle.std.proofs.Common.{◌≡◌, ℕ, zero, suc, ◌+◌, ◌<◌, ◌≤◌, List, [], ◌∷◌, length, Option, Some, None, refl, sym, ap, ◌∙◌, arith}
-use Rattle.std.specs.Prelude.{slice_get, option_map, take, cond}
+use Rattle.std.specs.Prelude.{slice_get, option_map, take}
 use Rattle.std.proofs.lemmas.Option.{slice_get_within, slice_get-get_or}
 use Rattle.std.specs.Prelude.{get_or}
 use Rattle.tl_instr.specs.declared.instr.Instr.{Instr}
 use Rattle.tl_instr.specs.declared.instr.Instr.TheVariants.{Return}
-use Rattle.tl_budget.specs.Loops.{Kind, Opens, Closes, Returns, Acts, kind, kind_at, Loop, loop_at, loop_by, with_loop, around_from, around, Matched}
+use Rattle.tl_budget.specs.Loops.{Kind, Opens, Closes, Returns, Acts, kind, kind_at, loop_at, loop_by, with_loop, around_from, around, Matched}
 use Rattle.tl_budget.specs.Nested.{IsNested}
 use Rattle.tl_budget.specs.Findings.{Finding, Alone, Zero, Deep, Unclosed, Arises, pass, open_after, open_behind, open_at}
 use Rattle.tl_budget.proofs.Nest.{Nests, nests, around_goes}

@@ -5,7 +5,6 @@ use Rattle.std.proofs.Math.ListN.{get_or-map}
 use Rattle.std.proofs.lemmas.Option.{slice_get_within, slice_get-get_or}
 use Rattle.std.proofs.lemmas.Bool.{leb-true, leb-false}
 use Rattle.tl_instr.specs.declared.instr.Instr.{Instr}
-use Rattle.tl_budget.specs.Loops.{Loop}
 use Rattle.tl_verify.specs.declared.marks.Marks.{Marks}
 use Rattle.tl_verify.specs.declared.arrivals.Arrivals.{Arrivals}
 use Rattle.tl_verify.specs.Marks.{entry, is_held, after, Leads, to_next, to_target, to_body, source, destination, is_first, is_return, goes_on}

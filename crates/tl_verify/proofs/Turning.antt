@@ -1,18 +1,18 @@
 -- At the end of a loop's body: what the comparison says of all ways.
-use Rattle.std.proofs.Common.{◌≡◌, ℕ, ◌+◌, ◌<◌, ◌≤◌, List, ◌∷◌, length, Option, Some, None, Bool, true, false, refl, sym, ap, ◌∙◌, arith, ◌⊎◌, inl, inr, ⊎_elim}
-use Rattle.std.specs.Prelude.{slice_get, get_or, option_map, nat_le, ◌≢◌}
+use Rattle.std.proofs.Common.{◌≡◌, ℕ, ◌+◌, ◌<◌, ◌≤◌, List, length, Option, Some, None, Bool, true, false, refl, sym, ap, ◌∙◌, arith, ◌⊎◌, inl, inr, ⊎_elim}
+use Rattle.std.specs.Prelude.{slice_get, get_or, nat_le, ◌≢◌}
 use Rattle.std.proofs.lemmas.Bool.{leb-true, leb-false}
 use Rattle.std.proofs.lemmas.Option.{slice_get_within, slice_get-get_or}
 use Rattle.tl_instr.specs.declared.instr.Instr.{Instr}
 use Rattle.tl_instr.specs.declared.instr.Instr.TheVariants.{Repeat, End, Return}
-use Rattle.tl_budget.specs.Loops.{Closes, kind, Loop, loop_at, around}
+use Rattle.tl_budget.specs.Loops.{Closes, kind, Loop, loop_at}
 use Rattle.tl_budget.specs.Nested.{IsNest, place_at}
 use Rattle.tl_budget.specs.declared.nested.Place.{Place}
 use Rattle.tl_budget.proofs.Nest.{nests, nested, closes_at_end}
 use Rattle.tl_verify.specs.declared.marks.Marks.{Marks}
 use Rattle.tl_verify.specs.declared.arrivals.Arrivals.{Arrivals}
 use Rattle.tl_verify.specs.Ways.{Way}
-use Rattle.tl_verify.specs.Findings.{Joined, Changed, Arises, Changes, Meets}
+use Rattle.tl_verify.specs.Findings.{Joined, Changed, Arises}
 use Rattle.tl_verify.specs.Known.{Gathers, Known, ClearTo}
 use Rattle.tl_verify.specs.Pass.{Compares, is_end}
 use Rattle.tl_verify.proofs.Bodies.{reach, innermost_around}

@@ -1,7 +1,7 @@
 -- One position after another, and the first fault of all.
 use Rattle.std.proofs.Common.{◌≡◌, ℕ, zero, suc, ◌+◌, ◌<◌, List, length, Option, Some, None, Bool, true, false, refl, ap, ◌∙◌, arith, ◌⊎◌, inl, inr, ⊎_elim, subst}
 use Rattle.std.specs.Prelude.{slice_get, get_or, option_map, IfSome, IfNone, MatchOption, ◌&&◌, nat_le}
-use Rattle.std.proofs.lemmas.Bool.{leb-true, leb-false}
+use Rattle.std.proofs.lemmas.Bool.{leb-false}
 use Rattle.std.proofs.lemmas.Option.{slice_get_within}
 use Rattle.tl_instr.specs.declared.instr.Instr.{Instr}
 use Rattle.tl_instr.specs.Instructions.{target}

@@ -2,6 +2,7 @@
 
 ghost use Rattle.std.specs.Prelude.{◌≡◌};
 ghost use Rattle.tl_verify.specs.Faults.{numbers_of, of_nest};
+ghost use Rattle.tl_verify.specs.declared.fault.VerifyFault.TheVariants.{Memory};
 
 use arrayvec::ArrayVec;
 use std::alloc::AllocError;
@@ -47,17 +48,17 @@ pub enum VerifyFault {
 }
 
 impl From<AllocError> for VerifyFault {
-    fn from(_: AllocError) -> VerifyFault
-        ensures { result ≡ VerifyFault.Memory }
-    {
+    ghost from_gives = { λ _ e. e ≡ Memory };
+
+    fn from(_: AllocError) -> VerifyFault {
         VerifyFault::Memory
     }
 }
 
 impl From<NestFault> for VerifyFault {
-    fn from(fault: NestFault) -> VerifyFault
-        ensures { result ≡ of_nest fault }
-    {
+    ghost from_gives = { λ f e. e ≡ of_nest f };
+
+    fn from(fault: NestFault) -> VerifyFault {
         match fault {
             NestFault::Memory => VerifyFault::Memory,
             fault => VerifyFault::Nest(fault),

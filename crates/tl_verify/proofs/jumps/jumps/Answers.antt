@@ -1,4 +1,4 @@
-use Rattle.std.proofs.Common.{◌≡◌, length, refl, sym, ◌∙◌, arith, subst, inl, inr}
+use Rattle.std.proofs.Common.{◌≡◌, length, refl, sym, arith, subst, inl, inr}
 use Rattle.std.proofs.lemmas.Option.{slice_get_read}
 use Rattle.tl_verify.specs.Known.{AheadTo}
 use Rattle.tl_verify.proofs.Jumping.{none_more, ahead_more, back_is_first, past_is_first, into_is_first, all_ahead}
@@ -51,8 +51,8 @@ loop-position-preserved c =
     let depth = c.depth_at.ensures in
     ahead_more code p i at c.loop-position.invariant c.in-Some.target (sym c.in-Some.ensures) c.args.nest.now c.requires.nest c.if-target-position.false c.if-target-code.false
     (elim c.else-depth_at-gt0.branch [
-      else-depth_at-gt0-via-then-depth_at-gt0+else-opening_of-position w ↦ inr (let opening = w.opening_of.ensures in let less = w.if-opening_of-position.false in omega arith)
-    | else-depth_at-gt0-via-else-depth_at-gt0 w ↦ inl (let none = w.if-depth_at-gt0.false in omega arith)
+      | else-depth_at-gt0-via-then-depth_at-gt0+else-opening_of-position w ↦ inr (let opening = w.opening_of.ensures in let less = w.if-opening_of-position.false in omega arith)
+      | else-depth_at-gt0-via-else-depth_at-gt0 w ↦ inl (let none = w.if-depth_at-gt0.false in omega arith)
     ])
 
 pub returns-clause-ahead : goal.returns-clause-ahead

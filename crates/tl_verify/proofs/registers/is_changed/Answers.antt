@@ -1,4 +1,4 @@
-use Rattle.std.proofs.Common.{◌≡◌, ◌+◌, true, Some, None, get_or, refl, sym, ap, ◌∙◌}
+use Rattle.std.proofs.Common.{◌≡◌, ◌+◌, true, None, get_or, sym, ap, ◌∙◌}
 use Rattle.tl_budget.specs.Nested.{place_at}
 use Rattle.tl_verify.specs.Pass.{is_end}
 use Rattle.tl_verify.proofs.Alike.{other_registers, where_open, where_spent}
