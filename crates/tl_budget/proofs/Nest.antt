@@ -285,6 +285,14 @@ module _ (code : List Instr) where
       by Returns h = refl
       by Acts h = refl
 
+  -- where no loop opens or ends, the loops around stay
+  pub stays : (p : ℕ) (k : Kind) → kind_at code p ≡ Some k → ((w : ℕ) → k ≡ Opens w → ⊥) → (k ≡ Closes → ⊥) → around code (p + 1) ≡ around code p
+  stays p k at not_open not_end =
+      let s : p + 1 ≡ suc p = omega arith in
+      ap (around code) s
+      ∙ ap (λ c. with_loop (suc p) c (around_from code p (suc p))) (no_loop p k at not_open)
+      ∙ around_goes p k at not_end
+
   pub nests : Matched code → Nests code
   unfolding Made Reaches
   nests matched = record {
