@@ -6,7 +6,7 @@ use Rattle.std.proofs.Math.Nat.{mul-le-mul, mul_comm}
 use Rattle.std.proofs.lemmas.List.{length-set, get_or-set_same, get_or-set_other, at_drop_more, at_drop_all}
 use Rattle.std.proofs.lemmas.Option.{slice_get_within, get_or_from_slice_get}
 use Rattle.tl_instr.specs.declared.instr.Instr.{Instr}
-use Rattle.tl_budget.specs.Loops.{Kind, Opens, Closes, Returns, Acts, kind, Loop, around, product, weight, weights_from, weights}
+use Rattle.tl_budget.specs.Loops.{Kind, Opens, Closes, Returns, Acts, kind, kind_at, Loop, around, product, weight, weights_from, weights}
 use Rattle.tl_budget.specs.Nested.{IsNested, IsNest, place_at}
 use Rattle.tl_budget.specs.declared.nested.Place.{Place}
 use Rattle.tl_budget.proofs.Nest.{nests, stays}
@@ -133,5 +133,5 @@ passed code p i products nested at other h = by (kind i) refl
           keeps = subst (Keeps products) (sym o.4) (subst (Keeps products) o.2 h.keeps).1;
           small = subst Small (sym o.4) (subst Small o.2 h.small).1;
         }
-    by Returns is = same (stays code p Returns (ap (option_map kind) at ∙ ap Some is) (λ w e. cc) (λ e. cc))
-    by Acts is = same (stays code p Acts (ap (option_map kind) at ∙ ap Some is) (λ w e. cc) (λ e. cc))
+    by Returns is = let k : kind_at code p ≡ Some Returns = ap (option_map kind) at ∙ ap Some is in same (stays code p (λ w e. cc) (λ e. cc))
+    by Acts is = let k : kind_at code p ≡ Some Acts = ap (option_map kind) at ∙ ap Some is in same (stays code p (λ w e. cc) (λ e. cc))
