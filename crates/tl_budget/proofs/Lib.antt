@@ -1,1 +1,5 @@
+pub mod Clear
+pub mod Matching
 pub mod Nest
+pub mod Opened
+pub mod Weights

@@ -126,6 +126,16 @@ made : (code : List Instr) (o : ℕ) (l : Loop) → loop_at code o ≡ Some l �
 unfolding Made loop_at
 made code o l e = made_by code o (kind_at code o) l e
 
+-- a loop opens where it is found
+pub opening_is : (code : List Instr) (o : ℕ) (l : Loop) → loop_at code o ≡ Some l → l.opening ≡ o
+unfolding Made
+opening_is code o l e = (made code o l e).4
+
+-- it closes further on
+pub closes_after : (code : List Instr) (o : ℕ) (l : Loop) → loop_at code o ≡ Some l → o < l.close
+unfolding Made
+closes_after code o l e = let m = made code o l e in let x = m.5 in omega arith
+
 -- a loop's end is an end
 pub closes_at_end : (code : List Instr) (o : ℕ) (l : Loop) → loop_at code o ≡ Some l → kind_at code l.close ≡ Some Closes
 unfolding Made
@@ -275,25 +285,31 @@ module _ (code : List Instr) where
       let far : p + 1 ≤ l.close = omega arith in
       ap (λ b. cond b (reaching (p + 1) ls) (l ∷ ls)) (le-ltb l.close (p + 1) far)
 
-  no_loop : (p : ℕ) (k : Kind) → kind_at code p ≡ Some k → ((w : ℕ) → k ≡ Opens w → ⊥) → loop_at code p ≡ None
+  no_loop : (p : ℕ) → ((w : ℕ) → kind_at code p ≢ Some (Opens w)) → loop_at code p ≡ None
   unfolding loop_at
-  no_loop p k at other = ap (loop_by code p) at ∙ by k other
+  no_loop p not_open = by (kind_at code p) refl
     where
-      by : (k : Kind) → ((w : ℕ) → k ≡ Opens w → ⊥) → loop_by code p (Some k) ≡ None
-      by (Opens w) h = absurd (h w refl)
-      by Closes h = refl
-      by Returns h = refl
-      by Acts h = refl
+      by : (c : Option Kind) → kind_at code p ≡ c → loop_by code p c ≡ None
+      by (Some (Opens w)) e = absurd (not_open w e)
+      by (Some Closes) e = refl
+      by (Some Returns) e = refl
+      by (Some Acts) e = refl
+      by None e = refl
+
+  -- where no loop opens or ends, the loops around stay
+  pub stays : (p : ℕ) → ((w : ℕ) → kind_at code p ≢ Some (Opens w)) → kind_at code p ≢ Some Closes → around code (p + 1) ≡ around code p
+  stays p not_open not_end =
+      let s : p + 1 ≡ suc p = omega arith in
+      ap (around code) s
+      ∙ ap (λ c. with_loop (suc p) c (around_from code p (suc p))) (no_loop p not_open)
+      ∙ around_agree p (suc p) p (λ n l lt e. same_test (suc p) p l.close (λ h. omega arith) (λ h. let ne : l.close ≢ p = λ f. not_end (ap (kind_at code) (sym f) ∙ closes_at_end code n l e) in omega arith))
 
   pub nests : Matched code → Nests code
   unfolding Made Reaches
   nests matched = record {
     acts = λ p i at is.
         let k : kind_at code p ≡ Some Acts = ap (option_map kind) at ∙ ap Some is in
-        let s : p + 1 ≡ suc p = omega arith in
-        ap (around code) s
-        ∙ ap (λ c. with_loop (suc p) c (around_from code p (suc p))) (no_loop p Acts k (λ w e. cc))
-        ∙ around_goes p Acts k (λ e. cc)
+        stays p (λ w e. cc) (λ e. cc)
         ∙ sym (unreached p (around code p) (reaches p p) (not_there p Acts k (λ e. cc)));
     opens = λ p w i at is.
         let k : kind_at code p ≡ Some (Opens w) = ap (option_map kind) at ∙ ap Some is in
@@ -320,7 +336,7 @@ module _ (code : List Instr) where
         let l = m.1 in
         let d = made code o l m.2 in
         let behind : o < p = let x = d.5 in let y = m.3 in omega arith in
-        (l, around_from code o p, around_end o p l m.2 m.3 behind, m.3, around_next o p l m.2 m.3 behind (no_loop p Closes k (λ w e. cc)), around_body o p l m.2 m.3 behind d.4);
+        (l, around_from code o p, around_end o p l m.2 m.3 behind, m.3, around_next o p l m.2 m.3 behind (no_loop p (λ w e. cc)), around_body o p l m.2 m.3 behind d.4);
     inside = λ p i l ls at e other.
         let k : kind_at code p ≡ Some (kind i) = ap (option_map kind) at in
         let r = subst (Reaches p) e (reaches p p) in

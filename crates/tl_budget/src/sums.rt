@@ -1,8 +1,7 @@
 // What a procedure costs at most.
 
-ghost use Rattle.std.specs.Prelude.{◌≡◌, ◌≢◌, IfOk, IfErr};
-ghost use Rattle.tl_budget.specs.declared.fault.NestFault.TheVariants as fault;
-ghost use Rattle.tl_budget.specs.Loops.{budget, lock_bound, emit_bound};
+ghost use Rattle.std.specs.Prelude.{◌≡◌, ◌≢◌, ℕ, ◌+◌, ◌^◌, ◌<◌, IfOk, IfErr, MatchOption, if◌then◌else◌};
+ghost use Rattle.tl_budget.specs.Loops.{Opens, kind, budget, lock_bound, emit_bound, is_lock, is_emit};
 ghost use Rattle.tl_budget.specs.Faults.{IsOver, IsWithinLimits};
 ghost use Rattle.tl_budget.specs.Nested.{IsNest};
 
@@ -12,6 +11,84 @@ use crate::nested::Nest;
 use tl_instr::code::Code;
 use tl_instr::instr::Instr;
 
+// The sums of the weights: of all instructions, of those that lock a node, and of those that emit a value.
+#[derive(Clone, Copy)]
+struct Totals {
+    steps: u128,
+    locks: u128,
+    emits: u128,
+}
+
+impl Totals {
+    // With one more instruction of that weight.
+    fn with(self, instr: &Instr, weight: u128) -> Totals
+        requires steps { self.steps + weight < 2 ^ 128 }
+        requires locks { self.locks + weight < 2 ^ 128 }
+        requires emits { self.emits + weight < 2 ^ 128 }
+        ensures steps { result.steps ≡ self.steps + weight }
+        ensures locks { result.locks ≡ self.locks + (if is_lock instr.now then weight else 0) }
+        ensures emits { result.emits ≡ self.emits + (if is_emit instr.now then weight else 0) }
+    {
+        let locked = if locks_node(instr) { weight } else { 0 };
+        let emitted = if emits_value(instr) { weight } else { 0 };
+        Totals {
+            steps: self.steps + weight,
+            locks: self.locks + locked,
+            emits: self.emits + emitted,
+        }
+    }
+}
+
+// Whether the instruction locks a node.
+fn locks_node(instr: &Instr) -> bool
+    ensures { result ≡ is_lock instr.now }
+{
+    matches!(*instr, Instr::First { .. } | Instr::Child { .. })
+}
+
+// Whether the instruction emits a value.
+fn emits_value(instr: &Instr) -> bool
+    ensures { result ≡ is_emit instr.now }
+{
+    matches!(*instr, Instr::Emit { .. })
+}
+
+// How often the loop turns that the instruction opens.
+fn turns_of(instr: &Instr) -> Option<u16>
+    ensures { MatchOption result ((w : ℕ) → kind instr.now ≢ Opens w) (λ w. kind instr.now ≡ Opens w) }
+{
+    match *instr {
+        Instr::Repeat { count } => Some(count),
+        _ => None,
+    }
+}
+
+// The sums over a whole code.
+fn total(code: &Code, nest: &Nest) -> Totals
+    requires { IsNest code.now.instrs nest.now }
+    ensures steps { result.steps ≡ budget code.now.instrs }
+    ensures locks { result.locks ≡ lock_bound code.now.instrs }
+    ensures emits { result.emits ≡ emit_bound code.now.instrs }
+{
+    // At each depth the product of the counts of the loops around.
+    let mut products = [1; 5];
+    let mut totals = Totals {
+        steps: 0,
+        locks: 0,
+        emits: 0,
+    };
+    for position in 0..code.count() {
+        let instr = &code.instrs()[usize::from(position)];
+        let depth = usize::from(nest.depth_at(position));
+        let weight = products[depth];
+        totals = totals.with(instr, weight);
+        if let Some(turns) = turns_of(instr) {
+            products[depth + 1] = weight * u128::from(turns);
+        }
+    }
+    totals
+}
+
 /// The bounds of a code, by its loops: the sums of the weights of its instructions, of those that lock a node, and of
 /// those that emit a value, where an instruction's weight is the product of the counts of the loops around it.
 ///
@@ -20,7 +97,21 @@ pub fn bounds(code: &Code, nest: &Nest) -> Result<Bounds, NestFault>
     requires { IsNest code.now.instrs nest.now }
     ensures ok { IfOk result (λ b. (b.steps ≡ budget code.now.instrs) × (b.locks ≡ lock_bound code.now.instrs) × (b.emits ≡ emit_bound code.now.instrs)) }
     ensures within { IfOk result (λ _. IsWithinLimits code.now.instrs) }
-    ensures over { IfErr result (λ f. f ≢ fault.Memory → IsOver code.now.instrs f) }
+    ensures over { IfErr result (IsOver code.now.instrs) }
 {
-    Err(NestFault::Memory)
+    let totals = total(code, nest);
+    if totals.steps > u128::from(MAX_STEPS) {
+        return Err(NestFault::StepsOver);
+    }
+    if totals.locks > u128::from(MAX_LOCKS) {
+        return Err(NestFault::LocksOver);
+    }
+    if totals.emits > u128::from(MAX_EMITS) {
+        return Err(NestFault::EmitsOver);
+    }
+    Ok(Bounds {
+        steps: totals.steps as u32,
+        locks: totals.locks as u16,
+        emits: totals.emits as u8,
+    })
 }
