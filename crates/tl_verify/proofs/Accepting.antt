@@ -84,7 +84,7 @@ module _ (code : List Instr) (ahead : Ahead code) (fit : HasFit code) where
       by g y (inr (e, inl lt)) = let h = of_pass f is in absurd (omega arith)
       by g y (inr (e, inr (there, lt))) = none g (e ∙ is) lt y
 
-  over_is_first : (f : NestFault) → IsOver code f → IsFirstFault code (of_nest f)
+  pub over_is_first : (f : NestFault) → IsOver code f → IsFirstFault code (of_nest f)
   over_is_first nest.StepsOver over = of_sums Steps refl over by
     where
       by : (g : Finding) → pass g ≡ 4 → rank g < 0 → Arises code g → ⊥
@@ -95,11 +95,6 @@ module _ (code : List Instr) (ahead : Ahead code) (fit : HasFit code) where
       by (OfLoops g) e lt x = let h = loops_first g in absurd (omega arith)
       by Steps e lt x = let h = over.0 in absurd (omega arith)
       by g e lt x = absurd (omega arith)
-  over_is_first (nest.LoopOpen p) over = absurd over
-  over_is_first (nest.EndAlone p) over = absurd over
-  over_is_first (nest.TooDeep p) over = absurd over
-  over_is_first (nest.ZeroCount p) over = absurd over
-  over_is_first nest.Memory over = absurd over
   over_is_first nest.EmitsOver over = of_sums Emits refl over.2 by
     where
       by : (g : Finding) → pass g ≡ 4 → rank g < 2 → Arises code g → ⊥
@@ -107,16 +102,11 @@ module _ (code : List Instr) (ahead : Ahead code) (fit : HasFit code) where
       by Steps e lt x = let h = over.0 in absurd (omega arith)
       by Locks e lt x = let h = over.1 in absurd (omega arith)
       by g e lt x = absurd (omega arith)
-
-  pub over_fault : (f : NestFault) → (f ≢ nest.Memory → IsOver code f) → of_nest f ≢ Memory → IsFirstFault code (of_nest f)
-  over_fault (nest.LoopOpen p) x ne = absurd (x (λ e. cc))
-  over_fault (nest.EndAlone p) x ne = absurd (x (λ e. cc))
-  over_fault (nest.TooDeep p) x ne = absurd (x (λ e. cc))
-  over_fault (nest.ZeroCount p) x ne = absurd (x (λ e. cc))
-  over_fault nest.StepsOver x ne = over_is_first nest.StepsOver (x (λ e. cc))
-  over_fault nest.LocksOver x ne = over_is_first nest.LocksOver (x (λ e. cc))
-  over_fault nest.EmitsOver x ne = over_is_first nest.EmitsOver (x (λ e. cc))
-  over_fault nest.Memory x ne = absurd (ne refl)
+  over_is_first (nest.LoopOpen p) over = absurd over
+  over_is_first (nest.EndAlone p) over = absurd over
+  over_is_first (nest.TooDeep p) over = absurd over
+  over_is_first (nest.ZeroCount p) over = absurd over
+  over_is_first nest.Memory over = absurd over
 
 -- an accepted code has no fault but want of memory
 pub only_memory : (code : List Instr) → Acceptable code → (f : VerifyFault) → (f ≢ Memory → IsFirstFault code f) → f ≡ Memory

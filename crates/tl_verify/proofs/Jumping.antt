@@ -11,11 +11,12 @@ use Rattle.tl_budget.specs.declared.nested.Place.{Place}
 use Rattle.tl_verify.specs.Findings.{Finding, OfLoops, TargetBack, TargetPastEnd, TargetInLoop, Arises, Precedes, IsFirstFault, fault_of, pass, position, rank}
 use Rattle.tl_verify.specs.Known.{Ahead, AheadTo}
 use Rattle.tl_verify.proofs.Bodies.{EntersNone, innermost_around, others_before, none_around}
-use Rattle.tl_verify.proofs.Nesting.{nested_clear, loops_first}
+use Rattle.tl_budget.proofs.Matching.{nothing_found as loops_nothing_found}
+use Rattle.tl_verify.proofs.Nesting.{loops_first}
 
 -- before the targets come the loops
 pub loops_clear : (code : List Instr) → IsNested code → (f : Finding) → pass f < 2 → Arises code f → ⊥
-loops_clear code nested (OfLoops f) lt x = nested_clear code nested f x
+loops_clear code nested (OfLoops f) lt x = loops_nothing_found code nested f x
 loops_clear code nested f lt x = absurd (omega arith)
 
 module _ (code : List Instr) (b : ℕ) (i : Instr) (at : slice_get code b ≡ Some i) (ahead : AheadTo code b) where
@@ -117,7 +118,7 @@ pub all_ahead : (code : List Instr) → IsNested code → AheadTo code (length c
 all_ahead code nested a = record { none = by }
   where
     by : (f : Finding) → pass f < 3 → Arises code f → ⊥
-    by (OfLoops f) e x = nested_clear code nested f x
+    by (OfLoops f) e x = loops_nothing_found code nested f x
     by (TargetBack p) e (j, l, there, is, h) = a.none (TargetBack p) refl (slice_get_within code p j there) (j, l, there, is, h)
     by (TargetPastEnd p) e (j, l, there, is, h) = a.none (TargetPastEnd p) refl (slice_get_within code p j there) (j, l, there, is, h)
     by (TargetInLoop p) e (j, l, o, k, there, is, h, g) = a.none (TargetInLoop p) refl (slice_get_within code p j there) (j, l, o, k, there, is, h, g)

@@ -11,7 +11,8 @@ use Rattle.tl_verify.specs.Acceptable.{Fits, Arrives, HasFit, Acceptable}
 use Rattle.tl_verify.specs.Findings.{Finding, OfLoops, TargetBack, TargetPastEnd, TargetInLoop, Joined, Spent, Missing, Taken, LeftHeld, Changed, NextPastEnd, Steps, Locks, Emits, Arises, Changes, pass}
 use Rattle.tl_verify.proofs.Bodies.{EntersNone, reach, from_body, first_or_behind}
 use Rattle.tl_verify.proofs.Fitting.{Agrees, agrees, same_held}
-use Rattle.tl_verify.proofs.Nesting.{nested_clear, loops_first}
+use Rattle.tl_budget.proofs.Matching.{nothing_found as loops_nothing_found}
+use Rattle.tl_verify.proofs.Nesting.{loops_first}
 
 -- only first spends
 open_unless_first : (i : Instr) (m : Marks) → (is_first i ≡ true → ⊥) → (after i m).is_open ≡ m.is_open
@@ -147,7 +148,7 @@ fit_finds_nothing code enters_none fit Emits e a = absurd (omega arith)
 
 -- nothing is found in an accepted code
 pub nothing_found : (code : List Instr) → Acceptable code → (f : Finding) → Arises code f → ⊥
-nothing_found code acc (OfLoops f) a = nested_clear code (record { matched = acc.matched; shallow = acc.deep }) f a
+nothing_found code acc (OfLoops f) a = loops_nothing_found code (record { matched = acc.matched; shallow = acc.deep }) f a
 nothing_found code acc (TargetBack p) a = let h = acc.ahead p a.1 a.0 a.2 a.3 in let k = a.4 in absurd (omega arith)
 nothing_found code acc (TargetPastEnd p) a = let h = acc.inside p a.1 a.0 a.2 a.3 in let k = a.4 in absurd (omega arith)
 nothing_found code acc (TargetInLoop p) (i, l, o, k, at, is, into, out) = out (acc.into_none p l i at is o k into)

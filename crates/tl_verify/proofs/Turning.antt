@@ -8,6 +8,7 @@ use Rattle.tl_instr.specs.declared.instr.Instr.TheVariants.{Repeat, End, Return}
 use Rattle.tl_budget.specs.Loops.{Closes, kind, Loop, loop_at}
 use Rattle.tl_budget.specs.Nested.{IsNest, place_at}
 use Rattle.tl_budget.specs.declared.nested.Place.{Place}
+use Rattle.tl_budget.proofs.Matching.{has}
 use Rattle.tl_budget.proofs.Nest.{nests, nested, closes_at_end}
 use Rattle.tl_verify.specs.declared.marks.Marks.{Marks}
 use Rattle.tl_verify.specs.declared.arrivals.Arrivals.{Arrivals}
@@ -17,7 +18,6 @@ use Rattle.tl_verify.specs.Known.{Gathers, Known, ClearTo}
 use Rattle.tl_verify.specs.Pass.{Compares, is_end}
 use Rattle.tl_verify.proofs.Bodies.{reach, innermost_around}
 use Rattle.tl_verify.proofs.Knowing.{up_to_here}
-use Rattle.tl_verify.proofs.Nesting.{of_kind}
 
 ends_closes : (i : Instr) → is_end i ≡ true → kind i ≡ Closes
 ends_closes End e = refl
@@ -105,7 +105,7 @@ module _ (code : List Instr) (places : List Place) (nest : IsNest code places) (
       where
         ends : is_end i ≡ true
         ends =
-            let k = of_kind code l.close Closes (closes_at_end code o l opens) in
+            let k = has code l.close Closes (closes_at_end code o l opens) in
             let same : k.0 ≡ i = let h : Some k.0 ≡ Some i = sym k.1 ∙ ap (slice_get code) closes ∙ at in cc in
             closes_ends i (ap kind (sym same) ∙ k.2)
 
