@@ -30,7 +30,7 @@ clear_next code p before at f e lt a = by (cases_lt (position f) p)
     by (inl below) = before f e below a
     by (inr le) = let here : position f ≡ p = omega arith in at f e here a
 
-kind_here : (code : List Instr) (p q : ℕ) (k : Kind) → q ≡ p → kind_at code q ≡ Some k → kind_at code p ≡ Some k
+pub kind_here : (code : List Instr) (p q : ℕ) (k : Kind) → q ≡ p → kind_at code q ≡ Some k → kind_at code p ≡ Some k
 kind_here code p q k e at = ap (kind_at code) (sym e) ∙ at
 
 pub clear_opens : (code : List Instr) (p w : ℕ) → kind_at code p ≡ Some (Opens w) → 0 < w → length (opened code p) < 4 → ClearAt code p
@@ -79,7 +79,7 @@ past code (suc n) =
     let none : kind_at code (n + length code) ≡ None = ap (option_map kind) (slice_get_past code (n + length code) (omega arith)) in
     ap (opened code) e ∙ ap (λ k. next k (n + length code) (opened code (n + length code))) none ∙ past code n
 
-inside : (code : List Instr) (p : ℕ) (k : Kind) → kind_at code p ≡ Some k → p < length code
+pub inside : (code : List Instr) (p : ℕ) (k : Kind) → kind_at code p ≡ Some k → p < length code
 inside code p k at = let i = has code p k at in slice_get_within code p i.0 i.1
 
 -- where nothing is found and no loop is open at the end, loops nest

@@ -2,4 +2,6 @@ pub mod Clear
 pub mod Matching
 pub mod Nest
 pub mod Opened
+pub mod Placed
+pub mod Walking
 pub mod Weights
