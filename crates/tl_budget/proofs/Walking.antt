@@ -7,12 +7,12 @@ use Rattle.tl_instr.specs.declared.instr.Instr.TheVariants.{Repeat, End}
 use Rattle.tl_budget.specs.declared.fault.NestFault.{NestFault}
 use Rattle.tl_budget.specs.declared.fault.NestFault.TheVariants.{EndAlone, ZeroCount, TooDeep, LoopOpen, StepsOver, LocksOver, EmitsOver, Memory}
 use Rattle.tl_budget.specs.declared.nested.Place.{Place}
-use Rattle.tl_budget.specs.Findings.{Finding, Alone, Zero, Deep, Unclosed, Arises, pass, position, rank, open_at, IsFirstFault}
+use Rattle.tl_budget.specs.Findings.{IsFirstFault}
 use Rattle.tl_budget.specs.Loops.{Kind, Opens, Closes, Returns, Acts, kind, kind_at}
 use Rattle.tl_budget.specs.Nested.{IsNested, IsNest}
-use Rattle.tl_budget.proofs.Opened.{next, opened, opened_next, open_count, closes_innermost, Falling, falling}
+use Rattle.tl_budget.proofs.Opened.{next, opened, opened_next, closes_innermost, Falling, falling}
 use Rattle.tl_budget.proofs.Matching.{nothing_found}
-use Rattle.tl_budget.proofs.Clear.{Clear, clear_start, clear_next, clear_opens, clear_closes, clear_else, kind_here, first_at, first_unclosed}
+use Rattle.tl_budget.proofs.Clear.{Clear, clear_start, clear_next, clear_opens, clear_closes, clear_else, first_zero, first_deep, first_alone, first_unclosed}
 use Rattle.tl_budget.proofs.Placed.{Placed, placed_start, placed_push, placed_on, placed_close, marked, is_nest}
 
 -- The walk came to p: these loops are open, the outermost first, and nothing was found.
@@ -56,25 +56,12 @@ module _ (code : List Instr) (p w : ℕ) (openings : List ℕ) (places : List Pl
         placed = placed_on code (p + 1) p more (λ f. cc) placed;
       }
 
-  no_zero_before : (g : Finding) → pass g ≡ 0 → position g ≡ p → rank g < 1 → Arises code g → ⊥
-  no_zero_before (Alone q) early here lt a = let k = kind_here code p q Closes here a.0 in cc
-  no_zero_before (Zero q) early here lt a = absurd (omega arith)
-  no_zero_before (Deep q) early here lt a = absurd (omega arith)
-  no_zero_before (Unclosed q) early here lt a = absurd (omega arith)
-
-  no_deep_before : 0 < w → (g : Finding) → pass g ≡ 0 → position g ≡ p → rank g < 2 → Arises code g → ⊥
-  no_deep_before turns (Alone q) early here lt a = let k = kind_here code p q Closes here a.0 in cc
-  no_deep_before turns (Zero q) early here lt a = let k = kind_here code p q (Opens 0) here a in let zero : w ≡ 0 = cc in absurd (omega arith)
-  no_deep_before turns (Deep q) early here lt a = absurd (omega arith)
-  no_deep_before turns (Unclosed q) early here lt a = absurd (omega arith)
-
   pub not_in : (f : NestFault) → ((w ≡ 0) × (f ≡ ZeroCount p)) ⊎ ((0 < w) × (4 ≤ length openings) × (f ≡ TooDeep p)) → IsFirstFault code f
-  not_in f (inl e) = first_at code p f (Zero p) h.clear refl refl (at ∙ ap (λ n. Some (Opens n)) e.0) no_zero_before e.1
+  not_in f (inl e) = subst (IsFirstFault code) (sym e.1) (first_zero code p h.clear (at ∙ ap (λ n. Some (Opens n)) e.0))
   not_in f (inr e) =
       let many = as_many code p openings places h in
-      let count = open_count code p in
-      let deep : 4 ≤ open_at code p = let le = e.1 in omega arith in
-      first_at code p f (Deep p) h.clear refl refl (w, at, deep) (no_deep_before e.0) e.2
+      let deep : 4 ≤ length (opened code p) = let le = e.1 in omega arith in
+      subst (IsFirstFault code) (sym e.2) (first_deep code p w h.clear at e.0 deep)
 
 -- the innermost is the last
 innermost : (s outer : List ℕ) (o : ℕ) → reverse s ≡ outer ++ o ∷ [] → s ≡ o ∷ reverse outer
@@ -102,10 +89,8 @@ module _ (code : List Instr) (p : ℕ) (openings : List ℕ) (places : List Plac
   pub not_out : (f : NestFault) → (openings ≡ []) × (f ≡ EndAlone p) → IsFirstFault code f
   not_out f e =
       let many = as_many code p openings places h in
-      let count = open_count code p in
-      let none = ap length e.0 in
-      let alone : open_at code p ≡ 0 = omega arith in
-      first_at code p f (Alone p) h.clear refl refl (at, alone) (λ g early here lt a. absurd (omega arith)) e.1
+      let none : length (opened code p) ≡ 0 = let empty = ap length e.0 in omega arith in
+      subst (IsFirstFault code) (sym e.1) (first_alone code p h.clear at none)
 
 -- neither
 other_kind : (i : Instr) → ((count : ℕ) → i ≢ Repeat count) → i ≢ End → ((w : ℕ) → kind i ≢ Opens w) × (kind i ≢ Closes)
