@@ -5,9 +5,9 @@ use Rattle.std.proofs.lemmas.Bool.{cases_lt}
 use Rattle.std.proofs.lemmas.Option.{slice_get_within, slice_get_past}
 use Rattle.tl_instr.specs.declared.instr.Instr.{Instr}
 use Rattle.tl_budget.specs.declared.fault.NestFault.{NestFault}
-use Rattle.tl_budget.specs.declared.fault.NestFault.TheVariants.{LoopOpen}
+use Rattle.tl_budget.specs.declared.fault.NestFault.TheVariants.{LoopOpen, EndAlone, TooDeep, ZeroCount}
 use Rattle.tl_budget.specs.Loops.{Kind, Opens, Closes, Returns, Acts, kind, kind_at, Loop, loop_at, Matched}
-use Rattle.tl_budget.specs.Findings.{Finding, Alone, Zero, Deep, Unclosed, Arises, pass, position, rank, Precedes, fault_of, IsFirstFault}
+use Rattle.tl_budget.specs.Findings.{Finding, Alone, Zero, Deep, Unclosed, Arises, pass, position, rank, Precedes, fault_of, open_at, IsFirstFault}
 use Rattle.tl_budget.specs.Nested.{IsNested}
 use Rattle.tl_budget.proofs.Opened.{next, opened, open_count, open_or_closed, OpenOrClosed, closes_innermost, In, Falling, falling, opens_there, unclosed}
 use Rattle.tl_budget.proofs.Matching.{has, depth_is}
@@ -79,7 +79,7 @@ past code (suc n) =
     let none : kind_at code (n + length code) ≡ None = ap (option_map kind) (slice_get_past code (n + length code) (omega arith)) in
     ap (opened code) e ∙ ap (λ k. next k (n + length code) (opened code (n + length code))) none ∙ past code n
 
-inside : (code : List Instr) (p : ℕ) (k : Kind) → kind_at code p ≡ Some k → p < length code
+pub inside : (code : List Instr) (p : ℕ) (k : Kind) → kind_at code p ≡ Some k → p < length code
 inside code p k at = let i = has code p k at in slice_get_within code p i.0 i.1
 
 -- where nothing is found and no loop is open at the end, loops nest
@@ -119,7 +119,7 @@ module _ (code : List Instr) (clear : Clear code (length code)) (none : opened c
       record { matched = m; shallow = λ p. let d = depth_is code m p in let le = few_open p in omega arith }
 
 -- A fault at the first position that has one, and of those there the first, is the first.
-pub first_at : (code : List Instr) (p : ℕ) (f : NestFault) (found : Finding) → Clear code p → position found ≡ p → pass found ≡ 0 → Arises code found → ((g : Finding) → pass g ≡ 0 → position g ≡ p → rank g < rank found → Arises code g → ⊥) → f ≡ fault_of found → IsFirstFault code f
+first_at : (code : List Instr) (p : ℕ) (f : NestFault) (found : Finding) → Clear code p → position found ≡ p → pass found ≡ 0 → Arises code found → ((g : Finding) → pass g ≡ 0 → position g ≡ p → rank g < rank found → Arises code g → ⊥) → f ≡ fault_of found → IsFirstFault code f
 first_at code p f found clear here early arises alone is =
     record { finding = found; arises = arises; first = λ g a before. by g a before; fault = is }
   where
@@ -127,6 +127,31 @@ first_at code p f found clear here early arises alone is =
     by g a (inl lt) = absurd (omega arith)
     by g a (inr (same, inl lt)) = clear g (same ∙ early) (omega arith) a
     by g a (inr (same, inr (there, lt))) = alone g (same ∙ early) (there ∙ here) lt a
+
+before_zero : (code : List Instr) (p w : ℕ) → kind_at code p ≡ Some (Opens w) → (g : Finding) → pass g ≡ 0 → position g ≡ p → rank g < 1 → Arises code g → ⊥
+before_zero code p w at (Alone q) early here lt a = let k = kind_here code p q Closes here a.0 in cc
+before_zero code p w at (Zero q) early here lt a = absurd (omega arith)
+before_zero code p w at (Deep q) early here lt a = absurd (omega arith)
+before_zero code p w at (Unclosed q) early here lt a = absurd (omega arith)
+
+before_deep : (code : List Instr) (p w : ℕ) → kind_at code p ≡ Some (Opens w) → 0 < w → (g : Finding) → pass g ≡ 0 → position g ≡ p → rank g < 2 → Arises code g → ⊥
+before_deep code p w at turns (Alone q) early here lt a = let k = kind_here code p q Closes here a.0 in cc
+before_deep code p w at turns (Zero q) early here lt a = let k = kind_here code p q (Opens 0) here a in let zero : w ≡ 0 = cc in absurd (omega arith)
+before_deep code p w at turns (Deep q) early here lt a = absurd (omega arith)
+before_deep code p w at turns (Unclosed q) early here lt a = absurd (omega arith)
+
+pub first_zero : (code : List Instr) (p : ℕ) → Clear code p → kind_at code p ≡ Some (Opens 0) → IsFirstFault code (ZeroCount p)
+first_zero code p clear at = first_at code p (ZeroCount p) (Zero p) clear refl refl at (before_zero code p 0 at) refl
+
+pub first_deep : (code : List Instr) (p w : ℕ) → Clear code p → kind_at code p ≡ Some (Opens w) → 0 < w → 4 ≤ length (opened code p) → IsFirstFault code (TooDeep p)
+first_deep code p w clear at turns le =
+    let count = open_count code p in
+    let deep : 4 ≤ open_at code p = omega arith in
+    first_at code p (TooDeep p) (Deep p) clear refl refl (w, at, deep) (before_deep code p w at turns) refl
+
+pub first_alone : (code : List Instr) (p : ℕ) → Clear code p → kind_at code p ≡ Some Closes → length (opened code p) ≡ 0 → IsFirstFault code (EndAlone p)
+first_alone code p clear at none =
+    first_at code p (EndAlone p) (Alone p) clear refl refl (at, open_count code p ∙ none) (λ g early here lt a. absurd (omega arith)) refl
 
 -- the outermost of the loops that are still open at the end is the first without one
 least_last : (p o : ℕ) (s : List ℕ) → Falling p (s ++ o ∷ []) → (o < p) × ((q : ℕ) → In q (s ++ o ∷ []) → o ≤ q)

@@ -1,10 +1,11 @@
 // Why the loops or the costs of a code aren't accepted.
 
 ghost use Rattle.std.specs.Prelude.{◌≡◌};
+ghost use Rattle.tl_budget.specs.declared.fault.NestFault.TheVariants.{Memory};
 ghost use Rattle.tl_budget.specs.Faults.{numbers_of};
 
 use arrayvec::ArrayVec;
-use std::alloc::AllocError;
+use std::alloc::AllocFailed;
 use thiserror::Error;
 
 /// Why the loops or the costs of a code aren't accepted. Positions are counted from 0.
@@ -36,10 +37,10 @@ pub enum NestFault {
     Memory,
 }
 
-impl From<AllocError> for NestFault {
-    fn from(_: AllocError) -> NestFault
-        ensures { result ≡ NestFault.Memory }
-    {
+impl<T: Drop> From<AllocFailed<T>> for NestFault {
+    ghost from_gives = { λ _ e. e ≡ Memory };
+
+    fn from(_error: AllocFailed<T>) -> NestFault {
         NestFault::Memory
     }
 }

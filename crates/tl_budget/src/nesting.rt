@@ -1,14 +1,52 @@
 // Matches the loops of a code.
 
-ghost use Rattle.std.specs.Prelude.{◌≡◌, ◌≢◌, IfOk, IfErr};
+ghost use Rattle.std.specs.Prelude.{◌≡◌, ◌≢◌, ◌⊎◌, ◌-◌, ◌<◌, ◌≤◌, [], ◌∷◌, ◌++◌, length, slice_index, IfOk, OnOk, IfErr};
 ghost use Rattle.tl_budget.specs.Findings.{IsFirstFault};
 ghost use Rattle.tl_budget.specs.Nested.{IsNested, IsNest};
 ghost use Rattle.tl_budget.specs.declared.fault.NestFault.TheVariants as fault;
 
 use crate::fault::NestFault;
-use crate::nested::Nest;
+use crate::nested::{Nest, Place};
+use arrayvec::ArrayVec;
 use std::alloc::Global;
 use tl_instr::code::Code;
+use tl_instr::instr::Instr;
+
+// The place of a position, where loops are open that open at these positions, the outermost first.
+fn place(openings: &ArrayVec<u16, 4>) -> Place
+    ensures depth { result.depth ≡ length openings.now.items }
+    ensures opening { result.opening ≡ slice_index openings.now.items (length openings.now.items - 1) }
+{
+    Place {
+        depth: openings.len() as u8,
+        opening: openings.last().copied().unwrap_or(0),
+        close: 0,
+    }
+}
+
+// A loop opens at the position.
+fn enter(openings: &mut ArrayVec<u16, 4>, position: u16, count: u16) -> Result<(), NestFault>
+    ensures turns { OnOk result (0 < count) }
+    ensures room { OnOk result (length openings.old.items < 4) }
+    ensures opened { OnOk result (openings.new.items ≡ openings.old.items ++ position ∷ []) }
+    ensures fault { IfErr result (λ f. ((count ≡ 0) × (f ≡ fault.ZeroCount position)) ⊎ ((0 < count) × (4 ≤ length openings.old.items) × (f ≡ fault.TooDeep position))) }
+{
+    if count == 0 {
+        return Err(NestFault::ZeroCount(position));
+    }
+    if openings.try_push(position).is_err() {
+        return Err(NestFault::TooDeep(position));
+    }
+    Ok(())
+}
+
+// The innermost loop ends at the position: where it opens.
+fn leave(openings: &mut ArrayVec<u16, 4>, position: u16) -> Result<u16, NestFault>
+    ensures closed { IfOk result (λ opening. openings.old.items ≡ openings.new.items ++ opening ∷ []) }
+    ensures fault { IfErr result (λ f. (openings.old.items ≡ []) × (f ≡ fault.EndAlone position)) }
+{
+    openings.pop().ok_or(NestFault::EndAlone(position))
+}
 
 /// The loops of a code, where each has an end and turns, each end has a loop, and they nest at most four deep.
 ///
@@ -20,5 +58,22 @@ pub fn nest(alloc: Global, code: &Code) -> Result<Nest, NestFault>
     ensures accepts { IsNested code.now.instrs → IfErr result (λ f. f ≡ fault.Memory) }
     ensures fault { IfErr result (λ f. f ≢ fault.Memory → IsFirstFault code.now.instrs f) }
 {
-    Err(NestFault::Memory)
+    let mut places = Vec::new(alloc);
+    let mut openings = ArrayVec::new();
+    for position in 0..code.count() {
+        places.push(place(&openings))?;
+        let instr = &code.instrs()[usize::from(position)];
+        match *instr {
+            Instr::Repeat { count } => enter(&mut openings, position, count)?,
+            Instr::End => {
+                let opening = leave(&mut openings, position)?;
+                places[usize::from(opening)].close = position;
+            }
+            _ => {}
+        }
+    }
+    match openings.first() {
+        Some(opening) => Err(NestFault::LoopOpen(*opening)),
+        None => Ok(Nest { places }),
+    }
 }
