@@ -1,4 +1,5 @@
 pub mod Clear
+pub mod Costing
 pub mod FirstFaults
 pub mod Matching
 pub mod Nest

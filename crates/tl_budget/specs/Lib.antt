@@ -1,4 +1,5 @@
 pub mod Loops
 pub mod Findings
 pub mod Nested
+pub mod Costs
 pub mod Faults

@@ -2,9 +2,13 @@ pub mod RunLaws
 pub mod LeftLaws
 pub mod Frames
 pub mod Copies
+pub mod Families
+pub mod Registers
 pub mod Effects
 pub mod Rooms
 pub mod Steps
+pub mod Looping
+pub mod Attempting
 pub mod Standing
 pub mod Moves
 pub mod Going

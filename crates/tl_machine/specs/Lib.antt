@@ -1,6 +1,7 @@
 pub mod Runs
 pub mod Alone
 pub mod Left
+pub mod Rooms
 pub mod Call
 pub mod Stands
 pub mod Outcomes

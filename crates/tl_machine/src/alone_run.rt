@@ -2,7 +2,6 @@
 
 ghost use Rattle.std.specs.Prelude.{◌≡◌, ◌≢◌, ◌↔◌, ℕ, List, length, IsErr, IsOk, IfOk, OnErr, ◌≤◌, Option};
 ghost use Rattle.std.specs.Arc.{arc_value};
-ghost use Rattle.tl_verify.specs.Acceptable.{Acceptable};
 ghost use Rattle.tl_machine.specs.Stands.{Stands, run_left};
 ghost use Rattle.tl_machine.specs.Outcomes.{IsAnswer, IsStart, outcome_of};
 ghost use Rattle.tl_machine.specs.Alone.{alone as run_alone};
@@ -13,7 +12,6 @@ use crate::fault::WrongArgs;
 use crate::reply::Reply;
 use crate::step::{attempt, finish, free, lock};
 use std::sync::Arc;
-use tl_instr::code::Code;
 use tl_tree::tree::Tree;
 use tl_verify::procedure::Proc;
 
@@ -28,6 +26,7 @@ pub struct Answer {
 pub fn start(procedure: &Proc, args: &[i64]) -> Result<CallState, WrongArgs>
     ensures wrong { IsOk result ↔ (length args.now ≡ procedure.now.arity) }
     ensures start { IfOk result (IsStart args.now) }
+    ensures stands { IfOk result (λ c. (parents : List ℕ) → Stands procedure.now.instrs parents c) }
 {
     let arity = usize::from(procedure.code().arity().number());
     if args.len() != arity {
@@ -48,27 +47,26 @@ pub fn start(procedure: &Proc, args: &[i64]) -> Result<CallState, WrongArgs>
 }
 
 // Runs a call to its end, from its start.
-fn run(code: &Code, mut call: CallState, tree: &mut Tree) -> Answer
-    requires accepted { Acceptable code.now.instrs }
-    requires stands { Stands code.now.instrs tree.old.parents call }
+fn run(procedure: &Proc, mut call: CallState, tree: &mut Tree) -> Answer
+    requires stands { Stands procedure.now.instrs tree.old.parents call }
     requires steps { call.steps ≡ 0 }
     requires emits { call.emit_count ≡ 0 }
-    ensures answer { IsAnswer (outcome_of (run_left code.now.instrs tree.old.parents call tree.old.records)) result.reply result.steps }
-    ensures tree { tree.new ≡ record tree.old { records = (outcome_of (run_left code.now.instrs tree.old.parents call tree.old.records)).records } }
+    ensures answer { IsAnswer (outcome_of (run_left procedure.now.instrs tree.old.parents call tree.old.records)) result.reply result.steps }
+    ensures tree { tree.new ≡ record tree.old { records = (outcome_of (run_left procedure.now.instrs tree.old.parents call tree.old.records)).records } }
 {
     loop {
-        match attempt(code, tree.shape(), &mut call) {
+        match attempt(procedure, tree.shape(), &mut call) {
             Attempt::Done(_) => {}
             Attempt::Lock(node) => {
                 let found = tree.record_at(node);
-                lock(code, tree.shape(), &mut call, found);
+                lock(procedure, tree.shape(), &mut call, found);
             }
             Attempt::Free(_) => {
-                let held = free(code, tree.shape(), &mut call);
+                let held = free(procedure, tree.shape(), &mut call);
                 tree.put_at(held.node, held.record);
             }
             Attempt::Finish => {
-                finish(code, tree.shape(), &mut call);
+                finish(procedure, tree.shape(), &mut call);
                 return Answer {
                     reply: Reply::of(&call),
                     steps: call.steps,
@@ -88,5 +86,5 @@ pub fn alone(procedure: &Arc<Proc>, args: &[i64], tree: &mut Tree) -> Result<Ans
     ensures tree { IfOk result (λ _. tree.new ≡ record tree.old { records = (outcome_of (run_alone (arc_value procedure.now).instrs tree.old.parents args.now tree.old.records)).records }) }
 {
     let call = start(procedure, args)?;
-    Ok(run(procedure.code(), call, tree))
+    Ok(run(procedure, call, tree))
 }

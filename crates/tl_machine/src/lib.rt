@@ -5,7 +5,10 @@ pub mod alone_run;
 pub mod attempt;
 pub mod call;
 pub mod fault;
+pub mod loops;
+pub mod nodes;
 pub mod reply;
 pub mod step;
+pub mod values;
 #[cfg(test)]
 mod tests;

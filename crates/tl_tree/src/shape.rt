@@ -72,7 +72,8 @@ impl Shape {
     /// How many children a node has.
     pub fn kids(&self, node: u16) -> u16
         requires { node < length self.now }
-        ensures { result ≡ length (kids self.now node) }
+        ensures count { result ≡ length (kids self.now node) }
+        ensures tree { IsTree self.now }
     {
         self.kid_lists[usize::from(node)].len() as u16
     }

@@ -1,5 +1,8 @@
-use Rattle.tl_machine.proofs.Going.{start_stands}
+use Rattle.std.proofs.Common.{sym, subst, ◌∙◌}
+use Rattle.tl_instr.specs.Codes.{CodeValue}
+use Rattle.tl_machine.specs.Stands.{Stands}
 use Rattle.tl_machine.proofs.alone_run.alone.Goals as goal
 
 pub run-requires-clause-stands : goal.run-requires-clause-stands
-run-requires-clause-stands c = rw c.code.ensures.value (start_stands _ _ c.code.ensures.accepted c.args.args.now c.in_ok-call.call c.in_ok-call.ensures.start c.code.ensures.valid.count.0)
+run-requires-clause-stands c =
+    subst (λ (p : CodeValue). Stands p.instrs c.args.tree.now.parents c.in_ok-call.call) (c.deref.ensures ∙ sym c.deref-2.ensures) (c.in_ok-call.ensures.stands c.args.tree.now.parents)

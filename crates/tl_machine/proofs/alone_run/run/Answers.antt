@@ -1,7 +1,7 @@
 use Rattle.std.proofs.Common.{refl, sym, ap, ◌∙◌, ℕ, List, [], take}
 use Rattle.tl_tree.specs.Trees.{TreeValue}
 use Rattle.tl_tree.specs.Records.{Records}
-use Rattle.tl_machine.proofs.Going.{done_on, lock_on, free_on, free_inside, finish_on, finish_emits}
+use Rattle.tl_machine.proofs.Going.{done_on, lock_on, lock_inside, free_on, free_inside, finish_on, finish_emits}
 use Rattle.tl_machine.proofs.alone_run.run.Goals as goal
 
 pub loop-node-init : goal.loop-node-init
@@ -27,6 +27,17 @@ loop-node-preserved-in-Lock c =
       shape = c.loop-node.invariant.shape;
     }
 
+pub record_at-found-requires : goal.record_at-found-requires
+record_at-found-requires c =
+    let same = c.deref.ensures ∙ c.shape.ensures.shape in
+    lock_inside _ _ _ _ same _ c.attempt.new.call c.attempt.new.call _ c.shape.ensures.whole.count c.loop-node.invariant.so_far (rw same c.shape.ensures.whole.shape) c.in-Lock.node c.in-Lock.ensures
+
+pub lock-requires-clause-lock : goal.lock-requires-clause-lock
+lock-requires-clause-lock c =
+    let same = c.deref.ensures ∙ c.shape.ensures.shape in
+    let again = c.deref-in-Lock.ensures ∙ c.shape-in-Lock.ensures.shape ∙ sym same in
+    rw again (c.in-Lock.node, rw c.in-Lock.ensures.0 c.in-Lock.ensures.1)
+
 pub put_at-requires : goal.put_at-requires
 put_at-requires c =
     let same = c.deref.ensures ∙ c.shape.ensures.shape in
@@ -45,7 +56,7 @@ pub of-requires : goal.of-requires
 of-requires c =
     let same = c.deref.ensures ∙ c.shape.ensures.shape in
     let again = c.deref-in-Finish.ensures ∙ c.shape-in-Finish.ensures.shape ∙ sym same in
-    finish_emits _ _ _ _ same _ _ _ _ c.shape.ensures.whole.count c.loop-node.invariant.so_far c.requires.accepted c.in-Finish.ensures (rw again at c.finish.ensures)
+    finish_emits _ _ _ _ same _ _ _ _ c.shape.ensures.whole.count c.loop-node.invariant.so_far c.in-Finish.ensures (rw again at c.finish.ensures)
 
 pub returns-in-Finish-clause-answer : goal.returns-in-Finish-clause-answer
 returns-in-Finish-clause-answer c =

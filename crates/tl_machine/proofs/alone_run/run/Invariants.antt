@@ -7,9 +7,9 @@ use Rattle.tl_machine.proofs.alone_run.run.Given as goal
 -- what was done so far is what was to be done, and the tree has the shape that it had
 abbrev pub invariant-loop-node : goal.invariant-loop-node
 invariant-loop-node l = record {
-  so_far : SoFar l.code.instrs l.tree.parents (run_left l.code.instrs l.initial.tree.parents l.initial.call l.initial.tree.records) l.call l.tree.records;
+  so_far : SoFar l.procedure.instrs l.tree.parents (run_left l.procedure.instrs l.initial.tree.parents l.initial.call l.initial.tree.records) l.call l.tree.records;
   shape : l.tree.parents ≡ l.initial.tree.parents;
 }
 
 abbrev pub decreases-loop-node : goal.decreases-loop-node
-decreases-loop-node l = budget l.code.instrs - l.call.steps
+decreases-loop-node l = budget l.procedure.instrs - l.call.steps

@@ -1,6 +1,6 @@
 use Rattle.std.proofs.Common.{refl, ◌∙◌, ap, length, ◌++◌, drop}
 use Rattle.std.specs.Prelude.{pos, replicate}
-use Rattle.tl_machine.proofs.Going.{drop-replicate}
+use Rattle.tl_machine.proofs.Going.{drop-replicate, start_stands}
 use Rattle.tl_machine.proofs.alone_run.start.Goals as goal
 
 pub returns-clause-start : goal.returns-clause-start
@@ -12,3 +12,6 @@ returns-clause-start c = record {
   emits = refl;
   steps = refl;
 }
+
+pub returns-clause-stands : goal.returns-clause-stands
+returns-clause-stands c = λ parents. (start_stands _ parents c.code.ensures.accepted c.args.args.now _ (returns-clause-start c) c.code.ensures.valid.count.0)

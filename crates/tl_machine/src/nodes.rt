@@ -1,0 +1,88 @@
+// What instructions do with held nodes.
+
+ghost use Rattle.std.specs.Prelude.{◌≡◌, ℕ, List, ◌+◌, ◌<◌, length, get_or, None};
+ghost use Rattle.tl_instr.specs.declared.instr.Instr.TheVariants as instr;
+ghost use Rattle.tl_tree.specs.Records.{Records};
+ghost use Rattle.tl_machine.specs.Alone.{effect};
+ghost use Rattle.tl_machine.specs.declared.call.HeldNode.{HeldNode as HeldNode'};
+ghost use Rattle.tl_machine.specs.Call.{in_tree, held_view, Distinct, AreIn, IsHeld, Takes};
+
+use crate::call::CallState;
+use tl_instr::operand::{Field, NodeRegister, ValueRegister};
+use tl_protocol::action::Action;
+use tl_tree::shape::Shape;
+
+/// `get`
+pub fn get(call: &mut CallState, to: ValueRegister, node: NodeRegister, field: Field) -> Action
+    requires node { (h : HeldNode') × IsHeld call.old.nodes node h }
+    requires distinct { Distinct (held_view call.old.nodes) }
+    requires position { call.old.position < 1024 }
+    requires steps { call.old.steps < 1000000 }
+    ensures { (parents : List ℕ) (t : Records) → AreIn (length t) (held_view call.old.nodes) → Takes (effect parents (instr.Get to node field) call.old.position (in_tree call.old t)) call.old result call.new t }
+{
+    let Some(held) = call.nodes[node.index()] else {
+        unreachable!()
+    };
+    let value = held.record[field.index()];
+    call.values[to.index()] = value;
+    call.go_to(call.position + 1);
+    Action::Read {
+        node: held.node,
+        field: field.number(),
+        value,
+    }
+}
+
+/// `put`
+pub fn put(call: &mut CallState, node: NodeRegister, field: Field, from: ValueRegister) -> Action
+    requires node { (h : HeldNode') × IsHeld call.old.nodes node h }
+    requires distinct { Distinct (held_view call.old.nodes) }
+    requires position { call.old.position < 1024 }
+    requires steps { call.old.steps < 1000000 }
+    ensures { (parents : List ℕ) (t : Records) → AreIn (length t) (held_view call.old.nodes) → Takes (effect parents (instr.Put node field from) call.old.position (in_tree call.old t)) call.old result call.new t }
+{
+    let Some(mut held) = call.nodes[node.index()] else {
+        unreachable!()
+    };
+    let value = call.values[from.index()];
+    held.record[field.index()] = value;
+    call.nodes[node.index()] = Some(held);
+    call.go_to(call.position + 1);
+    Action::Write {
+        node: held.node,
+        field: field.number(),
+        value,
+    }
+}
+
+/// `kids`
+pub fn kids(call: &mut CallState, shape: &Shape, to: ValueRegister, node: NodeRegister) -> Action
+    requires node { (h : HeldNode') × IsHeld call.old.nodes node h }
+    requires inside { AreIn (length shape.now) (held_view call.old.nodes) }
+    requires position { call.old.position < 1024 }
+    requires steps { call.old.steps < 1000000 }
+    ensures { (t : Records) → Takes (effect shape.now (instr.Kids to node) call.old.position (in_tree call.old t)) call.old result call.new t }
+{
+    let Some(held) = call.nodes[node.index()] else {
+        unreachable!()
+    };
+    call.values[to.index()] = i64::from(shape.kids(held.node));
+    call.go_to(call.position + 1);
+    Action::Plain
+}
+
+/// `move`
+pub fn move_node(call: &mut CallState, to: NodeRegister, from: NodeRegister) -> Action
+    requires node { (h : HeldNode') × IsHeld call.old.nodes from h }
+    requires empty { get_or call.old.nodes to None ≡ None }
+    requires distinct { Distinct (held_view call.old.nodes) }
+    requires position { call.old.position < 1024 }
+    requires steps { call.old.steps < 1000000 }
+    ensures { (parents : List ℕ) (t : Records) → Takes (effect parents (instr.Move to from) call.old.position (in_tree call.old t)) call.old result call.new t }
+{
+    let held = call.nodes[from.index()];
+    call.nodes[from.index()] = None;
+    call.nodes[to.index()] = held;
+    call.go_to(call.position + 1);
+    Action::Plain
+}
