@@ -4,4 +4,5 @@ pub mod Left
 pub mod Rooms
 pub mod Call
 pub mod Stands
+pub mod Wants
 pub mod Outcomes

@@ -8,7 +8,9 @@ pub mod fault;
 pub mod loops;
 pub mod nodes;
 pub mod reply;
+pub mod start;
 pub mod step;
 pub mod values;
+pub mod want;
 #[cfg(test)]
 mod tests;
