@@ -8,6 +8,7 @@ pub mod fault;
 pub mod loops;
 pub mod nodes;
 pub mod reply;
+pub mod segment;
 pub mod start;
 pub mod step;
 #[cfg(test)]

@@ -135,4 +135,13 @@ impl Turn {
     {
         &self.call
     }
+
+    pub(crate) fn into_parts(self) -> (Arc<Proc>, Arc<Shape>, CallState)
+        ensures code { arc_value result.0 ≡ self.code }
+        ensures parents { arc_value result.1 ≡ self.parents }
+        ensures state { result.2 ≡ self.call }
+        ensures turn { IsTurn self.code.instrs self.parents self.call }
+    {
+        (self.procedure, self.shape, self.call)
+    }
 }

@@ -9,6 +9,7 @@ returns-clause-start c = record {
   running = refl;
   values = ap (λ xs. xs ++ drop (length c.args.args.now) (replicate 16 (pos 0))) c.copy_from_slice.ensures.after ∙ ap (λ ys. c.args.args.now ++ ys) (drop-replicate (length c.args.args.now) 16 (pos 0));
   nodes = refl;
+  counters = refl;
   emits = refl;
   steps = refl;
 }
