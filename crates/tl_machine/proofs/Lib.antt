@@ -13,3 +13,4 @@ pub mod Standing
 pub mod Moves
 pub mod Going
 pub mod Wanting
+pub mod Turning

@@ -5,4 +5,5 @@ pub mod Rooms
 pub mod Call
 pub mod Stands
 pub mod Wants
+pub mod Turns
 pub mod Outcomes

@@ -10,7 +10,8 @@ pub mod nodes;
 pub mod reply;
 pub mod start;
 pub mod step;
-pub mod values;
-pub mod want;
 #[cfg(test)]
 mod tests;
+pub mod turn;
+pub mod values;
+pub mod want;
