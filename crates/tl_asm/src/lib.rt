@@ -1,0 +1,6 @@
+//! The assembler: a procedure as text, and back.
+#![tactic(auto)]
+
+pub mod fault;
+mod reading;
+mod word;
