@@ -3,4 +3,5 @@
 
 pub mod fault;
 mod reading;
+mod token;
 mod word;
