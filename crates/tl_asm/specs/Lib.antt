@@ -1,3 +1,4 @@
 pub mod Words
 pub mod Tokens
+pub mod Statements
 pub mod Faults
