@@ -5,6 +5,8 @@ use lib.Chars.{codes}
 use Rattle.tl_instr.specs.declared.instr.Instr.{Instr}
 use Rattle.tl_instr.specs.declared.instr.Instr.TheVariants.{Set, Copy, Add, Subtract, Multiply, Divide, Jump, JumpIfLess, JumpIfEqual, Repeat, End, First, Child, Move, Release, Get, Put, Kids, Emit, Return}
 use Rattle.tl_asm.specs.declared.draft.Draft.{Draft}
+use Rattle.tl_asm.specs.declared.statement.Statement.{Statement}
+use Rattle.tl_asm.specs.declared.statement.Statement.TheVariants as statements
 use Rattle.tl_asm.specs.Words.{Word, first_of, words_of, without_comment}
 use Rattle.tl_asm.specs.Tokens.{◌>>=◌, number_in, value_register, node_register, signed_in, is_label}
 
@@ -197,3 +199,32 @@ draft_in name words =
     else (if bytes_eq name (codes "emit") then emit_in words
     else (if bytes_eq name (codes "ret") then alone_in Return words
     else None)))))))))))))))))))
+
+pub data Said : Type 0 where
+  Blank : Said
+  Takes : ℕ → Said
+  Names : Word → Said
+  Does : DraftValue → Said
+
+abbrev pub names_in : Word → List Word → Option Said
+names_in label [] = option_map Names (label_in label)
+names_in label (word ∷ words) = None
+
+-- the arity, a label, or an instruction
+unfoldable pub said_in : List Word → Option Said
+said_in [] = Some Blank
+said_in (name ∷ words) =
+    if bytes_eq name (codes "arity") then option_map Takes (last (number_in 9) words)
+    else (if slice_index name (length name - 1) == 58 then names_in (take (length name - 1) name) words
+    else option_map Does (draft_in name words))
+
+-- what a line says, where it is of one of these forms
+abbrev pub says : List ℕ → Option Said
+says line = said_in (words_of (without_comment line))
+
+-- a statement without where its label lies in memory
+abbrev pub shown : Statement → Said
+shown statements.Blank = Blank
+shown (statements.Takes arity) = Takes arity
+shown (statements.Names label) = Names label.now
+shown (statements.Does draft) = Does (view draft)

@@ -4,5 +4,6 @@
 mod draft;
 pub mod fault;
 mod reading;
+mod statement;
 mod token;
 mod word;
