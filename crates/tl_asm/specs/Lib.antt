@@ -1,4 +1,5 @@
 pub mod Words
 pub mod Tokens
 pub mod Statements
+pub mod Texts
 pub mod Faults

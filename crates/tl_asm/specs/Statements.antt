@@ -4,6 +4,8 @@ use Rattle.std.specs.Str.{bytes_eq}
 use lib.Chars.{codes}
 use Rattle.tl_instr.specs.declared.instr.Instr.{Instr}
 use Rattle.tl_instr.specs.declared.instr.Instr.TheVariants.{Set, Copy, Add, Subtract, Multiply, Divide, Jump, JumpIfLess, JumpIfEqual, Repeat, End, First, Child, Move, Release, Get, Put, Kids, Emit, Return}
+use Rattle.tl_instr.specs.Codes.{IsArity}
+use Rattle.tl_instr.specs.Instructions.{InRange}
 use Rattle.tl_asm.specs.declared.draft.Draft.{Draft}
 use Rattle.tl_asm.specs.declared.statement.Statement.{Statement}
 use Rattle.tl_asm.specs.declared.statement.Statement.TheVariants as statements
@@ -228,3 +230,10 @@ shown statements.Blank = Blank
 shown (statements.Takes arity) = Takes arity
 shown (statements.Names label) = Names label.now
 shown (statements.Does draft) = Does (view draft)
+
+-- an arity and operands are in range
+abbrev pub IsSaid : Said → Type 0
+IsSaid Blank = Unit {0}
+IsSaid (Takes arity) = IsArity arity
+IsSaid (Names label) = Unit {0}
+IsSaid (Does d) = InRange d.instr

@@ -1,6 +1,7 @@
 //! The instruction that a line's words are.
 
-ghost use Rattle.std.specs.Prelude.{◌≡◌};
+ghost use Rattle.std.specs.Prelude.{◌≡◌, IfSome};
+ghost use Rattle.tl_instr.specs.Instructions.{InRange};
 ghost use Rattle.tl_asm.specs.Words.{words_of, Finds};
 ghost use Rattle.tl_asm.specs.Tokens.{number_in, value_register, node_register, signed_in};
 ghost use Rattle.tl_asm.specs.Statements.{view, token, only_of, last, label_in, else_in, otherwise_in, alone_in, set_in, copy_in, arithmetic_in, add_in, subtract_in, multiply_in, divide_in, jump_in, comparison_in, jump_if_less_in, jump_if_equal_in, repeat_in, first_in, child_in, move_in, release_in, get_in, put_in, kids_in, emit_in, draft_in};
@@ -66,7 +67,8 @@ fn otherwise(line: &[u8]) -> Option<&[u8]>
 /// An instruction without operands.
 #[tactic(auto, unfolding(crate::specs::Statements::alone_in))]
 fn alone(instr: Instr, line: &[u8]) -> Option<Draft<'_>>
-    ensures { Finds view result (alone_in instr (words_of line.now)) }
+    ensures found { Finds view result (alone_in instr (words_of line.now)) }
+    ensures in_range { IfSome result (λ d. InRange d.instr) }
 {
     if next_word(line).is_some() {
         return None;
@@ -76,7 +78,8 @@ fn alone(instr: Instr, line: &[u8]) -> Option<Draft<'_>>
 
 #[tactic(auto, unfolding(crate::specs::Statements::set_in))]
 fn set(line: &[u8]) -> Option<Draft<'_>>
-    ensures { Finds view result (set_in (words_of line.now)) }
+    ensures found { Finds view result (set_in (words_of line.now)) }
+    ensures in_range { IfSome result (λ d. InRange d.instr) }
 {
     let Some((to, rest)) = value(line) else {
         return None;
@@ -90,7 +93,8 @@ fn set(line: &[u8]) -> Option<Draft<'_>>
 
 #[tactic(auto, unfolding(crate::specs::Statements::copy_in))]
 fn copy(line: &[u8]) -> Option<Draft<'_>>
-    ensures { Finds view result (copy_in (words_of line.now)) }
+    ensures found { Finds view result (copy_in (words_of line.now)) }
+    ensures in_range { IfSome result (λ d. InRange d.instr) }
 {
     let Some((to, rest)) = value(line) else {
         return None;
@@ -122,7 +126,8 @@ fn arithmetic(line: &[u8]) -> Option<(ValueRegister, ValueRegister, ValueRegiste
 
 #[tactic(auto, unfolding(crate::specs::Statements::add_in))]
 fn add(line: &[u8]) -> Option<Draft<'_>>
-    ensures { Finds view result (add_in (words_of line.now)) }
+    ensures found { Finds view result (add_in (words_of line.now)) }
+    ensures in_range { IfSome result (λ d. InRange d.instr) }
 {
     let Some((to, left, right, label)) = arithmetic(line) else {
         return None;
@@ -140,7 +145,8 @@ fn add(line: &[u8]) -> Option<Draft<'_>>
 
 #[tactic(auto, unfolding(crate::specs::Statements::subtract_in))]
 fn subtract(line: &[u8]) -> Option<Draft<'_>>
-    ensures { Finds view result (subtract_in (words_of line.now)) }
+    ensures found { Finds view result (subtract_in (words_of line.now)) }
+    ensures in_range { IfSome result (λ d. InRange d.instr) }
 {
     let Some((to, left, right, label)) = arithmetic(line) else {
         return None;
@@ -158,7 +164,8 @@ fn subtract(line: &[u8]) -> Option<Draft<'_>>
 
 #[tactic(auto, unfolding(crate::specs::Statements::multiply_in))]
 fn multiply(line: &[u8]) -> Option<Draft<'_>>
-    ensures { Finds view result (multiply_in (words_of line.now)) }
+    ensures found { Finds view result (multiply_in (words_of line.now)) }
+    ensures in_range { IfSome result (λ d. InRange d.instr) }
 {
     let Some((to, left, right, label)) = arithmetic(line) else {
         return None;
@@ -176,7 +183,8 @@ fn multiply(line: &[u8]) -> Option<Draft<'_>>
 
 #[tactic(auto, unfolding(crate::specs::Statements::divide_in))]
 fn divide(line: &[u8]) -> Option<Draft<'_>>
-    ensures { Finds view result (divide_in (words_of line.now)) }
+    ensures found { Finds view result (divide_in (words_of line.now)) }
+    ensures in_range { IfSome result (λ d. InRange d.instr) }
 {
     let Some((to, left, right, label)) = arithmetic(line) else {
         return None;
@@ -194,7 +202,8 @@ fn divide(line: &[u8]) -> Option<Draft<'_>>
 
 #[tactic(auto, unfolding(crate::specs::Statements::jump_in))]
 fn jump(line: &[u8]) -> Option<Draft<'_>>
-    ensures { Finds view result (jump_in (words_of line.now)) }
+    ensures found { Finds view result (jump_in (words_of line.now)) }
+    ensures in_range { IfSome result (λ d. InRange d.instr) }
 {
     let label = label(line)?;
     Some(Draft {
@@ -220,7 +229,8 @@ fn comparison(line: &[u8]) -> Option<(ValueRegister, ValueRegister, &[u8])>
 
 #[tactic(auto, unfolding(crate::specs::Statements::jump_if_less_in))]
 fn jump_if_less(line: &[u8]) -> Option<Draft<'_>>
-    ensures { Finds view result (jump_if_less_in (words_of line.now)) }
+    ensures found { Finds view result (jump_if_less_in (words_of line.now)) }
+    ensures in_range { IfSome result (λ d. InRange d.instr) }
 {
     let Some((left, right, label)) = comparison(line) else {
         return None;
@@ -237,7 +247,8 @@ fn jump_if_less(line: &[u8]) -> Option<Draft<'_>>
 
 #[tactic(auto, unfolding(crate::specs::Statements::jump_if_equal_in))]
 fn jump_if_equal(line: &[u8]) -> Option<Draft<'_>>
-    ensures { Finds view result (jump_if_equal_in (words_of line.now)) }
+    ensures found { Finds view result (jump_if_equal_in (words_of line.now)) }
+    ensures in_range { IfSome result (λ d. InRange d.instr) }
 {
     let Some((left, right, label)) = comparison(line) else {
         return None;
@@ -254,7 +265,8 @@ fn jump_if_equal(line: &[u8]) -> Option<Draft<'_>>
 
 #[tactic(auto, unfolding(crate::specs::Statements::repeat_in))]
 fn repeat(line: &[u8]) -> Option<Draft<'_>>
-    ensures { Finds view result (repeat_in (words_of line.now)) }
+    ensures found { Finds view result (repeat_in (words_of line.now)) }
+    ensures in_range { IfSome result (λ d. InRange d.instr) }
 {
     let count = token::turns(only_word(line)?)?;
     Some(Draft {
@@ -265,7 +277,8 @@ fn repeat(line: &[u8]) -> Option<Draft<'_>>
 
 #[tactic(auto, unfolding(crate::specs::Statements::first_in))]
 fn first(line: &[u8]) -> Option<Draft<'_>>
-    ensures { Finds view result (first_in (words_of line.now)) }
+    ensures found { Finds view result (first_in (words_of line.now)) }
+    ensures in_range { IfSome result (λ d. InRange d.instr) }
 {
     let Some((to, rest)) = node(line) else {
         return None;
@@ -286,7 +299,8 @@ fn first(line: &[u8]) -> Option<Draft<'_>>
 
 #[tactic(auto, unfolding(crate::specs::Statements::child_in))]
 fn child(line: &[u8]) -> Option<Draft<'_>>
-    ensures { Finds view result (child_in (words_of line.now)) }
+    ensures found { Finds view result (child_in (words_of line.now)) }
+    ensures in_range { IfSome result (λ d. InRange d.instr) }
 {
     let Some((to, rest)) = node(line) else {
         return None;
@@ -311,7 +325,8 @@ fn child(line: &[u8]) -> Option<Draft<'_>>
 
 #[tactic(auto, unfolding(crate::specs::Statements::move_in))]
 fn move_node(line: &[u8]) -> Option<Draft<'_>>
-    ensures { Finds view result (move_in (words_of line.now)) }
+    ensures found { Finds view result (move_in (words_of line.now)) }
+    ensures in_range { IfSome result (λ d. InRange d.instr) }
 {
     let Some((to, rest)) = node(line) else {
         return None;
@@ -325,7 +340,8 @@ fn move_node(line: &[u8]) -> Option<Draft<'_>>
 
 #[tactic(auto, unfolding(crate::specs::Statements::release_in))]
 fn release(line: &[u8]) -> Option<Draft<'_>>
-    ensures { Finds view result (release_in (words_of line.now)) }
+    ensures found { Finds view result (release_in (words_of line.now)) }
+    ensures in_range { IfSome result (λ d. InRange d.instr) }
 {
     let node = token::node_register(only_word(line)?)?;
     Some(Draft {
@@ -336,7 +352,8 @@ fn release(line: &[u8]) -> Option<Draft<'_>>
 
 #[tactic(auto, unfolding(crate::specs::Statements::get_in))]
 fn get(line: &[u8]) -> Option<Draft<'_>>
-    ensures { Finds view result (get_in (words_of line.now)) }
+    ensures found { Finds view result (get_in (words_of line.now)) }
+    ensures in_range { IfSome result (λ d. InRange d.instr) }
 {
     let Some((to, rest)) = value(line) else {
         return None;
@@ -353,7 +370,8 @@ fn get(line: &[u8]) -> Option<Draft<'_>>
 
 #[tactic(auto, unfolding(crate::specs::Statements::put_in))]
 fn put(line: &[u8]) -> Option<Draft<'_>>
-    ensures { Finds view result (put_in (words_of line.now)) }
+    ensures found { Finds view result (put_in (words_of line.now)) }
+    ensures in_range { IfSome result (λ d. InRange d.instr) }
 {
     let Some((node, rest)) = node(line) else {
         return None;
@@ -370,7 +388,8 @@ fn put(line: &[u8]) -> Option<Draft<'_>>
 
 #[tactic(auto, unfolding(crate::specs::Statements::kids_in))]
 fn kids(line: &[u8]) -> Option<Draft<'_>>
-    ensures { Finds view result (kids_in (words_of line.now)) }
+    ensures found { Finds view result (kids_in (words_of line.now)) }
+    ensures in_range { IfSome result (λ d. InRange d.instr) }
 {
     let Some((to, rest)) = value(line) else {
         return None;
@@ -384,7 +403,8 @@ fn kids(line: &[u8]) -> Option<Draft<'_>>
 
 #[tactic(auto, unfolding(crate::specs::Statements::emit_in))]
 fn emit(line: &[u8]) -> Option<Draft<'_>>
-    ensures { Finds view result (emit_in (words_of line.now)) }
+    ensures found { Finds view result (emit_in (words_of line.now)) }
+    ensures in_range { IfSome result (λ d. InRange d.instr) }
 {
     let from = token::value_register(only_word(line)?)?;
     Some(Draft {
@@ -396,7 +416,8 @@ fn emit(line: &[u8]) -> Option<Draft<'_>>
 /// The instruction of that name, where the line has its operands.
 #[tactic(auto, unfolding(crate::specs::Statements::draft_in))]
 pub fn draft<'a>(name: &[u8], line: &'a [u8]) -> Option<Draft<'a>>
-    ensures { Finds view result (draft_in name.now (words_of line.now)) }
+    ensures found { Finds view result (draft_in name.now (words_of line.now)) }
+    ensures in_range { IfSome result (λ d. InRange d.instr) }
 {
     if name == b"set".as_slice() {
         set(line)
