@@ -1,2 +1,4 @@
 pub mod Searched
 pub mod Numbers
+pub mod Appends
+pub mod Steps

@@ -3,3 +3,4 @@ pub mod Tokens
 pub mod Statements
 pub mod Texts
 pub mod Faults
+pub mod Sketches

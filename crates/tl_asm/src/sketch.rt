@@ -1,5 +1,9 @@
 //! The lines of a text, before targets are known.
 
+ghost use Rattle.std.specs.Prelude.{◌≢◌, IfOk, IfErr};
+ghost use Rattle.tl_asm.specs.Faults.{FirstFaultIn};
+ghost use Rattle.tl_asm.specs.Sketches.{Sketched, said_by, known, traced};
+
 use crate::draft::Draft;
 use crate::fault::AsmFault;
 use crate::statement::{Statement, statement_of};
@@ -26,7 +30,10 @@ pub struct Sketch<'a> {
 }
 
 /// What the lines say together, up to the first that has no place there.
-pub fn sketch_of<'a>(alloc: Global, lines: &[&'a str]) -> Result<Sketch<'a>, AsmFault> {
+pub fn sketch_of<'a>(alloc: Global, lines: &[&'a str]) -> Result<Sketch<'a>, AsmFault>
+    ensures found { IfOk result (λ s. Sketched (said_by lines.now) s.arity (known s.labels.entries) s.instrs.items (traced s.origins.items)) }
+    ensures fault { IfErr result (λ f. f ≢ AsmFault.Memory → FirstFaultIn (said_by lines.now) f) }
+{
     let mut arity = None;
     let mut labels = IndexMap::new(alloc);
     let mut instrs = Vec::new(alloc);
