@@ -2,3 +2,4 @@ pub mod Searched
 pub mod Numbers
 pub mod Appends
 pub mod Steps
+pub mod Resolved

@@ -7,7 +7,7 @@ use Rattle.std.proofs.lemmas.List.Elements.{All-push}
 use Rattle.std.proofs.lemmas.Bool.{false≢true}
 use Rattle.tl_instr.specs.declared.instr.Instr.{Instr}
 use Rattle.tl_instr.specs.Codes.{IsArity}
-use Rattle.tl_instr.specs.Instructions.{InRange}
+use Rattle.tl_instr.specs.Instructions.{IsInstr}
 use Rattle.tl_asm.specs.declared.fault.AsmFault.TheVariants.{BadLine, LabelTwice, TooLong}
 use Rattle.tl_asm.specs.Words.{Word}
 use Rattle.tl_asm.specs.Statements.{DraftValue, Said, Blank, Takes, Names, Does, says}
@@ -62,7 +62,7 @@ module _ (xs : List (Option Said)) (given : Option ℕ) (entries : List (Word ×
   count = sym (ap length sk.instrs ∙ length-map (drafts_in 1 xs) (λ d. d.1.instr))
 
   -- a line more
-  grown : (s : Option Said) (new : Option ℕ) (labels : List (Word × ℕ)) (instrs : List Instr) (origins : List (ℕ × Option Word)) → Rest (arity_in xs) (s ∷ []) → new ≡ arity_in (xs ++ s ∷ []) → IfSome new IsArity → labels ≡ labels_in 0 (xs ++ s ∷ []) → Distinct labels → instrs ≡ map (λ d. d.1.instr) (drafts_in 1 (xs ++ s ∷ [])) → length instrs ≤ 1024 → origins ≡ map (λ d. (d.0, d.1.label)) (drafts_in 1 (xs ++ s ∷ [])) → All InRange instrs → Sketched (xs ++ s ∷ []) new labels instrs origins
+  grown : (s : Option Said) (new : Option ℕ) (labels : List (Word × ℕ)) (instrs : List Instr) (origins : List (ℕ × Option Word)) → Rest (arity_in xs) (s ∷ []) → new ≡ arity_in (xs ++ s ∷ []) → IfSome new IsArity → labels ≡ labels_in 0 (xs ++ s ∷ []) → Distinct labels → instrs ≡ map (λ d. d.1.instr) (drafts_in 1 (xs ++ s ∷ [])) → length instrs ≤ 1024 → origins ≡ map (λ d. (d.0, d.1.label)) (drafts_in 1 (xs ++ s ∷ [])) → All (IsInstr 0) instrs → Sketched (xs ++ s ∷ []) new labels instrs origins
   grown s new labels instrs origins rest a ar l distinct i short o r =
       let many : length instrs ≡ length (drafts_in 1 (xs ++ s ∷ [])) = ap length i ∙ length-map (drafts_in 1 (xs ++ s ∷ [])) (λ d. d.1.instr) in
       record {
@@ -103,7 +103,7 @@ module _ (xs : List (Option Said)) (given : Option ℕ) (entries : List (Word ×
       let drafts : drafts_in 1 (xs ++ Some (Names label) ∷ []) ≡ drafts_in 1 xs = drafts_append 1 xs (Some (Names label) ∷ []) ∙ append-nil (drafts_in 1 xs) in
       grown (Some (Names label)) given (entries ++ (label, length is) ∷ []) is lines (label_follows (arity_in xs) label (λ e. some (sk.arity ∙ e))) (same_arity xs (Some (Names label)) given sk.arity refl) sk.arity_in_range (sym (label_labels label)) (distinct_append entries (label, length is) (subst Distinct (sym sk.labels) sk.begin.distinct) (unknown entries label fresh)) (rw drafts sk.instrs) few (rw drafts sk.origins) sk.in_range
 
-  pub instr_line : (d : DraftValue) → given ≢ None → length is < 1024 → InRange d.instr → Sketched (xs ++ Some (Does d) ∷ []) given entries (is ++ d.instr ∷ []) (lines ++ (length xs + 1, d.label) ∷ [])
+  pub instr_line : (d : DraftValue) → given ≢ None → length is < 1024 → IsInstr 0 d.instr → Sketched (xs ++ Some (Does d) ∷ []) given entries (is ++ d.instr ∷ []) (lines ++ (length xs + 1, d.label) ∷ [])
   instr_line d some lt range =
       let labels : labels_in 0 (xs ++ Some (Does d) ∷ []) ≡ labels_in 0 xs = labels_append 0 1 xs (Some (Does d) ∷ []) ∙ append-nil (labels_in 0 xs) in
       let number : 1 + length xs ≡ length xs + 1 = omega arith in
@@ -112,7 +112,7 @@ module _ (xs : List (Option Said)) (given : Option ℕ) (entries : List (Word ×
         (sym (ap (map (λ d. d.1.instr)) drafts ∙ map-append (λ d. d.1.instr) (drafts_in 1 xs) ((length xs + 1, d) ∷ []) ∙ ap (λ (l : List Instr). l ++ d.instr ∷ []) (sym sk.instrs)))
         (omega (arith, length-append is (d.instr ∷ [])))
         (sym (ap (map (λ d. (d.0, d.1.label))) drafts ∙ map-append (λ d. (d.0, d.1.label)) (drafts_in 1 xs) ((length xs + 1, d) ∷ []) ∙ ap (λ (l : List (ℕ × Option Word)). l ++ (length xs + 1, d.label) ∷ []) (sym sk.origins)))
-        (All-push InRange is d.instr sk.in_range range)
+        (All-push (IsInstr 0) is d.instr sk.in_range range)
 
 -- the lines before k make a sketch
 module _ (ss : List (Option Said)) (k : ℕ) (given : Option ℕ) (entries : List (Word × ℕ)) (is : List Instr) (lines : List (ℕ × Option Word)) (lt : k < length ss) (sk : Sketched (take k ss) given entries is lines) where

@@ -5,7 +5,7 @@ use lib.Chars.{codes}
 use Rattle.tl_instr.specs.declared.instr.Instr.{Instr}
 use Rattle.tl_instr.specs.declared.instr.Instr.TheVariants.{Set, Copy, Add, Subtract, Multiply, Divide, Jump, JumpIfLess, JumpIfEqual, Repeat, End, First, Child, Move, Release, Get, Put, Kids, Emit, Return}
 use Rattle.tl_instr.specs.Codes.{IsArity}
-use Rattle.tl_instr.specs.Instructions.{InRange}
+use Rattle.tl_instr.specs.Instructions.{IsInstr}
 use Rattle.tl_asm.specs.declared.draft.Draft.{Draft}
 use Rattle.tl_asm.specs.declared.statement.Statement.{Statement}
 use Rattle.tl_asm.specs.declared.statement.Statement.TheVariants as statements
@@ -231,9 +231,9 @@ shown (statements.Takes arity) = Takes arity
 shown (statements.Names label) = Names label.now
 shown (statements.Does draft) = Does (view draft)
 
--- an arity and operands are in range
+-- an arity and operands are in range, and a target is 0
 abbrev pub IsSaid : Said → Type 0
 IsSaid Blank = Unit {0}
 IsSaid (Takes arity) = IsArity arity
 IsSaid (Names label) = Unit {0}
-IsSaid (Does d) = InRange d.instr
+IsSaid (Does d) = IsInstr 0 d.instr

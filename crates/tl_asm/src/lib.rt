@@ -4,6 +4,7 @@
 mod draft;
 pub mod fault;
 mod reading;
+mod resolving;
 mod sketch;
 mod statement;
 mod token;

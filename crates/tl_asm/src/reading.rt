@@ -1,7 +1,7 @@
 //! The instruction that a line's words are.
 
 ghost use Rattle.std.specs.Prelude.{◌≡◌, IfSome};
-ghost use Rattle.tl_instr.specs.Instructions.{InRange};
+ghost use Rattle.tl_instr.specs.Instructions.{GoesWithin, IsInstr};
 ghost use Rattle.tl_asm.specs.Words.{words_of, Finds};
 ghost use Rattle.tl_asm.specs.Tokens.{number_in, value_register, node_register, signed_in};
 ghost use Rattle.tl_asm.specs.Statements.{view, token, only_of, last, label_in, else_in, otherwise_in, alone_in, set_in, copy_in, arithmetic_in, add_in, subtract_in, multiply_in, divide_in, jump_in, comparison_in, jump_if_less_in, jump_if_equal_in, repeat_in, first_in, child_in, move_in, release_in, get_in, put_in, kids_in, emit_in, draft_in};
@@ -67,8 +67,9 @@ fn otherwise(line: &[u8]) -> Option<&[u8]>
 /// An instruction without operands.
 #[tactic(auto, unfolding(crate::specs::Statements::alone_in))]
 fn alone(instr: Instr, line: &[u8]) -> Option<Draft<'_>>
+    requires { GoesWithin 0 instr }
     ensures found { Finds view result (alone_in instr (words_of line.now)) }
-    ensures in_range { IfSome result (λ d. InRange d.instr) }
+    ensures in_range { IfSome result (λ d. IsInstr 0 d.instr) }
 {
     if next_word(line).is_some() {
         return None;
@@ -79,7 +80,7 @@ fn alone(instr: Instr, line: &[u8]) -> Option<Draft<'_>>
 #[tactic(auto, unfolding(crate::specs::Statements::set_in))]
 fn set(line: &[u8]) -> Option<Draft<'_>>
     ensures found { Finds view result (set_in (words_of line.now)) }
-    ensures in_range { IfSome result (λ d. InRange d.instr) }
+    ensures in_range { IfSome result (λ d. IsInstr 0 d.instr) }
 {
     let Some((to, rest)) = value(line) else {
         return None;
@@ -94,7 +95,7 @@ fn set(line: &[u8]) -> Option<Draft<'_>>
 #[tactic(auto, unfolding(crate::specs::Statements::copy_in))]
 fn copy(line: &[u8]) -> Option<Draft<'_>>
     ensures found { Finds view result (copy_in (words_of line.now)) }
-    ensures in_range { IfSome result (λ d. InRange d.instr) }
+    ensures in_range { IfSome result (λ d. IsInstr 0 d.instr) }
 {
     let Some((to, rest)) = value(line) else {
         return None;
@@ -127,7 +128,7 @@ fn arithmetic(line: &[u8]) -> Option<(ValueRegister, ValueRegister, ValueRegiste
 #[tactic(auto, unfolding(crate::specs::Statements::add_in))]
 fn add(line: &[u8]) -> Option<Draft<'_>>
     ensures found { Finds view result (add_in (words_of line.now)) }
-    ensures in_range { IfSome result (λ d. InRange d.instr) }
+    ensures in_range { IfSome result (λ d. IsInstr 0 d.instr) }
 {
     let Some((to, left, right, label)) = arithmetic(line) else {
         return None;
@@ -146,7 +147,7 @@ fn add(line: &[u8]) -> Option<Draft<'_>>
 #[tactic(auto, unfolding(crate::specs::Statements::subtract_in))]
 fn subtract(line: &[u8]) -> Option<Draft<'_>>
     ensures found { Finds view result (subtract_in (words_of line.now)) }
-    ensures in_range { IfSome result (λ d. InRange d.instr) }
+    ensures in_range { IfSome result (λ d. IsInstr 0 d.instr) }
 {
     let Some((to, left, right, label)) = arithmetic(line) else {
         return None;
@@ -165,7 +166,7 @@ fn subtract(line: &[u8]) -> Option<Draft<'_>>
 #[tactic(auto, unfolding(crate::specs::Statements::multiply_in))]
 fn multiply(line: &[u8]) -> Option<Draft<'_>>
     ensures found { Finds view result (multiply_in (words_of line.now)) }
-    ensures in_range { IfSome result (λ d. InRange d.instr) }
+    ensures in_range { IfSome result (λ d. IsInstr 0 d.instr) }
 {
     let Some((to, left, right, label)) = arithmetic(line) else {
         return None;
@@ -184,7 +185,7 @@ fn multiply(line: &[u8]) -> Option<Draft<'_>>
 #[tactic(auto, unfolding(crate::specs::Statements::divide_in))]
 fn divide(line: &[u8]) -> Option<Draft<'_>>
     ensures found { Finds view result (divide_in (words_of line.now)) }
-    ensures in_range { IfSome result (λ d. InRange d.instr) }
+    ensures in_range { IfSome result (λ d. IsInstr 0 d.instr) }
 {
     let Some((to, left, right, label)) = arithmetic(line) else {
         return None;
@@ -203,7 +204,7 @@ fn divide(line: &[u8]) -> Option<Draft<'_>>
 #[tactic(auto, unfolding(crate::specs::Statements::jump_in))]
 fn jump(line: &[u8]) -> Option<Draft<'_>>
     ensures found { Finds view result (jump_in (words_of line.now)) }
-    ensures in_range { IfSome result (λ d. InRange d.instr) }
+    ensures in_range { IfSome result (λ d. IsInstr 0 d.instr) }
 {
     let label = label(line)?;
     Some(Draft {
@@ -230,7 +231,7 @@ fn comparison(line: &[u8]) -> Option<(ValueRegister, ValueRegister, &[u8])>
 #[tactic(auto, unfolding(crate::specs::Statements::jump_if_less_in))]
 fn jump_if_less(line: &[u8]) -> Option<Draft<'_>>
     ensures found { Finds view result (jump_if_less_in (words_of line.now)) }
-    ensures in_range { IfSome result (λ d. InRange d.instr) }
+    ensures in_range { IfSome result (λ d. IsInstr 0 d.instr) }
 {
     let Some((left, right, label)) = comparison(line) else {
         return None;
@@ -248,7 +249,7 @@ fn jump_if_less(line: &[u8]) -> Option<Draft<'_>>
 #[tactic(auto, unfolding(crate::specs::Statements::jump_if_equal_in))]
 fn jump_if_equal(line: &[u8]) -> Option<Draft<'_>>
     ensures found { Finds view result (jump_if_equal_in (words_of line.now)) }
-    ensures in_range { IfSome result (λ d. InRange d.instr) }
+    ensures in_range { IfSome result (λ d. IsInstr 0 d.instr) }
 {
     let Some((left, right, label)) = comparison(line) else {
         return None;
@@ -266,7 +267,7 @@ fn jump_if_equal(line: &[u8]) -> Option<Draft<'_>>
 #[tactic(auto, unfolding(crate::specs::Statements::repeat_in))]
 fn repeat(line: &[u8]) -> Option<Draft<'_>>
     ensures found { Finds view result (repeat_in (words_of line.now)) }
-    ensures in_range { IfSome result (λ d. InRange d.instr) }
+    ensures in_range { IfSome result (λ d. IsInstr 0 d.instr) }
 {
     let count = token::turns(only_word(line)?)?;
     Some(Draft {
@@ -278,7 +279,7 @@ fn repeat(line: &[u8]) -> Option<Draft<'_>>
 #[tactic(auto, unfolding(crate::specs::Statements::first_in))]
 fn first(line: &[u8]) -> Option<Draft<'_>>
     ensures found { Finds view result (first_in (words_of line.now)) }
-    ensures in_range { IfSome result (λ d. InRange d.instr) }
+    ensures in_range { IfSome result (λ d. IsInstr 0 d.instr) }
 {
     let Some((to, rest)) = node(line) else {
         return None;
@@ -300,7 +301,7 @@ fn first(line: &[u8]) -> Option<Draft<'_>>
 #[tactic(auto, unfolding(crate::specs::Statements::child_in))]
 fn child(line: &[u8]) -> Option<Draft<'_>>
     ensures found { Finds view result (child_in (words_of line.now)) }
-    ensures in_range { IfSome result (λ d. InRange d.instr) }
+    ensures in_range { IfSome result (λ d. IsInstr 0 d.instr) }
 {
     let Some((to, rest)) = node(line) else {
         return None;
@@ -326,7 +327,7 @@ fn child(line: &[u8]) -> Option<Draft<'_>>
 #[tactic(auto, unfolding(crate::specs::Statements::move_in))]
 fn move_node(line: &[u8]) -> Option<Draft<'_>>
     ensures found { Finds view result (move_in (words_of line.now)) }
-    ensures in_range { IfSome result (λ d. InRange d.instr) }
+    ensures in_range { IfSome result (λ d. IsInstr 0 d.instr) }
 {
     let Some((to, rest)) = node(line) else {
         return None;
@@ -341,7 +342,7 @@ fn move_node(line: &[u8]) -> Option<Draft<'_>>
 #[tactic(auto, unfolding(crate::specs::Statements::release_in))]
 fn release(line: &[u8]) -> Option<Draft<'_>>
     ensures found { Finds view result (release_in (words_of line.now)) }
-    ensures in_range { IfSome result (λ d. InRange d.instr) }
+    ensures in_range { IfSome result (λ d. IsInstr 0 d.instr) }
 {
     let node = token::node_register(only_word(line)?)?;
     Some(Draft {
@@ -353,7 +354,7 @@ fn release(line: &[u8]) -> Option<Draft<'_>>
 #[tactic(auto, unfolding(crate::specs::Statements::get_in))]
 fn get(line: &[u8]) -> Option<Draft<'_>>
     ensures found { Finds view result (get_in (words_of line.now)) }
-    ensures in_range { IfSome result (λ d. InRange d.instr) }
+    ensures in_range { IfSome result (λ d. IsInstr 0 d.instr) }
 {
     let Some((to, rest)) = value(line) else {
         return None;
@@ -371,7 +372,7 @@ fn get(line: &[u8]) -> Option<Draft<'_>>
 #[tactic(auto, unfolding(crate::specs::Statements::put_in))]
 fn put(line: &[u8]) -> Option<Draft<'_>>
     ensures found { Finds view result (put_in (words_of line.now)) }
-    ensures in_range { IfSome result (λ d. InRange d.instr) }
+    ensures in_range { IfSome result (λ d. IsInstr 0 d.instr) }
 {
     let Some((node, rest)) = node(line) else {
         return None;
@@ -389,7 +390,7 @@ fn put(line: &[u8]) -> Option<Draft<'_>>
 #[tactic(auto, unfolding(crate::specs::Statements::kids_in))]
 fn kids(line: &[u8]) -> Option<Draft<'_>>
     ensures found { Finds view result (kids_in (words_of line.now)) }
-    ensures in_range { IfSome result (λ d. InRange d.instr) }
+    ensures in_range { IfSome result (λ d. IsInstr 0 d.instr) }
 {
     let Some((to, rest)) = value(line) else {
         return None;
@@ -404,7 +405,7 @@ fn kids(line: &[u8]) -> Option<Draft<'_>>
 #[tactic(auto, unfolding(crate::specs::Statements::emit_in))]
 fn emit(line: &[u8]) -> Option<Draft<'_>>
     ensures found { Finds view result (emit_in (words_of line.now)) }
-    ensures in_range { IfSome result (λ d. InRange d.instr) }
+    ensures in_range { IfSome result (λ d. IsInstr 0 d.instr) }
 {
     let from = token::value_register(only_word(line)?)?;
     Some(Draft {
@@ -417,7 +418,7 @@ fn emit(line: &[u8]) -> Option<Draft<'_>>
 #[tactic(auto, unfolding(crate::specs::Statements::draft_in))]
 pub fn draft<'a>(name: &[u8], line: &'a [u8]) -> Option<Draft<'a>>
     ensures found { Finds view result (draft_in name.now (words_of line.now)) }
-    ensures in_range { IfSome result (λ d. InRange d.instr) }
+    ensures in_range { IfSome result (λ d. IsInstr 0 d.instr) }
 {
     if name == b"set".as_slice() {
         set(line)

@@ -5,7 +5,7 @@ use Rattle.indexmap.proofs.CallerLemmas.{insert_entry-new}
 use Rattle.tl_instr.specs.declared.instr.Instr.{Instr}
 use Rattle.std.specs.Map.{lookup}
 use Rattle.std.specs.Str.{bytes_eq}
-use Rattle.tl_instr.specs.Instructions.{InRange}
+use Rattle.tl_instr.specs.Instructions.{IsInstr}
 use Rattle.tl_asm.specs.Words.{Word}
 use Rattle.tl_asm.specs.Statements.{Said, Blank, Takes, Names, Does, shown, view, says, IsSaid}
 use Rattle.tl_asm.specs.Texts.{position_of}
@@ -91,7 +91,7 @@ loop-index-preserved c =
           let different : w.len-in-Does.result ≢ 1024 = w.if-len-eq-MAX_COUNT.false in
           let some_left : length c.loop-index.instrs.items < 1024 = omega (arith, different) in
           let number : length before ≡ c.loop-index.index = length-take-le c.loop-index.index (said_by c.args.lines.now) (omega (arith, length-map c.args.lines.now (λ line. says line.now))) in
-          let range : InRange w.in-Does.field-0.instr = subst (λ s. IsSaid (shown s)) w.in-Does.is c.in-Some.ensures.in_range in
+          let range : IsInstr 0 w.in-Does.field-0.instr = subst (λ s. IsSaid (shown s)) w.in-Does.is c.in-Some.ensures.in_range in
           moved (before ++ Some (Does d) ∷ []) _ c.loop-index.arity _ (known c.loop-index.labels.entries) _ (c.loop-index.instrs.items ++ d.instr ∷ []) _ (traced c.loop-index.origins.items ++ (length before + 1, d.label) ∷ []) _
             (instr_line before c.loop-index.arity (known c.loop-index.labels.entries) c.loop-index.instrs.items (traced c.loop-index.origins.items) inv d some some_left range)
             (says_so (Does d) (ap shown w.in-Does.is)) w.arity-is (ap (λ m. known m.entries) w.labels-is)
