@@ -3,3 +3,5 @@ pub mod Numbers
 pub mod Appends
 pub mod Steps
 pub mod Resolved
+pub mod Whole
+pub mod Laws

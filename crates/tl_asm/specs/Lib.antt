@@ -4,3 +4,4 @@ pub mod Statements
 pub mod Texts
 pub mod Faults
 pub mod Sketches
+pub mod Listing

@@ -1,6 +1,7 @@
 //! The assembler: a procedure as text, and back.
 #![tactic(auto)]
 
+pub mod assembling;
 mod draft;
 pub mod fault;
 mod reading;
