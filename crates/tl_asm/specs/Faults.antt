@@ -1,0 +1,57 @@
+-- The faults: their numbers, and which one comes first.
+use Rattle.std.specs.Prelude.{◌≡◌, ◌⊎◌, ℕ, ◌+◌, ◌<◌, ◌≤◌, List, [], ◌∷◌, length, take, map, Option, Some, None, slice_get, IsSome}
+use Rattle.std.specs.List.{All}
+use Rattle.tl_asm.specs.declared.fault.AsmFault.{AsmFault}
+use Rattle.tl_asm.specs.declared.fault.AsmFault.TheVariants.{BadLine, NoLabel, LabelTwice, TooLong, Memory}
+use Rattle.tl_asm.specs.Statements.{DraftValue, Said}
+use Rattle.tl_asm.specs.Texts.{statements, InPlace, Distinct, arity_in, labels_in, drafts_in, aimed}
+
+-- a fault's number, and then its line
+abbrev pub numbers_of : AsmFault → List ℕ
+numbers_of (BadLine n) = 251 ∷ n ∷ []
+numbers_of (NoLabel n) = 252 ∷ n ∷ []
+numbers_of (LabelTwice n) = 253 ∷ n ∷ []
+numbers_of TooLong = 254 ∷ []
+numbers_of Memory = 290 ∷ []
+
+-- These lines begin a text, whatever targets they use.
+pub record Begin (ss : List (Option Said)) : Type 0 where
+  pub in_place : InPlace ss
+  pub distinct : Distinct (labels_in 0 ss)
+  pub short : length (drafts_in 1 ss) ≤ 1024
+
+-- The lines before line k + 1 begin a text.
+pub record IsReached (ss : List (Option Said)) (k : ℕ) : Type 0 where
+  pub inside : k < length ss
+  pub before : Begin (take k ss)
+
+-- All lines begin a text, and it has an arity and an instruction.
+pub record IsWhole (ss : List (Option Said)) : Type 0 where
+  pub lines : Begin ss
+  pub arity : IsSome (arity_in ss)
+  pub some : 0 < length (drafts_in 1 ss)
+
+-- Line n uses a label that no line defines, and no earlier line does.
+pub record IsFirstAstray (ss : List (Option Said)) (n : ℕ) : Type 0 where
+  pub whole : IsWhole ss
+  pub place : ℕ
+  pub draft : DraftValue
+  pub here : slice_get (drafts_in 1 ss) place ≡ Some (n, draft)
+  pub astray : aimed (labels_in 0 ss) draft.instr draft.label ≡ None
+  pub before : All (λ d. IsSome (aimed (labels_in 0 ss) d.1.instr d.1.label)) (take place (drafts_in 1 ss))
+
+-- the first fault of what the lines say
+abbrev pub FirstFaultIn : List (Option Said) → AsmFault → Type 0
+FirstFaultIn ss (BadLine n) =
+    ((k : ℕ) × (n ≡ k + 1) × IsReached ss k × ¬ InPlace (take (k + 1) ss))
+    ⊎ ((n ≡ length ss) × Begin ss × ¬ IsWhole ss)
+FirstFaultIn ss (LabelTwice n) =
+    (k : ℕ) × (n ≡ k + 1) × IsReached ss k × InPlace (take (k + 1) ss) × ¬ Distinct (labels_in 0 (take (k + 1) ss))
+FirstFaultIn ss TooLong =
+    (k : ℕ) × IsReached ss k × InPlace (take (k + 1) ss) × Distinct (labels_in 0 (take (k + 1) ss)) × (1024 < length (drafts_in 1 (take (k + 1) ss)))
+FirstFaultIn ss (NoLabel n) = IsFirstAstray ss n
+FirstFaultIn ss Memory = ⊥
+
+-- the first fault of a text that is no code's
+abbrev pub FirstFault : List ℕ → AsmFault → Type 0
+FirstFault text f = FirstFaultIn (statements text) f

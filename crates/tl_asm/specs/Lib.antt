@@ -1,0 +1,7 @@
+pub mod Words
+pub mod Tokens
+pub mod Statements
+pub mod Texts
+pub mod Faults
+pub mod Sketches
+pub mod Listing

@@ -1,0 +1,69 @@
+-- The canonical text of a code.
+use Rattle.std.specs.Prelude.{ℕ, ◌+◌, List, [], ◌∷◌, ◌++◌, Option, Some, None, Bool, false, ◌==◌, if◌then◌else◌}
+use Rattle.std.specs.List.{list_any}
+use Rattle.std.specs.Fmt.{decimal, signed_decimal}
+use Rattle.std.specs.Option.{option_map_or}
+use lib.Chars.{codes}
+use Rattle.tl_instr.specs.declared.instr.Instr.{Instr}
+use Rattle.tl_instr.specs.declared.instr.Instr.TheVariants.{Set, Copy, Add, Subtract, Multiply, Divide, Jump, JumpIfLess, JumpIfEqual, Repeat, End, First, Child, Move, Release, Get, Put, Kids, Emit, Return}
+use Rattle.tl_instr.specs.Codes.{CodeValue}
+use Rattle.tl_instr.specs.Instructions.{target}
+use Rattle.tl_asm.specs.Words.{Word}
+
+abbrev pub value_word : ℕ → Word
+value_word n = 118 ∷ decimal n
+
+abbrev pub node_word : ℕ → Word
+node_word n = 110 ∷ decimal n
+
+-- L, and the position
+abbrev pub label_word : ℕ → Word
+label_word pc = 76 ∷ decimal pc
+
+-- the words of an instruction
+abbrev pub instr_words : Instr → List Word
+instr_words (Set to number) = codes "set" ∷ value_word to ∷ signed_decimal number ∷ []
+instr_words (Copy to from) = codes "copy" ∷ value_word to ∷ value_word from ∷ []
+instr_words (Add to left right otherwise) = codes "add" ∷ value_word to ∷ value_word left ∷ value_word right ∷ codes "else" ∷ label_word otherwise ∷ []
+instr_words (Subtract to left right otherwise) = codes "sub" ∷ value_word to ∷ value_word left ∷ value_word right ∷ codes "else" ∷ label_word otherwise ∷ []
+instr_words (Multiply to left right otherwise) = codes "mul" ∷ value_word to ∷ value_word left ∷ value_word right ∷ codes "else" ∷ label_word otherwise ∷ []
+instr_words (Divide to left right otherwise) = codes "div" ∷ value_word to ∷ value_word left ∷ value_word right ∷ codes "else" ∷ label_word otherwise ∷ []
+instr_words (Jump to) = codes "jmp" ∷ label_word to ∷ []
+instr_words (JumpIfLess left right to) = codes "jlt" ∷ value_word left ∷ value_word right ∷ label_word to ∷ []
+instr_words (JumpIfEqual left right to) = codes "jeq" ∷ value_word left ∷ value_word right ∷ label_word to ∷ []
+instr_words (Repeat count) = codes "rep" ∷ decimal count ∷ []
+instr_words End = codes "end" ∷ []
+instr_words (First to number otherwise) = codes "first" ∷ node_word to ∷ value_word number ∷ codes "else" ∷ label_word otherwise ∷ []
+instr_words (Child to parent number otherwise) = codes "child" ∷ node_word to ∷ node_word parent ∷ value_word number ∷ codes "else" ∷ label_word otherwise ∷ []
+instr_words (Move to from) = codes "move" ∷ node_word to ∷ node_word from ∷ []
+instr_words (Release node) = codes "rel" ∷ node_word node ∷ []
+instr_words (Get to node field) = codes "get" ∷ value_word to ∷ node_word node ∷ decimal field ∷ []
+instr_words (Put node field from) = codes "put" ∷ node_word node ∷ decimal field ∷ value_word from ∷ []
+instr_words (Kids to node) = codes "kids" ∷ value_word to ∷ node_word node ∷ []
+instr_words (Emit from) = codes "emit" ∷ value_word from ∷ []
+instr_words Return = codes "ret" ∷ []
+
+-- the words, parted by one space, and an LF
+abbrev pub line_of : List Word → List ℕ
+line_of [] = 10 ∷ []
+line_of (word ∷ []) = word ++ 10 ∷ []
+line_of (word ∷ next ∷ words) = word ++ 32 ∷ line_of (next ∷ words)
+
+abbrev pub instr_line : Instr → List ℕ
+instr_line i = line_of (instr_words i)
+
+-- control may go to this position
+abbrev pub is_target : List Instr → ℕ → Bool
+is_target instrs pc = list_any (λ i. option_map_or (λ t. t == pc) (target i) false) instrs
+
+-- the line of a position that is a target
+abbrev pub label_line : List Instr → ℕ → List ℕ
+label_line instrs pc = if is_target instrs pc then line_of ((label_word pc ++ 58 ∷ []) ∷ []) else []
+
+-- the lines from a position on
+abbrev pub lines_from : List Instr → ℕ → List Instr → List ℕ
+lines_from instrs pc [] = label_line instrs pc
+lines_from instrs pc (i ∷ is) = label_line instrs pc ++ (instr_line i ++ lines_from instrs (pc + 1) is)
+
+abbrev pub listing : CodeValue → List ℕ
+listing c = line_of (codes "arity" ∷ decimal c.arity ∷ []) ++ lines_from c.instrs 0 c.instrs

@@ -1,0 +1,47 @@
+-- What a sketch has of the lines that it was made from.
+use Rattle.std.specs.Prelude.{◌≡◌, ℕ, List, [], ◌∷◌, map, take, Option, Some, None, option_map, IfSome, IsSome, slice_get}
+use Rattle.std.specs.Borrow.{Bor}
+use Rattle.std.specs.List.{All}
+use Rattle.tl_instr.specs.declared.instr.Instr.{Instr}
+use Rattle.tl_instr.specs.Codes.{IsArity}
+use Rattle.tl_instr.specs.Instructions.{IsInstr}
+use Rattle.tl_asm.specs.declared.sketch.Origin.{Origin}
+use Rattle.tl_asm.specs.Words.{Word}
+use Rattle.tl_asm.specs.Statements.{DraftValue, Said, says}
+use Rattle.tl_asm.specs.Texts.{arity_in, labels_in, drafts_in, aimed}
+use Rattle.tl_asm.specs.Faults.{Begin}
+
+-- what lines in memory say
+abbrev pub said_by : List (Bor (List ℕ)) → List (Option Said)
+said_by lines = map (λ line. says line.now) lines
+
+-- labels, and origins, without where they lie in memory
+abbrev pub known : List (Bor (List ℕ) × ℕ) → List (Word × ℕ)
+known entries = map (λ entry. (entry.0.now, entry.1)) entries
+
+abbrev pub traced : List Origin → List (ℕ × Option Word)
+traced origins = map (λ origin. (origin.line, option_map (λ label. label.now) origin.label)) origins
+
+-- These lines begin a text, and the arity, the labels, the instructions and their origins are theirs.
+pub record Sketched (ss : List (Option Said)) (given : Option ℕ) (entries : List (Word × ℕ)) (is : List Instr) (lines : List (ℕ × Option Word)) : Type 0 where
+  pub begin : Begin ss
+  pub arity : given ≡ arity_in ss
+  pub arity_in_range : IfSome given IsArity
+  pub labels : entries ≡ labels_in 0 ss
+  pub instrs : is ≡ map (λ d. d.1.instr) (drafts_in 1 ss)
+  pub origins : lines ≡ map (λ d. (d.0, d.1.label)) (drafts_in 1 ss)
+  pub in_range : All (IsInstr 0) is
+
+-- instructions with their origins
+abbrev pub drafts_of : List Instr → List (ℕ × Option Word) → List (ℕ × DraftValue)
+drafts_of [] lines = []
+drafts_of (i ∷ is) [] = []
+drafts_of (i ∷ is) (line ∷ lines) = (line.0, record { instr = i; label = line.1 }) ∷ drafts_of is lines
+
+-- The draft of line n uses a label that isn't known, and none before it does.
+pub record IsAstray (labels : List (Word × ℕ)) (ds : List (ℕ × DraftValue)) (n : ℕ) : Type 0 where
+  pub place : ℕ
+  pub draft : DraftValue
+  pub here : slice_get ds place ≡ Some (n, draft)
+  pub astray : aimed labels draft.instr draft.label ≡ None
+  pub before : All (λ d. IsSome (aimed labels d.1.instr d.1.label)) (take place ds)
