@@ -2,15 +2,20 @@
 use Rattle.std.specs.Prelude.{ℕ, List, [], ◌∷◌}
 use Rattle.tl_tree.specs.Faults.{numbers_of as tree_numbers_of}
 use Rattle.tl_tree.specs.declared.fault.TreeFault.TheVariants as tree
+use Rattle.tl_asm.specs.Faults.{numbers_of as asm_numbers_of}
+use Rattle.tl_asm.specs.declared.fault.AsmFault.TheVariants as asm
 use Rattle.tl_instr.specs.Faults.{numbers_of as code_numbers_of}
 use Rattle.tl_instr.specs.declared.fault.CodeFault.TheVariants as code
 use Rattle.tl_verify.specs.Faults.{numbers_of as verify_numbers_of}
 use Rattle.tl_verify.specs.declared.fault.VerifyFault.TheVariants as verify
 use Rattle.tl_cli.specs.declared.fault.CliFault.{CliFault}
-use Rattle.tl_cli.specs.declared.fault.CliFault.TheVariants.{Unreadable, Tree, Code, Verify, NotArgs, WrongArgs, Memory}
+use Rattle.tl_cli.specs.declared.fault.CliFault.TheVariants.{Unreadable, Unwritable, NotUtf8, Asm, Tree, Code, Verify, NotArgs, WrongArgs, Memory}
 
 abbrev pub numbers_of : CliFault → List ℕ
 numbers_of Unreadable = 31 ∷ []
+numbers_of Unwritable = 32 ∷ []
+numbers_of NotUtf8 = 255 ∷ []
+numbers_of (Asm f) = asm_numbers_of f
 numbers_of (Tree f) = tree_numbers_of f
 numbers_of (Code f) = code_numbers_of f
 numbers_of (Verify f) = verify_numbers_of f
@@ -21,6 +26,8 @@ numbers_of Memory = 990 ∷ []
 -- 3 for a device, 4 for want of memory, 1 for all else
 abbrev pub status_of : CliFault → ℕ
 status_of Unreadable = 3
+status_of Unwritable = 3
+status_of (Asm asm.Memory) = 4
 status_of (Tree tree.Memory) = 4
 status_of (Code code.Memory) = 4
 status_of (Verify verify.Memory) = 4

@@ -13,6 +13,12 @@ pub enum Request<'a> {
         procedure: &'a str,
         args: &'a str,
     },
+    /// Write the container of an assembler text.
+    Assemble { text: &'a str, container: &'a str },
+    /// Print the text of a container.
+    Disassemble { container: &'a str },
+    /// Print the bounds of a container's procedure.
+    Verify { container: &'a str },
 }
 
 /// What a command line comes to: a request, or a text for the one who wrote it (help among them).
@@ -45,21 +51,64 @@ fn alone_command<'a>(alloc: Global) -> Result<Command<'a>, AllocError> {
         .arg(args)
 }
 
+// A file that has to be named.
+fn file_arg<'a>(
+    alloc: Global,
+    name: &'static str,
+    help: &'static str,
+) -> Arg<'a> {
+    Arg::new(alloc, name).value_name(name).required(true).help(help)
+}
+
+fn asm_command<'a>(alloc: Global) -> Result<Command<'a>, AllocError> {
+    Command::new(alloc, "asm")
+        .about("Writes the container of an assembler text, and prints how many instructions it has")
+        .arg(file_arg(alloc, "IN", "The file of the assembler text"))?
+        .arg(file_arg(alloc, "OUT", "The file that the container is written to"))
+}
+
+fn dis_command<'a>(alloc: Global) -> Result<Command<'a>, AllocError> {
+    Command::new(alloc, "dis")
+        .about("Prints the assembler text of a container")
+        .arg(file_arg(alloc, "IN", "The file of the container"))
+}
+
+fn verify_command<'a>(alloc: Global) -> Result<Command<'a>, AllocError> {
+    Command::new(alloc, "verify")
+        .about("Prints what the procedure of a container does at most: steps, locks and emitted values")
+        .arg(file_arg(alloc, "IN", "The file of the container"))
+}
+
 fn command<'a>(alloc: Global) -> Result<Command<'a>, AllocError> {
     Command::new(alloc, "treedb")
         .about("A database of trees, whose procedures are verified before they run")
         .subcommand_required(true)
         .arg_required_else_help(true)
-        .subcommand(alone_command(alloc)?)
+        .subcommand(alone_command(alloc)?)?
+        .subcommand(asm_command(alloc)?)?
+        .subcommand(dis_command(alloc)?)?
+        .subcommand(verify_command(alloc)?)
 }
 
 fn request_of<'a>(matches: &ArgMatches<'a>) -> Option<Request<'a>> {
-    let (_, alone) = matches.subcommand()?;
-    Some(Request::Alone {
-        tree: alone.get_str("tree")?,
-        procedure: alone.get_str("proc")?,
-        args: alone.get_str("args")?,
-    })
+    let (name, words) = matches.subcommand()?;
+    match name {
+        "asm" => Some(Request::Assemble {
+            text: words.get_str("IN")?,
+            container: words.get_str("OUT")?,
+        }),
+        "dis" => Some(Request::Disassemble {
+            container: words.get_str("IN")?,
+        }),
+        "verify" => Some(Request::Verify {
+            container: words.get_str("IN")?,
+        }),
+        _ => Some(Request::Alone {
+            tree: words.get_str("tree")?,
+            procedure: words.get_str("proc")?,
+            args: words.get_str("args")?,
+        }),
+    }
 }
 
 /// Reads a command line, the program's name first.

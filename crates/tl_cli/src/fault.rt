@@ -5,6 +5,7 @@ ghost use Rattle.tl_cli.specs.Faults.{numbers_of, status_of};
 
 use arrayvec::ArrayVec;
 use thiserror::Error;
+use tl_asm::fault::AsmFault;
 use tl_instr::fault::CodeFault;
 use tl_tree::fault::TreeFault;
 use tl_verify::fault::VerifyFault;
@@ -15,13 +16,22 @@ pub enum CliFault {
     /// 31: a file can't be read.
     #[error("a file can't be read")]
     Unreadable,
+    /// 32: a file can't be written.
+    #[error("a file can't be written")]
+    Unwritable,
+    /// 255: the assembler text is no UTF-8.
+    #[error("the text is not UTF-8")]
+    NotUtf8,
+    /// 251 to 254, 290: the assembler text.
+    #[error("the text: {0}")]
+    Asm(AsmFault),
     /// 101 to 106, 190: the tree.
     #[error("the tree: {0}")]
     Tree(TreeFault),
     /// 201 to 206, 290: the container.
     #[error("the procedure: {0}")]
     Code(CodeFault),
-    /// 305 to 307, 401 to 408, 490: the code isn't accepted.
+    /// 301 to 307, 401 to 409, 490: the code isn't accepted.
     #[error("the procedure: {0}")]
     Verify(VerifyFault),
     /// 732: the arguments are no JSON list of integers of 64 bits.
@@ -43,6 +53,9 @@ impl CliFault {
         let mut numbers = ArrayVec::new();
         match self {
             CliFault::Unreadable => numbers.push(31),
+            CliFault::Unwritable => numbers.push(32),
+            CliFault::NotUtf8 => numbers.push(255),
+            CliFault::Asm(fault) => return fault.numbers(),
             CliFault::Tree(fault) => return fault.numbers(),
             CliFault::Code(fault) => return fault.numbers(),
             CliFault::Verify(fault) => return fault.numbers(),
@@ -58,8 +71,9 @@ impl CliFault {
         ensures { result ≡ status_of self.now }
     {
         match self {
-            CliFault::Unreadable => 3,
+            CliFault::Unreadable | CliFault::Unwritable => 3,
             CliFault::Tree(TreeFault::Memory)
+            | CliFault::Asm(AsmFault::Memory)
             | CliFault::Code(CodeFault::Memory)
             | CliFault::Verify(VerifyFault::Memory)
             | CliFault::Memory => 4,

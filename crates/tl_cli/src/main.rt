@@ -5,6 +5,7 @@ mod alone;
 mod command_line;
 mod fault;
 mod output;
+mod procedures;
 #[cfg(test)]
 mod tests;
 
@@ -28,8 +29,31 @@ fn file<R: Files + AllocGlobal>(rt: &R, path: &str) -> Result<Vec<u8>, CliFault>
     }
 }
 
+// Writes a text's container, and answers the line to print.
+fn assemble<R: Files + Eprint + AllocGlobal>(
+    rt: &R,
+    text: &str,
+    container: &str,
+) -> Result<String, CliFault> {
+    let alloc = rt.alloc();
+    let text = file(rt, text)?;
+    let code = match procedures::code_of_text(alloc, &text) {
+        Ok(code) => code,
+        Err(fault) => {
+            output::quote_line(rt, &text, &fault);
+            return Err(fault);
+        }
+    };
+    let bytes = procedures::container_of(alloc, &code)?;
+    let line = procedures::count_line(alloc, &code)?;
+    match std::fs::write(rt, container, bytes.as_slice()) {
+        Ok(()) => Ok(line),
+        Err(_) => Err(CliFault::Unwritable),
+    }
+}
+
 // What the program prints for a request.
-fn answer<R: Files + AllocGlobal>(rt: &R, request: &Request) -> Result<String, CliFault> {
+fn answer<R: Files + Eprint + AllocGlobal>(rt: &R, request: &Request) -> Result<String, CliFault> {
     match *request {
         Request::Alone {
             tree,
@@ -40,6 +64,11 @@ fn answer<R: Files + AllocGlobal>(rt: &R, request: &Request) -> Result<String, C
             let procedure = file(rt, procedure)?;
             alone::alone_cmd(rt.alloc(), &tree, &procedure, args)
         }
+        Request::Assemble { text, container } => assemble(rt, text, container),
+        Request::Disassemble { container } => {
+            procedures::dis_cmd(rt.alloc(), &file(rt, container)?)
+        }
+        Request::Verify { container } => procedures::verify_cmd(rt.alloc(), &file(rt, container)?),
     }
 }
 
