@@ -4,6 +4,7 @@
 pub mod assembling;
 mod draft;
 pub mod fault;
+mod listing;
 mod reading;
 mod resolving;
 mod sketch;
