@@ -4,10 +4,12 @@
 pub mod assembling;
 mod draft;
 pub mod fault;
-mod listing;
+pub mod listing;
 mod reading;
 mod resolving;
 mod sketch;
 mod statement;
+#[cfg(test)]
+mod tests;
 mod token;
 mod word;
