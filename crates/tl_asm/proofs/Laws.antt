@@ -42,6 +42,7 @@ no_fault ss is (NoLabel n) whole aims h = astray h.place h.draft h.here h.astray
   where
     each : All (λ d. IsSome (aimed (labels_in 0 ss) d.1.instr d.1.label)) (drafts_in 1 ss)
     each = all_aimed (labels_in 0 ss) (drafts_in 1 ss) is aims
+
     astray : (place : ℕ) (draft : DraftValue) → slice_get (drafts_in 1 ss) place ≡ Some (n, draft) → aimed (labels_in 0 ss) draft.instr draft.label ≡ None → ⊥
     astray place draft here none =
         let at = get_or_from_slice_get (drafts_in 1 ss) place (n, draft) (n, draft) here in

@@ -5,3 +5,4 @@ pub mod Steps
 pub mod Resolved
 pub mod Whole
 pub mod Laws
+pub mod Listed

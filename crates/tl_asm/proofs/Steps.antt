@@ -109,10 +109,10 @@ module _ (xs : List (Option Said)) (given : Option ℕ) (entries : List (Word ×
       let number : 1 + length xs ≡ length xs + 1 = omega arith in
       let drafts : drafts_in 1 (xs ++ Some (Does d) ∷ []) ≡ drafts_in 1 xs ++ (length xs + 1, d) ∷ [] = drafts_append 1 xs (Some (Does d) ∷ []) ∙ ap (λ (n : ℕ). drafts_in 1 xs ++ (n, d) ∷ []) number in
       grown (Some (Does d)) given entries (is ++ d.instr ∷ []) (lines ++ (length xs + 1, d.label) ∷ []) (instr_follows (arity_in xs) d (λ e. some (sk.arity ∙ e))) (same_arity xs (Some (Does d)) given sk.arity refl) sk.arity_in_range (sk.labels ∙ sym labels) (subst Distinct (sym sk.labels) sk.begin.distinct)
-        (sym (ap (map (λ d. d.1.instr)) drafts ∙ map-append (λ d. d.1.instr) (drafts_in 1 xs) ((length xs + 1, d) ∷ []) ∙ ap (λ (l : List Instr). l ++ d.instr ∷ []) (sym sk.instrs)))
-        (omega (arith, length-append is (d.instr ∷ [])))
-        (sym (ap (map (λ d. (d.0, d.1.label))) drafts ∙ map-append (λ d. (d.0, d.1.label)) (drafts_in 1 xs) ((length xs + 1, d) ∷ []) ∙ ap (λ (l : List (ℕ × Option Word)). l ++ (length xs + 1, d.label) ∷ []) (sym sk.origins)))
-        (All-push (IsInstr 0) is d.instr sk.in_range range)
+      (sym (ap (map (λ d. d.1.instr)) drafts ∙ map-append (λ d. d.1.instr) (drafts_in 1 xs) ((length xs + 1, d) ∷ []) ∙ ap (λ (l : List Instr). l ++ d.instr ∷ []) (sym sk.instrs)))
+      (omega (arith, length-append is (d.instr ∷ [])))
+      (sym (ap (map (λ d. (d.0, d.1.label))) drafts ∙ map-append (λ d. (d.0, d.1.label)) (drafts_in 1 xs) ((length xs + 1, d) ∷ []) ∙ ap (λ (l : List (ℕ × Option Word)). l ++ (length xs + 1, d.label) ∷ []) (sym sk.origins)))
+      (All-push (IsInstr 0) is d.instr sk.in_range range)
 
 -- the lines before k make a sketch
 module _ (ss : List (Option Said)) (k : ℕ) (given : Option ℕ) (entries : List (Word × ℕ)) (is : List Instr) (lines : List (ℕ × Option Word)) (lt : k < length ss) (sk : Sketched (take k ss) given entries is lines) where
@@ -120,21 +120,26 @@ module _ (ss : List (Option Said)) (k : ℕ) (given : Option ℕ) (entries : Lis
   reached = record { inside = lt; before = sk.begin }
 
   pub twice : (label : Word) → take (k + 1) ss ≡ take k ss ++ Some (Names label) ∷ [] → given ≢ None → is_some (position_of entries label) ≡ true → FirstFaultIn ss (LabelTwice (k + 1))
-  twice label here some found =
-      (k, refl, reached,
-       subst InPlace (sym here) (in_place_append (take k ss) (Some (Names label) ∷ []) sk.begin.in_place (label_follows (arity_in (take k ss)) label (λ e. some (sk.arity ∙ e)))),
-       λ h. known_twice entries label (length is) found (subst Distinct (ap (labels_in 0) here ∙ label_labels (take k ss) given entries is lines sk label) h))
+  twice label here some found = (
+    k,
+    refl,
+    reached,
+    subst InPlace (sym here) (in_place_append (take k ss) (Some (Names label) ∷ []) sk.begin.in_place (label_follows (arity_in (take k ss)) label (λ e. some (sk.arity ∙ e)))),
+    λ h. known_twice entries label (length is) found (subst Distinct (ap (labels_in 0) here ∙ label_labels (take k ss) given entries is lines sk label) h),
+  )
 
   pub too_long : (d : DraftValue) → take (k + 1) ss ≡ take k ss ++ Some (Does d) ∷ [] → given ≢ None → length is ≡ 1024 → FirstFaultIn ss TooLong
   too_long d here some full =
       let labels : labels_in 0 (take (k + 1) ss) ≡ labels_in 0 (take k ss) = ap (labels_in 0) here ∙ labels_append 0 1 (take k ss) (Some (Does d) ∷ []) ∙ append-nil (labels_in 0 (take k ss)) in
       let drafts : drafts_in 1 (take (k + 1) ss) ≡ drafts_in 1 (take k ss) ++ (1 + length (take k ss), d) ∷ [] = ap (drafts_in 1) here ∙ drafts_append 1 (take k ss) (Some (Does d) ∷ []) in
       let many = count (take k ss) given entries is lines sk in
-      let longer = length-append (drafts_in 1 (take k ss)) ((1 + length (take k ss), d) ∷ []) in
-      (k, reached,
-       subst InPlace (sym here) (in_place_append (take k ss) (Some (Does d) ∷ []) sk.begin.in_place (instr_follows (arity_in (take k ss)) d (λ e. some (sk.arity ∙ e)))),
-       subst Distinct (sym labels) sk.begin.distinct,
-       rw (drafts, longer, many, full) (omega arith))
+      let longer = length-append (drafts_in 1 (take k ss)) ((1 + length (take k ss), d) ∷ []) in (
+        k,
+        reached,
+        subst InPlace (sym here) (in_place_append (take k ss) (Some (Does d) ∷ []) sk.begin.in_place (instr_follows (arity_in (take k ss)) d (λ e. some (sk.arity ∙ e)))),
+        subst Distinct (sym labels) sk.begin.distinct,
+        rw (drafts, longer, many, full) (omega arith),
+      )
 
 -- what the lines up to this one say
 pub next_says : (lines : List (Bor (List ℕ))) (k : ℕ) (d : Bor (List ℕ)) (s : Option Said) → k < length lines → says (get_or lines k d).now ≡ s → take (k + 1) (said_by lines) ≡ take k (said_by lines) ++ s ∷ []

@@ -4,9 +4,12 @@
 pub mod assembling;
 mod draft;
 pub mod fault;
+pub mod listing;
 mod reading;
 mod resolving;
 mod sketch;
 mod statement;
+#[cfg(test)]
+mod tests;
 mod token;
 mod word;

@@ -49,7 +49,11 @@ fn label(line: &[u8]) -> Option<&[u8]>
     ensures { Finds (λ x. x.now) result (last label_in (words_of line.now)) }
 {
     let word = only_word(line)?;
-    if token::is_label(word) { Some(word) } else { None }
+    if token::is_label(word) {
+        Some(word)
+    } else {
+        None
+    }
 }
 
 /// `else`, and a label.

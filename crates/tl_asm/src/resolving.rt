@@ -16,7 +16,10 @@ fn with_target(instr: &Instr, target: u16) -> Instr
 {
     match *instr {
         Instr::Add {
-            to, left, right, ..
+            to,
+            left,
+            right,
+            ..
         } => Instr::Add {
             to,
             left,
@@ -24,7 +27,10 @@ fn with_target(instr: &Instr, target: u16) -> Instr
             otherwise: target,
         },
         Instr::Subtract {
-            to, left, right, ..
+            to,
+            left,
+            right,
+            ..
         } => Instr::Subtract {
             to,
             left,
@@ -32,7 +38,10 @@ fn with_target(instr: &Instr, target: u16) -> Instr
             otherwise: target,
         },
         Instr::Multiply {
-            to, left, right, ..
+            to,
+            left,
+            right,
+            ..
         } => Instr::Multiply {
             to,
             left,
@@ -40,7 +49,10 @@ fn with_target(instr: &Instr, target: u16) -> Instr
             otherwise: target,
         },
         Instr::Divide {
-            to, left, right, ..
+            to,
+            left,
+            right,
+            ..
         } => Instr::Divide {
             to,
             left,
@@ -64,7 +76,10 @@ fn with_target(instr: &Instr, target: u16) -> Instr
             otherwise: target,
         },
         Instr::Child {
-            to, parent, number, ..
+            to,
+            parent,
+            number,
+            ..
         } => Instr::Child {
             to,
             parent,

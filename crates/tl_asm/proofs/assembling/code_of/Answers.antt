@@ -47,10 +47,10 @@ returns-in_err-instrs-clause-fault c =
     let same : said_by c.deref.result.now ≡ statements c.args.text.now = same_statements c.args.text.now c.deref.result.now (ap (map (λ line. line.now)) c.deref.ensures.value ∙ c.in_ok-lines.ensures.lines) in
     let some : 0 < length s.instrs.items = grind (arith, nat_tests, c.is_empty.ensures, c.if-is_empty.false) in
     rw (p.1, p.2) (λ n.
-      let x = c.in_err-instrs.ensures.fault n in
-      let astray : IsAstray (known s.labels.entries) (drafts_of s.instrs.items (traced s.origins.items)) x.0 = subst (λ (os : List Origin). IsAstray (known s.labels.entries) (drafts_of s.instrs.items (traced os)) x.0) c.deref-3.ensures.value (subst (λ (is : List Instr). IsAstray (known s.labels.entries) (drafts_of is (traced c.deref-3.result.now)) x.0) c.deref-2.ensures.value x.2) in
-      subst (λ (f : AsmFault). FirstFaultIn (statements c.args.text.now) f) (sym x.1) (subst (λ (ss : List (Option Said)). FirstFaultIn ss (NoLabel x.0)) same
-        (no_label (said_by c.deref.result.now) s.arity (known s.labels.entries) s.instrs.items (traced s.origins.items) c.in_ok-sketch.ensures.found c.in-Some.arity x.0 c.in-Some.is some astray)))
+    let x = c.in_err-instrs.ensures.fault n in
+    let astray : IsAstray (known s.labels.entries) (drafts_of s.instrs.items (traced s.origins.items)) x.0 = subst (λ (os : List Origin). IsAstray (known s.labels.entries) (drafts_of s.instrs.items (traced os)) x.0) c.deref-3.ensures.value (subst (λ (is : List Instr). IsAstray (known s.labels.entries) (drafts_of is (traced c.deref-3.result.now)) x.0) c.deref-2.ensures.value x.2) in
+    subst (λ (f : AsmFault). FirstFaultIn (statements c.args.text.now) f) (sym x.1) (subst (λ (ss : List (Option Said)). FirstFaultIn ss (NoLabel x.0)) same
+    (no_label (said_by c.deref.result.now) s.arity (known s.labels.entries) s.instrs.items (traced s.origins.items) c.in_ok-sketch.ensures.found c.in-Some.arity x.0 c.in-Some.is some astray)))
 
 pub unwrap-requires : goal.unwrap-requires
 unwrap-requires c =

@@ -8,4 +8,4 @@ use Rattle.tl_asm.proofs.assembling.lines_of.Goals as goal
 pub returns-clause-lines : goal.returns-clause-lines
 returns-clause-lines c =
     subst (λ r. IfOk r (λ v. map (λ line. line.now) v.items ≡ lines_of c.args.text.now)) c.in_ok-collect.was
-      (map_from_collect c.collect.result c.collect.ensures.ran (YieldsList-from_str_split 10 c.args.text.now (lit< tt) c.split.ensures.text c.split.ensures.has_more c.split.ensures.pattern))
+    (map_from_collect c.collect.result c.collect.ensures.ran (YieldsList-from_str_split 10 c.args.text.now (lit< tt) c.split.ensures.text c.split.ensures.has_more c.split.ensures.pattern))

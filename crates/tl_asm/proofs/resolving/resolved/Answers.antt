@@ -27,11 +27,14 @@ returns-clause-found c = whole (known c.args.labels.now.entries) c.args.instrs.n
 
 pub returns-in-None-get-clause-fault : goal.returns-in-None-get-clause-fault
 returns-in-None-get-clause-fault c = λ _.
-    let origin : Origin = record { line = 0; label = None } in
-    (_, refl, record {
-      place = c.loop-index.index;
-      draft = _;
-      here = this_draft c.args.instrs.now c.args.origins.now c.loop-index.index Return origin c.requires c.loop-index-test.true;
-      astray = astray c.args.instrs.now c.args.origins.now c.loop-index.index Return origin c.requires c.loop-index-test.true c.args.labels.now.entries c.in-Some.label c.in-Some.is c.in-None-get.ensures.value;
-      before = all_aimed (known c.args.labels.now.entries) (take c.loop-index.index (drafts_of c.args.instrs.now (traced c.args.origins.now))) c.loop-index.resolved.items c.loop-index.invariant;
-    })
+    let origin : Origin = record { line = 0; label = None } in (
+      _,
+      refl,
+      record {
+        place = c.loop-index.index;
+        draft = _;
+        here = this_draft c.args.instrs.now c.args.origins.now c.loop-index.index Return origin c.requires c.loop-index-test.true;
+        astray = astray c.args.instrs.now c.args.origins.now c.loop-index.index Return origin c.requires c.loop-index-test.true c.args.labels.now.entries c.in-Some.label c.in-Some.is c.in-None-get.ensures.value;
+        before = all_aimed (known c.args.labels.now.entries) (take c.loop-index.index (drafts_of c.args.instrs.now (traced c.args.origins.now))) c.loop-index.resolved.items c.loop-index.invariant;
+      },
+    )

@@ -66,23 +66,23 @@ loop-index-preserved c =
     elim c.match-statement.branch [
       | in-Blank w ↦
           moved (before ++ Some Blank ∷ []) _ c.loop-index.arity _ (known c.loop-index.labels.entries) _ c.loop-index.instrs.items _ (traced c.loop-index.origins.items) _
-            (blank_line before c.loop-index.arity (known c.loop-index.labels.entries) c.loop-index.instrs.items (traced c.loop-index.origins.items) inv)
-            (says_so Blank (ap shown w.in-Blank.is)) w.arity-is (ap (λ m. known m.entries) w.labels-is) (ap (λ v. v.items) w.instrs-is) (ap (λ v. traced v.items) w.origins-is)
+          (blank_line before c.loop-index.arity (known c.loop-index.labels.entries) c.loop-index.instrs.items (traced c.loop-index.origins.items) inv)
+          (says_so Blank (ap shown w.in-Blank.is)) w.arity-is (ap (λ m. known m.entries) w.labels-is) (ap (λ v. v.items) w.instrs-is) (ap (λ v. traced v.items) w.origins-is)
       | in-Takes+else-is_some w ↦
           let none : c.loop-index.arity ≡ None = none_from c.loop-index.arity w.is_some.result w.is_some.ensures w.if-is_some.false in
           moved (before ++ Some (Takes w.in-Takes.given) ∷ []) _ (Some w.in-Takes.given) _ (known c.loop-index.labels.entries) _ c.loop-index.instrs.items _ (traced c.loop-index.origins.items) _
-            (arity_line before c.loop-index.arity (known c.loop-index.labels.entries) c.loop-index.instrs.items (traced c.loop-index.origins.items) inv w.in-Takes.given none (subst (λ s. IsSaid (shown s)) w.in-Takes.is c.in-Some.ensures.in_range))
-            (says_so (Takes w.in-Takes.given) (ap shown w.in-Takes.is)) w.arity-is (ap (λ m. known m.entries) w.labels-is) (ap (λ v. v.items) w.instrs-is) (ap (λ v. traced v.items) w.origins-is)
+          (arity_line before c.loop-index.arity (known c.loop-index.labels.entries) c.loop-index.instrs.items (traced c.loop-index.origins.items) inv w.in-Takes.given none (subst (λ s. IsSaid (shown s)) w.in-Takes.is c.in-Some.ensures.in_range))
+          (says_so (Takes w.in-Takes.given) (ap shown w.in-Takes.is)) w.arity-is (ap (λ m. known m.entries) w.labels-is) (ap (λ v. v.items) w.instrs-is) (ap (λ v. traced v.items) w.origins-is)
       | in-Names+else-is_none+else-contains_key+in_ok-insert-in-Names w ↦
           let some : c.loop-index.arity ≢ None = is_some_given c.loop-index.arity w.is_none.result w.is_none.ensures w.if-is_none.false in
           let fresh : lookup (λ k. bytes_eq w.in-Names.label.now k.now) c.loop-index.labels.entries ≡ None = none_from _ w.contains_key.result w.contains_key.ensures w.if-contains_key.false in
           let entries : w.insert.new.self.entries ≡ c.loop-index.labels.entries ++ (w.in-Names.label, length c.loop-index.instrs.items) ∷ [] =
-              w.in_ok-insert-in-Names.ensures.entries ∙ insert_entry-new (λ x y. bytes_eq x.now y.now) c.loop-index.labels w.in-Names.label w.len.result fresh ∙ ap (λ (n : ℕ). c.loop-index.labels.entries ++ (w.in-Names.label, n) ∷ []) (search rules) in
+          w.in_ok-insert-in-Names.ensures.entries ∙ insert_entry-new (λ x y. bytes_eq x.now y.now) c.loop-index.labels w.in-Names.label w.len.result fresh ∙ ap (λ (n : ℕ). c.loop-index.labels.entries ++ (w.in-Names.label, n) ∷ []) (search rules) in
           moved (before ++ Some (Names w.in-Names.label.now) ∷ []) _ c.loop-index.arity _ (known c.loop-index.labels.entries ++ (w.in-Names.label.now, length c.loop-index.instrs.items) ∷ []) _ c.loop-index.instrs.items _ (traced c.loop-index.origins.items) _
-            (label_line before c.loop-index.arity (known c.loop-index.labels.entries) c.loop-index.instrs.items (traced c.loop-index.origins.items) inv w.in-Names.label.now some (known_at c.loop-index.labels.entries w.in-Names.label.now ∙ fresh))
-            (says_so (Names w.in-Names.label.now) (ap shown w.in-Names.is)) w.arity-is
-            (ap (λ m. known m.entries) w.labels-is ∙ ap known entries ∙ map-append (λ entry. (entry.0.now, entry.1)) c.loop-index.labels.entries ((w.in-Names.label, length c.loop-index.instrs.items) ∷ []))
-            (ap (λ v. v.items) w.instrs-is) (ap (λ v. traced v.items) w.origins-is)
+          (label_line before c.loop-index.arity (known c.loop-index.labels.entries) c.loop-index.instrs.items (traced c.loop-index.origins.items) inv w.in-Names.label.now some (known_at c.loop-index.labels.entries w.in-Names.label.now ∙ fresh))
+          (says_so (Names w.in-Names.label.now) (ap shown w.in-Names.is)) w.arity-is
+          (ap (λ m. known m.entries) w.labels-is ∙ ap known entries ∙ map-append (λ entry. (entry.0.now, entry.1)) c.loop-index.labels.entries ((w.in-Names.label, length c.loop-index.instrs.items) ∷ []))
+          (ap (λ v. v.items) w.instrs-is) (ap (λ v. traced v.items) w.origins-is)
       | in-Does+else-is_none-2+else-len-eq-MAX_COUNT+in_ok-push-in-Does+in_ok-push-in-Does-2 w ↦
           let some : c.loop-index.arity ≢ None = is_some_given c.loop-index.arity w.is_none-in-Does.result w.is_none-in-Does.ensures w.if-is_none-2.false in
           let d = view w.in-Does.field-0 in
@@ -93,8 +93,8 @@ loop-index-preserved c =
           let number : length before ≡ c.loop-index.index = length-take-le c.loop-index.index (said_by c.args.lines.now) (omega (arith, length-map c.args.lines.now (λ line. says line.now))) in
           let range : IsInstr 0 w.in-Does.field-0.instr = subst (λ s. IsSaid (shown s)) w.in-Does.is c.in-Some.ensures.in_range in
           moved (before ++ Some (Does d) ∷ []) _ c.loop-index.arity _ (known c.loop-index.labels.entries) _ (c.loop-index.instrs.items ++ d.instr ∷ []) _ (traced c.loop-index.origins.items ++ (length before + 1, d.label) ∷ []) _
-            (instr_line before c.loop-index.arity (known c.loop-index.labels.entries) c.loop-index.instrs.items (traced c.loop-index.origins.items) inv d some some_left range)
-            (says_so (Does d) (ap shown w.in-Does.is)) w.arity-is (ap (λ m. known m.entries) w.labels-is)
-            (ap (λ v. v.items) w.instrs-is ∙ w.in_ok-push-in-Does.ensures.items)
-            (ap (λ v. traced v.items) w.origins-is ∙ ap traced w.in_ok-push-in-Does-2.ensures.items ∙ map-append (λ origin. (origin.line, option_map (λ label. label.now) origin.label)) c.loop-index.origins.items _ ∙ ap (λ (n : ℕ). traced c.loop-index.origins.items ++ (n + 1, d.label) ∷ []) (sym number))
+          (instr_line before c.loop-index.arity (known c.loop-index.labels.entries) c.loop-index.instrs.items (traced c.loop-index.origins.items) inv d some some_left range)
+          (says_so (Does d) (ap shown w.in-Does.is)) w.arity-is (ap (λ m. known m.entries) w.labels-is)
+          (ap (λ v. v.items) w.instrs-is ∙ w.in_ok-push-in-Does.ensures.items)
+          (ap (λ v. traced v.items) w.origins-is ∙ ap traced w.in_ok-push-in-Does-2.ensures.items ∙ map-append (λ origin. (origin.line, option_map (λ label. label.now) origin.label)) c.loop-index.origins.items _ ∙ ap (λ (n : ℕ). traced c.loop-index.origins.items ++ (n + 1, d.label) ∷ []) (sym number))
     ]

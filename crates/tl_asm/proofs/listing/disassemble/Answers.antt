@@ -1,0 +1,20 @@
+use Rattle.std.proofs.Common.{rules, ◌≡◌, ◌∙◌, ◌<◌, ◌++◌, length, get_or, List, ℕ, sym, ap, arith}
+use Rattle.std.specs.String.{string_bytes}
+use Rattle.tl_instr.specs.declared.instr.Instr.{Instr}
+use Rattle.tl_asm.specs.Listing.{label_line, instr_line, listing}
+use Rattle.tl_asm.proofs.Listed.{one_listed, all_listed}
+use Rattle.tl_asm.proofs.listing.disassemble.Goals as goal
+
+pub loop-position-preserved : goal.loop-position-preserved
+loop-position-preserved c =
+    let instrs = c.args.code.now.instrs in
+    let inside : c.loop-position.position < length c.args.code.now.instrs = search rules in
+    let here : c.index-instrs-from.result ≡ get_or c.args.code.now.instrs c.loop-position.position c.index-instrs-from.result = search rules in
+    let label : string_bytes c.push_str.new.self ≡ string_bytes c.loop-position.text ++ label_line c.args.code.now.instrs c.loop-position.position = search rules in
+    let line : string_bytes c.push_str-in-loop-position.new.self ≡ string_bytes c.push_str.new.self ++ instr_line c.index-instrs-from.result = search rules in
+    one_listed instrs c.loop-position.position c.index-instrs-from.result (string_bytes c.loop-position.text) (string_bytes c.push_str.new.self) (string_bytes c.push_str-in-loop-position.new.self) (listing c.args.code.now) inside here c.loop-position.invariant label line
+
+pub returns-clause-text : goal.returns-clause-text
+returns-clause-text c =
+    let last : string_bytes c.push_str-2.new.self ≡ string_bytes c.loop-position.text ++ label_line c.args.code.now.instrs c.count.result = search rules in
+    all_listed c.args.code.now.instrs c.loop-position.position c.count.result (string_bytes c.loop-position.text) (string_bytes c.push_str-2.new.self) (listing c.args.code.now) (search rules) (search rules) c.loop-position.invariant last

@@ -1,0 +1,117 @@
+use crate::assembling::assemble;
+use crate::listing::disassemble;
+use arrayvec::ArrayVec;
+use std::alloc::Global;
+use std::test::*;
+
+/// The numbers of the fault, or none where the text is read.
+fn fault_in(alloc: Global, text: &str) -> ArrayVec<u64, 3> {
+    match assemble(alloc, text) {
+        Ok(_) => ArrayVec::new(),
+        Err(fault) => fault.numbers(),
+    }
+}
+
+/// An arity, and `ret` as many times.
+fn returns(alloc: Global, count: u16) -> Result<String, Fail> {
+    let mut text = String::from_str(alloc, "arity 0\n")?;
+    for _ in 0..count {
+        text.push_str("ret\n")?;
+    }
+    Ok(text)
+}
+
+#[test]
+fn canonical_texts_come_back(rt: HostRuntime) -> Result<(), Fail> {
+    let cases: [(&str, u16); 8] = [
+        (
+            "arity 2\nfirst n0 v0 else L6\nget v2 n0 0\nadd v2 v2 v1 else L4\nput n0 0 v2\nL4:\nemit v2\nrel n0\nL6:\nret\n",
+            7,
+        ),
+        ("arity 2\ndiv v2 v0 v1 else L2\nemit v2\nL2:\nret\n", 3),
+        (
+            "arity 1\nfirst n0 v0 else L4\nget v1 n0 0\nemit v1\nrel n0\nL4:\nret\n",
+            5,
+        ),
+        (
+            "arity 2\nfirst n0 v0 else L3\nput n0 0 v1\nrel n0\nL3:\nret\n",
+            4,
+        ),
+        (
+            "arity 1\nfirst n0 v1 else L10\nchild n1 n0 v1 else L9\nput n1 0 v0\nrel n1\nset v2 1\nchild n1 n0 v2 else L9\nget v3 n1 0\nemit v3\nrel n1\nL9:\nrel n0\nL10:\nret\n",
+            11,
+        ),
+        (
+            "arity 1\nfirst n0 v0 else L9\nrep 12\nchild n1 n0 v1 else L6\nrel n0\nmove n0 n1\nend\nL6:\nget v2 n0 0\nemit v2\nrel n0\nL9:\nret\n",
+            10,
+        ),
+        (
+            "arity 1\nfirst n0 v1 else L10\nrep 12\nget v2 n0 0\nadd v2 v2 v0 else L4\nL4:\nput n0 0 v2\nchild n1 n0 v1 else L9\nrel n0\nmove n0 n1\nend\nL9:\nrel n0\nL10:\nret\n",
+            11,
+        ),
+        (
+            "arity 0\nfirst n0 v0 else L9\nset v1 1\nchild n1 n0 v1 else L8\nrel n1\nchild n1 n0 v0 else L7\nemit v1\nrel n1\nL7:\nemit v0\nL8:\nrel n0\nL9:\nret\n",
+            10,
+        ),
+    ];
+    for (text, count) in cases {
+        let code = assemble(rt.alloc(), text)?;
+        assert_eq!(rt; code.count(), count);
+        let listing = disassemble(rt.alloc(), &code)?;
+        assert_eq!(rt; listing.as_str(), text);
+    }
+    Ok(())
+}
+
+#[test]
+fn other_texts_of_a_code(rt: HostRuntime) -> Result<(), Fail> {
+    let text =
+        "; a comment; another\n\t\r\n arity\t8 ;\n\nset v3 -2147483648;no space\r\njeq v0 v15 end_\nstart: \nloop:;\njmp  end_\nkids v1 n7\ncopy v0 v1\nmul v0 v1 v2 else _\nsub v0 v1 v2 else start\nrep 65535\nend\njlt v1 v2 loop\nend_:\n_:";
+    let code = assemble(rt.alloc(), text)?;
+    let listing = disassemble(rt.alloc(), &code)?;
+    let canonical =
+        "arity 8\nset v3 -2147483648\njeq v0 v15 L10\nL2:\njmp L10\nkids v1 n7\ncopy v0 v1\nmul v0 v1 v2 else L10\nsub v0 v1 v2 else L2\nrep 65535\nend\njlt v1 v2 L2\nL10:\n";
+    assert_eq!(rt; listing.as_str(), canonical);
+    Ok(())
+}
+
+#[test]
+fn faults_of_texts(rt: HostRuntime) -> Result<(), Fail> {
+    let cases: [(&str, &[u64]); 22] = [
+        ("", &[251, 1]),
+        ("\n\n", &[251, 3]),
+        ("arity 0\n", &[251, 2]),
+        ("arity 0\na:\n", &[251, 3]),
+        ("arity 9\nret", &[251, 1]),
+        ("arity 0\narity 0\nret", &[251, 2]),
+        ("ret", &[251, 1]),
+        ("arity 0\njmp x\nret", &[252, 2]),
+        ("arity 0\na:\na:\nret", &[253, 3]),
+        ("arity 0\nset v16 1", &[251, 2]),
+        ("arity 0\nset v1 -0", &[251, 2]),
+        ("arity 0\nset v1 +1", &[251, 2]),
+        ("arity 0\nset v01 1", &[251, 2]),
+        ("arity 0\nset v1 2147483648", &[251, 2]),
+        ("arity 0\nrep 65536", &[251, 2]),
+        ("arity 0\nadd v0 v0 v0 or a\na:", &[251, 2]),
+        ("arity 0\nret ret", &[251, 2]),
+        ("arity 0\n\x0Cret", &[251, 2]),
+        ("arity 0\na :\nret", &[251, 2]),
+        ("arity 0\njmp 1a\nret", &[251, 2]),
+        ("arity 0\na123456789012345678901234567890_:\nret", &[]),
+        (
+            "arity 0\na123456789012345678901234567890__:\nret",
+            &[251, 2],
+        ),
+    ];
+    for (text, want) in cases {
+        let fault = fault_in(rt.alloc(), text);
+        assert_eq!(rt; fault.as_slice(), want, "{text}");
+    }
+    let most = returns(rt.alloc(), 1024)?;
+    assert_eq!(rt; fault_in(rt.alloc(), most.as_str()).len(), 0);
+    let too_many = returns(rt.alloc(), 1025)?;
+    let fault = fault_in(rt.alloc(), too_many.as_str());
+    assert_eq!(rt; fault.as_slice(), [254].as_slice());
+    Ok(())
+}
