@@ -16,7 +16,7 @@ use Rattle.tl_verify.specs.declared.fault.VerifyFault.TheVariants as verify
 use Rattle.tl_machine.specs.Alone.{alone}
 use Rattle.tl_machine.specs.Outcomes.{Outcome, outcome_of}
 use Rattle.tl_cli.specs.declared.fault.CliFault.{CliFault}
-use Rattle.tl_cli.specs.declared.fault.CliFault.TheVariants.{Unreadable, Tree, Code, Verify, NotArgs, WrongArgs, Memory}
+use Rattle.tl_cli.specs.declared.fault.CliFault.TheVariants.{Unreadable, Unwritable, NotUtf8, Asm, Tree, Code, Verify, NotArgs, WrongArgs, Memory}
 
 -- the first line: the reply, and how many instructions were done
 abbrev pub answer_text : List ℤ → ℕ → List ℕ
@@ -60,3 +60,6 @@ IsFault t c a NotArgs = IsTreeFile t × (code' : CodeValue) × Spelled c code' �
 IsFault t c a WrongArgs = (inputs : Inputs t c a) × (length inputs.args ≢ inputs.code.arity)
 IsFault t c a Memory = Unit {0}
 IsFault t c a Unreadable = ⊥
+IsFault t c a Unwritable = ⊥
+IsFault t c a NotUtf8 = ⊥
+IsFault t c a (Asm f) = ⊥

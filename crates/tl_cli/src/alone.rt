@@ -90,7 +90,7 @@ fn answer_line(alloc: Global, answer: &Answer) -> Result<String, AllocError>
 /// tree as it is then. Takes the bytes of the tree's file, those of the procedure's container, and the arguments as text.
 ///
 /// What is wrong first, in this order: 106 (also for a tree that is no UTF-8), 101 to 105; the container's 201 to 206;
-/// the verifier's 305 to 408; 732; 501. Where memory was refused, 190, 290, 490 or 990.
+/// the verifier's 301 to 307 and 401 to 409; 732; 501. Where memory was refused, 190, 290, 490 or 990.
 pub fn alone_cmd(
     alloc: Global,
     tree: &[u8],

@@ -28,6 +28,31 @@ pub enum Asked<'a> {
     Told(Error),
 }
 
+const HELP: &str = "\
+A refusal is one line on standard output, {\"error\":[number,..]}, and a message on standard error.
+Exit status: 0 done, 1 refused, 2 a mistake on the command line, 3 a file that can't be read or written, 4 memory.
+Help on a command: treedb COMMAND --help";
+
+const ALONE_HELP: &str = "\
+Example: treedb alone --tree one-node.json --proc add.tlp --args '[0,3]'
+prints {\"reply\":[8],\"steps\":7}, and then the tree as JSON. The files are not changed.
+Exit status: 0 done, 1 refused, 2 a mistake on the command line, 3 a file that can't be read, 4 memory.";
+
+const ASM_HELP: &str = "\
+Example: treedb asm walk.asm walk.tlp
+prints {\"count\":10}. A text that is refused is told by its line, and nothing is written.
+Exit status: 0 done, 1 refused, 2 a mistake on the command line, 3 a file that can't be read or written, 4 memory.";
+
+const DIS_HELP: &str = "\
+Example: treedb dis walk.tlp
+prints a text that asm turns into the same container.
+Exit status: 0 done, 1 refused, 2 a mistake on the command line, 3 a file that can't be read, 4 memory.";
+
+const VERIFY_HELP: &str = "\
+Example: treedb verify walk.tlp
+prints {\"bounds\":{\"emits\":1,\"locks\":13,\"steps\":54}}, whatever the arguments and the tree.
+Exit status: 0 done, 1 refused, 2 a mistake on the command line, 3 a file that can't be read, 4 memory.";
+
 fn alone_command<'a>(alloc: Global) -> Result<Command<'a>, AllocError> {
     let tree = Arg::new(alloc, "tree")
         .long("tree")
@@ -46,6 +71,7 @@ fn alone_command<'a>(alloc: Global) -> Result<Command<'a>, AllocError> {
         .help("The arguments, a JSON list of numbers");
     Command::new(alloc, "alone")
         .about("Runs a procedure alone on a tree, and prints its reply and the tree as it is then")
+        .after_help(ALONE_HELP)
         .arg(tree)?
         .arg(procedure)?
         .arg(args)
@@ -63,6 +89,7 @@ fn file_arg<'a>(
 fn asm_command<'a>(alloc: Global) -> Result<Command<'a>, AllocError> {
     Command::new(alloc, "asm")
         .about("Writes the container of an assembler text, and prints how many instructions it has")
+        .after_help(ASM_HELP)
         .arg(file_arg(alloc, "IN", "The file of the assembler text"))?
         .arg(file_arg(alloc, "OUT", "The file that the container is written to"))
 }
@@ -70,18 +97,21 @@ fn asm_command<'a>(alloc: Global) -> Result<Command<'a>, AllocError> {
 fn dis_command<'a>(alloc: Global) -> Result<Command<'a>, AllocError> {
     Command::new(alloc, "dis")
         .about("Prints the assembler text of a container")
+        .after_help(DIS_HELP)
         .arg(file_arg(alloc, "IN", "The file of the container"))
 }
 
 fn verify_command<'a>(alloc: Global) -> Result<Command<'a>, AllocError> {
     Command::new(alloc, "verify")
         .about("Prints what the procedure of a container does at most: steps, locks and emitted values")
+        .after_help(VERIFY_HELP)
         .arg(file_arg(alloc, "IN", "The file of the container"))
 }
 
 fn command<'a>(alloc: Global) -> Result<Command<'a>, AllocError> {
     Command::new(alloc, "treedb")
         .about("A database of trees, whose procedures are verified before they run")
+        .after_help(HELP)
         .subcommand_required(true)
         .arg_required_else_help(true)
         .subcommand(alone_command(alloc)?)?

@@ -1,8 +1,7 @@
 // The commands on procedures alone: `asm`, `dis` and `verify`.
 
-ghost use Rattle.std.specs.Prelude.{◌≡◌, IfOk, IfErr, string_bytes, codes, pos, List, [], ◌∷◌, ◌++◌, ℕ};
-ghost use Rattle.serde_json.specs.Data.{object, member, no_members};
-ghost use Rattle.serde_json.specs.View.{view};
+ghost use Rattle.std.specs.Prelude.{◌≡◌, IfOk, string_bytes};
+ghost use Rattle.tl_asm.specs.Listing.{listing};
 ghost use Rattle.tl_instr.specs.Codes.{CodeValue};
 ghost use Rattle.tl_instr.specs.Spelling.{Spelled};
 
@@ -32,7 +31,9 @@ pub fn container_of(alloc: Global, code: &Code) -> Result<Vec<u8>, CliFault>
 }
 
 /// The canonical text of a container's code. Else the container's first fault, 201 to 206.
-pub fn dis_cmd(alloc: Global, container: &[u8]) -> Result<String, CliFault> {
+pub fn dis_cmd(alloc: Global, container: &[u8]) -> Result<String, CliFault>
+    ensures { IfOk result (λ text. (code : CodeValue) × Spelled container.now code × (string_bytes text ≡ listing code)) }
+{
     let code = decode(alloc, container).map_err(CliFault::Code)?;
     disassemble(alloc, &code).map_err(CliFault::Asm)
 }

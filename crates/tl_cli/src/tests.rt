@@ -1,5 +1,6 @@
 use crate::alone::alone_cmd;
 use crate::fault::CliFault;
+use crate::procedures::{code_of_text, container_of, count_line, dis_cmd, verify_cmd};
 use std::alloc::Global;
 use std::test::Fail;
 use tl_instr::code::Code;
@@ -111,5 +112,63 @@ fn a_fault_has_its_numbers_and_its_status(rt: HostRuntime) -> Result<(), Fail> {
     );
     assert_eq!(rt; CliFault::Verify(VerifyFault::Memory).status(), 4);
     assert_eq!(rt; CliFault::Memory.status(), 4);
+    Ok(())
+}
+
+/// Goes down by first children, at most twelve times.
+const WALK: &str = "\
+arity 1
+first n0 v0 else L9
+rep 12
+child n1 n0 v1 else L6
+rel n0
+move n0 n1
+end
+L6:
+get v2 n0 0
+emit v2
+rel n0
+L9:
+ret
+";
+
+#[test]
+fn a_text_is_assembled_shown_and_verified(rt: HostRuntime) -> Result<(), Fail> {
+    let alloc = rt.alloc();
+    let code = code_of_text(alloc, WALK.as_bytes())?;
+    let line = count_line(alloc, &code)?;
+    assert_eq!(rt; line.as_str(), "{\"count\":10}\n");
+    let container = container_of(alloc, &code)?;
+    let text = dis_cmd(alloc, &container)?;
+    assert_eq!(rt; text.as_str(), WALK);
+    let bounds = verify_cmd(alloc, &container)?;
+    assert_eq!(rt; bounds.as_str(), "{\"bounds\":{\"emits\":1,\"locks\":13,\"steps\":54}}\n");
+    let tree = "{\"parents\":[0,0,1],\"records\":[[0,0,0,0],[0,0,0,0],[7,0,0,0]]}";
+    let printed = alone_cmd(alloc, tree.as_bytes(), &container, "[0]")?;
+    assert_eq!(rt;
+        printed.as_str(),
+        "{\"reply\":[7],\"steps\":15}\n{\"parents\":[0,0,1],\"records\":[[0,0,0,0],[0,0,0,0],[7,0,0,0]]}\n"
+    );
+    Ok(())
+}
+
+#[test]
+fn a_text_is_refused_by_its_first_fault(rt: HostRuntime) -> Result<(), Fail> {
+    let alloc = rt.alloc();
+    let cases: [(&[u8], &[u64]); 5] = [
+        (b"", &[251, 1]),
+        (b"arity 0\njmp x\nret\n", &[252, 2]),
+        (b"arity 0\na:\na:\nret\n", &[253, 3]),
+        (b"arity 0\nset v16 1\n", &[251, 2]),
+        (b"arity 0\n\xFF\n", &[255]),
+    ];
+    for (text, numbers) in cases {
+        let fault = code_of_text(alloc, text).err().ok_or("accepted")?;
+        assert_eq!(rt; fault.numbers().as_slice(), numbers);
+    }
+    let fault = verify_cmd(alloc, b"TLP").err().ok_or("accepted")?;
+    assert_eq!(rt; fault.numbers().as_slice(), [201].as_slice());
+    let fault = dis_cmd(alloc, b"TLP1").err().ok_or("accepted")?;
+    assert_eq!(rt; fault.numbers().as_slice(), [202].as_slice());
     Ok(())
 }
