@@ -7,3 +7,5 @@ pub mod limits;
 pub mod nested;
 pub mod nesting;
 pub mod sums;
+#[cfg(test)]
+mod tests;

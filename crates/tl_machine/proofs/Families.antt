@@ -41,10 +41,10 @@ module _ (parents : List ℕ) (tree : IsTree parents) where
       elim (cases_lt m n) [
         | inl less ↦ let h = kid_rise (drop 1 parents) 1 x m n less b in absurd (omega arith)
         | inr le ↦
-          elim (cases_lt n m) [
-            | inl less ↦ let h = kid_rise (drop 1 parents) 1 x n m less a in absurd (omega arith)
-            | inr ge ↦ omega arith
-          ]
+            elim (cases_lt n m) [
+              | inl less ↦ let h = kid_rise (drop 1 parents) 1 x n m less a in absurd (omega arith)
+              | inr ge ↦ omega arith
+            ]
       ]
 
   pub kid_after : (x n : ℕ) → n < length (kids parents x) → x < kid x n

@@ -12,3 +12,5 @@ pub mod Attempting
 pub mod Standing
 pub mod Moves
 pub mod Going
+pub mod Wanting
+pub mod Turning

@@ -4,4 +4,6 @@ pub mod Left
 pub mod Rooms
 pub mod Call
 pub mod Stands
+pub mod Wants
+pub mod Turns
 pub mod Outcomes

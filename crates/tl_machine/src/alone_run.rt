@@ -3,13 +3,14 @@
 ghost use Rattle.std.specs.Prelude.{◌≡◌, ◌≢◌, ◌↔◌, ℕ, List, length, IsErr, IsOk, IfOk, OnErr, ◌≤◌, Option};
 ghost use Rattle.std.specs.Arc.{arc_value};
 ghost use Rattle.tl_machine.specs.Stands.{Stands, run_left};
-ghost use Rattle.tl_machine.specs.Outcomes.{IsAnswer, IsStart, outcome_of};
+ghost use Rattle.tl_machine.specs.Outcomes.{IsAnswer, outcome_of};
 ghost use Rattle.tl_machine.specs.Alone.{alone as run_alone};
 
 use crate::attempt::Attempt;
-use crate::call::{CallState, MAX_EMITS};
+use crate::call::CallState;
 use crate::fault::WrongArgs;
 use crate::reply::Reply;
+use crate::start::start;
 use crate::step::{attempt, finish, free, lock};
 use std::sync::Arc;
 use tl_tree::tree::Tree;
@@ -20,30 +21,6 @@ use tl_verify::procedure::Proc;
 pub struct Answer {
     pub reply: Reply,
     pub steps: u32,
-}
-
-/// The state of a call at its start: the arguments stand in the first registers, and all else is 0 or empty.
-pub fn start(procedure: &Proc, args: &[i64]) -> Result<CallState, WrongArgs>
-    ensures wrong { IsOk result ↔ (length args.now ≡ procedure.now.arity) }
-    ensures start { IfOk result (IsStart args.now) }
-    ensures stands { IfOk result (λ c. (parents : List ℕ) → Stands procedure.now.instrs parents c) }
-{
-    let arity = usize::from(procedure.code().arity().number());
-    if args.len() != arity {
-        return Err(WrongArgs);
-    }
-    let mut values = [0; 16];
-    values[..args.len()].copy_from_slice(args);
-    Ok(CallState {
-        position: 0,
-        is_over: false,
-        values,
-        nodes: [None; 8],
-        counters: [0; 4],
-        emitted: [0; MAX_EMITS],
-        emit_count: 0,
-        steps: 0,
-    })
 }
 
 // Runs a call to its end, from its start.
@@ -85,6 +62,6 @@ pub fn alone(procedure: &Arc<Proc>, args: &[i64], tree: &mut Tree) -> Result<Ans
     ensures answer { IfOk result (λ a. IsAnswer (outcome_of (run_alone (arc_value procedure.now).instrs tree.old.parents args.now tree.old.records)) a.reply a.steps) }
     ensures tree { IfOk result (λ _. tree.new ≡ record tree.old { records = (outcome_of (run_alone (arc_value procedure.now).instrs tree.old.parents args.now tree.old.records)).records }) }
 {
-    let call = start(procedure, args)?;
+    let call = start(procedure, tree.shape(), args)?;
     Ok(run(procedure, call, tree))
 }

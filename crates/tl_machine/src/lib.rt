@@ -8,7 +8,11 @@ pub mod fault;
 pub mod loops;
 pub mod nodes;
 pub mod reply;
+pub mod segment;
+pub mod start;
 pub mod step;
-pub mod values;
 #[cfg(test)]
 mod tests;
+pub mod turn;
+pub mod values;
+pub mod want;

@@ -30,7 +30,7 @@ loop-node-preserved-in-Lock c =
 pub record_at-found-requires : goal.record_at-found-requires
 record_at-found-requires c =
     let same = c.deref.ensures ∙ c.shape.ensures.shape in
-    lock_inside _ _ _ _ same _ c.attempt.new.call c.attempt.new.call _ c.shape.ensures.whole.count c.loop-node.invariant.so_far (rw same c.shape.ensures.whole.shape) c.in-Lock.node c.in-Lock.ensures
+    lock_inside _ _ _ _ same _ c.attempt.new.call c.attempt.new.call _ c.shape.ensures.whole.count c.loop-node.invariant.so_far c.in-Lock.node c.in-Lock.ensures
 
 pub lock-requires-clause-lock : goal.lock-requires-clause-lock
 lock-requires-clause-lock c =

@@ -1,7 +1,7 @@
 use Rattle.std.proofs.Common.{refl, ◌∙◌, ap, length, ◌++◌, drop}
 use Rattle.std.specs.Prelude.{pos, replicate}
 use Rattle.tl_machine.proofs.Going.{drop-replicate, start_stands}
-use Rattle.tl_machine.proofs.alone_run.start.Goals as goal
+use Rattle.tl_machine.proofs.start.start.Goals as goal
 
 pub returns-clause-start : goal.returns-clause-start
 returns-clause-start c = record {
@@ -9,9 +9,10 @@ returns-clause-start c = record {
   running = refl;
   values = ap (λ xs. xs ++ drop (length c.args.args.now) (replicate 16 (pos 0))) c.copy_from_slice.ensures.after ∙ ap (λ ys. c.args.args.now ++ ys) (drop-replicate (length c.args.args.now) 16 (pos 0));
   nodes = refl;
+  counters = refl;
   emits = refl;
   steps = refl;
 }
 
 pub returns-clause-stands : goal.returns-clause-stands
-returns-clause-stands c = λ parents. (start_stands _ parents c.code.ensures.accepted c.args.args.now _ (returns-clause-start c) c.code.ensures.valid.count.0)
+returns-clause-stands c = start_stands _ _ c.code.ensures.accepted c.args.args.now _ (returns-clause-start c) c.node_count-node_count.ensures.tree c.code.ensures.valid.count.0

@@ -1,0 +1,36 @@
+// Where a call begins.
+
+ghost use Rattle.std.specs.Prelude.{◌≡◌, ◌↔◌, length, IsOk, IfOk};
+ghost use Rattle.tl_machine.specs.Stands.{Stands};
+ghost use Rattle.tl_machine.specs.Outcomes.{IsStart};
+
+use crate::call::{CallState, MAX_EMITS};
+use crate::fault::WrongArgs;
+use tl_tree::shape::Shape;
+use tl_verify::procedure::Proc;
+
+/// The state of a call at its start: the arguments stand in the first registers, and all else is 0 or empty.
+pub fn start(procedure: &Proc, shape: &Shape, args: &[i64]) -> Result<CallState, WrongArgs>
+    ensures wrong { IsOk result ↔ (length args.now ≡ procedure.now.arity) }
+    ensures start { IfOk result (IsStart args.now) }
+    ensures stands { IfOk result (Stands procedure.now.instrs shape.now) }
+{
+    let arity = usize::from(procedure.code().arity().number());
+    if args.len() != arity {
+        return Err(WrongArgs);
+    }
+    // The shape is a tree's by its type: here a proof learns that.
+    let _node_count = shape.node_count();
+    let mut values = [0; 16];
+    values[..args.len()].copy_from_slice(args);
+    Ok(CallState {
+        position: 0,
+        is_over: false,
+        values,
+        nodes: [None; 8],
+        counters: [0; 4],
+        emitted: [0; MAX_EMITS],
+        emit_count: 0,
+        steps: 0,
+    })
+}
