@@ -375,35 +375,49 @@ fn assert_answer(
     Ok(())
 }
 
+/// Runs the instruction, which puts a number made of `v0` and `v1` into `v2`, or else goes to the position 2.
+fn assert_numbers(
+    rt: &impl Abort,
+    alloc: Global,
+    instr: Instr,
+    cases: &[([i64; 2], Option<i64>)],
+) -> Result<(), Fail> {
+    let procedure = procedure_of(alloc, 2, &[instr, emit(2)?, Instr::Return])?;
+    for (args, number) in cases {
+        match *number {
+            Some(number) => assert_answer(rt, alloc, &procedure, args, &[number], 3)?,
+            None => assert_answer(rt, alloc, &procedure, args, &[], 2)?,
+        }
+    }
+    Ok(())
+}
+
 #[test]
 fn numbers_are_reckoned_where_they_fit(rt: HostRuntime) -> Result<(), Fail> {
     let alloc = rt.alloc();
-    let cases: [(Instr, [i64; 2], &[i64]); 14] = [
-        (add(2, 0, 1, 2)?, [i64::MAX, -1], &[i64::MAX - 1]),
-        (add(2, 0, 1, 2)?, [i64::MIN, -1], &[]),
-        (subtract(2, 0, 1, 2)?, [3, 5], &[-2]),
-        (subtract(2, 0, 1, 2)?, [-1, i64::MIN], &[i64::MAX]),
-        (subtract(2, 0, 1, 2)?, [0, i64::MIN], &[]),
-        (subtract(2, 0, 1, 2)?, [i64::MIN, 1], &[]),
-        (multiply(2, 0, 1, 2)?, [-3, 4], &[-12]),
-        (
-            multiply(2, 0, 1, 2)?,
-            [-4294967296, 2147483648],
-            &[i64::MIN],
-        ),
-        (multiply(2, 0, 1, 2)?, [4294967296, 2147483648], &[]),
-        (multiply(2, 0, 1, 2)?, [i64::MIN, -1], &[]),
-        (divide(2, 0, 1, 2)?, [-7, 2], &[-3]),
-        (divide(2, 0, 1, 2)?, [7, -2], &[-3]),
-        (divide(2, 0, 1, 2)?, [i64::MIN, -1], &[]),
-        (divide(2, 0, 1, 2)?, [i64::MIN, 0], &[]),
+    let sums = [([i64::MAX, -1], Some(i64::MAX - 1)), ([i64::MIN, -1], None)];
+    assert_numbers(&rt, alloc, add(2, 0, 1, 2)?, &sums)?;
+    let differences = [
+        ([3, 5], Some(-2)),
+        ([-1, i64::MIN], Some(i64::MAX)),
+        ([0, i64::MIN], None),
+        ([i64::MIN, 1], None),
     ];
-    for (instr, args, reply) in cases {
-        let procedure = procedure_of(alloc, 2, &[instr, emit(2)?, Instr::Return])?;
-        let steps = if reply.is_empty() { 2 } else { 3 };
-        assert_answer(&rt, alloc, &procedure, &args, reply, steps)?;
-    }
-    Ok(())
+    assert_numbers(&rt, alloc, subtract(2, 0, 1, 2)?, &differences)?;
+    let products = [
+        ([-3, 4], Some(-12)),
+        ([-4294967296, 2147483648], Some(i64::MIN)),
+        ([4294967296, 2147483648], None),
+        ([i64::MIN, -1], None),
+    ];
+    assert_numbers(&rt, alloc, multiply(2, 0, 1, 2)?, &products)?;
+    let quotients = [
+        ([-7, 2], Some(-3)),
+        ([7, -2], Some(-3)),
+        ([i64::MIN, -1], None),
+        ([i64::MIN, 0], None),
+    ];
+    assert_numbers(&rt, alloc, divide(2, 0, 1, 2)?, &quotients)
 }
 
 #[test]
