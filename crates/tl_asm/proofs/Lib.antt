@@ -6,3 +6,4 @@ pub mod Resolved
 pub mod Whole
 pub mod Laws
 pub mod Listed
+pub mod Spaced

@@ -16,7 +16,7 @@ searched p xs found n e u =
       | inr not_here ↦ u ∙ ap (λ (o : Option ℕ). unwrap_or o (length xs)) (e ∙ ap (λ (b : Bool). cond b (Some (position_or_len p xs)) None) not_here) ∙ grind (arith, nat_tests, le, not_here)
     ]
 
-one_more : (n : ℕ) → 1 + n ≡ suc n
+pub one_more : (n : ℕ) → 1 + n ≡ suc n
 one_more n = omega arith
 
 abbrev is_word : Word → Bool
