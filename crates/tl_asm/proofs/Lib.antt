@@ -7,3 +7,5 @@ pub mod Whole
 pub mod Laws
 pub mod Listed
 pub mod Spaced
+pub mod Spelled
+pub mod RoundTrip
