@@ -9,3 +9,4 @@ pub mod Listed
 pub mod Spaced
 pub mod Spelled
 pub mod RoundTrip
+pub mod Canonical

@@ -25,14 +25,14 @@ use Rattle.tl_asm.proofs.Spelled.{drafted, instr_again, arity_again, label_line_
 
 -- ---- the words are clean
 
-abbrev clean_byte : ℕ → Bool
+abbrev pub clean_byte : ℕ → Bool
 clean_byte b = not ((b == 32) || ((b == 9) || (b == 13))) && (not (b == 59) && not (b == 10))
 
 not_true : (b : Bool) → not b ≡ true → b ≡ false
 not_true true e = sym e
 not_true false e = refl
 
-clean_if : (w : Word) → list_all clean_byte w ≡ true → Clean w
+pub clean_if : (w : Word) → list_all clean_byte w ≡ true → Clean w
 clean_if [] e = tt
 clean_if (b ∷ w) e =
     let parts = both_true (clean_byte b) (list_all clean_byte w) e in
@@ -44,7 +44,7 @@ clean_word : (w : Word) → 0 < length w → Clean w → IsCleanWord w
 clean_word [] lt h = absurd (omega (arith, lt))
 clean_word (b ∷ w) lt h = h
 
-number_word : (n : ℕ) → n < 2 ^ 64 → IsCleanWord (decimal n)
+pub number_word : (n : ℕ) → n < 2 ^ 64 → IsCleanWord (decimal n)
 number_word n lt = clean_word (decimal n) (decimal_nonempty n lt) (clean_decimal n lt)
 
 signed_word : (z : ℤ) → FitsSigned w32 z → IsCleanWord (signed_decimal z)
@@ -85,7 +85,7 @@ words_clean Return h t = (clean_if (codes "ret") refl, tt)
 -- ---- what the lines say
 
 -- a label, where the position is a target
-abbrev marked : Bool → ℕ → List (Option Said)
+abbrev pub marked : Bool → ℕ → List (Option Said)
 marked true pc = Some (Names (label_word pc)) ∷ []
 marked false pc = []
 
@@ -102,7 +102,7 @@ mark_says false pc rest le = refl
 
 module _ (f : ℕ → Bool) where
   -- what the lines from a position on say, where the positions that pass the test are targets
-  pub said_from : ℕ → List Instr → List (Option Said)
+  unfoldable pub said_from : ℕ → List Instr → List (Option Said)
   said_from pc [] = marked (f pc) pc ++ Some Blank ∷ []
   said_from pc (i ∷ is) = marked (f pc) pc ++ Some (Does (drafted i)) ∷ said_from (pc + 1) is
 

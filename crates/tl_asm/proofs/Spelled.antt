@@ -22,7 +22,7 @@ use Rattle.tl_asm.specs.Listing.{value_word, node_word, label_word, instr_words}
 use lib.Chars.{codes}
 use Rattle.tl_asm.proofs.Numbers.{own}
 
-either_true : (a b : Bool) → b ≡ true → (a || b) ≡ true
+pub either_true : (a b : Bool) → b ≡ true → (a || b) ≡ true
 either_true true b e = refl
 either_true false b e = e
 

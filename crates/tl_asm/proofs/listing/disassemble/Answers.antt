@@ -2,7 +2,7 @@ use Rattle.std.proofs.Common.{rules, ◌≡◌, ◌∙◌, ◌<◌, ◌++◌, le
 use Rattle.std.specs.String.{string_bytes}
 use Rattle.tl_instr.specs.declared.instr.Instr.{Instr}
 use Rattle.tl_asm.specs.Listing.{label_line, instr_line, listing}
-use Rattle.tl_asm.proofs.RoundTrip.{lines_say}
+use Rattle.tl_asm.proofs.Canonical.{canonical}
 use Rattle.tl_asm.proofs.Listed.{one_listed, all_listed}
 use Rattle.tl_asm.proofs.listing.disassemble.Goals as goal
 
