@@ -25,10 +25,10 @@ begin_front xs ys h =
       short = omega arith;
     }
 
-front_of : (ss : List (Option Said)) (k : ℕ) → Begin ss → Begin (take k ss)
+pub front_of : (ss : List (Option Said)) (k : ℕ) → Begin ss → Begin (take k ss)
 front_of ss k h = begin_front (take k ss) (drop k ss) (subst Begin (sym (take-append-drop k ss)) h)
 
-none_some : {A : Type 0} (o : Option A) → o ≡ None → IsSome o → ⊥
+pub none_some : {A : Type 0} (o : Option A) → o ≡ None → IsSome o → ⊥
 none_some None e h = absurd (cc)
 none_some (Some x) e h = absurd (cc)
 

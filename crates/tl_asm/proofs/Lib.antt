@@ -10,3 +10,4 @@ pub mod Spaced
 pub mod Spelled
 pub mod RoundTrip
 pub mod Canonical
+pub mod OneFault
