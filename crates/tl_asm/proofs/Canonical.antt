@@ -1,8 +1,8 @@
 -- The canonical text is that of its code.
-use Rattle.std.proofs.Common.{◌≡◌, ◌≢◌, ℕ, suc, ◌+◌, ◌<◌, ◌≤◌, ◌^◌, List, [], ◌∷◌, ◌++◌, length, map, refl, sym, ◌∙◌, ap, subst, arith, Bool, true, false, ◌==◌, ◌||◌, Option, Some, None, option_map, inl, inr}
+use Rattle.std.proofs.Common.{◌≡◌, ◌≢◌, ℕ, ◌+◌, ◌<◌, ◌≤◌, ◌^◌, List, [], ◌∷◌, ◌++◌, length, map, refl, sym, ◌∙◌, ap, subst, arith, Bool, true, false, ◌==◌, ◌||◌, Option, Some, None, option_map, inl, inr}
 use Rattle.std.specs.Prelude.{IfSome}
 use Rattle.std.specs.Option.{option_map_or}
-use Rattle.std.specs.List.{AllByRecursion, list_any}
+use Rattle.std.specs.List.{AllByRecursion}
 use Rattle.std.specs.Fmt.{decimal}
 use Rattle.std.specs.Str.{bytes_eq}
 use lib.Chars.{codes}
@@ -12,13 +12,13 @@ use Rattle.std.proofs.lemmas.List.Elements.{recursion_from_All}
 use Rattle.tl_instr.specs.declared.instr.Instr.{Instr}
 use Rattle.tl_instr.specs.declared.instr.Instr.TheVariants.{Set, Copy, Add, Subtract, Multiply, Divide, Jump, JumpIfLess, JumpIfEqual, Repeat, End, First, Child, Move, Release, Get, Put, Kids, Emit, Return}
 use Rattle.tl_instr.specs.Codes.{CodeValue, IsCode}
-use Rattle.tl_instr.specs.Instructions.{InRange, IsInstr, GoesWithin, target}
+use Rattle.tl_instr.specs.Instructions.{IsInstr, target}
 use Rattle.tl_asm.specs.Words.{Word}
-use Rattle.tl_asm.specs.Statements.{DraftValue, Said, Blank, Takes, Names, Does, said_in}
+use Rattle.tl_asm.specs.Statements.{DraftValue, Said, Blank, Takes, Does}
 use Rattle.tl_asm.specs.Texts.{Written, Follow, Distinct, statements, with_target, aimed, position_of, labels_in, drafts_in}
 use Rattle.tl_asm.specs.Listing.{label_word, is_target, lines_from, listing}
 use Rattle.tl_asm.proofs.Appends.{same_bytes, bytes_same}
-use Rattle.tl_asm.proofs.Spaced.{line_says, IsCleanWord}
+use Rattle.tl_asm.proofs.Spaced.{line_says}
 use Rattle.tl_asm.proofs.Spelled.{drafted, arity_again, either_true}
 use Rattle.tl_asm.proofs.RoundTrip.{marked, said_from, lines_say, Fits, number_word, clean_if}
 
@@ -43,9 +43,9 @@ distinct_marked false pc rest a d = d
 
 different_bytes : (xs ys : List ℕ) → xs ≢ ys → bytes_eq xs ys ≡ false
 different_bytes xs ys ne = elim (cases_Bool (bytes_eq xs ys)) [
-    | inl same ↦ absurd (ne (bytes_same xs ys same))
-    | inr other ↦ other
-  ]
+  | inl same ↦ absurd (ne (bytes_same xs ys same))
+  | inr other ↦ other
+]
 
 past_marked : (b : Bool) (t pc : ℕ) (rest : List (Option Said)) → label_word t ≢ label_word pc → position_of (labels_in pc (marked b pc ++ rest)) (label_word t) ≡ position_of (labels_in pc rest) (label_word t)
 past_marked true t pc rest ne = rw (different_bytes (label_word t) (label_word pc) ne) refl
@@ -165,8 +165,8 @@ canonical c code =
     let arity = code.arity in
     let small : c.arity < 2 ^ 64 = omega arith in
     let says : statements (listing c) ≡ Some (Takes c.arity) ∷ said_from (is_target c.instrs) 0 c.instrs =
-        line_says (codes "arity" ∷ decimal c.arity ∷ []) (lines_from c.instrs 0 c.instrs) (clean_if (codes "arity") refl, (number_word c.arity small, tt))
-        ∙ (λ j. arity_again c.arity code.arity j ∷ lines_say c.instrs 0 c.instrs (all_fit (length c.instrs) c.instrs most valid) (omega arith) j) in
+    line_says (codes "arity" ∷ decimal c.arity ∷ []) (lines_from c.instrs 0 c.instrs) (clean_if (codes "arity") refl, (number_word c.arity small, tt))
+    ∙ (λ j. arity_again c.arity code.arity j ∷ lines_say c.instrs 0 c.instrs (all_fit (length c.instrs) c.instrs most valid) (omega arith) j) in
     let labels = labels_in 0 (said_from (is_target c.instrs) 0 c.instrs) in
     let each : AllByRecursion (λ i. aimed labels (with_target 0 i) (option_map label_word (target i)) ≡ Some i) c.instrs = all_aimed (length c.instrs) f labels c.instrs (λ t le e. found f t 0 c.instrs (omega arith) (omega arith) (omega arith) e) (targets c.instrs) valid in
     record {

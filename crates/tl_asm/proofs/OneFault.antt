@@ -1,5 +1,5 @@
 -- A text has at most one first fault.
-use Rattle.std.proofs.Common.{◌≡◌, ◌≢◌, ◌⊎◌, ℕ, ◌+◌, ◌<◌, ◌≤◌, List, [], ◌∷◌, ◌++◌, length, take, drop, get_or, Option, Some, None, refl, sym, ◌∙◌, ap, subst, arith, inl, inr, min}
+use Rattle.std.proofs.Common.{◌≡◌, ◌⊎◌, ℕ, ◌+◌, ◌<◌, List, length, take, get_or, Option, Some, refl, sym, ◌∙◌, ap, subst, arith, inl, inr}
 use Rattle.std.specs.Prelude.{IsSome, slice_get}
 use Rattle.std.proofs.lemmas.Bool.{cases_lt, cases_eq}
 use Rattle.std.proofs.lemmas.List.{take-take, length-take-le, get_or-take}
@@ -58,12 +58,12 @@ module _ (ss : List (Option Said)) where
 
   one_line : (f g : AsmFault) → AtLine f → AtLine g → f ≡ g
   one_line f g a b = elim (cases_eq a.k b.k) [
-      | inl same ↦ same_kind b.k f g (subst (λ (k : ℕ). Kind k f) same a.kind) b.kind
-      | inr other ↦ elim (cases_lt a.k b.k) [
-          | inl before ↦ absurd (never_before b.k a.k b.reached a.fails before)
-          | inr after ↦ absurd (never_before a.k b.k a.reached b.fails (omega (arith, other, after)))
-        ]
+    | inl same ↦ same_kind b.k f g (subst (λ (k : ℕ). Kind k f) same a.kind) b.kind
+    | inr other ↦ elim (cases_lt a.k b.k) [
+      | inl before ↦ absurd (never_before b.k a.k b.reached a.fails before)
+      | inr after ↦ absurd (never_before a.k b.k a.reached b.fails (omega (arith, other, after)))
     ]
+  ]
 
   not_astray_before : (m n : ℕ) (a : IsFirstAstray ss m) (b : IsFirstAstray ss n) → a.place < b.place → ⊥
   not_astray_before m n a b lt =
@@ -75,14 +75,14 @@ module _ (ss : List (Option Said)) where
 
   same_astray : (m n : ℕ) → IsFirstAstray ss m → IsFirstAstray ss n → m ≡ n
   same_astray m n a b = elim (cases_eq a.place b.place) [
-      | inl same ↦
-          let one : Some (m, a.draft) ≡ Some (n, b.draft) = sym a.here ∙ ap (slice_get (drafts_in 1 ss)) same ∙ b.here in
-          (let pair : (m, a.draft) ≡ (n, b.draft) = cc in ap (λ (d : ℕ × DraftValue). d.0) pair)
-      | inr other ↦ elim (cases_lt a.place b.place) [
-          | inl before ↦ absurd (not_astray_before m n a b before)
-          | inr after ↦ absurd (not_astray_before n m b a (omega (arith, other, after)))
-        ]
+    | inl same ↦
+        let one : Some (m, a.draft) ≡ Some (n, b.draft) = sym a.here ∙ ap (slice_get (drafts_in 1 ss)) same ∙ b.here in
+        (let pair : (m, a.draft) ≡ (n, b.draft) = cc in ap (λ (d : ℕ × DraftValue). d.0) pair)
+    | inr other ↦ elim (cases_lt a.place b.place) [
+      | inl before ↦ absurd (not_astray_before m n a b before)
+      | inr after ↦ absurd (not_astray_before n m b a (omega (arith, other, after)))
     ]
+  ]
 
   one_end : (f g : AsmFault) → AtEnd f → AtEnd g → f ≡ g
   one_end f g a b = both a.kind b.kind

@@ -1,27 +1,21 @@
 -- The canonical text is that of its code.
-use Rattle.std.proofs.Common.{◌≡◌, ◌≢◌, ℕ, zero, suc, ◌+◌, ◌<◌, ◌≤◌, ◌^◌, List, [], ◌∷◌, ◌++◌, length, map, refl, sym, ◌∙◌, ap, subst, arith, Bool, true, false, ◌==◌, not, ◌||◌, ◌&&◌, Option, Some, None, option_map, inl, inr, append-nil, cond}
-use Rattle.std.specs.Prelude.{ℤ, pos, negsuc, IfSome}
-use Rattle.std.specs.Option.{option_map_or}
-use Rattle.std.specs.List.{AllByRecursion, list_any, list_all, All}
+use Rattle.std.proofs.Common.{◌≡◌, ℕ, suc, ◌+◌, ◌<◌, ◌≤◌, ◌^◌, List, [], ◌∷◌, ◌++◌, length, refl, sym, ◌∙◌, ap, arith, Bool, true, false, ◌==◌, not, ◌||◌, ◌&&◌, Option, Some, append-nil, cond}
+use Rattle.std.specs.Prelude.{ℤ, pos, negsuc}
+use Rattle.std.specs.List.{AllByRecursion, list_all}
 use Rattle.std.specs.Fmt.{decimal, signed_decimal}
-use Rattle.std.specs.Str.{bytes_eq}
 use Rattle.std.specs.Int.{w32}
 use Rattle.std.specs.Int.RustNames.{FitsSigned}
 use lib.Chars.{codes}
-use Rattle.std.proofs.lemmas.Bool.{eq-eqb, cases_eq, cases_Bool}
-use Rattle.std.proofs.lemmas.Fmt.{decimal_nonempty, decimal_injective}
-use Rattle.std.proofs.lemmas.List.Elements.{recursion_from_All}
+use Rattle.std.proofs.lemmas.Fmt.{decimal_nonempty}
 use Rattle.tl_instr.specs.declared.instr.Instr.{Instr}
 use Rattle.tl_instr.specs.declared.instr.Instr.TheVariants.{Set, Copy, Add, Subtract, Multiply, Divide, Jump, JumpIfLess, JumpIfEqual, Repeat, End, First, Child, Move, Release, Get, Put, Kids, Emit, Return}
-use Rattle.tl_instr.specs.Codes.{CodeValue, IsCode}
-use Rattle.tl_instr.specs.Instructions.{InRange, IsInstr, GoesWithin, target}
+use Rattle.tl_instr.specs.Instructions.{InRange, GoesWithin}
 use Rattle.tl_asm.specs.Words.{Word, words_of}
-use Rattle.tl_asm.specs.Statements.{DraftValue, Said, Blank, Takes, Names, Does, said_in}
-use Rattle.tl_asm.specs.Texts.{Written, Follow, Distinct, statements, with_target, aimed, position_of, arity_in, labels_in, drafts_in}
-use Rattle.tl_asm.specs.Listing.{value_word, node_word, label_word, instr_words, line_of, instr_line, is_target, label_line, lines_from, listing}
-use Rattle.tl_asm.proofs.Appends.{same_bytes, bytes_same}
+use Rattle.tl_asm.specs.Statements.{Said, Blank, Names, Does, said_in}
+use Rattle.tl_asm.specs.Texts.{statements}
+use Rattle.tl_asm.specs.Listing.{label_word, instr_words, line_of, instr_line, is_target, label_line, lines_from}
 use Rattle.tl_asm.proofs.Spaced.{Clean, IsCleanWord, clean_decimal, line_says}
-use Rattle.tl_asm.proofs.Spelled.{drafted, instr_again, arity_again, label_line_again, both_true}
+use Rattle.tl_asm.proofs.Spelled.{drafted, instr_again, label_line_again, both_true}
 
 -- ---- the words are clean
 
@@ -120,6 +114,6 @@ lines_say instrs pc [] h le =
 lines_say instrs pc (i ∷ is) h le =
     mark_says (is_target instrs pc) pc (instr_line i ++ lines_from instrs (pc + 1) is) (omega arith)
     ∙ ap (λ (rest : List (Option Said)). marked (is_target instrs pc) pc ++ rest)
-        (line_says (instr_words i) (lines_from instrs (pc + 1) is) (words_clean i h.0.0 h.0.1)
-        ∙ ap (λ (s : Option Said). s ∷ statements (lines_from instrs (pc + 1) is)) (instr_again i h.0.0 h.0.1)
-        ∙ ap (λ (rest : List (Option Said)). Some (Does (drafted i)) ∷ rest) (lines_say instrs (pc + 1) is h.1 (omega arith)))
+    (line_says (instr_words i) (lines_from instrs (pc + 1) is) (words_clean i h.0.0 h.0.1)
+    ∙ ap (λ (s : Option Said). s ∷ statements (lines_from instrs (pc + 1) is)) (instr_again i h.0.0 h.0.1)
+    ∙ ap (λ (rest : List (Option Said)). Some (Does (drafted i)) ∷ rest) (lines_say instrs (pc + 1) is h.1 (omega arith)))

@@ -1,13 +1,13 @@
 -- Words that are written with spaces are read again.
-use Rattle.std.proofs.Common.{◌≡◌, ◌≢◌, ℕ, suc, ◌+◌, ◌<◌, ◌≤◌, ◌^◌, List, [], ◌∷◌, ◌++◌, length, take, refl, sym, ◌∙◌, ap, arith, true, false, ◌==◌, not, ◌||◌, append_assoc, map}
-use Rattle.std.specs.List.{slice_split, onto_first, filter, before_first, position_or_len, AllByRecursion}
+use Rattle.std.proofs.Common.{◌≡◌, ℕ, ◌<◌, ◌≤◌, ◌^◌, List, [], ◌∷◌, ◌++◌, length, refl, sym, ◌∙◌, ap, arith, false, ◌==◌, append_assoc, map}
+use Rattle.std.specs.List.{slice_split, AllByRecursion}
 use Rattle.std.specs.Fmt.{decimal}
 use Rattle.std.specs.Str.Parse.{AllDigits}
 use Rattle.std.proofs.lemmas.Bool.{ne_eqb}
 use Rattle.std.proofs.lemmas.Fmt.{digits_decimal}
 use Rattle.std.proofs.lemmas.Str.Parse.{digit_from_value}
 use Rattle.tl_asm.specs.Words.{Word, lines_of, without_comment, is_blank, words_of}
-use Rattle.tl_asm.specs.Statements.{Said, said_in}
+use Rattle.tl_asm.specs.Statements.{said_in}
 use Rattle.tl_asm.specs.Texts.{statements}
 use Rattle.tl_asm.specs.Listing.{line_of}
 use Rattle.tl_asm.proofs.Searched.{one_more}
@@ -35,9 +35,12 @@ pub clean_digits : (ds : List ℕ) → AllDigits 10 ds → Clean ds
 clean_digits [] h = tt
 clean_digits (d ∷ ds) h =
     let range = digit_from_value d h.0 in
-    let low : 48 ≤ d = range.0 in
-    (rw (ne_eqb d 32 (λ e. omega (arith, e)), ne_eqb d 9 (λ e. omega (arith, e)), ne_eqb d 13 (λ e. omega (arith, e))) refl,
-     ne_eqb d 59 (λ e. let high = range.1 in omega (arith, e)), ne_eqb d 10 (λ e. omega (arith, e)), clean_digits ds h.1)
+    let low : 48 ≤ d = range.0 in (
+      rw (ne_eqb d 32 (λ e. omega (arith, e)), ne_eqb d 9 (λ e. omega (arith, e)), ne_eqb d 13 (λ e. omega (arith, e))) refl,
+      ne_eqb d 59 (λ e. let high = range.1 in omega (arith, e)),
+      ne_eqb d 10 (λ e. omega (arith, e)),
+      clean_digits ds h.1,
+    )
 
 pub clean_decimal : (n : ℕ) → n < 2 ^ 64 → Clean (decimal n)
 clean_decimal n lt = clean_digits (decimal n) (own.to (decimal n) (digits_decimal own n lt))

@@ -1,24 +1,22 @@
 -- Tokens and instructions are read as they are written.
-use Rattle.std.proofs.Common.{◌≡◌, ◌≢◌, ℕ, zero, suc, ◌+◌, ◌<◌, ◌≤◌, ◌^◌, List, [], ◌∷◌, ◌++◌, length, get_or, refl, sym, ◌∙◌, ap, arith, Bool, true, false, ◌==◌, not, ◌||◌, ◌&&◌, Option, Some, None, option_map, inl, inr, nat_lt, slice_index, ◌-◌, length-append}
+use Rattle.std.proofs.Common.{◌≡◌, ◌≢◌, ℕ, zero, suc, ◌<◌, ◌≤◌, ◌^◌, List, [], ◌∷◌, ◌++◌, length, get_or, refl, ◌∙◌, ap, arith, Bool, true, false, ◌==◌, not, ◌||◌, ◌&&◌, Some, option_map, slice_index, ◌-◌, length-append}
 use Rattle.std.proofs.Math.Seq.{get_or-append_seam, take-append_seam}
-use Rattle.std.specs.Prelude.{ℤ, pos, negsuc, IfSome, option_and_then}
+use Rattle.std.specs.Prelude.{ℤ, pos, negsuc}
 use Rattle.std.specs.Int.{w32}
 use Rattle.std.specs.Int.RustNames.{FitsSigned}
 use Rattle.std.specs.Char.{is_ascii_digit}
 use Rattle.std.specs.List.{list_all}
 use Rattle.std.specs.Fmt.{decimal, signed_decimal}
 use Rattle.std.specs.Str.{all_ascii_digits}
-use Rattle.std.specs.Str.Parse.{digits_value}
-use Rattle.std.proofs.lemmas.Bool.{ne_eqb, lt-ltb, cases_Bool}
+use Rattle.std.proofs.lemmas.Bool.{ne_eqb, lt-ltb}
 use Rattle.std.proofs.lemmas.Fmt.{digits_decimal, digits_value-decimal, decimal_nonempty, decimal_digit, first_decimal, length-decimal-le}
 use Rattle.tl_instr.specs.declared.instr.Instr.{Instr}
 use Rattle.tl_instr.specs.declared.instr.Instr.TheVariants.{Set, Copy, Add, Subtract, Multiply, Divide, Jump, JumpIfLess, JumpIfEqual, Repeat, End, First, Child, Move, Release, Get, Put, Kids, Emit, Return}
 use Rattle.tl_instr.specs.Instructions.{InRange, GoesWithin, target}
-use Rattle.tl_asm.specs.Words.{Word}
-use Rattle.tl_asm.specs.Tokens.{is_number, number_in, register_in, value_register, node_register, signed_in, begins_label, continues_label, is_label}
-use Rattle.tl_asm.specs.Statements.{DraftValue, Said, Takes, Names, Does, otherwise_in, alone_in, set_in, copy_in, arithmetic_in, add_in, subtract_in, multiply_in, divide_in, jump_in, comparison_in, jump_if_less_in, jump_if_equal_in, repeat_in, first_in, child_in, move_in, release_in, get_in, put_in, kids_in, emit_in, draft_in, said_in}
+use Rattle.tl_asm.specs.Tokens.{is_number, number_in, register_in, signed_in, continues_label, is_label}
+use Rattle.tl_asm.specs.Statements.{DraftValue, Takes, Names, Does, otherwise_in, alone_in, set_in, copy_in, arithmetic_in, add_in, subtract_in, multiply_in, divide_in, jump_in, comparison_in, jump_if_less_in, jump_if_equal_in, repeat_in, first_in, child_in, move_in, release_in, get_in, put_in, kids_in, emit_in, draft_in, said_in}
 use Rattle.tl_asm.specs.Texts.{with_target}
-use Rattle.tl_asm.specs.Listing.{value_word, node_word, label_word, instr_words}
+use Rattle.tl_asm.specs.Listing.{label_word, instr_words}
 use lib.Chars.{codes}
 use Rattle.tl_asm.proofs.Numbers.{own}
 

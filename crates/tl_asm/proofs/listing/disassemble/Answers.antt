@@ -1,6 +1,5 @@
-use Rattle.std.proofs.Common.{rules, ◌≡◌, ◌∙◌, ◌<◌, ◌++◌, length, get_or, List, ℕ, sym, ap, subst, arith}
+use Rattle.std.proofs.Common.{rules, ◌≡◌, ◌<◌, ◌++◌, length, get_or, List, ℕ, sym, subst}
 use Rattle.std.specs.String.{string_bytes}
-use Rattle.tl_instr.specs.declared.instr.Instr.{Instr}
 use Rattle.tl_asm.specs.Texts.{Written}
 use Rattle.tl_asm.specs.Listing.{label_line, instr_line, listing}
 use Rattle.tl_asm.proofs.Canonical.{canonical}
