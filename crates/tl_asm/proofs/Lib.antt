@@ -11,3 +11,4 @@ pub mod Spelled
 pub mod RoundTrip
 pub mod Canonical
 pub mod OneFault
+pub mod Rows
