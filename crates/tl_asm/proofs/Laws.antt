@@ -1,5 +1,5 @@
 -- A text has one code or one fault.
-use Rattle.std.proofs.Common.{◌≡◌, ◌≢◌, ℕ, ◌+◌, ◌<◌, ◌≤◌, List, [], ◌∷◌, ◌++◌, length, take, drop, map, get_or, Option, Some, None, Result, Ok, Err, refl, sym, ◌∙◌, ap, subst, arith, option_map, is_some, true, false, inl, inr, length-append}
+use Rattle.std.proofs.Common.{◌≡◌, ◌≢◌, ℕ, ◌+◌, List, [], ◌∷◌, ◌++◌, length, take, drop, map, Option, Some, None, Result, Ok, Err, refl, sym, ◌∙◌, ap, subst, arith, inl, inr, length-append}
 use Rattle.std.specs.Prelude.{IsSome, slice_get, IfOk, IfErr, MatchResult}
 use Rattle.std.specs.List.{All}
 use Rattle.std.proofs.lemmas.List.{length-map, take-append-drop}
@@ -9,8 +9,8 @@ use Rattle.tl_instr.specs.Codes.{CodeValue}
 use Rattle.tl_asm.specs.declared.fault.AsmFault.{AsmFault}
 use Rattle.tl_asm.specs.declared.fault.AsmFault.TheVariants.{BadLine, NoLabel, LabelTwice, TooLong, Memory}
 use Rattle.tl_asm.specs.Statements.{DraftValue, Said}
-use Rattle.tl_asm.specs.Texts.{Written, Distinct, statements, aimed, arity_in, labels_in, drafts_in}
-use Rattle.tl_asm.specs.Faults.{Begin, IsReached, IsWhole, FirstFaultIn, FirstFault}
+use Rattle.tl_asm.specs.Texts.{Written, Distinct, statements, aimed, labels_in, drafts_in}
+use Rattle.tl_asm.specs.Faults.{Begin, IsWhole, FirstFaultIn, FirstFault}
 use Rattle.tl_asm.proofs.Appends.{in_place_parts, distinct_front, labels_append, drafts_append}
 use Rattle.tl_asm.proofs.Resolved.{all_aimed}
 
@@ -25,10 +25,10 @@ begin_front xs ys h =
       short = omega arith;
     }
 
-front_of : (ss : List (Option Said)) (k : ℕ) → Begin ss → Begin (take k ss)
+pub front_of : (ss : List (Option Said)) (k : ℕ) → Begin ss → Begin (take k ss)
 front_of ss k h = begin_front (take k ss) (drop k ss) (subst Begin (sym (take-append-drop k ss)) h)
 
-none_some : {A : Type 0} (o : Option A) → o ≡ None → IsSome o → ⊥
+pub none_some : {A : Type 0} (o : Option A) → o ≡ None → IsSome o → ⊥
 none_some None e h = absurd (cc)
 none_some (Some x) e h = absurd (cc)
 

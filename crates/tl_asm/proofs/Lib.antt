@@ -6,3 +6,9 @@ pub mod Resolved
 pub mod Whole
 pub mod Laws
 pub mod Listed
+pub mod Spaced
+pub mod Spelled
+pub mod RoundTrip
+pub mod Canonical
+pub mod OneFault
+pub mod Rows

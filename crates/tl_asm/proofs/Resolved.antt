@@ -1,6 +1,6 @@
 -- From labels to targets.
-use Rattle.std.proofs.Common.{◌≡◌, ◌≢◌, ℕ, zero, suc, ◌+◌, ◌<◌, ◌≤◌, List, [], ◌∷◌, ◌++◌, length, take, map, get_or, Option, Some, None, Bor, refl, sym, ◌∙◌, ap, subst, arith, option_map, is_some, true, add-one}
-use Rattle.std.specs.Prelude.{slice_get, IfSome, IsSome}
+use Rattle.std.proofs.Common.{◌≡◌, ℕ, zero, suc, ◌+◌, ◌<◌, ◌≤◌, List, [], ◌∷◌, ◌++◌, length, take, map, get_or, Option, Some, None, Bor, refl, sym, ◌∙◌, ap, subst, arith, option_map}
+use Rattle.std.specs.Prelude.{slice_get, IsSome}
 use Rattle.std.specs.List.{All, AllByRecursion}
 use Rattle.std.specs.Map.{lookup}
 use Rattle.std.specs.Str.{bytes_eq}
@@ -9,13 +9,11 @@ use Rattle.tl_asm.proofs.Appends.{known_at}
 use Rattle.std.proofs.lemmas.List.{length-map, map-append, take_more, get_or-map, take_all}
 use Rattle.std.proofs.lemmas.Option.{slice_get-get_or}
 use Rattle.tl_instr.specs.declared.instr.Instr.{Instr}
-use Rattle.tl_instr.specs.declared.instr.Instr.TheVariants.{Set, Copy, Add, Subtract, Multiply, Divide, Jump, JumpIfLess, JumpIfEqual, Repeat, End, First, Child, Move, Release, Get, Put, Kids, Emit, Return}
-use Rattle.tl_instr.specs.Instructions.{InRange, IsInstr, GoesWithin, target}
 use Rattle.tl_asm.specs.declared.sketch.Origin.{Origin}
 use Rattle.tl_asm.specs.Words.{Word}
 use Rattle.tl_asm.specs.Statements.{DraftValue}
-use Rattle.tl_asm.specs.Texts.{with_target, aimed, position_of}
-use Rattle.tl_asm.specs.Sketches.{known, traced, drafts_of, IsAstray}
+use Rattle.tl_asm.specs.Texts.{with_target, aimed}
+use Rattle.tl_asm.specs.Sketches.{known, traced, drafts_of}
 
 pub length_drafts : (is : List Instr) (os : List (ℕ × Option Word)) → length os ≡ length is → length (drafts_of is os) ≡ length is
 length_drafts [] os e = refl

@@ -1,12 +1,12 @@
 -- What a search for a byte finds, or the length where it finds none; and what it says of words.
-use Rattle.std.proofs.Common.{◌≡◌, ◌≢◌, ◌<◌, ◌≤◌, ◌+◌, ℕ, zero, suc, List, [], ◌∷◌, length, take, drop, refl, sym, ◌∙◌, ap, Option, Some, None, Bool, true, false, cond, not, ◌==◌, arith, inl, inr, nat_lt}
+use Rattle.std.proofs.Common.{◌≡◌, ◌≢◌, ◌+◌, ℕ, suc, List, [], ◌∷◌, length, take, drop, refl, sym, ◌∙◌, ap, Option, Some, None, Bool, true, cond, not, ◌==◌, arith, inl, inr, nat_lt}
 use Rattle.std.specs.Prelude.{unwrap_or}
-use Rattle.std.specs.List.{position_or_len, prefix_len, slice_split, onto_first, filter}
+use Rattle.std.specs.List.{position_or_len, slice_split, filter}
 use Rattle.std.proofs.lemmas.Bool.{cases_Bool, ne_eqb}
 use Rattle.std.proofs.lemmas.List.Folds.{length-prefix_len}
 use Rattle.std.proofs.lemmas.List.Sums.{prefix_len-le-length}
 use Rattle.std.proofs.lemmas.Bool.Decides.{nat_tests}
-use Rattle.tl_asm.specs.Words.{Word, is_blank, words_of, first_of}
+use Rattle.tl_asm.specs.Words.{Word, is_blank, words_of}
 
 pub searched : (p : ℕ → Bool) (xs : List ℕ) (found : Option ℕ) (n : ℕ) → found ≡ cond (nat_lt (position_or_len p xs) (length xs)) (Some (position_or_len p xs)) None → n ≡ unwrap_or found (length xs) → n ≡ position_or_len p xs
 searched p xs found n e u =
@@ -16,7 +16,7 @@ searched p xs found n e u =
       | inr not_here ↦ u ∙ ap (λ (o : Option ℕ). unwrap_or o (length xs)) (e ∙ ap (λ (b : Bool). cond b (Some (position_or_len p xs)) None) not_here) ∙ grind (arith, nat_tests, le, not_here)
     ]
 
-one_more : (n : ℕ) → 1 + n ≡ suc n
+pub one_more : (n : ℕ) → 1 + n ≡ suc n
 one_more n = omega arith
 
 abbrev is_word : Word → Bool

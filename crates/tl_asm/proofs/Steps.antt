@@ -1,5 +1,5 @@
 -- A line more.
-use Rattle.std.proofs.Common.{◌≡◌, ◌≢◌, ℕ, ◌+◌, ◌<◌, ◌≤◌, List, [], ◌∷◌, ◌++◌, length, take, map, Option, Some, None, refl, sym, ◌∙◌, ap, subst, arith, inl, inr, append-nil, length-append, is_some, not, Bool, true, false, get_or, Bor}
+use Rattle.std.proofs.Common.{◌≡◌, ◌≢◌, ℕ, ◌+◌, ◌<◌, ◌≤◌, List, [], ◌∷◌, ◌++◌, length, take, map, Option, Some, None, refl, sym, ◌∙◌, ap, subst, arith, inl, append-nil, length-append, is_some, not, Bool, true, false, get_or, Bor}
 use Rattle.std.specs.Prelude.{IfSome}
 use Rattle.std.specs.List.{All}
 use Rattle.std.proofs.lemmas.List.{length-map, map-append, take_more, get_or-map}
@@ -11,7 +11,7 @@ use Rattle.tl_instr.specs.Instructions.{IsInstr}
 use Rattle.tl_asm.specs.declared.fault.AsmFault.TheVariants.{BadLine, LabelTwice, TooLong}
 use Rattle.tl_asm.specs.Words.{Word}
 use Rattle.tl_asm.specs.Statements.{DraftValue, Said, Blank, Takes, Names, Does, says}
-use Rattle.tl_asm.specs.Texts.{Follow, InPlace, Distinct, arity_in, labels_in, drafts_in, position_of}
+use Rattle.tl_asm.specs.Texts.{InPlace, Distinct, arity_in, labels_in, drafts_in, position_of}
 use Rattle.tl_asm.specs.Faults.{Begin, IsReached, FirstFaultIn}
 use Rattle.tl_asm.specs.Sketches.{Sketched, said_by}
 use Rattle.tl_asm.proofs.Appends.{Rest, in_place_append, in_place_parts, arity_append_some, arity_append_none, drafts_append, labels_append, distinct_append, unknown, known_twice}

@@ -1,6 +1,6 @@
 -- From a sketch to the code, or to the fault of the text as a whole.
-use Rattle.std.proofs.Common.{◌≡◌, ◌≢◌, ℕ, ◌+◌, ◌<◌, ◌≤◌, List, [], ◌∷◌, ◌++◌, length, take, map, Option, Some, None, Bor, refl, sym, ◌∙◌, ap, subst, arith, option_map, is_some, true, false, inl, inr}
-use Rattle.std.specs.Prelude.{IfSome, IsSome, slice_get}
+use Rattle.std.proofs.Common.{◌≡◌, ℕ, ◌+◌, ◌<◌, ◌≤◌, List, [], ◌∷◌, length, map, Option, Some, None, Bor, refl, sym, ◌∙◌, ap, subst, arith, option_map, inl, inr}
+use Rattle.std.specs.Prelude.{IfSome, IsSome}
 use Rattle.std.specs.List.{All, AllByRecursion}
 use Rattle.std.specs.Str.{bytes_eq}
 use Rattle.std.proofs.lemmas.Bool.{cases_Bool}
@@ -8,9 +8,8 @@ use Rattle.std.proofs.lemmas.List.{length-map}
 use Rattle.std.proofs.lemmas.List.Elements.{All-from_recursion, recursion_from_All}
 use Rattle.tl_instr.specs.declared.instr.Instr.{Instr}
 use Rattle.tl_instr.specs.declared.instr.Instr.TheVariants.{Set, Copy, Add, Subtract, Multiply, Divide, Jump, JumpIfLess, JumpIfEqual, Repeat, End, First, Child, Move, Release, Get, Put, Kids, Emit, Return}
-use Rattle.tl_instr.specs.Codes.{CodeValue, IsCode, IsArity}
+use Rattle.tl_instr.specs.Codes.{IsCode, IsArity}
 use Rattle.tl_instr.specs.Instructions.{InRange, IsInstr, GoesWithin, target}
-use Rattle.tl_asm.specs.declared.fault.AsmFault.{AsmFault}
 use Rattle.tl_asm.specs.declared.fault.AsmFault.TheVariants.{BadLine, NoLabel}
 use Rattle.tl_asm.specs.Words.{Word, lines_of}
 use Rattle.tl_asm.specs.Statements.{DraftValue, Said, Blank, Takes, Names, Does, says}

@@ -1,5 +1,5 @@
 -- The faults: their numbers, and which one comes first.
-use Rattle.std.specs.Prelude.{◌≡◌, ◌⊎◌, ℕ, ◌+◌, ◌<◌, ◌≤◌, List, [], ◌∷◌, length, take, map, Option, Some, None, slice_get, IsSome}
+use Rattle.std.specs.Prelude.{◌≡◌, ◌⊎◌, ℕ, ◌+◌, ◌<◌, ◌≤◌, List, [], ◌∷◌, length, take, Option, Some, None, slice_get, IsSome}
 use Rattle.std.specs.List.{All}
 use Rattle.tl_asm.specs.declared.fault.AsmFault.{AsmFault}
 use Rattle.tl_asm.specs.declared.fault.AsmFault.TheVariants.{BadLine, NoLabel, LabelTwice, TooLong, Memory}

@@ -1,10 +1,10 @@
 -- What a word may be.
-use Rattle.std.specs.Prelude.{◌≡◌, ℕ, ◌+◌, ◌-◌, ◌^◌, List, [], ◌∷◌, length, take, slice_index, Option, Some, None, option_and_then, option_map, Bool, true, false, nat_lt, ℤ, pos, neg_ℤ, ◌==◌, ◌||◌, ◌&&◌, not, if◌then◌else◌}
+use Rattle.std.specs.Prelude.{ℕ, [], ◌∷◌, length, slice_index, Option, Some, None, option_and_then, option_map, Bool, false, nat_lt, ℤ, pos, neg_ℤ, ◌==◌, ◌||◌, ◌&&◌, not, if◌then◌else◌}
 use Rattle.std.specs.List.{list_all}
 use Rattle.std.specs.Char.{is_ascii_alphabetic, is_ascii_alphanumeric}
 use Rattle.std.specs.Str.{all_ascii_digits}
 use Rattle.std.specs.Str.Parse.{digits_value}
-use Rattle.tl_asm.specs.Words.{Word, first_of}
+use Rattle.tl_asm.specs.Words.{Word}
 
 infixl 10 ◌>>=◌
 abbrev pub ◌>>=◌ : {A B : Type 0} → Option A → (A → Option B) → Option B

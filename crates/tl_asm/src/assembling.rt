@@ -1,10 +1,11 @@
 //! From a text to its code.
 
-ghost use Rattle.std.specs.Prelude.{◌≡◌, ◌≢◌, map, IfOk, IfErr, MatchResult};
-ghost use Rattle.tl_instr.specs.Codes.{CodeValue};
+ghost use Rattle.std.specs.Prelude.{◌≡◌, ◌≢◌, ℕ, List, map, IfOk, IfErr, MatchResult};
+ghost use Rattle.tl_instr.specs.Codes.{CodeValue, IsCode};
 ghost use Rattle.tl_asm.specs.Words.{lines_of};
 ghost use Rattle.tl_asm.specs.Texts.{Written};
 ghost use Rattle.tl_asm.specs.Faults.{FirstFault};
+ghost use Rattle.tl_asm.specs.Listing.{listing};
 
 use crate::fault::AsmFault;
 use crate::resolving::resolved;
@@ -54,3 +55,12 @@ pub fn assemble(alloc: Global, text: &str) -> Result<Code, AsmFault>
 {
     code_of(alloc, text)
 }
+
+/// The laws of texts: the canonical text of a code is that code's, no text is that of two codes, a text has a first
+/// fault only where it is no code's, and no more than one. So what is disassembled is assembled to the same code.
+pub fn one_reading()
+    ensures canonical { (c : CodeValue) → IsCode c → Written (listing c) c }
+    ensures one_code { (text : List ℕ) (c d : CodeValue) → Written text c → Written text d → c ≡ d }
+    ensures faultless { (text : List ℕ) (c : CodeValue) (f : AsmFault) → Written text c → ¬ FirstFault text f }
+    ensures one_fault { (text : List ℕ) (f g : AsmFault) → FirstFault text f → FirstFault text g → f ≡ g }
+{}

@@ -2,6 +2,7 @@
 
 ghost use Rattle.std.specs.Prelude.{◌≡◌, IfOk, IfErr};
 ghost use Rattle.std.specs.String.{string_bytes};
+ghost use Rattle.tl_asm.specs.Texts.{Written};
 ghost use Rattle.tl_asm.specs.Listing.{instr_line, label_line, is_target, listing};
 
 use crate::fault::AsmFault;
@@ -151,6 +152,7 @@ fn label_line(alloc: Global, instrs: &[Instr], position: u16) -> Result<String, 
 /// 290 where memory is refused.
 pub fn disassemble(alloc: Global, code: &Code) -> Result<String, AsmFault>
     ensures text { IfOk result (λ text. string_bytes text ≡ listing code.now) }
+    ensures written { IfOk result (λ text. Written (string_bytes text) code.now) }
     ensures memory { IfErr result (λ f. f ≡ AsmFault.Memory) }
 {
     let instrs = code.instrs();

@@ -1,20 +1,18 @@
-use Rattle.std.proofs.Common.{rules, ◌≡◌, ◌≢◌, ◌∙◌, ◌<◌, List, ℕ, Option, Some, None, Ok, refl, sym, ap, subst, arith, map, length, false}
+use Rattle.std.proofs.Common.{rules, ◌≡◌, ◌∙◌, ◌<◌, List, ℕ, Option, Some, Ok, sym, ap, subst, arith, map, length}
 use Rattle.std.specs.Prelude.{IfOk}
 use Rattle.std.proofs.lemmas.Bool.Decides.{nat_tests}
 use Rattle.tl_instr.specs.declared.fault.CodeFault.{CodeFault}
 use Rattle.std.proofs.lemmas.List.{length-map}
 use Rattle.std.proofs.lemmas.Result.{err_from_is_err_and}
 use Rattle.tl_instr.specs.declared.instr.Instr.{Instr}
-use Rattle.tl_instr.specs.Codes.{CodeValue}
 use Rattle.tl_asm.specs.declared.fault.AsmFault.{AsmFault}
 use Rattle.tl_asm.specs.declared.fault.AsmFault.TheVariants.{BadLine, NoLabel}
 use Rattle.tl_asm.specs.declared.sketch.Origin.{Origin}
-use Rattle.tl_asm.specs.Words.{lines_of}
 use Rattle.tl_asm.specs.Statements.{Said, says}
 use Rattle.tl_asm.specs.Texts.{statements, aimed, Written}
 use Rattle.tl_asm.specs.Faults.{FirstFaultIn}
 use Rattle.tl_asm.specs.Sketches.{Sketched, said_by, known, traced, drafts_of, IsAstray}
-use Rattle.tl_asm.proofs.Whole.{same_statements, same_length, no_arity, no_instr, no_label, is_code, written}
+use Rattle.tl_asm.proofs.Whole.{same_statements, no_arity, no_instr, no_label, is_code, written}
 use Rattle.tl_asm.proofs.assembling.code_of.Goals as goal
 
 pub returns-in_err-sketch-clause-fault : goal.returns-in_err-sketch-clause-fault

@@ -1,7 +1,8 @@
-use Rattle.std.proofs.Common.{rules, ◌≡◌, ◌∙◌, ◌<◌, ◌++◌, length, get_or, List, ℕ, sym, ap, arith}
+use Rattle.std.proofs.Common.{rules, ◌≡◌, ◌<◌, ◌++◌, length, get_or, List, ℕ, sym, subst}
 use Rattle.std.specs.String.{string_bytes}
-use Rattle.tl_instr.specs.declared.instr.Instr.{Instr}
+use Rattle.tl_asm.specs.Texts.{Written}
 use Rattle.tl_asm.specs.Listing.{label_line, instr_line, listing}
+use Rattle.tl_asm.proofs.Canonical.{canonical}
 use Rattle.tl_asm.proofs.Listed.{one_listed, all_listed}
 use Rattle.tl_asm.proofs.listing.disassemble.Goals as goal
 
@@ -18,3 +19,6 @@ pub returns-clause-text : goal.returns-clause-text
 returns-clause-text c =
     let last : string_bytes c.push_str-2.new.self ≡ string_bytes c.loop-position.text ++ label_line c.args.code.now.instrs c.count.result = search rules in
     all_listed c.args.code.now.instrs c.loop-position.position c.count.result (string_bytes c.loop-position.text) (string_bytes c.push_str-2.new.self) (listing c.args.code.now) (search rules) (search rules) c.loop-position.invariant last
+
+pub returns-clause-written : goal.returns-clause-written
+returns-clause-written c = subst (λ (text : List ℕ). Written text c.args.code.now) (sym (returns-clause-text c)) (canonical c.args.code.now c.instrs-instrs.ensures.valid)

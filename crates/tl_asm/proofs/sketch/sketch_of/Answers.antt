@@ -1,15 +1,12 @@
-use Rattle.std.proofs.Common.{rules, ◌≡◌, ◌≢◌, ◌<◌, ◌+◌, ◌++◌, ◌∷◌, [], ℕ, List, Option, None, Some, take, length, get_or, sym, ◌∙◌, ap, subst, refl, arith, is_some, true, false, Bor, map, option_map}
-use Rattle.std.proofs.lemmas.Bool.{false≢true}
+use Rattle.std.proofs.Common.{rules, ◌≡◌, ◌≢◌, ◌<◌, ◌+◌, ◌++◌, ◌∷◌, [], ℕ, None, Some, take, length, sym, ◌∙◌, ap, subst, arith, is_some, true, option_map}
 use Rattle.std.proofs.lemmas.List.{length-map, map-append, length-take-le}
 use Rattle.indexmap.proofs.CallerLemmas.{insert_entry-new}
-use Rattle.tl_instr.specs.declared.instr.Instr.{Instr}
 use Rattle.std.specs.Map.{lookup}
 use Rattle.std.specs.Str.{bytes_eq}
 use Rattle.tl_instr.specs.Instructions.{IsInstr}
-use Rattle.tl_asm.specs.Words.{Word}
 use Rattle.tl_asm.specs.Statements.{Said, Blank, Takes, Names, Does, shown, view, says, IsSaid}
 use Rattle.tl_asm.specs.Texts.{position_of}
-use Rattle.tl_asm.specs.Sketches.{Sketched, said_by, known, traced}
+use Rattle.tl_asm.specs.Sketches.{said_by, known, traced}
 use Rattle.tl_asm.proofs.Appends.{known_at}
 use Rattle.tl_asm.proofs.Steps.{bad_line, next_says, no_form, second_arity, early_label, early_instr, twice, too_long, blank_line, arity_line, label_line, instr_line, is_some_given, none_given, none_from, moved, few}
 use Rattle.tl_asm.proofs.sketch.sketch_of.Goals.{in-Blank, in-Takes+else-is_some, in-Names+else-is_none+else-contains_key+in_ok-insert-in-Names, in-Does+else-is_none-2+else-len-eq-MAX_COUNT+in_ok-push-in-Does+in_ok-push-in-Does-2}

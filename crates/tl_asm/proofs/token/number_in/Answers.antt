@@ -1,7 +1,7 @@
-use Rattle.std.proofs.Common.{rules, arith, ◌≡◌, ◌∙◌, sym, None, subst, true, ap, ◌^◌, ◌<◌, Bor, List, ℕ, Ok, Err}
+use Rattle.std.proofs.Common.{rules, arith, ◌≡◌, ◌∙◌, sym, None, subst, true, List, ℕ}
 use Rattle.std.specs.Result.{result_ok}
 use Rattle.std.specs.Str.Parse.{ParsesUnsigned}
-use Rattle.tl_asm.specs.Tokens.{is_number, number_in}
+use Rattle.tl_asm.specs.Tokens.{is_number}
 use Rattle.tl_asm.proofs.Numbers.{is_text, too_large, no_text}
 use Rattle.tl_asm.proofs.token.number_in.Goals as goal
 

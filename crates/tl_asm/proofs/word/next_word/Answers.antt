@@ -1,9 +1,9 @@
-use Rattle.std.proofs.Common.{rules, tests, ◌≡◌, ◌∙◌, ap, take, drop, sym, ◌==◌, ℕ, not, List, Some, None}
+use Rattle.std.proofs.Common.{rules, tests, ◌≡◌, ◌∙◌, ap, drop, ℕ, not}
 use Rattle.std.proofs.lemmas.Iterator.{YieldsList-from_slice}
 use Rattle.std.proofs.lemmas.Iterator.Search.{position_from_yields_List}
 use Rattle.std.proofs.lemmas.List.Sums.{prefix_len-le-length}
 use Rattle.std.specs.List.{position_or_len}
-use Rattle.tl_asm.specs.Words.{Word, is_blank, words_of, first_of}
+use Rattle.tl_asm.specs.Words.{is_blank, first_of}
 use Rattle.tl_asm.proofs.Searched.{searched, no_word, a_word}
 use Rattle.tl_asm.proofs.word.next_word.Goals as goal
 
