@@ -195,11 +195,11 @@ module _ (code : List Instr) where
           let b = split p n m (suc p) in
           let inner = from_times l.count p n (suc p) (omega arith) (λ y le less. factor_in p y l e (omega arith)) in
           let body : cost_from test code (suc p) n (suc p) ≡ cost test code (p + 1) (l.close + 1) =
-              let x : suc p ≡ p + 1 = omega arith in
-              let y : n ≡ l.close + 1 - (p + 1) = omega arith in
-              ap (λ k. cost_from test code (suc p) k (suc p)) y ∙ ap (λ k. cost_from test code k (l.close + 1 - (p + 1)) k) x in
+          let x : suc p ≡ p + 1 = omega arith in
+          let y : n ≡ l.close + 1 - (p + 1) = omega arith in
+          ap (λ k. cost_from test code (suc p) k (suc p)) y ∙ ap (λ k. cost_from test code k (l.close + 1 - (p + 1)) k) x in
           let outer : cost test code (l.close + 1) q ≤ cost_from test code p m (suc p + n) =
-              let h = ap (cost_from test code p m) there in let g = down (l.close + 1 - p) p m (l.close + 1) (omega arith) in omega arith in
+          let h = ap (cost_from test code p m) there in let g = down (l.close + 1 - p) p m (l.close + 1) (omega arith) in omega arith in
           let bodies = ap (λ k. l.count * k) body in
           omega arith
         where

@@ -14,11 +14,18 @@ pub enum Request<'a> {
         args: &'a str,
     },
     /// Write the container of an assembler text.
-    Assemble { text: &'a str, container: &'a str },
+    Assemble {
+        text: &'a str,
+        container: &'a str,
+    },
     /// Print the text of a container.
-    Disassemble { container: &'a str },
+    Disassemble {
+        container: &'a str,
+    },
     /// Print the bounds of a container's procedure.
-    Verify { container: &'a str },
+    Verify {
+        container: &'a str,
+    },
 }
 
 /// What a command line comes to: a request, or a text for the one who wrote it (help among them).
@@ -78,12 +85,11 @@ fn alone_command<'a>(alloc: Global) -> Result<Command<'a>, AllocError> {
 }
 
 // A file that has to be named.
-fn file_arg<'a>(
-    alloc: Global,
-    name: &'static str,
-    help: &'static str,
-) -> Arg<'a> {
-    Arg::new(alloc, name).value_name(name).required(true).help(help)
+fn file_arg<'a>(alloc: Global, name: &'static str, help: &'static str) -> Arg<'a> {
+    Arg::new(alloc, name)
+        .value_name(name)
+        .required(true)
+        .help(help)
 }
 
 fn asm_command<'a>(alloc: Global) -> Result<Command<'a>, AllocError> {
@@ -103,7 +109,9 @@ fn dis_command<'a>(alloc: Global) -> Result<Command<'a>, AllocError> {
 
 fn verify_command<'a>(alloc: Global) -> Result<Command<'a>, AllocError> {
     Command::new(alloc, "verify")
-        .about("Prints what the procedure of a container does at most: steps, locks and emitted values")
+        .about(
+            "Prints what the procedure of a container does at most: steps, locks and emitted values",
+        )
         .after_help(VERIFY_HELP)
         .arg(file_arg(alloc, "IN", "The file of the container"))
 }

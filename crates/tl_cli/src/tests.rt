@@ -142,7 +142,10 @@ fn a_text_is_assembled_shown_and_verified(rt: HostRuntime) -> Result<(), Fail> {
     let text = dis_cmd(alloc, &container)?;
     assert_eq!(rt; text.as_str(), WALK);
     let bounds = verify_cmd(alloc, &container)?;
-    assert_eq!(rt; bounds.as_str(), "{\"bounds\":{\"emits\":1,\"locks\":13,\"steps\":54}}\n");
+    assert_eq!(rt;
+        bounds.as_str(),
+        "{\"bounds\":{\"emits\":1,\"locks\":13,\"steps\":54}}\n"
+    );
     let tree = "{\"parents\":[0,0,1],\"records\":[[0,0,0,0],[0,0,0,0],[7,0,0,0]]}";
     let printed = alone_cmd(alloc, tree.as_bytes(), &container, "[0]")?;
     assert_eq!(rt;

@@ -13,28 +13,67 @@ opcodes =
 
 -- each is an instruction's
 each_is : AllByRecursion IsOpcode opcodes
-each_is =
-    ((Set 0 (pos 0), refl),
-    ((Copy 0 0, refl),
-    ((Add 0 0 0 0, refl),
-    ((Subtract 0 0 0 0, refl),
-    ((Multiply 0 0 0 0, refl),
-    ((Divide 0 0 0 0, refl),
-    ((Jump 0, refl),
-    ((JumpIfLess 0 0 0, refl),
-    ((JumpIfEqual 0 0 0, refl),
-    ((Repeat 0, refl),
-    ((End, refl),
-    ((First 0 0 0, refl),
-    ((Child 0 0 0 0, refl),
-    ((Move 0 0, refl),
-    ((Release 0, refl),
-    ((Get 0 0 0, refl),
-    ((Put 0 0 0, refl),
-    ((Kids 0 0, refl),
-    ((Emit 0, refl),
-    ((Return, refl),
-    tt))))))))))))))))))))
+each_is = (
+  (Set 0 (pos 0), refl),
+  (
+    (Copy 0 0, refl),
+    (
+      (Add 0 0 0 0, refl),
+      (
+        (Subtract 0 0 0 0, refl),
+        (
+          (Multiply 0 0 0 0, refl),
+          (
+            (Divide 0 0 0 0, refl),
+            (
+              (Jump 0, refl),
+              (
+                (JumpIfLess 0 0 0, refl),
+                (
+                  (JumpIfEqual 0 0 0, refl),
+                  (
+                    (Repeat 0, refl),
+                    (
+                      (End, refl),
+                      (
+                        (First 0 0 0, refl),
+                        (
+                          (Child 0 0 0 0, refl),
+                          (
+                            (Move 0 0, refl),
+                            (
+                              (Release 0, refl),
+                              (
+                                (Get 0 0 0, refl),
+                                (
+                                  (Put 0 0 0, refl),
+                                  (
+                                    (Kids 0 0, refl),
+                                    (
+                                      (Emit 0, refl),
+                                      (
+                                        (Return, refl),
+                                        tt,
+                                      ),
+                                    ),
+                                  ),
+                                ),
+                              ),
+                            ),
+                          ),
+                        ),
+                      ),
+                    ),
+                  ),
+                ),
+              ),
+            ),
+          ),
+        ),
+      ),
+    ),
+  ),
+)
 
 -- each instruction has one of them
 is_listed : (i : Instr) → list_any (λ y. eqb y (cell_of i).opcode) opcodes ≡ true
