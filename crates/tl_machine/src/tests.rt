@@ -1,4 +1,7 @@
 use crate::alone_run::alone;
+use crate::segment::local;
+use crate::turn::Turn;
+use crate::want::Want;
 use std::alloc::Global;
 use std::process::Abort;
 use std::sync::Arc;
@@ -607,5 +610,55 @@ fn a_missing_argument_is_told(rt: HostRuntime) -> Result<(), Fail> {
     let fault = alone(&procedure, &[0], &mut tree).err().ok_or("accepted")?;
     assert_eq!(rt; fault.numbers().as_slice(), [501].as_slice());
     assert_eq!(rt; tree.records(), [[5, 0, 0, 0]].as_slice());
+    Ok(())
+}
+
+#[test]
+fn a_turn_is_driven_by_what_it_wants(rt: HostRuntime) -> Result<(), Fail> {
+    let alloc = rt.alloc();
+    let shape = Arc::new(alloc, Shape::new(alloc, &[0, 0, 0])?)?;
+    let mut turn = Turn::start(look(alloc)?, shape, &[2])?;
+    let mut wants = Vec::new(alloc);
+    for _ in 0..6 {
+        let want = turn.want();
+        wants.push(want)?;
+        match want {
+            Want::Local => {
+                turn.step();
+            }
+            Want::Lock(_) => turn.lock([20, 0, 0, 0]),
+            Want::Free(_) => {
+                let left = turn.free();
+                assert_eq!(rt; left, [20, 0, 0, 0]);
+            }
+            Want::Return => {
+                let reply = turn.finish();
+                assert_eq!(rt; reply.values(), [20].as_slice());
+            }
+            Want::Over => {}
+        }
+    }
+    let expected = [
+        Want::Lock(2),
+        Want::Local,
+        Want::Local,
+        Want::Free(2),
+        Want::Return,
+        Want::Over,
+    ];
+    assert_eq!(rt; wants.as_slice(), expected.as_slice());
+    assert_eq!(rt; turn.call().steps, 5);
+    Ok(())
+}
+
+#[test]
+fn a_segment_is_what_a_call_does_by_itself(rt: HostRuntime) -> Result<(), Fail> {
+    let alloc = rt.alloc();
+    let shape = Arc::new(alloc, Shape::new(alloc, &[0, 0, 0])?)?;
+    let turn = Turn::start(look(alloc)?, shape, &[-1])?;
+    let segment = local(turn);
+    assert_eq!(rt; segment.from().steps, 0);
+    assert_eq!(rt; segment.to().steps, 1);
+    assert_eq!(rt; segment.stop(), Want::Return);
     Ok(())
 }
