@@ -14,3 +14,6 @@ pub mod Moves
 pub mod Going
 pub mod Wanting
 pub mod Turning
+pub mod Sitting
+pub mod Marching
+pub mod Lasting
