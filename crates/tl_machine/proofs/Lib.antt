@@ -17,3 +17,4 @@ pub mod Turning
 pub mod Sitting
 pub mod Marching
 pub mod Lasting
+pub mod Beginning

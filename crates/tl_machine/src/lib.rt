@@ -5,6 +5,7 @@ pub mod alone_run;
 pub mod attempt;
 pub mod call;
 pub mod fault;
+pub mod laws;
 pub mod loops;
 pub mod nodes;
 pub mod reply;

@@ -1,0 +1,34 @@
+// What is so of every call alone.
+
+ghost use Rattle.std.specs.Prelude.{◌≡◌, ℕ, ℤ, List, [], length};
+ghost use Rattle.tl_tree.specs.Records.{Records, record_at};
+ghost use Rattle.tl_tree.specs.Shape.{IsTree};
+ghost use Rattle.tl_instr.specs.Codes.{CodeValue, IsCode};
+ghost use Rattle.tl_protocol.specs.Actions.{left_in, emitted as replies, PermittedAfter};
+ghost use Rattle.tl_protocol.specs.Alone.{EndsOnce, Finds, all_taken};
+ghost use Rattle.tl_verify.specs.Acceptable.{Acceptable};
+ghost use Rattle.tl_machine.specs.Alone.{alone as run_alone};
+ghost use Rattle.tl_machine.specs.Outcomes.{outcome_of};
+
+/// A call alone, of an accepted code on any tree of the shape and with any arguments, obeys the tree protocol: its first
+/// lock is of any node, each later one of a node whose parent it holds, and no node is locked twice; what it reads, writes
+/// or frees it holds; it ends, once, and holds nothing then.
+pub fn alone_obeys()
+    ensures obeys { (c : CodeValue) (parents : List ℕ) (args : List ℤ) (t : Records) → IsCode c → Acceptable c.instrs → IsTree parents → length t ≡ length parents
+        → PermittedAfter parents [] (outcome_of (run_alone c.instrs parents args t)).actions }
+    ensures ends { (c : CodeValue) (parents : List ℕ) (args : List ℤ) (t : Records) → IsCode c → Acceptable c.instrs → IsTree parents → length t ≡ length parents
+        → EndsOnce (outcome_of (run_alone c.instrs parents args t)).actions }
+{}
+
+/// Each lock of a call alone is of a node of the tree and finds its record. The call leaves what it freed, and all other
+/// records as they were. Its reply is what it emitted, in order.
+pub fn alone_finds_and_leaves()
+    ensures finds { (c : CodeValue) (parents : List ℕ) (args : List ℤ) (t : Records) → IsCode c → Acceptable c.instrs → IsTree parents → length t ≡ length parents
+        → Finds t (outcome_of (run_alone c.instrs parents args t)).actions }
+    ensures size { (c : CodeValue) (parents : List ℕ) (args : List ℤ) (t : Records) → IsCode c → Acceptable c.instrs → IsTree parents → length t ≡ length parents
+        → length (outcome_of (run_alone c.instrs parents args t)).records ≡ length t }
+    ensures leaves { (c : CodeValue) (parents : List ℕ) (args : List ℤ) (t : Records) → IsCode c → Acceptable c.instrs → IsTree parents → length t ≡ length parents
+        → (x : ℕ) → record_at (outcome_of (run_alone c.instrs parents args t)).records x ≡ left_in (all_taken (outcome_of (run_alone c.instrs parents args t)).actions) x (record_at t x) }
+    ensures reply { (c : CodeValue) (parents : List ℕ) (args : List ℤ) (t : Records) → IsCode c → Acceptable c.instrs → IsTree parents → length t ≡ length parents
+        → (outcome_of (run_alone c.instrs parents args t)).reply ≡ replies (all_taken (outcome_of (run_alone c.instrs parents args t)).actions) }
+{}
