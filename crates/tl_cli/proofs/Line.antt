@@ -6,7 +6,8 @@ use Rattle.serde_json.specs.Written.{has_float, compact_text}
 use Rattle.serde_json.proofs.OnLiterals.{serde_json_on_literals}
 use Rattle.tl_tree.specs.Writing.{integer_data, integers_data, list_text, tree_text}
 use Rattle.tl_tree.specs.Trees.{TreeValue}
-use Rattle.tl_machine.specs.Outcomes.{Outcome, IsAnswer}
+use Rattle.tl_protocol.specs.Alone.{Outcome}
+use Rattle.tl_machine.specs.Outcomes.{IsAnswer}
 use Rattle.tl_tree.proofs.Texts.{integers_whole, record_written}
 use Rattle.tl_cli.specs.Alone.{answer_text, printed}
 
@@ -28,12 +29,12 @@ answer_written reply steps =
 
 pub printed_from : (t now : TreeValue) (o : Outcome) (reply : List ℤ) (steps : ℕ) (first after out : List ℕ)
     → IsAnswer o reply steps
-    → now ≡ record t { records = o.records }
+    → now ≡ record t { records = o.tree }
     → first ≡ answer_text reply steps
     → after ≡ tree_text now
     → out ≡ first ++ 10 ∷ after ++ 10 ∷ []
     → out ≡ printed t o
 printed_from t now o reply steps first after out answer now_is first_is after_is out_is =
     let line : first ≡ answer_text o.reply (length o.actions) = first_is ∙ ap₂ answer_text answer.reply_is answer.steps_are in
-    let tree : after ≡ tree_text (record t { records = o.records }) = after_is ∙ ap tree_text now_is in
+    let tree : after ≡ tree_text (record t { records = o.tree }) = after_is ∙ ap tree_text now_is in
     out_is ∙ ap₂ (λ a b. a ++ 10 ∷ b ++ 10 ∷ []) line tree

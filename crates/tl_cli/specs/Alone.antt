@@ -14,7 +14,8 @@ use Rattle.tl_verify.specs.Acceptable.{Acceptable}
 use Rattle.tl_verify.specs.Findings.{IsFirstFault}
 use Rattle.tl_verify.specs.declared.fault.VerifyFault.TheVariants as verify
 use Rattle.tl_machine.specs.Alone.{alone}
-use Rattle.tl_machine.specs.Outcomes.{Outcome, outcome_of}
+use Rattle.tl_protocol.specs.Alone.{Outcome}
+use Rattle.tl_machine.specs.Outcomes.{outcome_of}
 use Rattle.tl_cli.specs.declared.fault.CliFault.{CliFault}
 use Rattle.tl_cli.specs.declared.fault.CliFault.TheVariants.{Unreadable, Unwritable, NotUtf8, Asm, Tree, Code, Verify, NotArgs, WrongArgs, Memory}
 
@@ -24,7 +25,7 @@ answer_text reply steps = codes "{\"reply\":" ++ list_text signed_decimal reply 
 
 -- two lines: the answer, and the tree as it is then
 abbrev pub printed : TreeValue → Outcome → List ℕ
-printed t o = answer_text o.reply (length o.actions) ++ 10 ∷ tree_text (record t { records = o.records }) ++ 10 ∷ []
+printed t o = answer_text o.reply (length o.actions) ++ 10 ∷ tree_text (record t { records = o.tree }) ++ 10 ∷ []
 
 -- the arguments that a text stands for
 abbrev pub args_of_text : List ℕ → Option (List ℤ)

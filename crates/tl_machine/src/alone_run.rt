@@ -29,7 +29,7 @@ fn run(procedure: &Proc, mut call: CallState, tree: &mut Tree) -> Answer
     requires steps { call.steps ≡ 0 }
     requires emits { call.emit_count ≡ 0 }
     ensures answer { IsAnswer (outcome_of (run_left procedure.now.instrs tree.old.parents call tree.old.records)) result.reply result.steps }
-    ensures tree { tree.new ≡ record tree.old { records = (outcome_of (run_left procedure.now.instrs tree.old.parents call tree.old.records)).records } }
+    ensures tree { tree.new ≡ record tree.old { records = (outcome_of (run_left procedure.now.instrs tree.old.parents call tree.old.records)).tree } }
 {
     loop {
         match attempt(procedure, tree.shape(), &mut call) {
@@ -60,7 +60,7 @@ pub fn alone(procedure: &Arc<Proc>, args: &[i64], tree: &mut Tree) -> Result<Ans
     ensures wrong { IsOk result ↔ (length args.now ≡ (arc_value procedure.now).arity) }
     ensures unchanged { OnErr result (tree.new ≡ tree.old) }
     ensures answer { IfOk result (λ a. IsAnswer (outcome_of (run_alone (arc_value procedure.now).instrs tree.old.parents args.now tree.old.records)) a.reply a.steps) }
-    ensures tree { IfOk result (λ _. tree.new ≡ record tree.old { records = (outcome_of (run_alone (arc_value procedure.now).instrs tree.old.parents args.now tree.old.records)).records }) }
+    ensures tree { IfOk result (λ _. tree.new ≡ record tree.old { records = (outcome_of (run_alone (arc_value procedure.now).instrs tree.old.parents args.now tree.old.records)).tree }) }
 {
     let call = start(procedure, tree.shape(), args)?;
     Ok(run(procedure, call, tree))

@@ -26,9 +26,9 @@ pub fn alone_finds_and_leaves()
     ensures finds { (c : CodeValue) (parents : List ℕ) (args : List ℤ) (t : Records) → IsCode c → Acceptable c.instrs → IsTree parents → length t ≡ length parents
         → Finds t (outcome_of (run_alone c.instrs parents args t)).actions }
     ensures size { (c : CodeValue) (parents : List ℕ) (args : List ℤ) (t : Records) → IsCode c → Acceptable c.instrs → IsTree parents → length t ≡ length parents
-        → length (outcome_of (run_alone c.instrs parents args t)).records ≡ length t }
+        → length (outcome_of (run_alone c.instrs parents args t)).tree ≡ length t }
     ensures leaves { (c : CodeValue) (parents : List ℕ) (args : List ℤ) (t : Records) → IsCode c → Acceptable c.instrs → IsTree parents → length t ≡ length parents
-        → (x : ℕ) → record_at (outcome_of (run_alone c.instrs parents args t)).records x ≡ left_in (all_taken (outcome_of (run_alone c.instrs parents args t)).actions) x (record_at t x) }
+        → (x : ℕ) → record_at (outcome_of (run_alone c.instrs parents args t)).tree x ≡ left_in (all_taken (outcome_of (run_alone c.instrs parents args t)).actions) x (record_at t x) }
     ensures reply { (c : CodeValue) (parents : List ℕ) (args : List ℤ) (t : Records) → IsCode c → Acceptable c.instrs → IsTree parents → length t ≡ length parents
         → (outcome_of (run_alone c.instrs parents args t)).reply ≡ replies (all_taken (outcome_of (run_alone c.instrs parents args t)).actions) }
 {}
