@@ -17,4 +17,5 @@ pub mod Turning
 pub mod Sitting
 pub mod Marching
 pub mod Lasting
+pub mod Twins
 pub mod Beginning
