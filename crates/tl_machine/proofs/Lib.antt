@@ -6,7 +6,9 @@ pub mod Families
 pub mod Registers
 pub mod Effects
 pub mod Rooms
+pub mod Tallies
 pub mod Steps
+pub mod LoopRooms
 pub mod Looping
 pub mod Attempting
 pub mod Standing

@@ -1,11 +1,12 @@
 // What is so of every call alone.
 
-ghost use Rattle.std.specs.Prelude.{◌≡◌, ℕ, ℤ, List, [], length};
+ghost use Rattle.std.specs.Prelude.{◌≡◌, ℕ, ◌≤◌, ℤ, List, [], length};
 ghost use Rattle.tl_tree.specs.Records.{Records, record_at};
 ghost use Rattle.tl_tree.specs.Shape.{IsTree};
 ghost use Rattle.tl_instr.specs.Codes.{CodeValue, IsCode};
-ghost use Rattle.tl_protocol.specs.Actions.{left_in, emitted as replies, PermittedAfter};
+ghost use Rattle.tl_protocol.specs.Actions.{left_in, emitted as replies, lock_count, PermittedAfter};
 ghost use Rattle.tl_protocol.specs.Alone.{EndsOnce, Finds, IsAlone, all_taken};
+ghost use Rattle.tl_budget.specs.Loops.{budget, lock_bound, emit_bound};
 ghost use Rattle.tl_verify.specs.Acceptable.{Acceptable};
 ghost use Rattle.tl_machine.specs.Alone.{alone as run_alone};
 ghost use Rattle.tl_machine.specs.Outcomes.{outcome_of, meaning};
@@ -41,4 +42,15 @@ pub fn alone_finds_and_leaves()
 pub fn alone_is_alone()
     ensures { (c : CodeValue) (parents : List ℕ) (args : List ℤ) → IsCode c → Acceptable c.instrs → IsTree parents
         → IsAlone parents (meaning c.instrs parents args) }
+{}
+
+/// A call alone keeps within the bounds of its code: it does no more actions, locks no more nodes and emits no more values
+/// than the sums of the weights allow.
+pub fn alone_within_bounds()
+    ensures steps { (c : CodeValue) (parents : List ℕ) (args : List ℤ) (t : Records) → IsCode c → Acceptable c.instrs → IsTree parents → length t ≡ length parents
+        → length (outcome_of (run_alone c.instrs parents args t)).actions ≤ budget c.instrs }
+    ensures locks { (c : CodeValue) (parents : List ℕ) (args : List ℤ) (t : Records) → IsCode c → Acceptable c.instrs → IsTree parents → length t ≡ length parents
+        → lock_count (all_taken (outcome_of (run_alone c.instrs parents args t)).actions) ≤ lock_bound c.instrs }
+    ensures emits { (c : CodeValue) (parents : List ℕ) (args : List ℤ) (t : Records) → IsCode c → Acceptable c.instrs → IsTree parents → length t ≡ length parents
+        → length (outcome_of (run_alone c.instrs parents args t)).reply ≤ emit_bound c.instrs }
 {}
