@@ -1,6 +1,7 @@
 pub mod RunLaws
 pub mod LeftLaws
 pub mod Frames
+pub mod Slots
 pub mod Copies
 pub mod Families
 pub mod Registers
