@@ -8,30 +8,29 @@ ghost use Rattle.tl_protocol.specs.Actions.{left_in, emitted as replies, lock_co
 ghost use Rattle.tl_protocol.specs.Alone.{EndsOnce, Finds, IsAlone, all_taken};
 ghost use Rattle.tl_budget.specs.Loops.{budget, lock_bound, emit_bound};
 ghost use Rattle.tl_verify.specs.Acceptable.{Acceptable};
-ghost use Rattle.tl_machine.specs.Alone.{alone as run_alone};
-ghost use Rattle.tl_machine.specs.Outcomes.{outcome_of, meaning};
+ghost use Rattle.tl_machine.specs.Outcomes.{meaning};
 
 /// A call alone, of an accepted code on any tree of the shape and with any arguments, obeys the tree protocol: its first
 /// lock is of any node, each later one of a node whose parent it holds, and no node is locked twice; what it reads, writes
 /// or frees it holds; it ends, once, and holds nothing then.
 pub fn alone_obeys()
     ensures obeys { (c : CodeValue) (parents : List ℕ) (args : List ℤ) (t : Records) → IsCode c → Acceptable c.instrs → IsTree parents → length t ≡ length parents
-        → PermittedAfter parents [] (outcome_of (run_alone c.instrs parents args t)).actions }
+        → PermittedAfter parents [] (meaning c.instrs parents args t).actions }
     ensures ends { (c : CodeValue) (parents : List ℕ) (args : List ℤ) (t : Records) → IsCode c → Acceptable c.instrs → IsTree parents → length t ≡ length parents
-        → EndsOnce (outcome_of (run_alone c.instrs parents args t)).actions }
+        → EndsOnce (meaning c.instrs parents args t).actions }
 {}
 
 /// Each lock of a call alone is of a node of the tree and finds its record. The call leaves what it freed, and all other
 /// records as they were. Its reply is what it emitted, in order.
 pub fn alone_finds_and_leaves()
     ensures finds { (c : CodeValue) (parents : List ℕ) (args : List ℤ) (t : Records) → IsCode c → Acceptable c.instrs → IsTree parents → length t ≡ length parents
-        → Finds t (outcome_of (run_alone c.instrs parents args t)).actions }
+        → Finds t (meaning c.instrs parents args t).actions }
     ensures size { (c : CodeValue) (parents : List ℕ) (args : List ℤ) (t : Records) → IsCode c → Acceptable c.instrs → IsTree parents → length t ≡ length parents
-        → length (outcome_of (run_alone c.instrs parents args t)).tree ≡ length t }
+        → length (meaning c.instrs parents args t).tree ≡ length t }
     ensures leaves { (c : CodeValue) (parents : List ℕ) (args : List ℤ) (t : Records) → IsCode c → Acceptable c.instrs → IsTree parents → length t ≡ length parents
-        → (x : ℕ) → record_at (outcome_of (run_alone c.instrs parents args t)).tree x ≡ left_in (all_taken (outcome_of (run_alone c.instrs parents args t)).actions) x (record_at t x) }
+        → (x : ℕ) → record_at (meaning c.instrs parents args t).tree x ≡ left_in (all_taken (meaning c.instrs parents args t).actions) x (record_at t x) }
     ensures reply { (c : CodeValue) (parents : List ℕ) (args : List ℤ) (t : Records) → IsCode c → Acceptable c.instrs → IsTree parents → length t ≡ length parents
-        → (outcome_of (run_alone c.instrs parents args t)).reply ≡ replies (all_taken (outcome_of (run_alone c.instrs parents args t)).actions) }
+        → (meaning c.instrs parents args t).reply ≡ replies (all_taken (meaning c.instrs parents args t).actions) }
 {}
 
 /// What an accepted code does alone, with any arguments on trees of any shape, is all that the protocol asks of a call. On
@@ -48,9 +47,9 @@ pub fn alone_is_alone()
 /// than the sums of the weights allow.
 pub fn alone_within_bounds()
     ensures steps { (c : CodeValue) (parents : List ℕ) (args : List ℤ) (t : Records) → IsCode c → Acceptable c.instrs → IsTree parents → length t ≡ length parents
-        → length (outcome_of (run_alone c.instrs parents args t)).actions ≤ budget c.instrs }
+        → length (meaning c.instrs parents args t).actions ≤ budget c.instrs }
     ensures locks { (c : CodeValue) (parents : List ℕ) (args : List ℤ) (t : Records) → IsCode c → Acceptable c.instrs → IsTree parents → length t ≡ length parents
-        → lock_count (all_taken (outcome_of (run_alone c.instrs parents args t)).actions) ≤ lock_bound c.instrs }
+        → lock_count (all_taken (meaning c.instrs parents args t).actions) ≤ lock_bound c.instrs }
     ensures emits { (c : CodeValue) (parents : List ℕ) (args : List ℤ) (t : Records) → IsCode c → Acceptable c.instrs → IsTree parents → length t ≡ length parents
-        → length (outcome_of (run_alone c.instrs parents args t)).reply ≤ emit_bound c.instrs }
+        → length (meaning c.instrs parents args t).reply ≤ emit_bound c.instrs }
 {}
