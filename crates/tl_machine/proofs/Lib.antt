@@ -1,12 +1,15 @@
 pub mod RunLaws
 pub mod LeftLaws
 pub mod Frames
+pub mod Slots
 pub mod Copies
 pub mod Families
 pub mod Registers
 pub mod Effects
 pub mod Rooms
+pub mod Tallies
 pub mod Steps
+pub mod LoopRooms
 pub mod Looping
 pub mod Attempting
 pub mod Standing
@@ -17,4 +20,5 @@ pub mod Turning
 pub mod Sitting
 pub mod Marching
 pub mod Lasting
+pub mod Twins
 pub mod Beginning

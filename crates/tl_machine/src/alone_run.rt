@@ -2,6 +2,7 @@
 
 ghost use Rattle.std.specs.Prelude.{◌≡◌, ◌≢◌, ◌↔◌, ℕ, List, length, IsErr, IsOk, IfOk, OnErr, ◌≤◌, Option};
 ghost use Rattle.std.specs.Arc.{arc_value};
+ghost use Rattle.tl_budget.specs.Loops.{budget};
 ghost use Rattle.tl_machine.specs.Stands.{Stands, run_left};
 ghost use Rattle.tl_machine.specs.Outcomes.{IsAnswer, outcome_of};
 ghost use Rattle.tl_machine.specs.Alone.{alone as run_alone};
@@ -29,6 +30,7 @@ fn run(procedure: &Proc, mut call: CallState, tree: &mut Tree) -> Answer
     requires steps { call.steps ≡ 0 }
     requires emits { call.emit_count ≡ 0 }
     ensures answer { IsAnswer (outcome_of (run_left procedure.now.instrs tree.old.parents call tree.old.records)) result.reply result.steps }
+    ensures within { result.steps ≤ budget procedure.now.instrs }
     ensures tree { tree.new ≡ record tree.old { records = (outcome_of (run_left procedure.now.instrs tree.old.parents call tree.old.records)).tree } }
 {
     loop {
@@ -60,6 +62,7 @@ pub fn alone(procedure: &Arc<Proc>, args: &[i64], tree: &mut Tree) -> Result<Ans
     ensures wrong { IsOk result ↔ (length args.now ≡ (arc_value procedure.now).arity) }
     ensures unchanged { OnErr result (tree.new ≡ tree.old) }
     ensures answer { IfOk result (λ a. IsAnswer (outcome_of (run_alone (arc_value procedure.now).instrs tree.old.parents args.now tree.old.records)) a.reply a.steps) }
+    ensures within { IfOk result (λ a. a.steps ≤ budget (arc_value procedure.now).instrs) }
     ensures tree { IfOk result (λ _. tree.new ≡ record tree.old { records = (outcome_of (run_alone (arc_value procedure.now).instrs tree.old.parents args.now tree.old.records)).tree }) }
 {
     let call = start(procedure, tree.shape(), args)?;

@@ -1,34 +1,55 @@
 // What is so of every call alone.
 
-ghost use Rattle.std.specs.Prelude.{◌≡◌, ℕ, ℤ, List, [], length};
+ghost use Rattle.std.specs.Prelude.{◌≡◌, ℕ, ◌≤◌, ℤ, List, [], length};
 ghost use Rattle.tl_tree.specs.Records.{Records, record_at};
 ghost use Rattle.tl_tree.specs.Shape.{IsTree};
 ghost use Rattle.tl_instr.specs.Codes.{CodeValue, IsCode};
-ghost use Rattle.tl_protocol.specs.Actions.{left_in, emitted as replies, PermittedAfter};
-ghost use Rattle.tl_protocol.specs.Alone.{EndsOnce, Finds, all_taken};
+ghost use Rattle.tl_protocol.specs.Actions.{left_in, emitted as replies, lock_count, PermittedAfter};
+ghost use Rattle.tl_protocol.specs.Alone.{EndsOnce, Finds, IsAlone, all_taken};
+ghost use Rattle.tl_budget.specs.Loops.{budget, lock_bound, emit_bound};
 ghost use Rattle.tl_verify.specs.Acceptable.{Acceptable};
-ghost use Rattle.tl_machine.specs.Alone.{alone as run_alone};
-ghost use Rattle.tl_machine.specs.Outcomes.{outcome_of};
+ghost use Rattle.tl_machine.specs.Outcomes.{meaning};
 
 /// A call alone, of an accepted code on any tree of the shape and with any arguments, obeys the tree protocol: its first
 /// lock is of any node, each later one of a node whose parent it holds, and no node is locked twice; what it reads, writes
 /// or frees it holds; it ends, once, and holds nothing then.
 pub fn alone_obeys()
     ensures obeys { (c : CodeValue) (parents : List ℕ) (args : List ℤ) (t : Records) → IsCode c → Acceptable c.instrs → IsTree parents → length t ≡ length parents
-        → PermittedAfter parents [] (outcome_of (run_alone c.instrs parents args t)).actions }
+        → PermittedAfter parents [] (meaning c.instrs parents args t).actions }
     ensures ends { (c : CodeValue) (parents : List ℕ) (args : List ℤ) (t : Records) → IsCode c → Acceptable c.instrs → IsTree parents → length t ≡ length parents
-        → EndsOnce (outcome_of (run_alone c.instrs parents args t)).actions }
+        → EndsOnce (meaning c.instrs parents args t).actions }
 {}
 
 /// Each lock of a call alone is of a node of the tree and finds its record. The call leaves what it freed, and all other
 /// records as they were. Its reply is what it emitted, in order.
 pub fn alone_finds_and_leaves()
     ensures finds { (c : CodeValue) (parents : List ℕ) (args : List ℤ) (t : Records) → IsCode c → Acceptable c.instrs → IsTree parents → length t ≡ length parents
-        → Finds t (outcome_of (run_alone c.instrs parents args t)).actions }
+        → Finds t (meaning c.instrs parents args t).actions }
     ensures size { (c : CodeValue) (parents : List ℕ) (args : List ℤ) (t : Records) → IsCode c → Acceptable c.instrs → IsTree parents → length t ≡ length parents
-        → length (outcome_of (run_alone c.instrs parents args t)).tree ≡ length t }
+        → length (meaning c.instrs parents args t).tree ≡ length t }
     ensures leaves { (c : CodeValue) (parents : List ℕ) (args : List ℤ) (t : Records) → IsCode c → Acceptable c.instrs → IsTree parents → length t ≡ length parents
-        → (x : ℕ) → record_at (outcome_of (run_alone c.instrs parents args t)).tree x ≡ left_in (all_taken (outcome_of (run_alone c.instrs parents args t)).actions) x (record_at t x) }
+        → (x : ℕ) → record_at (meaning c.instrs parents args t).tree x ≡ left_in (all_taken (meaning c.instrs parents args t).actions) x (record_at t x) }
     ensures reply { (c : CodeValue) (parents : List ℕ) (args : List ℤ) (t : Records) → IsCode c → Acceptable c.instrs → IsTree parents → length t ≡ length parents
-        → (outcome_of (run_alone c.instrs parents args t)).reply ≡ replies (all_taken (outcome_of (run_alone c.instrs parents args t)).actions) }
+        → (meaning c.instrs parents args t).reply ≡ replies (all_taken (meaning c.instrs parents args t).actions) }
+{}
+
+/// What an accepted code does alone, with any arguments on trees of any shape, is all that the protocol asks of a call. On
+/// two trees of the shape it does the same, action by action, up to the first lock, if any, that finds different records
+/// in them: so the records of a tree change nothing of it before a lock finds them. Its locks find the tree's records, it
+/// obeys the tree protocol, it ends once, it leaves what it freed and all other records as they were, and its reply is
+/// what it emitted.
+pub fn alone_is_alone()
+    ensures { (c : CodeValue) (parents : List ℕ) (args : List ℤ) → IsCode c → Acceptable c.instrs → IsTree parents
+        → IsAlone parents (meaning c.instrs parents args) }
+{}
+
+/// A call alone keeps within the bounds of its code: it does no more actions, locks no more nodes and emits no more values
+/// than the sums of the weights allow.
+pub fn alone_within_bounds()
+    ensures steps { (c : CodeValue) (parents : List ℕ) (args : List ℤ) (t : Records) → IsCode c → Acceptable c.instrs → IsTree parents → length t ≡ length parents
+        → length (meaning c.instrs parents args t).actions ≤ budget c.instrs }
+    ensures locks { (c : CodeValue) (parents : List ℕ) (args : List ℤ) (t : Records) → IsCode c → Acceptable c.instrs → IsTree parents → length t ≡ length parents
+        → lock_count (all_taken (meaning c.instrs parents args t).actions) ≤ lock_bound c.instrs }
+    ensures emits { (c : CodeValue) (parents : List ℕ) (args : List ℤ) (t : Records) → IsCode c → Acceptable c.instrs → IsTree parents → length t ≡ length parents
+        → length (meaning c.instrs parents args t).reply ≤ emit_bound c.instrs }
 {}

@@ -1,7 +1,7 @@
 use Rattle.std.proofs.Common.{refl, sym, ap, ◌∙◌, ℕ, List, [], take}
 use Rattle.tl_tree.specs.Trees.{TreeValue}
 use Rattle.tl_tree.specs.Records.{Records}
-use Rattle.tl_machine.proofs.Going.{done_on, lock_on, lock_inside, free_on, free_inside, finish_on, finish_emits}
+use Rattle.tl_machine.proofs.Going.{done_on, lock_on, lock_inside, free_on, free_inside, finish_on, finish_emits, finish_within}
 use Rattle.tl_machine.proofs.alone_run.run.Goals as goal
 
 pub loop-node-init : goal.loop-node-init
@@ -71,3 +71,9 @@ returns-in-Finish-clause-tree c =
     let h = (finish_on _ _ _ _ same _ _ _ _ c.shape.ensures.whole.count c.loop-node.invariant.so_far c.in-Finish.ensures (rw again at c.finish.ensures)).1 in
     let tree = λ (ps : List ℕ) (rs : Records). let t : TreeValue = record { parents = ps; records = rs } in t in
     ap (λ ps. tree ps c.loop-node.tree.records) c.loop-node.invariant.shape ∙ ap (tree c.args.tree.now.parents) h
+
+pub returns-in-Finish-clause-within : goal.returns-in-Finish-clause-within
+returns-in-Finish-clause-within c =
+    let same = c.deref.ensures ∙ c.shape.ensures.shape in
+    let again = c.deref-in-Finish.ensures ∙ c.shape-in-Finish.ensures.shape ∙ sym same in
+    finish_within _ _ _ _ same _ _ _ _ c.shape.ensures.whole.count c.loop-node.invariant.so_far c.in-Finish.ensures (rw again at c.finish.ensures)
