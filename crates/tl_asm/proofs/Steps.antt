@@ -2,23 +2,24 @@
 use Rattle.std.proofs.Common.{◌≡◌, ◌≢◌, ℕ, ◌+◌, ◌<◌, ◌≤◌, List, [], ◌∷◌, ◌++◌, length, take, map, Option, Some, None, refl, sym, ◌∙◌, ap, subst, arith, inl, append-nil, length-append, is_some, not, Bool, true, false, get_or, Bor}
 use Rattle.std.specs.Prelude.{IfSome}
 use Rattle.std.specs.List.{All}
-use Rattle.std.proofs.lemmas.List.{length-map, map-append, take_more, get_or-map}
+use Rattle.std.proofs.lemmas.List.{length-map, length-take-le, map-append, take_more, get_or-map}
 use Rattle.std.proofs.lemmas.List.Elements.{All-push}
 use Rattle.std.proofs.lemmas.Bool.{false≢true}
 use Rattle.tl_instr.specs.declared.instr.Instr.{Instr}
 use Rattle.tl_instr.specs.Codes.{IsArity}
 use Rattle.tl_instr.specs.Instructions.{IsInstr}
-use Rattle.tl_asm.specs.declared.fault.AsmFault.TheVariants.{BadLine, LabelTwice, TooLong}
+use Rattle.tl_asm.specs.declared.fault.AsmFault.{AsmFault}
+use Rattle.tl_asm.specs.declared.fault.AsmFault.TheVariants.{BadLine, NoLabel, LabelTwice, TooLong, Memory}
 use Rattle.tl_asm.specs.Words.{Word}
 use Rattle.tl_asm.specs.Statements.{DraftValue, Said, Blank, Takes, Names, Does, says}
 use Rattle.tl_asm.specs.Texts.{InPlace, Distinct, arity_in, labels_in, drafts_in, position_of}
-use Rattle.tl_asm.specs.Faults.{Begin, IsReached, FirstFaultIn}
-use Rattle.tl_asm.specs.Sketches.{Sketched, said_by}
+use Rattle.tl_asm.specs.Faults.{Begin, FirstFaultIn}
+use Rattle.tl_asm.specs.Sketches.{Sketched, IsWrongLast, said_by}
 use Rattle.tl_asm.proofs.Appends.{Rest, in_place_append, in_place_parts, arity_append_some, arity_append_none, drafts_append, labels_append, distinct_append, unknown, known_twice}
 
 -- a line that has no place after the lines before it
-pub bad_line : (ss : List (Option Said)) (k : ℕ) (s : Option Said) → k < length ss → Begin (take k ss) → take (k + 1) ss ≡ take k ss ++ s ∷ [] → ¬ Rest (arity_in (take k ss)) (s ∷ []) → FirstFaultIn ss (BadLine (k + 1))
-bad_line ss k s lt begin here bad = inl (k, refl, record { inside = lt; before = begin }, λ h. bad (in_place_parts (take k ss) (s ∷ []) (subst InPlace here h)).1)
+pub misplaced : (ss : List (Option Said)) (s : Option Said) → ¬ Rest (arity_in ss) (s ∷ []) → ¬ InPlace (ss ++ s ∷ [])
+misplaced ss s bad h = bad (in_place_parts ss (s ∷ []) h).1
 
 pub no_form : (o : Option ℕ) → ¬ Rest o (None ∷ [])
 no_form None h = h
@@ -114,32 +115,32 @@ module _ (xs : List (Option Said)) (given : Option ℕ) (entries : List (Word ×
       (sym (ap (map (λ d. (d.0, d.1.label))) drafts ∙ map-append (λ d. (d.0, d.1.label)) (drafts_in 1 xs) ((length xs + 1, d) ∷ []) ∙ ap (λ (l : List (ℕ × Option Word)). l ++ (length xs + 1, d.label) ∷ []) (sym sk.origins)))
       (All-push (IsInstr 0) is d.instr sk.in_range range)
 
--- the lines before k make a sketch
-module _ (ss : List (Option Said)) (k : ℕ) (given : Option ℕ) (entries : List (Word × ℕ)) (is : List Instr) (lines : List (ℕ × Option Word)) (lt : k < length ss) (sk : Sketched (take k ss) given entries is lines) where
-  reached : IsReached ss k
-  reached = record { inside = lt; before = sk.begin }
-
-  pub twice : (label : Word) → take (k + 1) ss ≡ take k ss ++ Some (Names label) ∷ [] → given ≢ None → is_some (position_of entries label) ≡ true → FirstFaultIn ss (LabelTwice (k + 1))
-  twice label here some found = (
-    k,
-    refl,
-    reached,
-    subst InPlace (sym here) (in_place_append (take k ss) (Some (Names label) ∷ []) sk.begin.in_place (label_follows (arity_in (take k ss)) label (λ e. some (sk.arity ∙ e)))),
-    λ h. known_twice entries label (length is) found (subst Distinct (ap (labels_in 0) here ∙ label_labels (take k ss) given entries is lines sk label) h),
+  pub twice : (label : Word) → given ≢ None → is_some (position_of entries label) ≡ true → InPlace (xs ++ Some (Names label) ∷ []) × ¬ Distinct (labels_in 0 (xs ++ Some (Names label) ∷ []))
+  twice label some found = (
+    in_place_append xs (Some (Names label) ∷ []) sk.begin.in_place (label_follows (arity_in xs) label (λ e. some (sk.arity ∙ e))),
+    λ h. known_twice entries label (length is) found (subst Distinct (label_labels label) h),
   )
 
-  pub too_long : (d : DraftValue) → take (k + 1) ss ≡ take k ss ++ Some (Does d) ∷ [] → given ≢ None → length is ≡ 1024 → FirstFaultIn ss TooLong
-  too_long d here some full =
-      let labels : labels_in 0 (take (k + 1) ss) ≡ labels_in 0 (take k ss) = ap (labels_in 0) here ∙ labels_append 0 1 (take k ss) (Some (Does d) ∷ []) ∙ append-nil (labels_in 0 (take k ss)) in
-      let drafts : drafts_in 1 (take (k + 1) ss) ≡ drafts_in 1 (take k ss) ++ (1 + length (take k ss), d) ∷ [] = ap (drafts_in 1) here ∙ drafts_append 1 (take k ss) (Some (Does d) ∷ []) in
-      let many = count (take k ss) given entries is lines sk in
-      let longer = length-append (drafts_in 1 (take k ss)) ((1 + length (take k ss), d) ∷ []) in (
-        k,
-        reached,
-        subst InPlace (sym here) (in_place_append (take k ss) (Some (Does d) ∷ []) sk.begin.in_place (instr_follows (arity_in (take k ss)) d (λ e. some (sk.arity ∙ e)))),
+  pub too_long : (d : DraftValue) → given ≢ None → length is ≡ 1024 → InPlace (xs ++ Some (Does d) ∷ []) × Distinct (labels_in 0 (xs ++ Some (Does d) ∷ [])) × (1024 < length (drafts_in 1 (xs ++ Some (Does d) ∷ [])))
+  too_long d some full =
+      let labels : labels_in 0 (xs ++ Some (Does d) ∷ []) ≡ labels_in 0 xs = labels_append 0 1 xs (Some (Does d) ∷ []) ∙ append-nil (labels_in 0 xs) in
+      let drafts : drafts_in 1 (xs ++ Some (Does d) ∷ []) ≡ drafts_in 1 xs ++ (1 + length xs, d) ∷ [] = drafts_append 1 xs (Some (Does d) ∷ []) in
+      let longer = length-append (drafts_in 1 xs) ((1 + length xs, d) ∷ []) in (
+        in_place_append xs (Some (Does d) ∷ []) sk.begin.in_place (instr_follows (arity_in xs) d (λ e. some (sk.arity ∙ e))),
         subst Distinct (sym labels) sk.begin.distinct,
-        rw (drafts, longer, many, full) (omega arith),
+        rw (drafts, longer, count, full) (omega arith),
       )
+
+-- what is wrong with a line, where those before it begin a text, is the lines' first fault
+first_wrong : (ss : List (Option Said)) (k : ℕ) (f : AsmFault) → k < length ss → Begin (take k ss) → IsWrongLast (take (k + 1) ss) f → FirstFaultIn ss f
+first_wrong ss k (BadLine n) lt begin (e, bad) = inl (k, e ∙ length-take-le (k + 1) ss (omega arith), record { inside = lt; before = begin }, bad)
+first_wrong ss k (LabelTwice n) lt begin (e, place, bad) = (k, e ∙ length-take-le (k + 1) ss (omega arith), record { inside = lt; before = begin }, place, bad)
+first_wrong ss k TooLong lt begin (place, distinct, many) = (k, record { inside = lt; before = begin }, place, distinct, many)
+first_wrong ss k (NoLabel n) lt begin bad = absurd bad
+first_wrong ss k Memory lt begin bad = bad
+
+pub first_fault : (ss : List (Option Said)) (k : ℕ) (s : Option Said) (f : AsmFault) → k < length ss → Begin (take k ss) → take (k + 1) ss ≡ take k ss ++ s ∷ [] → IsWrongLast (take k ss ++ s ∷ []) f → FirstFaultIn ss f
+first_fault ss k s f lt begin here wrong = first_wrong ss k f lt begin (subst (λ (xs : List (Option Said)). IsWrongLast xs f) (sym here) wrong)
 
 -- what the lines up to this one say
 pub next_says : (lines : List (Bor (List ℕ))) (k : ℕ) (d : Bor (List ℕ)) (s : Option Said) → k < length lines → says (get_or lines k d).now ≡ s → take (k + 1) (said_by lines) ≡ take k (said_by lines) ++ s ∷ []

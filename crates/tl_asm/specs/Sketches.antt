@@ -1,14 +1,17 @@
 -- What a sketch has of the lines that it was made from.
-use Rattle.std.specs.Prelude.{◌≡◌, ℕ, List, [], ◌∷◌, map, take, Option, Some, None, option_map, IfSome, IsSome, slice_get}
+use Rattle.std.specs.Prelude.{◌≡◌, ◌<◌, ℕ, List, [], ◌∷◌, map, take, Option, Some, None, option_map, IfSome, IsSome, slice_get, length}
 use Rattle.std.specs.Borrow.{Bor}
 use Rattle.std.specs.List.{All}
 use Rattle.tl_instr.specs.declared.instr.Instr.{Instr}
 use Rattle.tl_instr.specs.Codes.{IsArity}
 use Rattle.tl_instr.specs.Instructions.{IsInstr}
+use Rattle.tl_asm.specs.declared.fault.AsmFault.{AsmFault}
+use Rattle.tl_asm.specs.declared.fault.AsmFault.TheVariants.{BadLine, NoLabel, LabelTwice, TooLong, Memory}
 use Rattle.tl_asm.specs.declared.sketch.Origin.{Origin}
+use Rattle.tl_asm.specs.declared.sketch.Sketch.{Sketch}
 use Rattle.tl_asm.specs.Words.{Word}
 use Rattle.tl_asm.specs.Statements.{DraftValue, Said, says}
-use Rattle.tl_asm.specs.Texts.{arity_in, labels_in, drafts_in, aimed}
+use Rattle.tl_asm.specs.Texts.{InPlace, Distinct, arity_in, labels_in, drafts_in, aimed}
 use Rattle.tl_asm.specs.Faults.{Begin}
 
 -- what lines in memory say
@@ -31,6 +34,18 @@ pub record Sketched (ss : List (Option Said)) (given : Option ℕ) (entries : Li
   pub instrs : is ≡ map (λ d. d.1.instr) (drafts_in 1 ss)
   pub origins : lines ≡ map (λ d. (d.0, d.1.label)) (drafts_in 1 ss)
   pub in_range : All (IsInstr 0) is
+
+-- The sketch is that of these lines.
+abbrev pub IsSketch : List (Option Said) → Sketch → Type 0
+IsSketch ss s = Sketched ss s.arity (known s.labels.entries) s.instrs.items (traced s.origins.items)
+
+-- what is wrong with the last of these lines, where those before it begin a text
+abbrev pub IsWrongLast : List (Option Said) → AsmFault → Type 0
+IsWrongLast ss (BadLine n) = (n ≡ length ss) × ¬ InPlace ss
+IsWrongLast ss (LabelTwice n) = (n ≡ length ss) × InPlace ss × ¬ Distinct (labels_in 0 ss)
+IsWrongLast ss TooLong = InPlace ss × Distinct (labels_in 0 ss) × (1024 < length (drafts_in 1 ss))
+IsWrongLast ss (NoLabel n) = ⊥
+IsWrongLast ss Memory = ⊥
 
 -- instructions with their origins
 abbrev pub drafts_of : List Instr → List (ℕ × Option Word) → List (ℕ × DraftValue)

@@ -1,14 +1,16 @@
 //! The canonical text of a code.
 
-ghost use Rattle.std.specs.Prelude.{◌≡◌, IfOk, IfErr};
+ghost use Rattle.std.specs.Prelude.{◌≡◌, ◌∷◌, [], codes, decimal, IfOk, IfErr};
+ghost use Rattle.std.specs.Fmt.{signed_decimal};
 ghost use Rattle.std.specs.String.{string_bytes};
 ghost use Rattle.tl_asm.specs.Texts.{Written};
-ghost use Rattle.tl_asm.specs.Listing.{instr_line, label_line, is_target, listing};
+ghost use Rattle.tl_asm.specs.Listing.{line_of, value_word, node_word, label_word, instr_line, label_line, is_target, listing};
 
 use crate::fault::AsmFault;
 use std::alloc::Global;
 use tl_instr::code::Code;
 use tl_instr::instr::Instr;
+use tl_instr::operand::{Field, NodeRegister, ValueRegister};
 
 /// Whether control may go to this position.
 fn is_target(instrs: &[Instr], position: u16) -> bool
@@ -17,118 +19,197 @@ fn is_target(instrs: &[Instr], position: u16) -> bool
     instrs.iter().any(|instr| instr.target() == Some(position))
 }
 
+// The line of `add`, `sub`, `mul` or `div`.
+fn arithmetic_line(
+    alloc: Global,
+    name: &str,
+    to: ValueRegister,
+    left: ValueRegister,
+    right: ValueRegister,
+    otherwise: u16,
+) -> Result<String, AsmFault>
+    ensures line { IfOk result (λ line. string_bytes line ≡ line_of (name.now ∷ value_word to ∷ value_word left ∷ value_word right ∷ codes "else" ∷ label_word otherwise ∷ [])) }
+    ensures memory { IfErr result (λ f. f ≡ AsmFault.Memory) }
+{
+    Ok(format!(in alloc;
+        "{name} v{} v{} v{} else L{otherwise}\n",
+        to.number(),
+        left.number(),
+        right.number()
+    )?)
+}
+
+// The line of `jlt` or `jeq`.
+fn comparison_line(
+    alloc: Global,
+    name: &str,
+    left: ValueRegister,
+    right: ValueRegister,
+    target: u16,
+) -> Result<String, AsmFault>
+    ensures line { IfOk result (λ line. string_bytes line ≡ line_of (name.now ∷ value_word left ∷ value_word right ∷ label_word target ∷ [])) }
+    ensures memory { IfErr result (λ f. f ≡ AsmFault.Memory) }
+{
+    Ok(format!(in alloc; "{name} v{} v{} L{target}\n", left.number(), right.number())?)
+}
+
+fn set_line(alloc: Global, to: ValueRegister, number: i32) -> Result<String, AsmFault>
+    ensures line { IfOk result (λ line. string_bytes line ≡ line_of (codes "set" ∷ value_word to ∷ signed_decimal number ∷ [])) }
+    ensures memory { IfErr result (λ f. f ≡ AsmFault.Memory) }
+{
+    Ok(format!(in alloc; "set v{} {number}\n", to.number())?)
+}
+
+fn copy_line(alloc: Global, to: ValueRegister, from: ValueRegister) -> Result<String, AsmFault>
+    ensures line { IfOk result (λ line. string_bytes line ≡ line_of (codes "copy" ∷ value_word to ∷ value_word from ∷ [])) }
+    ensures memory { IfErr result (λ f. f ≡ AsmFault.Memory) }
+{
+    Ok(format!(in alloc; "copy v{} v{}\n", to.number(), from.number())?)
+}
+
+fn first_line(
+    alloc: Global,
+    to: NodeRegister,
+    number: ValueRegister,
+    otherwise: u16,
+) -> Result<String, AsmFault>
+    ensures line { IfOk result (λ line. string_bytes line ≡ line_of (codes "first" ∷ node_word to ∷ value_word number ∷ codes "else" ∷ label_word otherwise ∷ [])) }
+    ensures memory { IfErr result (λ f. f ≡ AsmFault.Memory) }
+{
+    Ok(format!(in alloc;
+        "first n{} v{} else L{otherwise}\n",
+        to.number(),
+        number.number()
+    )?)
+}
+
+fn child_line(
+    alloc: Global,
+    to: NodeRegister,
+    parent: NodeRegister,
+    number: ValueRegister,
+    otherwise: u16,
+) -> Result<String, AsmFault>
+    ensures line { IfOk result (λ line. string_bytes line ≡ line_of (codes "child" ∷ node_word to ∷ node_word parent ∷ value_word number ∷ codes "else" ∷ label_word otherwise ∷ [])) }
+    ensures memory { IfErr result (λ f. f ≡ AsmFault.Memory) }
+{
+    Ok(format!(in alloc;
+        "child n{} n{} v{} else L{otherwise}\n",
+        to.number(),
+        parent.number(),
+        number.number()
+    )?)
+}
+
+fn move_line(alloc: Global, to: NodeRegister, from: NodeRegister) -> Result<String, AsmFault>
+    ensures line { IfOk result (λ line. string_bytes line ≡ line_of (codes "move" ∷ node_word to ∷ node_word from ∷ [])) }
+    ensures memory { IfErr result (λ f. f ≡ AsmFault.Memory) }
+{
+    Ok(format!(in alloc; "move n{} n{}\n", to.number(), from.number())?)
+}
+
+fn get_line(
+    alloc: Global,
+    to: ValueRegister,
+    node: NodeRegister,
+    field: Field,
+) -> Result<String, AsmFault>
+    ensures line { IfOk result (λ line. string_bytes line ≡ line_of (codes "get" ∷ value_word to ∷ node_word node ∷ decimal field ∷ [])) }
+    ensures memory { IfErr result (λ f. f ≡ AsmFault.Memory) }
+{
+    Ok(format!(in alloc;
+        "get v{} n{} {}\n",
+        to.number(),
+        node.number(),
+        field.number()
+    )?)
+}
+
+fn put_line(
+    alloc: Global,
+    node: NodeRegister,
+    field: Field,
+    from: ValueRegister,
+) -> Result<String, AsmFault>
+    ensures line { IfOk result (λ line. string_bytes line ≡ line_of (codes "put" ∷ node_word node ∷ decimal field ∷ value_word from ∷ [])) }
+    ensures memory { IfErr result (λ f. f ≡ AsmFault.Memory) }
+{
+    Ok(format!(in alloc;
+        "put n{} {} v{}\n",
+        node.number(),
+        field.number(),
+        from.number()
+    )?)
+}
+
+fn kids_line(alloc: Global, to: ValueRegister, node: NodeRegister) -> Result<String, AsmFault>
+    ensures line { IfOk result (λ line. string_bytes line ≡ line_of (codes "kids" ∷ value_word to ∷ node_word node ∷ [])) }
+    ensures memory { IfErr result (λ f. f ≡ AsmFault.Memory) }
+{
+    Ok(format!(in alloc; "kids v{} n{}\n", to.number(), node.number())?)
+}
+
 /// The instruction's line.
 fn instr_line(alloc: Global, instr: &Instr) -> Result<String, AsmFault>
     ensures line { IfOk result (λ line. string_bytes line ≡ instr_line instr.now) }
     ensures memory { IfErr result (λ f. f ≡ AsmFault.Memory) }
 {
     match *instr {
-        Instr::Set { to, number } => Ok(format!(in alloc; "set v{} {number}\n", to.number())?),
-        Instr::Copy { to, from } => Ok(format!(in alloc;
-            "copy v{} v{}\n",
-            to.number(),
-            from.number()
-        )?),
+        Instr::Set { to, number } => set_line(alloc, to, number),
+        Instr::Copy { to, from } => copy_line(alloc, to, from),
         Instr::Add {
             to,
             left,
             right,
             otherwise,
-        } => Ok(format!(in alloc;
-            "add v{} v{} v{} else L{otherwise}\n",
-            to.number(),
-            left.number(),
-            right.number()
-        )?),
+        } => arithmetic_line(alloc, "add", to, left, right, otherwise),
         Instr::Subtract {
             to,
             left,
             right,
             otherwise,
-        } => Ok(format!(in alloc;
-            "sub v{} v{} v{} else L{otherwise}\n",
-            to.number(),
-            left.number(),
-            right.number()
-        )?),
+        } => arithmetic_line(alloc, "sub", to, left, right, otherwise),
         Instr::Multiply {
             to,
             left,
             right,
             otherwise,
-        } => Ok(format!(in alloc;
-            "mul v{} v{} v{} else L{otherwise}\n",
-            to.number(),
-            left.number(),
-            right.number()
-        )?),
+        } => arithmetic_line(alloc, "mul", to, left, right, otherwise),
         Instr::Divide {
             to,
             left,
             right,
             otherwise,
-        } => Ok(format!(in alloc;
-            "div v{} v{} v{} else L{otherwise}\n",
-            to.number(),
-            left.number(),
-            right.number()
-        )?),
+        } => arithmetic_line(alloc, "div", to, left, right, otherwise),
         Instr::Jump { target } => Ok(format!(in alloc; "jmp L{target}\n")?),
         Instr::JumpIfLess {
             left,
             right,
             target,
-        } => Ok(format!(in alloc; "jlt v{} v{} L{target}\n", left.number(), right.number())?),
+        } => comparison_line(alloc, "jlt", left, right, target),
         Instr::JumpIfEqual {
             left,
             right,
             target,
-        } => Ok(format!(in alloc; "jeq v{} v{} L{target}\n", left.number(), right.number())?),
+        } => comparison_line(alloc, "jeq", left, right, target),
         Instr::Repeat { count } => Ok(format!(in alloc; "rep {count}\n")?),
         Instr::End => Ok(format!(in alloc; "end\n")?),
         Instr::First {
             to,
             number,
             otherwise,
-        } => Ok(format!(in alloc;
-            "first n{} v{} else L{otherwise}\n",
-            to.number(),
-            number.number()
-        )?),
+        } => first_line(alloc, to, number, otherwise),
         Instr::Child {
             to,
             parent,
             number,
             otherwise,
-        } => Ok(format!(in alloc;
-            "child n{} n{} v{} else L{otherwise}\n",
-            to.number(),
-            parent.number(),
-            number.number()
-        )?),
-        Instr::Move { to, from } => Ok(format!(in alloc;
-            "move n{} n{}\n",
-            to.number(),
-            from.number()
-        )?),
+        } => child_line(alloc, to, parent, number, otherwise),
+        Instr::Move { to, from } => move_line(alloc, to, from),
         Instr::Release { node } => Ok(format!(in alloc; "rel n{}\n", node.number())?),
-        Instr::Get { to, node, field } => Ok(format!(in alloc;
-            "get v{} n{} {}\n",
-            to.number(),
-            node.number(),
-            field.number()
-        )?),
-        Instr::Put { node, field, from } => Ok(format!(in alloc;
-            "put n{} {} v{}\n",
-            node.number(),
-            field.number(),
-            from.number()
-        )?),
-        Instr::Kids { to, node } => Ok(format!(in alloc;
-            "kids v{} n{}\n",
-            to.number(),
-            node.number()
-        )?),
+        Instr::Get { to, node, field } => get_line(alloc, to, node, field),
+        Instr::Put { node, field, from } => put_line(alloc, node, field, from),
+        Instr::Kids { to, node } => kids_line(alloc, to, node),
         Instr::Emit { from } => Ok(format!(in alloc; "emit v{}\n", from.number())?),
         Instr::Return => Ok(format!(in alloc; "ret\n")?),
     }

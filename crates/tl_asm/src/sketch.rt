@@ -1,8 +1,11 @@
 //! The lines of a text, before targets are known.
 
-ghost use Rattle.std.specs.Prelude.{◌≢◌, IfOk, IfErr};
+ghost use Rattle.std.specs.Prelude.{◌≡◌, ◌≢◌, ◌+◌, ◌≤◌, ◌++◌, ◌∷◌, [], List, Option, Some, length, IfOk, IfErr};
+ghost use Rattle.tl_instr.specs.Codes.{IsArity};
+ghost use Rattle.tl_instr.specs.Instructions.{IsInstr};
 ghost use Rattle.tl_asm.specs.Faults.{FirstFaultIn};
-ghost use Rattle.tl_asm.specs.Sketches.{Sketched, said_by, known, traced};
+ghost use Rattle.tl_asm.specs.Statements.{Said, Takes, Names, Does, view};
+ghost use Rattle.tl_asm.specs.Sketches.{IsSketch, IsWrongLast, said_by};
 
 use crate::draft::Draft;
 use crate::fault::AsmFault;
@@ -29,15 +32,75 @@ pub struct Sketch<'a> {
     pub origins: Vec<Origin<'a>>,
 }
 
+impl<'a> Sketch<'a> {
+    /// A sketch of no lines.
+    fn new(alloc: Global) -> Sketch<'a>
+        ensures { IsSketch [] result }
+    {
+        Sketch {
+            arity: None,
+            labels: IndexMap::new(alloc),
+            instrs: Vec::new(alloc),
+            origins: Vec::new(alloc),
+        }
+    }
+
+    /// The next line has the arity.
+    fn take_arity(&mut self, line: u64, arity: u8) -> Result<(), AsmFault>
+        requires { IsArity arity }
+        ensures grown { (ss : List (Option Said)) → IsSketch ss self.old → IfOk result (λ _. IsSketch (ss ++ Some (Takes arity) ∷ []) self.new) }
+        ensures fault { (ss : List (Option Said)) → IsSketch ss self.old → line ≡ length ss + 1 → IfErr result (λ f. f ≢ AsmFault.Memory → IsWrongLast (ss ++ Some (Takes arity) ∷ []) f) }
+    {
+        if self.arity.is_some() {
+            return Err(AsmFault::BadLine(line));
+        }
+        self.arity = Some(arity);
+        Ok(())
+    }
+
+    /// The next line has a label.
+    fn take_label(&mut self, line: u64, label: &'a [u8]) -> Result<(), AsmFault>
+        requires { length self.now.instrs.items ≤ 1024 }
+        ensures grown { (ss : List (Option Said)) → IsSketch ss self.old → IfOk result (λ _. IsSketch (ss ++ Some (Names label.entry.now) ∷ []) self.new) }
+        ensures fault { (ss : List (Option Said)) → IsSketch ss self.old → line ≡ length ss + 1 → IfErr result (λ f. f ≢ AsmFault.Memory → IsWrongLast (ss ++ Some (Names label.entry.now) ∷ []) f) }
+    {
+        if self.arity.is_none() {
+            return Err(AsmFault::BadLine(line));
+        }
+        if self.labels.contains_key(&label) {
+            return Err(AsmFault::LabelTwice(line));
+        }
+        self.labels.insert(label, self.instrs.len() as u16)?;
+        Ok(())
+    }
+
+    /// The next line has an instruction.
+    fn take_draft(&mut self, line: u64, draft: Draft<'a>) -> Result<(), AsmFault>
+        requires { IsInstr 0 draft.instr }
+        ensures grown { (ss : List (Option Said)) → IsSketch ss self.old → line ≡ length ss + 1 → IfOk result (λ _. IsSketch (ss ++ Some (Does (view draft.entry)) ∷ []) self.new) }
+        ensures fault { (ss : List (Option Said)) → IsSketch ss self.old → line ≡ length ss + 1 → IfErr result (λ f. f ≢ AsmFault.Memory → IsWrongLast (ss ++ Some (Does (view draft.entry)) ∷ []) f) }
+    {
+        if self.arity.is_none() {
+            return Err(AsmFault::BadLine(line));
+        }
+        if self.instrs.len() == MAX_COUNT {
+            return Err(AsmFault::TooLong);
+        }
+        self.instrs.push(draft.instr)?;
+        self.origins.push(Origin {
+            line,
+            label: draft.label,
+        })?;
+        Ok(())
+    }
+}
+
 /// What the lines say together, up to the first that has no place there.
 pub fn sketch_of<'a>(alloc: Global, lines: &[&'a str]) -> Result<Sketch<'a>, AsmFault>
-    ensures found { IfOk result (λ s. Sketched (said_by lines.now) s.arity (known s.labels.entries) s.instrs.items (traced s.origins.items)) }
+    ensures found { IfOk result (λ s. IsSketch (said_by lines.now) s) }
     ensures fault { IfErr result (λ f. f ≢ AsmFault.Memory → FirstFaultIn (said_by lines.now) f) }
 {
-    let mut arity = None;
-    let mut labels = IndexMap::new(alloc);
-    let mut instrs = Vec::new(alloc);
-    let mut origins = Vec::new(alloc);
+    let mut sketch = Sketch::new(alloc);
     for index in 0..lines.len() {
         let line = index as u64 + 1;
         let Some(statement) = statement_of(lines[index].as_bytes()) else {
@@ -45,37 +108,10 @@ pub fn sketch_of<'a>(alloc: Global, lines: &[&'a str]) -> Result<Sketch<'a>, Asm
         };
         match statement {
             Statement::Blank => {}
-            Statement::Takes(given) => {
-                if arity.is_some() {
-                    return Err(AsmFault::BadLine(line));
-                }
-                arity = Some(given);
-            }
-            Statement::Names(label) => {
-                if arity.is_none() {
-                    return Err(AsmFault::BadLine(line));
-                }
-                if labels.contains_key(&label) {
-                    return Err(AsmFault::LabelTwice(line));
-                }
-                labels.insert(label, instrs.len() as u16)?;
-            }
-            Statement::Does(Draft { instr, label }) => {
-                if arity.is_none() {
-                    return Err(AsmFault::BadLine(line));
-                }
-                if instrs.len() == MAX_COUNT {
-                    return Err(AsmFault::TooLong);
-                }
-                instrs.push(instr)?;
-                origins.push(Origin { line, label })?;
-            }
+            Statement::Takes(arity) => sketch.take_arity(line, arity)?,
+            Statement::Names(label) => sketch.take_label(line, label)?,
+            Statement::Does(draft) => sketch.take_draft(line, draft)?,
         }
     }
-    Ok(Sketch {
-        arity,
-        labels,
-        instrs,
-        origins,
-    })
+    Ok(sketch)
 }

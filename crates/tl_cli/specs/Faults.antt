@@ -9,7 +9,7 @@ use Rattle.tl_instr.specs.declared.fault.CodeFault.TheVariants as code
 use Rattle.tl_verify.specs.Faults.{numbers_of as verify_numbers_of}
 use Rattle.tl_verify.specs.declared.fault.VerifyFault.TheVariants as verify
 use Rattle.tl_cli.specs.declared.fault.CliFault.{CliFault}
-use Rattle.tl_cli.specs.declared.fault.CliFault.TheVariants.{Unreadable, Unwritable, NotUtf8, Asm, Tree, Code, Verify, NotArgs, WrongArgs, Memory}
+use Rattle.tl_cli.specs.declared.fault.CliFault.TheVariants.{Unreadable, Unwritable, NotUtf8, Asm, Tree, Code, Verify, NotScript, NotArgs, WrongArgs, Memory}
 
 abbrev pub numbers_of : CliFault → List ℕ
 numbers_of Unreadable = 31 ∷ []
@@ -19,6 +19,7 @@ numbers_of (Asm f) = asm_numbers_of f
 numbers_of (Tree f) = tree_numbers_of f
 numbers_of (Code f) = code_numbers_of f
 numbers_of (Verify f) = verify_numbers_of f
+numbers_of NotScript = 731 ∷ []
 numbers_of NotArgs = 732 ∷ []
 numbers_of WrongArgs = 501 ∷ []
 numbers_of Memory = 990 ∷ []

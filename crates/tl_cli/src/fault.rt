@@ -34,6 +34,9 @@ pub enum CliFault {
     /// 301 to 307, 401 to 409, 490: the code isn't accepted.
     #[error("the procedure: {0}")]
     Verify(VerifyFault),
+    /// 731: the text is no script.
+    #[error("the text is not a script")]
+    NotScript,
     /// 732: the arguments are no JSON list of integers of 64 bits.
     #[error("the arguments are not a list of numbers")]
     NotArgs,
@@ -59,6 +62,7 @@ impl CliFault {
             CliFault::Tree(fault) => return fault.numbers(),
             CliFault::Code(fault) => return fault.numbers(),
             CliFault::Verify(fault) => return fault.numbers(),
+            CliFault::NotScript => numbers.push(731),
             CliFault::NotArgs => numbers.push(732),
             CliFault::WrongArgs => numbers.push(501),
             CliFault::Memory => numbers.push(990),

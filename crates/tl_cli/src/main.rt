@@ -4,8 +4,10 @@
 mod alone;
 mod command_line;
 mod fault;
+mod moves;
 mod output;
 mod procedures;
+mod script;
 #[cfg(test)]
 mod tests;
 

@@ -1,6 +1,8 @@
 use crate::alone::alone_cmd;
 use crate::fault::CliFault;
+use crate::moves::Move;
 use crate::procedures::{code_of_text, container_of, count_line, dis_cmd, verify_cmd};
+use crate::script::{Script, read_script};
 use std::alloc::Global;
 use std::test::Fail;
 use tl_instr::code::Code;
@@ -173,5 +175,79 @@ fn a_text_is_refused_by_its_first_fault(rt: HostRuntime) -> Result<(), Fail> {
     assert_eq!(rt; fault.numbers().as_slice(), [201].as_slice());
     let fault = dis_cmd(alloc, b"TLP1").err().ok_or("accepted")?;
     assert_eq!(rt; fault.numbers().as_slice(), [202].as_slice());
+    Ok(())
+}
+
+/// Writes a script's moves, a line each: an admission's name and arguments, or a step's call.
+fn shown(alloc: Global, script: &Script) -> Result<String, Fail> {
+    let mut text = String::new(alloc);
+    for asked in &script.moves {
+        let line = match asked {
+            Move::Admit { name, args } => format!(in alloc; "{name} {args:?}\n")?,
+            Move::Step { call } => format!(in alloc; "{call}\n")?,
+        };
+        text.push_str(&line)?;
+    }
+    Ok(text)
+}
+
+#[test]
+fn a_script_has_procedures_and_moves(rt: HostRuntime) -> Result<(), Fail> {
+    let alloc = rt.alloc();
+    let text =
+        b"{\"moves\":[[\"look\",[-1]],0,4294967295,[\"none\",[]]],\"procs\":[[\"look\",\"arity 1\\nret\\n\"],[\"\",\"\"]]}";
+    let script = read_script(alloc, text)?;
+    assert_eq!(rt;
+        shown(alloc, &script)?.as_str(),
+        "look [-1]\n0\n4294967295\nnone []\n"
+    );
+    assert_eq!(rt; script.procedures.len(), 2);
+    let first = script.procedures.first().ok_or("no procedure")?;
+    assert_eq!(rt; first.name.as_str(), "look");
+    assert_eq!(rt; first.text.as_str(), "arity 1\nret\n");
+    let empty = read_script(alloc, b" { \"procs\" : [ ] , \"moves\" : [ ] } ")?;
+    assert_eq!(rt; empty.moves.len(), 0);
+    assert_eq!(rt; empty.procedures.len(), 0);
+    Ok(())
+}
+
+/// How many of these texts are no script's.
+fn refused(alloc: Global, texts: &[&[u8]]) -> usize {
+    let mut count: usize = 0;
+    for text in texts {
+        if read_script(alloc, text).err() == Some(CliFault::NotScript) {
+            count = count.saturating_add(1);
+        }
+    }
+    count
+}
+
+#[test]
+fn another_text_is_no_script(rt: HostRuntime) -> Result<(), Fail> {
+    let members: [&[u8]; 6] = [
+        b"",
+        b"\xFF",
+        b"[]",
+        b"{\"moves\":[]}",
+        b"{\"moves\":null,\"procs\":[]}",
+        b"{\"moves\":[],\"op \":true,\"procs\":[]}",
+    ];
+    assert_eq!(rt; refused(rt.alloc(), &members), 6);
+    let moves: [&[u8]; 6] = [
+        b"{\"moves\":[-1],\"procs\":[]}",
+        b"{\"moves\":[4294967296],\"procs\":[]}",
+        b"{\"moves\":[0.0],\"procs\":[]}",
+        b"{\"moves\":[[\"look\",[9223372036854775808]]],\"procs\":[]}",
+        b"{\"moves\":[[\"look\"]],\"procs\":[]}",
+        b"{\"moves\":[[\"look\",[],0]],\"procs\":[]}",
+    ];
+    assert_eq!(rt; refused(rt.alloc(), &moves), 6);
+    let procedures: [&[u8]; 2] = [
+        b"{\"moves\":[],\"procs\":[[\"look\"]]}",
+        b"{\"moves\":[],\"procs\":[[\"look\",[]]]}",
+    ];
+    assert_eq!(rt; refused(rt.alloc(), &procedures), 2);
+    assert_eq!(rt; CliFault::NotScript.numbers().as_slice(), [731].as_slice());
+    assert_eq!(rt; CliFault::NotScript.status(), 1);
     Ok(())
 }
