@@ -1,6 +1,6 @@
 // A call's turn.
 
-ghost use Rattle.std.specs.Prelude.{◌≡◌, ◌↔◌, ℕ, List, length, take, IsOk, IfOk};
+ghost use Rattle.std.specs.Prelude.{◌≡◌, ◌↔◌, ℕ, List, [], length, take, IsOk, IfOk};
 ghost use Rattle.std.specs.Arc.{arc_value};
 ghost use Rattle.tl_tree.specs.Records.{Records, record_at, put_record};
 ghost use Rattle.tl_protocol.specs.declared.action.Action.TheVariants as did;
@@ -54,6 +54,7 @@ impl Turn {
         ensures parents { IfOk result (λ t. t.parents ≡ arc_value shape) }
         ensures left { IfOk result (λ t. (records : Records) → left_of t records ≡ run_alone (arc_value procedure).instrs (arc_value shape) args.now records) }
         ensures steps { IfOk result (λ t. t.call.steps ≡ 0) }
+        ensures reply { IfOk result (λ t. reply_so_far t.call ≡ []) }
     {
         let call = start::start(&procedure, &shape, args)?;
         Ok(Turn {

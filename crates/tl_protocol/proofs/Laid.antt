@@ -23,7 +23,7 @@ not_freed (A.Emit n ∷ done) x r h = not_freed done x r h
 not_freed (A.End ∷ done) x r h = not_freed done x r h
 not_freed (A.Plain ∷ done) x r h = not_freed done x r h
 
-freed-locked : (parents : List ℕ) (done : List Action) (x : ℕ) → EachPermitted parents done → freed done x ≡ true → locked done x ≡ true
+pub freed-locked : (parents : List ℕ) (done : List Action) (x : ℕ) → EachPermitted parents done → freed done x ≡ true → locked done x ≡ true
 freed-locked parents [] x obeys h = h
 freed-locked parents (A.Lock y found ∷ done) x obeys h = let ih = freed-locked parents done x obeys.2 h in grind (arith, ih)
 freed-locked parents (A.Read y field n ∷ done) x obeys h = freed-locked parents done x obeys.2 h

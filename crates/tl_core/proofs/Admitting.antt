@@ -1,0 +1,252 @@
+-- A core after an admission.
+use Rattle.std.proofs.Common.{◌≡◌, ◌≢◌, ℕ, zero, suc, ◌+◌, ◌-◌, ◌<◌, ◌==◌, Bool, true, false, List, [], ◌∷◌, ◌++◌, length, map, refl, sym, ap, ◌∙◌, subst, inl, inr, arith, Option, Some, None, slice_get, get_or, if◌then◌else◌, ◌⊎◌, ℤ}
+use Rattle.std.proofs.lemmas.Bool.{cases_eq, ne_eqb, eq-eqb}
+use Rattle.std.proofs.lemmas.List.{length-map, length-append, map-append}
+use Rattle.std.proofs.lemmas.Option.{slice_get_within}
+use Rattle.tl_tree.specs.Records.{Records}
+use Rattle.tl_tree.specs.Trees.{TreeValue}
+use Rattle.tl_instr.specs.Codes.{CodeValue, IsCode}
+use Rattle.tl_verify.specs.Acceptable.{Acceptable}
+use Rattle.tl_protocol.specs.declared.event.Event.{Event}
+use Rattle.tl_protocol.specs.declared.event.Event.TheVariants as event
+use Rattle.tl_protocol.specs.Alone.{Outcome, EndsOnce, IsAlone}
+use Rattle.tl_protocol.specs.History.{part_of, is_done, admits}
+use Rattle.tl_protocol.specs.World.{IsSound, after_admission}
+use Rattle.tl_protocol.proofs.Reached.{sound_after_admission, unadmitted_done}
+use Rattle.tl_protocol.proofs.Steps.{unadmitted}
+use Rattle.tl_history.specs.Stored.{Stored}
+use Rattle.tl_machine.specs.Runs.{Run, actions}
+use Rattle.tl_machine.specs.Alone.{alone}
+use Rattle.tl_machine.specs.Call.{reply_so_far}
+use Rattle.tl_machine.specs.Outcomes.{meaning}
+use Rattle.tl_machine.specs.Stands.{run_left}
+use Rattle.tl_machine.specs.Turns.{IsTurn}
+use Rattle.tl_machine.proofs.Beginning.{is_alone}
+use Rattle.tl_core.specs.declared.call.Call.{Call}
+use Rattle.tl_core.specs.Cores.{CoreValue, no_call, call_of, code_of, world_of, total, owed_to, places}
+use Rattle.tl_core.specs.Entries.{procedure_at}
+use Rattle.tl_core.specs.Begun.{Begins}
+use Rattle.tl_core.specs.Kept.{IsCore, IsKept, call_value}
+use Rattle.tl_core.proofs.Along.{along_start}
+use Rattle.tl_core.proofs.Totals.{total-same}
+use Rattle.tl_core.proofs.After.{open_in, some_same}
+
+last_of : {X : Type 0} → (xs : List X) (x other : X) → get_or (xs ++ x ∷ []) (length xs) other ≡ x
+last_of [] x other = refl
+last_of (y ∷ xs) x other = last_of xs x other
+
+others_of : {X : Type 0} → (xs : List X) (x : X) (d : ℕ) (other : X) → length xs ≢ d → get_or (xs ++ x ∷ []) d other ≡ get_or xs d other
+others_of [] x zero other ne = absurd (ne refl)
+others_of [] x (suc d) other ne = refl
+others_of (y ∷ xs) x zero other ne = refl
+others_of (y ∷ xs) x (suc d) other ne = others_of xs x d other (λ e. ne (ap suc e))
+
+pub get_or-last : {X : Type 0} → (xs : List X) (x : X) (d : ℕ) (other : X) → get_or (xs ++ x ∷ []) d other ≡ (if length xs == d then x else get_or xs d other)
+get_or-last xs x d other = elim (cases_eq (length xs) d) [
+  | inl same ↦ let q = eq-eqb (length xs) d same in rw q (subst (λ z. get_or (xs ++ x ∷ []) z other ≡ x) same (last_of xs x other))
+  | inr ne ↦ let q = ne_eqb (length xs) d ne in rw q (others_of xs x d other ne)
+]
+
+slice_get-last : {X : Type 0} → (xs : List X) (x y : X) (d : ℕ) → slice_get (xs ++ x ∷ []) d ≡ Some y → ((d ≡ length xs) × (x ≡ y)) ⊎ (slice_get xs d ≡ Some y)
+slice_get-last [] x y zero h = inl (refl, some_same h)
+slice_get-last [] x y (suc d) h = absurd cc
+slice_get-last (z ∷ xs) x y zero h = inr h
+slice_get-last (z ∷ xs) x y (suc d) h = elim (slice_get-last xs x y d h) [
+  | inl last ↦ inl (ap suc last.0, last.1)
+  | inr before ↦ inr before
+]
+
+-- what begins a call alone isn't over
+not_over : (b : Bool) (r left : Run) (s : Run) → EndsOnce (actions r) → (if b then s else left) ≡ r → actions s ≡ [] → b ≡ false
+not_over true r left s ends same none = absurd (subst EndsOnce (ap actions (sym same) ∙ none) ends)
+not_over false r left s ends same none = refl
+
+module _ (v : CoreValue) (now : TreeValue) (kept : List Call) (holders : List (Option ℕ)) (unfinished reserved : ℕ) (h : IsCore v now kept holders unfinished reserved) (k : Call)
+    (shape : k.turn.parents ≡ v.parents) (known : k.procedure < length v.procedures) (code : (procedure_at v k.procedure).code ≡ k.turn.code)
+    (valid : IsCode k.turn.code) (accepted : Acceptable k.turn.code.instrs) (arity : length k.args.items ≡ k.turn.code.arity)
+    (turn : IsTurn k.turn.code.instrs v.parents k.turn.call)
+    (left : (t : Records) → run_left k.turn.code.instrs v.parents k.turn.call t ≡ alone k.turn.code.instrs v.parents k.args.items t)
+    (steps : k.turn.call.steps ≡ 0) (reply : reply_so_far k.turn.call ≡ []) (none : k.reply ≡ None)
+    (places_are : k.places ≡ places k.turn.code.instrs (length v.parents) - 1) (few : length v.calls < 4096) where
+  c : ℕ
+  c = length v.calls
+
+  abbrev new_past : List Event
+  new_past = event.Admit (length v.calls) ∷ v.past
+
+  abbrev then_ : CoreValue
+  then_ = record v { calls = v.calls ++ call_value k ∷ []; past = new_past }
+
+  abbrev does : Records → Outcome
+  does = meaning k.turn.code.instrs v.parents k.args.items
+
+  is_like : IsAlone v.parents does
+  is_like = is_alone k.turn.code v.parents k.args.items valid accepted h.sound.tree
+
+  call_then : (d : ℕ) → call_of then_ d ≡ (if length v.calls == d then call_value k else call_of v d)
+  call_then d = get_or-last v.calls (call_value k) d no_call
+
+  meaning_then : (d : ℕ) (b : Bool) → meaning (if b then call_value k else call_of v d).code.instrs v.parents (if b then call_value k else call_of v d).args ≡ (if b then does else (world_of v).meanings d)
+  meaning_then d true = refl
+  meaning_then d false = refl
+
+  count_then : (d : ℕ) (b : Bool) → (if b then call_value k else call_of v d).count ≡ (if b then 0 else (call_of v d).count)
+  count_then d true = steps
+  count_then d false = refl
+
+  world_then : world_of then_ ≡ after_admission (world_of v) does
+  world_then = λ i. record {
+    parents = v.parents;
+    opening = v.opening;
+    meanings = λ d. meanings_path d i;
+    past = event.Admit (h.counted i) ∷ v.past;
+    counts = λ d. counts_path d i;
+  }
+    where
+      meanings_path : (d : ℕ) → meaning (code_of then_ d) v.parents (call_of then_ d).args ≡ (if admits v.past == d then does else (world_of v).meanings d)
+      meanings_path d =
+          ap (λ z. meaning z.code.instrs v.parents z.args) (call_then d) ∙ meaning_then d (length v.calls == d)
+          ∙ ap (λ n. if n == d then does else (world_of v).meanings d) h.counted
+
+      counts_path : (d : ℕ) → (call_of then_ d).count ≡ (if admits v.past == d then 0 else (call_of v d).count)
+      counts_path d =
+          ap (λ z. z.count) (call_then d) ∙ count_then d (length v.calls == d) ∙ ap (λ n. if n == d then 0 else (call_of v d).count) h.counted
+
+  sound_then : IsSound (world_of then_)
+  sound_then = subst IsSound (sym world_then) (sound_after_admission (world_of v) does h.sound is_like)
+
+  -- ---- the calls that were there
+
+  code_before : (d : ℕ) → d < length v.calls → (call_of then_ d).code ≡ (call_of v d).code
+  code_before d lt =
+      let q = ne_eqb (length v.calls) d (λ e. omega arith) in
+      ap (λ z. z.code) (call_then d) ∙ ap (λ b. (if b then call_value k else call_of v d).code) q
+
+  owed_before : (d : ℕ) → d < length v.calls → owed_to then_ d ≡ owed_to v d
+  owed_before d lt =
+      let code' = code_before d lt in
+      λ i. if is_done d v.past then 0 else places (code' i).instrs (length v.parents) - (length (part_of d v.past) + 1)
+
+  before_kept : (d : ℕ) (kd : Call) → d < length v.calls → IsKept v d kd → IsKept then_ d kd
+  before_kept d kd lt keep = record {
+    turn = keep.turn;
+    shape = keep.shape;
+    known = keep.known;
+    code = keep.code;
+    valid = keep.valid;
+    accepted = keep.accepted;
+    arity = keep.arity;
+    done = keep.done;
+    along = keep.along;
+    part = keep.part;
+    over = keep.over;
+    reply = keep.reply;
+    places = keep.places ∙ sym (owed_before d lt);
+  }
+
+  -- ---- the new call
+
+  fresh : is_done (length v.calls) v.past ≡ false
+  fresh = unadmitted_done v.past h.sound.legal.in_turn (length v.calls) (let e = h.counted in omega arith)
+
+  nothing : part_of (length v.calls) v.past ≡ []
+  nothing = unadmitted v.past h.sound.legal.in_turn (length v.calls) (let e = h.counted in omega arith)
+
+  code_new : (call_of then_ (length v.calls)).code ≡ k.turn.code
+  code_new =
+      let q = eq-eqb (length v.calls) (length v.calls) refl in
+      ap (λ z. z.code) (call_then (length v.calls)) ∙ ap (λ b. (if b then call_value k else call_of v (length v.calls)).code) q
+
+  owed_new : owed_to then_ (length v.calls) ≡ k.places
+  owed_new =
+      (λ i. if fresh i then 0 else places (code_new i).instrs (length v.parents) - (length (nothing i) + 1))
+      ∙ sym places_are
+
+  goes_on : k.turn.call.is_over ≡ false
+  goes_on =
+      not_over k.turn.call.is_over (alone k.turn.code.instrs v.parents k.args.items v.opening) _ _ (is_like.ends v.opening h.sound.size) (left v.opening) refl
+
+  new_kept : IsKept then_ (length v.calls) k
+  new_kept = record {
+    turn = turn;
+    shape = shape;
+    known = known;
+    code = code;
+    valid = valid;
+    accepted = accepted;
+    arity = arity;
+    done = [];
+    along = along_start k.turn.code.instrs v.parents k.args.items k.turn.call left steps reply;
+    part = nothing;
+    over = goes_on ∙ sym fresh;
+    reply = none ∙ ap (λ b. if b then Some [] else None) (sym fresh);
+    places = sym owed_new;
+  }
+
+  -- ---- the whole core
+
+  pub admitted : (kept2 : List Call) → kept2 ≡ kept ++ k ∷ [] → (unfinished2 : ℕ) → unfinished2 ≡ unfinished + 1
+      → (history2 : Stored) → history2 ≡ record { past = new_past; limit = v.limit; reserved = reserved + k.places }
+      → IsCore (record v { calls = map call_value kept2; past = history2.past; limit = history2.limit }) now kept2 holders unfinished2 history2.reserved
+  admitted kept2 kept_is unfinished2 unfinished_is history2 history_is =
+      let calls : map call_value kept2 ≡ then_.calls =
+      ap (map call_value) kept_is ∙ map-append call_value kept (k ∷ []) ∙ ap (λ l. l ++ call_value k ∷ []) (sym h.calls) in
+      let long : length then_.calls ≡ suc (length v.calls) = let e = length-append v.calls (call_value k ∷ []) in omega arith in
+      let kept_long : length v.calls ≡ length kept = ap length h.calls ∙ length-map kept call_value in
+      subst (λ z. IsCore (record v { calls = map call_value kept2; past = z.past; limit = z.limit }) now kept2 holders unfinished2 z.reserved) (sym history_is)
+      (subst (λ l. IsCore (record v { calls = l; past = new_past }) now kept2 holders unfinished2 (reserved + k.places)) (sym calls)
+      (record {
+        sound = sound_then;
+        counted = let e = h.counted in omega arith;
+        few = omega arith;
+        calls = sym calls;
+        now_is = h.now_is;
+        each_node = h.each_node;
+        holds = h.holds;
+        each = λ d kd there. elim (slice_get-last kept k kd d (ap (λ l. slice_get l d) (sym kept_is) ∙ there)) [
+          | inl last ↦
+              let same : length v.calls ≡ d = kept_long ∙ sym last.0 in
+              subst (λ z. IsKept then_ z kd) same (subst (IsKept then_ (length v.calls)) last.1 new_kept)
+          | inr before ↦
+              let lt = slice_get_within kept d kd before in
+              before_kept d kd (omega arith) (h.each d kd before)
+        ];
+        unfinished_are =
+            let before = h.unfinished_are in
+            let one : open_in v.past (length v.calls) ≡ 1 = ap (λ b. if b then 0 else 1) fresh in
+            let all : unfinished2 ≡ total (open_in v.past) (length v.calls) + open_in v.past (length v.calls) = omega arith in
+            all ∙ ap (total (open_in v.past)) (sym long);
+        reserved_are =
+            let before = h.reserved_are in
+            let sums = total-same (owed_to then_) (owed_to v) (length v.calls) owed_before in
+            let own = owed_new in
+            let all : reserved + k.places ≡ total (owed_to then_) (length v.calls) + owed_to then_ (length v.calls) = omega arith in
+            all ∙ ap (total (owed_to then_)) (sym long);
+      }))
+
+abbrev one_used : ℕ → Stored → Stored
+one_used c history = record history { past = event.Admit c ∷ history.past; reserved = history.reserved - 1 }
+
+-- the same, from a call that was begun
+pub admitted_begun : (v : CoreValue) (now : TreeValue) (kept : List Call) (holders : List (Option ℕ)) (unfinished reserved : ℕ) → IsCore v now kept holders unfinished reserved
+    → (k : Call) (c : CodeValue) (parents : List ℕ) (number : ℕ) (given : List ℤ) (room : ℕ) → Begins c parents number given (room - 1) k
+    → parents ≡ v.parents → c ≡ (procedure_at v number).code → number < length v.procedures → length given ≡ (procedure_at v number).code.arity
+    → room ≡ places (procedure_at v number).code.instrs (length v.parents) → length v.calls < 4096
+    → (kept2 : List Call) → kept2 ≡ kept ++ k ∷ [] → (history history2 : Stored) → history ≡ record { past = v.past; limit = v.limit; reserved = reserved + room }
+    → history2 ≡ record history { past = event.Admit (length v.calls) ∷ history.past; reserved = history.reserved - 1 }
+    → IsCore (record v { calls = map call_value kept2; past = history2.past; limit = history2.limit }) now kept2 holders (unfinished + 1) history2.reserved
+admitted_begun v now kept holders unfinished reserved h k c parents number given room b same_shape same_code known arity room_is few kept2 kept_is history history2 reserved_is appended =
+    let code : k.turn.code ≡ (procedure_at v number).code = b.code ∙ same_code in
+    let shape : k.turn.parents ≡ v.parents = b.shape ∙ same_shape in
+    let at_number : (procedure_at v k.procedure).code ≡ k.turn.code = ap (λ p. (procedure_at v p).code) b.procedure ∙ sym code in
+    let in_list : k.procedure < length v.procedures = let e = b.procedure in omega arith in
+    let fits : length k.args.items ≡ k.turn.code.arity = ap length b.args ∙ arity ∙ ap (λ z. z.arity) (sym code) in
+    let places_are : k.places ≡ places k.turn.code.instrs (length v.parents) - 1 =
+    b.places ∙ ap (λ n. n - 1) room_is ∙ ap (λ z. places z.instrs (length v.parents) - 1) (sym code) in
+    let more : reserved + room - 1 ≡ reserved + k.places = let e = b.places in let r = room_is in omega arith in
+    let history_is : history2 ≡ record { past = event.Admit (length v.calls) ∷ v.past; limit = v.limit; reserved = reserved + k.places } =
+    appended ∙ ap (λ z. one_used (length v.calls) z) reserved_is ∙ (λ i. record { past = event.Admit (length v.calls) ∷ v.past; limit = v.limit; reserved = more i }) in
+    admitted v now kept holders unfinished reserved h k shape in_list at_number b.valid b.accepted fits
+    (subst (λ ps. IsTurn k.turn.code.instrs ps k.turn.call) shape b.turn)
+    (subst (λ ps. (t : Records) → run_left k.turn.code.instrs ps k.turn.call t ≡ alone k.turn.code.instrs ps k.args.items t) shape b.left)
+    b.steps b.reply b.none places_are few kept2 kept_is (unfinished + 1) refl history2 history_is

@@ -1,0 +1,186 @@
+-- Where a call stands in its core's world.
+use Rattle.std.proofs.Common.{◌≡◌, ◌≢◌, ℕ, suc, ◌+◌, ◌<◌, ◌==◌, true, List, [], length, map, refl, sym, ap, ap₂, ◌∙◌, subst, inl, inr, arith, Option, Some, None, option_map, slice_get, get_or, set, Ok, if◌then◌else◌}
+use Rattle.std.proofs.lemmas.Bool.{cases_eq, ne_eqb, eq-eqb, lt-ltb}
+use Rattle.std.proofs.lemmas.List.{length-map, get_or-set_same, get_or-set_other}
+use Rattle.std.proofs.lemmas.Option.{slice_get-map, slice_get_within, get_or_from_slice_get}
+use Rattle.tl_tree.specs.Records.{Record, Records}
+use Rattle.tl_tree.specs.Trees.{TreeValue}
+use Rattle.tl_protocol.specs.declared.action.Action.{Action}
+use Rattle.tl_protocol.specs.declared.action.Action.TheVariants as did
+use Rattle.tl_protocol.specs.Actions.{with_found}
+use Rattle.tl_protocol.specs.History.{part_of, is_done, admits, IsOpen}
+use Rattle.tl_protocol.specs.Holders.{holder_of}
+use Rattle.tl_protocol.specs.World.{IsSound, MayTake, alone_of, next_of, as_found, past_after, after_step as world_after}
+use Rattle.tl_protocol.proofs.Records.{length-with_found}
+use Rattle.tl_protocol.proofs.Holders.{holderless_may_take}
+use Rattle.tl_protocol.proofs.Reached.{sound_after_step}
+use Rattle.tl_machine.specs.Runs.{Run, Then, At, Ended, actions}
+use Rattle.tl_machine.specs.Outcomes.{meaning}
+use Rattle.tl_machine.specs.Stands.{run_left}
+use Rattle.tl_machine.specs.Turns.{Wants}
+use Rattle.tl_machine.specs.Wants.{want_of}
+use Rattle.tl_machine.specs.declared.want.Want.{Want}
+use Rattle.tl_machine.specs.declared.want.Want.TheVariants as want
+use Rattle.tl_core.specs.declared.call.Call.{Call}
+use Rattle.tl_core.specs.declared.stepped.Stepped.TheVariants.{Over}
+use Rattle.tl_core.specs.Cores.{CallValue, CoreValue, no_call, call_of, world_of}
+use Rattle.tl_core.specs.Entries.{one_more, stepped_by, node_of, step_answer}
+use Rattle.tl_core.specs.Kept.{with_left, IsCore, IsKept, call_value}
+use Rattle.tl_core.proofs.Along.{onto, actions-after_done, length-onto, at-onto, has_found, length-with_left}
+
+-- ---- the first action of a run
+
+pub lock_first : (r : Run) (x : ℕ) → want_of r ≡ want.Lock x → (found : Record) × (more : Run) × (r ≡ Then (did.Lock x found) more)
+lock_first (Then (did.Lock y found) more) x h = let e : y ≡ x = cc in (found, more, ap (λ z. Then (did.Lock z found) more) e)
+lock_first (Then (did.Free y left) more) x h = absurd cc
+lock_first (Then did.End more) x h = absurd cc
+lock_first (Then did.Plain more) x h = absurd cc
+lock_first (Then (did.Read y f n) more) x h = absurd cc
+lock_first (Then (did.Write y f n) more) x h = absurd cc
+lock_first (Then (did.Emit n) more) x h = absurd cc
+lock_first (At p s) x h = absurd cc
+lock_first (Ended s) x h = absurd cc
+
+pub over_none : (r : Run) → want_of r ≡ want.Over → actions r ≡ []
+over_none (Then (did.Lock y found) more) h = absurd cc
+over_none (Then (did.Free y left) more) h = absurd cc
+over_none (Then did.End more) h = absurd cc
+over_none (Then did.Plain more) h = absurd cc
+over_none (Then (did.Read y f n) more) h = absurd cc
+over_none (Then (did.Write y f n) more) h = absurd cc
+over_none (Then (did.Emit n) more) h = absurd cc
+over_none (At p s) h = refl
+over_none (Ended s) h = refl
+
+-- ---- a call of a core
+
+module _ (v : CoreValue) (now : TreeValue) (kept : List Call) (holders : List (Option ℕ)) (unfinished reserved : ℕ) (h : IsCore v now kept holders unfinished reserved) (c : ℕ) (k : Call) (at : slice_get kept c ≡ Some k) where
+  abbrev pub keep : IsKept v c k
+  keep = h.each c k at
+
+  pub call_is : call_of v c ≡ call_value k
+  call_is =
+      let there : slice_get (map call_value kept) c ≡ Some (call_value k) = slice_get-map call_value kept c ∙ ap (λ o. option_map call_value o) at in
+      ap (λ calls. get_or calls c no_call) h.calls ∙ get_or_from_slice_get (map call_value kept) c (call_value k) no_call there
+
+  pub inside : c < length v.calls
+  inside =
+      let lt = slice_get_within kept c k at in
+      let long : length v.calls ≡ length kept = ap length h.calls ∙ length-map kept call_value in
+      omega arith
+
+  pub admitted : c < admits v.past
+  admitted = let e = h.counted in let lt = inside in omega arith
+
+  -- the opening tree with what the call found, and the same with what it left
+  abbrev pub found_tree : Records
+  found_tree = with_found (part_of c v.past) v.opening
+
+  abbrev pub left_tree : Records
+  left_tree = with_left keep.done found_tree
+
+  -- what is left of the call
+  abbrev pub rest : Run
+  rest = run_left k.turn.code.instrs v.parents k.turn.call left_tree
+
+  pub found_size : length found_tree ≡ length v.parents
+  found_size = length-with_found (part_of c v.past) v.opening ∙ h.sound.size
+
+  pub left_size : length left_tree ≡ length v.parents
+  left_size = length-with_left keep.done found_tree ∙ found_size
+
+  pub whole : (alone_of ((world_of v).meanings c) v.opening v.past c).actions ≡ onto keep.done (actions rest)
+  whole =
+      ap (λ z. (meaning z.code.instrs v.parents z.args found_tree).actions) call_is
+      ∙ ap actions (keep.along.runs found_tree found_size (has_found keep.done (part_of c v.past) v.opening keep.part))
+      ∙ actions-after_done keep.done rest
+
+  pub count_is : (call_of v c).count ≡ length keep.done
+  count_is = ap (λ z. z.count) call_is ∙ keep.along.steps
+
+  pub next_is : next_of (world_of v) c ≡ slice_get (actions rest) 0
+  next_is = ap₂ slice_get whole count_is ∙ at-onto keep.done (actions rest)
+
+  pub ended : is_done c v.past ≡ (length keep.done == length keep.done + length (actions rest))
+  ended =
+      let g = h.sound.legal.genuine c admitted in
+      g.ended ∙ ap₂ (λ a b. a == b) count_is (ap length whole ∙ length-onto keep.done (actions rest))
+
+  -- what the turn wants is the kind of the first action left
+  pub wants_here : (w : Want) → Wants k.turn w → want_of rest ≡ w
+  wants_here w wants =
+      subst (λ ps. (t : Records) → length t ≡ length ps → want_of (run_left k.turn.code.instrs ps k.turn.call t) ≡ w) keep.shape wants left_tree left_size
+
+  -- ---- with no action left it is done
+
+  pub over_answer : Wants k.turn want.Over → Ok Over ≡ step_answer (world_of v) c
+  over_answer wants =
+      let none : length (actions rest) ≡ 0 = ap length (over_none rest (wants_here want.Over wants)) in
+      let over : is_done c v.past ≡ true = ended ∙ eq-eqb (length keep.done) (length keep.done + length (actions rest)) (omega arith) in
+      let known = lt-ltb c (admits v.past) admitted in
+      rw (known, over) refl
+
+  -- ---- with an action left
+
+  module _ (a : Action) (more : Run) (first : rest ≡ Then a more) where
+    pub next_first : next_of (world_of v) c ≡ Some a
+    next_first = next_is ∙ ap (λ r. slice_get (actions r) 0) first
+
+    pub open_first : IsOpen c v.past
+    open_first =
+        let some : length (actions rest) ≡ suc (length (actions more)) = ap (λ r. length (actions r)) first in
+        let ne : length keep.done ≢ length keep.done + length (actions rest) = λ e. omega arith in
+        (admitted, ended ∙ ne_eqb (length keep.done) (length keep.done + length (actions rest)) ne)
+
+    pub answer_first : step_answer (world_of v) c ≡ Ok (stepped_by (world_of v) a (holder_of v.past (node_of a)))
+    answer_first =
+        let known = lt-ltb c (admits v.past) admitted in
+        let goes_on = open_first.1 in
+        let next = next_first in
+        rw (known, goes_on, next) refl
+
+    pub may_first : ((x : ℕ) (found : Record) → a ≡ did.Lock x found → holder_of v.past x ≡ None) → MayTake (world_of v) c a
+    may_first free = holderless_may_take (world_of v) h.sound c a open_first next_first free
+
+  -- ---- the world after an action
+
+  abbrev pub calls_after : List CallValue
+  calls_after = set v.calls c (one_more (call_of v c))
+
+  pub same_code : (d : ℕ) → (get_or calls_after d no_call).code ≡ (call_of v d).code
+  same_code d = elim (cases_eq c d) [
+    | inl same ↦ subst (λ z. (get_or calls_after z no_call).code ≡ (call_of v z).code) same (ap (λ z. z.code) (get_or-set_same v.calls c (one_more (call_of v c)) no_call inside))
+    | inr other ↦ ap (λ z. z.code) (get_or-set_other v.calls c d (one_more (call_of v c)) no_call (λ e. other (sym e)))
+  ]
+
+  pub same_args : (d : ℕ) → (get_or calls_after d no_call).args ≡ (call_of v d).args
+  same_args d = elim (cases_eq c d) [
+    | inl same ↦ subst (λ z. (get_or calls_after z no_call).args ≡ (call_of v z).args) same (ap (λ z. z.args) (get_or-set_same v.calls c (one_more (call_of v c)) no_call inside))
+    | inr other ↦ ap (λ z. z.args) (get_or-set_other v.calls c d (one_more (call_of v c)) no_call (λ e. other (sym e)))
+  ]
+
+  counted_on : (d : ℕ) → (get_or calls_after d no_call).count ≡ (if c == d then suc ((call_of v d).count) else (call_of v d).count)
+  counted_on d = elim (cases_eq c d) [
+    | inl same ↦
+        let q = eq-eqb c d same in
+        let one : (call_of v c).count + 1 ≡ suc ((call_of v c).count) = omega arith in
+        rw q (subst (λ z. (get_or calls_after z no_call).count ≡ suc ((call_of v z).count)) same (ap (λ z. z.count) (get_or-set_same v.calls c (one_more (call_of v c)) no_call inside) ∙ one))
+    | inr other ↦
+        let q = ne_eqb c d other in
+        rw q (ap (λ z. z.count) (get_or-set_other v.calls c d (one_more (call_of v c)) no_call (λ e. other (sym e))))
+  ]
+
+  abbrev pub after : Action → CoreValue
+  after a = record v { calls = calls_after; past = past_after c (as_found (world_of v) a) v.past }
+
+  pub world_is : (a : Action) → world_of (after a) ≡ world_after (world_of v) c a
+  world_is a = λ i. record {
+    parents = v.parents;
+    opening = v.opening;
+    meanings = λ d. meaning (same_code d i).instrs v.parents (same_args d i);
+    past = past_after c (as_found (world_of v) a) v.past;
+    counts = λ d. counted_on d i;
+  }
+
+  pub sound_after : (a : Action) → MayTake (world_of v) c a → IsSound (world_of (after a))
+  sound_after a may = subst IsSound (sym (world_is a)) (sound_after_step (world_of v) c a h.sound may)

@@ -1,0 +1,7 @@
+use Rattle.tl_core.proofs.MoreProcedures.{keeps_core, added}
+use Rattle.tl_core.proofs.interleaving.Core.add_proc.Goals as goal
+
+pub invariant_of-self : goal.invariant_of-self
+invariant_of-self c =
+    let more = added c.add.result c.self.inside.procedures c.add.new.self _ c.add.ensures.last c.add.ensures.err in
+    rw (more.1) (keeps_core _ more.0 _ _ _ _ _ c.self.invariant)

@@ -1,0 +1,91 @@
+-- What callers see of a core.
+use Rattle.std.specs.Prelude.{ℕ, zero, suc, ◌+◌, ◌-◌, ◌*◌, List, [], length, get_or, Option, if◌then◌else◌, min, position, take, ℤ}
+use Rattle.std.specs.Str.{bytes_eq}
+use Rattle.tl_tree.specs.Records.{Records}
+use Rattle.tl_instr.specs.declared.instr.Instr.{Instr}
+use Rattle.tl_instr.specs.Codes.{CodeValue}
+use Rattle.tl_budget.specs.Loops.{budget, lock_bound}
+use Rattle.tl_protocol.specs.declared.action.Action.{Action}
+use Rattle.tl_protocol.specs.declared.event.Event.{Event}
+use Rattle.tl_protocol.specs.History.{part_of, is_done}
+use Rattle.tl_protocol.specs.World.{World, alone_of}
+use Rattle.tl_machine.specs.Outcomes.{meaning}
+
+-- a procedure under its name
+pub record Named : Type 0 where
+  pub name : List ℕ
+  pub code : CodeValue
+
+-- a call: the number of its procedure, the code that it runs, its arguments, and how many instructions it has done
+pub record CallValue : Type 0 where
+  pub procedure : ℕ
+  pub code : CodeValue
+  pub args : List ℤ
+  pub count : ℕ
+
+-- the shape and the opening records, the procedures and the calls by number, the events with the latest first, and how
+-- many events there may be
+pub record CoreValue : Type 0 where
+  pub parents : List ℕ
+  pub opening : Records
+  pub procedures : List Named
+  pub calls : List CallValue
+  pub past : List Event
+  pub limit : ℕ
+
+-- the number of the procedure of that name
+abbrev pub number_of : List Named → List ℕ → Option ℕ
+number_of procedures name = position (λ p. bytes_eq name p.name) procedures
+
+abbrev pub no_call : CallValue
+no_call = record { procedure = 0; code = record { arity = 0; instrs = [] }; args = []; count = 0 }
+
+abbrev pub call_of : CoreValue → ℕ → CallValue
+call_of v c = get_or v.calls c no_call
+
+abbrev pub code_of : CoreValue → ℕ → List Instr
+code_of v c = (call_of v c).code.instrs
+
+-- the same as a world of the protocol: each call means what its procedure does alone with its arguments
+abbrev pub world_of : CoreValue → World
+world_of v = record {
+  parents = v.parents;
+  opening = v.opening;
+  meanings = λ c. meaning (code_of v c) v.parents (call_of v c).args;
+  past = v.past;
+  counts = λ c. (call_of v c).count;
+}
+
+-- what call c has done, the earliest action first
+abbrev pub done_by : CoreValue → ℕ → List Action
+done_by v c =
+    take ((call_of v c).count) (alone_of (meaning (code_of v c) v.parents (call_of v c).args) v.opening v.past c).actions
+
+-- the sum over the numbers below n
+abbrev pub total : (ℕ → ℕ) → ℕ → ℕ
+total f zero = 0
+total f (suc n) = total f n + f n
+
+-- how many calls are unfinished
+abbrev pub open_calls : CoreValue → ℕ
+open_calls v = total (λ c. if is_done c v.past then 0 else 1) (length v.calls)
+
+-- how many events a call of the code may have at most: it locks no node twice, and is admitted and done once
+abbrev pub places : List Instr → ℕ → ℕ
+places code nodes = 2 * min (lock_bound code) nodes + 2
+
+-- how many events the history still keeps a place for: of each unfinished call as many as it may have, less those that
+-- it has, its admission among them
+abbrev pub owed_to : CoreValue → ℕ → ℕ
+owed_to v c = if is_done c v.past then 0 else places (code_of v c) (length v.parents) - (length (part_of c v.past) + 1)
+
+abbrev pub owed : CoreValue → ℕ
+owed v = total (owed_to v) (length v.calls)
+
+-- how many more places the history has
+abbrev pub room : CoreValue → ℕ
+room v = v.limit - (length v.past + owed v)
+
+-- how many instructions all calls may do at most
+abbrev pub all_budgets : CoreValue → ℕ
+all_budgets v = total (λ c. budget (code_of v c)) (length v.calls)

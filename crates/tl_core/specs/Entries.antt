@@ -1,0 +1,141 @@
+-- What a core answers, and what it is then.
+use Rattle.std.specs.Prelude.{◌≡◌, ◌≢◌, ℕ, ◌+◌, Bool, List, [], ◌∷◌, ◌++◌, length, get_or, Option, Some, None, if◌then◌else◌, nat_lt, nat_le, nat_eq, slice_set, Result, Ok, Err, ℤ, string_bytes, ◌&&◌, ◌||◌, ◌==◌}
+use Rattle.std.specs.Char.{is_ascii_alphanumeric}
+use Rattle.std.specs.List.{list_all}
+use Rattle.std.specs.Option.{option_map_or}
+use Rattle.tl_protocol.specs.declared.action.Action.{Action}
+use Rattle.tl_protocol.specs.declared.action.Action.TheVariants.{Lock}
+use Rattle.tl_protocol.specs.declared.event.Event.TheVariants.{Admit as Admission}
+use Rattle.tl_protocol.specs.History.{is_done, admits}
+use Rattle.tl_protocol.specs.Holders.{holder_of}
+use Rattle.tl_protocol.specs.World.{World, next_of, as_found, past_after}
+use Rattle.tl_core.specs.declared.fault.CoreFault.{CoreFault}
+use Rattle.tl_core.specs.declared.fault.CoreFault.TheVariants as fault
+use Rattle.tl_core.specs.declared.stepped.Stepped.{Stepped}
+use Rattle.tl_core.specs.declared.stepped.Stepped.TheVariants.{Moved, Blocked, Over}
+use Rattle.tl_core.specs.declared.moves.Move.{Move}
+use Rattle.tl_core.specs.declared.moves.Move.TheVariants as a_move
+use Rattle.tl_core.specs.declared.moves.Entry.{Entry}
+use Rattle.tl_core.specs.declared.moves.Entry.TheVariants as entry
+use Rattle.tl_core.specs.Cores.{Named, CallValue, CoreValue, number_of, call_of, world_of, open_calls, places, room}
+
+-- ---- procedures
+
+-- an ASCII letter, a digit, or `_`
+abbrev pub is_name_byte : ℕ → Bool
+is_name_byte b = is_ascii_alphanumeric b || (b == 95)
+
+-- 1 to 32 of them
+abbrev pub is_name : List ℕ → Bool
+is_name name = nat_lt 0 (length name) && (nat_le (length name) 32 && list_all is_name_byte name)
+
+abbrev pub taken_by : Option ℕ → ℕ → Option CoreFault
+taken_by (Some number) count = Some fault.NameTaken
+taken_by None count = if nat_lt count 256 then None else Some fault.TooManyProcedures
+
+-- why a name isn't taken up
+abbrev pub naming_refusal : List Named → List ℕ → Option CoreFault
+naming_refusal procedures name =
+    if is_name name then taken_by (number_of procedures name) (length procedures) else Some fault.BadName
+
+-- ---- steps
+
+-- the next action, where a call holds the node that it locks
+abbrev pub stepped_by : World → Action → Option ℕ → Stepped
+stepped_by w (Lock x found) (Some holder) = Blocked x holder
+stepped_by w a holder = Moved (as_found w a)
+
+abbrev pub node_of : Action → ℕ
+node_of (Lock x found) = x
+node_of a = 0
+
+-- a call that goes on has a next action
+abbrev pub stepped_to : World → Option Action → Stepped
+stepped_to w (Some a) = stepped_by w a (holder_of w.past (node_of a))
+stepped_to w None = Over
+
+-- a step of a call: 602 where it wasn't admitted; over where it is done; blocked, with the node and its holder, where its
+-- next action locks a node that another call holds; else it does that action, and a lock finds the record now
+abbrev pub step_answer : World → ℕ → Result Stepped CoreFault
+step_answer w c =
+    if nat_lt c (admits w.past) then (if is_done c w.past then Ok Over else Ok (stepped_to w (next_of w c)))
+    else Err fault.NoCall
+
+abbrev pub one_more : CallValue → CallValue
+one_more call = record call { count = call.count + 1 }
+
+-- the core after that answer
+abbrev pub after_step : CoreValue → ℕ → Result Stepped CoreFault → CoreValue
+after_step v c (Ok (Moved a)) =
+    record v { calls = slice_set v.calls c (one_more (call_of v c)); past = past_after c a v.past }
+after_step v c (Ok (Blocked x d)) = v
+after_step v c (Ok Over) = v
+after_step v c (Err e) = v
+
+-- ---- admissions
+
+abbrev pub no_procedure : Named
+no_procedure = record { name = []; code = record { arity = 0; instrs = [] } }
+
+abbrev pub procedure_at : CoreValue → ℕ → Named
+procedure_at v p = get_or v.procedures p no_procedure
+
+-- the first that holds: another number of arguments, 4,096 calls, 64 of them unfinished, no room for all its events
+abbrev pub refusal_of : CoreValue → Named → List ℤ → Option CoreFault
+refusal_of v p args =
+    if nat_eq (length args) p.code.arity then (if nat_lt (length v.calls) 4096 then (if nat_lt (open_calls v) 64 then (if nat_le (places p.code.instrs (length v.parents)) (room v) then None else Some fault.HistoryFull)
+    else Some fault.TooManyOpen)
+    else Some fault.TooManyCalls)
+    else Some fault.WrongArgs
+
+-- why a call isn't admitted
+abbrev pub admission_refusal : CoreValue → List ℕ → List ℤ → Option CoreFault
+admission_refusal v name args =
+    option_map_or (λ p. refusal_of v (procedure_at v p) args) (number_of v.procedures name) (Some fault.NoProcedure)
+
+-- the core with a call of procedure p more
+abbrev pub with_call_of : CoreValue → ℕ → List ℤ → CoreValue
+with_call_of v p args =
+    record v { calls = v.calls ++ record { procedure = p; code = (procedure_at v p).code; args = args; count = 0 } ∷ []; past = Admission (length v.calls) ∷ v.past }
+
+abbrev pub after_admission : CoreValue → List ℕ → List ℤ → CoreValue
+after_admission v name args = option_map_or (λ p. with_call_of v p args) (number_of v.procedures name) v
+
+-- ---- moves
+
+abbrev pub entry_of : ℕ → Result Stepped CoreFault → Entry
+entry_of c (Ok stepped) = entry.Stepped c stepped
+entry_of c (Err refused) = entry.Refused refused
+
+-- what may come of an admission: want of memory may refuse it too
+abbrev pub IsAdmissionEntry : CoreValue → List ℕ → List ℤ → Entry → Type 0
+IsAdmissionEntry v name args (entry.Admitted n) = (admission_refusal v name args ≡ None) × (n ≡ length v.calls)
+IsAdmissionEntry v name args (entry.Refused e) = e ≢ fault.Memory → admission_refusal v name args ≡ Some e
+IsAdmissionEntry v name args (entry.Stepped c stepped) = ⊥
+
+-- what comes of a move
+abbrev pub IsEntry : CoreValue → Move → Entry → Type 0
+IsEntry v (a_move.Admit name args) e = IsAdmissionEntry v (string_bytes name) args.items e
+IsEntry v (a_move.Step c) e = e ≡ entry_of c (step_answer (world_of v) c)
+
+abbrev pub after_entry : CoreValue → Move → Entry → CoreValue
+after_entry v (a_move.Admit name args) (entry.Admitted n) = after_admission v (string_bytes name) args.items
+after_entry v (a_move.Admit name args) e = v
+after_entry v (a_move.Step c) e = after_step v c (step_answer (world_of v) c)
+
+-- the entries of the moves, each of the core that the one before left
+abbrev pub Traced : CoreValue → List Move → List Entry → Type 0
+Traced v [] [] = Unit {0}
+Traced v [] (e ∷ entries) = ⊥
+Traced v (m ∷ moves) [] = ⊥
+Traced v (m ∷ moves) (e ∷ entries) = IsEntry v m e × Traced (after_entry v m e) moves entries
+
+abbrev pub after_moves : CoreValue → List Move → List Entry → CoreValue
+after_moves v (m ∷ moves) (e ∷ entries) = after_moves (after_entry v m e) moves entries
+after_moves v moves entries = v
+
+-- how many of the entries are instructions done
+abbrev pub moved : List Entry → ℕ
+moved [] = 0
+moved (entry.Stepped c (Moved a) ∷ entries) = moved entries + 1
+moved (_ ∷ entries) = moved entries

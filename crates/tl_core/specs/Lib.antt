@@ -1,0 +1,5 @@
+pub mod Faults
+pub mod Cores
+pub mod Entries
+pub mod Begun
+pub mod Kept

@@ -1,0 +1,75 @@
+// Why a core refuses.
+
+ghost use Rattle.std.specs.Prelude.{◌≡◌};
+ghost use Rattle.tl_core.specs.declared.fault.CoreFault.TheVariants.{Memory};
+
+use arrayvec::ArrayVec;
+use std::alloc::AllocError;
+use thiserror::Error;
+
+/// Why a core refuses. A refusal changes nothing.
+#[derive(Clone, Copy, Debug, PartialEq, Eq, Error)]
+pub enum CoreFault {
+    /// 501: there are more or fewer arguments than the procedure takes.
+    #[error("another number of arguments than the procedure takes")]
+    WrongArgs,
+    /// 601: no procedure has that name.
+    #[error("no procedure of that name")]
+    NoProcedure,
+    /// 602: no call of that number was admitted.
+    #[error("no call of that number")]
+    NoCall,
+    /// 603: 4,096 calls were admitted.
+    #[error("too many calls")]
+    TooManyCalls,
+    /// 604: 64 calls are unfinished.
+    #[error("too many calls are unfinished")]
+    TooManyOpen,
+    /// 605: the history has no room for all that the call may do.
+    #[error("the history has no room for the call")]
+    HistoryFull,
+    /// 611: a procedure has that name.
+    #[error("a procedure of that name is there already")]
+    NameTaken,
+    /// 612: a name is 1 to 32 of ASCII letters, digits and `_`.
+    #[error("not a name")]
+    BadName,
+    /// 613: there are 256 procedures.
+    #[error("too many procedures")]
+    TooManyProcedures,
+    /// 690: memory was refused.
+    #[error("out of memory")]
+    Memory,
+}
+
+impl CoreFault {
+    ghost use Rattle.tl_core.specs.Faults.{numbers_of};
+
+    /// The fault's number.
+    pub fn numbers(&self) -> ArrayVec<u64, 1>
+        ensures { result.items ≡ numbers_of self.now }
+    {
+        let mut numbers = ArrayVec::new();
+        numbers.push(match self {
+            CoreFault::WrongArgs => 501,
+            CoreFault::NoProcedure => 601,
+            CoreFault::NoCall => 602,
+            CoreFault::TooManyCalls => 603,
+            CoreFault::TooManyOpen => 604,
+            CoreFault::HistoryFull => 605,
+            CoreFault::NameTaken => 611,
+            CoreFault::BadName => 612,
+            CoreFault::TooManyProcedures => 613,
+            CoreFault::Memory => 690,
+        });
+        numbers
+    }
+}
+
+impl From<AllocError> for CoreFault {
+    ghost from_gives = { λ _ e. e ≡ Memory };
+
+    fn from(_refused: AllocError) -> CoreFault {
+        CoreFault::Memory
+    }
+}

@@ -1,0 +1,405 @@
+// Many calls on one tree.
+
+ghost use Rattle.std.specs.Prelude.{◌≡◌, ◌≢◌, ℕ, ◌+◌, ◌<◌, ◌≤◌, ◌↔◌, List, [], ◌∷◌, ◌++◌, length, true, IsTrue, IsOk, IsNone, IfOk, OnOk, OnErr, IfErr, IfSome, None, Some, option_copied, if◌then◌else◌};
+ghost use Rattle.std.specs.Arc.{arc_value};
+ghost use Rattle.tl_budget.specs.Loops.{budget, lock_bound, emit_bound};
+ghost use Rattle.tl_protocol.specs.Actions.{lock_count};
+ghost use Rattle.tl_protocol.specs.History.{admits, is_done, AllDone, record_now, records_now};
+ghost use Rattle.tl_protocol.specs.Holders.{holder_of};
+ghost use Rattle.tl_protocol.specs.Obeys.{Obeys};
+ghost use Rattle.tl_protocol.specs.World.{Legal, IsSound, IsEnabled, reply_of};
+ghost use Rattle.tl_core.specs.Cores.{world_of, call_of, code_of, number_of, places, room, owed, all_budgets, done_by};
+ghost use Rattle.tl_core.specs.Entries.{naming_refusal, step_answer, after_step, admission_refusal, after_admission, procedure_at, IsEntry, after_entry, Traced, after_moves, moved};
+ghost use Rattle.tl_machine.specs.Runs.{emitted};
+ghost use Rattle.tl_core.specs.declared.fault.CoreFault.TheVariants as fault;
+
+use crate::call::Call;
+use crate::fault::CoreFault;
+use crate::moves::{Entry, Move};
+use crate::procedures::Procedures;
+use crate::stepped::Stepped;
+use std::alloc::Global;
+use std::marker::Model;
+use std::sync::Arc;
+use tl_history::history::{History, MAX_EVENTS};
+use tl_machine::reply::Reply;
+use tl_machine::want::Want;
+use tl_protocol::action::Action;
+use tl_protocol::event::Event;
+use tl_tree::record::Record;
+use tl_tree::tree::Tree;
+use tl_verify::procedure::Proc;
+
+/// How many calls a core has at most.
+pub const MAX_CALLS: usize = 4096;
+
+/// How many calls may be unfinished at once.
+pub const MAX_UNFINISHED: usize = 64;
+
+/// A tree, procedures, and calls of them that take turns.
+///
+/// A contract sees the opening tree, the procedures and calls by number, the events with the latest first, and how many
+/// events there may be. `world_of` makes a world of the protocol of it; that world is sound, by the type.
+#[derive(Debug, Drop)]
+pub struct Core {
+    opening: Tree,
+    // The tree as it is now.
+    latest: Tree,
+    procedures: Procedures,
+    calls: Vec<Call>,
+    // Of each node the call that holds it.
+    holders: Vec<Option<u32>>,
+    // How many calls are unfinished.
+    unfinished: usize,
+    history: History,
+}
+
+impl Model for Core {
+    ghost use Rattle.std.specs.Prelude.{map};
+    ghost use Rattle.tl_core.specs.Cores.{CoreValue};
+    ghost use Rattle.tl_core.specs.Kept.{IsCore, call_value};
+
+    ghost Value = { CoreValue };
+
+    ghost view = { λ s. record { parents = s.opening.parents; opening = s.opening.records; procedures = s.procedures; calls = map call_value s.calls.items; past = s.history.past; limit = s.history.limit } };
+
+    ghost invariant = { λ s. IsCore (record { parents = s.opening.parents; opening = s.opening.records; procedures = s.procedures; calls = map call_value s.calls.items; past = s.history.past; limit = s.history.limit }) s.latest s.calls.items s.holders.items s.unfinished s.history.reserved };
+}
+
+impl Core {
+    /// A core of the tree, without procedures and calls, for up to 1,048,576 events. 690 where memory is refused.
+    pub fn new(alloc: Global, tree: Tree) -> Result<Core, CoreFault>
+        ensures ok { IfOk result (λ core. core ≡ record { parents = tree.parents; opening = tree.records; procedures = []; calls = []; past = []; limit = MAX_EVENTS }) }
+        ensures err { IfErr result (λ e. e ≡ fault.Memory) }
+    {
+        Core::with_limit(alloc, tree, MAX_EVENTS)
+    }
+
+    /// A core of the tree, without procedures and calls, for so many events. 690 where memory is refused.
+    pub fn with_limit(alloc: Global, tree: Tree, limit: usize) -> Result<Core, CoreFault>
+        requires { limit ≤ MAX_EVENTS }
+        ensures ok { IfOk result (λ core. core ≡ record { parents = tree.parents; opening = tree.records; procedures = []; calls = []; past = []; limit = limit }) }
+        ensures err { IfErr result (λ e. e ≡ fault.Memory) }
+    {
+        let Ok(latest) = tree.copy() else {
+            return Err(CoreFault::Memory);
+        };
+        let nodes = usize::from(tree.shape().node_count());
+        let holders = vec![in alloc; None; nodes]?;
+        Ok(Core {
+            opening: tree,
+            latest,
+            procedures: Procedures::new(alloc),
+            calls: Vec::new(alloc),
+            holders,
+            unfinished: 0,
+            history: History::new(alloc, limit),
+        })
+    }
+
+    /// Takes up a procedure under a name, and answers its number, from 0. The first that holds of: 612 where the name
+    /// isn't 1 to 32 of ASCII letters, digits and `_`; 611 where a procedure has that name; 613 where there are 256. Else
+    /// 690 where memory is refused. A refusal changes nothing.
+    pub fn add_proc(&mut self, alloc: Global, name: &str, procedure: Proc) -> Result<u32, CoreFault>
+        ensures number { IfOk result (λ n. n ≡ length self.old.procedures) }
+        ensures free { IfOk result (λ _. naming_refusal self.old.procedures name.now ≡ None) }
+        ensures last { OnOk result (self.new ≡ record self.old { procedures = self.old.procedures ++ record { name = name.now; code = procedure } ∷ [] }) }
+        ensures fault { IfErr result (λ e. e ≢ fault.Memory → naming_refusal self.old.procedures name.now ≡ Some e) }
+        ensures err { OnErr result (self.new ≡ self.old) }
+    {
+        self.procedures.add(alloc, name, procedure)
+    }
+
+    /// The next instruction of a call. 602 where no call of that number was admitted. Takes no memory.
+    pub fn step(&mut self, call: u32) -> Result<Stepped, CoreFault>
+        ensures answer { result ≡ step_answer (world_of self.old) call }
+        ensures after { self.new ≡ after_step self.old call result }
+    {
+        let index = call as usize;
+        if index >= self.calls.len() {
+            return Err(CoreFault::NoCall);
+        }
+        let current = &mut self.calls[index];
+        match current.turn.want() {
+            Want::Over => Ok(Stepped::Over),
+            Want::Local => Ok(Stepped::Moved {
+                action: current.turn.step(),
+            }),
+            Want::Lock(node) => {
+                let held_by = self.holders[usize::from(node)];
+                if let Some(holder) = held_by {
+                    return Ok(Stepped::Blocked { node, holder });
+                }
+                let found = self.latest.record_at(node);
+                current.turn.lock(found);
+                current.places -= 1;
+                self.holders[usize::from(node)] = Some(call);
+                self.history.append(Event::Lock { call, node, found });
+                Ok(Stepped::Moved {
+                    action: Action::Lock { node, found },
+                })
+            }
+            Want::Free(node) => {
+                let left = current.turn.free();
+                current.places -= 1;
+                self.latest.put_at(node, left);
+                self.holders[usize::from(node)] = None;
+                self.history.append(Event::Free { call, node, left });
+                Ok(Stepped::Moved {
+                    action: Action::Free { node, left },
+                })
+            }
+            Want::Return => {
+                current.reply = Some(current.turn.finish());
+                self.history.append(Event::Done { call });
+                self.history.give_back(current.places - 1);
+                current.places = 0;
+                self.unfinished -= 1;
+                Ok(Stepped::Moved {
+                    action: Action::End,
+                })
+            }
+        }
+    }
+
+    /// Admits a call of the procedure of that name with these arguments, and answers its number. The first that holds of:
+    /// 601 where no procedure has that name; 501 where there are more or fewer arguments than it takes; 603 where 4,096
+    /// calls were admitted; 604 where 64 are unfinished; 605 where the history has no room for all events that the call
+    /// may have. Else 690 where memory is refused. A refusal changes nothing, and from then on no step of the call takes
+    /// memory.
+    pub fn admit(&mut self, name: &str, args: &[i64]) -> Result<u32, CoreFault>
+        ensures number { IfOk result (λ n. n ≡ length self.old.calls) }
+        ensures free { IfOk result (λ _. admission_refusal self.old name.now args.now ≡ None) }
+        ensures after { OnOk result (self.new ≡ after_admission self.old name.now args.now) }
+        ensures fault { IfErr result (λ e. e ≢ fault.Memory → admission_refusal self.old name.now args.now ≡ Some e) }
+        ensures err { OnErr result (self.new ≡ self.old) }
+    {
+        let (procedure, places) = self.place_for(name, args)?;
+        let proc = self.procedures.get(procedure);
+        let begun = Call::start(proc, self.opening.shape(), procedure, args, places - 1)?;
+        let call = self.calls.len();
+        self.calls.reserve(1)?;
+        let Ok(()) = self.history.reserve(places) else {
+            return Err(CoreFault::Memory);
+        };
+        self.history.append(Event::Admit { call: call as u32 });
+        self.unfinished += 1;
+        self.calls.push_reserved(begun);
+        Ok(call as u32)
+    }
+
+    // The number of the procedure, and how many events a call of it may have; else why it isn't admitted.
+    fn place_for(&self, name: &str, args: &[i64]) -> Result<(u32, usize), CoreFault>
+        ensures refused { IfErr result (λ e. admission_refusal self.now name.now args.now ≡ Some e) }
+        ensures free { IfOk result (λ _. admission_refusal self.now name.now args.now ≡ None) }
+        ensures number { IfOk result (λ r. number_of self.now.procedures name.now ≡ Some r.0) }
+        ensures known { IfOk result (λ r. r.0 < length self.now.procedures) }
+        ensures arity { IfOk result (λ r. length args.now ≡ (procedure_at self.now r.0).code.arity) }
+        ensures places { IfOk result (λ r. r.1 ≡ places (procedure_at self.now r.0).code.instrs (length self.now.parents)) }
+        ensures room { IfOk result (λ r. r.1 ≤ room self.now) }
+        ensures few { IfOk result (λ _. length self.now.calls < 4096) }
+    {
+        let Some(procedure) = self.procedures.number_of(name) else {
+            return Err(CoreFault::NoProcedure);
+        };
+        let proc = self.procedures.get(procedure);
+        if args.len() != usize::from(proc.code().arity().number()) {
+            return Err(CoreFault::WrongArgs);
+        }
+        if self.calls.len() >= MAX_CALLS {
+            return Err(CoreFault::TooManyCalls);
+        }
+        if self.unfinished >= MAX_UNFINISHED {
+            return Err(CoreFault::TooManyOpen);
+        }
+        let nodes = self.opening.shape().node_count();
+        let places = 2 * usize::from(proc.bounds().locks.min(nodes)) + 2;
+        if places > self.history.room() {
+            return Err(CoreFault::HistoryFull);
+        }
+        Ok((procedure, places))
+    }
+
+    /// Whether the call is unfinished and its next instruction locks no node that another call holds. 602 where no call of
+    /// that number was admitted. Takes no memory.
+    pub fn enabled(&self, call: u32) -> Result<bool, CoreFault>
+        ensures known { IsOk result ↔ (call < admits self.now.past) }
+        ensures enabled { IfOk result (λ b. IsTrue b ↔ IsEnabled (world_of self.now) call) }
+        ensures fault { IfErr result (λ e. e ≡ fault.NoCall) }
+    {
+        let index = call as usize;
+        if index >= self.calls.len() {
+            return Err(CoreFault::NoCall);
+        }
+        match self.calls[index].turn.want() {
+            Want::Over => Ok(false),
+            Want::Lock(node) => {
+                let held_by = self.holders[usize::from(node)];
+                Ok(held_by.is_none())
+            }
+            Want::Local | Want::Free(_) | Want::Return => Ok(true),
+        }
+    }
+
+    /// The least call that is enabled. There is none exactly where no call is unfinished. Takes no memory.
+    pub fn some_enabled(&self) -> Option<u32>
+        ensures enabled { IfSome result (λ c. IsEnabled (world_of self.now) c) }
+        ensures least { IfSome result (λ c. (d : ℕ) → IsEnabled (world_of self.now) d → c ≤ d) }
+        ensures none { IsNone result ↔ AllDone self.now.past }
+    {
+        for call in 0..self.calls.len() as u32 {
+            let is_enabled = self.enabled(call).unwrap_or(false);
+            if is_enabled {
+                return Some(call);
+            }
+        }
+        None
+    }
+
+    /// The moves, one after another: what came of each, in their order, refusals too. 690 where there is no memory for the
+    /// list; then nothing was done. Where memory is refused to an admission, that is its entry.
+    pub fn drive(&mut self, alloc: Global, moves: &[Move]) -> Result<Vec<Entry>, CoreFault>
+        ensures traced { IfOk result (λ t. Traced self.old moves.now t.items) }
+        ensures after { IfOk result (λ t. self.new ≡ after_moves self.old moves.now t.items) }
+        ensures bounded { IfOk result (λ t. moved t.items ≤ all_budgets self.new) }
+        ensures fault { IfErr result (λ e. e ≡ fault.Memory) }
+        ensures err { OnErr result (self.new ≡ self.old) }
+    {
+        // That each call is within its budget is so of every core: here a proof learns that.
+        self.is_sound();
+        let mut trace = Vec::with_capacity(alloc, moves.len())?;
+        for one in moves {
+            trace.push_reserved(self.carry_out(one));
+        }
+        self.is_sound();
+        Ok(trace)
+    }
+
+    // One move.
+    fn carry_out(&mut self, one: &Move) -> Entry
+        ensures entry { IsEntry self.old one.now result }
+        ensures after { self.new ≡ after_entry self.old one.now result }
+    {
+        match one {
+            Move::Admit { name, args } => match self.admit(name, args) {
+                Ok(call) => Entry::Admitted { call },
+                Err(fault) => Entry::Refused { fault },
+            },
+            Move::Step { call } => match self.step(*call) {
+                Ok(stepped) => Entry::Stepped {
+                    call: *call,
+                    stepped,
+                },
+                Err(fault) => Entry::Refused { fault },
+            },
+        }
+    }
+
+    /// The tree as it was before any call.
+    pub fn opening(&self) -> &Tree
+        ensures { result.now ≡ record { parents = self.now.parents; records = self.now.opening } }
+    {
+        &self.opening
+    }
+
+    /// The tree as it is now: each record is the one that a call left last, or the opening one. What a call has written to
+    /// a node that it holds isn't seen here before it lets the node go.
+    pub fn tree(&self) -> &Tree
+        ensures { result.now ≡ record { parents = self.now.parents; records = records_now self.now.past self.now.opening } }
+    {
+        &self.latest
+    }
+
+    /// The record of a node now.
+    pub fn record_at(&self, node: u16) -> Record
+        requires { node < length self.now.parents }
+        ensures { result ≡ record_now self.now.past self.now.opening node }
+    {
+        self.latest.record_at(node)
+    }
+
+    /// The call that holds the node.
+    pub fn holder(&self, node: u16) -> Option<u32>
+        requires { node < length self.now.parents }
+        ensures { result ≡ holder_of self.now.past node }
+    {
+        self.holders[usize::from(node)]
+    }
+
+    /// What the calls have done to the tree, and the places for what they may still do.
+    pub fn history(&self) -> &History
+        ensures past { result.now.past ≡ self.now.past }
+        ensures limit { result.now.limit ≡ self.now.limit }
+        ensures reserved { result.now.reserved ≡ owed self.now }
+    {
+        &self.history
+    }
+
+    /// How many procedures there are. They are numbered from 0.
+    pub fn procs(&self) -> usize
+        ensures { result ≡ length self.now.procedures }
+    {
+        self.procedures.len()
+    }
+
+    /// The procedure of that number.
+    pub fn proc(&self, number: u32) -> &Arc<Proc>
+        requires { number < length self.now.procedures }
+        ensures { arc_value result.now ≡ (procedure_at self.now number).code }
+    {
+        self.procedures.get(number)
+    }
+
+    /// The name of the procedure of that number.
+    pub fn name(&self, number: u32) -> &str
+        requires { number < length self.now.procedures }
+        ensures { result.now ≡ (procedure_at self.now number).name }
+    {
+        self.procedures.name(number)
+    }
+
+    /// How many calls were admitted. They are numbered from 0.
+    pub fn calls(&self) -> usize
+        ensures count { result ≡ length self.now.calls }
+        ensures admitted { result ≡ admits self.now.past }
+        ensures few { result ≤ MAX_CALLS }
+    {
+        self.calls.len()
+    }
+
+    /// What was asked of a call: the number of its procedure, and its arguments.
+    pub fn request(&self, call: u32) -> (u32, &[i64])
+        requires { call < length self.now.calls }
+        ensures procedure { result.0 ≡ (call_of self.now call).procedure }
+        ensures args { result.1.now ≡ (call_of self.now call).args }
+        ensures known { result.0 < length self.now.procedures }
+        ensures code { (procedure_at self.now result.0).code ≡ (call_of self.now call).code }
+        ensures arity { length result.1.now ≡ (call_of self.now call).code.arity }
+    {
+        let current = &self.calls[call as usize];
+        (current.procedure, &current.args)
+    }
+
+    /// What a call answered, once it is done.
+    pub fn reply(&self, call: u32) -> Option<&Reply>
+        requires { call < length self.now.calls }
+        ensures { option_copied result ≡ (if is_done call self.now.past then Some (reply_of (world_of self.now) call) else None) }
+    {
+        self.calls[call as usize].reply.as_ref()
+    }
+
+    /// What is so of every core: its world is sound and legal, and what each call has done obeys the tree protocol and is
+    /// within the bounds of its procedure.
+    pub fn is_sound(&self)
+        ensures sound { IsSound (world_of self.now) }
+        ensures legal { Legal (world_of self.now) }
+        ensures counted { length self.now.calls ≡ admits self.now.past }
+        ensures obeys { (c : ℕ) → c < admits self.now.past → Obeys self.now.parents (done_by self.now c) }
+        ensures steps { (c : ℕ) → c < admits self.now.past → length (done_by self.now c) ≤ budget (code_of self.now c) }
+        ensures counts { (c : ℕ) → c < admits self.now.past → (call_of self.now c).count ≤ budget (code_of self.now c) }
+        ensures locks { (c : ℕ) → c < admits self.now.past → lock_count (done_by self.now c) ≤ lock_bound (code_of self.now c) }
+        ensures emits { (c : ℕ) → c < admits self.now.past → length (emitted (done_by self.now c)) ≤ emit_bound (code_of self.now c) }
+    {
+        let _ = &self.history;
+    }
+}

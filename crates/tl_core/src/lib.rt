@@ -1,0 +1,15 @@
+//! Many calls at once, one step at a time.
+//!
+//! A `Core` has a tree, procedures, and calls of them that take turns: who drives it says which call does its next
+//! instruction. A call that is about to lock a node that another holds is told so, and nothing changes. What the calls
+//! do to the tree is stored as a history. Its world is legal, whatever is asked of it.
+#![tactic(auto)]
+
+pub mod call;
+pub mod fault;
+pub mod interleaving;
+pub mod moves;
+pub mod procedures;
+pub mod stepped;
+#[cfg(test)]
+mod tests;
