@@ -1,0 +1,13 @@
+use Rattle.std.proofs.Common.{◌≡◌, ◌≤◌, ◌++◌, length, drop}
+use Rattle.tl_protocol.specs.Alone.{serial}
+use Rattle.tl_core.specs.Cores.{world_of}
+use Rattle.tl_serial.proofs.replaying.replay.Given as goal
+
+-- the rest of the calls, run from the tree so far, leave the tree of all; their replies come behind those so far
+abbrev pub invariant-loop-call : goal.invariant-loop-call
+invariant-loop-call l =
+    (l.tree.parents ≡ l.core.parents)
+    × (l.replies.len ≡ l.call-index)
+    × (length l.calls ≤ l.replies.cap)
+    × ((serial (world_of l.core).meanings (drop l.call-index l.calls) l.tree.records).tree ≡ (serial (world_of l.core).meanings l.calls l.core.opening).tree)
+    × (l.replies.items ++ (serial (world_of l.core).meanings (drop l.call-index l.calls) l.tree.records).replies ≡ (serial (world_of l.core).meanings l.calls l.core.opening).replies)

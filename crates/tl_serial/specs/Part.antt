@@ -1,0 +1,23 @@
+-- What is kept of one call.
+use Rattle.std.specs.Prelude.{◌≡◌, ℕ, ◌+◌, ◌<◌, Bool, true, false, List, [], ◌∷◌, length, slice_index_or}
+use Rattle.tl_protocol.specs.declared.action.Action.{Action}
+use Rattle.tl_protocol.specs.Actions
+
+-- of each node whether the call locked it, and whether it holds it
+pub record Marks : Type 0 where
+  pub locked : List Bool
+  pub held : List Bool
+
+abbrev pub node_count : Marks → ℕ
+node_count m = length m.locked
+
+-- how many are true
+abbrev pub trues : List Bool → ℕ
+trues [] = 0
+trues (true ∷ bs) = trues bs + 1
+trues (false ∷ bs) = trues bs
+
+-- the marks are those of a call that has done this
+pub record IsPart (m : Marks) (done : List Action) : Type 0 where
+  pub locks : (y : ℕ) → y < node_count m → slice_index_or m.locked y false ≡ Actions.locked done y
+  pub holds : (y : ℕ) → y < node_count m → slice_index_or m.held y false ≡ Actions.held done y

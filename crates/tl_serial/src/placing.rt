@@ -1,0 +1,178 @@
+// The order that a history gives.
+
+ghost use Rattle.std.specs.Prelude.{◌≡◌, ℕ, ◌^◌, ◌<◌, ◌≤◌, List, [], ◌∷◌, length, insert, All, IsTrue, ◌↔◌, IfOk, IfErr, OnOk};
+ghost use Rattle.tl_tree.specs.Shape.{IsTree};
+ghost use Rattle.tl_protocol.specs.declared.event.Event.{Event as EventValue};
+ghost use Rattle.tl_protocol.specs.Actions.{may_come};
+ghost use Rattle.tl_protocol.specs.History.{caller, part_of, past_of};
+ghost use Rattle.tl_protocol.specs.Order.{put_before, placed, placed_after};
+ghost use Rattle.tl_serial.specs.Parts.{IsOfNodes, AreOfNodes, Show};
+
+use crate::fault::SerialFault;
+use crate::line::Line;
+use crate::order::Order;
+use crate::part::Part;
+use std::alloc::{AllocError, Global};
+use tl_history::history::History;
+use tl_protocol::event::Event;
+use tl_tree::shape::Shape;
+
+/// The order that a history gives, event by event.
+///
+/// At a call's first lock, of x, the call is put in just before the first call that may still come to x at that moment,
+/// or at the end if there is none. A call that is done without a lock goes to the end. A call that stands isn't put in
+/// again, and nothing else moves. So any history has an order, also one that breaks the rules.
+///
+/// 690 where memory is refused.
+pub fn order_of(alloc: Global, history: &History, shape: &Shape) -> Result<Order, SerialFault>
+    requires { All (IsOfNodes (length shape.now)) history.now.past }
+    ensures ok { IfOk result (λ o. o ≡ placed shape.now history.now.past) }
+    ensures err { IfErr result (λ e. e ≡ SerialFault.Memory) }
+{
+    let nodes = usize::from(shape.node_count());
+    let events = history.events();
+    let calls = call_count(events);
+    let mut parts = parts_of_none(alloc, calls, nodes)?;
+    let mut line = Line::new(alloc, calls)?;
+    place_all(&mut line, &mut parts, shape, events)?;
+    Ok(line.into_order())
+}
+
+// Puts the calls of the events in order, where none stands yet and nothing was done.
+fn place_all(
+    line: &mut Line,
+    parts: &mut [Part],
+    shape: &Shape,
+    events: &[Event],
+) -> Result<(), AllocError>
+    requires tree { IsTree shape.now }
+    requires calls { length parts.old ≡ line.old.count }
+    requires nodes { AreOfNodes (length shape.now) parts.old }
+    requires callers { All (λ e. caller e < line.old.count) events.now }
+    requires inside { All (IsOfNodes (length shape.now)) events.now }
+    requires none { line.old.order ≡ [] }
+    requires start { Show parts.old [] }
+    ensures { OnOk result (line.new.order ≡ placed shape.now (past_of events.now)) }
+{
+    for event in events {
+        place(line, parts, shape, event)?;
+        note(parts, event);
+    }
+    Ok(())
+}
+
+/// Whether each lock and each free of the history is of a node of the shape.
+pub fn is_of_shape(history: &History, shape: &Shape) -> bool
+    ensures { IsTrue result ↔ All (IsOfNodes (length shape.now)) history.now.past }
+{
+    for event in history.events() {
+        if !is_of_nodes(event, shape.node_count()) {
+            return false;
+        }
+    }
+    true
+}
+
+// Whether the node of the event, where it has one, is one of the first so many.
+fn is_of_nodes(event: &Event, nodes: u16) -> bool
+    ensures { IsTrue result ↔ IsOfNodes nodes event.now }
+{
+    match *event {
+        Event::Lock { node, .. } | Event::Free { node, .. } => node < nodes,
+        Event::Admit { .. } | Event::Done { .. } => true,
+    }
+}
+
+// The call whose event it is.
+fn caller(event: &Event) -> u32
+    ensures { result ≡ caller event.now }
+{
+    match *event {
+        Event::Admit { call }
+        | Event::Lock { call, .. }
+        | Event::Free { call, .. }
+        | Event::Done { call } => call,
+    }
+}
+
+// One more than the highest number of a call, or 0 where there is no event.
+fn call_count(events: &[Event]) -> usize
+    ensures { All (λ e. caller e < result) events.now }
+{
+    let mut count = 0;
+    for event in events {
+        count = count.max(caller(event) as usize + 1);
+    }
+    count
+}
+
+// Of each call a part in which nothing was done.
+fn parts_of_none(alloc: Global, calls: usize, nodes: usize) -> Result<Vec<Part>, AllocError>
+    ensures calls { IfOk result (λ parts. length parts.items ≡ calls) }
+    ensures nodes { IfOk result (λ parts. AreOfNodes nodes parts.items) }
+    ensures none { IfOk result (λ parts. Show parts.items []) }
+{
+    let mut parts = Vec::with_capacity(alloc, calls)?;
+    for _call in 0..calls {
+        parts.push(Part::new(alloc, nodes)?)?;
+    }
+    Ok(parts)
+}
+
+// Adds the event to its call's part.
+fn note(parts: &mut [Part], event: &Event)
+    requires caller { caller event.now < length parts.old }
+    requires node { (nodes : ℕ) × AreOfNodes nodes parts.old × IsOfNodes nodes event.now }
+    ensures nodes { (nodes : ℕ) → AreOfNodes nodes parts.old → AreOfNodes nodes parts.new }
+    ensures more { (past : List EventValue) → Show parts.old past → Show parts.new (event.now ∷ past) }
+{
+    match *event {
+        Event::Lock { call, node, .. } => parts[call as usize].lock(node),
+        Event::Free { call, node, .. } => parts[call as usize].free(node),
+        Event::Admit { .. } | Event::Done { .. } => {}
+    }
+}
+
+// Puts the event's call in order, where it is its call's first lock, or its end without a lock.
+fn place(line: &mut Line, parts: &[Part], shape: &Shape, event: &Event) -> Result<(), AllocError>
+    requires tree { IsTree shape.now }
+    requires calls { length parts.now ≡ line.old.count }
+    requires nodes { AreOfNodes (length shape.now) parts.now }
+    requires caller { caller event.now < line.old.count }
+    requires node { IsOfNodes (length shape.now) event.now }
+    ensures count { OnOk result (line.new.count ≡ line.old.count) }
+    ensures ok { OnOk result ((past : List EventValue) → Show parts.now past
+        → line.new.order ≡ placed_after shape.now past event.now line.old.order) }
+{
+    let call = caller(event);
+    if line.stands(call) {
+        return Ok(());
+    }
+    match *event {
+        Event::Lock { node, .. } => {
+            let first = first_coming(line.calls(), parts, shape, node);
+            line.put_in(first, call)
+        }
+        Event::Done { .. } => line.put_in(line.calls().len(), call),
+        Event::Admit { .. } | Event::Free { .. } => Ok(()),
+    }
+}
+
+// The place of the first call in order that may still come to the node, or the end.
+fn first_coming(order: &[u32], parts: &[Part], shape: &Shape, node: u16) -> usize
+    requires calls { All (λ c. c < length parts.now) order.now }
+    requires tree { IsTree shape.now }
+    requires nodes { AreOfNodes (length shape.now) parts.now }
+    requires node { node < length shape.now }
+    ensures within { result ≤ length order.now }
+    ensures first { (past : List EventValue) (call : ℕ) → Show parts.now past
+        → put_before (λ c. may_come shape.now (part_of c past) node) call order.now
+        ≡ insert order.now result call }
+{
+    for (place, call) in order.iter().enumerate() {
+        if parts[*call as usize].may_come(shape, node) {
+            return place;
+        }
+    }
+    order.len()
+}

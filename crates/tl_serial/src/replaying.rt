@@ -1,0 +1,50 @@
+// The calls of an order, run again.
+
+ghost use Rattle.std.specs.Prelude.{◌≡◌, ◌<◌, All, IfOk, IfErr, length};
+ghost use Rattle.tl_protocol.specs.Alone.{serial};
+ghost use Rattle.tl_core.specs.Cores.{world_of};
+
+use crate::fault::SerialFault;
+use crate::order::Order;
+use std::alloc::Global;
+use tl_core::interleaving::Core;
+use tl_machine::alone_run::alone;
+use tl_machine::reply::Reply;
+use tl_tree::tree::Tree;
+
+/// The calls of the order run alone, one after another, from the opening tree: the tree that they leave, and their
+/// replies in that order. The core stays as it is. 690 where memory is refused.
+pub fn replay(alloc: Global, order: &Order, core: &Core) -> Result<(Tree, Vec<Reply>), SerialFault>
+    requires { All (λ c. c < length core.now.calls) order.now }
+    ensures tree { IfOk result (λ r. r.0 ≡ record {
+      parents = core.now.parents;
+      records = (serial (world_of core.now).meanings order.now core.now.opening).tree;
+    }) }
+    ensures replies { IfOk result (λ r. r.1.items
+        ≡ (serial (world_of core.now).meanings order.now core.now.opening).replies) }
+    ensures err { IfErr result (λ e. e ≡ SerialFault.Memory) }
+{
+    let Ok(mut tree) = core.opening().copy() else {
+        return Err(SerialFault::Memory);
+    };
+    let calls = order.calls();
+    let mut replies = Vec::with_capacity(alloc, calls.len())?;
+    for call in calls {
+        replies.push_reserved(run_again(core, *call, &mut tree));
+    }
+    Ok((tree, replies))
+}
+
+// Runs a call of the core alone on the tree, and answers its reply.
+fn run_again(core: &Core, call: u32, tree: &mut Tree) -> Reply
+    requires known { call < length core.now.calls }
+    requires shape { tree.old.parents ≡ core.now.parents }
+    ensures tree { tree.new ≡ record tree.old { records = ((world_of core.now).meanings call tree.old.records).tree } }
+    ensures reply { result ≡ ((world_of core.now).meanings call tree.old.records).reply }
+{
+    let (procedure, args) = core.request(call);
+    let Ok(answer) = alone(core.proc(procedure), args, tree) else {
+        unreachable!()
+    };
+    answer.reply
+}

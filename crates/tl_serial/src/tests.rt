@@ -1,0 +1,372 @@
+use crate::concluding::conclude;
+use crate::fault::SerialFault;
+use crate::placing::{is_of_shape, order_of};
+use crate::replaying::replay;
+use std::alloc::Global;
+use std::process::Abort;
+use std::sync::Arc;
+use std::test::Fail;
+use tl_core::interleaving::Core;
+use tl_core::moves::Move;
+use tl_history::history::{History, MAX_EVENTS};
+use tl_instr::code::Code;
+use tl_instr::instr::Instr;
+use tl_instr::operand::{Field, NodeRegister, ValueRegister};
+use tl_protocol::event::Event;
+use tl_tree::record::Record;
+use tl_tree::shape::Shape;
+use tl_tree::tree::Tree;
+use tl_verify::procedure::{Proc, verify};
+
+// ---- histories
+
+/// A root with two children.
+const FORK: [i64; 3] = [0, 0, 0];
+
+/// A root with a child that has a child.
+const CHAIN: [i64; 3] = [0, 0, 1];
+
+fn admit(call: u32) -> Event {
+    Event::Admit { call }
+}
+
+fn lock(call: u32, node: u16) -> Event {
+    Event::Lock {
+        call,
+        node,
+        found: [0; 4],
+    }
+}
+
+fn free(call: u32, node: u16) -> Event {
+    Event::Free {
+        call,
+        node,
+        left: [1, 2, 3, 4],
+    }
+}
+
+fn done(call: u32) -> Event {
+    Event::Done { call }
+}
+
+fn history_of(alloc: Global, events: &[Event]) -> Result<History, Fail> {
+    let mut history = History::new(alloc, 100);
+    for event in events {
+        history.reserve(1)?;
+        history.append(*event);
+    }
+    Ok(history)
+}
+
+/// The order that these events give on a tree with these parents.
+fn order(alloc: Global, parents: &[i64], events: &[Event]) -> Result<Vec<u32>, Fail> {
+    let shape = Shape::new(alloc, parents)?;
+    let history = history_of(alloc, events)?;
+    if !is_of_shape(&history, &shape) {
+        return Err("an event of another node".into());
+    }
+    let order = order_of(alloc, &history, &shape)?;
+    Ok(Vec::from_slice(alloc, order.calls())?)
+}
+
+#[test]
+fn no_events_give_no_order(rt: HostRuntime) -> Result<(), Fail> {
+    let order = order(rt.alloc(), &FORK, &[])?;
+    assert!(rt; order.is_empty());
+    Ok(())
+}
+
+// Call 2 comes to node 2 before call 0, which came first of all.
+#[test]
+fn an_order_against_the_clock(rt: HostRuntime) -> Result<(), Fail> {
+    let events = [
+        admit(0),
+        lock(0, 0),
+        lock(0, 1),
+        free(0, 1),
+        admit(1),
+        lock(1, 1),
+        free(1, 1),
+        done(1),
+        admit(2),
+        lock(2, 2),
+        free(2, 2),
+        done(2),
+        lock(0, 2),
+        free(0, 2),
+        free(0, 0),
+        done(0),
+    ];
+    let order = order(rt.alloc(), &FORK, &events)?;
+    assert_eq!(rt; order.as_slice(), [2, 0, 1].as_slice());
+    Ok(())
+}
+
+#[test]
+fn a_call_without_a_lock_goes_to_the_end(rt: HostRuntime) -> Result<(), Fail> {
+    let events = [admit(0), admit(1), lock(1, 0), free(1, 0), done(1), done(0)];
+    let order = order(rt.alloc(), &FORK, &events)?;
+    assert_eq!(rt; order.as_slice(), [1, 0].as_slice());
+    Ok(())
+}
+
+// Call 0 holds the root all along, and has given up the way to node 2 once it has freed node 1.
+#[test]
+fn a_way_is_given_up(rt: HostRuntime) -> Result<(), Fail> {
+    let first = [admit(0), lock(0, 0), admit(1), lock(1, 2)];
+    let first = order(rt.alloc(), &CHAIN, &first)?;
+    assert_eq!(rt; first.as_slice(), [1, 0].as_slice());
+    let after = [
+        admit(0),
+        lock(0, 0),
+        lock(0, 1),
+        free(0, 1),
+        admit(1),
+        lock(1, 2),
+    ];
+    let after = order(rt.alloc(), &CHAIN, &after)?;
+    assert_eq!(rt; after.as_slice(), [0, 1].as_slice());
+    Ok(())
+}
+
+// Calls that were never admitted, a node that two calls hold, frees of what isn't held, a lock after a free, and events
+// after an end.
+#[test]
+fn a_history_that_breaks_the_rules_has_an_order(rt: HostRuntime) -> Result<(), Fail> {
+    let events = [
+        free(9, 1),
+        lock(7, 0),
+        lock(3, 0),
+        done(7),
+        free(7, 0),
+        lock(7, 0),
+        lock(5, 1),
+        free(3, 0),
+        free(7, 0),
+        free(7, 0),
+        lock(9, 1),
+        done(9),
+        done(2),
+        done(2),
+    ];
+    let order = order(rt.alloc(), &CHAIN, &events)?;
+    assert_eq!(rt; order.as_slice(), [5, 7, 3, 9, 2].as_slice());
+    Ok(())
+}
+
+// Each call locks the root, and then each of 126 children for a moment.
+#[test]
+fn a_million_events_of_many_calls(rt: HostRuntime) -> Result<(), Fail> {
+    let shape = Shape::new(rt.alloc(), &[0; 127])?;
+    let mut history = History::new(rt.alloc(), MAX_EVENTS);
+    for call in 0..4096 {
+        history.reserve(256)?;
+        history.append(admit(call));
+        history.append(lock(call, 0));
+        for node in 1..127 {
+            assert!(rt; history.reserved() > 3);
+            history.append(lock(call, node));
+            history.append(free(call, node));
+        }
+        assert!(rt; history.reserved() == 2);
+        history.append(free(call, 0));
+        history.append(done(call));
+    }
+    assert_eq!(rt; history.len(), MAX_EVENTS);
+    assert!(rt; is_of_shape(&history, &shape));
+    let order = order_of(rt.alloc(), &history, &shape)?;
+    assert_eq!(rt; order.calls().len(), 4096);
+    for (place, call) in order.calls().iter().enumerate() {
+        assert_eq!(rt; *call as usize, place);
+    }
+    Ok(())
+}
+
+#[test]
+fn nodes_of_another_tree_are_told(rt: HostRuntime) -> Result<(), Fail> {
+    let shape = Shape::new(rt.alloc(), &FORK)?;
+    for (event, inside) in [
+        (lock(0, 2), true),
+        (lock(0, 3), false),
+        (free(1, 2), true),
+        (free(1, 3), false),
+        (done(3), true),
+        (admit(3), true),
+    ] {
+        let history = history_of(rt.alloc(), &[event])?;
+        assert_eq!(rt; is_of_shape(&history, &shape), inside);
+    }
+    Ok(())
+}
+
+#[test]
+fn faults_are_numbered(rt: HostRuntime) {
+    assert_eq!(rt;
+        SerialFault::Unfinished { call: 7 }.numbers().as_slice(),
+        [651, 7].as_slice()
+    );
+    assert_eq!(rt; SerialFault::Memory.numbers().as_slice(), [690].as_slice());
+}
+
+// ---- instructions, as in the text form
+
+fn v(number: u8) -> Result<ValueRegister, Fail> {
+    Ok(ValueRegister::new(number).ok_or("a value register")?)
+}
+
+fn n(number: u8) -> Result<NodeRegister, Fail> {
+    Ok(NodeRegister::new(number).ok_or("a node register")?)
+}
+
+fn first(to: u8, number: u8, otherwise: u16) -> Result<Instr, Fail> {
+    Ok(Instr::First {
+        to: n(to)?,
+        number: v(number)?,
+        otherwise,
+    })
+}
+
+/// Reads field 0.
+fn get(to: u8, node: u8) -> Result<Instr, Fail> {
+    Ok(Instr::Get {
+        to: v(to)?,
+        node: n(node)?,
+        field: Field::new(0).ok_or("a field")?,
+    })
+}
+
+fn emit(from: u8) -> Result<Instr, Fail> {
+    Ok(Instr::Emit { from: v(from)? })
+}
+
+fn release(node: u8) -> Result<Instr, Fail> {
+    Ok(Instr::Release { node: n(node)? })
+}
+
+// ---- procedures
+
+fn procedure_of(alloc: Global, arity: u8, instrs: &[Instr]) -> Result<Proc, Fail> {
+    let code = Code::new(arity, Vec::from_slice(alloc, instrs)?)?;
+    Ok(verify(alloc, code).ok().ok_or("refused")?)
+}
+
+/// Emits field 0 of the node `v0`.
+fn look(alloc: Global) -> Result<Proc, Fail> {
+    let instrs = [
+        first(0, 0, 4)?,
+        get(1, 0)?,
+        emit(1)?,
+        release(0)?,
+        Instr::Return,
+    ];
+    procedure_of(alloc, 1, &instrs)
+}
+
+// ---- cores
+
+/// Records with these numbers in field 0, and 0 in the others.
+fn records_of(numbers: [i64; 3]) -> [Record; 3] {
+    let [first, second, third] = numbers;
+    [[first, 0, 0, 0], [second, 0, 0, 0], [third, 0, 0, 0]]
+}
+
+/// A core of a root with two children that have these numbers in field 0.
+fn core_of(alloc: Global, numbers: [i64; 3]) -> Result<Core, Fail> {
+    let shape = Arc::new(alloc, Shape::new(alloc, &FORK)?)?;
+    let records = Vec::from_slice(alloc, &records_of(numbers))?;
+    let mut core = Core::new(alloc, Tree::new(shape, records)?)?;
+    core.add_proc(alloc, "look", look(alloc)?)?;
+    Ok(core)
+}
+
+/// Puts an admission last.
+fn ask(alloc: Global, moves: &mut Vec<Move>, name: &str, args: &[i64]) -> Result<(), Fail> {
+    let name = String::from_str(alloc, name)?;
+    let args = Vec::from_slice(alloc, args)?;
+    moves.push(Move::Admit { name, args })?;
+    Ok(())
+}
+
+/// Puts so many steps of the call last.
+fn put_steps(moves: &mut Vec<Move>, call: u32, times: usize) -> Result<(), Fail> {
+    for _ in 0..times {
+        moves.push(Move::Step { call })?;
+    }
+    Ok(())
+}
+
+/// The core's calls have this order. Run again along it they leave these records, which are those now.
+fn assert_order(
+    rt: &impl Abort,
+    alloc: Global,
+    core: &Core,
+    expected: &[u32],
+    left: [i64; 3],
+) -> Result<(), Fail> {
+    let order = conclude(alloc, core)?;
+    assert_eq!(rt; order.calls(), expected);
+    let (tree, replies) = replay(alloc, &order, core)?;
+    assert_eq!(rt; tree.records(), records_of(left).as_slice());
+    assert_eq!(rt; core.tree().records(), records_of(left).as_slice());
+    assert_eq!(rt; replies.len(), expected.len());
+    Ok(())
+}
+
+/// What the call at this place of the order replies when it runs again.
+fn assert_reply(
+    rt: &impl Abort,
+    alloc: Global,
+    core: &Core,
+    place: usize,
+    values: &[i64],
+) -> Result<(), Fail> {
+    let order = conclude(alloc, core)?;
+    let (_, replies) = replay(alloc, &order, core)?;
+    match replies.get(place) {
+        Some(reply) => assert_eq!(rt; reply.values(), values, "{place}"),
+        None => assert!(rt; false, "no reply"),
+    }
+    Ok(())
+}
+
+/// The core's call isn't done, and no lower call is unfinished.
+fn assert_unfinished(rt: &impl Abort, alloc: Global, core: &Core, call: u32) -> Result<(), Fail> {
+    match conclude(alloc, core) {
+        Ok(_) => assert!(rt; false, "an order"),
+        Err(fault) => assert_eq!(rt; fault, SerialFault::Unfinished { call }),
+    }
+    Ok(())
+}
+
+#[test]
+fn no_calls_give_the_opening_tree(rt: HostRuntime) -> Result<(), Fail> {
+    let alloc = rt.alloc();
+    let core = core_of(alloc, [5, 6, 7])?;
+    assert_order(&rt, alloc, &core, &[], [5, 6, 7])
+}
+
+#[test]
+fn a_call_without_a_lock_runs_again_last(rt: HostRuntime) -> Result<(), Fail> {
+    let alloc = rt.alloc();
+    let mut core = core_of(alloc, [5, 6, 7])?;
+    let mut moves = Vec::new(alloc);
+    ask(alloc, &mut moves, "look", &[-1])?;
+    ask(alloc, &mut moves, "look", &[0])?;
+    put_steps(&mut moves, 1, 5)?;
+    put_steps(&mut moves, 0, 2)?;
+    core.drive(alloc, &moves)?;
+    assert_order(&rt, alloc, &core, &[1, 0], [5, 6, 7])?;
+    assert_reply(&rt, alloc, &core, 0, &[5])?;
+    assert_reply(&rt, alloc, &core, 1, &[])
+}
+
+#[test]
+fn an_unfinished_call_is_told(rt: HostRuntime) -> Result<(), Fail> {
+    let alloc = rt.alloc();
+    let mut core = core_of(alloc, [5, 6, 7])?;
+    let mut moves = Vec::new(alloc);
+    ask(alloc, &mut moves, "look", &[0])?;
+    core.drive(alloc, &moves)?;
+    assert_unfinished(&rt, alloc, &core, 0)
+}
