@@ -5,6 +5,7 @@ use Rattle.serde_json.specs.Read.{read}
 use Rattle.tl_tree.specs.Trees.{TreeValue}
 use Rattle.tl_tree.specs.Reading.{tree_of_text, integers_of}
 use Rattle.tl_tree.specs.Writing.{list_text, tree_text}
+use Rattle.tl_tree.specs.declared.fault.TreeFault.{TreeFault}
 use Rattle.tl_tree.specs.declared.fault.TreeFault.TheVariants as tree
 use Rattle.tl_instr.specs.Codes.{CodeValue}
 use Rattle.tl_instr.specs.Spelling.{Spelled}
@@ -17,7 +18,7 @@ use Rattle.tl_machine.specs.Alone.{alone}
 use Rattle.tl_protocol.specs.Alone.{Outcome}
 use Rattle.tl_machine.specs.Outcomes.{outcome_of}
 use Rattle.tl_cli.specs.declared.fault.CliFault.{CliFault}
-use Rattle.tl_cli.specs.declared.fault.CliFault.TheVariants.{Unreadable, Unwritable, NotUtf8, Asm, Tree, Code, Verify, NotScript, NotArgs, WrongArgs, Memory}
+use Rattle.tl_cli.specs.declared.fault.CliFault.TheVariants.{Unreadable, Unwritable, NotUtf8, Asm, Tree, Code, Verify, Core, NotScript, NotArgs, WrongArgs, Memory}
 
 -- the first line: the reply, and how many instructions were done
 abbrev pub answer_text : List ℤ → ℕ → List ℕ
@@ -52,9 +53,13 @@ pub record IsTreeFile (bytes : List ℕ) : Type 0 where
   pub tree : TreeValue
   pub same : tree_of_text bytes ≡ Ok tree
 
+-- what is wrong with a file of a tree
+abbrev pub IsTreeFault : List ℕ → TreeFault → Type 0
+IsTreeFault t f = ((IsUtf8 t → ⊥) × (f ≡ tree.NotTree)) ⊎ (tree_of_text t ≡ Err f)
+
 -- The fault of the first input that has one: the tree, the container, the verifier, the arguments, their number.
 abbrev pub IsFault : List ℕ → List ℕ → List ℕ → CliFault → Type 0
-IsFault t c a (Tree f) = f ≢ tree.Memory → ((IsUtf8 t → ⊥) × (f ≡ tree.NotTree)) ⊎ (tree_of_text t ≡ Err f)
+IsFault t c a (Tree f) = f ≢ tree.Memory → IsTreeFault t f
 IsFault t c a (Code f) = f ≢ code.Memory → IsTreeFile t × FirstFault c f
 IsFault t c a (Verify f) = f ≢ verify.Memory → IsTreeFile t × (code' : CodeValue) × Spelled c code' × IsFirstFault code'.instrs f
 IsFault t c a NotArgs = IsTreeFile t × (code' : CodeValue) × Spelled c code' × Acceptable code'.instrs × (args_of_text a ≡ None)
@@ -64,4 +69,5 @@ IsFault t c a Unreadable = ⊥
 IsFault t c a Unwritable = ⊥
 IsFault t c a NotUtf8 = ⊥
 IsFault t c a (Asm f) = ⊥
+IsFault t c a (Core f) = ⊥
 IsFault t c a NotScript = ⊥

@@ -1,3 +1,5 @@
 pub mod Faults
 pub mod Alone
 pub mod Script
+pub mod Told
+pub mod Drive

@@ -6,8 +6,8 @@ use Rattle.serde_json.specs.Events.{members_len}
 use Rattle.serde_json.specs.Find.{as_number, as_u64, as_str, as_array, as_object, get_member}
 use Rattle.serde_json.specs.Read.{read}
 use Rattle.tl_tree.specs.Reading.{both, each_item, integers_of}
-use Rattle.tl_cli.specs.declared.moves.Move.{Move}
-use Rattle.tl_cli.specs.declared.moves.Move.TheVariants as a_move
+use Rattle.tl_core.specs.declared.moves.Move.{Move}
+use Rattle.tl_core.specs.declared.moves.Move.TheVariants as a_move
 use Rattle.tl_cli.specs.declared.script.NamedText.{NamedText}
 use Rattle.tl_cli.specs.declared.script.Script.{Script}
 

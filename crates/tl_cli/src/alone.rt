@@ -1,39 +1,23 @@
 // The command `alone`.
 
-ghost use Rattle.std.specs.Prelude.{◌≡◌, IfOk, IfErr, string_bytes, codes, pos, List, [], ◌∷◌, ◌++◌, ℕ, ◌⊎◌, Ok, None, Some};
+ghost use Rattle.std.specs.Prelude.{◌≡◌, IfOk, IfErr, string_bytes, codes, pos, List, [], ◌∷◌, ◌++◌, ℕ, ◌⊎◌, None, Some};
 ghost use Rattle.serde_json.specs.Data.{object, member, no_members};
 ghost use Rattle.serde_json.specs.View.{view};
-ghost use Rattle.tl_tree.specs.Reading.{tree_of_text};
 ghost use Rattle.tl_instr.specs.Spelling.{Spelled};
 ghost use Rattle.tl_verify.specs.Acceptable.{Acceptable};
 ghost use Rattle.tl_tree.specs.Writing.{integer_data, integers_data, tree_text};
 ghost use Rattle.tl_cli.specs.Alone.{answer_text, args_of_text, Prints, IsTreeFile, IsFault};
 
 use crate::fault::CliFault;
+use crate::inputs::tree_of_file;
 use serde_json::{Value, json};
 use std::alloc::{AllocError, Global};
 use std::sync::Arc;
 use tl_instr::container::decode;
 use tl_machine::alone_run::{Answer, alone};
-use tl_tree::fault::TreeFault;
-use tl_tree::text::{read_tree, write_tree};
-use tl_tree::tree::Tree;
+use tl_tree::text::write_tree;
 use tl_tree::value::{integers_from_value, integers_to_value};
 use tl_verify::procedure::{Proc, verify};
-
-// The tree that a file has.
-fn tree_of_file(alloc: Global, bytes: &[u8]) -> Result<Tree, CliFault>
-    ensures ok { IfOk result (λ t. tree_of_text bytes.now ≡ Ok t) }
-    ensures fault { IfErr result (λ e. (code args : List ℕ) → IsFault bytes.now code args e) }
-{
-    match std::str::from_utf8(bytes) {
-        Ok(text) => match read_tree(alloc, text) {
-            Ok(tree) => Ok(tree),
-            Err(fault) => Err(CliFault::Tree(fault)),
-        },
-        Err(_) => Err(CliFault::Tree(TreeFault::NotTree)),
-    }
-}
 
 // The procedure that a file has.
 fn procedure_of_file(alloc: Global, bytes: &[u8]) -> Result<Proc, CliFault>
@@ -100,7 +84,10 @@ pub fn alone_cmd(
     ensures printed { IfOk result (λ s. Prints tree.now procedure.now args.now (string_bytes s)) }
     ensures fault { IfErr result (IsFault tree.now procedure.now args.now) }
 {
-    let mut tree = tree_of_file(alloc, tree)?;
+    let mut tree = match tree_of_file(alloc, tree) {
+        Ok(tree) => tree,
+        Err(fault) => return Err(CliFault::Tree(fault)),
+    };
     let procedure = procedure_of_file(alloc, procedure)?;
     let args = args_of(alloc, args)?;
     let Ok(procedure) = Arc::new(alloc, procedure) else {

@@ -13,6 +13,11 @@ pub enum Request<'a> {
         procedure: &'a str,
         args: &'a str,
     },
+    /// Carry out a script on a tree.
+    Drive {
+        tree: &'a str,
+        script: &'a str,
+    },
     /// Write the container of an assembler text.
     Assemble {
         text: &'a str,
@@ -55,17 +60,26 @@ Example: treedb dis walk.tlp
 prints a text that asm turns into the same container.
 Exit status: 0 done, 1 refused, 2 a mistake on the command line, 3 a file that can't be read, 4 memory.";
 
+const DRIVE_HELP: &str = "\
+Example: treedb drive --tree three.json moves.json
+prints {\"trace\":[..]}, what came of each move; {\"order\":[..]}, the order in which the calls would do the same alone,
+or {\"error\":[651,call]} where a call is unfinished; and then the tree as JSON. The files are not changed.
+Exit status: 0 done, 1 refused, 2 a mistake on the command line, 3 a file that can't be read, 4 memory.";
+
 const VERIFY_HELP: &str = "\
 Example: treedb verify walk.tlp
 prints {\"bounds\":{\"emits\":1,\"locks\":13,\"steps\":54}}, whatever the arguments and the tree.
 Exit status: 0 done, 1 refused, 2 a mistake on the command line, 3 a file that can't be read, 4 memory.";
 
-fn alone_command<'a>(alloc: Global) -> Result<Command<'a>, AllocError> {
-    let tree = Arg::new(alloc, "tree")
+fn tree_arg<'a>(alloc: Global) -> Arg<'a> {
+    Arg::new(alloc, "tree")
         .long("tree")
         .value_name("T")
         .required(true)
-        .help("The file of the tree, as JSON");
+        .help("The file of the tree, as JSON")
+}
+
+fn alone_command<'a>(alloc: Global) -> Result<Command<'a>, AllocError> {
     let procedure = Arg::new(alloc, "proc")
         .long("proc")
         .value_name("P")
@@ -79,7 +93,7 @@ fn alone_command<'a>(alloc: Global) -> Result<Command<'a>, AllocError> {
     Command::new(alloc, "alone")
         .about("Runs a procedure alone on a tree, and prints its reply and the tree as it is then")
         .after_help(ALONE_HELP)
-        .arg(tree)?
+        .arg(tree_arg(alloc))?
         .arg(procedure)?
         .arg(args)
 }
@@ -116,6 +130,16 @@ fn verify_command<'a>(alloc: Global) -> Result<Command<'a>, AllocError> {
         .arg(file_arg(alloc, "IN", "The file of the container"))
 }
 
+fn drive_command<'a>(alloc: Global) -> Result<Command<'a>, AllocError> {
+    Command::new(alloc, "drive")
+        .about(
+            "Lets calls take turns on a tree, as a script says, and prints what came of each move",
+        )
+        .after_help(DRIVE_HELP)
+        .arg(tree_arg(alloc))?
+        .arg(file_arg(alloc, "SCRIPT", "The file of the script, as JSON"))
+}
+
 fn command<'a>(alloc: Global) -> Result<Command<'a>, AllocError> {
     Command::new(alloc, "treedb")
         .about("A database of trees, whose procedures are verified before they run")
@@ -123,6 +147,7 @@ fn command<'a>(alloc: Global) -> Result<Command<'a>, AllocError> {
         .subcommand_required(true)
         .arg_required_else_help(true)
         .subcommand(alone_command(alloc)?)?
+        .subcommand(drive_command(alloc)?)?
         .subcommand(asm_command(alloc)?)?
         .subcommand(dis_command(alloc)?)?
         .subcommand(verify_command(alloc)?)
@@ -137,6 +162,10 @@ fn request_of<'a>(matches: &ArgMatches<'a>) -> Option<Request<'a>> {
         }),
         "dis" => Some(Request::Disassemble {
             container: words.get_str("IN")?,
+        }),
+        "drive" => Some(Request::Drive {
+            tree: words.get_str("tree")?,
+            script: words.get_str("SCRIPT")?,
         }),
         "verify" => Some(Request::Verify {
             container: words.get_str("IN")?,

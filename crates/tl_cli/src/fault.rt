@@ -1,11 +1,15 @@
 // What the program answers in the place of a result.
 
 ghost use Rattle.std.specs.Prelude.{◌≡◌};
+ghost use Rattle.tl_core.specs.Faults.{numbers_of as core_numbers_of};
+ghost use Rattle.tl_cli.specs.declared.fault.CliFault.TheVariants.{Memory};
 ghost use Rattle.tl_cli.specs.Faults.{numbers_of, status_of};
 
 use arrayvec::ArrayVec;
+use std::alloc::AllocError;
 use thiserror::Error;
 use tl_asm::fault::AsmFault;
+use tl_core::fault::CoreFault;
 use tl_instr::fault::CodeFault;
 use tl_tree::fault::TreeFault;
 use tl_verify::fault::VerifyFault;
@@ -34,6 +38,9 @@ pub enum CliFault {
     /// 301 to 307, 401 to 409, 490: the code isn't accepted.
     #[error("the procedure: {0}")]
     Verify(VerifyFault),
+    /// 501 to 613, 690: many calls in turns.
+    #[error("the calls: {0}")]
+    Core(CoreFault),
     /// 731: the text is no script.
     #[error("the text is not a script")]
     NotScript,
@@ -62,6 +69,7 @@ impl CliFault {
             CliFault::Tree(fault) => return fault.numbers(),
             CliFault::Code(fault) => return fault.numbers(),
             CliFault::Verify(fault) => return fault.numbers(),
+            CliFault::Core(fault) => return core_numbers(fault),
             CliFault::NotScript => numbers.push(731),
             CliFault::NotArgs => numbers.push(732),
             CliFault::WrongArgs => numbers.push(501),
@@ -80,8 +88,26 @@ impl CliFault {
             | CliFault::Asm(AsmFault::Memory)
             | CliFault::Code(CodeFault::Memory)
             | CliFault::Verify(VerifyFault::Memory)
+            | CliFault::Core(CoreFault::Memory)
             | CliFault::Memory => 4,
             _ => 1,
         }
+    }
+}
+
+// The number of a core's fault.
+fn core_numbers(fault: &CoreFault) -> ArrayVec<u64, 3>
+    ensures { result.items ≡ core_numbers_of fault.now }
+{
+    let mut numbers = ArrayVec::new();
+    let _fits = numbers.try_extend_from_slice(fault.numbers().as_slice());
+    numbers
+}
+
+impl From<AllocError> for CliFault {
+    ghost from_gives = { λ _ e. e ≡ Memory };
+
+    fn from(_refused: AllocError) -> CliFault {
+        CliFault::Memory
     }
 }

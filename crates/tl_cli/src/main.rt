@@ -3,13 +3,15 @@
 
 mod alone;
 mod command_line;
+mod driving;
 mod fault;
-mod moves;
+mod inputs;
 mod output;
 mod procedures;
 mod script;
 #[cfg(test)]
 mod tests;
+mod told;
 
 use command_line::{Asked, Request};
 use fault::CliFault;
@@ -69,6 +71,11 @@ fn answer<R: Files + Eprint + AllocGlobal>(rt: &R, request: &Request) -> Result<
         Request::Assemble { text, container } => assemble(rt, text, container),
         Request::Disassemble { container } => {
             procedures::dis_cmd(rt.alloc(), &file(rt, container)?)
+        }
+        Request::Drive { tree, script } => {
+            let tree = file(rt, tree)?;
+            let script = file(rt, script)?;
+            driving::drive_cmd(rt.alloc(), &tree, &script)
         }
         Request::Verify { container } => procedures::verify_cmd(rt.alloc(), &file(rt, container)?),
     }

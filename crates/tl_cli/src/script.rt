@@ -7,9 +7,9 @@ ghost use Rattle.tl_tree.specs.Reading.{each_item};
 ghost use Rattle.tl_cli.specs.Script.{ScriptValue, move_view, named_view, script_view, pair_of, call_of, admission_of, move_of, named_of, moves_of, procedures_of, parts_of, script_of, IsScript};
 
 use crate::fault::CliFault;
-use crate::moves::Move;
 use serde_json::Value;
 use std::alloc::{AllocError, Global};
+use tl_core::moves::Move;
 use tl_tree::value::integers_from_value;
 
 /// A procedure: its name, and its assembler text.

@@ -1,10 +1,12 @@
 use crate::alone::alone_cmd;
+use crate::driving::drive_cmd;
 use crate::fault::CliFault;
-use crate::moves::Move;
 use crate::procedures::{code_of_text, container_of, count_line, dis_cmd, verify_cmd};
 use crate::script::{Script, read_script};
 use std::alloc::Global;
 use std::test::Fail;
+use tl_core::fault::CoreFault;
+use tl_core::moves::Move;
 use tl_instr::code::Code;
 use tl_instr::container::encode;
 use tl_instr::fault::CodeFault;
@@ -249,5 +251,119 @@ fn another_text_is_no_script(rt: HostRuntime) -> Result<(), Fail> {
     assert_eq!(rt; refused(rt.alloc(), &procedures), 2);
     assert_eq!(rt; CliFault::NotScript.numbers().as_slice(), [731].as_slice());
     assert_eq!(rt; CliFault::NotScript.status(), 1);
+    Ok(())
+}
+
+const BOTH: &str =
+    "[\"both\",\"arity 1\\nfirst n0 v1 else L10\\nchild n1 n0 v1 else L9\\nput n1 0 v0\\nrel n1\\nset v2 1\\nchild n1 n0 v2 else L9\\nget v3 n1 0\\nemit v3\\nrel n1\\nL9:\\nrel n0\\nL10:\\nret\\n\"]";
+
+const LOOK: &str =
+    "[\"look\",\"arity 1\\nfirst n0 v0 else L4\\nget v1 n0 0\\nemit v1\\nrel n0\\nL4:\\nret\\n\"]";
+
+const STORE: &str =
+    "[\"store\",\"arity 2\\nfirst n0 v0 else L3\\nput n0 0 v1\\nrel n0\\nL3:\\nret\\n\"]";
+
+const SWEEP: &str =
+    "[\"sweep\",\"arity 1\\nfirst n0 v1 else L10\\nrep 12\\nget v2 n0 0\\nadd v2 v2 v0 else L4\\nL4:\\nput n0 0 v2\\nchild n1 n0 v1 else L9\\nrel n0\\nmove n0 n1\\nend\\nL9:\\nrel n0\\nL10:\\nret\\n\"]";
+
+/// What a script of these procedures and moves prints.
+fn driven(alloc: Global, tree: &str, procedures: &str, moves: &str) -> Result<String, CliFault> {
+    let script = format!(in alloc; "{{\"moves\":[{moves}],\"procs\":[{procedures}]}}")?;
+    drive_cmd(alloc, tree.as_bytes(), script.as_bytes())
+}
+
+#[test]
+fn calls_take_turns(rt: HostRuntime) -> Result<(), Fail> {
+    let alloc = rt.alloc();
+    let procedures = format!(in alloc; "{BOTH},{LOOK},{STORE}")?;
+    let moves =
+        "[\"both\",[11]],0,0,0,0,[\"look\",[1]],1,1,1,1,1,[\"store\",[2,22]],2,2,2,2,0,0,0,0,0,0,0";
+    let trace =
+        "{\"trace\":[[\"a\",0],[\"l\",0,0,[0,0,0,0]],[\"l\",0,1,[10,0,0,0]],[\"w\",0,1,0,11],[\"f\",0,1,[11,0,0,0]],[\"a\",1],[\"l\",1,1,[11,0,0,0]],[\"r\",1,1,0,11],[\"e\",1,11],[\"f\",1,1,[11,0,0,0]],[\"d\",1],[\"a\",2],[\"l\",2,2,[20,0,0,0]],[\"w\",2,2,0,22],[\"f\",2,2,[22,0,0,0]],[\"d\",2],[\"s\",0],[\"l\",0,2,[22,0,0,0]],[\"r\",0,2,0,22],[\"e\",0,22],[\"f\",0,2,[22,0,0,0]],[\"f\",0,0,[0,0,0,0]],[\"d\",0]]}\n";
+    let after =
+        "{\"order\":[2,0,1]}\n{\"parents\":[0,0,0],\"records\":[[0,0,0,0],[11,0,0,0],[22,0,0,0]]}\n";
+    let expected = format!(in alloc; "{trace}{after}")?;
+    let text = driven(alloc, THREE_NODES, &procedures, moves)?;
+    assert_eq!(rt; text.as_str(), expected.as_str());
+    Ok(())
+}
+
+#[test]
+fn a_look_at_no_node_and_no_move_at_all(rt: HostRuntime) -> Result<(), Fail> {
+    let alloc = rt.alloc();
+    let text = driven(alloc, THREE_NODES, LOOK, "[\"look\",[-1]],0,0,0")?;
+    assert_eq!(rt;
+        text.as_str(),
+        "{\"trace\":[[\"a\",0],[\"s\",0],[\"d\",0],[\"o\",0]]}\n{\"order\":[0]}\n{\"parents\":[0,0,0],\"records\":[[0,0,0,0],[10,0,0,0],[20,0,0,0]]}\n"
+    );
+    let text = driven(alloc, ONE_NODE, "", "")?;
+    assert_eq!(rt;
+        text.as_str(),
+        "{\"trace\":[]}\n{\"order\":[]}\n{\"parents\":[0],\"records\":[[5,0,0,0]]}\n"
+    );
+    Ok(())
+}
+
+// Call 0 holds the node while call 1 asks for it, and isn't done. What it has written isn't seen.
+#[test]
+fn a_call_that_is_not_done_is_told(rt: HostRuntime) -> Result<(), Fail> {
+    let alloc = rt.alloc();
+    let moves = "[\"store\",[0,9]],[\"look\",[0]],[\"look\",[]],[\"none\",[]],7,0,0,1";
+    let procedures = format!(in alloc; "{LOOK},{STORE}")?;
+    let text = driven(alloc, ONE_NODE, &procedures, moves)?;
+    assert_eq!(rt;
+        text.as_str(),
+        "{\"trace\":[[\"a\",0],[\"a\",1],[\"x\",501],[\"x\",601],[\"x\",602],[\"l\",0,0,[5,0,0,0]],[\"w\",0,0,0,9],[\"b\",1,0,0]]}\n{\"error\":[651,0]}\n{\"parents\":[0],\"records\":[[5,0,0,0]]}\n"
+    );
+    Ok(())
+}
+
+#[test]
+fn two_sweeps_follow_one_another(rt: HostRuntime) -> Result<(), Fail> {
+    let alloc = rt.alloc();
+    let mut moves = String::from_str(alloc, "[\"sweep\",[1]],[\"sweep\",[10]]")?;
+    for _ in 0..30 {
+        moves.push_str(",0,1")?;
+    }
+    let tree = "{\"parents\":[0,0,1],\"records\":[[0,0,0,0],[0,0,0,0],[0,0,0,0]]}";
+    let text = driven(alloc, tree, SWEEP, &moves)?;
+    let after =
+        "{\"order\":[0,1]}\n{\"parents\":[0,0,1],\"records\":[[11,0,0,0],[11,0,0,0],[11,0,0,0]]}\n";
+    assert!(rt; text.ends_with(after));
+    assert!(rt; text.contains("[\"b\",1,0,0]"));
+    assert!(rt; text.contains("[\"b\",1,1,0]"));
+    Ok(())
+}
+
+#[test]
+fn what_is_wrong_first_is_told(rt: HostRuntime) -> Result<(), Fail> {
+    let alloc = rt.alloc();
+    let cases: [(&str, &str, &[u64]); 7] = [
+        ("[]", "", &[106]),
+        (ONE_NODE, "0", &[731]),
+        (ONE_NODE, "[\"a b\",\"arity 0\"]", &[251, 1]),
+        (ONE_NODE, "[\"a b\",\"arity 0\\nset v0 1\"]", &[403, 0]),
+        (ONE_NODE, "[\"a b\",\"arity 0\\nret\"]", &[612]),
+        (
+            ONE_NODE,
+            "[\"a\",\"arity 0\\nret\"],[\"a\",\"arity 1\\nret\"],[\"\",\"\"]",
+            &[611],
+        ),
+        (
+            ONE_NODE,
+            "[\"a\",\"arity 0\\nret\"],[\"\",\"\"],[\"a\",\"arity 0\\nret\"]",
+            &[251, 1],
+        ),
+    ];
+    for (tree, procedures, numbers) in cases {
+        let fault = driven(alloc, tree, procedures, "").err().ok_or("accepted")?;
+        assert_eq!(rt; fault.numbers().as_slice(), numbers);
+        assert_eq!(rt; fault.status(), 1);
+    }
+    assert_eq!(rt;
+        CliFault::Core(CoreFault::Memory).numbers().as_slice(),
+        [690].as_slice()
+    );
+    assert_eq!(rt; CliFault::Core(CoreFault::Memory).status(), 4);
     Ok(())
 }
