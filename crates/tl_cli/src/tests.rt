@@ -335,6 +335,38 @@ fn two_sweeps_follow_one_another(rt: HostRuntime) -> Result<(), Fail> {
     Ok(())
 }
 
+// Call 1 holds node 2 when call 0 asks for it, and call 0 goes on once it is free.
+#[test]
+fn a_blocked_step_changes_nothing(rt: HostRuntime) -> Result<(), Fail> {
+    let alloc = rt.alloc();
+    let moves = "[\"both\",[11]],[\"look\",[2]],1,0,0,0,0,0,0,1,1,1,1,0,0,0,0,0,0";
+    let procedures = format!(in alloc; "{BOTH},{LOOK}")?;
+    let text = driven(alloc, THREE_NODES, &procedures, moves)?;
+    assert!(rt;
+        text.starts_with(
+            "{\"trace\":[[\"a\",0],[\"a\",1],[\"l\",1,2,[20,0,0,0]],[\"l\",0,0,[0,0,0,0]],[\"l\",0,1,[10,0,0,0]],[\"w\",0,1,0,11],[\"f\",0,1,[11,0,0,0]],[\"s\",0],[\"b\",0,2,1],[\"r\",1,2,0,20],[\"e\",1,20],[\"f\",1,2,[20,0,0,0]],[\"d\",1],[\"l\",0,2,[20,0,0,0]],"
+        )
+    );
+    assert!(rt;
+        text.ends_with(
+            "[\"e\",0,20],[\"f\",0,2,[20,0,0,0]],[\"f\",0,0,[0,0,0,0]],[\"d\",0]]}\n{\"order\":[1,0]}\n{\"parents\":[0,0,0],\"records\":[[0,0,0,0],[11,0,0,0],[20,0,0,0]]}\n"
+        )
+    );
+    Ok(())
+}
+
+#[test]
+fn at_most_64_calls_are_unfinished(rt: HostRuntime) -> Result<(), Fail> {
+    let alloc = rt.alloc();
+    let mut moves = String::from_str(alloc, "[\"look\",[-1]]")?;
+    for _ in 0..64 {
+        moves.push_str(",[\"look\",[-1]]")?;
+    }
+    let text = driven(alloc, THREE_NODES, LOOK, &moves)?;
+    assert!(rt; text.contains("[\"a\",63],[\"x\",604]]}\n{\"error\":[651,0]}\n"));
+    Ok(())
+}
+
 #[test]
 fn what_is_wrong_first_is_told(rt: HostRuntime) -> Result<(), Fail> {
     let alloc = rt.alloc();
