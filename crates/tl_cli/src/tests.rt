@@ -1,11 +1,15 @@
 use crate::alone::alone_cmd;
 use crate::driving::drive_cmd;
 use crate::fault::CliFault;
+use crate::inputs::tree_of_file;
 use crate::procedures::{code_of_text, container_of, count_line, dis_cmd, verify_cmd};
 use crate::script::{Script, read_script};
 use std::alloc::Global;
+use std::process::Abort;
 use std::test::Fail;
+use tl_asm::assembling::assemble;
 use tl_core::fault::CoreFault;
+use tl_core::interleaving::Core;
 use tl_core::moves::Move;
 use tl_instr::code::Code;
 use tl_instr::container::encode;
@@ -14,6 +18,7 @@ use tl_instr::instr::Instr;
 use tl_instr::operand::{Field, NodeRegister, ValueRegister};
 use tl_tree::fault::TreeFault;
 use tl_verify::fault::VerifyFault;
+use tl_verify::procedure::verify;
 
 const ONE_NODE: &str = "{\"parents\":[0],\"records\":[[5,0,0,0]]}";
 
@@ -352,6 +357,79 @@ fn a_blocked_step_changes_nothing(rt: HostRuntime) -> Result<(), Fail> {
             "[\"e\",0,20],[\"f\",0,2,[20,0,0,0]],[\"f\",0,0,[0,0,0,0]],[\"d\",0]]}\n{\"order\":[1,0]}\n{\"parents\":[0,0,0],\"records\":[[0,0,0,0],[11,0,0,0],[20,0,0,0]]}\n"
         )
     );
+    Ok(())
+}
+
+/// Registers the procedure of a text.
+fn register(alloc: Global, core: &mut Core, name: &str, text: &str) -> Result<(), Fail> {
+    let procedure = verify(alloc, assemble(alloc, text)?).ok().ok_or("refused")?;
+    core.add_proc(alloc, name, procedure)?;
+    Ok(())
+}
+
+/// Admits a call, or takes a step of one, and says which call is enabled then.
+fn assert_admits(
+    rt: &impl Abort,
+    core: &mut Core,
+    name: &str,
+    args: &[i64],
+    enabled: Option<u32>,
+) -> Result<(), Fail> {
+    core.admit(name, args)?;
+    assert_eq!(rt; core.some_enabled(), enabled, "{name}");
+    Ok(())
+}
+
+fn assert_steps(
+    rt: &impl Abort,
+    core: &mut Core,
+    call: u32,
+    enabled: Option<u32>,
+) -> Result<(), Fail> {
+    core.step(call)?;
+    assert_eq!(rt; core.some_enabled(), enabled, "{call}");
+    Ok(())
+}
+
+/// Whose step is next, and which call is enabled then.
+const STEPS: [(u32, Option<u32>); 17] = [
+    (1, Some(0)),
+    (0, Some(0)),
+    (0, Some(0)),
+    (0, Some(0)),
+    (0, Some(0)),
+    (0, Some(1)),
+    (0, Some(1)),
+    (1, Some(1)),
+    (1, Some(1)),
+    (1, Some(0)),
+    (1, Some(0)),
+    (0, Some(0)),
+    (0, Some(0)),
+    (0, Some(0)),
+    (0, Some(0)),
+    (0, Some(0)),
+    (0, None),
+];
+
+const BOTH_TEXT: &str =
+    "arity 1\nfirst n0 v1 else L10\nchild n1 n0 v1 else L9\nput n1 0 v0\nrel n1\nset v2 1\nchild n1 n0 v2 else L9\nget v3 n1 0\nemit v3\nrel n1\nL9:\nrel n0\nL10:\nret\n";
+
+const LOOK_TEXT: &str = "arity 1\nfirst n0 v0 else L4\nget v1 n0 0\nemit v1\nrel n0\nL4:\nret\n";
+
+#[test]
+fn the_least_enabled_call_is_told(rt: HostRuntime) -> Result<(), Fail> {
+    let alloc = rt.alloc();
+    let tree = tree_of_file(alloc, THREE_NODES.as_bytes())?;
+    let mut core = Core::new(alloc, tree)?;
+    register(alloc, &mut core, "both", BOTH_TEXT)?;
+    register(alloc, &mut core, "look", LOOK_TEXT)?;
+    assert_eq!(rt; core.some_enabled(), None);
+    assert_admits(&rt, &mut core, "both", &[11], Some(0))?;
+    assert_admits(&rt, &mut core, "look", &[2], Some(0))?;
+    for (call, enabled) in STEPS {
+        assert_steps(&rt, &mut core, call, enabled)?;
+    }
     Ok(())
 }
 
