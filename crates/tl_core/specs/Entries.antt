@@ -40,7 +40,7 @@ naming_refusal procedures name =
 
 -- ---- steps
 
--- the next action, where a call holds the node that it locks
+-- blocked where the action locks a node that has a holder, else the action, where a lock finds the record now
 abbrev pub stepped_by : World → Action → Option ℕ → Stepped
 stepped_by w (Lock x found) (Some holder) = Blocked x holder
 stepped_by w a holder = Moved (as_found w a)
