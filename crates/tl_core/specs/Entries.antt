@@ -38,6 +38,11 @@ abbrev pub naming_refusal : List Named → List ℕ → Option CoreFault
 naming_refusal procedures name =
     if is_name name then taken_by (number_of procedures name) (length procedures) else Some fault.BadName
 
+-- each name was free when its procedure was taken up, one after another, after these
+abbrev pub AreFreeAfter : List Named → List Named → Type 0
+AreFreeAfter before [] = Unit {0}
+AreFreeAfter before (p ∷ ps) = (naming_refusal before p.name ≡ None) × AreFreeAfter (before ++ p ∷ []) ps
+
 -- ---- steps
 
 -- blocked where the action locks a node that has a holder, else the action, where a lock finds the record now

@@ -335,6 +335,13 @@ impl Core {
         &self.history
     }
 
+    /// The procedures, by number.
+    pub fn procedures(&self) -> &Procedures
+        ensures { result.now ≡ self.now.procedures }
+    {
+        &self.procedures
+    }
+
     /// How many procedures there are. They are numbered from 0.
     pub fn procs(&self) -> usize
         ensures { result ≡ length self.now.procedures }

@@ -3,7 +3,7 @@
 ghost use Rattle.std.specs.Prelude.{◌≡◌, ◌≢◌, ◌≤◌, ◌<◌, ◌∷◌, ◌++◌, [], length, None, Some, IfOk, OnOk, OnErr, IfErr, slice_get, option_map, IsTrue, ◌↔◌, get_or};
 ghost use Rattle.std.specs.Arc.{arc_value};
 ghost use Rattle.tl_core.specs.Cores.{number_of};
-ghost use Rattle.tl_core.specs.Entries.{is_name, naming_refusal, no_procedure};
+ghost use Rattle.tl_core.specs.Entries.{is_name, naming_refusal, no_procedure, AreFreeAfter};
 ghost use Rattle.tl_core.specs.declared.fault.CoreFault.TheVariants as fault;
 
 use crate::fault::CoreFault;
@@ -23,15 +23,17 @@ pub struct Procedures {
 }
 
 impl Model for Procedures {
-    ghost use Rattle.std.specs.Prelude.{List, map, length, ◌≤◌, string_bytes};
+    ghost use Rattle.std.specs.Prelude.{List, [], map, length, ◌≤◌, string_bytes};
     ghost use Rattle.std.specs.Arc.{arc_value};
     ghost use Rattle.tl_core.specs.Cores.{Named};
+    ghost use Rattle.tl_core.specs.Entries.{AreFreeAfter};
 
     ghost Value = { List Named };
 
     ghost view = { λ p. map (λ e. record { name = string_bytes e.0; code = arc_value e.1 }) p.by_name.entries };
 
-    ghost invariant = { λ p. length p.by_name.entries ≤ 256 };
+    ghost invariant = { λ p. (length p.by_name.entries ≤ 256)
+        × AreFreeAfter [] (map (λ e. record { name = string_bytes e.0; code = arc_value e.1 }) p.by_name.entries) };
 }
 
 impl Procedures {
@@ -46,6 +48,7 @@ impl Procedures {
     pub fn len(&self) -> usize
         ensures value { result ≡ length self.now }
         ensures few { result ≤ 256 }
+        ensures free { AreFreeAfter [] self.now }
     {
         self.by_name.len()
     }
@@ -90,20 +93,62 @@ impl Procedures {
         ensures fault { IfErr result (λ e. e ≢ fault.Memory → naming_refusal self.old name.now ≡ Some e) }
         ensures err { OnErr result (self.new ≡ self.old) }
     {
+        self.find_free(name)?;
+        let Ok(procedure) = Arc::new(alloc, procedure) else {
+            return Err(CoreFault::Memory);
+        };
+        self.put_last(alloc, name, procedure)
+    }
+
+    /// The same with a procedure that others have too.
+    pub fn add_shared(
+        &mut self,
+        alloc: Global,
+        name: &str,
+        procedure: &Arc<Proc>,
+    ) -> Result<u32, CoreFault>
+        ensures number { IfOk result (λ n. n ≡ length self.old) }
+        ensures free { IfOk result (λ _. naming_refusal self.old name.now ≡ None) }
+        ensures last { OnOk result (self.new ≡ self.old ++ record { name = name.now; code = arc_value procedure.now } ∷ []) }
+        ensures fault { IfErr result (λ e. e ≢ fault.Memory → naming_refusal self.old name.now ≡ Some e) }
+        ensures err { OnErr result (self.new ≡ self.old) }
+    {
+        self.find_free(name)?;
+        self.put_last(alloc, name, Arc::try_clone(procedure)?)
+    }
+
+    // Whether a procedure may be put last under the name: 612, 611, 613.
+    fn find_free(&self, name: &str) -> Result<(), CoreFault>
+        ensures free { OnOk result (naming_refusal self.now name.now ≡ None) }
+        ensures fault { IfErr result (λ e. naming_refusal self.now name.now ≡ Some e) }
+    {
         if !is_name(name.as_bytes()) {
             return Err(CoreFault::BadName);
         }
         if self.number_of(name).is_some() {
             return Err(CoreFault::NameTaken);
         }
-        let number = self.len();
-        if number >= MAX_PROCEDURES {
+        if self.len() >= MAX_PROCEDURES {
             return Err(CoreFault::TooManyProcedures);
         }
+        Ok(())
+    }
+
+    // Puts a procedure last, under a name that is free.
+    fn put_last(
+        &mut self,
+        alloc: Global,
+        name: &str,
+        procedure: Arc<Proc>,
+    ) -> Result<u32, CoreFault>
+        requires { naming_refusal self.old name.now ≡ None }
+        ensures number { IfOk result (λ n. n ≡ length self.old) }
+        ensures last { OnOk result (self.new ≡ self.old ++ record { name = name.now; code = arc_value procedure } ∷ []) }
+        ensures fault { IfErr result (λ e. e ≡ fault.Memory) }
+        ensures err { OnErr result (self.new ≡ self.old) }
+    {
+        let number = self.len();
         let name = String::from_str(alloc, name)?;
-        let Ok(procedure) = Arc::new(alloc, procedure) else {
-            return Err(CoreFault::Memory);
-        };
         match self.by_name.insert(name, procedure) {
             Ok(_) => Ok(number as u32),
             Err(_) => Err(CoreFault::Memory),
