@@ -28,6 +28,11 @@ trues-none (true ∷ bs) i none = absurd (omega arith)
 trues-none (false ∷ bs) zero none = refl
 trues-none (false ∷ bs) (suc i) none = trues-none bs i none
 
+pub trues-some : (bs : List Bool) → 0 < trues bs → (y : ℕ) × (y < length bs) × (get_or bs y false ≡ true)
+trues-some [] some = absurd (omega arith)
+trues-some (true ∷ bs) some = (0, omega arith, refl)
+trues-some (false ∷ bs) some = let h = trues-some bs some in let later = h.1 in (suc h.0, omega arith, h.2)
+
 pub trues-one_more : (bs : List Bool) (i : ℕ) → i < length bs → get_or bs i false ≡ false → trues (set bs i true) ≡ trues bs + 1
 trues-one_more [] i inside h = absurd (omega arith)
 trues-one_more (true ∷ bs) zero inside h = grind arith

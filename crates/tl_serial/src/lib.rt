@@ -8,7 +8,7 @@ pub mod concluding;
 pub mod fault;
 mod line;
 pub mod order;
-mod part;
+pub mod part;
 pub mod placing;
 pub mod replaying;
 #[cfg(test)]

@@ -1,10 +1,10 @@
 // What one call did to the nodes.
 
-ghost use Rattle.std.specs.Prelude.{◌≡◌, ◌<◌, List, [], ◌∷◌, length, IfOk};
+ghost use Rattle.std.specs.Prelude.{◌≡◌, ◌<◌, ℕ, List, [], ◌∷◌, length, IfOk, true, false};
 ghost use Rattle.tl_tree.specs.Records.{Record as RecordValue};
 ghost use Rattle.tl_tree.specs.Shape.{IsTree};
 ghost use Rattle.tl_protocol.specs.declared.action.Action.{Action};
-ghost use Rattle.tl_protocol.specs.Actions.{may_come};
+ghost use Rattle.tl_protocol.specs.Actions.{may_come, locked as was_locked, held as is_held};
 ghost use Rattle.tl_serial.specs.Part.{IsPart, node_count};
 
 use std::alloc::{AllocError, Global};
@@ -76,6 +76,34 @@ impl Part {
             self.held[node] = false;
             self.held_count -= 1;
         }
+    }
+
+    /// Whether the call locked the node.
+    pub fn has_locked(&self, node: u16) -> bool
+        requires { node < node_count self.now }
+        ensures { (done : List Action) → IsPart self.now done → result ≡ was_locked done node }
+    {
+        let place = usize::from(node);
+        self.locked[place]
+    }
+
+    /// Whether the call holds the node.
+    pub fn holds(&self, node: u16) -> bool
+        requires { node < node_count self.now }
+        ensures { (done : List Action) → IsPart self.now done → result ≡ is_held done node }
+    {
+        let place = usize::from(node);
+        self.held[place]
+    }
+
+    /// Whether the call holds any node.
+    pub fn holds_any(&self) -> bool
+        ensures none { (done : List Action) (y : ℕ) → IsPart self.now done → y < node_count self.now
+            → result ≡ false → is_held done y ≡ false }
+        ensures some { (done : List Action) → IsPart self.now done
+            → result ≡ true → (y : ℕ) × (y < node_count self.now) × (is_held done y ≡ true) }
+    {
+        self.held_count > 0
     }
 
     /// Whether the call may still come to the node. A call that holds nothing comes nowhere. Else the first node above
