@@ -1,0 +1,11 @@
+-- The events so far were right, and were seen.
+use Rattle.std.proofs.Common.{length, take, reverse}
+use Rattle.tl_audit.specs.Clean.{AreRight}
+use Rattle.tl_audit.specs.Watching.{Shows}
+use Rattle.tl_audit.proofs.auditing.see_all.Given as goal
+
+abbrev pub invariant-loop-number : goal.invariant-loop-number
+invariant-loop-number g l = record {
+  shows : Shows l.trail.parents l.trail.opening (length l.trail.calls) l.watch (reverse (take l.number l.events));
+  right : AreRight l.trail.parents l.trail.opening (reverse (take l.number l.events));
+}

@@ -1,0 +1,10 @@
+use Rattle.std.proofs.Common.{◌≡◌, drop, map}
+use Rattle.serde_json.specs.View.{items_view}
+use Rattle.tl_tree.specs.Reading.{each_item}
+use Rattle.tl_tree.proofs.Items.{onto}
+use Rattle.tl_audit.specs.Reading.{call_of}
+use Rattle.tl_audit.specs.Forms.{call_form}
+use Rattle.tl_audit.proofs.form.calls_of_items.Given as goal
+
+abbrev pub invariant-loop-item : goal.invariant-loop-item
+invariant-loop-item l = onto (map call_form l.calls.items) (each_item call_of (items_view (drop l.item-index l.items))) ≡ each_item call_of (items_view l.items)

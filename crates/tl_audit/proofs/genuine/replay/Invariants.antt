@@ -1,0 +1,19 @@
+-- The turn is on the run, with so many of the actions told.
+use Rattle.std.proofs.Common.{◌≡◌, ◌-◌, ◌≤◌, length, reverse}
+use Rattle.tl_tree.specs.Records.{Records}
+use Rattle.tl_budget.specs.Loops.{budget}
+use Rattle.tl_machine.specs.Turns.{left_of}
+use Rattle.tl_audit.specs.Genuine.{AreFit}
+use Rattle.tl_audit.proofs.Replaying.{IsOn}
+use Rattle.tl_audit.proofs.genuine.replay.Given as goal
+
+abbrev pub invariant-loop-turn : goal.invariant-loop-turn
+invariant-loop-turn l = record {
+  within : l.used ≤ length l.actions;
+  parents : l.turn.parents ≡ l.initial.turn.parents;
+  each : (t : Records) → length t ≡ length l.initial.turn.parents → AreFit t (reverse l.actions)
+      → IsOn t (left_of l.initial.turn t) l.actions l.used l.turn;
+}
+
+abbrev pub decreases-loop-turn : goal.decreases-loop-turn
+decreases-loop-turn l = budget l.turn.code.instrs - l.turn.call.steps

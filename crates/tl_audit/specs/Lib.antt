@@ -1,0 +1,9 @@
+pub mod Trails
+pub mod Faults
+pub mod Clean
+pub mod Recording
+pub mod Reading
+pub mod Forms
+pub mod Writing
+pub mod Watching
+pub mod Genuine

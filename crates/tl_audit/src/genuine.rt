@@ -1,0 +1,204 @@
+// Each call against its run alone.
+
+ghost use Rattle.std.specs.Prelude.{◌≡◌, ◌≢◌, ◌↔◌, ℕ, ℤ, ◌<◌, List, [], ◌∷◌, length, reverse, slice_get, IsTrue, IfOk, IfErr, OnOk, IfSome, Some, None};
+ghost use Rattle.std.specs.Arc.{arc_value};
+ghost use Rattle.tl_tree.specs.Records.{Records};
+ghost use Rattle.tl_protocol.specs.declared.action.Action.TheVariants as did;
+ghost use Rattle.tl_protocol.specs.Actions.{locks_and_frees};
+ghost use Rattle.tl_protocol.specs.Alone.{all_taken, EndsOnce};
+ghost use Rattle.tl_machine.specs.Call.{reply_so_far};
+ghost use Rattle.tl_machine.specs.Outcomes.{outcome_of};
+ghost use Rattle.tl_machine.specs.Turns.{left_of};
+ghost use Rattle.tl_machine.specs.Alone.{alone as run_alone};
+ghost use Rattle.tl_protocol.specs.declared.event.Event.{Event as EventValue};
+ghost use Rattle.tl_protocol.specs.History.{caller, part_of};
+ghost use Rattle.tl_audit.specs.Trails.{IsTrail, call_at, code_of};
+ghost use Rattle.tl_audit.specs.Clean.{AreRight, AreDone, AreSo, IsGenuine, RepliesSo, IsFirst};
+ghost use Rattle.tl_audit.specs.Genuine.{AreFit, AreParts, lists_of};
+
+use crate::fault::AuditFault;
+use crate::progress::{CALLS_BETWEEN, Progress};
+use crate::trail::Trail;
+use std::alloc::{AllocError, Global};
+use std::sync::Arc;
+use tl_machine::reply::Reply;
+use tl_machine::turn::Turn;
+use tl_machine::want::Want;
+use tl_protocol::action::Action;
+use tl_protocol::event::Event;
+use tl_tree::record::Record;
+
+// The record that the action at the place finds, where it is a lock of the node.
+fn lock_at(actions: &[Action], place: usize, node: u16) -> Option<Record>
+    ensures some { IfSome result (λ found. slice_get actions.now place ≡ Some (did.Lock node found)) }
+    ensures none { result ≡ None → (found : List ℤ) → slice_get actions.now place ≢ Some (did.Lock node found) }
+{
+    if place >= actions.len() {
+        return None;
+    }
+    match actions[place] {
+        Action::Lock {
+            node: locked,
+            found,
+        } if locked == node => Some(found),
+        _ => None,
+    }
+}
+
+// Whether the action at the place frees the node with the record.
+fn frees_at(actions: &[Action], place: usize, node: u16, left: &Record) -> bool
+    ensures { IsTrue result ↔ (slice_get actions.now place ≡ Some (did.Free node left.now)) }
+{
+    if place >= actions.len() {
+        return false;
+    }
+    match actions[place] {
+        Action::Free {
+            node: freed,
+            left: record,
+        } => freed == node && record == *left,
+        _ => false,
+    }
+}
+
+// Runs the call to its end, where each lock finds what is told: its reply, if its locks and frees are these.
+fn replay(turn: &mut Turn, actions: &[Action]) -> Option<Reply>
+    requires reply { reply_so_far turn.old.call ≡ [] }
+    requires ends { (t : Records) → length t ≡ length turn.old.parents → EndsOnce (outcome_of (left_of turn.old t)).actions }
+    ensures same { IfSome result (λ _. (t : Records) → length t ≡ length turn.old.parents → AreFit t (reverse actions.now)
+        → reverse actions.now ≡ locks_and_frees (all_taken (outcome_of (left_of turn.old t)).actions)) }
+    ensures reply { IfSome result (λ r. (t : Records) → length t ≡ length turn.old.parents → AreFit t (reverse actions.now)
+        → r ≡ (outcome_of (left_of turn.old t)).reply) }
+    ensures other { result ≡ None → (t : Records) → length t ≡ length turn.old.parents → AreFit t (reverse actions.now)
+        → reverse actions.now ≢ locks_and_frees (all_taken (outcome_of (left_of turn.old t)).actions) }
+{
+    let mut used = 0;
+    loop {
+        match turn.want() {
+            Want::Local => {
+                turn.step();
+            }
+            Want::Lock(node) => {
+                let found = lock_at(actions, used, node)?;
+                turn.lock(found);
+                used += 1;
+            }
+            Want::Free(node) => {
+                let left = turn.free();
+                if !frees_at(actions, used, node, &left) {
+                    return None;
+                }
+                used += 1;
+            }
+            Want::Return => {
+                let reply = turn.finish();
+                if used < actions.len() {
+                    return None;
+                }
+                return Some(reply);
+            }
+            Want::Over => return None,
+        }
+    }
+}
+
+// The call at its start.
+fn start(trail: &Trail, call: u32) -> Result<Turn, AllocError>
+    requires { call < length trail.now.calls }
+    ensures trail { IsTrail trail.now }
+    ensures parents { IfOk result (λ t. t.parents ≡ trail.now.parents) }
+    ensures left { IfOk result (λ t. (records : Records) → left_of t records
+        ≡ run_alone (code_of trail.now.procedures (call_at trail.now call)) trail.now.parents (call_at trail.now call).args records) }
+    ensures reply { IfOk result (λ t. reply_so_far t.call ≡ []) }
+{
+    let (procedure, args) = trail.request(call);
+    let procedure = Arc::try_clone(trail.procedures().get(procedure))?;
+    let shape = Arc::try_clone(trail.opening().shape())?;
+    match Turn::start(procedure, shape, args) {
+        Ok(turn) => Ok(turn),
+        Err(_) => unreachable!(),
+    }
+}
+
+// Whether the reply that is told of the call is this one.
+fn replies(trail: &Trail, call: u32, reply: &Reply) -> bool
+    requires { call < length trail.now.calls }
+    ensures { IsTrue result ↔ ((call_at trail.now call).reply ≡ Some reply.now) }
+{
+    match trail.reply(call) {
+        Some(told) => told == reply.values(),
+        None => false,
+    }
+}
+
+// Whether a call did what these actions tell, and its reply is the one that is told.
+fn check_call(trail: &Trail, call: u32, actions: &[Action]) -> Result<(), AuditFault>
+    requires call { call < length trail.now.calls }
+    requires right { AreRight trail.now.parents trail.now.opening trail.now.past }
+    requires actions { reverse actions.now ≡ locks_and_frees (part_of call trail.now.past) }
+    ensures genuine { OnOk result (IsGenuine trail.now call) }
+    ensures replies { OnOk result (RepliesSo trail.now call) }
+    ensures fault { IfErr result (λ f. AreSo trail.now call → f ≢ AuditFault.Memory → IsFirst trail.now f) }
+{
+    let mut turn = start(trail, call)?;
+    let Some(reply) = replay(&mut turn, actions) else {
+        return Err(AuditFault::NotGenuine { call });
+    };
+    if !replies(trail, call, &reply) {
+        return Err(AuditFault::WrongReply { call });
+    }
+    Ok(())
+}
+
+// Puts the event, where it is a lock or a free, last among its call's.
+fn put_in(lists: &mut Vec<Vec<Action>>, event: &Event) -> Result<(), AllocError>
+    requires { caller event.now < length lists.old.items }
+    ensures size { length lists.new.items ≡ length lists.old.items }
+    ensures more { OnOk result ((past : List EventValue) → AreParts (lists_of lists.old.items) past
+        → AreParts (lists_of lists.new.items) (event.now ∷ past)) }
+{
+    match *event {
+        Event::Lock { call, node, found } => {
+            lists[call as usize].push(Action::Lock { node, found })?
+        }
+        Event::Free { call, node, left } => lists[call as usize].push(Action::Free { node, left })?,
+        Event::Admit { .. } | Event::Done { .. } => {}
+    }
+    Ok(())
+}
+
+// Of each call its locks and frees, the earliest first.
+fn by_call(alloc: Global, trail: &Trail) -> Result<Vec<Vec<Action>>, AllocError>
+    ensures size { IfOk result (λ v. length v.items ≡ length trail.now.calls) }
+    ensures parts { IfOk result (λ v. AreParts (lists_of v.items) trail.now.past) }
+{
+    let mut lists = Vec::with_capacity(alloc, trail.calls())?;
+    for _call in 0..trail.calls() {
+        lists.push(Vec::new(alloc))?;
+    }
+    for event in trail.history().events() {
+        put_in(&mut lists, event)?;
+    }
+    Ok(lists)
+}
+
+/// Whether each call did what its procedure does, and its reply is the one that is told.
+pub(crate) fn check_calls<P: Progress>(
+    alloc: Global,
+    trail: &Trail,
+    progress: &mut P,
+) -> Result<(), AuditFault>
+    requires right { AreRight trail.now.parents trail.now.opening trail.now.past }
+    requires done { AreDone trail.now }
+    ensures so { OnOk result (AreSo trail.now (length trail.now.calls)) }
+    ensures fault { IfErr result (λ f. f ≢ AuditFault.Memory → IsFirst trail.now f) }
+{
+    let lists = by_call(alloc, trail)?;
+    for call in 0..trail.calls() as u32 {
+        if call as usize % CALLS_BETWEEN == 0 {
+            progress.run(call as usize, trail.calls());
+        }
+        check_call(trail, call, &lists[call as usize])?;
+    }
+    Ok(())
+}
