@@ -10,7 +10,8 @@ use Rattle.tl_core.specs.declared.moves.Entry.{Entry}
 use Rattle.tl_cli.specs.declared.script.NamedText.{NamedText}
 use Rattle.tl_cli.specs.declared.script.Script.{Script}
 use Rattle.tl_cli.specs.Script.{IsScript, move_view, named_view, script_view}
-use Rattle.tl_cli.specs.Drive.{TakenUp, core_with, IsConclusion, tree_now, lines_told, Drives}
+use Rattle.tl_audit.specs.Reading.{TakenUp}
+use Rattle.tl_cli.specs.Drive.{core_with, IsConclusion, tree_now, lines_told, IsDriven, Prints}
 
 -- the core before the moves
 pub record IsReady (t s : List ℕ) (tree : TreeValue) (script : Script) (core : CoreValue) (moves : List Move) : Type 0 where
@@ -35,23 +36,28 @@ ready t s tree script first core procedures moves tree_is script_is first_is pro
       moves_are = moves_are;
     }
 
-pub driven : (t s out : List ℕ) (tree : TreeValue) (script : Script) (core after : CoreValue) (moves : List Move) (entries : List Entry)
-    → IsReady t s tree script core moves → Traced core moves entries → after ≡ after_moves core moves entries
-    → ((d : Data) × IsConclusion after d × (out ≡ lines_told entries d (tree_now after))) → Drives t s out
-driven t s out tree script core after moves entries is traced after_is told =
-    let then : after ≡ after_moves (core_with tree core.procedures) moves entries = after_is ∙ ap (λ v. after_moves v moves entries) is.start in
+pub driven : (t s : List ℕ) (tree : TreeValue) (script : Script) (core after : CoreValue) (moves : List Move) (entries : List Entry)
+    → IsReady t s tree script core moves → Traced core moves entries → after ≡ after_moves core moves entries → IsDriven t s entries after
+driven t s tree script core after moves entries is traced after_is =
     record {
       tree = tree;
       script = script_view script;
       procedures = core.procedures;
       moves = moves;
-      entries = entries;
-      conclusion = told.0;
       tree_is = is.tree_is;
       script_is = is.script_is;
       taken_up = is.taken_up;
       moves_are = ap (map move_view) is.moves_are;
       traced = subst (λ v. Traced v moves entries) is.start traced;
-      concluded = subst (λ v. IsConclusion v told.0) then told.1;
-      same = told.2 ∙ ap (λ v. lines_told entries told.0 (tree_now v)) then;
+      after = after_is ∙ ap (λ v. after_moves v moves entries) is.start;
     }
+
+pub printed : (t s out : List ℕ) (after : CoreValue) (entries shown : List Entry) → IsDriven t s entries after → shown ≡ entries
+    → ((d : Data) × IsConclusion after d × (out ≡ lines_told shown d (tree_now after))) → Prints t s out after
+printed t s out after entries shown is same told = record {
+  entries = entries;
+  conclusion = told.0;
+  driven = is;
+  concluded = told.1;
+  same = told.2 ∙ ap (λ es. lines_told es told.0 (tree_now after)) same;
+}

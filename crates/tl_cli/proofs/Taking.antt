@@ -6,7 +6,8 @@ use Rattle.tl_core.specs.Cores.{Named}
 use Rattle.tl_cli.specs.declared.fault.CliFault.{CliFault}
 use Rattle.tl_cli.specs.declared.script.NamedText.{NamedText}
 use Rattle.tl_cli.specs.Script.{named_view}
-use Rattle.tl_cli.specs.Drive.{IsFit, and_named, TakenUp, IsUnfit, IsFirstUnfit}
+use Rattle.tl_audit.specs.Reading.{IsFit, and_named, TakenUp}
+use Rattle.tl_cli.specs.Drive.{IsUnfit, IsFirstUnfit}
 
 -- what comes of the rest comes of all
 pub record SoFar (before : List Named) (whole rest : List (List ℕ × List ℕ)) (now : List Named) : Type 0 where

@@ -17,7 +17,8 @@ use Rattle.tl_core.specs.declared.stepped.Stepped.TheVariants.{Moved, Blocked, O
 use Rattle.tl_core.specs.declared.moves.Entry.{Entry}
 use Rattle.tl_core.specs.declared.moves.Entry.TheVariants as entry
 use Rattle.tl_protocol.specs.Order.{placed}
-use Rattle.tl_cli.specs.Told.{natural, action_data, stepped_data, entry_data, trace_data, order_data}
+use Rattle.tl_audit.specs.Writing.{natural}
+use Rattle.tl_cli.specs.Told.{action_data, stepped_data, entry_data, trace_data, order_data}
 use Rattle.tl_cli.specs.Drive.{IsConclusion, lines_told}
 
 -- one more value is written, after a first one
@@ -52,7 +53,7 @@ entry_whole (entry.Refused f) = whole_items natural natural_whole (numbers_of f)
 pub trace_whole : (entries : List Entry) → has_float (trace_data entries) ≡ false
 trace_whole entries = rw (whole_items entry_data entry_whole entries) refl
 
-order_whole : (order : List ℕ) → has_float (order_data order) ≡ false
+pub order_whole : (order : List ℕ) → has_float (order_data order) ≡ false
 order_whole order = rw (whole_items natural natural_whole order) refl
 
 pub conclusion_whole : (v : CoreValue) (d : Data) → IsConclusion v d → has_float d ≡ false

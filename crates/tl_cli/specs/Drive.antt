@@ -1,5 +1,5 @@
 -- What the command `drive` prints, and when it answers which fault.
-use Rattle.std.specs.Prelude.{◌≡◌, ◌≢◌, ◌⊎◌, ℕ, List, [], ◌∷◌, ◌++◌, map, None, Some, Ok}
+use Rattle.std.specs.Prelude.{◌≡◌, ◌≢◌, ◌⊎◌, ℕ, List, [], ◌∷◌, ◌++◌, map, Some, Ok}
 use Rattle.serde_json.specs.Data.{Data}
 use Rattle.serde_json.specs.Written.{compact_text}
 use Rattle.tl_tree.specs.Trees.{TreeValue}
@@ -21,6 +21,9 @@ use Rattle.tl_core.specs.declared.fault.CoreFault.{CoreFault}
 use Rattle.tl_core.specs.declared.moves.Move.{Move}
 use Rattle.tl_core.specs.declared.moves.Entry.{Entry}
 use Rattle.tl_serial.specs.Unfinished.{IsLeastUnfinished}
+use Rattle.tl_audit.specs.Reading.{IsFit, and_named, TakenUp}
+use Rattle.tl_audit.specs.Recording.{trail_value}
+use Rattle.tl_audit.specs.Writing.{trail_text}
 use Rattle.tl_cli.specs.declared.fault.CliFault.{CliFault}
 use Rattle.tl_cli.specs.declared.fault.CliFault.TheVariants.{Asm, Tree, Verify, Core, NotScript}
 use Rattle.tl_cli.specs.Alone.{IsTreeFile, IsTreeFault}
@@ -29,20 +32,6 @@ use Rattle.tl_cli.specs.Script.{ScriptValue, IsScript, move_view}
 use Rattle.tl_cli.specs.Told.{trace_data, order_data, unfinished_data}
 
 -- ---- the procedures, each a name and a text
-
--- The text stands for an accepted code, and the name is free.
-pub record IsFit (before : List Named) (p : List ℕ × List ℕ) (code : CodeValue) : Type 0 where
-  pub written : Written p.1 code
-  pub accepted : Acceptable code.instrs
-  pub free : naming_refusal before p.0 ≡ None
-
-abbrev pub and_named : List Named → List ℕ → CodeValue → List Named
-and_named before name code = before ++ record { name = name; code = code } ∷ []
-
--- what there is once they are taken up, one after another
-abbrev pub TakenUp : List Named → List (List ℕ × List ℕ) → List Named → Type 0
-TakenUp before [] after = after ≡ before
-TakenUp before (p ∷ ps) after = (code : CodeValue) × IsFit before p code × TakenUp (and_named before p.0 code) ps after
 
 -- why one isn't taken up: its text, else its code, else its name
 abbrev pub IsUnfit : List Named → List ℕ × List ℕ → CliFault → Type 0
@@ -84,21 +73,33 @@ abbrev pub lines_told : List Entry → Data → TreeValue → List ℕ
 lines_told entries conclusion tree =
     compact_text (trace_data entries) ++ 10 ∷ compact_text conclusion ++ 10 ∷ tree_text tree ++ 10 ∷ []
 
--- What is printed is what comes of the script's moves, on that tree and with the script's procedures.
-pub record Drives (tree_bytes script_bytes out : List ℕ) : Type 0 where
+-- What comes of the script's moves, on that tree and with the script's procedures: the entries, and the core then.
+pub record IsDriven (tree_bytes script_bytes : List ℕ) (entries : List Entry) (v : CoreValue) : Type 0 where
   pub tree : TreeValue
   pub script : ScriptValue
   pub procedures : List Named
   pub moves : List Move
-  pub entries : List Entry
-  pub conclusion : Data
   pub tree_is : tree_of_text tree_bytes ≡ Ok tree
   pub script_is : IsScript script_bytes script
   pub taken_up : TakenUp [] script.procedures procedures
   pub moves_are : map move_view moves ≡ script.moves
   pub traced : Traced (core_with tree procedures) moves entries
-  pub concluded : IsConclusion (after_moves (core_with tree procedures) moves entries) conclusion
-  pub same : out ≡ lines_told entries conclusion (tree_now (after_moves (core_with tree procedures) moves entries))
+  pub after : v ≡ after_moves (core_with tree procedures) moves entries
+
+-- What is printed is what comes of them; the core is this one then.
+pub record Prints (tree_bytes script_bytes out : List ℕ) (v : CoreValue) : Type 0 where
+  pub entries : List Entry
+  pub conclusion : Data
+  pub driven : IsDriven tree_bytes script_bytes entries v
+  pub concluded : IsConclusion v conclusion
+  pub same : out ≡ lines_told entries conclusion (tree_now v)
+
+abbrev pub Drives : List ℕ → List ℕ → List ℕ → Type 0
+Drives t s out = (v : CoreValue) × Prints t s out v
+
+-- The same, and the file has the trail of that core, and a line feed.
+abbrev pub DrivesToTrail : List ℕ → List ℕ → List ℕ → List ℕ → Type 0
+DrivesToTrail t s out file = (v : CoreValue) × Prints t s out v × (file ≡ trail_text (trail_value v) ++ 10 ∷ [])
 
 -- ---- faults
 

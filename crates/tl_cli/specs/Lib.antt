@@ -3,3 +3,4 @@ pub mod Alone
 pub mod Script
 pub mod Told
 pub mod Drive
+pub mod Audit

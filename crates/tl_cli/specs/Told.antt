@@ -1,22 +1,16 @@
 -- What is printed of the moves: a list for each, with a letter first.
 use Rattle.std.specs.Prelude.{ℕ, List, [], ◌∷◌, map, codes}
-use Rattle.serde_json.specs.Data.{Data, unsigned, number, string, array, object, item, member, no_members}
+use Rattle.serde_json.specs.Data.{Data, array, object, member, no_members}
 use Rattle.serde_json.specs.View.{items_of}
 use Rattle.tl_tree.specs.Writing.{integer_data, integers_data}
 use Rattle.tl_protocol.specs.declared.action.Action.{Action}
 use Rattle.tl_protocol.specs.declared.action.Action.TheVariants.{Plain, Lock, Read, Write, Free, Emit, End}
+use Rattle.tl_audit.specs.Writing.{natural, told}
 use Rattle.tl_core.specs.Faults.{numbers_of}
 use Rattle.tl_core.specs.declared.stepped.Stepped.{Stepped}
 use Rattle.tl_core.specs.declared.stepped.Stepped.TheVariants.{Moved, Blocked, Over}
 use Rattle.tl_core.specs.declared.moves.Entry.{Entry}
 use Rattle.tl_core.specs.declared.moves.Entry.TheVariants as entry
-
-abbrev pub natural : ℕ → Data
-natural n = number (unsigned n)
-
--- a list of a text and of more
-abbrev pub told : List ℕ → List Data → Data
-told letter rest = array (item (string letter) (items_of rest))
 
 -- an instruction that call c did
 abbrev pub action_data : ℕ → Action → Data

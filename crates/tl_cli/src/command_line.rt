@@ -13,10 +13,15 @@ pub enum Request<'a> {
         procedure: &'a str,
         args: &'a str,
     },
-    /// Carry out a script on a tree.
+    /// Say whether the calls of a trail may have done what it tells.
+    Audit {
+        trail: &'a str,
+    },
+    /// Carry out a script on a tree, and write the trail to a file where one is named.
     Drive {
         tree: &'a str,
         script: &'a str,
+        trail: Option<&'a str>,
     },
     /// Write the container of an assembler text.
     Assemble {
@@ -55,6 +60,14 @@ Example: treedb asm walk.asm walk.tlp
 prints {\"count\":10}. A text that is refused is told by its line, and nothing is written.
 Exit status: 0 done, 1 refused, 2 a mistake on the command line, 3 a file that can't be read or written, 4 memory.";
 
+const AUDIT_HELP: &str = "\
+Example: treedb audit trail.json
+prints {\"order\":[..]}, the order in which the calls would do the same alone, where nothing is wrong with the trail.
+Else it prints what is wrong first: {\"error\":[711,event]}, a rule broken; 712, a lock of a node that another call holds;
+713, another record found than was left; {\"error\":[714,call]}, a call that does not do what its procedure does; 715, one
+that isn't done; 717, another reply; {\"error\":[716,node]}, another record in the end. On a terminal its progress is shown.
+Exit status: 0 done, 1 refused, 2 a mistake on the command line, 3 a file that can't be read, 4 memory.";
+
 const DIS_HELP: &str = "\
 Example: treedb dis walk.tlp
 prints a text that asm turns into the same container.
@@ -63,8 +76,9 @@ Exit status: 0 done, 1 refused, 2 a mistake on the command line, 3 a file that c
 const DRIVE_HELP: &str = "\
 Example: treedb drive --tree three.json moves.json
 prints {\"trace\":[..]}, what came of each move; {\"order\":[..]}, the order in which the calls would do the same alone,
-or {\"error\":[651,call]} where a call is unfinished; and then the tree as JSON. The files are not changed.
-Exit status: 0 done, 1 refused, 2 a mistake on the command line, 3 a file that can't be read, 4 memory.";
+or {\"error\":[651,call]} where a call is unfinished; and then the tree as JSON. With --trail the calls, what they did and
+the records in the end are written to a file, which treedb audit checks. The other files are not changed.
+Exit status: 0 done, 1 refused, 2 a mistake on the command line, 3 a file that can't be read or written, 4 memory.";
 
 const VERIFY_HELP: &str = "\
 Example: treedb verify walk.tlp
@@ -130,13 +144,27 @@ fn verify_command<'a>(alloc: Global) -> Result<Command<'a>, AllocError> {
         .arg(file_arg(alloc, "IN", "The file of the container"))
 }
 
+fn audit_command<'a>(alloc: Global) -> Result<Command<'a>, AllocError> {
+    Command::new(alloc, "audit")
+        .about(
+            "Says whether the calls of a trail may have done what it tells, and prints their order",
+        )
+        .after_help(AUDIT_HELP)
+        .arg(file_arg(alloc, "TRAIL", "The file of the trail, as JSON"))
+}
+
 fn drive_command<'a>(alloc: Global) -> Result<Command<'a>, AllocError> {
+    let trail = Arg::new(alloc, "trail")
+        .long("trail")
+        .value_name("F")
+        .help("The file that the trail is written to");
     Command::new(alloc, "drive")
         .about(
             "Lets calls take turns on a tree, as a script says, and prints what came of each move",
         )
         .after_help(DRIVE_HELP)
         .arg(tree_arg(alloc))?
+        .arg(trail)?
         .arg(file_arg(alloc, "SCRIPT", "The file of the script, as JSON"))
 }
 
@@ -148,6 +176,7 @@ fn command<'a>(alloc: Global) -> Result<Command<'a>, AllocError> {
         .arg_required_else_help(true)
         .subcommand(alone_command(alloc)?)?
         .subcommand(drive_command(alloc)?)?
+        .subcommand(audit_command(alloc)?)?
         .subcommand(asm_command(alloc)?)?
         .subcommand(dis_command(alloc)?)?
         .subcommand(verify_command(alloc)?)
@@ -160,12 +189,16 @@ fn request_of<'a>(matches: &ArgMatches<'a>) -> Option<Request<'a>> {
             text: words.get_str("IN")?,
             container: words.get_str("OUT")?,
         }),
+        "audit" => Some(Request::Audit {
+            trail: words.get_str("TRAIL")?,
+        }),
         "dis" => Some(Request::Disassemble {
             container: words.get_str("IN")?,
         }),
         "drive" => Some(Request::Drive {
             tree: words.get_str("tree")?,
             script: words.get_str("SCRIPT")?,
+            trail: words.get_str("trail"),
         }),
         "verify" => Some(Request::Verify {
             container: words.get_str("IN")?,

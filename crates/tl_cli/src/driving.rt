@@ -1,12 +1,15 @@
 // The command `drive`.
 
-ghost use Rattle.std.specs.Prelude.{◌≡◌, ◌≢◌, ◌∷◌, ◌++◌, map, string_bytes, IfOk, IfErr, OnOk};
+ghost use Rattle.std.specs.Prelude.{◌≡◌, ◌≢◌, [], ◌∷◌, ◌++◌, map, string_bytes, IfOk, IfErr, OnOk};
 ghost use Rattle.serde_json.specs.Data.{Data};
 ghost use Rattle.serde_json.specs.View.{view};
 ghost use Rattle.tl_instr.specs.Codes.{CodeValue};
 ghost use Rattle.tl_cli.specs.Script.{named_view};
 ghost use Rattle.tl_cli.specs.Faults.{status_of};
-ghost use Rattle.tl_cli.specs.Drive.{IsFit, and_named, TakenUp, IsUnfit, IsFirstUnfit, IsConclusion, tree_now, lines_told, Drives, IsDriveFault};
+ghost use Rattle.tl_audit.specs.Reading.{IsFit, and_named, TakenUp};
+ghost use Rattle.tl_audit.specs.Recording.{trail_value};
+ghost use Rattle.tl_audit.specs.Writing.{trail_text};
+ghost use Rattle.tl_cli.specs.Drive.{IsUnfit, IsFirstUnfit, IsConclusion, tree_now, lines_told, IsDriven, Drives, DrivesToTrail, IsDriveFault};
 
 use crate::fault::CliFault;
 use crate::inputs::tree_of_file;
@@ -15,6 +18,8 @@ use crate::told::{order_told, trace_told, unfinished_told};
 use serde_json::Value;
 use std::alloc::{AllocError, Global};
 use tl_asm::assembling::assemble;
+use tl_audit::recording::trail_of;
+use tl_audit::writing::write_trail;
 use tl_core::fault::CoreFault;
 use tl_core::interleaving::Core;
 use tl_core::moves::Entry;
@@ -92,14 +97,16 @@ fn lines(alloc: Global, core: &Core, trace: &[Entry]) -> Result<String, CliFault
     Ok(text)
 }
 
-/// Carries out a script on a tree, and gives the lines to print: what came of each move; the order of the calls, or 651
-/// and the least unfinished call; and the tree as it is then. Takes the bytes of the tree's file and those of the script.
-///
-/// What is wrong first, in this order: 106 (also for a tree that is no UTF-8), 101 to 105; 731; then of each procedure
-/// the assembler's 251 to 254, the verifier's 301 to 307 and 401 to 409, and 612, 611, 613. Where memory was refused, 190,
-/// 290, 490, 690 or 990.
-pub fn drive_cmd(alloc: Global, tree: &[u8], script: &[u8]) -> Result<String, CliFault>
-    ensures printed { IfOk result (λ s. Drives tree.now script.now (string_bytes s)) }
+// What came of a script: what came of each move, and the core then.
+#[derive(Drop)]
+pub struct Driven {
+    trace: Vec<Entry>,
+    core: Core,
+}
+
+// Carries out a script on a tree.
+fn carry_out(alloc: Global, tree: &[u8], script: &[u8]) -> Result<Driven, CliFault>
+    ensures ok { IfOk result (λ d. IsDriven tree.now script.now d.trace.items d.core) }
     ensures fault { IfErr result (λ e. IsDriveFault tree.now script.now e) }
 {
     let tree = match tree_of_file(alloc, tree) {
@@ -113,7 +120,53 @@ pub fn drive_cmd(alloc: Global, tree: &[u8], script: &[u8]) -> Result<String, Cl
     };
     take_up_all(alloc, &mut core, &script.procedures)?;
     match core.drive(alloc, &script.moves) {
-        Ok(trace) => lines(alloc, &core, &trace),
+        Ok(trace) => Ok(Driven { trace, core }),
         Err(fault) => Err(CliFault::Core(fault)),
     }
+}
+
+// The text of the core's trail, as a file.
+fn trail_file(alloc: Global, core: &Core) -> Result<String, CliFault>
+    ensures ok { IfOk result (λ s. string_bytes s ≡ trail_text (trail_value core.now) ++ 10 ∷ []) }
+    ensures err { IfErr result (λ e. status_of e ≡ 4) }
+{
+    let trail = match trail_of(alloc, core) {
+        Ok(trail) => trail,
+        Err(fault) => return Err(CliFault::Trail(fault)),
+    };
+    let mut text = match write_trail(alloc, &trail) {
+        Ok(text) => text,
+        Err(fault) => return Err(CliFault::Trail(fault)),
+    };
+    text.push_str("\n")?;
+    Ok(text)
+}
+
+/// Carries out a script on a tree, and gives the lines to print: what came of each move; the order of the calls, or 651
+/// and the least unfinished call; and the tree as it is then. Takes the bytes of the tree's file and those of the script.
+///
+/// What is wrong first, in this order: 106 (also for a tree that is no UTF-8), 101 to 105; 731; then of each procedure
+/// the assembler's 251 to 254, the verifier's 301 to 307 and 401 to 409, and 612, 611, 613. Where memory was refused, 190,
+/// 290, 490, 690 or 990.
+pub fn drive_cmd(alloc: Global, tree: &[u8], script: &[u8]) -> Result<String, CliFault>
+    ensures printed { IfOk result (λ s. Drives tree.now script.now (string_bytes s)) }
+    ensures fault { IfErr result (λ e. IsDriveFault tree.now script.now e) }
+{
+    let driven = carry_out(alloc, tree, script)?;
+    lines(alloc, &driven.core, &driven.trace)
+}
+
+/// The same, and the text of a file: the trail of the calls, and a line feed. Where memory was refused, also 790.
+pub fn drive_with_trail_cmd(
+    alloc: Global,
+    tree: &[u8],
+    script: &[u8],
+) -> Result<(String, String), CliFault>
+    ensures printed { IfOk result (λ r. DrivesToTrail tree.now script.now (string_bytes r.0) (string_bytes r.1)) }
+    ensures fault { IfErr result (λ e. IsDriveFault tree.now script.now e) }
+{
+    let driven = carry_out(alloc, tree, script)?;
+    let text = lines(alloc, &driven.core, &driven.trace)?;
+    let trail = trail_file(alloc, &driven.core)?;
+    Ok((text, trail))
 }

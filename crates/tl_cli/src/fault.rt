@@ -9,6 +9,7 @@ use arrayvec::ArrayVec;
 use std::alloc::AllocError;
 use thiserror::Error;
 use tl_asm::fault::AsmFault;
+use tl_audit::fault::{AuditFault, TrailFault};
 use tl_core::fault::CoreFault;
 use tl_instr::fault::CodeFault;
 use tl_tree::fault::TreeFault;
@@ -41,6 +42,12 @@ pub enum CliFault {
     /// 501 to 613, 690: many calls in turns.
     #[error("the calls: {0}")]
     Core(CoreFault),
+    /// 701, 101 to 613 of what it tells, 790: the trail.
+    #[error("the trail: {0}")]
+    Trail(TrailFault),
+    /// 711 to 717, 790: what is wrong with the trail.
+    #[error("the trail: {0}")]
+    Audit(AuditFault),
     /// 731: the text is no script.
     #[error("the text is not a script")]
     NotScript,
@@ -70,6 +77,8 @@ impl CliFault {
             CliFault::Code(fault) => return fault.numbers(),
             CliFault::Verify(fault) => return fault.numbers(),
             CliFault::Core(fault) => return core_numbers(fault),
+            CliFault::Trail(fault) => return fault.numbers(),
+            CliFault::Audit(fault) => return fault.numbers(),
             CliFault::NotScript => numbers.push(731),
             CliFault::NotArgs => numbers.push(732),
             CliFault::WrongArgs => numbers.push(501),
@@ -89,6 +98,8 @@ impl CliFault {
             | CliFault::Code(CodeFault::Memory)
             | CliFault::Verify(VerifyFault::Memory)
             | CliFault::Core(CoreFault::Memory)
+            | CliFault::Trail(TrailFault::Memory)
+            | CliFault::Audit(AuditFault::Memory)
             | CliFault::Memory => 4,
             _ => 1,
         }

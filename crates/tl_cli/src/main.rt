@@ -2,12 +2,14 @@
 #![tactic(auto)]
 
 mod alone;
+mod auditing;
 mod command_line;
 mod driving;
 mod fault;
 mod inputs;
 mod output;
 mod procedures;
+mod progress;
 mod script;
 #[cfg(test)]
 mod tests;
@@ -15,9 +17,10 @@ mod told;
 
 use command_line::{Asked, Request};
 use fault::CliFault;
+use progress::Shown;
 use std::alloc::{AllocError, Global};
 use std::io;
-use std::io::ErrorKind;
+use std::io::{ErrorKind, IsTerminal};
 use std::process::ExitCode;
 use std::rt::Files;
 
@@ -56,8 +59,44 @@ fn assemble<R: Files + Eprint + AllocGlobal>(
     }
 }
 
+// What comes of a script. The trail is written to a file, where one is named.
+fn drive<R: Files + AllocGlobal>(
+    rt: &R,
+    tree: &str,
+    script: &str,
+    trail: Option<&str>,
+) -> Result<String, CliFault> {
+    let tree = file(rt, tree)?;
+    let script = file(rt, script)?;
+    let Some(path) = trail else {
+        return driving::drive_cmd(rt.alloc(), &tree, &script);
+    };
+    let (text, trail) = driving::drive_with_trail_cmd(rt.alloc(), &tree, &script)?;
+    match std::fs::write(rt, path, trail.as_bytes()) {
+        Ok(()) => Ok(text),
+        Err(_) => Err(CliFault::Unwritable),
+    }
+}
+
+// The order of a trail's calls. On a terminal it is shown how far the audit is.
+fn audit<R: Files + Eprint + AllocGlobal>(
+    rt: &R,
+    trail: &str,
+    is_terminal: bool,
+) -> Result<String, CliFault> {
+    let trail = file(rt, trail)?;
+    let mut shown = Shown::new(rt, is_terminal);
+    let answer = auditing::audit_cmd(rt.alloc(), &trail, &mut shown);
+    shown.end();
+    answer
+}
+
 // What the program prints for a request.
-fn answer<R: Files + Eprint + AllocGlobal>(rt: &R, request: &Request) -> Result<String, CliFault> {
+fn answer<R: Files + Eprint + AllocGlobal>(
+    rt: &R,
+    request: &Request,
+    is_terminal: bool,
+) -> Result<String, CliFault> {
     match *request {
         Request::Alone {
             tree,
@@ -72,11 +111,12 @@ fn answer<R: Files + Eprint + AllocGlobal>(rt: &R, request: &Request) -> Result<
         Request::Disassemble { container } => {
             procedures::dis_cmd(rt.alloc(), &file(rt, container)?)
         }
-        Request::Drive { tree, script } => {
-            let tree = file(rt, tree)?;
-            let script = file(rt, script)?;
-            driving::drive_cmd(rt.alloc(), &tree, &script)
-        }
+        Request::Audit { trail } => audit(rt, trail, is_terminal),
+        Request::Drive {
+            tree,
+            script,
+            trail,
+        } => drive(rt, tree, script, trail),
         Request::Verify { container } => procedures::verify_cmd(rt.alloc(), &file(rt, container)?),
     }
 }
@@ -85,8 +125,9 @@ fn answer<R: Files + Eprint + AllocGlobal>(rt: &R, request: &Request) -> Result<
 fn carry_out<R: Files + Print + Eprint + AllocGlobal>(
     rt: &R,
     request: &Request,
+    is_terminal: bool,
 ) -> io::Result<ExitCode> {
-    match answer(rt, request) {
+    match answer(rt, request, is_terminal) {
         Ok(text) => {
             rt.print(text.as_str())?;
             Ok(ExitCode::SUCCESS)
@@ -105,7 +146,7 @@ fn main(rt: HostRuntime) -> io::Result<ExitCode> {
         return Ok(ExitCode::from(4));
     };
     match command_line::parse(alloc, &words) {
-        Ok(Asked::Request(request)) => carry_out(&rt, &request),
+        Ok(Asked::Request(request)) => carry_out(&rt, &request, rt.stderr().is_terminal()),
         Ok(Asked::Told(error)) => {
             error.print(&rt)?;
             Ok(ExitCode::from(command_line::status(&error)))

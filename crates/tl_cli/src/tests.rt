@@ -1,3 +1,5 @@
+mod trails;
+
 use crate::alone::alone_cmd;
 use crate::driving::drive_cmd;
 use crate::fault::CliFault;

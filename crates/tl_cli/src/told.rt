@@ -3,37 +3,15 @@
 ghost use Rattle.std.specs.Prelude.{◌≡◌, ◌∷◌, [], codes, map, IfOk};
 ghost use Rattle.serde_json.specs.Data.{array};
 ghost use Rattle.serde_json.specs.View.{view, items_of};
-ghost use Rattle.tl_tree.specs.Writing.{integers_data};
-ghost use Rattle.tl_cli.specs.Told.{natural, told, action_data, stepped_data, entry_data, trace_data, order_data, unfinished_data};
+ghost use Rattle.tl_audit.specs.Writing.{natural, told};
+ghost use Rattle.tl_cli.specs.Told.{action_data, stepped_data, entry_data, trace_data, order_data, unfinished_data};
 
 use serde_json::{Value, json};
 use std::alloc::{AllocError, Global};
+use tl_audit::writing::{call_told, record_told};
 use tl_core::moves::Entry;
 use tl_core::stepped::Stepped;
 use tl_protocol::action::Action;
-use tl_tree::record::Record;
-use tl_tree::value::record_to_value;
-
-// A call.
-fn call_told(alloc: Global, letter: &str, call: u32) -> Result<Value, AllocError>
-    ensures { IfOk result (λ v. view v ≡ told letter.now (natural call ∷ [])) }
-{
-    json!(in alloc; [letter, call])
-}
-
-// A call, a node, and the record that it has there.
-fn record_told(
-    alloc: Global,
-    letter: &str,
-    call: u32,
-    node: u16,
-    fields: &Record,
-) -> Result<Value, AllocError>
-    ensures { IfOk result (λ v. view v ≡ told letter.now (natural call ∷ natural node ∷ integers_data fields.now ∷ [])) }
-{
-    let fields = record_to_value(alloc, fields)?;
-    json!(in alloc; [letter, call, node, fields])
-}
 
 // A call, a node, a field, and its value.
 fn field_told(

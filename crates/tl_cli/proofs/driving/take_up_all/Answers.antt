@@ -2,7 +2,8 @@ use Rattle.std.proofs.Common.{rules, ◌≡◌, ◌≢◌, get_or, map, refl, ap
 use Rattle.tl_core.specs.Cores.{CoreValue}
 use Rattle.tl_cli.specs.Script.{named_view}
 use Rattle.tl_cli.specs.Faults.{status_of}
-use Rattle.tl_cli.specs.Drive.{IsFit, IsUnfit, IsFirstUnfit, and_named}
+use Rattle.tl_audit.specs.Reading.{IsFit, and_named}
+use Rattle.tl_cli.specs.Drive.{IsUnfit, IsFirstUnfit}
 use Rattle.tl_cli.proofs.Taking.{none_so_far, one_taken, one_unfit, all_taken}
 use Rattle.tl_cli.proofs.driving.take_up_all.Goals as goal
 

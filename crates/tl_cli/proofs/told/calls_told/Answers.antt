@@ -4,7 +4,7 @@ use Rattle.serde_json.specs.Data.{array}
 use Rattle.serde_json.specs.View.{view, items_of}
 use Rattle.serde_json.proofs.Views.{view-Array}
 use Rattle.tl_tree.proofs.Items.{views_more}
-use Rattle.tl_cli.specs.Told.{natural}
+use Rattle.tl_audit.specs.Writing.{natural}
 use Rattle.tl_cli.proofs.told.calls_told.Goals as goal
 
 pub loop-call-preserved : goal.loop-call-preserved

@@ -3,7 +3,7 @@ use Rattle.std.proofs.lemmas.List.{take_all}
 use Rattle.serde_json.specs.Data.{array, string}
 use Rattle.serde_json.specs.View.{view, items_of}
 use Rattle.serde_json.proofs.Views.{view-Array}
-use Rattle.tl_cli.specs.Told.{natural}
+use Rattle.tl_audit.specs.Writing.{natural}
 use Rattle.tl_cli.proofs.Texts.{views_after}
 use Rattle.tl_cli.proofs.told.numbers_told.Goals as goal
 

@@ -1,7 +1,7 @@
 use Rattle.std.proofs.Common.{◌≡◌, ◌∷◌, map, take}
 use Rattle.serde_json.specs.Data.{string}
 use Rattle.serde_json.specs.View.{view}
-use Rattle.tl_cli.specs.Told.{natural}
+use Rattle.tl_audit.specs.Writing.{natural}
 use Rattle.tl_cli.proofs.told.numbers_told.Given as goal
 
 abbrev pub invariant-loop-number : goal.invariant-loop-number
