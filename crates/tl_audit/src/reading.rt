@@ -346,6 +346,3 @@ pub fn read_trail(alloc: Global, text: &str) -> Result<Trail, TrailFault>
 {
     trail_of_text(alloc, text)
 }
-
-#[cfg(test)]
-mod tests;
