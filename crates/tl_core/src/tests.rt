@@ -2,7 +2,6 @@
 
 use crate::fault::CoreFault;
 use crate::interleaving::Core;
-use crate::moves::{Entry, Move};
 use crate::stepped::Stepped;
 use std::alloc::Global;
 use std::process::Abort;
@@ -115,15 +114,6 @@ fn holds(
     Ok(())
 }
 
-fn replies(rt: &impl Abort, core: &Core, call: u32, values: Option<&[i64]>) -> Result<(), Fail> {
-    assert!(rt; (call as usize) < core.calls());
-    match core.reply(call) {
-        Some(reply) => assert_eq!(rt; Some(reply.values()), values, "{call}"),
-        None => assert_eq!(rt; None, values, "{call}"),
-    }
-    Ok(())
-}
-
 fn moved(action: Action) -> Result<Stepped, CoreFault> {
     Ok(Stepped::Moved { action })
 }
@@ -143,20 +133,6 @@ fn a_call_waits_for_another(rt: HostRuntime) -> Result<(), Fail> {
 }
 
 #[test]
-fn a_call_runs_to_its_end(rt: HostRuntime) -> Result<(), Fail> {
-    let alloc = rt.alloc();
-    let mut core = core_of(alloc, 16)?;
-    admits(&rt, &mut core, "store", &[7, 22], Ok(0))?;
-    replies(&rt, &core, 0, None)?;
-    steps(&rt, &mut core, 0, moved(Action::Plain))?;
-    steps(&rt, &mut core, 0, moved(Action::End))?;
-    steps(&rt, &mut core, 0, Ok(Stepped::Over))?;
-    steps(&rt, &mut core, 1, Err(CoreFault::NoCall))?;
-    replies(&rt, &core, 0, Some(&[]))?;
-    enabled(&rt, &core, 0, Ok(false), None)
-}
-
-#[test]
 fn an_admission_has_room_for_its_events(rt: HostRuntime) -> Result<(), Fail> {
     let alloc = rt.alloc();
     for (limit, second) in [(7, Err(CoreFault::HistoryFull)), (8, Ok(1))] {
@@ -170,34 +146,6 @@ fn an_admission_has_room_for_its_events(rt: HostRuntime) -> Result<(), Fail> {
 }
 
 #[test]
-fn moves_are_told_one_by_one(rt: HostRuntime) -> Result<(), Fail> {
-    let alloc = rt.alloc();
-    let mut core = Core::new(alloc, fork(alloc)?)?;
-    let moves = Vec::from_array(alloc, [Move::Step { call: 0 }])?;
-    let trace = core.drive(alloc, &moves)?;
-    let expected = [Entry::Refused {
-        fault: CoreFault::NoCall,
-    }];
-    assert_eq!(rt; trace.as_slice(), expected.as_slice());
-    assert_eq!(rt; core.tree().records(), TENS.as_slice());
-    assert_eq!(rt; core.history().len(), 0);
-    Ok(())
-}
-
-#[test]
-fn a_core_tells_what_was_asked_of_it(rt: HostRuntime) -> Result<(), Fail> {
-    let alloc = rt.alloc();
-    let mut core = core_of(alloc, 16)?;
-    admits(&rt, &mut core, "store", &[2, 22], Ok(0))?;
-    assert!(rt; core.calls() == 1 && core.procs() == 1);
-    assert_eq!(rt; core.request(0).0, 0);
-    assert_eq!(rt; core.request(0).1, [2, 22].as_slice());
-    assert_eq!(rt; core.name(0), "store");
-    assert_eq!(rt; core.proc(0).bounds().steps, 5);
-    Ok(())
-}
-
-#[test]
 fn a_name_is_taken_up_once(rt: HostRuntime) -> Result<(), Fail> {
     let alloc = rt.alloc();
     let mut core = core_of(alloc, 16)?;
@@ -205,25 +153,5 @@ fn a_name_is_taken_up_once(rt: HostRuntime) -> Result<(), Fail> {
     assert_eq!(rt; again, Err(CoreFault::NameTaken));
     let bad = core.add_proc(alloc, "a b", store(alloc)?);
     assert_eq!(rt; bad, Err(CoreFault::BadName));
-    Ok(())
-}
-
-#[test]
-fn faults_have_numbers(rt: HostRuntime) -> Result<(), Fail> {
-    let faults = [
-        (CoreFault::WrongArgs, 501),
-        (CoreFault::NoProcedure, 601),
-        (CoreFault::NoCall, 602),
-        (CoreFault::TooManyCalls, 603),
-        (CoreFault::TooManyOpen, 604),
-        (CoreFault::HistoryFull, 605),
-        (CoreFault::NameTaken, 611),
-        (CoreFault::BadName, 612),
-        (CoreFault::TooManyProcedures, 613),
-        (CoreFault::Memory, 690),
-    ];
-    for (fault, number) in faults {
-        assert_eq!(rt; fault.numbers().as_slice(), [number].as_slice());
-    }
     Ok(())
 }
