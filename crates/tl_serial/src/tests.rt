@@ -1,5 +1,4 @@
 use crate::concluding::conclude;
-use crate::fault::SerialFault;
 use crate::placing::{is_of_shape, order_of};
 use crate::replaying::replay;
 use std::alloc::Global;
@@ -68,13 +67,6 @@ fn order(alloc: Global, parents: &[i64], events: &[Event]) -> Result<Vec<u32>, F
     }
     let order = order_of(alloc, &history, &shape)?;
     Ok(Vec::from_slice(alloc, order.calls())?)
-}
-
-#[test]
-fn no_events_give_no_order(rt: HostRuntime) -> Result<(), Fail> {
-    let order = order(rt.alloc(), &FORK, &[])?;
-    assert!(rt; order.is_empty());
-    Ok(())
 }
 
 // Call 2 comes to node 2 before call 0, which came first of all.
@@ -181,32 +173,6 @@ fn a_million_events_of_many_calls(rt: HostRuntime) -> Result<(), Fail> {
         assert_eq!(rt; *call as usize, place);
     }
     Ok(())
-}
-
-#[test]
-fn nodes_of_another_tree_are_told(rt: HostRuntime) -> Result<(), Fail> {
-    let shape = Shape::new(rt.alloc(), &FORK)?;
-    for (event, inside) in [
-        (lock(0, 2), true),
-        (lock(0, 3), false),
-        (free(1, 2), true),
-        (free(1, 3), false),
-        (done(3), true),
-        (admit(3), true),
-    ] {
-        let history = history_of(rt.alloc(), &[event])?;
-        assert_eq!(rt; is_of_shape(&history, &shape), inside);
-    }
-    Ok(())
-}
-
-#[test]
-fn faults_are_numbered(rt: HostRuntime) {
-    assert_eq!(rt;
-        SerialFault::Unfinished { call: 7 }.numbers().as_slice(),
-        [651, 7].as_slice()
-    );
-    assert_eq!(rt; SerialFault::Memory.numbers().as_slice(), [690].as_slice());
 }
 
 // ---- instructions, as in the text form
@@ -330,22 +296,6 @@ fn assert_reply(
     Ok(())
 }
 
-/// The core's call isn't done, and no lower call is unfinished.
-fn assert_unfinished(rt: &impl Abort, alloc: Global, core: &Core, call: u32) -> Result<(), Fail> {
-    match conclude(alloc, core) {
-        Ok(_) => assert!(rt; false, "an order"),
-        Err(fault) => assert_eq!(rt; fault, SerialFault::Unfinished { call }),
-    }
-    Ok(())
-}
-
-#[test]
-fn no_calls_give_the_opening_tree(rt: HostRuntime) -> Result<(), Fail> {
-    let alloc = rt.alloc();
-    let core = core_of(alloc, [5, 6, 7])?;
-    assert_order(&rt, alloc, &core, &[], [5, 6, 7])
-}
-
 #[test]
 fn a_call_without_a_lock_runs_again_last(rt: HostRuntime) -> Result<(), Fail> {
     let alloc = rt.alloc();
@@ -359,14 +309,4 @@ fn a_call_without_a_lock_runs_again_last(rt: HostRuntime) -> Result<(), Fail> {
     assert_order(&rt, alloc, &core, &[1, 0], [5, 6, 7])?;
     assert_reply(&rt, alloc, &core, 0, &[5])?;
     assert_reply(&rt, alloc, &core, 1, &[])
-}
-
-#[test]
-fn an_unfinished_call_is_told(rt: HostRuntime) -> Result<(), Fail> {
-    let alloc = rt.alloc();
-    let mut core = core_of(alloc, [5, 6, 7])?;
-    let mut moves = Vec::new(alloc);
-    ask(alloc, &mut moves, "look", &[0])?;
-    core.drive(alloc, &moves)?;
-    assert_unfinished(&rt, alloc, &core, 0)
 }
