@@ -33,7 +33,7 @@ use Rattle.tl_audit.specs.Trails.{CallValue, TrailValue, IsCallOf}
 use Rattle.tl_audit.specs.declared.form.EventForm.{EventForm}
 use Rattle.tl_audit.specs.declared.form.EventForm.TheVariants.{Admitted, Locked, Freed, Ended}
 use Rattle.tl_audit.specs.Reading.{CallForm, TrailForm, TakenUp, call_of, event_of, procedure_of, reply_of, form_in, form_of_parts, parts_of, called, and_calls, trail_of_calls, trail_of_events, call_as, each_call, calls_as, event_as, events_as, trail_of_form, IsTrailText}
-use Rattle.tl_audit.specs.Writing.{natural, told, reply_data, call_data, event_data, procedure_data, trail_data, HasRecord, IsTold, AreAccepted, IsWritable}
+use Rattle.tl_audit.specs.Writing.{natural, told, reply_data, call_data, event_data, procedure_data, trail_data, HasRecord, FitsText, AreAccepted, IsWritable}
 
 -- ---- no float, and not deep
 
@@ -118,7 +118,7 @@ reply_read : (reply : Option (List ℤ)) → IfSome reply (λ values. All (FitsS
 reply_read None fit few = refl
 reply_read (Some values) fit few = rw (integers_back values fit, le-leb (length values) 32 few) refl
 
-call_read : (procedures : List Named) (k : CallValue) → IsTold k → call_of (call_data procedures k) ≡ Some (call_form procedures k)
+call_read : (procedures : List Named) (k : CallValue) → FitsText k → call_of (call_data procedures k) ≡ Some (call_form procedures k)
 call_read procedures k told = rw (integers_back k.args told.args, reply_read k.reply told.reply told.few) refl
 
 -- an event of one of so many calls and nodes
@@ -237,7 +237,7 @@ module _ (t : TrailValue) (w : IsWritable t) where
 
   form_read : (tree : List ℤ × Records) → tree_form_of (tree_data tree_of_trail) ≡ Some tree → (text : List ℕ) → read text ≡ Some (trail_data t) → form_in text ≡ Some (form_with tree)
   form_read tree is text h =
-      let calls = each_read call_of (call_data t.procedures) (call_form t.procedures) IsTold (call_read t.procedures) t.calls w.calls in
+      let calls = each_read call_of (call_data t.procedures) (call_form t.procedures) FitsText (call_read t.procedures) t.calls w.calls in
       let ends = records_back t.ends w.ends in
       let events = each_read event_of event_data event_form (IsInside (length t.calls) (length t.parents)) (event_read (length t.calls) (length t.parents) w.trail.few w.trail.tree.few) (reverse t.past) inside in
       let procedures = each_read procedure_of procedure_data procedure_form (λ p. Unit {0}) (λ p h. refl) t.procedures (λ k d less. tt) in

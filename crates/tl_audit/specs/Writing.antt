@@ -68,7 +68,7 @@ HasRecord (Free c x left) = IsRecord left
 HasRecord (Done c) = Unit {0}
 
 -- the arguments fit 64 bits, and so does a reply, which has at most 32 values
-pub record IsTold (k : CallValue) : Type 0 where
+pub record FitsText (k : CallValue) : Type 0 where
   pub args : All (FitsSigned w64) k.args
   pub reply : IfSome k.reply (λ values. All (FitsSigned w64) values)
   pub few : IfSome k.reply (λ values. length values ≤ 32)
@@ -82,7 +82,7 @@ pub record IsWritable (t : TrailValue) : Type 0 where
   pub trail : IsTrail t
   pub free : AreFreeAfter [] t.procedures
   pub accepted : AreAccepted t.procedures
-  pub calls : All IsTold t.calls
+  pub calls : All FitsText t.calls
   pub events : All HasRecord (reverse t.past)
   pub few : length t.past ≤ 1048576
   pub ends : All IsRecord t.ends

@@ -13,7 +13,7 @@ ghost use Rattle.tl_verify.specs.Acceptable.{Acceptable};
 ghost use Rattle.tl_core.specs.Entries.{AreFreeAfter};
 ghost use Rattle.tl_audit.specs.Trails.{call_at};
 ghost use Rattle.tl_audit.specs.Reading.{IsTrailText};
-ghost use Rattle.tl_audit.specs.Writing.{natural, told, list_data, reply_data, call_data, event_data, procedure_data, trail_data, trail_text, HasRecord, IsTold, AreAccepted, IsWritable};
+ghost use Rattle.tl_audit.specs.Writing.{natural, told, list_data, reply_data, call_data, event_data, procedure_data, trail_data, trail_text, HasRecord, FitsText, AreAccepted, IsWritable};
 
 use crate::fault::TrailFault;
 use crate::trail::Trail;
@@ -84,7 +84,7 @@ fn reply_told(alloc: Global, reply: Option<&[i64]>) -> Result<Value, AllocError>
 fn called(alloc: Global, trail: &Trail, call: u32) -> Result<Value, AllocError>
     requires { call < length trail.now.calls }
     ensures value { IfOk result (λ v. view v ≡ call_data trail.now.procedures (call_at trail.now call)) }
-    ensures told { OnOk result (IsTold (call_at trail.now call)) }
+    ensures told { OnOk result (FitsText (call_at trail.now call)) }
 {
     let (procedure, args) = trail.request(call);
     let name = trail.procedures().name(procedure);
@@ -95,7 +95,7 @@ fn called(alloc: Global, trail: &Trail, call: u32) -> Result<Value, AllocError>
 
 fn calls_told(alloc: Global, trail: &Trail) -> Result<Value, AllocError>
     ensures value { IfOk result (λ v. view v ≡ list_data (map (call_data trail.now.procedures) trail.now.calls)) }
-    ensures told { OnOk result (All IsTold trail.now.calls) }
+    ensures told { OnOk result (All FitsText trail.now.calls) }
 {
     let mut items = Vec::with_capacity(alloc, trail.calls())?;
     for call in 0..trail.calls() {

@@ -5,7 +5,7 @@ use Rattle.serde_json.specs.View.{view}
 use Rattle.serde_json.proofs.Views.{view-Array}
 use Rattle.tl_tree.proofs.Items.{views_more}
 use Rattle.tl_audit.specs.Trails.{no_call}
-use Rattle.tl_audit.specs.Writing.{list_data, call_data, IsTold}
+use Rattle.tl_audit.specs.Writing.{list_data, call_data, FitsText}
 use Rattle.tl_audit.proofs.writing.calls_told.Goals as goal
 
 pub loop-call-preserved : goal.loop-call-preserved
@@ -14,7 +14,7 @@ loop-call-preserved c =
     let i = c.loop-call.call in
     let made = c.in_ok-called.ensures in (
       ap (map view) c.in_ok-push.ensures.items ∙ views_more (call_data trail.procedures) c.loop-call.items.items c.in_ok-called.field-0 trail.calls i no_call (omega arith) c.loop-call.invariant.0 made.value,
-      All-more IsTold trail.calls i no_call (omega arith) c.loop-call.invariant.1 made.told,
+      All-more FitsText trail.calls i no_call (omega arith) c.loop-call.invariant.1 made.told,
     )
 
 pub returns-clause-value : goal.returns-clause-value
