@@ -1,5 +1,5 @@
 -- The places of the positions that were walked over.
-use Rattle.std.proofs.Common.{◌≡◌, ◌≢◌, ◌⊎◌, inl, inr, ℕ, ◌+◌, ◌<◌, ◌≤◌, List, [], ◌∷◌, ◌++◌, length, get_or, Some, refl, sym, ◌∙◌, ap, subst, arith}
+use Rattle.std.proofs.Common.{◌≡◌, ◌≢◌, ◌⊎◌, inl, inr, ℕ, ◌+◌, ◌<◌, ◌≤◌, List, [], ◌∷◌, ◌++◌, length, get_or, Option, Some, None, refl, sym, ◌∙◌, ap, subst, arith}
 use Rattle.std.proofs.Math.ListN.{set}
 use Rattle.std.proofs.lemmas.Bool.{cases_lt, cases_eq}
 use Rattle.std.proofs.lemmas.List.{length-set, get_or-set_same, get_or-set_other, get_or_append_left, get_or_push, get_or_default, length_push}
@@ -12,18 +12,20 @@ use Rattle.tl_budget.proofs.Opened.{opened, ClosesAt}
 use Rattle.tl_budget.proofs.Matching.{openings, around_opened, depth_is}
 use Rattle.tl_budget.proofs.Clear.{Clear, is_nested, inside}
 
--- Of the positions before n the depth and the innermost opening are known, and of the loops that close before p the end.
+-- Of the positions before n the depth and the innermost opening are known, and that no end is kept where no loop opens;
+-- and of the loops that close before p the end.
 pub record Placed (code : List Instr) (n p : ℕ) (places : List Place) : Type 0 where
   pub long : length places ≡ n
   pub depth : (q : ℕ) → q < n → (place_at places q).depth ≡ length (opened code q)
   pub opening : (q : ℕ) → q < n → (place_at places q).opening ≡ get_or (opened code q) 0 0
   pub close : (o : ℕ) (l : Loop) → loop_at code o ≡ Some l → l.close < p → (place_at places o).close ≡ l.close
+  pub endless : (o : ℕ) → o < n → loop_at code o ≡ None → (place_at places o).close ≡ 0
 
 pub placed_start : (code : List Instr) → Placed code 0 0 []
-placed_start code = record { long = refl; depth = λ q lt. absurd (omega arith); opening = λ q lt. absurd (omega arith); close = λ o l e lt. absurd (omega arith) }
+placed_start code = record { long = refl; depth = λ q lt. absurd (omega arith); opening = λ q lt. absurd (omega arith); close = λ o l e lt. absurd (omega arith); endless = λ o lt none. absurd (omega arith) }
 
-pub placed_push : (code : List Instr) (p : ℕ) (places : List Place) (new : Place) → new.depth ≡ length (opened code p) → new.opening ≡ get_or (opened code p) 0 0 → Placed code p p places → Placed code (p + 1) p (places ++ new ∷ [])
-placed_push code p places new depth opening h = record {
+pub placed_push : (code : List Instr) (p : ℕ) (places : List Place) (new : Place) → new.depth ≡ length (opened code p) → new.opening ≡ get_or (opened code p) 0 0 → new.close ≡ 0 → Placed code p p places → Placed code (p + 1) p (places ++ new ∷ [])
+placed_push code p places new depth opening close h = record {
   long = length_push places new ∙ ap (λ n. n + 1) h.long;
   depth = λ q lt. each (λ q x. x.depth ≡ length (opened code q)) depth h.depth q lt;
   opening = λ q lt. each (λ q x. x.opening ≡ get_or (opened code q) 0 0) opening h.opening q lt;
@@ -32,6 +34,7 @@ placed_push code p places new depth opening h = record {
       let long = h.long in
       let below : o < length places = omega arith in
       ap (λ (x : Place). x.close) (get_or_append_left places (new ∷ []) no_place o below) ∙ h.close o l e lt;
+  endless = λ q lt. each (λ q x. loop_at code q ≡ None → x.close ≡ 0) (λ none. close) h.endless q lt;
 }
   where
     each : (P : ℕ → Place → Type 0) → P p new → ((q : ℕ) → q < p → P q (place_at places q)) → (q : ℕ) → q < p + 1 → P q (place_at (places ++ new ∷ []) q)
@@ -56,6 +59,7 @@ placed_on code n p places not_end h = record {
   close = λ o l e lt.
       let other : l.close ≢ p = λ f. not_end (ap (kind_at code) (sym f) ∙ closes_at_end code o l e) in
       h.close o l e (omega arith);
+  endless = h.endless;
 }
 
 -- no two loops have one end
@@ -82,6 +86,7 @@ placed_close code n p o places c lt h = record {
   depth = λ q below. each (λ x. x.depth) refl q ∙ h.depth q below;
   opening = λ q below. each (λ x. x.opening) refl q ∙ h.opening q below;
   close = λ q k e below. by q k e below (cases_eq q o);
+  endless = λ q below none. without q below none (cases_eq q o);
 }
   where
     there : o < length places
@@ -96,6 +101,10 @@ placed_close code n p o places c lt h = record {
         at : (q ≡ o) ⊎ (q ≡ o → ⊥) → f (place_at (marked places o p) q) ≡ f (place_at places q)
         at (inl e) = ap (λ n. f (place_at (marked places o p) n)) e ∙ ap f (get_or-set_same places o _ no_place there) ∙ same ∙ ap (λ n. f (place_at places n)) (sym e)
         at (inr ne) = ap f (get_or-set_other places o q _ no_place ne)
+
+    without : (q : ℕ) → q < n → loop_at code q ≡ None → (q ≡ o) ⊎ (q ≡ o → ⊥) → (place_at (marked places o p) q).close ≡ 0
+    without q below none (inl same) = let other : ◌≡◌ {A = Option Loop} None (Some c.0) = sym none ∙ ap (loop_at code) same ∙ c.1 in cc
+    without q below none (inr ne) = ap (λ (x : Place). x.close) (get_or-set_other places o q _ no_place ne) ∙ h.endless q below none
 
     by : (q : ℕ) (k : Loop) → loop_at code q ≡ Some k → k.close < p + 1 → (q ≡ o) ⊎ (q ≡ o → ⊥) → (place_at (marked places o p) q).close ≡ k.close
     by q k e below (inl same) =
@@ -118,4 +127,6 @@ is_nest code places clear none h =
       depth = λ p lt. h.depth p lt ∙ sym (depth_is code all.matched p);
       opening = λ p l ls lt e. h.opening p lt ∙ ap (λ s. get_or s 0 0) (sym (around_opened code all.matched p) ∙ ap openings e);
       close = λ p l e. h.close p l e (inside code l.close Closes (closes_at_end code p l e));
+      outside = λ p lt e. h.opening p lt ∙ ap (λ s. get_or s 0 0) (sym (around_opened code all.matched p) ∙ ap openings e);
+      endless = h.endless;
     }

@@ -37,11 +37,12 @@ innermost_last (o ∷ s) =
 as_many : (code : List Instr) (p : ℕ) (openings : List ℕ) (places : List Place) → Walked code p openings places → length openings ≡ length (opened code p)
 as_many code p openings places h = ap length h.outermost_first ∙ length-reverse (opened code p)
 
-pub placed_here : (code : List Instr) (p : ℕ) (openings : List ℕ) (places more : List Place) (new : Place) → Walked code p openings places → new.depth ≡ length openings → new.opening ≡ get_or openings (length openings - 1) 0 → more ≡ places ++ new ∷ [] → Placed code (p + 1) p more
-placed_here code p openings places more new h depth opening e =
+pub placed_here : (code : List Instr) (p : ℕ) (openings : List ℕ) (places more : List Place) (new : Place) → Walked code p openings places → new.depth ≡ length openings → new.opening ≡ get_or openings (length openings - 1) 0 → new.close ≡ 0 → more ≡ places ++ new ∷ [] → Placed code (p + 1) p more
+placed_here code p openings places more new h depth opening close e =
     subst (Placed code (p + 1) p) (sym e) (placed_push code p places new
     (depth ∙ as_many code p openings places h)
     (opening ∙ ap (λ (l : List ℕ). get_or l (length l - 1) 0) h.outermost_first ∙ innermost_last (opened code p))
+    close
     h.placed)
 
 -- a loop opens

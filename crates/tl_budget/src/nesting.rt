@@ -16,6 +16,7 @@ use tl_instr::instr::Instr;
 fn place(openings: &ArrayVec<u16, 4>) -> Place
     ensures depth { result.depth ≡ length openings.now.items }
     ensures opening { result.opening ≡ slice_index openings.now.items (length openings.now.items - 1) }
+    ensures close { result.close ≡ 0 }
 {
     Place {
         depth: openings.len() as u8,
@@ -58,7 +59,9 @@ pub fn nest(alloc: Global, code: &Code) -> Result<Nest, NestFault>
     ensures accepts { IsNested code.now.instrs → IfErr result (λ f. f ≡ fault.Memory) }
     ensures fault { IfErr result (λ f. f ≢ fault.Memory → IsFirstFault code.now.instrs f) }
 {
-    let mut places = Vec::new(alloc);
+    let Ok(mut places) = Vec::with_capacity(alloc, code.instrs().len()) else {
+        return Err(NestFault::Memory);
+    };
     let mut openings = ArrayVec::new();
     for position in 0..code.count() {
         places.push(place(&openings))?;

@@ -6,7 +6,7 @@ use Rattle.tl_budget.specs.Loops.{Opens, Closes, kind, kind_at}
 use Rattle.tl_budget.proofs.Placed.{marks}
 use Rattle.tl_budget.proofs.Walking.{placed_here, opens_before, neither, walked_in, not_in, walked_out, not_out, walked_on, walked_through, left_open, only_memory}
 use Rattle.tl_budget.proofs.nesting.nest.Goals as goal
-use Rattle.tl_budget.proofs.nesting.nest.Goals.{in-Repeat+in_ok-enter-in-Repeat, in-End+in_ok-opening-in-End, in_default}
+use Rattle.tl_budget.proofs.nesting.nest.Goals.{in-Repeat+in_ok-enter-in-Repeat, in-End+in_ok-opening-in-End, in_default-instr}
 
 pub returns-in_err-opening-in-End-clause-fault : goal.returns-in_err-opening-in-End-clause-fault
 returns-in_err-opening-in-End-clause-fault c =
@@ -55,7 +55,7 @@ loop-position-preserved c =
     let places = c.loop-position.places.items in
     let walked = c.loop-position.invariant in
     let more = c.push.new.self.items in
-    let placed = placed_here code p openings places more c.place.result walked c.place.ensures.depth c.place.ensures.opening c.in_ok-push.ensures.items in
+    let placed = placed_here code p openings places more c.place.result walked c.place.ensures.depth c.place.ensures.opening c.place.ensures.close c.in_ok-push.ensures.items in
     elim c.match-instr.branch [
       | in-Repeat+in_ok-enter-in-Repeat w ↦
           let opens : kind_at code p ≡ Some (Opens w.in-Repeat.count) = ap (option_map kind) at ∙ ap (λ i. Some (kind i)) w.in-Repeat.is in
@@ -66,8 +66,8 @@ loop-position-preserved c =
           let within : w.in_ok-opening-in-End.opening < length more = let long = placed.long in omega arith in
           let marked = marks more w.in_ok-opening-in-End.opening w.from-in-End.result p w.index_mut.result.now within w.from-in-End.ensures w.index_mut.ensures.value in
           rw (w.places-is, w.openings-is) (walked_out code p openings places walked closes w.in_ok-opening-in-End.opening w.leave.new.openings.items more _ placed w.in_ok-opening-in-End.ensures.closed marked)
-      | in_default w ↦
-          let other = neither code p c.index-instrs-from.result at w.in_default.not-Repeat w.in_default.not-End in
+      | in_default-instr w ↦
+          let other = neither code p c.index-instrs-from.result at w.in_default-instr.not-Repeat w.in_default-instr.not-End in
           rw (w.places-is, w.openings-is) (walked_on code p openings places more walked placed other.0 other.1)
     ]
 
