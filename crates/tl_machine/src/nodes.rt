@@ -20,14 +20,15 @@ pub fn get(call: &mut CallState, to: ValueRegister, node: NodeRegister, field: F
     requires steps { call.old.steps < 1000000 }
     ensures { (parents : List ℕ) (t : Records) → AreIn (length t) (held_view call.old.nodes) → Takes (effect parents (instr.Get to node field) call.old.position (in_tree call.old t)) call.old result call.new t }
 {
-    let Some(held) = call.nodes[node.index()] else {
+    let Some(held) = &call.nodes[node.index()] else {
         unreachable!()
     };
+    let number = held.node;
     let value = held.record[field.index()];
     call.values[to.index()] = value;
     call.go_to(call.position + 1);
     Action::Read {
-        node: held.node,
+        node: number,
         field: field.number(),
         value,
     }
@@ -41,15 +42,15 @@ pub fn put(call: &mut CallState, node: NodeRegister, field: Field, from: ValueRe
     requires steps { call.old.steps < 1000000 }
     ensures { (parents : List ℕ) (t : Records) → AreIn (length t) (held_view call.old.nodes) → Takes (effect parents (instr.Put node field from) call.old.position (in_tree call.old t)) call.old result call.new t }
 {
-    let Some(mut held) = call.nodes[node.index()] else {
+    let value = call.values[from.index()];
+    let Some(held) = &mut call.nodes[node.index()] else {
         unreachable!()
     };
-    let value = call.values[from.index()];
+    let number = held.node;
     held.record[field.index()] = value;
-    call.nodes[node.index()] = Some(held);
     call.go_to(call.position + 1);
     Action::Write {
-        node: held.node,
+        node: number,
         field: field.number(),
         value,
     }
@@ -63,7 +64,7 @@ pub fn kids(call: &mut CallState, shape: &Shape, to: ValueRegister, node: NodeRe
     requires steps { call.old.steps < 1000000 }
     ensures { (t : Records) → Takes (effect shape.now (instr.Kids to node) call.old.position (in_tree call.old t)) call.old result call.new t }
 {
-    let Some(held) = call.nodes[node.index()] else {
+    let Some(held) = &call.nodes[node.index()] else {
         unreachable!()
     };
     call.values[to.index()] = i64::from(shape.kids(held.node));
