@@ -1,6 +1,8 @@
 pub mod Marks
 pub mod Lines
 pub mod Coming
+pub mod Holding
+pub mod Ways
 pub mod Pasts
 pub mod Inside
 mod Rows

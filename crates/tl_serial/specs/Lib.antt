@@ -3,3 +3,4 @@ pub mod Line
 pub mod Part
 pub mod Parts
 pub mod Unfinished
+pub mod Way

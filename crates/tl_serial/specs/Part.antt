@@ -1,7 +1,21 @@
 -- What is kept of one call.
-use Rattle.std.specs.Prelude.{◌≡◌, ℕ, ◌+◌, ◌<◌, Bool, true, false, List, [], ◌∷◌, length, slice_index_or}
+use Rattle.std.specs.Prelude.{◌≡◌, ℕ, ◌+◌, ◌<◌, Bool, true, false, List, [], ◌∷◌, length, slice_index_or, Contains}
 use Rattle.tl_protocol.specs.declared.action.Action.{Action}
 use Rattle.tl_protocol.specs.Actions
+use Rattle.tl_serial.specs.declared.part.Mark.{Mark}
+use Rattle.tl_serial.specs.declared.part.Mark.TheVariants.{Untouched, Held, Freed}
+
+-- the mark of a node that the call locked
+abbrev pub was_locked : Mark → Bool
+was_locked Untouched = false
+was_locked Held = true
+was_locked Freed = true
+
+-- the mark of a node that it holds
+abbrev pub is_held : Mark → Bool
+is_held Untouched = false
+is_held Held = true
+is_held Freed = false
 
 -- of each node whether the call locked it, and whether it holds it
 pub record Marks : Type 0 where
@@ -16,6 +30,10 @@ abbrev pub trues : List Bool → ℕ
 trues [] = 0
 trues (true ∷ bs) = trues bs + 1
 trues (false ∷ bs) = trues bs
+
+-- each node that is held is one of these
+abbrev pub HasHeld : List ℕ → List Bool → Type 0
+HasHeld nodes held = (y : ℕ) → slice_index_or held y false ≡ true → Contains nodes y
 
 -- the marks are those of a call that has done this
 pub record IsPart (m : Marks) (done : List Action) : Type 0 where

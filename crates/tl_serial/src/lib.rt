@@ -13,3 +13,4 @@ pub mod placing;
 pub mod replaying;
 #[cfg(test)]
 mod tests;
+mod way;

@@ -7,11 +7,13 @@ ghost use Rattle.tl_protocol.specs.Actions.{may_come};
 ghost use Rattle.tl_protocol.specs.History.{caller, part_of, past_of};
 ghost use Rattle.tl_protocol.specs.Order.{put_before, placed, placed_after};
 ghost use Rattle.tl_serial.specs.Parts.{IsOfNodes, AreOfNodes, Show};
+ghost use Rattle.tl_serial.specs.Way.{IsWay};
 
 use crate::fault::SerialFault;
 use crate::line::Line;
 use crate::order::Order;
 use crate::part::Part;
+use crate::way::Way;
 use std::alloc::{AllocError, Global};
 use tl_history::history::History;
 use tl_protocol::event::Event;
@@ -34,7 +36,8 @@ pub fn order_of(alloc: Global, history: &History, shape: &Shape) -> Result<Order
     let calls = call_count(events);
     let mut parts = parts_of_none(alloc, calls, nodes)?;
     let mut line = Line::new(alloc, calls)?;
-    place_all(&mut line, &mut parts, shape, events)?;
+    let mut way = Way::new(alloc, nodes)?;
+    place_all(&mut line, &mut parts, &mut way, shape, events)?;
     Ok(line.into_order())
 }
 
@@ -42,12 +45,14 @@ pub fn order_of(alloc: Global, history: &History, shape: &Shape) -> Result<Order
 fn place_all(
     line: &mut Line,
     parts: &mut [Part],
+    way: &mut Way,
     shape: &Shape,
     events: &[Event],
 ) -> Result<(), AllocError>
     requires tree { IsTree shape.now }
     requires calls { length parts.old ≡ line.old.count }
     requires nodes { AreOfNodes (length shape.now) parts.old }
+    requires marks { length way.old ≡ length shape.now }
     requires callers { All (λ e. caller e < line.old.count) events.now }
     requires inside { All (IsOfNodes (length shape.now)) events.now }
     requires none { line.old.order ≡ [] }
@@ -55,7 +60,7 @@ fn place_all(
     ensures { OnOk result (line.new.order ≡ placed shape.now (past_of events.now)) }
 {
     for event in events {
-        place(line, parts, shape, event)?;
+        place(line, parts, way, shape, event)?;
         note(parts, event);
     }
     Ok(())
@@ -134,12 +139,20 @@ fn note(parts: &mut [Part], event: &Event)
 }
 
 // Puts the event's call in order, where it is its call's first lock, or its end without a lock.
-fn place(line: &mut Line, parts: &[Part], shape: &Shape, event: &Event) -> Result<(), AllocError>
+fn place(
+    line: &mut Line,
+    parts: &[Part],
+    way: &mut Way,
+    shape: &Shape,
+    event: &Event,
+) -> Result<(), AllocError>
     requires tree { IsTree shape.now }
     requires calls { length parts.now ≡ line.old.count }
     requires nodes { AreOfNodes (length shape.now) parts.now }
+    requires marks { length way.old ≡ length shape.now }
     requires caller { caller event.now < line.old.count }
     requires node { IsOfNodes (length shape.now) event.now }
+    ensures marks { length way.new ≡ length way.old }
     ensures count { OnOk result (line.new.count ≡ line.old.count) }
     ensures ok { OnOk result ((past : List EventValue) → Show parts.now past
         → line.new.order ≡ placed_after shape.now past event.now line.old.order) }
@@ -150,7 +163,9 @@ fn place(line: &mut Line, parts: &[Part], shape: &Shape, event: &Event) -> Resul
     }
     match *event {
         Event::Lock { node, .. } => {
-            let first = first_coming(line.calls(), parts, shape, node);
+            way.mark(shape, node);
+            let first = first_coming(line.calls(), parts, shape, node, way);
+            way.clear(shape, node);
             line.put_in(first, call)
         }
         Event::Done { .. } => line.put_in(line.calls().len(), call),
@@ -158,19 +173,21 @@ fn place(line: &mut Line, parts: &[Part], shape: &Shape, event: &Event) -> Resul
     }
 }
 
-// The place of the first call in order that may still come to the node, or the end.
-fn first_coming(order: &[u32], parts: &[Part], shape: &Shape, node: u16) -> usize
+// The place of the first call in order that may still come to the node, to which the way leads, or the end.
+fn first_coming(order: &[u32], parts: &[Part], shape: &Shape, node: u16, way: &Way) -> usize
     requires calls { All (λ c. c < length parts.now) order.now }
     requires tree { IsTree shape.now }
     requires nodes { AreOfNodes (length shape.now) parts.now }
     requires node { node < length shape.now }
+    requires marks { length way.now ≡ length shape.now }
+    requires way { IsWay shape.now node way.now }
     ensures within { result ≤ length order.now }
     ensures first { (past : List EventValue) (call : ℕ) → Show parts.now past
         → put_before (λ c. may_come shape.now (part_of c past) node) call order.now
         ≡ insert order.now result call }
 {
     for (place, call) in order.iter().enumerate() {
-        if parts[*call as usize].may_come(shape, node) {
+        if parts[*call as usize].may_come(shape, node, way) {
             return place;
         }
     }

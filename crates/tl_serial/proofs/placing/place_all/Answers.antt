@@ -21,10 +21,11 @@ loop-event-preserved c =
     let one_more : event ∷ past ≡ reverse (take (i + 1) events) = sym (past_one_more events i (Admit 0) c.loop-event-test.true) in
     let count = c.in_ok-place.ensures.count in
     let order : c.place.new.line.order ≡ placed shape (event ∷ past) =
-    c.in_ok-place.ensures.ok past now.3 ∙ ap (placed_after shape past event) now.4 in (
+    c.in_ok-place.ensures.ok past now.3 ∙ ap (placed_after shape past event) now.5 in (
       same ∙ now.0 ∙ sym count,
       count ∙ now.1,
       c.note.ensures.nodes (length shape) now.2,
       subst (Show c.note.new.parts) one_more (c.note.ensures.more past now.3),
+      c.place.ensures.marks ∙ now.4,
       subst (λ p. c.place.new.line.order ≡ placed shape p) one_more order,
     )

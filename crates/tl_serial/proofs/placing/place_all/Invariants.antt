@@ -10,4 +10,5 @@ invariant-loop-event l =
     × (l.line.count ≡ l.fn.line.count)
     × AreOfNodes (length l.shape) l.parts
     × Show l.parts (reverse (take l.event-index l.events))
+    × (length l.way ≡ length l.shape)
     × (l.line.order ≡ placed l.shape (reverse (take l.event-index l.events)))
