@@ -1,0 +1,17 @@
+//! The plain twin of treedb: the same work in ordinary Rust, with the standard library alone.
+
+pub mod assembler;
+pub mod audit;
+pub mod core;
+pub mod fault;
+pub mod instruction;
+pub mod json;
+pub mod machine;
+pub mod order;
+pub mod trail;
+pub mod tree;
+pub mod verifier;
+pub mod work;
+
+#[cfg(test)]
+mod tests;
