@@ -63,7 +63,7 @@ impl fmt::Display for Table {
         writeln!(out, "# What the proof costs at run time\n")?;
         writeln!(
             out,
-            "Made by `bench/run`. Each figure is the middle one of several runs, in which the two sides took turns in one process."
+            "Made by `bench/run`. Each time is the least of several runs, in which the two sides took turns in one process."
         )?;
         for part in &self.parts {
             writeln!(out, "\n## {}\n", part.heading)?;
