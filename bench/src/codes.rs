@@ -147,6 +147,14 @@ pub fn bare_walk(locks: u16) -> Vec<u8> {
     container(1, &code)
 }
 
+/// The code with `set` up to 1,022 instructions, and then the node let go and the return.
+fn filled_up(mut code: Vec<[u8; 8]>) -> Vec<u8> {
+    code.resize(1_022, set(3, 7));
+    code.push(release(0));
+    code.push(finish());
+    container(1, &code)
+}
+
 /// 1,024 instructions without a loop: arithmetic with an else, jumps, and uses of a held node.
 pub fn flat() -> Vec<u8> {
     let mut code = vec![first(0, 0, 1_023)];
@@ -161,12 +169,7 @@ pub fn flat() -> Vec<u8> {
         code.push(arithmetic(6, 5, 4, 3, next + 8));
         code.push(put(0, 2, 5));
     }
-    while code.len() < 1_022 {
-        code.push(set(3, 7));
-    }
-    code.push(release(0));
-    code.push(finish());
-    container(1, &code)
+    filled_up(code)
 }
 
 /// 1,024 instructions in loops four deep.
@@ -182,12 +185,7 @@ pub fn nested() -> Vec<u8> {
         code.push(put(0, 1, 4));
         code.extend([end(), end(), end(), end()]);
     }
-    while code.len() < 1_022 {
-        code.push(set(3, 7));
-    }
-    code.push(release(0));
-    code.push(finish());
-    container(1, &code)
+    filled_up(code)
 }
 
 /// A code that is refused at its last position: a node is still held at the return.

@@ -2,6 +2,11 @@
 
 use std::fmt;
 
+const MADE: &str = "\
+Made by `bench/run`. Each time is the least of several runs, in which the two sides took turns in one process. Where a goal
+says *at least*, the ratio is the second number by the first, which is the product's speed by the twin's; else it is the first
+by the second. A row of the product alone has its own number at fewer events as the second.";
+
 /// A row: what was done, what each side took for one unit of it, and what was asked for.
 pub struct Row {
     pub work: String,
@@ -49,7 +54,6 @@ pub struct Part {
     pub heading: &'static str,
     pub first: &'static str,
     pub second: &'static str,
-    pub ratio: &'static str,
     pub rows: Vec<Row>,
 }
 
@@ -63,11 +67,11 @@ impl fmt::Display for Table {
         writeln!(out, "# What the proof costs at run time\n")?;
         writeln!(
             out,
-            "Made by `bench/run`. Each time is the least of several runs, in which the two sides took turns in one process."
+            "{MADE}"
         )?;
         for part in &self.parts {
             writeln!(out, "\n## {}\n", part.heading)?;
-            writeln!(out, "| Work | Unit | {} | {} | {} | Goal |", part.first, part.second, part.ratio)?;
+            writeln!(out, "| Work | Unit | {} | {} | ratio | Goal |", part.first, part.second)?;
             writeln!(out, "|---|---|---|---|---|---|")?;
             for row in &part.rows {
                 writeln!(

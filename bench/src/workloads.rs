@@ -310,7 +310,6 @@ fn texts() -> Result<Vec<Part>, String> {
         heading: "A trail's text, 1,048,576 events, beside `serde_json` reading the same text",
         first: "product",
         second: "`serde_json`",
-        ratio: "ratio",
         rows: vec![
             row(
                 "reading the trail",
@@ -339,7 +338,6 @@ fn versus_twin(heading: &'static str, rows: Vec<Row>) -> Part {
         heading,
         first: "product",
         second: "twin",
-        ratio: "twin by product",
         rows,
     }
 }
@@ -380,7 +378,6 @@ fn memory() -> Part {
         heading: "Memory",
         first: "product",
         second: "plain data",
-        ratio: "ratio",
         rows: vec![
             against_plain("a stored event (a kind, a call, a node and four fields)", events, 39.0),
             against_plain(
