@@ -2,18 +2,18 @@
 #![tactic(auto)]
 
 pub mod alone_run;
-pub mod attempt;
+mod attempt;
 pub mod call;
 pub mod fault;
 pub mod laws;
-pub mod loops;
-pub mod nodes;
+mod loops;
+mod nodes;
 pub mod reply;
 pub mod segment;
-pub mod start;
-pub mod step;
+mod start;
+mod step;
 #[cfg(test)]
 mod tests;
 pub mod turn;
-pub mod values;
+mod values;
 pub mod want;
