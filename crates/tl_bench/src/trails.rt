@@ -55,14 +55,14 @@ fn was_parsed(alloc: Global, text: &[u8], times: u32) -> Option<Measured> {
         let begin = now();
         let text = std::str::from_utf8(text).ok()?;
         let value = Value::from_str(alloc, text).ok()?;
+        drop(value);
         measured.add_since(begin);
         measured.count = text.len() as u64;
-        let _value = value;
     }
     Some(measured)
 }
 
-/// The text as a JSON value alone, read so many times. The count is that of the bytes.
+/// The text as a JSON value alone, read and let go so many times. The count is that of the bytes.
 #[unsafe(no_mangle)]
 pub extern "C" fn treedb_parse(alloc: Global, text: &[u8], times: u32) -> Measured {
     Measured::told(was_parsed(alloc, text, times))
