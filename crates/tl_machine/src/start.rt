@@ -26,11 +26,11 @@ pub fn start(procedure: &Proc, shape: &Shape, args: &[i64]) -> Result<CallState,
     Ok(CallState {
         position: 0,
         is_over: false,
-        values,
-        nodes: [None; 8],
-        counters: [0; 4],
-        emitted: [0; MAX_EMITS],
         emit_count: 0,
         steps: 0,
+        counters: [0; 4],
+        values,
+        nodes: [None; 8],
+        emitted: [0; MAX_EMITS],
     })
 }

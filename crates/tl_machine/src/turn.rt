@@ -1,6 +1,6 @@
 // A call's turn.
 
-ghost use Rattle.std.specs.Prelude.{◌≡◌, ◌↔◌, ℕ, List, [], length, take, IsOk, IfOk};
+ghost use Rattle.std.specs.Prelude.{◌≡◌, ◌≢◌, ◌↔◌, ℕ, List, [], length, take, IsOk, IfOk, IfErr, OnErr};
 ghost use Rattle.std.specs.Arc.{arc_value};
 ghost use Rattle.tl_tree.specs.Records.{Records, record_at, put_record};
 ghost use Rattle.tl_protocol.specs.declared.action.Action.TheVariants as did;
@@ -72,6 +72,26 @@ impl Turn {
             return Want::Over;
         }
         step::next(&self.procedure, &self.shape, &self.call)
+    }
+
+    /// Does the next instruction, if it is local. Else it says what the call wants, and changes nothing.
+    #[inline(always)]
+    pub fn advance(&mut self) -> Result<Action, Want>
+        ensures same { self.new ≡ with_call self.old self.new.call }
+        ensures steps { IfOk result (λ act. Steps self.old.code.instrs self.old.parents self.old.call act self.new.call) }
+        ensures wants { IfErr result (λ w. Wants self.old w) }
+        ensures waits { IfErr result (λ w. w ≢ want.Local) }
+        ensures unchanged { OnErr result (self.new ≡ self.old) }
+    {
+        if self.call.is_over {
+            return Err(Want::Over);
+        }
+        match step::attempt(&self.procedure, &self.shape, &mut self.call) {
+            Attempt::Done(action) => Ok(action),
+            Attempt::Lock(node) => Err(Want::Lock(node)),
+            Attempt::Free(node) => Err(Want::Free(node)),
+            Attempt::Finish => Err(Want::Return),
+        }
     }
 
     /// Does the next instruction, which is local.
