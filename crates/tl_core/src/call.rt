@@ -22,11 +22,11 @@ pub struct Call {
     // The number of its procedure.
     pub(crate) procedure: u32,
     pub(crate) args: ArrayVec<i64, MAX_ARGS>,
+    // How many places of the history are reserved for it. It stands beside what each step of the turn uses.
+    pub(crate) places: usize,
     pub(crate) turn: Turn,
     // Once the call is done.
     pub(crate) reply: Option<Reply>,
-    // How many places of the history are reserved for it.
-    pub(crate) places: usize,
 }
 
 impl Call {
@@ -57,9 +57,9 @@ impl Call {
         Ok(Call {
             procedure,
             args: kept,
+            places,
             turn,
             reply: None,
-            places,
         })
     }
 }

@@ -120,12 +120,11 @@ impl Core {
             return Err(CoreFault::NoCall);
         }
         let current = &mut self.calls[index];
-        match current.turn.want() {
-            Want::Over => Ok(Stepped::Over),
-            Want::Local => Ok(Stepped::Moved {
-                action: current.turn.step(),
-            }),
-            Want::Lock(node) => {
+        match current.turn.advance() {
+            Ok(action) => Ok(Stepped::Moved { action }),
+            Err(Want::Over) => Ok(Stepped::Over),
+            Err(Want::Local) => unreachable!(),
+            Err(Want::Lock(node)) => {
                 let held_by = self.holders[usize::from(node)];
                 if let Some(holder) = held_by {
                     return Ok(Stepped::Blocked { node, holder });
@@ -139,7 +138,7 @@ impl Core {
                     action: Action::Lock { node, found },
                 })
             }
-            Want::Free(node) => {
+            Err(Want::Free(node)) => {
                 let left = current.turn.free();
                 current.places -= 1;
                 self.latest.put_at(node, left);
@@ -149,7 +148,7 @@ impl Core {
                     action: Action::Free { node, left },
                 })
             }
-            Want::Return => {
+            Err(Want::Return) => {
                 current.reply = Some(current.turn.finish());
                 self.history.append(Event::Done { call });
                 self.history.give_back(current.places - 1);
