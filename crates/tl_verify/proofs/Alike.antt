@@ -1,9 +1,11 @@
 -- Registers compared.
-use Rattle.std.proofs.Common.{◌≡◌, List, [], ◌∷◌, Option, Some, Bool, true, false, refl, sym, ap, ◌∙◌, ◌⊎◌, inl, inr}
-use Rattle.std.specs.Prelude.{◌≢◌, ◌||◌}
+use Rattle.std.proofs.Common.{◌≡◌, ℕ, ◌<◌, List, [], ◌∷◌, Option, Some, Bool, true, false, refl, sym, ap, ◌∙◌, ◌⊎◌, inl, inr}
+use Rattle.std.specs.Prelude.{◌≢◌, ◌||◌, nat_eq}
+use Rattle.std.proofs.lemmas.Bool.{eqb-true, eqb-false}
 use Rattle.tl_instr.specs.declared.instr.Instr.{Instr}
 use Rattle.tl_verify.specs.declared.marks.Marks.{Marks}
 use Rattle.tl_verify.specs.declared.arrivals.Arrivals.{Arrivals}
+use Rattle.tl_verify.specs.Bits.{bits_of, number_of, number_of_bits}
 use Rattle.tl_verify.specs.Pass.{Compares, is_end}
 use lib.Pointwise.{pointwise}
 use mathlib.Core.Bool.{beq, not}
@@ -21,6 +23,15 @@ pointwise_itself : (xs : List Bool) → pointwise beq xs xs ≡ true
 pointwise_itself [] = refl
 pointwise_itself (true ∷ xs) = pointwise_itself xs
 pointwise_itself (false ∷ xs) = pointwise_itself xs
+
+-- bytes are the same where their bits are
+pub compared : (a b : ℕ) → a < 256 → b < 256 → nat_eq a b ≡ pointwise beq (bits_of 8 a) (bits_of 8 b)
+compared a b small little = by (nat_eq a b) refl (pointwise beq (bits_of 8 a) (bits_of 8 b)) refl
+  where
+    by : (r : Bool) → nat_eq a b ≡ r → (s : Bool) → pointwise beq (bits_of 8 a) (bits_of 8 b) ≡ s → r ≡ s
+    by true e s f = sym (sym f ∙ ap (λ x. pointwise beq (bits_of 8 a) (bits_of 8 x)) (sym (eqb-true a b e)) ∙ pointwise_itself (bits_of 8 a))
+    by false e false f = refl
+    by false e true f = absurd (eqb-false a b e (sym (number_of_bits 8 a small) ∙ ap number_of (pointwise_same (bits_of 8 a) (bits_of 8 b) f) ∙ number_of_bits 8 b little))
 
 not_false : (b : Bool) → not b ≡ false → b ≡ true
 not_false true e = refl

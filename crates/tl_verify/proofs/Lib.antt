@@ -1,5 +1,6 @@
 pub mod Accepting
 pub mod Alike
+pub mod Bits
 pub mod Bodies
 pub mod Comes
 pub mod Fitting

@@ -5,6 +5,7 @@ ghost use Rattle.tl_verify.specs.declared.arrivals.Arrivals.{Arrivals as Arrival
 ghost use Rattle.tl_verify.specs.Pass.{Merges, MergesWith};
 
 use crate::marks::Marks;
+use crate::register_set::RegisterSet;
 
 /// The states that have come to a position so far, as one: `first` is spent where it was in any of them, and it is
 /// remembered whether they differ in what they hold.
@@ -18,7 +19,7 @@ impl Arrivals {
     /// What comes to the first position: all registers are empty, and `first` is open.
     pub const ENTRY: Arrivals = Arrivals {
         marks: Marks {
-            held: [false; 8],
+            held: RegisterSet::EMPTY,
             is_open: true,
         },
         differ: false,

@@ -7,6 +7,7 @@ pub mod jumps;
 pub mod marks;
 pub mod objection;
 pub mod procedure;
+pub mod register_set;
 pub mod registers;
 #[cfg(test)]
 mod tests;

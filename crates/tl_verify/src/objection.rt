@@ -3,7 +3,7 @@
 ghost use Rattle.std.specs.Prelude.{◌≡◌, ◌<◌, option_map};
 ghost use Rattle.tl_verify.specs.Marks.{source as source_of, destination as destination_of, goes_on as goes_on_from, after as marks_after};
 ghost use Rattle.tl_verify.specs.Findings.{fault_of};
-ghost use Rattle.tl_verify.specs.Pass.{first_held as first_held_of, is_end as is_end_of, objection as objection_at};
+ghost use Rattle.tl_verify.specs.Pass.{is_end as is_end_of, objection as objection_at};
 
 use crate::arrivals::Arrivals;
 use crate::fault::VerifyFault;
@@ -56,30 +56,15 @@ pub fn after(instr: &Instr, mut marks: Marks) -> Marks
 {
     match *instr {
         Instr::First { to, .. } => {
-            marks.held[to.index()] = true;
+            marks.held = marks.held.with(to);
             marks.is_open = false;
         }
-        Instr::Child { to, .. } => marks.held[to.index()] = true,
-        Instr::Move { to, from } => {
-            marks.held[from.index()] = false;
-            marks.held[to.index()] = true;
-        }
-        Instr::Release { node } => marks.held[node.index()] = false,
+        Instr::Child { to, .. } => marks.held = marks.held.with(to),
+        Instr::Move { to, from } => marks.held = marks.held.without(from).with(to),
+        Instr::Release { node } => marks.held = marks.held.without(node),
         _ => {}
     }
     marks
-}
-
-// The least register that holds a node.
-fn first_held(held: &[bool; 8]) -> Option<u8>
-    ensures { result ≡ first_held_of held.now 0 }
-{
-    for (register, is_held) in held.iter().enumerate() {
-        if *is_held {
-            return Some(register as u8);
-        }
-    }
-    None
 }
 
 /// What is wrong with the registers at a position of a code of so many instructions, where a turn of the loop that ends here changes
@@ -95,27 +80,30 @@ pub fn objection(
     requires { 0 < count }
     ensures { result ≡ option_map fault_of (objection_at count position instr.now arrivals is_changed) }
 {
-    let marks = arrivals.marks;
+    let Arrivals {
+        marks: Marks { held, is_open },
+        differ,
+    } = arrivals;
     let source = source(instr);
     let destination = destination(instr);
-    if arrivals.differ {
+    if differ {
         return Some(VerifyFault::Joins(position));
     }
-    if matches!(*instr, Instr::First { .. }) && !marks.is_open {
+    if matches!(*instr, Instr::First { .. }) && !is_open {
         return Some(VerifyFault::FirstSpent(position));
     }
     if let Some(register) = source
-        && !marks.held[register.index()]
+        && !held.has(register)
     {
         return Some(VerifyFault::NotHeld(position, register.number()));
     }
     if let Some(register) = destination
-        && marks.held[register.index()]
+        && held.has(register)
     {
         return Some(VerifyFault::Occupied(position, register.number()));
     }
     if matches!(*instr, Instr::Return)
-        && let Some(register) = first_held(&marks.held)
+        && let Some(register) = held.first()
     {
         return Some(VerifyFault::HeldAtReturn(position, register));
     }

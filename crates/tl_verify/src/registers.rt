@@ -18,16 +18,16 @@ use tl_budget::nested::Nest;
 use tl_instr::instr::Instr;
 
 // The states behind an instruction come to where it leads.
-fn pass_on(states: &mut [Option<Arrivals>], position: usize, instr: &Instr, marks: Marks)
+fn pass_on(states: &mut [Option<Arrivals>], position: usize, instr: &Instr, marks: &Marks)
     requires next { goes_on_from instr.now ≡ true → position + 1 < length states.old }
     requires aside { (l : ℕ) → target instr.now ≡ Some l → l < length states.old }
-    ensures { PassesOn instr.now position marks states.old states.new }
+    ensures { PassesOn instr.now position marks.now states.old states.new }
 {
     if goes_on(instr) {
-        arrive(states, position + 1, after(instr, marks));
+        arrive(states, position + 1, after(instr, *marks));
     }
     if let Some(target) = instr.target() {
-        arrive(states, usize::from(target), marks);
+        arrive(states, usize::from(target), *marks);
     }
 }
 
@@ -74,7 +74,7 @@ fn walk(code: &[Instr], nest: &Nest, states: &mut [Option<Arrivals>]) -> Option<
         if let Some(fault) = objection(count, position as u16, instr, arrivals, changed) {
             return Some(fault);
         }
-        pass_on(states, position, instr, arrivals.marks);
+        pass_on(states, position, instr, &arrivals.marks);
     }
     None
 }

@@ -1,4 +1,5 @@
-use Rattle.std.proofs.Common.{◌<◌, length, refl, get_or}
+use Rattle.std.proofs.Common.{◌<◌, None, length, refl, ◌∙◌, arith, get_or}
+use Rattle.std.proofs.lemmas.List.{get_or_default}
 use Rattle.std.proofs.lemmas.Option.{slice_get-get_or, slice_get_read}
 use Rattle.tl_instr.specs.declared.instr.Instr.TheVariants.{Return}
 use Rattle.tl_verify.proofs.Knowing.{known_next, known_skip}
@@ -9,9 +10,11 @@ pub loop-position-preserved-in_default : goal.loop-position-preserved-in_default
 loop-position-preserved-in_default c =
     let p = c.loop-position.position in
     let code = c.args.code.now in
-    let lt : p < length code = c.loop-position-test.true in (
-      known_skip code p (get_or code p Return) c.loop-position.states (slice_get-get_or code p Return lt) lt c.loop-position.invariant.0 c.in_default.is,
-      clear_skip code p c.loop-position.states c.loop-position.invariant.1 c.loop-position.invariant.0 lt c.in_default.is,
+    let lt : p < length code = c.loop-position-test.true in
+    let within : p < length c.loop-position.states = let h = c.loop-position.invariant.0.long in omega arith in
+    let is = get_or_default c.loop-position.states p None _ within ∙ c.in_default.is in (
+      known_skip code p (get_or code p Return) c.loop-position.states (slice_get-get_or code p Return lt) lt c.loop-position.invariant.0 is,
+      clear_skip code p c.loop-position.states c.loop-position.invariant.1 c.loop-position.invariant.0 lt is,
     )
 
 pub is_changed-changed-requires-clause-start : goal.is_changed-changed-requires-clause-start
@@ -28,9 +31,11 @@ returns-in-Some-objection-clause-fault c =
     let p = c.loop-position.position in
     let code = c.args.code.now in
     let lt : p < length code = c.loop-position-test.true in
+    let within : p < length c.loop-position.states = let h = c.loop-position.invariant.0.long in omega arith in
+    let is = get_or_default c.loop-position.states p None _ within ∙ c.in-Some.is in
     let i = c.index-code-position.result in
     let at = slice_get_read code (length code) p i refl lt c.index-code-position.is in
-    fault_here code p c.args.nest.now c.requires.nest i at c.loop-position.states c.loop-position.invariant.0 c.loop-position.invariant.1 c.in-Some.arrivals c.in-Some.is c.is_changed-changed.result c.is_changed-changed.ensures
+    fault_here code p c.args.nest.now c.requires.nest i at c.loop-position.states c.loop-position.invariant.0 c.loop-position.invariant.1 c.in-Some.arrivals is c.is_changed-changed.result c.is_changed-changed.ensures
     c.in-Some-objection.fault c.requires.ahead c.in-Some-objection.ensures
 
 pub pass_on-requires-clause-next : goal.pass_on-requires-clause-next
@@ -38,9 +43,11 @@ pass_on-requires-clause-next c =
     let p = c.loop-position.position in
     let code = c.args.code.now in
     let lt : p < length code = c.loop-position-test.true in
+    let within : p < length c.loop-position.states = let h = c.loop-position.invariant.0.long in omega arith in
+    let is = get_or_default c.loop-position.states p None _ within ∙ c.in-Some.is in
     let i = c.index-code-position.result in
     let at = slice_get_read code (length code) p i refl lt c.index-code-position.is in
-    next_inside code p c.args.nest.now c.requires.nest i at c.loop-position.states c.loop-position.invariant.0 c.loop-position.invariant.1 c.in-Some.arrivals c.in-Some.is c.is_changed-changed.result c.is_changed-changed.ensures
+    next_inside code p c.args.nest.now c.requires.nest i at c.loop-position.states c.loop-position.invariant.0 c.loop-position.invariant.1 c.in-Some.arrivals is c.is_changed-changed.result c.is_changed-changed.ensures
     c.in_default-objection.ensures
 
 pub pass_on-requires-clause-aside : goal.pass_on-requires-clause-aside
@@ -60,8 +67,10 @@ loop-position-preserved c =
     let states = c.loop-position.states in
     let known = c.loop-position.invariant.0 in
     let lt : p < length code = c.loop-position-test.true in
+    let within : p < length c.loop-position.states = let h = c.loop-position.invariant.0.long in omega arith in
+    let is = get_or_default c.loop-position.states p None _ within ∙ c.in-Some.is in
     let at = slice_get_read code (length code) p i refl lt c.index-code-position.is in
-    let same = alike code p c.args.nest.now c.requires.nest i at states known c.loop-position.invariant.1 a c.in-Some.is c.is_changed-changed.result c.is_changed-changed.ensures c.in_default-objection.ensures in (
-      known_next code p i a states c.pass_on.new.states at lt c.requires.ahead known c.in-Some.is same c.pass_on.ensures,
-      clear_next code p c.args.nest.now c.requires.nest i at states known c.loop-position.invariant.1 a c.in-Some.is c.is_changed-changed.result c.is_changed-changed.ensures c.in_default-objection.ensures,
+    let same = alike code p c.args.nest.now c.requires.nest i at states known c.loop-position.invariant.1 a is c.is_changed-changed.result c.is_changed-changed.ensures c.in_default-objection.ensures in (
+      known_next code p i a states c.pass_on.new.states at lt c.requires.ahead known is same c.pass_on.ensures,
+      clear_next code p c.args.nest.now c.requires.nest i at states known c.loop-position.invariant.1 a is c.is_changed-changed.result c.is_changed-changed.ensures c.in_default-objection.ensures,
     )
