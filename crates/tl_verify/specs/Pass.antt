@@ -58,13 +58,18 @@ pub record Compares (i : Instr) (start : Option Arrivals) (m : Marks) (changed :
   pub changes : changed ≡ true → (a : Arrivals) × (is_end i ≡ true) × (start ≡ Some a) × ((m.held ≢ a.marks.held) ⊎ ((a.marks.is_open ≡ true) × (m.is_open ≡ false)))
   pub keeps : changed ≡ false → is_end i ≡ true → (a : Arrivals) → start ≡ Some a → (m.held ≡ a.marks.held) × (a.marks.is_open ≡ true → m.is_open ≡ true)
 
+-- what is found of the registers, and else the rest
+abbrev pub of_registers : ℕ → Instr → Marks → Option Finding → Option Finding
+of_registers p i m rest =
+    or_else (when (is_first i && not m.is_open) (Spent p))
+    (or_else (missing p m (source i))
+    (or_else (taken p m (destination i))
+    (or_else (left_held p (is_return i) (first_held m.held 0)) rest)))
+
 -- what is found first at a position of a code of so many instructions, where a turn changes the marks or doesn't
 unfoldable pub objection : ℕ → ℕ → Instr → Arrivals → Bool → Option Finding
 objection count p i a changed =
     or_else (when a.differ (Joined p))
-    (or_else (when (is_first i && not a.marks.is_open) (Spent p))
-    (or_else (missing p a.marks (source i))
-    (or_else (taken p a.marks (destination i))
-    (or_else (left_held p (is_return i) (first_held a.marks.held 0))
+    (of_registers p i a.marks
     (or_else (when changed (Changed p))
-    (when (goes_on i && nat_le count (p + 1)) (NextPastEnd p)))))))
+    (when (goes_on i && nat_le count (p + 1)) (NextPastEnd p))))

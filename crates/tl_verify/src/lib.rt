@@ -1,13 +1,13 @@
 //! Which codes are admitted. A procedure is a code that was: from then on it can't fail.
 #![tactic(auto)]
 
-pub mod arrivals;
+mod arrivals;
 pub mod fault;
-pub mod jumps;
-pub mod marks;
-pub mod objection;
+mod jumps;
+mod marks;
+mod objection;
 pub mod procedure;
-pub mod register_set;
-pub mod registers;
+mod register_set;
+mod registers;
 #[cfg(test)]
 mod tests;

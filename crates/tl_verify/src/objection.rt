@@ -1,40 +1,17 @@
 // What an instruction asks of the node registers.
 
-ghost use Rattle.std.specs.Prelude.{◌≡◌, ◌<◌, option_map};
-ghost use Rattle.tl_verify.specs.Marks.{source as source_of, destination as destination_of, goes_on as goes_on_from, after as marks_after};
-ghost use Rattle.tl_verify.specs.Findings.{fault_of};
-ghost use Rattle.tl_verify.specs.Pass.{is_end as is_end_of, objection as objection_at};
+ghost use Rattle.std.specs.Prelude.{◌≡◌, ◌<◌, get_or, true, false, Option, Some, None, IfOk, IfErr, option_map};
+ghost use Rattle.tl_verify.specs.Marks.{goes_on as goes_on_from, after as marks_after};
+ghost use Rattle.tl_verify.specs.Findings.{Finding, fault_of};
+ghost use Rattle.tl_verify.specs.Pass.{of_registers, is_end as is_end_of, objection as objection_at};
+ghost use Rattle.tl_verify.specs.declared.fault.VerifyFault.TheVariants as fault;
 
 use crate::arrivals::Arrivals;
 use crate::fault::VerifyFault;
 use crate::marks::Marks;
+use crate::register_set::RegisterSet;
 use tl_instr::instr::Instr;
 use tl_instr::operand::NodeRegister;
-
-// The register that has to hold a node.
-fn source(instr: &Instr) -> Option<NodeRegister>
-    ensures { result ≡ source_of instr.now }
-{
-    match *instr {
-        Instr::Child { parent: node, .. }
-        | Instr::Move { from: node, .. }
-        | Instr::Release { node }
-        | Instr::Get { node, .. }
-        | Instr::Put { node, .. }
-        | Instr::Kids { node, .. } => Some(node),
-        _ => None,
-    }
-}
-
-// The register that takes a node, and has to be empty.
-fn destination(instr: &Instr) -> Option<NodeRegister>
-    ensures { result ≡ destination_of instr.now }
-{
-    match *instr {
-        Instr::First { to, .. } | Instr::Child { to, .. } | Instr::Move { to, .. } => Some(to),
-        _ => None,
-    }
-}
 
 /// Whether control may go to the next position.
 pub fn goes_on(instr: &Instr) -> bool
@@ -50,25 +27,89 @@ pub fn is_end(instr: &Instr) -> bool
     matches!(*instr, Instr::End)
 }
 
-/// The registers behind an instruction that didn't go to its target.
-pub fn after(instr: &Instr, mut marks: Marks) -> Marks
-    ensures { result ≡ marks_after instr.now marks }
+// The register has to hold a node.
+#[inline(always)]
+fn needs(position: u16, held: RegisterSet, register: NodeRegister) -> Result<(), VerifyFault>
+    ensures ok { IfOk result (λ _. get_or held register false ≡ true) }
+    ensures fault { IfErr result (λ f. (get_or held register false ≡ false) × (f ≡ fault.NotHeld position register)) }
 {
-    match *instr {
-        Instr::First { to, .. } => {
-            marks.held = marks.held.with(to);
-            marks.is_open = false;
-        }
-        Instr::Child { to, .. } => marks.held = marks.held.with(to),
-        Instr::Move { to, from } => marks.held = marks.held.without(from).with(to),
-        Instr::Release { node } => marks.held = marks.held.without(node),
-        _ => {}
+    if held.has(register) {
+        Ok(())
+    } else {
+        Err(VerifyFault::NotHeld(position, register.number()))
     }
-    marks
 }
 
-/// What is wrong with the registers at a position of a code of so many instructions, where a turn of the loop that ends here changes
-/// the marks or doesn't.
+// The register takes a node, and has to be empty.
+#[inline(always)]
+fn takes(position: u16, held: RegisterSet, register: NodeRegister) -> Result<(), VerifyFault>
+    ensures ok { IfOk result (λ _. get_or held register false ≡ false) }
+    ensures fault { IfErr result (λ f. (get_or held register false ≡ true) × (f ≡ fault.Occupied position register)) }
+{
+    if held.has(register) {
+        Err(VerifyFault::Occupied(position, register.number()))
+    } else {
+        Ok(())
+    }
+}
+
+/// The registers behind an instruction that doesn't go to its target, or what is wrong with them before it.
+#[inline(always)]
+fn after(position: u16, instr: &Instr, marks: Marks) -> Result<Marks, VerifyFault>
+    ensures after { IfOk result (λ m. m ≡ marks_after instr.now marks) }
+    ensures ok { IfOk result (λ _. (rest : Option Finding) → of_registers position instr.now marks rest ≡ rest) }
+    ensures fault { IfErr result (λ f. (rest : Option Finding) → Some f ≡ option_map fault_of (of_registers position instr.now marks rest)) }
+{
+    let Marks { held, is_open } = marks;
+    match *instr {
+        Instr::First { to, .. } => {
+            if !is_open {
+                return Err(VerifyFault::FirstSpent(position));
+            }
+            takes(position, held, to)?;
+            Ok(Marks {
+                held: held.with(to),
+                is_open: false,
+            })
+        }
+        Instr::Child { to, parent, .. } => {
+            needs(position, held, parent)?;
+            takes(position, held, to)?;
+            Ok(Marks {
+                held: held.with(to),
+                is_open,
+            })
+        }
+        Instr::Move { to, from } => {
+            needs(position, held, from)?;
+            takes(position, held, to)?;
+            Ok(Marks {
+                held: held.without(from).with(to),
+                is_open,
+            })
+        }
+        Instr::Release { node } => {
+            needs(position, held, node)?;
+            Ok(Marks {
+                held: held.without(node),
+                is_open,
+            })
+        }
+        Instr::Get { node, .. } | Instr::Put { node, .. } | Instr::Kids { node, .. } => {
+            needs(position, held, node)?;
+            Ok(marks)
+        }
+        Instr::Return => match held.first() {
+            Some(register) => Err(VerifyFault::HeldAtReturn(position, register)),
+            None => Ok(marks),
+        },
+        _ => Ok(marks),
+    }
+}
+
+/// The registers behind an instruction at a position of a code of so many, or what is wrong with those that come to it, where a
+/// turn of the loop that ends here changes the marks or doesn't.
+#[inline(always)]
 #[tactic(auto, unfolding(crate::specs::Pass::objection))]
 pub fn objection(
     count: u16,
@@ -76,42 +117,21 @@ pub fn objection(
     instr: &Instr,
     arrivals: Arrivals,
     is_changed: bool,
-) -> Option<VerifyFault>
+) -> Result<Marks, VerifyFault>
     requires { 0 < count }
-    ensures { result ≡ option_map fault_of (objection_at count position instr.now arrivals is_changed) }
+    ensures after { IfOk result (λ m. m ≡ marks_after instr.now arrivals.marks) }
+    ensures ok { IfOk result (λ _. None ≡ option_map fault_of (objection_at count position instr.now arrivals is_changed)) }
+    ensures fault { IfErr result (λ f. Some f ≡ option_map fault_of (objection_at count position instr.now arrivals is_changed)) }
 {
-    let Arrivals {
-        marks: Marks { held, is_open },
-        differ,
-    } = arrivals;
-    let source = source(instr);
-    let destination = destination(instr);
-    if differ {
-        return Some(VerifyFault::Joins(position));
+    if arrivals.differ {
+        return Err(VerifyFault::Joins(position));
     }
-    if matches!(*instr, Instr::First { .. }) && !is_open {
-        return Some(VerifyFault::FirstSpent(position));
-    }
-    if let Some(register) = source
-        && !held.has(register)
-    {
-        return Some(VerifyFault::NotHeld(position, register.number()));
-    }
-    if let Some(register) = destination
-        && held.has(register)
-    {
-        return Some(VerifyFault::Occupied(position, register.number()));
-    }
-    if matches!(*instr, Instr::Return)
-        && let Some(register) = held.first()
-    {
-        return Some(VerifyFault::HeldAtReturn(position, register));
-    }
+    let behind = after(position, instr, arrivals.marks)?;
     if is_changed {
-        return Some(VerifyFault::LoopChanges(position));
+        return Err(VerifyFault::LoopChanges(position));
     }
     if goes_on(instr) && count - 1 <= position {
-        return Some(VerifyFault::OffEnd(position));
+        return Err(VerifyFault::OffEnd(position));
     }
-    None
+    Ok(behind)
 }

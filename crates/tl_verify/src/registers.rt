@@ -3,7 +3,7 @@
 ghost use Rattle.std.specs.Prelude.{◌≡◌, ℕ, ◌+◌, ◌<◌, ◌≤◌, length, get_or, slice_get, Option, Some, None, true, IfSome, IfNone, IfOk, MatchOption};
 ghost use Rattle.tl_instr.specs.Instructions.{target};
 ghost use Rattle.tl_budget.specs.Nested.{IsNest, place_at};
-ghost use Rattle.tl_verify.specs.Marks.{goes_on as goes_on_from};
+ghost use Rattle.tl_verify.specs.Marks.{goes_on as goes_on_from, after as marks_after};
 ghost use Rattle.tl_verify.specs.Acceptable.{HasFit};
 ghost use Rattle.tl_verify.specs.Findings.{IsFirstFault};
 ghost use Rattle.tl_verify.specs.Known.{Known, Ahead, PassesOn, Settled};
@@ -12,19 +12,27 @@ ghost use Rattle.tl_verify.specs.Pass.{Compares, is_end as is_end_of};
 use crate::arrivals::{Arrivals, arrive};
 use crate::fault::VerifyFault;
 use crate::marks::Marks;
-use crate::objection::{after, goes_on, is_end, objection};
+use crate::objection::{goes_on, is_end, objection};
 use std::alloc::{AllocError, Global};
 use tl_budget::nested::Nest;
 use tl_instr::instr::Instr;
 
 // The states behind an instruction come to where it leads.
-fn pass_on(states: &mut [Option<Arrivals>], position: usize, instr: &Instr, marks: &Marks)
+#[inline(always)]
+fn pass_on(
+    states: &mut [Option<Arrivals>],
+    position: usize,
+    instr: &Instr,
+    marks: &Marks,
+    behind: &Marks,
+)
+    requires behind { behind.now ≡ marks_after instr.now marks.now }
     requires next { goes_on_from instr.now ≡ true → position + 1 < length states.old }
     requires aside { (l : ℕ) → target instr.now ≡ Some l → l < length states.old }
     ensures { PassesOn instr.now position marks.now states.old states.new }
 {
     if goes_on(instr) {
-        arrive(states, position + 1, after(instr, *marks));
+        arrive(states, position + 1, *behind);
     }
     if let Some(target) = instr.target() {
         arrive(states, usize::from(target), *marks);
@@ -71,10 +79,11 @@ fn walk(code: &[Instr], nest: &Nest, states: &mut [Option<Arrivals>]) -> Option<
         let instr = &code[position];
         let changed = is_changed(states, nest, position as u16, instr, &arrivals.marks);
         let count = code.len() as u16;
-        if let Some(fault) = objection(count, position as u16, instr, arrivals, changed) {
-            return Some(fault);
-        }
-        pass_on(states, position, instr, &arrivals.marks);
+        let behind = match objection(count, position as u16, instr, arrivals, changed) {
+            Ok(behind) => behind,
+            Err(fault) => return Some(fault),
+        };
+        pass_on(states, position, instr, &arrivals.marks, &behind);
     }
     None
 }

@@ -26,8 +26,8 @@ is_changed-changed-requires-clause-start c ends =
     let at = slice_get_read code (length code) p i refl lt c.index-code-position.is in
     body_inside code c.args.nest.now c.requires.nest p i c.loop-position.states at c.loop-position.invariant.0 ends
 
-pub returns-in-Some-objection-clause-fault : goal.returns-in-Some-objection-clause-fault
-returns-in-Some-objection-clause-fault c =
+pub returns-in-Err-clause-fault : goal.returns-in-Err-clause-fault
+returns-in-Err-clause-fault c =
     let p = c.loop-position.position in
     let code = c.args.code.now in
     let lt : p < length code = c.loop-position-test.true in
@@ -36,7 +36,7 @@ returns-in-Some-objection-clause-fault c =
     let i = c.index-code-position.result in
     let at = slice_get_read code (length code) p i refl lt c.index-code-position.is in
     fault_here code p c.args.nest.now c.requires.nest i at c.loop-position.states c.loop-position.invariant.0 c.loop-position.invariant.1 c.in-Some.arrivals is c.is_changed-changed.result c.is_changed-changed.ensures
-    c.in-Some-objection.fault c.requires.ahead c.in-Some-objection.ensures
+    c.in-Err.fault c.requires.ahead c.in-Err.ensures.fault
 
 pub pass_on-requires-clause-next : goal.pass_on-requires-clause-next
 pass_on-requires-clause-next c =
@@ -48,7 +48,7 @@ pass_on-requires-clause-next c =
     let i = c.index-code-position.result in
     let at = slice_get_read code (length code) p i refl lt c.index-code-position.is in
     next_inside code p c.args.nest.now c.requires.nest i at c.loop-position.states c.loop-position.invariant.0 c.loop-position.invariant.1 c.in-Some.arrivals is c.is_changed-changed.result c.is_changed-changed.ensures
-    c.in_default-objection.ensures
+    c.in-Ok.ensures.ok
 
 pub pass_on-requires-clause-aside : goal.pass_on-requires-clause-aside
 pass_on-requires-clause-aside c l is =
@@ -70,7 +70,7 @@ loop-position-preserved c =
     let within : p < length c.loop-position.states = let h = c.loop-position.invariant.0.long in omega arith in
     let is = get_or_default c.loop-position.states p None _ within ∙ c.in-Some.is in
     let at = slice_get_read code (length code) p i refl lt c.index-code-position.is in
-    let same = alike code p c.args.nest.now c.requires.nest i at states known c.loop-position.invariant.1 a is c.is_changed-changed.result c.is_changed-changed.ensures c.in_default-objection.ensures in (
+    let same = alike code p c.args.nest.now c.requires.nest i at states known c.loop-position.invariant.1 a is c.is_changed-changed.result c.is_changed-changed.ensures c.in-Ok.ensures.ok in (
       known_next code p i a states c.pass_on.new.states at lt c.requires.ahead known is same c.pass_on.ensures,
-      clear_next code p c.args.nest.now c.requires.nest i at states known c.loop-position.invariant.1 a is c.is_changed-changed.result c.is_changed-changed.ensures c.in_default-objection.ensures,
+      clear_next code p c.args.nest.now c.requires.nest i at states known c.loop-position.invariant.1 a is c.is_changed-changed.result c.is_changed-changed.ensures c.in-Ok.ensures.ok,
     )
