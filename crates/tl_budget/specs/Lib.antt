@@ -1,3 +1,4 @@
+pub mod Capped
 pub mod Loops
 pub mod Findings
 pub mod Nested

@@ -1,9 +1,10 @@
 // What a procedure costs at most.
 
-ghost use Rattle.std.specs.Prelude.{◌≡◌, ◌≢◌, ℕ, ◌+◌, ◌^◌, ◌<◌, IfOk, IfErr, MatchOption, if◌then◌else◌};
+ghost use Rattle.std.specs.Prelude.{◌≡◌, ◌≢◌, ℕ, ◌+◌, IfOk, IfErr, MatchOption, if◌then◌else◌};
 ghost use Rattle.tl_budget.specs.Loops.{Opens, kind, budget, lock_bound, emit_bound, is_lock, is_emit};
 ghost use Rattle.tl_budget.specs.Faults.{IsOver, IsWithinLimits};
 ghost use Rattle.tl_budget.specs.Nested.{IsNest};
+ghost use Rattle.tl_budget.specs.Capped.{capped};
 
 use crate::fault::NestFault;
 use crate::limits::{Bounds, MAX_EMITS, MAX_LOCKS, MAX_STEPS};
@@ -11,30 +12,28 @@ use crate::nested::Nest;
 use tl_instr::code::Code;
 use tl_instr::instr::Instr;
 
-// The sums of the weights: of all instructions, of those that lock a node, and of those that emit a value.
+// The sums of the weights: of all instructions, of those that lock a node, and of those that emit a value. A sum that doesn't
+// fit is the greatest number, which is above each limit.
 #[derive(Clone, Copy)]
 struct Totals {
-    steps: u128,
-    locks: u128,
-    emits: u128,
+    steps: u64,
+    locks: u64,
+    emits: u64,
 }
 
 impl Totals {
     // With one more instruction of that weight.
-    fn with(self, instr: &Instr, weight: u128) -> Totals
-        requires steps { self.steps + weight < 2 ^ 128 }
-        requires locks { self.locks + weight < 2 ^ 128 }
-        requires emits { self.emits + weight < 2 ^ 128 }
-        ensures steps { result.steps ≡ self.steps + weight }
-        ensures locks { result.locks ≡ self.locks + (if is_lock instr.now then weight else 0) }
-        ensures emits { result.emits ≡ self.emits + (if is_emit instr.now then weight else 0) }
+    fn with(self, instr: &Instr, weight: u64) -> Totals
+        ensures steps { result.steps ≡ capped (self.steps + weight) }
+        ensures locks { result.locks ≡ capped (self.locks + (if is_lock instr.now then weight else 0)) }
+        ensures emits { result.emits ≡ capped (self.emits + (if is_emit instr.now then weight else 0)) }
     {
         let locked = if locks_node(instr) { weight } else { 0 };
         let emitted = if emits_value(instr) { weight } else { 0 };
         Totals {
-            steps: self.steps + weight,
-            locks: self.locks + locked,
-            emits: self.emits + emitted,
+            steps: self.steps.saturating_add(weight),
+            locks: self.locks.saturating_add(locked),
+            emits: self.emits.saturating_add(emitted),
         }
     }
 }
@@ -66,11 +65,11 @@ fn turns_of(instr: &Instr) -> Option<u16>
 // The sums over a whole code.
 fn total(code: &Code, nest: &Nest) -> Totals
     requires { IsNest code.now.instrs nest.now }
-    ensures steps { result.steps ≡ budget code.now.instrs }
-    ensures locks { result.locks ≡ lock_bound code.now.instrs }
-    ensures emits { result.emits ≡ emit_bound code.now.instrs }
+    ensures steps { result.steps ≡ capped (budget code.now.instrs) }
+    ensures locks { result.locks ≡ capped (lock_bound code.now.instrs) }
+    ensures emits { result.emits ≡ capped (emit_bound code.now.instrs) }
 {
-    // At each depth the product of the counts of the loops around.
+    // At each depth the product of the counts of the loops around: of at most four numbers of 16 bits.
     let mut products = [1; 5];
     let mut totals = Totals {
         steps: 0,
@@ -83,7 +82,7 @@ fn total(code: &Code, nest: &Nest) -> Totals
         let weight = products[depth];
         totals = totals.with(instr, weight);
         if let Some(turns) = turns_of(instr) {
-            products[depth + 1] = weight * u128::from(turns);
+            products[depth + 1] = weight * u64::from(turns);
         }
     }
     totals
@@ -100,13 +99,13 @@ pub fn bounds(code: &Code, nest: &Nest) -> Result<Bounds, NestFault>
     ensures over { IfErr result (IsOver code.now.instrs) }
 {
     let totals = total(code, nest);
-    if totals.steps > u128::from(MAX_STEPS) {
+    if totals.steps > u64::from(MAX_STEPS) {
         return Err(NestFault::StepsOver);
     }
-    if totals.locks > u128::from(MAX_LOCKS) {
+    if totals.locks > u64::from(MAX_LOCKS) {
         return Err(NestFault::LocksOver);
     }
-    if totals.emits > u128::from(MAX_EMITS) {
+    if totals.emits > u64::from(MAX_EMITS) {
         return Err(NestFault::EmitsOver);
     }
     Ok(Bounds {
