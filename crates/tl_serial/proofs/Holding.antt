@@ -7,7 +7,7 @@ use Rattle.std.proofs.lemmas.List.Elements.{Contains-push, Contains-append_left}
 use Rattle.tl_serial.specs.Part.{HasHeld}
 
 -- what passes the test stays
-at-filter : (test : ℕ → Bool) (xs : List ℕ) (y k : ℕ) → test y ≡ true → k < length xs → get_or xs k y ≡ y → Contains (filter test xs) y
+pub at-filter : (test : ℕ → Bool) (xs : List ℕ) (y k : ℕ) → test y ≡ true → k < length xs → get_or xs k y ≡ y → Contains (filter test xs) y
 at-filter test [] y k passes inside here = absurd (omega arith)
 at-filter test (x ∷ xs) y zero passes inside here = let e : test x ≡ true = ap test here ∙ passes in rw e (0, omega arith, here)
 at-filter test (x ∷ xs) y (suc k) passes inside here =

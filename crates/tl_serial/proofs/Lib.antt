@@ -5,4 +5,5 @@ pub mod Holding
 pub mod Ways
 pub mod Pasts
 pub mod Inside
+pub mod Holders
 mod Rows

@@ -9,6 +9,7 @@ pub mod fault;
 mod line;
 pub mod order;
 pub mod part;
+mod parts;
 pub mod placing;
 pub mod replaying;
 #[cfg(test)]

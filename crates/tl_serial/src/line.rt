@@ -1,6 +1,6 @@
 // The calls that were put in order so far.
 
-ghost use Rattle.std.specs.Prelude.{◌≡◌, ◌<◌, ◌≤◌, false, [], length, insert, All, IfOk, OnOk};
+ghost use Rattle.std.specs.Prelude.{◌≡◌, ◌+◌, ◌<◌, ◌≤◌, false, [], length, insert, All, OnOk};
 ghost use Rattle.tl_protocol.specs.Order.{stands};
 ghost use Rattle.tl_serial.specs.Line.{Standing};
 
@@ -28,13 +28,22 @@ impl Model for Line {
 }
 
 impl Line {
-    pub fn new(alloc: Global, count: usize) -> Result<Line, AllocError>
-        ensures { IfOk result (λ l. l ≡ record { order = []; count = count }) }
+    /// No call.
+    pub fn new(alloc: Global) -> Line
+        ensures { result ≡ record { order = []; count = 0 } }
     {
-        Ok(Line {
+        Line {
             order: Vec::new(alloc),
-            standing: vec![in alloc; false; count]?,
-        })
+            standing: Vec::new(alloc),
+        }
+    }
+
+    /// One more call, which doesn't stand in the order.
+    pub fn add(&mut self) -> Result<(), AllocError>
+        ensures { OnOk result (self.new ≡ record self.old { count = self.old.count + 1 }) }
+    {
+        self.standing.push(false)?;
+        Ok(())
     }
 
     /// The calls in order.

@@ -1,11 +1,11 @@
 // What one call did to the nodes.
 
-ghost use Rattle.std.specs.Prelude.{◌≡◌, ◌<◌, ◌==◌, ℕ, List, [], ◌∷◌, length, filter, slice_index_or, IfOk, not, true, false};
+ghost use Rattle.std.specs.Prelude.{◌≡◌, ◌<◌, ◌≤◌, ◌==◌, ◌↔◌, ℕ, List, [], ◌∷◌, length, filter, slice_index_or, IfOk, IsTrue, not, true, false};
 ghost use Rattle.tl_tree.specs.Records.{Record as RecordValue};
 ghost use Rattle.tl_tree.specs.Shape.{IsTree};
 ghost use Rattle.tl_protocol.specs.declared.action.Action.{Action};
 ghost use Rattle.tl_protocol.specs.Actions.{may_come, locked as was_locked, held as is_held};
-ghost use Rattle.tl_serial.specs.Part.{IsPart, node_count, was_locked as marks_locked, is_held as marks_held};
+ghost use Rattle.tl_serial.specs.Part.{IsPart, node_count, trues, was_locked as marks_locked, is_held as marks_held};
 ghost use Rattle.tl_serial.specs.Way.{IsWay, is_open};
 
 use crate::way::Way;
@@ -74,6 +74,7 @@ impl Part {
     pub fn new(alloc: Global, nodes: usize) -> Result<Part, AllocError>
         ensures nodes { IfOk result (λ p. node_count p ≡ nodes) }
         ensures none { IfOk result (λ p. IsPart p []) }
+        ensures held { IfOk result (λ p. trues p.held ≡ 0) }
     {
         Ok(Part {
             marks: vec![in alloc; Mark::Untouched; nodes]?,
@@ -110,6 +111,7 @@ impl Part {
         ensures nodes { node_count self.new ≡ node_count self.old }
         ensures free { (done : List Action) (left : RecordValue) → IsPart self.old done
             → IsPart self.new (Action.Free node left ∷ done) }
+        ensures fewer { trues self.new.held ≤ trues self.old.held }
     {
         let index = usize::from(node);
         if self.marks[index].is_held() {
@@ -143,6 +145,7 @@ impl Part {
             → result ≡ false → is_held done y ≡ false }
         ensures some { (done : List Action) → IsPart self.now done
             → result ≡ true → (y : ℕ) × (y < node_count self.now) × (is_held done y ≡ true) }
+        ensures held { IsTrue result ↔ (0 < trues self.now.held) }
     {
         self.held_count > 0
     }

@@ -6,13 +6,13 @@ ghost use Rattle.tl_protocol.specs.declared.event.Event.{Event as EventValue};
 ghost use Rattle.tl_protocol.specs.Actions.{may_come};
 ghost use Rattle.tl_protocol.specs.History.{caller, part_of, past_of};
 ghost use Rattle.tl_protocol.specs.Order.{put_before, placed, placed_after};
-ghost use Rattle.tl_serial.specs.Parts.{IsOfNodes, AreOfNodes, Show};
+ghost use Rattle.tl_serial.specs.Parts.{IsOfNodes, AreOfNodes, Show, ShowAll};
 ghost use Rattle.tl_serial.specs.Way.{IsWay};
 
 use crate::fault::SerialFault;
 use crate::line::Line;
 use crate::order::Order;
-use crate::part::Part;
+use crate::parts::Parts;
 use crate::way::Way;
 use std::alloc::{AllocError, Global};
 use tl_history::history::History;
@@ -31,37 +31,62 @@ pub fn order_of(alloc: Global, history: &History, shape: &Shape) -> Result<Order
     ensures ok { IfOk result (λ o. o ≡ placed shape.now history.now.past) }
     ensures err { IfErr result (λ e. e ≡ SerialFault.Memory) }
 {
-    let nodes = usize::from(shape.node_count());
-    let events = history.events();
-    let calls = call_count(events);
-    let mut parts = parts_of_none(alloc, calls, nodes)?;
-    let mut line = Line::new(alloc, calls)?;
-    let mut way = Way::new(alloc, nodes)?;
-    place_all(&mut line, &mut parts, &mut way, shape, events)?;
+    let mut line = Line::new(alloc);
+    let mut parts = Parts::new(alloc);
+    let mut way = Way::new(alloc, usize::from(shape.node_count()))?;
+    place_all(
+        alloc,
+        &mut line,
+        &mut parts,
+        &mut way,
+        shape,
+        history.events(),
+    )?;
     Ok(line.into_order())
 }
 
-// Puts the calls of the events in order, where none stands yet and nothing was done.
+// Puts the calls of the events in order, where there is no call yet.
 fn place_all(
+    alloc: Global,
     line: &mut Line,
-    parts: &mut [Part],
+    parts: &mut Parts,
     way: &mut Way,
     shape: &Shape,
     events: &[Event],
 ) -> Result<(), AllocError>
-    requires tree { IsTree shape.now }
-    requires calls { length parts.old ≡ line.old.count }
-    requires nodes { AreOfNodes (length shape.now) parts.old }
+    requires line { line.old ≡ record { order = []; count = 0 } }
+    requires parts { parts.old ≡ [] }
     requires marks { length way.old ≡ length shape.now }
-    requires callers { All (λ e. caller e < line.old.count) events.now }
     requires inside { All (IsOfNodes (length shape.now)) events.now }
-    requires none { line.old.order ≡ [] }
-    requires start { Show parts.old [] }
     ensures { OnOk result (line.new.order ≡ placed shape.now (past_of events.now)) }
 {
+    let nodes = usize::from(shape.node_count());
     for event in events {
+        make_room(alloc, line, parts, nodes, caller(event))?;
         place(line, parts, way, shape, event)?;
-        note(parts, event);
+        parts.note(event)?;
+    }
+    Ok(())
+}
+
+// Makes the calls up to this one known.
+fn make_room(
+    alloc: Global,
+    line: &mut Line,
+    parts: &mut Parts,
+    nodes: usize,
+    call: u32,
+) -> Result<(), AllocError>
+    requires calls { length parts.old ≡ line.old.count }
+    ensures order { OnOk result (line.new.order ≡ line.old.order) }
+    ensures calls { OnOk result (length parts.new ≡ line.new.count) }
+    ensures call { OnOk result (call < line.new.count) }
+    ensures nodes { OnOk result (AreOfNodes nodes parts.old → AreOfNodes nodes parts.new) }
+    ensures more { OnOk result ((past : List EventValue) → ShowAll parts.old past → ShowAll parts.new past) }
+{
+    for _call in parts.len()..call as usize + 1 {
+        parts.add(alloc, nodes)?;
+        line.add()?;
     }
     Ok(())
 }
@@ -100,48 +125,10 @@ fn caller(event: &Event) -> u32
     }
 }
 
-// One more than the highest number of a call, or 0 where there is no event.
-fn call_count(events: &[Event]) -> usize
-    ensures { All (λ e. caller e < result) events.now }
-{
-    let mut count = 0;
-    for event in events {
-        count = count.max(caller(event) as usize + 1);
-    }
-    count
-}
-
-// Of each call a part in which nothing was done.
-fn parts_of_none(alloc: Global, calls: usize, nodes: usize) -> Result<Vec<Part>, AllocError>
-    ensures calls { IfOk result (λ parts. length parts.items ≡ calls) }
-    ensures nodes { IfOk result (λ parts. AreOfNodes nodes parts.items) }
-    ensures none { IfOk result (λ parts. Show parts.items []) }
-{
-    let mut parts = Vec::with_capacity(alloc, calls)?;
-    for _call in 0..calls {
-        parts.push(Part::new(alloc, nodes)?)?;
-    }
-    Ok(parts)
-}
-
-// Adds the event to its call's part.
-fn note(parts: &mut [Part], event: &Event)
-    requires caller { caller event.now < length parts.old }
-    requires node { (nodes : ℕ) × AreOfNodes nodes parts.old × IsOfNodes nodes event.now }
-    ensures nodes { (nodes : ℕ) → AreOfNodes nodes parts.old → AreOfNodes nodes parts.new }
-    ensures more { (past : List EventValue) → Show parts.old past → Show parts.new (event.now ∷ past) }
-{
-    match *event {
-        Event::Lock { call, node, .. } => parts[call as usize].lock(node),
-        Event::Free { call, node, .. } => parts[call as usize].free(node),
-        Event::Admit { .. } | Event::Done { .. } => {}
-    }
-}
-
 // Puts the event's call in order, where it is its call's first lock, or its end without a lock.
 fn place(
     line: &mut Line,
-    parts: &[Part],
+    parts: &Parts,
     way: &mut Way,
     shape: &Shape,
     event: &Event,
@@ -174,7 +161,7 @@ fn place(
 }
 
 // The place of the first call in order that may still come to the node, to which the way leads, or the end.
-fn first_coming(order: &[u32], parts: &[Part], shape: &Shape, node: u16, way: &Way) -> usize
+fn first_coming(order: &[u32], parts: &Parts, shape: &Shape, node: u16, way: &Way) -> usize
     requires calls { All (λ c. c < length parts.now) order.now }
     requires tree { IsTree shape.now }
     requires nodes { AreOfNodes (length shape.now) parts.now }
@@ -186,8 +173,12 @@ fn first_coming(order: &[u32], parts: &[Part], shape: &Shape, node: u16, way: &W
         → put_before (λ c. may_come shape.now (part_of c past) node) call order.now
         ≡ insert order.now result call }
 {
+    // Mostly none may come, and only the few calls that hold a node need be asked to see that.
+    if !parts.any_may_come(shape, node, way) {
+        return order.len();
+    }
     for (place, call) in order.iter().enumerate() {
-        if parts[*call as usize].may_come(shape, node, way) {
+        if parts.may_come(*call, shape, node, way) {
             return place;
         }
     }

@@ -4,7 +4,7 @@ use Rattle.std.proofs.lemmas.List.{length-map, length-set, map-set}
 use Rattle.std.proofs.lemmas.List.Elements.{All-filter}
 use Rattle.tl_protocol.specs.declared.action.Action.TheVariants.{Free}
 use Rattle.tl_serial.specs.declared.part.Mark.TheVariants.{Freed}
-use Rattle.tl_serial.specs.Part.{IsPart, was_locked, is_held, HasHeld}
+use Rattle.tl_serial.specs.Part.{IsPart, was_locked, is_held, trues, HasHeld}
 use Rattle.tl_serial.proofs.Holding.{HasHeld-less}
 use Rattle.tl_serial.proofs.Marks.{shown, read_at, freed_stays_locked, shows_free, trues-one_less}
 use Rattle.tl_serial.proofs.part.Part.free.Goals as goal
@@ -52,3 +52,15 @@ returns-then-is_held-clause-free c done left part =
     let read = read_at is_held ms index index c.index.result.now c.is_held.result refl inside c.index.ensures c.is_held.ensures in
     let own : IsPart (shown ms) done = subst (λ m. IsPart m done) (sym c.self.view_is) part in
     subst (λ x. IsPart (shown (set ms index Freed)) (Free x left ∷ done)) c.from-index.ensures (shows_free ms index done left inside (sym read ∙ c.if-is_held.true) own)
+
+pub returns-then-is_held-clause-fewer : goal.returns-then-is_held-clause-fewer
+returns-then-is_held-clause-fewer c =
+    let ms = c.self.inside.marks.items in
+    let index = c.from-index.result in
+    let size = ap (λ m. length m.locked) c.self.view_is in
+    let all = length-map ms was_locked in
+    let inside : index < length ms = omega (arith, size, all, c.requires, c.from-index.ensures) in
+    let read = read_at is_held ms index index c.index.result.now c.is_held.result refl inside c.index.ensures c.is_held.ensures in
+    let less = trues-one_less (map is_held ms) index (sym read ∙ c.if-is_held.true) in
+    let before = ap (λ m. trues m.held) c.self.view_is in
+    rw (map-set is_held ms index Freed) (omega (arith, less, before))

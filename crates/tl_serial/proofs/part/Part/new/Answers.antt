@@ -21,3 +21,9 @@ invariant_of-result c =
 
 pub returns-clause-none : goal.returns-clause-none
 returns-clause-none c = subst (λ ms. IsPart (shown ms) []) (sym (c.in_ok-vec.ensures.items_if_clones_equal (λ _ e. e))) (shows_nothing c.args.nodes)
+
+pub returns-clause-held : goal.returns-clause-held
+returns-clause-held c =
+    let untouched = c.in_ok-vec.ensures.items_if_clones_equal (λ _ e. e) in
+    let held = all_untouched is_held c.args.nodes refl in
+    rw (untouched, held) (trues-false c.args.nodes)

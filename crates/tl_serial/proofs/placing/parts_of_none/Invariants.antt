@@ -1,7 +1,0 @@
-use Rattle.std.proofs.Common.{◌≡◌, [], length}
-use Rattle.tl_serial.specs.Parts.{AreOfNodes, Show}
-use Rattle.tl_serial.proofs.placing.parts_of_none.Given as goal
-
-abbrev pub invariant-loop-call : goal.invariant-loop-call
-invariant-loop-call l =
-    (length l.parts.items ≡ l._call) × AreOfNodes l.nodes l.parts.items × Show l.parts.items []
