@@ -76,7 +76,7 @@ fn row(work: impl Into<String>, unit: &'static str, product: f64, other: f64, go
     }
 }
 
-/// Said of a call alone, where it is short.
+/// Said of a call alone and of `verify`, where they are short.
 const LEVEL: &str = "Both are level: from run to run this is 0.9 to 1.2.";
 
 fn run_row(name: &'static str, code: &[u8], nodes: u16, args: &[i64], times: u32) -> Result<Row, String> {
@@ -116,7 +116,7 @@ fn check_row(name: &'static str, code: &[u8]) -> Result<Row, String> {
         took.product / instructions,
         took.twin / instructions,
         Goal::AsFast(1.0),
-        "The state of the registers is eight bytes, taken apart and put together at each position; the twin has eight bits. Not mended yet.",
+        LEVEL,
     ))
 }
 

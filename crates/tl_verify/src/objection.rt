@@ -53,7 +53,7 @@ fn takes(position: u16, held: RegisterSet, register: NodeRegister) -> Result<(),
     }
 }
 
-/// The registers behind an instruction that doesn't go to its target, or what is wrong with them before it.
+// The registers behind an instruction that doesn't go to its target, or what is wrong with them before it.
 #[inline(always)]
 fn after(position: u16, instr: &Instr, marks: Marks) -> Result<Marks, VerifyFault>
     ensures after { IfOk result (λ m. m ≡ marks_after instr.now marks) }

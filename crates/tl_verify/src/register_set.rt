@@ -48,7 +48,7 @@ impl Eq for RegisterSet {
 }
 
 impl RegisterSet {
-    ghost use Rattle.std.specs.Prelude.{◌≡◌, slice_set, get_or, replicate, true, false};
+    ghost use Rattle.std.specs.Prelude.{◌≡◌, slice_set, get_or, true, false};
     ghost use Rattle.tl_verify.specs.Pass.{first_held};
 
     /// No register.
