@@ -292,10 +292,9 @@ fn order_and_audit() -> Result<Part, String> {
         .into_iter()
         .map(at_size)
         .collect::<Result<Vec<_>, _>>()?;
-    let line = "At a first lock each call in line is asked whether it holds a node, and what is kept of a call is 72 bytes; the twin keeps 32. Not mended yet.";
-    let copies = "`order_of` is a part of it, and each call's locks and frees are copied with their records; the twin refers to them. Not mended yet.";
-    let mut rows = size_rows("order_of", line, &sizes, |size| &size.order);
-    rows.extend(size_rows("audit", copies, &sizes, |size| &size.audit));
+    let level = "Both are near level: from run to run this is 0.9 to 1.1.";
+    let mut rows = size_rows("order_of", level, &sizes, |size| &size.order);
+    rows.extend(size_rows("audit", level, &sizes, |size| &size.audit));
     Ok(versus_twin("The order and the audit of 4,096 calls", rows))
 }
 

@@ -1,13 +1,14 @@
 -- A call's locks and frees against what it does alone.
 use Rattle.std.proofs.Common.{◌≡◌, ℕ, ◌<◌, true, false, List, [], ◌∷◌, ◌++◌, length, get_or, reverse, refl, sym, ap, ◌∙◌, subst, inl, inr, arith}
-use Rattle.std.specs.Prelude.{slice_set}
+use Rattle.std.specs.Prelude.{slice_set, Vec}
+use Rattle.std.specs.declared.alloc.Global.{Global}
 use Rattle.std.proofs.lemmas.Bool.{cases_Bool, cases_eq, both_ways, ne_eqb, eq-eqb}
-use Rattle.std.proofs.lemmas.List.{reverse-append, get_or-set_same, get_or-set_other, length-set}
+use Rattle.std.proofs.lemmas.List.{reverse-append, get_or-set_same, get_or-set_other, get_or-map, length-set, map-append}
 use Rattle.tl_tree.specs.Records.{Record, Records, record_at}
 use Rattle.tl_protocol.specs.declared.action.Action.{Action}
 use Rattle.tl_protocol.specs.declared.action.Action.TheVariants as did
 use Rattle.tl_protocol.specs.declared.event.Event.{Event}
-use Rattle.tl_protocol.specs.declared.event.Event.TheVariants.{Lock, Free}
+use Rattle.tl_protocol.specs.declared.event.Event.TheVariants.{Admit, Lock, Free}
 use Rattle.tl_protocol.specs.Actions.{locked, freed, found_in, with_found, locks_and_frees, EachPermitted}
 use Rattle.tl_protocol.specs.Alone.{EndsOnce, all_taken}
 use Rattle.tl_protocol.specs.History.{part_of}
@@ -21,7 +22,7 @@ use Rattle.tl_machine.proofs.Beginning.{is_alone}
 use Rattle.tl_core.specs.Entries.{no_procedure}
 use Rattle.tl_audit.specs.Trails.{TrailValue, IsTrail, IsCallOf, call_at, code_of, no_call, found_alone}
 use Rattle.tl_audit.specs.Clean.{AreRight, IsGenuine}
-use Rattle.tl_audit.specs.Genuine.{AreFit, AreParts}
+use Rattle.tl_audit.specs.Genuine.{AreFit, AreParts, action_of, actions_at, lists_of}
 use Rattle.tl_audit.proofs.Watching.{right_legal, locked_inside}
 use Rattle.tl_audit.proofs.Replaying.{freed-locks_and_frees}
 
@@ -95,6 +96,16 @@ module _ (t : TrailValue) (trail : IsTrail t) (c : ℕ) (known : c < length t.ca
     genuine_told so = told ∙ so ∙ sym (ap (λ o. locks_and_frees (all_taken o.actions)) found_outcome)
 
 -- ---- one more event among its call's
+
+pub actions_at-more : (events : List Event) (places : List ℕ) (place : ℕ) (e : Event) → e ≡ get_or events place (Admit 0)
+    → actions_at events (places ++ place ∷ []) ≡ actions_at events places ++ action_of e ∷ []
+actions_at-more events places place e at =
+    map-append (λ k. action_of (get_or events k (Admit 0))) places (place ∷ []) ∙ ap (λ d. actions_at events places ++ action_of d ∷ []) (sym at)
+
+pub list_of : (events : List Event) (vectors : List (Vec ℕ Global)) (c : ℕ) (v : Vec ℕ Global) → c < length vectors → v ≡ get_or vectors c v
+    → actions_at events v.items ≡ get_or (lists_of events vectors) c []
+list_of events vectors c v inside is =
+    ap (λ w. actions_at events w.items) is ∙ sym (get_or-map (λ w. actions_at events w.items) vectors c v [] inside)
 
 module _ (lists : List (List Action)) (past : List Event) (c x : ℕ) (r : Record) (inside : c < length lists) (before : AreParts lists past) (new : List Action) where
   pub lock_put : new ≡ get_or lists c [] ++ did.Lock x r ∷ [] → AreParts (slice_set lists c new) (Lock c x r ∷ past)

@@ -1,6 +1,6 @@
 // Each call against its run alone.
 
-ghost use Rattle.std.specs.Prelude.{◌≡◌, ◌≢◌, ◌↔◌, ℕ, ℤ, ◌<◌, List, [], ◌∷◌, length, reverse, slice_get, IsTrue, IfOk, IfErr, OnOk, IfSome, Some, None};
+ghost use Rattle.std.specs.Prelude.{◌≡◌, ◌≢◌, ◌↔◌, ℕ, ℤ, ◌<◌, List, [], ◌∷◌, length, reverse, slice_get, slice_index_or, IsTrue, IfOk, IfErr, OnOk, IfSome, Some, None};
 ghost use Rattle.std.specs.Arc.{arc_value};
 ghost use Rattle.tl_tree.specs.Records.{Records};
 ghost use Rattle.tl_protocol.specs.declared.action.Action.TheVariants as did;
@@ -11,10 +11,11 @@ ghost use Rattle.tl_machine.specs.Outcomes.{outcome_of};
 ghost use Rattle.tl_machine.specs.Turns.{left_of};
 ghost use Rattle.tl_machine.specs.Alone.{alone as run_alone};
 ghost use Rattle.tl_protocol.specs.declared.event.Event.{Event as EventValue};
+ghost use Rattle.tl_protocol.specs.declared.event.Event.TheVariants as happened;
 ghost use Rattle.tl_protocol.specs.History.{caller, part_of};
 ghost use Rattle.tl_audit.specs.Trails.{IsTrail, call_at, code_of};
 ghost use Rattle.tl_audit.specs.Clean.{AreRight, AreDone, AreSo, IsGenuine, RepliesSo, IsFirst};
-ghost use Rattle.tl_audit.specs.Genuine.{AreFit, AreParts, lists_of};
+ghost use Rattle.tl_audit.specs.Genuine.{AreFit, AreParts, action_of, actions_at, lists_of};
 
 use crate::fault::AuditFault;
 use crate::progress::{CALLS_BETWEEN, Progress};
@@ -150,36 +151,60 @@ fn check_call(trail: &Trail, call: u32, actions: &[Action]) -> Result<(), AuditF
     Ok(())
 }
 
-// Puts the event, where it is a lock or a free, last among its call's.
-fn put_in(lists: &mut Vec<Vec<Action>>, event: &Event) -> Result<(), AllocError>
+// Puts the place of the event, where it is a lock or a free, last among its call's.
+fn put_in(lists: &mut Vec<Vec<u32>>, event: &Event, place: u32) -> Result<(), AllocError>
     requires { caller event.now < length lists.old.items }
     ensures size { length lists.new.items ≡ length lists.old.items }
-    ensures more { OnOk result ((past : List EventValue) → AreParts (lists_of lists.old.items) past
-        → AreParts (lists_of lists.new.items) (event.now ∷ past)) }
+    ensures more { OnOk result ((events past : List EventValue) → event.now ≡ slice_index_or events place (happened.Admit 0)
+        → AreParts (lists_of events lists.old.items) past
+        → AreParts (lists_of events lists.new.items) (event.now ∷ past)) }
 {
     match *event {
-        Event::Lock { call, node, found } => {
-            lists[call as usize].push(Action::Lock { node, found })?
-        }
-        Event::Free { call, node, left } => lists[call as usize].push(Action::Free { node, left })?,
+        Event::Lock { call, .. } => lists[call as usize].push(place)?,
+        Event::Free { call, .. } => lists[call as usize].push(place)?,
         Event::Admit { .. } | Event::Done { .. } => {}
     }
     Ok(())
 }
 
-// Of each call its locks and frees, the earliest first.
-fn by_call(alloc: Global, trail: &Trail) -> Result<Vec<Vec<Action>>, AllocError>
+// Of each call the places of its locks and frees among the events, the earliest first.
+fn by_call(alloc: Global, trail: &Trail) -> Result<Vec<Vec<u32>>, AllocError>
     ensures size { IfOk result (λ v. length v.items ≡ length trail.now.calls) }
-    ensures parts { IfOk result (λ v. AreParts (lists_of v.items) trail.now.past) }
+    ensures parts { IfOk result (λ v. AreParts (lists_of (reverse trail.now.past) v.items) trail.now.past) }
 {
     let mut lists = Vec::with_capacity(alloc, trail.calls())?;
     for _call in 0..trail.calls() {
         lists.push(Vec::new(alloc))?;
     }
-    for event in trail.history().events() {
-        put_in(&mut lists, event)?;
+    for (place, event) in trail.history().events().iter().enumerate() {
+        put_in(&mut lists, event, place as u32)?;
     }
     Ok(lists)
+}
+
+// The lock or the free at that place.
+fn action_at(events: &[Event], place: u32) -> Action
+    ensures { result ≡ action_of (slice_index_or events.now place (happened.Admit 0)) }
+{
+    if place as usize >= events.len() {
+        return Action::Plain;
+    }
+    match events[place as usize] {
+        Event::Lock { node, found, .. } => Action::Lock { node, found },
+        Event::Free { node, left, .. } => Action::Free { node, left },
+        Event::Admit { .. } | Event::Done { .. } => Action::Plain,
+    }
+}
+
+// Lays the actions at these places down, where others were.
+fn lay_down(actions: &mut Vec<Action>, events: &[Event], places: &[u32]) -> Result<(), AllocError>
+    ensures { OnOk result (actions.new.items ≡ actions_at events.now places.now) }
+{
+    actions.clear();
+    for place in places {
+        actions.push(action_at(events, *place))?;
+    }
+    Ok(())
 }
 
 /// Whether each call did what its procedure does, and its reply is the one that is told.
@@ -194,11 +219,14 @@ pub(crate) fn check_calls<P: Progress>(
     ensures fault { IfErr result (λ f. f ≢ AuditFault.Memory → IsFirst trail.now f) }
 {
     let lists = by_call(alloc, trail)?;
+    let events = trail.history().events();
+    let mut actions = Vec::new(alloc);
     for call in 0..trail.calls() as u32 {
         if call as usize % CALLS_BETWEEN == 0 {
             progress.run(call as usize, trail.calls());
         }
-        check_call(trail, call, &lists[call as usize])?;
+        lay_down(&mut actions, events, &lists[call as usize])?;
+        check_call(trail, call, &actions)?;
     }
     Ok(())
 }
