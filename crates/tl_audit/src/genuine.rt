@@ -75,30 +75,29 @@ fn replay(turn: &mut Turn, actions: &[Action]) -> Option<Reply>
 {
     let mut used = 0;
     loop {
-        match turn.want() {
-            Want::Local => {
-                turn.step();
-            }
-            Want::Lock(node) => {
+        match turn.advance() {
+            Ok(_) => {}
+            Err(Want::Local) => unreachable!(),
+            Err(Want::Lock(node)) => {
                 let found = lock_at(actions, used, node)?;
                 turn.lock(found);
                 used += 1;
             }
-            Want::Free(node) => {
+            Err(Want::Free(node)) => {
                 let left = turn.free();
                 if !frees_at(actions, used, node, &left) {
                     return None;
                 }
                 used += 1;
             }
-            Want::Return => {
+            Err(Want::Return) => {
                 let reply = turn.finish();
                 if used < actions.len() {
                     return None;
                 }
                 return Some(reply);
             }
-            Want::Over => return None,
+            Err(Want::Over) => return None,
         }
     }
 }

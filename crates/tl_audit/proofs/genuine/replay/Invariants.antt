@@ -7,13 +7,13 @@ use Rattle.tl_audit.specs.Genuine.{AreFit}
 use Rattle.tl_audit.proofs.Replaying.{IsOn}
 use Rattle.tl_audit.proofs.genuine.replay.Given as goal
 
-abbrev pub invariant-loop-turn : goal.invariant-loop-turn
-invariant-loop-turn l = record {
+abbrev pub invariant-loop-node : goal.invariant-loop-node
+invariant-loop-node l = record {
   within : l.used ≤ length l.actions;
   parents : l.turn.parents ≡ l.initial.turn.parents;
   each : (t : Records) → length t ≡ length l.initial.turn.parents → AreFit t (reverse l.actions)
       → IsOn t (left_of l.initial.turn t) l.actions l.used l.turn;
 }
 
-abbrev pub decreases-loop-turn : goal.decreases-loop-turn
-decreases-loop-turn l = budget l.turn.code.instrs - l.turn.call.steps
+abbrev pub decreases-loop-node : goal.decreases-loop-node
+decreases-loop-node l = budget l.turn.code.instrs - l.turn.call.steps
