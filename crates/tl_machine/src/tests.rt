@@ -624,7 +624,8 @@ fn a_turn_is_driven_by_what_it_wants(rt: HostRuntime) -> Result<(), Fail> {
         wants.push(want)?;
         match want {
             Want::Local => {
-                turn.step();
+                let done = turn.advance();
+                assert!(rt; done.is_ok());
             }
             Want::Lock(_) => turn.lock([20, 0, 0, 0]),
             Want::Free(_) => {

@@ -94,18 +94,6 @@ impl Turn {
         }
     }
 
-    /// Does the next instruction, which is local.
-    pub fn step(&mut self) -> Action
-        requires { Wants self.old want.Local }
-        ensures same { self.new ≡ with_call self.old self.new.call }
-        ensures steps { Steps self.old.code.instrs self.old.parents self.old.call result self.new.call }
-    {
-        match step::attempt(&self.procedure, &self.shape, &mut self.call) {
-            Attempt::Done(action) => action,
-            _ => unreachable!(),
-        }
-    }
-
     /// Locks the node that the next instruction locks, which has this record.
     pub fn lock(&mut self, found: Record)
         requires { (x : ℕ) × Wants self.old (want.Lock x) }
