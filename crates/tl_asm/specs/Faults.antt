@@ -1,6 +1,7 @@
 -- The faults: their numbers, and which one comes first.
 use Rattle.std.specs.Prelude.{◌≡◌, ◌⊎◌, ℕ, ◌+◌, ◌<◌, ◌≤◌, List, [], ◌∷◌, length, take, Option, Some, None, slice_get, IsSome}
 use Rattle.std.specs.List.{All}
+use Rattle.tl_instr.specs.declared.code.TheConstants.{MAX_COUNT}
 use Rattle.tl_asm.specs.declared.fault.AsmFault.{AsmFault}
 use Rattle.tl_asm.specs.declared.fault.AsmFault.TheVariants.{BadLine, NoLabel, LabelTwice, TooLong, Memory}
 use Rattle.tl_asm.specs.Statements.{DraftValue, Said}
@@ -18,7 +19,7 @@ numbers_of Memory = 290 ∷ []
 pub record Begin (ss : List (Option Said)) : Type 0 where
   pub in_place : InPlace ss
   pub distinct : Distinct (labels_in 0 ss)
-  pub short : length (drafts_in 1 ss) ≤ 1024
+  pub short : length (drafts_in 1 ss) ≤ MAX_COUNT
 
 -- The lines before line k + 1 begin a text.
 pub record IsReached (ss : List (Option Said)) (k : ℕ) : Type 0 where
@@ -48,7 +49,7 @@ FirstFaultIn ss (BadLine n) =
 FirstFaultIn ss (LabelTwice n) =
     (k : ℕ) × (n ≡ k + 1) × IsReached ss k × InPlace (take (k + 1) ss) × ¬ Distinct (labels_in 0 (take (k + 1) ss))
 FirstFaultIn ss TooLong =
-    (k : ℕ) × IsReached ss k × InPlace (take (k + 1) ss) × Distinct (labels_in 0 (take (k + 1) ss)) × (1024 < length (drafts_in 1 (take (k + 1) ss)))
+    (k : ℕ) × IsReached ss k × InPlace (take (k + 1) ss) × Distinct (labels_in 0 (take (k + 1) ss)) × (MAX_COUNT < length (drafts_in 1 (take (k + 1) ss)))
 FirstFaultIn ss (NoLabel n) = IsFirstAstray ss n
 FirstFaultIn ss Memory = ⊥
 

@@ -5,6 +5,7 @@ use Rattle.std.specs.List.{All}
 use Rattle.tl_instr.specs.declared.instr.Instr.{Instr}
 use Rattle.tl_instr.specs.Codes.{IsArity}
 use Rattle.tl_instr.specs.Instructions.{IsInstr}
+use Rattle.tl_instr.specs.declared.code.TheConstants.{MAX_COUNT}
 use Rattle.tl_asm.specs.declared.fault.AsmFault.{AsmFault}
 use Rattle.tl_asm.specs.declared.fault.AsmFault.TheVariants.{BadLine, NoLabel, LabelTwice, TooLong, Memory}
 use Rattle.tl_asm.specs.declared.sketch.Origin.{Origin}
@@ -43,7 +44,7 @@ IsSketch ss s = Sketched ss s.arity (known s.labels.entries) s.instrs.items (tra
 abbrev pub IsWrongLast : List (Option Said) → AsmFault → Type 0
 IsWrongLast ss (BadLine n) = (n ≡ length ss) × ¬ InPlace ss
 IsWrongLast ss (LabelTwice n) = (n ≡ length ss) × InPlace ss × ¬ Distinct (labels_in 0 ss)
-IsWrongLast ss TooLong = InPlace ss × Distinct (labels_in 0 ss) × (1024 < length (drafts_in 1 ss))
+IsWrongLast ss TooLong = InPlace ss × Distinct (labels_in 0 ss) × (MAX_COUNT < length (drafts_in 1 ss))
 IsWrongLast ss (NoLabel n) = ⊥
 IsWrongLast ss Memory = ⊥
 

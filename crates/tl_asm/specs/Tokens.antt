@@ -4,6 +4,7 @@ use Rattle.std.specs.List.{list_all}
 use Rattle.std.specs.Char.{is_ascii_alphabetic, is_ascii_alphanumeric}
 use Rattle.std.specs.Str.{all_ascii_digits}
 use Rattle.std.specs.Str.Parse.{digits_value}
+use Rattle.tl_asm.specs.declared.token.TheConstants.{MAX_LABEL}
 use Rattle.tl_asm.specs.Words.{Word}
 
 infixl 10 ◌>>=◌
@@ -45,4 +46,4 @@ continues_label b = is_ascii_alphanumeric b || (b == 95)
 -- 1 to 32 of these
 unfoldable pub is_label : Word → Bool
 is_label [] = false
-is_label (b ∷ word) = begins_label b && (nat_lt (length word) 32 && list_all continues_label word)
+is_label (b ∷ word) = begins_label b && (nat_lt (length word) MAX_LABEL && list_all continues_label word)

@@ -60,7 +60,7 @@ impl<'a> Sketch<'a> {
 
     /// The next line has a label.
     fn take_label(&mut self, line: u64, label: &'a [u8]) -> Result<(), AsmFault>
-        requires { length self.now.instrs.items ≤ 1024 }
+        requires { length self.now.instrs.items ≤ MAX_COUNT }
         ensures grown { (ss : List (Option Said)) → IsSketch ss self.old → IfOk result (λ _. IsSketch (ss ++ Some (Names label.entry.now) ∷ []) self.new) }
         ensures fault { (ss : List (Option Said)) → IsSketch ss self.old → line ≡ length ss + 1 → IfErr result (λ f. f ≢ AsmFault.Memory → IsWrongLast (ss ++ Some (Names label.entry.now) ∷ []) f) }
     {

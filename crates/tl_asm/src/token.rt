@@ -119,7 +119,10 @@ fn continues_label(byte: u8) -> bool
     byte.is_ascii_alphanumeric() || byte == b'_'
 }
 
-/// Whether the word may name a position: a letter or `_`, then letters, digits or `_`, at most 32 in all.
+/// How many characters a label has at most.
+pub const MAX_LABEL: usize = 32;
+
+/// Whether the word may name a position: a letter or `_`, then letters, digits or `_`, at most `MAX_LABEL` in all.
 #[tactic(auto, unfolding(crate::specs::Tokens::is_label))]
 pub fn is_label(word: &[u8]) -> bool
     ensures { result ≡ is_label word.now }
@@ -127,5 +130,5 @@ pub fn is_label(word: &[u8]) -> bool
     let Some((first, rest)) = word.split_first() else {
         return false;
     };
-    begins_label(*first) && rest.len() < 32 && all_continue(rest)
+    begins_label(*first) && rest.len() < MAX_LABEL && all_continue(rest)
 }

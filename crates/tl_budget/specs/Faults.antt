@@ -3,6 +3,7 @@ use Rattle.std.specs.Prelude.{ℕ, ◌<◌, ◌≤◌, List, [], ◌∷◌}
 use Rattle.tl_instr.specs.declared.instr.Instr.{Instr}
 use Rattle.tl_budget.specs.declared.fault.NestFault.{NestFault}
 use Rattle.tl_budget.specs.declared.fault.NestFault.TheVariants.{EndAlone, ZeroCount, TooDeep, LoopOpen, StepsOver, LocksOver, EmitsOver, Memory}
+use Rattle.tl_budget.specs.declared.limits.TheConstants.{MAX_STEPS, MAX_LOCKS, MAX_EMITS}
 use Rattle.tl_budget.specs.Loops.{budget, lock_bound, emit_bound}
 
 -- a fault's number, and then its parts
@@ -18,13 +19,13 @@ numbers_of Memory = 390 ∷ []
 
 -- what a procedure may cost
 pub record IsWithinLimits (code : List Instr) : Type 0 where
-  pub steps : budget code ≤ 1000000
-  pub locks : lock_bound code ≤ 4096
-  pub emits : emit_bound code ≤ 32
+  pub steps : budget code ≤ MAX_STEPS
+  pub locks : lock_bound code ≤ MAX_LOCKS
+  pub emits : emit_bound code ≤ MAX_EMITS
 
 -- the first limit that is broken: of the steps, then of the locks, then of the emitted values
 abbrev pub IsOver : List Instr → NestFault → Type 0
-IsOver code StepsOver = 1000000 < budget code
-IsOver code LocksOver = (budget code ≤ 1000000) × (4096 < lock_bound code)
-IsOver code EmitsOver = (budget code ≤ 1000000) × (lock_bound code ≤ 4096) × (32 < emit_bound code)
+IsOver code StepsOver = MAX_STEPS < budget code
+IsOver code LocksOver = (budget code ≤ MAX_STEPS) × (MAX_LOCKS < lock_bound code)
+IsOver code EmitsOver = (budget code ≤ MAX_STEPS) × (lock_bound code ≤ MAX_LOCKS) × (MAX_EMITS < emit_bound code)
 IsOver code f = ⊥

@@ -21,7 +21,7 @@ use crate::stepped::Stepped;
 use std::alloc::Global;
 use std::marker::Model;
 use std::sync::Arc;
-use tl_history::history::{History, MAX_EVENTS};
+use tl_history::{History, MAX_EVENTS};
 use tl_machine::reply::Reply;
 use tl_machine::want::Want;
 use tl_protocol::action::Action;

@@ -4,7 +4,10 @@
 //! and that can't fail.
 #![tactic(auto)]
 
-pub mod fault;
-pub mod history;
+mod fault;
+mod history;
 #[cfg(test)]
 mod tests;
+
+pub use fault::HistoryFault;
+pub use history::{History, MAX_EVENTS};

@@ -1,6 +1,7 @@
 -- The shape of a tree is the list of its nodes' parents. Node 0 is the root.
 use Rattle.std.specs.Prelude.{◌≡◌, ℕ, ◌+◌, ◌<◌, ◌≤◌, ◌==◌, ℤ, pos, negsuc, unsigned_abs, List, [], ◌∷◌, length, map, slice_index, slice_index_or, nat_eq, nat_lt, drop, Bool, true, false, if◌then◌else◌, Option, Some, None, option_map, Result, Ok, Err, Vec}
 use Rattle.std.specs.declared.alloc.Global.{Global}
+use Rattle.tl_tree.specs.declared.shape.TheConstants.{MAX_NODES}
 use Rattle.tl_tree.specs.declared.fault.TreeFault.{TreeFault}
 use Rattle.tl_tree.specs.declared.fault.TreeFault.TheVariants.{Empty, TooMany, BadRoot, BadParent}
 
@@ -10,7 +11,7 @@ parent parents x = slice_index parents x
 -- A tree has 1 to 4,096 nodes. The root is its own parent, and each other node has a parent of a lower number.
 pub record IsTree (parents : List ℕ) : Type 0 where
   pub some : 0 < length parents
-  pub few : length parents ≤ 4096
+  pub few : length parents ≤ MAX_NODES
   pub root : parent parents 0 ≡ 0
   pub lower : (x : ℕ) → 0 < x → x < length parents → parent parents x < x
 
@@ -62,7 +63,7 @@ first_astray x (p ∷ ps) = if is_lower p x then first_astray (x + 1) ps else So
 abbrev pub shape_fault : List ℤ → Option TreeFault
 shape_fault [] = Some Empty
 shape_fault (p ∷ ps) =
-    if nat_lt 4096 (length (p ∷ ps)) then Some TooMany
+    if nat_lt MAX_NODES (length (p ∷ ps)) then Some TooMany
     else (if is_root p then option_map BadParent (first_astray 1 ps) else Some BadRoot)
 
 abbrev pub unless_fault : {X : Type 0} → Option TreeFault → X → Result X TreeFault

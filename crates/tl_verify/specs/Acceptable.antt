@@ -3,6 +3,7 @@ use Rattle.std.specs.Prelude.{◌≡◌, ℕ, ◌<◌, ◌≤◌, List, true, fa
 use Rattle.tl_instr.specs.declared.instr.Instr.{Instr}
 use Rattle.tl_instr.specs.Instructions.{target}
 use Rattle.tl_budget.specs.Loops.{Loop, Matched, IsAround, around, budget, lock_bound, emit_bound}
+use Rattle.tl_budget.specs.declared.limits.TheConstants.{MAX_STEPS, MAX_LOCKS, MAX_EMITS}
 use Rattle.tl_verify.specs.declared.marks.Marks.{Marks}
 use Rattle.tl_verify.specs.Marks.{is_held, entry, source, destination, is_first, is_return, Leads}
 
@@ -43,7 +44,7 @@ pub record Acceptable (code : List Instr) : Type 0 where
   pub inside : (p l : ℕ) (i : Instr) → slice_get code p ≡ Some i → target i ≡ Some l → l < length code
   pub into_none : (p l : ℕ) (i : Instr) → slice_get code p ≡ Some i → target i ≡ Some l
       → (o : ℕ) (k : Loop) → IsAround code o k l → IsAround code o k p
-  pub steps : budget code ≤ 1000000
-  pub locks : lock_bound code ≤ 4096
-  pub emits : emit_bound code ≤ 32
+  pub steps : budget code ≤ MAX_STEPS
+  pub locks : lock_bound code ≤ MAX_LOCKS
+  pub emits : emit_bound code ≤ MAX_EMITS
   pub registers : HasFit code

@@ -5,6 +5,7 @@ use Rattle.tl_instr.specs.Instructions.{target}
 use Rattle.tl_budget.specs.Loops.{Loop, IsAround, loop_at, budget, lock_bound, emit_bound}
 use Rattle.tl_budget.specs.Findings as loops
 use Rattle.tl_budget.specs.declared.fault.NestFault.TheVariants as nest
+use Rattle.tl_budget.specs.declared.limits.TheConstants.{MAX_STEPS, MAX_LOCKS, MAX_EMITS}
 use Rattle.tl_verify.specs.declared.marks.Marks.{Marks}
 use Rattle.tl_verify.specs.declared.fault.VerifyFault.{VerifyFault}
 use Rattle.tl_verify.specs.declared.fault.VerifyFault.TheVariants as fault
@@ -65,9 +66,9 @@ Arises code (Changed p) = (i : Instr) × (m : Marks) × (o : ℕ) × (l : Loop) 
 -- control goes on past the end
 Arises code (NextPastEnd p) = (i : Instr) × (m : Marks) × Meets code p i m × (goes_on i ≡ true) × (length code ≤ p + 1)
 -- the sums are above their limits
-Arises code Steps = 1000000 < budget code
-Arises code Locks = 4096 < lock_bound code
-Arises code Emits = 32 < emit_bound code
+Arises code Steps = MAX_STEPS < budget code
+Arises code Locks = MAX_LOCKS < lock_bound code
+Arises code Emits = MAX_EMITS < emit_bound code
 
 -- what is looked at first: loops, in two passes, then targets, then registers, then sums
 abbrev pub pass : Finding → ℕ

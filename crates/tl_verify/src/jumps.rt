@@ -7,11 +7,12 @@ ghost use Rattle.tl_verify.specs.Known.{Ahead};
 
 use crate::fault::VerifyFault;
 use tl_budget::nested::Nest;
+use tl_instr::code::MAX_COUNT;
 use tl_instr::instr::Instr;
 
 /// The first target that isn't ahead of its jump, or is past the end, or in a loop that the jump isn't in.
 pub fn jumps(code: &[Instr], nest: &Nest) -> Option<VerifyFault>
-    requires short { length code.now ≤ 1024 }
+    requires short { length code.now ≤ MAX_COUNT }
     requires nest { IsNest code.now nest.now }
     ensures fault { IfSome result (IsFirstFault code.now) }
     ensures ahead { IfNone result (Ahead code.now) }

@@ -15,6 +15,7 @@ use crate::marks::Marks;
 use crate::objection::{goes_on, is_end, objection};
 use std::alloc::{AllocError, Global};
 use tl_budget::nested::Nest;
+use tl_instr::code::MAX_COUNT;
 use tl_instr::instr::Instr;
 
 // The states behind an instruction come to where it leads.
@@ -65,7 +66,7 @@ fn is_changed(
 
 // Visits each position that has a state.
 fn walk(code: &[Instr], nest: &Nest, states: &mut [Option<Arrivals>]) -> Option<VerifyFault>
-    requires short { length code.now ≤ 1024 }
+    requires short { length code.now ≤ MAX_COUNT }
     requires nest { IsNest code.now nest.now }
     requires ahead { Ahead code.now }
     requires known { Known code.now 0 states.old }
@@ -95,7 +96,7 @@ pub fn registers(
     nest: &Nest,
 ) -> Result<Option<VerifyFault>, AllocError>
     requires some { 0 < length code.now }
-    requires short { length code.now ≤ 1024 }
+    requires short { length code.now ≤ MAX_COUNT }
     requires nest { IsNest code.now nest.now }
     requires ahead { Ahead code.now }
     ensures { IfOk result (λ o. MatchOption o (HasFit code.now) (IsFirstFault code.now)) }
