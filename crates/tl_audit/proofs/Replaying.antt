@@ -12,10 +12,11 @@ use Rattle.tl_protocol.proofs.Places.{reverse-taken}
 use Rattle.tl_machine.specs.Runs.{Run, Then, Ended, actions, emitted as newly}
 use Rattle.tl_machine.specs.Call.{in_tree, reply_so_far}
 use Rattle.tl_machine.specs.Stands.{run_left, Steps, Locks, Frees, Ends, Counts}
-use Rattle.tl_machine.specs.Turns.{TurnValue, Wants, with_call}
+use Rattle.tl_machine.specs.Turns.{TurnValue, Wants, Stops, with_call}
 use Rattle.tl_machine.specs.Wants.{want_of}
 use Rattle.tl_machine.specs.declared.want.Want.{Want}
 use Rattle.tl_machine.specs.declared.want.Want.TheVariants as want
+use Rattle.tl_machine.specs.declared.want.Stop.TheVariants as stop
 use Rattle.tl_machine.specs.declared.call.CallState.{CallState}
 use Rattle.tl_core.specs.Kept.{after_done, with_left}
 use Rattle.tl_core.proofs.Along.{onto, actions-after_done, length-with_left, unfreed}
@@ -237,9 +238,9 @@ module _ (t : Records) (whole : Run) (given : List Action) (used : ℕ) (turn : 
   wanted : (w : Want) → Wants turn w → want_of (run_left turn.code.instrs turn.parents turn.call (with_left h.done t)) ≡ w
   wanted w wants = wants (with_left h.done t) size_left
 
-  pub next_lock : (x : ℕ) → Wants turn (want.Lock x) → used ≤ length given → AreSame → (found : Record) × (slice_get given used ≡ Some (did.Lock x found))
+  pub next_lock : (x : ℕ) → Stops turn (stop.Lock x) → used ≤ length given → AreSame → (found : Record) × (slice_get given used ≡ Some (did.Lock x found))
   next_lock x wants within same =
-      let first = lock_first (run_left turn.code.instrs turn.parents turn.call (with_left h.done t)) x (wanted (want.Lock x) wants) in
+      let first = lock_first (run_left turn.code.instrs turn.parents turn.call (with_left h.done t)) x (wanted (want.Stop (stop.Lock x)) wants) in
       let e = rest_is within same (Then (did.Lock x first.0) first.1) first.2 in
       (first.0, slice_get-drop given used ∙ ap (λ l. slice_get l 0) e)
 
@@ -270,9 +271,9 @@ module _ (t : Records) (whole : Run) (given : List Action) (used : ℕ) (turn : 
         ∙ sym (ap newly (ap actions h.runs ∙ actions-after_done h.done (run_left turn.code.instrs turn.parents turn.call (with_left h.done t)) ∙ ap (λ r. onto h.done (actions r)) ending))
 
   -- a run that ends isn't over before its end
-  pub not_over : EndsOnce (actions whole) → Wants turn want.Over → ⊥
+  pub not_over : EndsOnce (actions whole) → Stops turn stop.Over → ⊥
   not_over once wants =
-      let none = over_none (run_left turn.code.instrs turn.parents turn.call (with_left h.done t)) (wanted want.Over wants) in
+      let none = over_none (run_left turn.code.instrs turn.parents turn.call (with_left h.done t)) (wanted (want.Stop stop.Over) wants) in
       let acts : actions whole ≡ onto h.done [] =
       ap actions h.runs ∙ actions-after_done h.done (run_left turn.code.instrs turn.parents turn.call (with_left h.done t)) ∙ ap (onto h.done) none in
       both_ways (has_ended (onto h.done [])) (no_end-onto h.done [] h.goes_on refl) (ap has_ended (sym acts) ∙ ends_has (actions whole) once)
@@ -282,9 +283,6 @@ pub on_start : (t : Records) (given : List Action) (turn : TurnValue) → reply_
     → IsOn t (run_left turn.code.instrs turn.parents turn.call t) given 0 turn
 on_start t given turn reply = record { done = []; runs = refl; reply = reply; told = refl; goes_on = refl }
 
--- a turn wants one thing
-pub one_lock : (turn : TurnValue) (t : Records) → length t ≡ length turn.parents → (x y : ℕ) → Wants turn (want.Lock x) → Wants turn (want.Lock y) → x ≡ y
-one_lock turn t size x y wx wy = let e : want.Lock x ≡ want.Lock y = sym (wx t size) ∙ wy t size in cc
-
-pub one_free : (turn : TurnValue) (t : Records) → length t ≡ length turn.parents → (x y : ℕ) → Wants turn (want.Free x) → Wants turn (want.Free y) → x ≡ y
-one_free turn t size x y wx wy = let e : want.Free x ≡ want.Free y = sym (wx t size) ∙ wy t size in cc
+-- a turn stops at one place
+pub one_free : (turn : TurnValue) (t : Records) → length t ≡ length turn.parents → (x y : ℕ) → Stops turn (stop.Free x) → Stops turn (stop.Free y) → x ≡ y
+one_free turn t size x y wx wy = let e : want.Stop (stop.Free x) ≡ want.Stop (stop.Free y) = sym (wx t size) ∙ wy t size in cc

@@ -24,7 +24,7 @@ use std::alloc::{AllocError, Global};
 use std::sync::Arc;
 use tl_machine::reply::Reply;
 use tl_machine::turn::Turn;
-use tl_machine::want::Want;
+use tl_machine::want::{Advance, Stop};
 use tl_protocol::action::Action;
 use tl_protocol::event::Event;
 use tl_tree::record::Record;
@@ -76,28 +76,27 @@ fn replay(turn: &mut Turn, actions: &[Action]) -> Option<Reply>
     let mut used = 0;
     loop {
         match turn.advance() {
-            Ok(_) => {}
-            Err(Want::Local) => unreachable!(),
-            Err(Want::Lock(node)) => {
+            Advance::Did(_) => {}
+            Advance::Stopped(Stop::Lock(node)) => {
                 let found = lock_at(actions, used, node)?;
-                turn.lock(found);
+                turn.lock_node(node, found);
                 used += 1;
             }
-            Err(Want::Free(node)) => {
+            Advance::Stopped(Stop::Free(node)) => {
                 let left = turn.free();
                 if !frees_at(actions, used, node, &left) {
                     return None;
                 }
                 used += 1;
             }
-            Err(Want::Return) => {
+            Advance::Stopped(Stop::Return) => {
                 let reply = turn.finish();
                 if used < actions.len() {
                     return None;
                 }
                 return Some(reply);
             }
-            Err(Want::Over) => return None,
+            Advance::Stopped(Stop::Over) => return None,
         }
     }
 }

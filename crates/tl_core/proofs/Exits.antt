@@ -21,9 +21,10 @@ use Rattle.tl_machine.specs.Runs.{Run, Then}
 use Rattle.tl_machine.specs.Outcomes.{meaning}
 use Rattle.tl_machine.specs.Call.{reply_so_far}
 use Rattle.tl_machine.specs.Stands.{IsLocal, Steps, Locks, Frees, Ends, run_left}
-use Rattle.tl_machine.specs.Turns.{TurnValue, IsTurn, running, over, Wants, with_call}
+use Rattle.tl_machine.specs.Turns.{TurnValue, IsTurn, running, over, Wants, Stops, with_call}
 use Rattle.tl_machine.specs.declared.call.CallState.{CallState}
 use Rattle.tl_machine.specs.declared.want.Want.TheVariants as want
+use Rattle.tl_machine.specs.declared.want.Stop.TheVariants as stop
 use Rattle.tl_machine.proofs.Beginning.{few_locks}
 use Rattle.tl_core.specs.declared.call.Call.{Call}
 use Rattle.tl_core.specs.declared.stepped.Stepped.TheVariants.{Moved, Blocked}
@@ -167,9 +168,9 @@ module _ (v : CoreValue) (now : TreeValue) (kept : List Call) (holders : List (O
 
   -- ---- a lock
 
-  module _ (x : ℕ) (wants : Wants k.turn (want.Lock x)) where
+  module _ (x : ℕ) (wants : Stops k.turn (stop.Lock x)) where
     the_lock : (found : Record) × (more : Run) × (rest v now kept holders unfinished reserved h c k at ≡ Then (did.Lock x found) more)
-    the_lock = lock_first (rest v now kept holders unfinished reserved h c k at) x (wants_here v now kept holders unfinished reserved h c k at (want.Lock x) wants)
+    the_lock = lock_first (rest v now kept holders unfinished reserved h c k at) x (wants_here v now kept holders unfinished reserved h c k at (want.Stop (stop.Lock x)) wants)
 
     pub inside_tree : x < length v.parents
     inside_tree =
@@ -223,16 +224,12 @@ module _ (v : CoreValue) (now : TreeValue) (kept : List Call) (holders : List (O
           ∙ moves v now kept holders unfinished reserved h c k at (did.Lock x the_lock.0) the_lock.1 the_lock.2 no_one
 
       module _ (turn2 : TurnValue) (same : turn2 ≡ with_call k.turn turn2.call)
-          (locked : (y : ℕ) × Wants k.turn (want.Lock y) × Locks k.turn.code.instrs k.turn.parents k.turn.call y found turn2.call)
+          (locked : Locks k.turn.code.instrs k.turn.parents k.turn.call x found turn2.call)
           (history2 : Stored) (appended : history2 ≡ record { past = event.Lock c x found ∷ v.past; limit = v.limit; reserved = reserved - 1 }) where
         lock_here : Locks k.turn.code.instrs v.parents k.turn.call x (record_now v.past v.opening x) turn2.call
         lock_here =
-            let mine = wants_here v now kept holders unfinished reserved h c k at in
-            let both : want.Lock locked.0 ≡ want.Lock x = sym (mine (want.Lock locked.0) locked.1) ∙ mine (want.Lock x) wants in
-            let node : locked.0 ≡ x = cc in
-            subst (λ y. Locks k.turn.code.instrs v.parents k.turn.call y (record_now v.past v.opening x) turn2.call) node
-            (subst (λ r. Locks k.turn.code.instrs v.parents k.turn.call locked.0 r turn2.call) record_is
-            (subst (λ ps. Locks k.turn.code.instrs ps k.turn.call locked.0 found turn2.call) (keep v now kept holders unfinished reserved h c k at).shape locked.2))
+            subst (λ r. Locks k.turn.code.instrs v.parents k.turn.call x r turn2.call) record_is
+            (subst (λ ps. Locks k.turn.code.instrs ps k.turn.call x found turn2.call) (keep v now kept holders unfinished reserved h c k at).shape locked)
 
         past_is : history2.past ≡ event.Lock c x (record_now v.past v.opening x) ∷ v.past
         past_is = ap (λ z. z.past) appended ∙ ap (λ r. event.Lock c x r ∷ v.past) record_is
@@ -263,12 +260,12 @@ module _ (v : CoreValue) (now : TreeValue) (kept : List Call) (holders : List (O
 
   -- ---- a free
 
-  module _ (x : ℕ) (wants : Wants k.turn (want.Free x)) (left : Record) (turn2 : TurnValue) (same : turn2 ≡ with_call k.turn turn2.call)
-      (freed : (y : ℕ) × Wants k.turn (want.Free y) × Frees k.turn.code.instrs k.turn.parents k.turn.call y left turn2.call) where
+  module _ (x : ℕ) (wants : Stops k.turn (stop.Free x)) (left : Record) (turn2 : TurnValue) (same : turn2 ≡ with_call k.turn turn2.call)
+      (freed : (y : ℕ) × Stops k.turn (stop.Free y) × Frees k.turn.code.instrs k.turn.parents k.turn.call y left turn2.call) where
     free_here : Frees k.turn.code.instrs v.parents k.turn.call x left turn2.call
     free_here =
         let mine = wants_here v now kept holders unfinished reserved h c k at in
-        let both : want.Free freed.0 ≡ want.Free x = sym (mine (want.Free freed.0) freed.1) ∙ mine (want.Free x) wants in
+        let both : want.Stop (stop.Free freed.0) ≡ want.Stop (stop.Free x) = sym (mine (want.Stop (stop.Free freed.0)) freed.1) ∙ mine (want.Stop (stop.Free x)) wants in
         let node : freed.0 ≡ x = cc in
         subst (λ y. Frees k.turn.code.instrs v.parents k.turn.call y left turn2.call) node
         (subst (λ ps. Frees k.turn.code.instrs ps k.turn.call freed.0 left turn2.call) (keep v now kept holders unfinished reserved h c k at).shape freed.2)

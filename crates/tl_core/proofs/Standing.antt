@@ -17,10 +17,11 @@ use Rattle.tl_protocol.proofs.Reached.{sound_after_step}
 use Rattle.tl_machine.specs.Runs.{Run, Then, At, Ended, actions}
 use Rattle.tl_machine.specs.Outcomes.{meaning}
 use Rattle.tl_machine.specs.Stands.{run_left}
-use Rattle.tl_machine.specs.Turns.{Wants}
+use Rattle.tl_machine.specs.Turns.{Wants, Stops}
 use Rattle.tl_machine.specs.Wants.{want_of}
 use Rattle.tl_machine.specs.declared.want.Want.{Want}
 use Rattle.tl_machine.specs.declared.want.Want.TheVariants as want
+use Rattle.tl_machine.specs.declared.want.Stop.TheVariants as stop
 use Rattle.tl_core.specs.declared.call.Call.{Call}
 use Rattle.tl_core.specs.declared.stepped.Stepped.TheVariants.{Over}
 use Rattle.tl_core.specs.Cores.{CallValue, CoreValue, no_call, call_of, world_of}
@@ -30,7 +31,7 @@ use Rattle.tl_core.proofs.Along.{onto, actions-after_done, length-onto, at-onto,
 
 -- ---- the first action of a run
 
-pub lock_first : (r : Run) (x : ℕ) → want_of r ≡ want.Lock x → (found : Record) × (more : Run) × (r ≡ Then (did.Lock x found) more)
+pub lock_first : (r : Run) (x : ℕ) → want_of r ≡ want.Stop (stop.Lock x) → (found : Record) × (more : Run) × (r ≡ Then (did.Lock x found) more)
 lock_first (Then (did.Lock y found) more) x h = let e : y ≡ x = cc in (found, more, ap (λ z. Then (did.Lock z found) more) e)
 lock_first (Then (did.Free y left) more) x h = absurd cc
 lock_first (Then did.End more) x h = absurd cc
@@ -41,7 +42,7 @@ lock_first (Then (did.Emit n) more) x h = absurd cc
 lock_first (At p s) x h = absurd cc
 lock_first (Ended s) x h = absurd cc
 
-pub over_none : (r : Run) → want_of r ≡ want.Over → actions r ≡ []
+pub over_none : (r : Run) → want_of r ≡ want.Stop stop.Over → actions r ≡ []
 over_none (Then (did.Lock y found) more) h = absurd cc
 over_none (Then (did.Free y left) more) h = absurd cc
 over_none (Then did.End more) h = absurd cc
@@ -113,9 +114,9 @@ module _ (v : CoreValue) (now : TreeValue) (kept : List Call) (holders : List (O
 
   -- ---- with no action left it is done
 
-  pub over_answer : Wants k.turn want.Over → Ok Over ≡ step_answer (world_of v) c
+  pub over_answer : Stops k.turn stop.Over → Ok Over ≡ step_answer (world_of v) c
   over_answer wants =
-      let none : length (actions rest) ≡ 0 = ap length (over_none rest (wants_here want.Over wants)) in
+      let none : length (actions rest) ≡ 0 = ap length (over_none rest (wants_here (want.Stop stop.Over) wants)) in
       let over : is_done c v.past ≡ true = ended ∙ eq-eqb (length keep.done) (length keep.done + length (actions rest)) (omega arith) in
       let known = lt-ltb c (admits v.past) admitted in
       rw (known, over) refl

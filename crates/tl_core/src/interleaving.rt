@@ -23,7 +23,7 @@ use std::marker::Model;
 use std::sync::Arc;
 use tl_history::{History, MAX_EVENTS};
 use tl_machine::reply::Reply;
-use tl_machine::want::Want;
+use tl_machine::want::{Advance, Stop, Want};
 use tl_protocol::action::Action;
 use tl_protocol::event::Event;
 use tl_tree::record::Record;
@@ -121,16 +121,15 @@ impl Core {
         }
         let current = &mut self.calls[index];
         match current.turn.advance() {
-            Ok(action) => Ok(Stepped::Moved { action }),
-            Err(Want::Over) => Ok(Stepped::Over),
-            Err(Want::Local) => unreachable!(),
-            Err(Want::Lock(node)) => {
+            Advance::Did(action) => Ok(Stepped::Moved { action }),
+            Advance::Stopped(Stop::Over) => Ok(Stepped::Over),
+            Advance::Stopped(Stop::Lock(node)) => {
                 let held_by = self.holders[usize::from(node)];
                 if let Some(holder) = held_by {
                     return Ok(Stepped::Blocked { node, holder });
                 }
                 let found = self.latest.record_at(node);
-                current.turn.lock(found);
+                current.turn.lock_node(node, found);
                 current.places -= 1;
                 self.holders[usize::from(node)] = Some(call);
                 self.history.append(Event::Lock { call, node, found });
@@ -138,7 +137,7 @@ impl Core {
                     action: Action::Lock { node, found },
                 })
             }
-            Err(Want::Free(node)) => {
+            Advance::Stopped(Stop::Free(node)) => {
                 let left = current.turn.free();
                 current.places -= 1;
                 self.latest.put_at(node, left);
@@ -148,7 +147,7 @@ impl Core {
                     action: Action::Free { node, left },
                 })
             }
-            Err(Want::Return) => {
+            Advance::Stopped(Stop::Return) => {
                 current.reply = Some(current.turn.finish());
                 self.history.append(Event::Done { call });
                 self.history.give_back(current.places - 1);
@@ -230,13 +229,16 @@ impl Core {
         if index >= self.calls.len() {
             return Err(CoreFault::NoCall);
         }
-        match self.calls[index].turn.want() {
-            Want::Over => Ok(false),
-            Want::Lock(node) => {
+        let Want::Stop(stop) = self.calls[index].turn.want() else {
+            return Ok(true);
+        };
+        match stop {
+            Stop::Over => Ok(false),
+            Stop::Lock(node) => {
                 let held_by = self.holders[usize::from(node)];
                 Ok(held_by.is_none())
             }
-            Want::Local | Want::Free(_) | Want::Return => Ok(true),
+            Stop::Free(_) | Stop::Return => Ok(true),
         }
     }
 

@@ -7,12 +7,11 @@ ghost use Rattle.tl_machine.specs.Stands.{Stands, run_left};
 ghost use Rattle.tl_machine.specs.Outcomes.{IsAnswer, outcome_of};
 ghost use Rattle.tl_machine.specs.Alone.{alone as run_alone};
 
-use crate::attempt::Attempt;
 use crate::call::CallState;
 use crate::fault::WrongArgs;
 use crate::reply::Reply;
 use crate::start::start;
-use crate::step::{attempt, finish, free, lock};
+use crate::want::{Advance, Stop};
 use std::sync::Arc;
 use tl_tree::tree::Tree;
 use tl_verify::procedure::Proc;
@@ -34,18 +33,18 @@ fn run(procedure: &Proc, mut call: CallState, tree: &mut Tree) -> Answer
     ensures tree { tree.new ≡ record tree.old { records = (outcome_of (run_left procedure.now.instrs tree.old.parents call tree.old.records)).tree } }
 {
     loop {
-        match attempt(procedure, tree.shape(), &mut call) {
-            Attempt::Done(_) => {}
-            Attempt::Lock(node) => {
+        match call.advance(procedure, tree.shape()) {
+            Advance::Did(_) => {}
+            Advance::Stopped(Stop::Lock(node)) => {
                 let found = tree.record_at(node);
-                lock(procedure, tree.shape(), &mut call, found);
+                call.lock(procedure, tree.shape(), node, found);
             }
-            Attempt::Free(_) => {
-                let held = free(procedure, tree.shape(), &mut call);
-                tree.put_at(held.node, held.record);
+            Advance::Stopped(Stop::Free(node)) => {
+                let left = call.free(procedure, tree.shape());
+                tree.put_at(node, left);
             }
-            Attempt::Finish => {
-                finish(procedure, tree.shape(), &mut call);
+            Advance::Stopped(Stop::Return) => call.finish(procedure, tree.shape()),
+            Advance::Stopped(Stop::Over) => {
                 return Answer {
                     reply: Reply::of(&call),
                     steps: call.steps,

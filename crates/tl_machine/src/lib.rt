@@ -2,7 +2,6 @@
 #![tactic(auto)]
 
 pub mod alone_run;
-mod attempt;
 pub mod call;
 pub mod fault;
 pub mod laws;

@@ -5,7 +5,7 @@ ghost use Rattle.tl_instr.specs.declared.instr.Instr.TheVariants as instr;
 ghost use Rattle.tl_tree.specs.Records.{Records};
 ghost use Rattle.tl_machine.specs.Alone.{effect};
 ghost use Rattle.tl_machine.specs.declared.call.HeldNode.{HeldNode as HeldNode'};
-ghost use Rattle.tl_machine.specs.Call.{in_tree, held_view, Distinct, AreIn, IsHeld, Takes};
+ghost use Rattle.tl_machine.specs.Call.{in_tree, held_view, Distinct, AreIn, IsHeld, Takes, MayGoOn};
 
 use crate::call::CallState;
 use tl_instr::operand::{Field, NodeRegister, ValueRegister};
@@ -16,8 +16,7 @@ use tl_tree::shape::Shape;
 pub fn get(call: &mut CallState, to: ValueRegister, node: NodeRegister, field: Field) -> Action
     requires node { (h : HeldNode') × IsHeld call.old.nodes node h }
     requires distinct { Distinct (held_view call.old.nodes) }
-    requires position { call.old.position < 1024 }
-    requires steps { call.old.steps < 1000000 }
+    requires on { MayGoOn call.old }
     ensures { (parents : List ℕ) (t : Records) → AreIn (length t) (held_view call.old.nodes) → Takes (effect parents (instr.Get to node field) call.old.position (in_tree call.old t)) call.old result call.new t }
 {
     let Some(held) = &call.nodes[node.index()] else {
@@ -38,8 +37,7 @@ pub fn get(call: &mut CallState, to: ValueRegister, node: NodeRegister, field: F
 pub fn put(call: &mut CallState, node: NodeRegister, field: Field, from: ValueRegister) -> Action
     requires node { (h : HeldNode') × IsHeld call.old.nodes node h }
     requires distinct { Distinct (held_view call.old.nodes) }
-    requires position { call.old.position < 1024 }
-    requires steps { call.old.steps < 1000000 }
+    requires on { MayGoOn call.old }
     ensures { (parents : List ℕ) (t : Records) → AreIn (length t) (held_view call.old.nodes) → Takes (effect parents (instr.Put node field from) call.old.position (in_tree call.old t)) call.old result call.new t }
 {
     let value = call.values[from.index()];
@@ -60,8 +58,7 @@ pub fn put(call: &mut CallState, node: NodeRegister, field: Field, from: ValueRe
 pub fn kids(call: &mut CallState, shape: &Shape, to: ValueRegister, node: NodeRegister) -> Action
     requires node { (h : HeldNode') × IsHeld call.old.nodes node h }
     requires inside { AreIn (length shape.now) (held_view call.old.nodes) }
-    requires position { call.old.position < 1024 }
-    requires steps { call.old.steps < 1000000 }
+    requires on { MayGoOn call.old }
     ensures { (t : Records) → Takes (effect shape.now (instr.Kids to node) call.old.position (in_tree call.old t)) call.old result call.new t }
 {
     let Some(held) = &call.nodes[node.index()] else {
@@ -77,8 +74,7 @@ pub fn move_node(call: &mut CallState, to: NodeRegister, from: NodeRegister) -> 
     requires node { (h : HeldNode') × IsHeld call.old.nodes from h }
     requires empty { get_or call.old.nodes to None ≡ None }
     requires distinct { Distinct (held_view call.old.nodes) }
-    requires position { call.old.position < 1024 }
-    requires steps { call.old.steps < 1000000 }
+    requires on { MayGoOn call.old }
     ensures { (parents : List ℕ) (t : Records) → Takes (effect parents (instr.Move to from) call.old.position (in_tree call.old t)) call.old result call.new t }
 {
     let held = call.nodes[from.index()];

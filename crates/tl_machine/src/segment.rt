@@ -1,29 +1,26 @@
 // What a call does by itself.
 
-ghost use Rattle.std.specs.Prelude.{◌≡◌, ◌≢◌};
+ghost use Rattle.std.specs.Prelude.{◌≡◌};
 ghost use Rattle.std.specs.Arc.{arc_value};
-ghost use Rattle.tl_machine.specs.Turns.{IsTurn, IsSegment, Follows, Wants};
-ghost use Rattle.tl_machine.specs.declared.want.Want.TheVariants as want;
+ghost use Rattle.tl_machine.specs.Turns.{IsTurn, IsSegment, Follows, Stops};
 
-use crate::attempt::Attempt;
 use crate::call::CallState;
-use crate::step::attempt;
 use crate::turn::Turn;
-use crate::want::Want;
+use crate::want::{Advance, Stop};
 use std::marker::Model;
 use std::sync::Arc;
 use tl_tree::shape::Shape;
 use tl_verify::procedure::Proc;
 
-/// The local instructions that a call did in a row: the state from which it did them, the one to which they led, and what
-/// it wants then. By its type the second state comes from the first by local instructions. Only `local` makes one.
+/// The local instructions that a call did in a row: the state from which it did them, the one to which they led, and where
+/// it stops then. By its type the second state comes from the first by local instructions. Only `local` makes one.
 #[derive(Debug, Drop)]
 pub struct Segment {
     procedure: Arc<Proc>,
     shape: Arc<Shape>,
     from: CallState,
     to: CallState,
-    stop: Want,
+    stop: Stop,
 }
 
 impl Model for Segment {
@@ -68,8 +65,8 @@ impl Segment {
         &self.to
     }
 
-    /// What the call wants behind the last of them, which is never local.
-    pub fn stop(&self) -> Want
+    /// Where the call stops behind the last of them.
+    pub fn stop(&self) -> Stop
         ensures stop { result ≡ self.now.stop }
         ensures segment { IsSegment self.now }
     {
@@ -78,22 +75,16 @@ impl Segment {
 }
 
 // Does local instructions as long as the next one is local.
-fn run_local(procedure: &Proc, shape: &Shape, call: &mut CallState) -> Want
+fn run_local(procedure: &Proc, shape: &Shape, call: &mut CallState) -> Stop
     requires { IsTurn procedure.now.instrs shape.now call.old }
     ensures turn { IsTurn procedure.now.instrs shape.now call.new }
     ensures follows { Follows procedure.now.instrs shape.now call.old call.new }
-    ensures stop { Wants (record { code = procedure.now; parents = shape.now; call = call.new }) result }
-    ensures waits { result ≢ want.Local }
+    ensures stop { Stops (record { code = procedure.now; parents = shape.now; call = call.new }) result }
 {
-    if call.is_over {
-        return Want::Over;
-    }
     loop {
-        match attempt(procedure, shape, call) {
-            Attempt::Done(_) => {}
-            Attempt::Lock(node) => return Want::Lock(node),
-            Attempt::Free(node) => return Want::Free(node),
-            Attempt::Finish => return Want::Return,
+        match call.advance(procedure, shape) {
+            Advance::Did(_) => {}
+            Advance::Stopped(stop) => return stop,
         }
     }
 }

@@ -1,6 +1,6 @@
 // A call's turn.
 
-ghost use Rattle.std.specs.Prelude.{◌≡◌, ◌≢◌, ◌↔◌, ℕ, List, [], length, take, IsOk, IfOk, IfErr, OnErr};
+ghost use Rattle.std.specs.Prelude.{◌≡◌, ◌≢◌, ◌↔◌, ℕ, List, [], length, take, IsOk, IfOk};
 ghost use Rattle.std.specs.Arc.{arc_value};
 ghost use Rattle.tl_tree.specs.Records.{Records, record_at, put_record};
 ghost use Rattle.tl_protocol.specs.declared.action.Action.TheVariants as did;
@@ -8,15 +8,15 @@ ghost use Rattle.tl_machine.specs.Runs.{Then, Ended};
 ghost use Rattle.tl_machine.specs.Alone.{alone as run_alone};
 ghost use Rattle.tl_machine.specs.Call.{in_tree, reply_so_far};
 ghost use Rattle.tl_machine.specs.Stands.{Steps, Locks, Frees, Ends};
-ghost use Rattle.tl_machine.specs.Turns.{IsTurn, Wants, left_of, with_call};
+ghost use Rattle.tl_machine.specs.Turns.{IsTurn, Wants, Stops, IfDid, IfStopped, left_of, with_call};
 ghost use Rattle.tl_machine.specs.declared.want.Want.TheVariants as want;
+ghost use Rattle.tl_machine.specs.declared.want.Stop.TheVariants as stop;
 
-use crate::attempt::Attempt;
 use crate::call::CallState;
 use crate::fault::WrongArgs;
 use crate::reply::Reply;
-use crate::want::Want;
-use crate::{start, step};
+use crate::start;
+use crate::want::{Advance, Stop, Want};
 use std::marker::Model;
 use std::sync::Arc;
 use tl_protocol::action::Action;
@@ -64,62 +64,81 @@ impl Turn {
         })
     }
 
-    /// What the next instruction needs to be done.
+    /// What the next instruction needs.
     pub fn want(&self) -> Want
         ensures { Wants self.now result }
     {
         if self.call.is_over {
-            return Want::Over;
+            return Want::Stop(Stop::Over);
         }
-        step::next(&self.procedure, &self.shape, &self.call)
+        self.call.next_want(&self.procedure, &self.shape)
     }
 
-    /// Does the next instruction, if it is local. Else it says what the call wants, and changes nothing.
+    /// Does the next instruction, if it is local. Else it says where the call stops, and changes nothing.
     #[inline(always)]
-    pub fn advance(&mut self) -> Result<Action, Want>
+    pub fn advance(&mut self) -> Advance
         ensures same { self.new ≡ with_call self.old self.new.call }
-        ensures steps { IfOk result (λ act. Steps self.old.code.instrs self.old.parents self.old.call act self.new.call) }
-        ensures wants { IfErr result (λ w. Wants self.old w) }
-        ensures waits { IfErr result (λ w. w ≢ want.Local) }
-        ensures unchanged { OnErr result (self.new ≡ self.old) }
+        ensures steps { IfDid result (λ act. Steps self.old.code.instrs self.old.parents self.old.call act self.new.call) }
+        ensures stops { IfStopped result (Stops self.old) }
+        ensures unchanged { IfStopped result (λ _. self.new ≡ self.old) }
     {
-        if self.call.is_over {
-            return Err(Want::Over);
-        }
-        match step::attempt(&self.procedure, &self.shape, &mut self.call) {
-            Attempt::Done(action) => Ok(action),
-            Attempt::Lock(node) => Err(Want::Lock(node)),
-            Attempt::Free(node) => Err(Want::Free(node)),
-            Attempt::Finish => Err(Want::Return),
+        self.call.advance(&self.procedure, &self.shape)
+    }
+
+    /// Does the next instruction, which is local.
+    pub fn step(&mut self) -> Action
+        requires { Wants self.old want.Local }
+        ensures same { self.new ≡ with_call self.old self.new.call }
+        ensures steps { Steps self.old.code.instrs self.old.parents self.old.call result self.new.call }
+    {
+        match self.call.advance(&self.procedure, &self.shape) {
+            Advance::Did(action) => action,
+            Advance::Stopped(_) => unreachable!(),
         }
     }
 
     /// Locks the node that the next instruction locks, which has this record.
     pub fn lock(&mut self, found: Record)
-        requires { (x : ℕ) × Wants self.old (want.Lock x) }
+        requires { (x : ℕ) × Stops self.old (stop.Lock x) }
         ensures same { self.new ≡ with_call self.old self.new.call }
-        ensures locks { (x : ℕ) × Wants self.old (want.Lock x) × Locks self.old.code.instrs self.old.parents self.old.call x found self.new.call }
+        ensures locks { (x : ℕ) × Stops self.old (stop.Lock x) × Locks self.old.code.instrs self.old.parents self.old.call x found self.new.call }
     {
-        step::lock(&self.procedure, &self.shape, &mut self.call, found);
+        let Want::Stop(stop) = self.want() else {
+            unreachable!()
+        };
+        let Stop::Lock(node) = stop else {
+            unreachable!()
+        };
+        self.lock_node(node, found);
     }
 
-    /// Lets the node go that the next instruction lets go: the record is the one that it has from then on.
-    pub fn free(&mut self) -> Record
-        requires { (x : ℕ) × Wants self.old (want.Free x) }
+    /// The same for who knows already which node it is: `advance` or `want` told.
+    #[inline(always)]
+    pub fn lock_node(&mut self, node: u16, found: Record)
+        requires { Stops self.old (stop.Lock node) }
         ensures same { self.new ≡ with_call self.old self.new.call }
-        ensures frees { (x : ℕ) × Wants self.old (want.Free x) × Frees self.old.code.instrs self.old.parents self.old.call x result self.new.call }
+        ensures locks { Locks self.old.code.instrs self.old.parents self.old.call node found self.new.call }
     {
-        step::free(&self.procedure, &self.shape, &mut self.call).record
+        self.call.lock(&self.procedure, &self.shape, node, found);
+    }
+
+    /// Frees the node that the next instruction frees: the record is the one that it has from then on.
+    pub fn free(&mut self) -> Record
+        requires { (x : ℕ) × Stops self.old (stop.Free x) }
+        ensures same { self.new ≡ with_call self.old self.new.call }
+        ensures frees { (x : ℕ) × Stops self.old (stop.Free x) × Frees self.old.code.instrs self.old.parents self.old.call x result self.new.call }
+    {
+        self.call.free(&self.procedure, &self.shape)
     }
 
     /// Ends the call, and gives the values that it emitted.
     pub fn finish(&mut self) -> Reply
-        requires { Wants self.old want.Return }
+        requires { Stops self.old stop.Return }
         ensures same { self.new ≡ with_call self.old self.new.call }
         ensures ends { Ends self.old.code.instrs self.old.parents self.old.call self.new.call }
         ensures reply { result ≡ reply_so_far self.old.call }
     {
-        step::finish(&self.procedure, &self.shape, &mut self.call);
+        self.call.finish(&self.procedure, &self.shape);
         Reply::of(&self.call)
     }
 

@@ -1,13 +1,13 @@
 use Rattle.std.proofs.Common.{◌≡◌, ◌-◌}
 use Rattle.tl_budget.specs.Loops.{budget}
 use Rattle.tl_machine.specs.Stands.{run_left}
-use Rattle.tl_machine.proofs.Going.{SoFar}
+use Rattle.tl_machine.proofs.Going.{UnderWay}
 use Rattle.tl_machine.proofs.alone_run.run.Given as goal
 
 -- what was done so far is what was to be done, and the tree has the shape that it had
 abbrev pub invariant-loop-node : goal.invariant-loop-node
 invariant-loop-node l = record {
-  so_far : SoFar l.procedure.instrs l.tree.parents (run_left l.procedure.instrs l.initial.tree.parents l.initial.call l.initial.tree.records) l.call l.tree.records;
+  under_way : UnderWay l.procedure.instrs l.tree.parents (run_left l.procedure.instrs l.initial.tree.parents l.initial.call l.initial.tree.records) l.call l.tree.records;
   shape : l.tree.parents ≡ l.initial.tree.parents;
 }
 

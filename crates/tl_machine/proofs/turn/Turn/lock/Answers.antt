@@ -1,23 +1,18 @@
-use Rattle.std.proofs.Common.{sym}
+use Rattle.std.proofs.Common.{◌≡◌, sym, ◌∙◌}
 use Rattle.tl_machine.specs.declared.want.Want.TheVariants as want
-use Rattle.tl_machine.proofs.Turning.{stands_wants, is_at_lock, lock_wanted}
+use Rattle.tl_machine.specs.declared.want.Stop.TheVariants as stop
+use Rattle.tl_machine.proofs.Turning.{two_wants}
 use Rattle.tl_machine.proofs.turn.Turn.lock.Goals as goal
 
-pub lock-requires-clause-stands : goal.lock-requires-clause-stands
-lock-requires-clause-stands c =
-    let wants = rw (sym c.self.view_is) at c.requires in
-    rw (c.deref.ensures, c.deref-2.ensures) (stands_wants _ _ _ (want.Lock wants.0) c.self.invariant (λ e. cc) wants.1)
+pub unreachable-requires : goal.unreachable-requires
+unreachable-requires c =
+    let turn = c.args.self.now in
+    let same : c.want.result ≡ want.Stop (stop.Lock c.requires.0) = two_wants turn.code.instrs turn.parents turn.call c.want.result (want.Stop (stop.Lock c.requires.0)) c.want.ensures c.requires.1 in
+    c.in_default.not-Stop _ same
 
-pub lock-requires-clause-lock : goal.lock-requires-clause-lock
-lock-requires-clause-lock c =
-    let wants = rw (sym c.self.view_is) at c.requires in
-    let st = stands_wants _ _ _ (want.Lock wants.0) c.self.invariant (λ e. cc) wants.1 in
-    rw (c.deref.ensures, c.deref-2.ensures) (wants.0, is_at_lock _ _ _ st st.counters wants.0 wants.1)
-
-pub returns-clause-locks : goal.returns-clause-locks
-returns-clause-locks c =
-    let wants = rw (sym c.self.view_is) at c.requires in
-    let st = stands_wants _ _ _ (want.Lock wants.0) c.self.invariant (λ e. cc) wants.1 in
-    let node = rw (c.deref.ensures, c.deref-2.ensures) at c.lock.ensures.node in
-    let locks = rw (c.deref.ensures, c.deref-2.ensures) at c.lock.ensures.locks in
-    rw (sym c.self.view_is) (c.lock.result, lock_wanted _ _ _ st st.counters c.lock.result node, locks)
+pub unreachable-requires-in_default-stop : goal.unreachable-requires-in_default-stop
+unreachable-requires-in_default-stop c =
+    let turn = c.args.self.now in
+    let same : c.want.result ≡ want.Stop (stop.Lock c.requires.0) = two_wants turn.code.instrs turn.parents turn.call c.want.result (want.Stop (stop.Lock c.requires.0)) c.want.ensures c.requires.1 in
+    let e : want.Stop c.in-Stop.stop ≡ want.Stop (stop.Lock c.requires.0) = sym c.in-Stop.is ∙ same in
+    c.in_default-stop.not-Lock c.requires.0 cc

@@ -2,19 +2,17 @@ use Rattle.std.proofs.Common.{◌∙◌, ap}
 use Rattle.tl_instr.specs.Codes.{CodeValue}
 use Rattle.tl_machine.proofs.Moves.{frees}
 use Rattle.tl_machine.proofs.Standing.{at_read, steps_short}
-use Rattle.tl_machine.proofs.step.free.Goals as goal
+use Rattle.tl_machine.proofs.call.CallState.free.Goals as goal
 
 pub go_to-requires : goal.go_to-requires
 go_to-requires c = steps_short _ _ _ c.code.ensures.valid c.code.ensures.accepted c.requires.stands _ (at_read _ _ _ _ _ (c.instrs.ensures.value ∙ ap (λ (x : CodeValue). x.instrs) c.code.ensures.value) c.requires.stands.inside c.in-Release.is)
 
-pub returns-clause-node : goal.returns-clause-node
-returns-clause-node c =
-    let at = at_read _ _ _ _ _ (c.instrs.ensures.value ∙ ap (λ (x : CodeValue). x.instrs) c.code.ensures.value) c.requires.stands.inside c.in-Release.is in
-    record { register = c.in-Release.node; at = at; held = rw c.index.ensures.same at c.in-Some.is }
-
-pub returns-clause-frees : goal.returns-clause-frees
-returns-clause-frees c =
+pub returns : goal.returns
+returns c =
     let at = at_read _ _ _ _ _ (c.instrs.ensures.value ∙ ap (λ (x : CodeValue). x.instrs) c.code.ensures.value) c.requires.stands.inside c.in-Release.is in
     let holds = rw c.index.ensures.same at c.in-Some.is in
-    let new = rw c.index-2.ensures.same at c.go_to.ensures in
-    frees _ c.args.shape.now c.code.ensures.accepted c.args.call.now c.requires.stands c.in-Release.node c.in-Some.held at holds _ new
+    let new = rw c.index-2.ensures.same at c.go_to.ensures in (
+      c.in-Some.held,
+      record { register = c.in-Release.node; at = at; held = holds },
+      frees _ c.args.shape.now c.code.ensures.accepted c.args.self.now c.requires.stands c.in-Release.node c.in-Some.held at holds _ new,
+    )
