@@ -185,6 +185,11 @@ fn command<'a>(alloc: Global) -> Result<Command<'a>, AllocError> {
 fn request_of<'a>(matches: &ArgMatches<'a>) -> Option<Request<'a>> {
     let (name, words) = matches.subcommand()?;
     match name {
+        "alone" => Some(Request::Alone {
+            tree: words.get_str("tree")?,
+            procedure: words.get_str("proc")?,
+            args: words.get_str("args")?,
+        }),
         "asm" => Some(Request::Assemble {
             text: words.get_str("IN")?,
             container: words.get_str("OUT")?,
@@ -203,11 +208,7 @@ fn request_of<'a>(matches: &ArgMatches<'a>) -> Option<Request<'a>> {
         "verify" => Some(Request::Verify {
             container: words.get_str("IN")?,
         }),
-        _ => Some(Request::Alone {
-            tree: words.get_str("tree")?,
-            procedure: words.get_str("proc")?,
-            args: words.get_str("args")?,
-        }),
+        _ => None,
     }
 }
 

@@ -1,22 +1,35 @@
-// Faults, printed.
+// Failures, printed.
 
-use crate::fault::CliFault;
+use crate::failure::Failure;
 use std::io;
 use tl_asm::fault::AsmFault;
+use tl_commands::fault::CliFault;
 
-/// Prints a fault: its numbers on standard output, `{"error":[..]}`, and its message for people on standard error.
-pub fn print_fault<R: Print + Eprint>(rt: &R, fault: &CliFault) -> io::Result<()> {
+/// Prints a failure: its numbers on standard output, `{"error":[..]}`, and its message for people on standard error.
+pub fn print_failure<R: Print + Eprint>(rt: &R, failure: &Failure<'_>) -> io::Result<()> {
+    let _shown = eprintln!(rt; "treedb: {failure}");
     rt.print("{\"error\":[")?;
     let mut is_first = true;
-    for number in fault.numbers().as_slice() {
+    for number in failure.fault().numbers().as_slice() {
         if !is_first {
             rt.print(",")?;
         }
         is_first = false;
         print!(rt; "{number}")?;
     }
-    rt.println("]}")?;
-    eprintln!(rt; "treedb: {fault}")
+    rt.println("]}")
+}
+
+/// The exit status of what was printed: this one, or 3 where standard output can't be written. People are told that on
+/// standard error.
+pub fn status_after<R: Eprint>(rt: &R, printed: io::Result<()>, status: u8) -> u8 {
+    match printed {
+        Ok(()) => status,
+        Err(reason) => {
+            let _shown = eprintln!(rt; "treedb: standard output can't be written: {reason}");
+            CliFault::Unwritable.status()
+        }
+    }
 }
 
 /// Shows people the line that an assembler text was refused for, on standard error. What can't be shown is left out.

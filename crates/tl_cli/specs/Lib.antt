@@ -1,6 +1,0 @@
-pub mod Faults
-pub mod Alone
-pub mod Script
-pub mod Told
-pub mod Drive
-pub mod Audit

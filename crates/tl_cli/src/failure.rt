@@ -1,0 +1,39 @@
+// Why the program has nothing to print.
+
+use std::{fmt, io};
+use tl_commands::fault::CliFault;
+
+/// The fault of a command, or a file that can't be read or written, with the system's reason.
+#[derive(Drop)]
+pub enum Failure<'a> {
+    Refused(CliFault),
+    Unreadable { path: &'a str, reason: io::Error },
+    Unwritable { path: &'a str, reason: io::Error },
+}
+
+impl Failure<'_> {
+    /// What stands for the failure on standard output, by its numbers.
+    pub fn fault(&self) -> CliFault {
+        match self {
+            Failure::Refused(fault) => *fault,
+            Failure::Unreadable { .. } => CliFault::Unreadable,
+            Failure::Unwritable { .. } => CliFault::Unwritable,
+        }
+    }
+}
+
+impl From<CliFault> for Failure<'_> {
+    fn from(fault: CliFault) -> Self {
+        Failure::Refused(fault)
+    }
+}
+
+impl fmt::Display for Failure<'_> {
+    fn fmt<W: fmt::Write>(&self, f: &mut fmt::Formatter<W>) -> fmt::Result {
+        match self {
+            Failure::Refused(fault) => write!(f, "{fault}"),
+            Failure::Unreadable { path, reason } => write!(f, "{path} can't be read: {reason}"),
+            Failure::Unwritable { path, reason } => write!(f, "{path} can't be written: {reason}"),
+        }
+    }
+}

@@ -1,0 +1,63 @@
+-- The parts of a run of the command `drive`, together.
+use Rattle.std.proofs.Common.{◌≡◌, ℕ, List, [], map, ap, ◌∙◌, subst, Ok}
+use Rattle.serde_json.specs.Data.{Data}
+use Rattle.tl_tree.specs.Trees.{TreeValue}
+use Rattle.tl_tree.specs.Reading.{tree_of_text}
+use Rattle.tl_core.specs.Cores.{CoreValue}
+use Rattle.tl_core.specs.Entries.{Traced, after_moves}
+use Rattle.tl_core.specs.declared.moves.Move.{Move}
+use Rattle.tl_core.specs.declared.moves.Entry.{Entry}
+use Rattle.tl_commands.specs.declared.script.NamedText.{NamedText}
+use Rattle.tl_commands.specs.declared.script.Script.{Script}
+use Rattle.tl_commands.specs.Script.{IsScript, move_view, named_view, script_view}
+use Rattle.tl_audit.specs.Reading.{TakenUp}
+use Rattle.tl_commands.specs.Drive.{core_with, IsConclusion, tree_now, lines_told, IsDriven, Prints}
+
+-- the core before the moves
+pub record IsReady (t s : List ℕ) (tree : TreeValue) (script : Script) (core : CoreValue) (moves : List Move) : Type 0 where
+  pub tree_is : tree_of_text t ≡ Ok tree
+  pub script_is : IsScript s (script_view script)
+  pub taken_up : TakenUp [] (map named_view script.procedures.items) core.procedures
+  pub start : core ≡ core_with tree core.procedures
+  pub moves_are : moves ≡ script.moves.items
+
+pub ready : (t s : List ℕ) (tree : TreeValue) (script : Script) (first core : CoreValue) (procedures : List NamedText) (moves : List Move)
+    → tree_of_text t ≡ Ok tree → IsScript s (script_view script) → first ≡ core_with tree [] → procedures ≡ script.procedures.items
+    → TakenUp first.procedures (map named_view procedures) core.procedures → core ≡ record first { procedures = core.procedures }
+    → moves ≡ script.moves.items → IsReady t s tree script core moves
+ready t s tree script first core procedures moves tree_is script_is first_is procedures_are taken same moves_are =
+    let by_name : TakenUp first.procedures (map named_view script.procedures.items) core.procedures =
+    subst (λ ps. TakenUp first.procedures (map named_view ps) core.procedures) procedures_are taken in
+    record {
+      tree_is = tree_is;
+      script_is = script_is;
+      taken_up = subst (λ (v : CoreValue). TakenUp v.procedures (map named_view script.procedures.items) core.procedures) first_is by_name;
+      start = same ∙ ap (λ (v : CoreValue). record v { procedures = core.procedures }) first_is;
+      moves_are = moves_are;
+    }
+
+pub driven : (t s : List ℕ) (tree : TreeValue) (script : Script) (core after : CoreValue) (moves : List Move) (entries : List Entry)
+    → IsReady t s tree script core moves → Traced core moves entries → after ≡ after_moves core moves entries → IsDriven t s entries after
+driven t s tree script core after moves entries is traced after_is =
+    record {
+      tree = tree;
+      script = script_view script;
+      procedures = core.procedures;
+      moves = moves;
+      tree_is = is.tree_is;
+      script_is = is.script_is;
+      taken_up = is.taken_up;
+      moves_are = ap (map move_view) is.moves_are;
+      traced = subst (λ v. Traced v moves entries) is.start traced;
+      after = after_is ∙ ap (λ v. after_moves v moves entries) is.start;
+    }
+
+pub printed : (t s out : List ℕ) (after : CoreValue) (entries shown : List Entry) → IsDriven t s entries after → shown ≡ entries
+    → ((d : Data) × IsConclusion after d × (out ≡ lines_told shown d (tree_now after))) → Prints t s out after
+printed t s out after entries shown is same told = record {
+  entries = entries;
+  conclusion = told.0;
+  driven = is;
+  concluded = told.1;
+  same = told.2 ∙ ap (λ es. lines_told es told.0 (tree_now after)) same;
+}

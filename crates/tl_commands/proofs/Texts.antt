@@ -1,0 +1,70 @@
+-- The values of the trace and of the order.
+use Rattle.std.proofs.Common.{◌≡◌, ◌+◌, ◌<◌, ℕ, List, [], ◌∷◌, ◌++◌, length, get_or, take, map, false, refl, sym, ap, ap₂, ◌∙◌, inl, inr}
+use Rattle.std.proofs.lemmas.List.{map_push, map_more}
+use Rattle.serde_json.specs.Data.{Data}
+use Rattle.serde_json.specs.View.{view}
+use Rattle.serde_json.specs.Written.{has_float, compact_text}
+use Rattle.serde_json.specs.declared.value.Value.{Value}
+use Rattle.tl_tree.specs.Trees.{TreeValue}
+use Rattle.tl_tree.specs.Writing.{tree_text}
+use Rattle.tl_tree.proofs.Texts.{whole_items, integer_whole, integers_whole}
+use Rattle.tl_protocol.specs.declared.action.Action.{Action}
+use Rattle.tl_protocol.specs.declared.action.Action.TheVariants.{Plain, Lock, Read, Write, Free, Emit, End}
+use Rattle.tl_core.specs.Cores.{CoreValue}
+use Rattle.tl_core.specs.Faults.{numbers_of}
+use Rattle.tl_core.specs.declared.stepped.Stepped.{Stepped}
+use Rattle.tl_core.specs.declared.stepped.Stepped.TheVariants.{Moved, Blocked, Over}
+use Rattle.tl_core.specs.declared.moves.Entry.{Entry}
+use Rattle.tl_core.specs.declared.moves.Entry.TheVariants as entry
+use Rattle.tl_protocol.specs.Order.{placed}
+use Rattle.tl_audit.specs.Writing.{natural}
+use Rattle.tl_commands.specs.Told.{action_data, stepped_data, entry_data, trace_data, order_data}
+use Rattle.tl_commands.specs.Drive.{IsConclusion, lines_told}
+
+-- one more value is written, after a first one
+pub views_after : {A : Type 0} (head : Data) (f : A → Data) (vs : List Value) (v : Value) (xs : List A) (i : ℕ) (d : A) → i < length xs → map view vs ≡ head ∷ map f (take i xs) → view v ≡ f (get_or xs i d)
+    → map view (vs ++ v ∷ []) ≡ head ∷ map f (take (i + 1) xs)
+views_after head f vs v xs i d inside so_far is = map_push view vs v ∙ ap₂ (λ ds e. ds ++ e ∷ []) so_far is ∙ ap (λ ds. head ∷ ds) (sym (map_more f xs i d inside))
+
+-- ---- no float
+
+natural_whole : (n : ℕ) → has_float (natural n) ≡ false
+natural_whole n = refl
+
+action_whole : (c : ℕ) (a : Action) → has_float (action_data c a) ≡ false
+action_whole c Plain = refl
+action_whole c (Lock x found) = rw (integers_whole found) refl
+action_whole c (Read x f v) = rw (integer_whole v) refl
+action_whole c (Write x f v) = rw (integer_whole v) refl
+action_whole c (Free x left) = rw (integers_whole left) refl
+action_whole c (Emit v) = rw (integer_whole v) refl
+action_whole c End = refl
+
+stepped_whole : (c : ℕ) (s : Stepped) → has_float (stepped_data c s) ≡ false
+stepped_whole c (Moved a) = action_whole c a
+stepped_whole c (Blocked x holder) = refl
+stepped_whole c Over = refl
+
+entry_whole : (e : Entry) → has_float (entry_data e) ≡ false
+entry_whole (entry.Admitted c) = refl
+entry_whole (entry.Stepped c s) = stepped_whole c s
+entry_whole (entry.Refused f) = whole_items natural natural_whole (numbers_of f)
+
+pub trace_whole : (entries : List Entry) → has_float (trace_data entries) ≡ false
+trace_whole entries = rw (whole_items entry_data entry_whole entries) refl
+
+pub order_whole : (order : List ℕ) → has_float (order_data order) ≡ false
+order_whole order = rw (whole_items natural natural_whole order) refl
+
+pub conclusion_whole : (v : CoreValue) (d : Data) → IsConclusion v d → has_float d ≡ false
+conclusion_whole v d (inl order) = ap has_float order.1 ∙ order_whole (placed v.parents v.past)
+conclusion_whole v d (inr unfinished) = ap has_float unfinished.2
+
+-- ---- the lines, one after another
+
+pub three_lines : (entries : List Entry) (d : Data) (tree : TreeValue) (second third s0 s1 s2 s3 : List ℕ)
+    → s0 ≡ compact_text (trace_data entries) → second ≡ compact_text d → third ≡ tree_text tree
+    → s1 ≡ s0 ++ 10 ∷ second → s2 ≡ s1 ++ 10 ∷ third → s3 ≡ s2 ++ 10 ∷ []
+    → s3 ≡ lines_told entries d tree
+three_lines entries d tree second third s0 s1 s2 s3 trace_is conclusion_is tree_is e1 e2 e3 =
+    e3 ∙ ap (λ s. s ++ 10 ∷ []) (e2 ∙ ap₂ (λ a b. a ++ 10 ∷ b) (e1 ∙ ap₂ (λ a b. a ++ 10 ∷ b) trace_is conclusion_is) tree_is)

@@ -1,0 +1,16 @@
+use Rattle.tl_commands.proofs.Driven.{IsReady, ready, driven}
+use Rattle.tl_commands.proofs.driving.carry_out.Goals as goal
+
+pub returns-in-Ok-drive-clause-ok : goal.returns-in-Ok-drive-clause-ok
+returns-in-Ok-drive-clause-ok c =
+    let t = c.args.tree.now in
+    let s = c.args.script.now in
+    let tree = c.in-Ok.tree in
+    let script = c.in_ok-script.script in
+    let before = c.take_up_all.new.core in
+    let after = c.drive.new.self in
+    let is : IsReady t s tree script before c.deref-2.result.now =
+    ready t s tree script c.in-Ok-new.core before c.deref.result.now c.deref-2.result.now c.in-Ok.ensures.ok c.in_ok-script.ensures.ok c.in-Ok-new.ensures.ok c.deref.ensures.value
+    c.in_ok-take_up_all.ensures.ok c.in_ok-take_up_all.ensures.same c.deref-2.ensures.value
+    in
+    driven t s tree script before after c.deref-2.result.now c.in-Ok-drive.trace.items is c.in-Ok-drive.ensures.traced c.in-Ok-drive.ensures.after

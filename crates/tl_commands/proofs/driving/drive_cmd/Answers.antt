@@ -1,0 +1,14 @@
+use Rattle.std.proofs.Common.{string_bytes}
+use Rattle.std.proofs.lemmas.Result.{IfOk-weaker}
+use Rattle.tl_commands.specs.Drive.{Drives}
+use Rattle.tl_commands.proofs.Driven.{printed}
+use Rattle.tl_commands.proofs.driving.drive_cmd.Goals as goal
+
+pub returns-clause-printed : goal.returns-clause-printed
+returns-clause-printed c =
+    let t = c.args.tree.now in
+    let s = c.args.script.now in
+    let driven = c.in_ok-driven.driven in
+    IfOk-weaker c.lines.result _ (λ text. Drives t s (string_bytes text))
+    (λ text told. (driven.core, printed t s (string_bytes text) driven.core driven.trace.items c.deref.result.now c.in_ok-driven.ensures.ok c.deref.ensures.value told))
+    c.lines.ensures.ok

@@ -1,0 +1,75 @@
+-- What the command `alone` prints, and when it answers which fault.
+use Rattle.std.specs.Prelude.{◌≡◌, ◌≢◌, ◌⊎◌, ℕ, ℤ, List, [], ◌∷◌, ◌++◌, length, codes, decimal, Option, Some, None, option_and_then, Ok, Err, IsUtf8}
+use Rattle.std.specs.Fmt.{signed_decimal}
+use Rattle.serde_json.specs.Read.{read}
+use Rattle.tl_tree.specs.Trees.{TreeValue}
+use Rattle.tl_tree.specs.Reading.{tree_of_text, integers_of}
+use Rattle.tl_tree.specs.Writing.{list_text, tree_text}
+use Rattle.tl_tree.specs.declared.fault.TreeFault.{TreeFault}
+use Rattle.tl_tree.specs.declared.fault.TreeFault.TheVariants as tree
+use Rattle.tl_instr.specs.Codes.{CodeValue}
+use Rattle.tl_instr.specs.Spelling.{Spelled}
+use Rattle.tl_instr.specs.Faults.{FirstFault}
+use Rattle.tl_instr.specs.declared.fault.CodeFault.TheVariants as code
+use Rattle.tl_verify.specs.Acceptable.{Acceptable}
+use Rattle.tl_verify.specs.Findings.{IsFirstFault}
+use Rattle.tl_verify.specs.declared.fault.VerifyFault.TheVariants as verify
+use Rattle.tl_machine.specs.Alone.{alone}
+use Rattle.tl_protocol.specs.Alone.{Outcome}
+use Rattle.tl_machine.specs.Outcomes.{outcome_of}
+use Rattle.tl_commands.specs.declared.fault.CliFault.{CliFault}
+use Rattle.tl_commands.specs.declared.fault.CliFault.TheVariants.{Unreadable, Unwritable, NotUtf8, Asm, Tree, Code, Verify, Core, Trail, Audit, NotScript, NotArgs, WrongArgs, Memory}
+
+-- the first line: the reply, and how many instructions were done
+abbrev pub answer_text : List ℤ → ℕ → List ℕ
+answer_text reply steps = codes "{\"reply\":" ++ list_text signed_decimal reply ++ codes ",\"steps\":" ++ decimal steps ++ codes "}"
+
+-- two lines: the answer, and the tree as it is then
+abbrev pub printed : TreeValue → Outcome → List ℕ
+printed t o = answer_text o.reply (length o.actions) ++ 10 ∷ tree_text (record t { records = o.tree }) ++ 10 ∷ []
+
+-- the arguments that a text stands for
+abbrev pub args_of_text : List ℕ → Option (List ℤ)
+args_of_text text = option_and_then integers_of (read text)
+
+-- The tree, the procedure and the arguments that the inputs stand for.
+pub record Inputs (tree_bytes code_bytes args_text : List ℕ) : Type 0 where
+  pub tree : TreeValue
+  pub code : CodeValue
+  pub args : List ℤ
+  pub tree_is : tree_of_text tree_bytes ≡ Ok tree
+  pub code_is : Spelled code_bytes code
+  pub accepted : Acceptable code.instrs
+  pub args_are : args_of_text args_text ≡ Some args
+
+-- What is printed is what the procedure does alone.
+pub record Prints (tree_bytes code_bytes args_text out : List ℕ) : Type 0 where
+  pub inputs : Inputs tree_bytes code_bytes args_text
+  pub arity : length inputs.args ≡ inputs.code.arity
+  pub same : out ≡ printed inputs.tree (outcome_of (alone inputs.code.instrs inputs.tree.parents inputs.args inputs.tree.records))
+
+-- the tree that the bytes of a file stand for
+pub record IsTreeFile (bytes : List ℕ) : Type 0 where
+  pub tree : TreeValue
+  pub same : tree_of_text bytes ≡ Ok tree
+
+-- what is wrong with a file of a tree
+abbrev pub IsTreeFault : List ℕ → TreeFault → Type 0
+IsTreeFault t f = ((IsUtf8 t → ⊥) × (f ≡ tree.NotTree)) ⊎ (tree_of_text t ≡ Err f)
+
+-- The fault of the first input that has one: the tree, the container, the verifier, the arguments, their number.
+abbrev pub IsFault : List ℕ → List ℕ → List ℕ → CliFault → Type 0
+IsFault t c a (Tree f) = f ≢ tree.Memory → IsTreeFault t f
+IsFault t c a (Code f) = f ≢ code.Memory → IsTreeFile t × FirstFault c f
+IsFault t c a (Verify f) = f ≢ verify.Memory → IsTreeFile t × (code' : CodeValue) × Spelled c code' × IsFirstFault code'.instrs f
+IsFault t c a NotArgs = IsTreeFile t × (code' : CodeValue) × Spelled c code' × Acceptable code'.instrs × (args_of_text a ≡ None)
+IsFault t c a WrongArgs = (inputs : Inputs t c a) × (length inputs.args ≢ inputs.code.arity)
+IsFault t c a Memory = Unit {0}
+IsFault t c a Unreadable = ⊥
+IsFault t c a Unwritable = ⊥
+IsFault t c a NotUtf8 = ⊥
+IsFault t c a (Asm f) = ⊥
+IsFault t c a (Core f) = ⊥
+IsFault t c a (Trail f) = ⊥
+IsFault t c a (Audit f) = ⊥
+IsFault t c a NotScript = ⊥

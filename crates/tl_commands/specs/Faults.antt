@@ -1,0 +1,47 @@
+-- The numbers of the program's faults, and its exit statuses.
+use Rattle.std.specs.Prelude.{ℕ, List, [], ◌∷◌}
+use Rattle.tl_tree.specs.Faults.{numbers_of as tree_numbers_of}
+use Rattle.tl_tree.specs.declared.fault.TreeFault.TheVariants as tree
+use Rattle.tl_asm.specs.Faults.{numbers_of as asm_numbers_of}
+use Rattle.tl_asm.specs.declared.fault.AsmFault.TheVariants as asm
+use Rattle.tl_instr.specs.Faults.{numbers_of as code_numbers_of}
+use Rattle.tl_instr.specs.declared.fault.CodeFault.TheVariants as code
+use Rattle.tl_verify.specs.Faults.{numbers_of as verify_numbers_of}
+use Rattle.tl_verify.specs.declared.fault.VerifyFault.TheVariants as verify
+use Rattle.tl_core.specs.Faults.{numbers_of as core_numbers_of}
+use Rattle.tl_core.specs.declared.fault.CoreFault.TheVariants as core
+use Rattle.tl_audit.specs.Faults.{trail_numbers_of, audit_numbers_of}
+use Rattle.tl_audit.specs.declared.fault.TrailFault.TheVariants as trail
+use Rattle.tl_audit.specs.declared.fault.AuditFault.TheVariants as audit
+use Rattle.tl_commands.specs.declared.fault.CliFault.{CliFault}
+use Rattle.tl_commands.specs.declared.fault.CliFault.TheVariants.{Unreadable, Unwritable, NotUtf8, Asm, Tree, Code, Verify, Core, Trail, Audit, NotScript, NotArgs, WrongArgs, Memory}
+
+abbrev pub numbers_of : CliFault → List ℕ
+numbers_of Unreadable = 31 ∷ []
+numbers_of Unwritable = 32 ∷ []
+numbers_of NotUtf8 = 255 ∷ []
+numbers_of (Asm f) = asm_numbers_of f
+numbers_of (Tree f) = tree_numbers_of f
+numbers_of (Code f) = code_numbers_of f
+numbers_of (Verify f) = verify_numbers_of f
+numbers_of (Core f) = core_numbers_of f
+numbers_of (Trail f) = trail_numbers_of f
+numbers_of (Audit f) = audit_numbers_of f
+numbers_of NotScript = 731 ∷ []
+numbers_of NotArgs = 732 ∷ []
+numbers_of WrongArgs = 501 ∷ []
+numbers_of Memory = 990 ∷ []
+
+-- 3 for a device, 4 for want of memory, 1 for all else
+abbrev pub status_of : CliFault → ℕ
+status_of Unreadable = 3
+status_of Unwritable = 3
+status_of (Asm asm.Memory) = 4
+status_of (Tree tree.Memory) = 4
+status_of (Code code.Memory) = 4
+status_of (Verify verify.Memory) = 4
+status_of (Core core.Memory) = 4
+status_of (Trail trail.Memory) = 4
+status_of (Audit audit.Memory) = 4
+status_of Memory = 4
+status_of f = 1

@@ -1,0 +1,69 @@
+-- What the commands on one procedure print, `asm`, `dis` and `verify`, and when they answer which fault.
+use Rattle.std.specs.Prelude.{◌≡◌, ◌≢◌, ◌⊎◌, ℕ, List, ◌++◌, length, codes, decimal, IsUtf8}
+use Rattle.tl_instr.specs.Codes.{CodeValue}
+use Rattle.tl_instr.specs.Spelling.{Spelled}
+use Rattle.tl_instr.specs.Faults.{FirstFault as FirstCodeFault}
+use Rattle.tl_instr.specs.declared.fault.CodeFault.{CodeFault}
+use Rattle.tl_asm.specs.Texts.{Written}
+use Rattle.tl_asm.specs.Listing.{listing}
+use Rattle.tl_asm.specs.Faults.{FirstFault as FirstTextFault}
+use Rattle.tl_asm.specs.declared.fault.AsmFault.{AsmFault}
+use Rattle.tl_budget.specs.Loops.{budget, lock_bound, emit_bound}
+use Rattle.tl_verify.specs.Acceptable.{Acceptable}
+use Rattle.tl_verify.specs.Findings.{IsFirstFault}
+use Rattle.tl_verify.specs.declared.fault.VerifyFault.{VerifyFault}
+use Rattle.tl_commands.specs.declared.fault.CliFault.{CliFault}
+use Rattle.tl_commands.specs.declared.fault.CliFault.TheVariants.{NotUtf8, Asm, Code, Verify}
+use Rattle.tl_commands.specs.Faults.{status_of}
+
+-- ---- the lines
+
+abbrev pub count_text : ℕ → List ℕ
+count_text count = codes "{\"count\":" ++ decimal count ++ codes "}\n"
+
+abbrev pub bounds_text : ℕ → ℕ → ℕ → List ℕ
+bounds_text emits locks steps =
+    codes "{\"bounds\":{\"emits\":" ++ decimal emits ++ codes ",\"locks\":" ++ decimal locks ++ codes ",\"steps\":" ++ decimal steps ++ codes "}}\n"
+
+-- ---- `asm`
+
+-- The text is that of a code. What is printed tells its count, and the file has its container.
+pub record Assembles (text out file : List ℕ) : Type 0 where
+  pub code : CodeValue
+  pub utf8 : IsUtf8 text
+  pub written : Written text code
+  pub spelled : Spelled file code
+  pub same : out ≡ count_text (length code.instrs)
+
+-- the text isn't UTF-8, else its first fault; or want of memory
+abbrev pub IsAssemblingFault : List ℕ → CliFault → Type 0
+IsAssemblingFault text e = status_of e ≢ 4 →
+    ((e ≡ NotUtf8) × (IsUtf8 text → ⊥))
+    ⊎ ((f : AsmFault) × (e ≡ Asm f) × FirstTextFault text f)
+
+-- ---- `dis`
+
+-- What is printed is the canonical text of the container's code.
+pub record Lists (container out : List ℕ) : Type 0 where
+  pub code : CodeValue
+  pub spelled : Spelled container code
+  pub same : out ≡ listing code
+
+-- the container's first fault, or want of memory
+abbrev pub IsContainerFault : List ℕ → CliFault → Type 0
+IsContainerFault container e = status_of e ≢ 4 → (f : CodeFault) × (e ≡ Code f) × FirstCodeFault container f
+
+-- ---- `verify`
+
+-- The container's code is accepted, and what is printed tells its bounds.
+pub record Verifies (container out : List ℕ) : Type 0 where
+  pub code : CodeValue
+  pub spelled : Spelled container code
+  pub accepted : Acceptable code.instrs
+  pub same : out ≡ bounds_text (emit_bound code.instrs) (lock_bound code.instrs) (budget code.instrs)
+
+-- the container's first fault, else the first of its code; or want of memory
+abbrev pub IsVerifyingFault : List ℕ → CliFault → Type 0
+IsVerifyingFault container e = status_of e ≢ 4 →
+    ((f : CodeFault) × (e ≡ Code f) × FirstCodeFault container f)
+    ⊎ ((f : VerifyFault) × (code : CodeValue) × (e ≡ Verify f) × Spelled container code × IsFirstFault code.instrs f)

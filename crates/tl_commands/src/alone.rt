@@ -1,0 +1,119 @@
+// The command `alone`.
+
+ghost use Rattle.std.specs.Prelude.{◌≡◌, IfOk, IfErr, string_bytes, codes, pos, List, [], ◌∷◌, ◌++◌, ℕ, ◌⊎◌, None, Some};
+ghost use Rattle.serde_json.specs.Data.{object, member, no_members};
+ghost use Rattle.serde_json.specs.View.{view};
+ghost use Rattle.tl_instr.specs.Spelling.{Spelled};
+ghost use Rattle.tl_verify.specs.Acceptable.{Acceptable};
+ghost use Rattle.tl_tree.specs.Writing.{integer_data, integers_data, tree_text};
+ghost use Rattle.tl_commands.specs.Alone.{answer_text, args_of_text, Prints, IsTreeFile, IsFault};
+
+use crate::fault::CliFault;
+use crate::inputs::tree_of_file;
+use serde_json::{Value, json};
+use std::alloc::{AllocError, Global};
+use std::sync::Arc;
+use tl_instr::container::decode;
+use tl_machine::alone_run::{Answer, alone};
+use tl_tree::text::write_tree;
+use tl_tree::value::{integers_from_value, integers_to_value};
+use tl_verify::procedure::{Proc, verify};
+
+// The procedure that a file has.
+fn procedure_of_file(alloc: Global, bytes: &[u8]) -> Result<Proc, CliFault>
+    ensures spelled { IfOk result (λ p. Spelled bytes.now p) }
+    ensures accepted { IfOk result (λ p. Acceptable p.instrs) }
+    ensures fault { IfErr result (λ e. (tree args : List ℕ) → IsTreeFile tree → IsFault tree bytes.now args e) }
+{
+    let code = match decode(alloc, bytes) {
+        Ok(code) => code,
+        Err(fault) => return Err(CliFault::Code(fault)),
+    };
+    match verify(alloc, code) {
+        Ok(procedure) => Ok(procedure),
+        Err((_, fault)) => Err(CliFault::Verify(fault)),
+    }
+}
+
+// The arguments that a text has: a JSON list of integers of 64 bits.
+fn args_of(alloc: Global, text: &str) -> Result<Vec<i64>, CliFault>
+    ensures ok { IfOk result (λ v. args_of_text text.now ≡ Some v.items) }
+    ensures fault { IfErr result (λ e. (e ≡ CliFault.Memory) ⊎ (e ≡ CliFault.NotArgs) × (args_of_text text.now ≡ None)) }
+{
+    let value = match Value::from_str(alloc, text) {
+        Ok(value) => value,
+        Err(error) => return Err(if error.is_memory() {
+            CliFault::Memory
+        } else {
+            CliFault::NotArgs
+        }),
+    };
+    match integers_from_value(alloc, &value) {
+        Ok(Some(args)) => Ok(args),
+        Ok(None) => Err(CliFault::NotArgs),
+        Err(_) => Err(CliFault::Memory),
+    }
+}
+
+fn parts_to_value(alloc: Global, reply: Value, steps: Value) -> Result<Value, AllocError>
+    ensures { IfOk result (λ v. view v ≡ object (member (codes "reply") (view reply) (member (codes "steps") (view steps) no_members))) }
+{
+    json!(in alloc; {"reply": reply, "steps": steps})
+}
+
+// The first line.
+fn answer_line(alloc: Global, answer: &Answer) -> Result<String, AllocError>
+    ensures { IfOk result (λ s. string_bytes s ≡ answer_text answer.now.reply answer.now.steps) }
+{
+    let reply = integers_to_value(alloc, answer.reply.values())?;
+    let value = parts_to_value(alloc, reply, Value::from(answer.steps))?;
+    Ok(value.to_string(alloc)?)
+}
+
+/// Runs a procedure alone on a tree, and gives the lines to print: the reply and the number of instructions done, and the
+/// tree as it is then. Takes the bytes of the tree's file, those of the procedure's container, and the arguments as text.
+///
+/// What is wrong first, in this order: 106 (also for a tree that is no UTF-8), 101 to 105; the container's 201 to 206;
+/// the verifier's 301 to 307 and 401 to 409; 732; 501. Where memory was refused, 190, 290, 490 or 990.
+pub fn alone_cmd(
+    alloc: Global,
+    tree: &[u8],
+    procedure: &[u8],
+    args: &str,
+) -> Result<String, CliFault>
+    ensures printed { IfOk result (λ s. Prints tree.now procedure.now args.now (string_bytes s)) }
+    ensures fault { IfErr result (IsFault tree.now procedure.now args.now) }
+{
+    let mut tree = match tree_of_file(alloc, tree) {
+        Ok(tree) => tree,
+        Err(fault) => return Err(CliFault::Tree(fault)),
+    };
+    let procedure = procedure_of_file(alloc, procedure)?;
+    let args = args_of(alloc, args)?;
+    let Ok(procedure) = Arc::new(alloc, procedure) else {
+        return Err(CliFault::Memory);
+    };
+    let Ok(answer) = alone(&procedure, &args, &mut tree) else {
+        return Err(CliFault::WrongArgs);
+    };
+    let Ok(mut text) = answer_line(alloc, &answer) else {
+        return Err(CliFault::Memory);
+    };
+    let after = match write_tree(alloc, &tree) {
+        Ok(after) => after,
+        Err(fault) => return Err(CliFault::Tree(fault)),
+    };
+    match append_lines(&mut text, &after) {
+        Ok(()) => Ok(text),
+        Err(_) => Err(CliFault::Memory),
+    }
+}
+
+// Ends the first line, and adds a second.
+fn append_lines(text: &mut String, line: &str) -> Result<(), AllocError>
+    ensures { IfOk result (λ _. string_bytes text.new ≡ string_bytes text.old ++ 10 ∷ line.now ++ 10 ∷ []) }
+{
+    text.push_str("\n")?;
+    text.push_str(line)?;
+    text.push_str("\n")
+}

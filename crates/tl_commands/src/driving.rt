@@ -1,0 +1,173 @@
+// The command `drive`.
+
+ghost use Rattle.std.specs.Prelude.{◌≡◌, ◌≢◌, [], ◌∷◌, ◌++◌, map, string_bytes, IfOk, IfErr, OnOk};
+ghost use Rattle.serde_json.specs.Data.{Data};
+ghost use Rattle.serde_json.specs.View.{view};
+ghost use Rattle.tl_instr.specs.Codes.{CodeValue};
+ghost use Rattle.tl_commands.specs.Script.{named_view};
+ghost use Rattle.tl_commands.specs.Faults.{status_of};
+ghost use Rattle.tl_audit.specs.Reading.{IsFit, and_named, TakenUp};
+ghost use Rattle.tl_audit.specs.Recording.{trail_value};
+ghost use Rattle.tl_audit.specs.Writing.{trail_text};
+ghost use Rattle.tl_commands.specs.Drive.{IsUnfit, IsFirstUnfit, IsConclusion, tree_now, lines_told, IsDriven, Drives, DrivesToTrail, IsDriveFault};
+
+use crate::fault::CliFault;
+use crate::inputs::tree_of_file;
+use crate::script::{NamedText, read_script};
+use crate::told::{order_told, trace_told, unfinished_told};
+use serde_json::Value;
+use std::alloc::{AllocError, Global};
+use tl_asm::assembling::assemble;
+use tl_audit::recording::trail_of;
+use tl_audit::writing::write_trail;
+use tl_core::fault::CoreFault;
+use tl_core::interleaving::Core;
+use tl_core::moves::Entry;
+use tl_serial::concluding::conclude;
+use tl_serial::fault::SerialFault;
+use tl_tree::text::write_tree;
+use tl_verify::procedure::verify;
+
+// Takes up a procedure.
+fn take_up(alloc: Global, core: &mut Core, named: &NamedText) -> Result<(), CliFault>
+    ensures ok { OnOk result ((code : CodeValue) × IsFit core.old.procedures (named_view named.now) code
+        × (core.new ≡ record core.old { procedures = and_named core.old.procedures (string_bytes named.now.name) code })) }
+    ensures fault { IfErr result (λ e. status_of e ≢ 4 → IsUnfit core.old.procedures (named_view named.now) e) }
+{
+    let code = match assemble(alloc, &named.text) {
+        Ok(code) => code,
+        Err(fault) => return Err(CliFault::Asm(fault)),
+    };
+    let procedure = match verify(alloc, code) {
+        Ok(procedure) => procedure,
+        Err((_, fault)) => return Err(CliFault::Verify(fault)),
+    };
+    match core.add_proc(alloc, &named.name, procedure) {
+        Ok(_) => Ok(()),
+        Err(fault) => Err(CliFault::Core(fault)),
+    }
+}
+
+// Takes up the procedures, one after another.
+fn take_up_all(alloc: Global, core: &mut Core, procedures: &[NamedText]) -> Result<(), CliFault>
+    ensures ok { OnOk result (TakenUp core.old.procedures (map named_view procedures.now) core.new.procedures) }
+    ensures same { OnOk result (core.new ≡ record core.old { procedures = core.new.procedures }) }
+    ensures fault { IfErr result (λ e. status_of e ≢ 4 → IsFirstUnfit core.old.procedures (map named_view procedures.now) e) }
+{
+    for named in procedures {
+        take_up(alloc, core, named)?;
+    }
+    Ok(())
+}
+
+// The value of the second line.
+fn conclusion(alloc: Global, core: &Core) -> Result<Value, CliFault>
+    ensures ok { IfOk result (λ v. IsConclusion core.now (view v)) }
+    ensures err { IfErr result (λ e. status_of e ≡ 4) }
+{
+    match conclude(alloc, core) {
+        Ok(order) => Ok(order_told(alloc, order.calls())?),
+        Err(SerialFault::Unfinished { call }) => Ok(unfinished_told(alloc, call)?),
+        Err(SerialFault::Memory) => Err(CliFault::Core(CoreFault::Memory)),
+    }
+}
+
+// Ends the line, and adds one that is to be ended.
+fn next_line(text: &mut String, line: &str) -> Result<(), AllocError>
+    ensures { OnOk result (string_bytes text.new ≡ string_bytes text.old ++ 10 ∷ line.now) }
+{
+    text.push_str("\n")?;
+    text.push_str(line)
+}
+
+// The three lines.
+fn lines(alloc: Global, core: &Core, trace: &[Entry]) -> Result<String, CliFault>
+    ensures ok { IfOk result (λ s. (d : Data) × IsConclusion core.now d × (string_bytes s ≡ lines_told trace.now d (tree_now core.now))) }
+    ensures err { IfErr result (λ e. status_of e ≡ 4) }
+{
+    let trace = trace_told(alloc, trace)?;
+    let conclusion = conclusion(alloc, core)?;
+    let tree = match write_tree(alloc, core.tree()) {
+        Ok(tree) => tree,
+        Err(fault) => return Err(CliFault::Tree(fault)),
+    };
+    let mut text = trace.to_string(alloc)?;
+    next_line(&mut text, &conclusion.to_string(alloc)?)?;
+    next_line(&mut text, &tree)?;
+    text.push_str("\n")?;
+    Ok(text)
+}
+
+// What came of a script: what came of each move, and the core then.
+#[derive(Drop)]
+pub struct Driven {
+    trace: Vec<Entry>,
+    core: Core,
+}
+
+// Carries out a script on a tree.
+fn carry_out(alloc: Global, tree: &[u8], script: &[u8]) -> Result<Driven, CliFault>
+    ensures ok { IfOk result (λ d. IsDriven tree.now script.now d.trace.items d.core) }
+    ensures fault { IfErr result (λ e. IsDriveFault tree.now script.now e) }
+{
+    let tree = match tree_of_file(alloc, tree) {
+        Ok(tree) => tree,
+        Err(fault) => return Err(CliFault::Tree(fault)),
+    };
+    let script = read_script(alloc, script)?;
+    let mut core = match Core::new(alloc, tree) {
+        Ok(core) => core,
+        Err(fault) => return Err(CliFault::Core(fault)),
+    };
+    take_up_all(alloc, &mut core, &script.procedures)?;
+    match core.drive(alloc, &script.moves) {
+        Ok(trace) => Ok(Driven { trace, core }),
+        Err(fault) => Err(CliFault::Core(fault)),
+    }
+}
+
+// The text of the core's trail, as a file.
+fn trail_file(alloc: Global, core: &Core) -> Result<String, CliFault>
+    ensures ok { IfOk result (λ s. string_bytes s ≡ trail_text (trail_value core.now) ++ 10 ∷ []) }
+    ensures err { IfErr result (λ e. status_of e ≡ 4) }
+{
+    let trail = match trail_of(alloc, core) {
+        Ok(trail) => trail,
+        Err(fault) => return Err(CliFault::Trail(fault)),
+    };
+    let mut text = match write_trail(alloc, &trail) {
+        Ok(text) => text,
+        Err(fault) => return Err(CliFault::Trail(fault)),
+    };
+    text.push_str("\n")?;
+    Ok(text)
+}
+
+/// Carries out a script on a tree, and gives the lines to print: what came of each move; the order of the calls, or 651
+/// and the least unfinished call; and the tree as it is then. Takes the bytes of the tree's file and those of the script.
+///
+/// What is wrong first, in this order: 106 (also for a tree that is no UTF-8), 101 to 105; 731; then of each procedure
+/// the assembler's 251 to 254, the verifier's 301 to 307 and 401 to 409, and 612, 611, 613. Where memory was refused, 190,
+/// 290, 490, 690 or 990.
+pub fn drive_cmd(alloc: Global, tree: &[u8], script: &[u8]) -> Result<String, CliFault>
+    ensures printed { IfOk result (λ s. Drives tree.now script.now (string_bytes s)) }
+    ensures fault { IfErr result (λ e. IsDriveFault tree.now script.now e) }
+{
+    let driven = carry_out(alloc, tree, script)?;
+    lines(alloc, &driven.core, &driven.trace)
+}
+
+/// The same, and the text of a file: the trail of the calls, and a line feed. Where memory was refused, also 790.
+pub fn drive_with_trail_cmd(
+    alloc: Global,
+    tree: &[u8],
+    script: &[u8],
+) -> Result<(String, String), CliFault>
+    ensures printed { IfOk result (λ r. DrivesToTrail tree.now script.now (string_bytes r.0) (string_bytes r.1)) }
+    ensures fault { IfErr result (λ e. IsDriveFault tree.now script.now e) }
+{
+    let driven = carry_out(alloc, tree, script)?;
+    let text = lines(alloc, &driven.core, &driven.trace)?;
+    let trail = trail_file(alloc, &driven.core)?;
+    Ok((text, trail))
+}

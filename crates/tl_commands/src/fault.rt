@@ -1,0 +1,124 @@
+// What the program answers in the place of a result.
+
+ghost use Rattle.std.specs.Prelude.{◌≡◌};
+ghost use Rattle.tl_core.specs.Faults.{numbers_of as core_numbers_of};
+ghost use Rattle.tl_commands.specs.declared.fault.CliFault.TheVariants.{Memory};
+ghost use Rattle.tl_commands.specs.Faults.{numbers_of, status_of};
+
+use arrayvec::ArrayVec;
+use std::alloc::AllocError;
+use thiserror::Error;
+use tl_asm::fault::AsmFault;
+use tl_audit::fault::{AuditFault, TrailFault};
+use tl_core::fault::CoreFault;
+use tl_instr::fault::CodeFault;
+use tl_tree::fault::TreeFault;
+use tl_verify::fault::VerifyFault;
+
+/// Why the program has no result to print.
+#[derive(Clone, Copy, Debug, PartialEq, Eq, Error)]
+pub enum CliFault {
+    /// 31: a file can't be read.
+    #[error("a file can't be read")]
+    Unreadable,
+    /// 32: a file can't be written.
+    #[error("a file can't be written")]
+    Unwritable,
+    /// 255: the assembler text is no UTF-8.
+    #[error("the text is not UTF-8")]
+    NotUtf8,
+    /// 251 to 254, 290: the assembler text.
+    #[error("the text: {0}")]
+    Asm(AsmFault),
+    /// 101 to 106, 190: the tree.
+    #[error("the tree: {0}")]
+    Tree(TreeFault),
+    /// 201 to 206, 290: the container.
+    #[error("the procedure: {0}")]
+    Code(CodeFault),
+    /// 301 to 307, 401 to 409, 490: the code isn't accepted.
+    #[error("the procedure: {0}")]
+    Verify(VerifyFault),
+    /// 501 to 613, 690: many calls in turns.
+    #[error("the calls: {0}")]
+    Core(CoreFault),
+    /// 701, 101 to 613 of what it tells, 790: the trail.
+    #[error("the trail: {0}")]
+    Trail(TrailFault),
+    /// 711 to 717, 790: what is wrong with the trail.
+    #[error("the trail: {0}")]
+    Audit(AuditFault),
+    /// 731: the text is no script.
+    #[error("the text is not a script")]
+    NotScript,
+    /// 732: the arguments are no JSON list of integers of 64 bits.
+    #[error("the arguments are not a list of numbers")]
+    NotArgs,
+    /// 501: another number of arguments than the procedure takes.
+    #[error("another number of arguments than the procedure takes")]
+    WrongArgs,
+    /// 990: memory was refused.
+    #[error("out of memory")]
+    Memory,
+}
+
+impl CliFault {
+    /// The fault's number, then its parts.
+    pub fn numbers(&self) -> ArrayVec<u64, 3>
+        ensures { result.items ≡ numbers_of self.now }
+    {
+        let mut numbers = ArrayVec::new();
+        match self {
+            CliFault::Unreadable => numbers.push(31),
+            CliFault::Unwritable => numbers.push(32),
+            CliFault::NotUtf8 => numbers.push(255),
+            CliFault::Asm(fault) => return fault.numbers(),
+            CliFault::Tree(fault) => return fault.numbers(),
+            CliFault::Code(fault) => return fault.numbers(),
+            CliFault::Verify(fault) => return fault.numbers(),
+            CliFault::Core(fault) => return core_numbers(fault),
+            CliFault::Trail(fault) => return fault.numbers(),
+            CliFault::Audit(fault) => return fault.numbers(),
+            CliFault::NotScript => numbers.push(731),
+            CliFault::NotArgs => numbers.push(732),
+            CliFault::WrongArgs => numbers.push(501),
+            CliFault::Memory => numbers.push(990),
+        }
+        numbers
+    }
+
+    /// The program's exit status: 3 for a device, 4 for want of memory, else 1.
+    pub fn status(&self) -> u8
+        ensures { result ≡ status_of self.now }
+    {
+        match self {
+            CliFault::Unreadable | CliFault::Unwritable => 3,
+            CliFault::Tree(TreeFault::Memory)
+            | CliFault::Asm(AsmFault::Memory)
+            | CliFault::Code(CodeFault::Memory)
+            | CliFault::Verify(VerifyFault::Memory)
+            | CliFault::Core(CoreFault::Memory)
+            | CliFault::Trail(TrailFault::Memory)
+            | CliFault::Audit(AuditFault::Memory)
+            | CliFault::Memory => 4,
+            _ => 1,
+        }
+    }
+}
+
+// The number of a core's fault.
+fn core_numbers(fault: &CoreFault) -> ArrayVec<u64, 3>
+    ensures { result.items ≡ core_numbers_of fault.now }
+{
+    let mut numbers = ArrayVec::new();
+    let _fits = numbers.try_extend_from_slice(fault.numbers().as_slice());
+    numbers
+}
+
+impl From<AllocError> for CliFault {
+    ghost from_gives = { λ _ e. e ≡ Memory };
+
+    fn from(_refused: AllocError) -> CliFault {
+        CliFault::Memory
+    }
+}

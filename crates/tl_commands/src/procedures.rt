@@ -1,0 +1,138 @@
+// The commands on procedures alone: `asm`, `dis` and `verify`.
+
+ghost use Rattle.std.specs.Prelude.{◌≡◌, [], ◌∷◌, ◌++◌, false, pos, length, codes, string_bytes, IfOk, IfErr, IsUtf8};
+ghost use Rattle.serde_json.specs.Data.{object, member, no_members};
+ghost use Rattle.serde_json.specs.View.{view};
+ghost use Rattle.serde_json.specs.Written.{has_float, compact_text};
+ghost use Rattle.tl_tree.specs.Writing.{integer_data};
+ghost use Rattle.tl_instr.specs.Spelling.{Spelled};
+ghost use Rattle.tl_asm.specs.Texts.{Written};
+ghost use Rattle.tl_commands.specs.Procedures.{count_text, bounds_text, Assembles, IsAssemblingFault, Lists, IsContainerFault, Verifies, IsVerifyingFault};
+
+use crate::fault::CliFault;
+use serde_json::{Value, json};
+use std::alloc::{AllocError, Global};
+use tl_asm::assembling::assemble;
+use tl_asm::listing::disassemble;
+use tl_budget::limits::Bounds;
+use tl_instr::code::Code;
+use tl_instr::container::{decode, encode};
+use tl_verify::procedure::verify;
+
+// The code of an assembler text.
+fn code_of_text(alloc: Global, text: &[u8]) -> Result<Code, CliFault>
+    ensures utf8 { IfOk result (λ _. IsUtf8 text.now) }
+    ensures written { IfOk result (λ code. Written text.now code) }
+    ensures fault { IfErr result (λ e. IsAssemblingFault text.now e) }
+{
+    let Ok(text) = std::str::from_utf8(text) else {
+        return Err(CliFault::NotUtf8);
+    };
+    match assemble(alloc, text) {
+        Ok(code) => Ok(code),
+        Err(fault) => Err(CliFault::Asm(fault)),
+    }
+}
+
+// The code of a container.
+fn code_of_container(alloc: Global, container: &[u8]) -> Result<Code, CliFault>
+    ensures spelled { IfOk result (λ code. Spelled container.now code) }
+    ensures fault { IfErr result (λ e. IsContainerFault container.now e) }
+{
+    match decode(alloc, container) {
+        Ok(code) => Ok(code),
+        Err(fault) => Err(CliFault::Code(fault)),
+    }
+}
+
+fn count_to_value(alloc: Global, count: Value) -> Result<Value, AllocError>
+    ensures { IfOk result (λ v. view v ≡ object (member (codes "count") (view count) no_members)) }
+{
+    json!(in alloc; {"count": count})
+}
+
+fn bounds_to_value(
+    alloc: Global,
+    emits: Value,
+    locks: Value,
+    steps: Value,
+) -> Result<Value, AllocError>
+    ensures { IfOk result (λ v. view v ≡ object (member (codes "bounds") (object
+        (member (codes "emits") (view emits) (member (codes "locks") (view locks) (member (codes "steps") (view steps) no_members)))) no_members)) }
+{
+    json!(in alloc; {"bounds": {"emits": emits, "locks": locks, "steps": steps}})
+}
+
+// The line of a value.
+fn line_of(alloc: Global, value: &Value) -> Result<String, AllocError>
+    ensures { IfOk result (λ s. has_float (view value.now) ≡ false → string_bytes s ≡ compact_text (view value.now) ++ 10 ∷ []) }
+{
+    let mut line = value.to_string(alloc)?;
+    line.push_str("\n")?;
+    Ok(line)
+}
+
+// The line that tells how many instructions a code has.
+fn count_line(alloc: Global, code: &Code) -> Result<String, AllocError>
+    ensures { IfOk result (λ s. string_bytes s ≡ count_text (length code.now.instrs)) }
+{
+    let value = count_to_value(alloc, Value::from(code.count()))?;
+    line_of(alloc, &value)
+}
+
+// The line of what a procedure does at most.
+fn bounds_line(alloc: Global, bounds: Bounds) -> Result<String, AllocError>
+    ensures { IfOk result (λ s. string_bytes s ≡ bounds_text bounds.emits bounds.locks bounds.steps) }
+{
+    let emits = Value::from(bounds.emits);
+    let locks = Value::from(bounds.locks);
+    let value = bounds_to_value(alloc, emits, locks, Value::from(bounds.steps))?;
+    line_of(alloc, &value)
+}
+
+/// The line that tells how many instructions the code of an assembler text has, and the code's container. Takes the bytes
+/// of the text's file.
+///
+/// What is wrong first, in this order: 255 where the text is no UTF-8; line by line 251, 253 and 254; 251 where no line
+/// has the arity or an instruction; 252. Where memory was refused, 290 or 990.
+pub fn asm_cmd(alloc: Global, text: &[u8]) -> Result<(String, Vec<u8>), CliFault>
+    ensures printed { IfOk result (λ r. Assembles text.now (string_bytes r.0) r.1.items) }
+    ensures fault { IfErr result (λ e. IsAssemblingFault text.now e) }
+{
+    let code = code_of_text(alloc, text)?;
+    let container = match encode(alloc, &code) {
+        Ok(container) => container,
+        Err(fault) => return Err(CliFault::Code(fault)),
+    };
+    let line = count_line(alloc, &code)?;
+    Ok((line, container))
+}
+
+/// The canonical text of a container's code. Takes the bytes of the container's file.
+///
+/// Else the container's first fault, 201 to 206. Where memory was refused, 290.
+pub fn dis_cmd(alloc: Global, container: &[u8]) -> Result<String, CliFault>
+    ensures printed { IfOk result (λ text. Lists container.now (string_bytes text)) }
+    ensures fault { IfErr result (λ e. IsContainerFault container.now e) }
+{
+    let code = code_of_container(alloc, container)?;
+    match disassemble(alloc, &code) {
+        Ok(text) => Ok(text),
+        Err(fault) => Err(CliFault::Asm(fault)),
+    }
+}
+
+/// The line of the bounds of a container's procedure. Takes the bytes of the container's file.
+///
+/// Else the container's first fault, 201 to 206, or the verifier's, 301 to 307 and 401 to 409. Where memory was refused,
+/// 290, 490 or 990.
+pub fn verify_cmd(alloc: Global, container: &[u8]) -> Result<String, CliFault>
+    ensures printed { IfOk result (λ s. Verifies container.now (string_bytes s)) }
+    ensures fault { IfErr result (λ e. IsVerifyingFault container.now e) }
+{
+    let code = code_of_container(alloc, container)?;
+    match verify(alloc, code) {
+        Ok(procedure) => Ok(bounds_line(alloc, procedure.bounds())?),
+        Err((_, fault)) => Err(CliFault::Verify(fault)),
+    }
+}
