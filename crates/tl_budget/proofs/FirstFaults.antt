@@ -14,14 +14,14 @@ use Rattle.tl_budget.proofs.Matching.{nothing_found}
 pub none_where_nested : (code : List Instr) (f : NestFault) → IsNested code → IsFirstFault code f → ⊥
 none_where_nested code f nested h = nothing_found code nested h.finding h.arises
 
--- the finding of that rank
-ranked : ℕ → ℕ → Finding
+-- the finding of that position and rank
+pub ranked : ℕ → ℕ → Finding
 ranked p zero = Alone p
 ranked p (suc zero) = Zero p
 ranked p (suc (suc zero)) = Deep p
 ranked p (suc (suc (suc n))) = Unclosed p
 
-is_ranked : (f : Finding) → ranked (position f) (rank f) ≡ f
+pub is_ranked : (f : Finding) → ranked (position f) (rank f) ≡ f
 unfolding ranked
 is_ranked (Alone p) = refl
 is_ranked (Zero p) = refl

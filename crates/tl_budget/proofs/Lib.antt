@@ -1,6 +1,7 @@
 pub mod Clear
 pub mod Costing
 pub mod FirstFaults
+pub mod LoopWays
 pub mod Matching
 pub mod Nest
 pub mod Opened

@@ -10,7 +10,7 @@ use Rattle.tl_verify.specs.Pass.{Compares, is_end}
 use lib.Pointwise.{pointwise}
 use mathlib.Core.Bool.{beq, not}
 
-pointwise_same : (xs ys : List Bool) → pointwise beq xs ys ≡ true → xs ≡ ys
+pub pointwise_same : (xs ys : List Bool) → pointwise beq xs ys ≡ true → xs ≡ ys
 pointwise_same [] [] e = refl
 pointwise_same [] (y ∷ ys) e = cc
 pointwise_same (x ∷ xs) [] e = cc
@@ -19,7 +19,7 @@ pointwise_same (false ∷ xs) (false ∷ ys) e = ap (λ zs. false ∷ zs) (point
 pointwise_same (true ∷ xs) (false ∷ ys) e = cc
 pointwise_same (false ∷ xs) (true ∷ ys) e = cc
 
-pointwise_itself : (xs : List Bool) → pointwise beq xs xs ≡ true
+pub pointwise_itself : (xs : List Bool) → pointwise beq xs xs ≡ true
 pointwise_itself [] = refl
 pointwise_itself (true ∷ xs) = pointwise_itself xs
 pointwise_itself (false ∷ xs) = pointwise_itself xs

@@ -3,6 +3,7 @@ pub mod Alike
 pub mod Bits
 pub mod Bodies
 pub mod Comes
+pub mod FirstFaults
 pub mod Fitting
 pub mod Gathering
 pub mod Jumping

@@ -4,6 +4,7 @@
 mod arrivals;
 pub mod fault;
 mod jumps;
+pub mod laws;
 mod marks;
 mod objection;
 pub mod procedure;
