@@ -5,6 +5,7 @@ pub mod Steps
 pub mod Resolved
 pub mod Whole
 pub mod Laws
+pub mod LineWords
 pub mod Listed
 pub mod Spaced
 pub mod Spelled

@@ -4,4 +4,5 @@ pub mod Statements
 pub mod Texts
 pub mod Faults
 pub mod Sketches
+pub mod Lines
 pub mod Listing

@@ -20,28 +20,32 @@ node_word n = 110 ∷ decimal n
 abbrev pub label_word : ℕ → Word
 label_word pc = 76 ∷ decimal pc
 
--- the words of an instruction
+-- the words of an instruction, with this label in the place of its target
+abbrev pub words_to : Word → Instr → List Word
+words_to label (Set to number) = codes "set" ∷ value_word to ∷ signed_decimal number ∷ []
+words_to label (Copy to from) = codes "copy" ∷ value_word to ∷ value_word from ∷ []
+words_to label (Add to left right otherwise) = codes "add" ∷ value_word to ∷ value_word left ∷ value_word right ∷ codes "else" ∷ label ∷ []
+words_to label (Subtract to left right otherwise) = codes "sub" ∷ value_word to ∷ value_word left ∷ value_word right ∷ codes "else" ∷ label ∷ []
+words_to label (Multiply to left right otherwise) = codes "mul" ∷ value_word to ∷ value_word left ∷ value_word right ∷ codes "else" ∷ label ∷ []
+words_to label (Divide to left right otherwise) = codes "div" ∷ value_word to ∷ value_word left ∷ value_word right ∷ codes "else" ∷ label ∷ []
+words_to label (Jump to) = codes "jmp" ∷ label ∷ []
+words_to label (JumpIfLess left right to) = codes "jlt" ∷ value_word left ∷ value_word right ∷ label ∷ []
+words_to label (JumpIfEqual left right to) = codes "jeq" ∷ value_word left ∷ value_word right ∷ label ∷ []
+words_to label (Repeat count) = codes "rep" ∷ decimal count ∷ []
+words_to label End = codes "end" ∷ []
+words_to label (First to number otherwise) = codes "first" ∷ node_word to ∷ value_word number ∷ codes "else" ∷ label ∷ []
+words_to label (Child to parent number otherwise) = codes "child" ∷ node_word to ∷ node_word parent ∷ value_word number ∷ codes "else" ∷ label ∷ []
+words_to label (Move to from) = codes "move" ∷ node_word to ∷ node_word from ∷ []
+words_to label (Release node) = codes "rel" ∷ node_word node ∷ []
+words_to label (Get to node field) = codes "get" ∷ value_word to ∷ node_word node ∷ decimal field ∷ []
+words_to label (Put node field from) = codes "put" ∷ node_word node ∷ decimal field ∷ value_word from ∷ []
+words_to label (Kids to node) = codes "kids" ∷ value_word to ∷ node_word node ∷ []
+words_to label (Emit from) = codes "emit" ∷ value_word from ∷ []
+words_to label Return = codes "ret" ∷ []
+
+-- the words of an instruction whose target is labelled by its position
 abbrev pub instr_words : Instr → List Word
-instr_words (Set to number) = codes "set" ∷ value_word to ∷ signed_decimal number ∷ []
-instr_words (Copy to from) = codes "copy" ∷ value_word to ∷ value_word from ∷ []
-instr_words (Add to left right otherwise) = codes "add" ∷ value_word to ∷ value_word left ∷ value_word right ∷ codes "else" ∷ label_word otherwise ∷ []
-instr_words (Subtract to left right otherwise) = codes "sub" ∷ value_word to ∷ value_word left ∷ value_word right ∷ codes "else" ∷ label_word otherwise ∷ []
-instr_words (Multiply to left right otherwise) = codes "mul" ∷ value_word to ∷ value_word left ∷ value_word right ∷ codes "else" ∷ label_word otherwise ∷ []
-instr_words (Divide to left right otherwise) = codes "div" ∷ value_word to ∷ value_word left ∷ value_word right ∷ codes "else" ∷ label_word otherwise ∷ []
-instr_words (Jump to) = codes "jmp" ∷ label_word to ∷ []
-instr_words (JumpIfLess left right to) = codes "jlt" ∷ value_word left ∷ value_word right ∷ label_word to ∷ []
-instr_words (JumpIfEqual left right to) = codes "jeq" ∷ value_word left ∷ value_word right ∷ label_word to ∷ []
-instr_words (Repeat count) = codes "rep" ∷ decimal count ∷ []
-instr_words End = codes "end" ∷ []
-instr_words (First to number otherwise) = codes "first" ∷ node_word to ∷ value_word number ∷ codes "else" ∷ label_word otherwise ∷ []
-instr_words (Child to parent number otherwise) = codes "child" ∷ node_word to ∷ node_word parent ∷ value_word number ∷ codes "else" ∷ label_word otherwise ∷ []
-instr_words (Move to from) = codes "move" ∷ node_word to ∷ node_word from ∷ []
-instr_words (Release node) = codes "rel" ∷ node_word node ∷ []
-instr_words (Get to node field) = codes "get" ∷ value_word to ∷ node_word node ∷ decimal field ∷ []
-instr_words (Put node field from) = codes "put" ∷ node_word node ∷ decimal field ∷ value_word from ∷ []
-instr_words (Kids to node) = codes "kids" ∷ value_word to ∷ node_word node ∷ []
-instr_words (Emit from) = codes "emit" ∷ value_word from ∷ []
-instr_words Return = codes "ret" ∷ []
+instr_words i = words_to (option_map_or label_word (target i) []) i
 
 -- the words, parted by one space, and an LF
 abbrev pub line_of : List Word → List ℕ

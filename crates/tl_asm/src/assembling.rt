@@ -1,8 +1,10 @@
 //! From a text to its code.
 
-ghost use Rattle.std.specs.Prelude.{◌≡◌, ◌≢◌, ℕ, List, map, IfOk, IfErr, MatchResult};
+ghost use Rattle.std.specs.Prelude.{◌≡◌, ◌≢◌, ◌↔◌, ◌∷◌, ℕ, List, Some, map, IfOk, IfErr, MatchResult};
 ghost use Rattle.tl_instr.specs.Codes.{CodeValue, IsCode};
-ghost use Rattle.tl_asm.specs.Words.{lines_of};
+ghost use Rattle.tl_asm.specs.Words.{Word, lines_of};
+ghost use Rattle.tl_asm.specs.Statements.{DraftValue, draft_in};
+ghost use Rattle.tl_asm.specs.Lines.{IsLineOf};
 ghost use Rattle.tl_asm.specs.Texts.{Written};
 ghost use Rattle.tl_asm.specs.Faults.{FirstFault};
 ghost use Rattle.tl_asm.specs.Listing.{listing};
@@ -63,4 +65,9 @@ pub fn one_reading()
     ensures one_code { (text : List ℕ) (c d : CodeValue) → Written text c → Written text d → c ≡ d }
     ensures faultless { (text : List ℕ) (c : CodeValue) (f : AsmFault) → Written text c → ¬ FirstFault text f }
     ensures one_fault { (text : List ℕ) (f g : AsmFault) → FirstFault text f → FirstFault text g → f ≡ g }
+{}
+
+/// The law of lines: a name and the words after it are read as an instruction exactly where they are its words.
+pub fn one_line()
+    ensures { (name : Word) (words : List Word) (d : DraftValue) → (draft_in name words ≡ Some d) ↔ IsLineOf d (name ∷ words) }
 {}
