@@ -48,11 +48,11 @@ one_more parents past c d a mine is_open may each =
 right_obeys : (parents : List ℕ) (opening : Records) (past : List Event) → AreRight parents opening past → (c : ℕ) → EachPermitted parents (part_of c past)
 right_obeys parents opening [] h c = tt
 right_obeys parents opening (Admit d ∷ past) h c = right_obeys parents opening past h.1 c
-right_obeys parents opening (Lock d x found ∷ past) h c = elim (cases_Bool (d == c)) [
+right_obeys parents opening (Lock x d found ∷ past) h c = elim (cases_Bool (d == c)) [
   | inl mine ↦ rw mine (one_more parents past c d (A.Lock x found) mine h.0.rules.may_happen h.0.rules.permitted (right_obeys parents opening past h.1 c))
   | inr other ↦ rw other (right_obeys parents opening past h.1 c)
 ]
-right_obeys parents opening (Free d x left ∷ past) h c = elim (cases_Bool (d == c)) [
+right_obeys parents opening (Free x d left ∷ past) h c = elim (cases_Bool (d == c)) [
   | inl mine ↦ rw mine (one_more parents past c d (A.Free x left) mine h.0.rules.may_happen h.0.rules.permitted (right_obeys parents opening past h.1 c))
   | inr other ↦ rw other (right_obeys parents opening past h.1 c)
 ]
@@ -65,21 +65,21 @@ right_obeys parents opening (Done d ∷ past) h c = elim (cases_Bool (d == c)) [
 right_apart : (parents : List ℕ) (opening : Records) (past : List Event) → AreRight parents opening past → Apart past
 right_apart parents opening [] h = tt
 right_apart parents opening (Admit c ∷ past) h = right_apart parents opening past h.1
-right_apart parents opening (Lock c x found ∷ past) h = (
+right_apart parents opening (Lock x c found ∷ past) h = (
   λ d. elim (cases_eq d c) [
     | inl same ↦ subst (λ z. held (part_of z past) x ≡ false) (sym same) (false_from_ne_true (held (part_of c past) x) (λ mine. both_ways _ h.0.rules.permitted.0 (held-locked (part_of c past) x mine)))
     | inr other ↦ h.0.apart d other
   ],
   right_apart parents opening past h.1,
 )
-right_apart parents opening (Free c x left ∷ past) h = right_apart parents opening past h.1
+right_apart parents opening (Free x c left ∷ past) h = right_apart parents opening past h.1
 right_apart parents opening (Done c ∷ past) h = right_apart parents opening past h.1
 
 right_follows : (parents : List ℕ) (opening : Records) (past : List Event) → AreRight parents opening past → Follows opening past
 right_follows parents opening [] h = tt
 right_follows parents opening (Admit c ∷ past) h = right_follows parents opening past h.1
-right_follows parents opening (Lock c x found ∷ past) h = (h.0.finds, right_follows parents opening past h.1)
-right_follows parents opening (Free c x left ∷ past) h = right_follows parents opening past h.1
+right_follows parents opening (Lock x c found ∷ past) h = (h.0.finds, right_follows parents opening past h.1)
+right_follows parents opening (Free x c left ∷ past) h = right_follows parents opening past h.1
 right_follows parents opening (Done c ∷ past) h = right_follows parents opening past h.1
 
 -- where nothing is wrong with any event, the history is legal
@@ -102,8 +102,8 @@ admits_within calls (Admit c ∷ past) turn callers =
     let here : c < calls = All-head (λ e. caller e < calls) (Admit c) past callers in
     let next : c ≡ admits past = turn.0 in
     omega arith
-admits_within calls (Lock c x found ∷ past) turn callers = admits_within calls past turn.1 (All-tail (λ e. caller e < calls) (Lock c x found) past callers)
-admits_within calls (Free c x left ∷ past) turn callers = admits_within calls past turn.1 (All-tail (λ e. caller e < calls) (Free c x left) past callers)
+admits_within calls (Lock x c found ∷ past) turn callers = admits_within calls past turn.1 (All-tail (λ e. caller e < calls) (Lock x c found) past callers)
+admits_within calls (Free x c left ∷ past) turn callers = admits_within calls past turn.1 (All-tail (λ e. caller e < calls) (Free x c left) past callers)
 admits_within calls (Done c ∷ past) turn callers = admits_within calls past turn.1 (All-tail (λ e. caller e < calls) (Done c) past callers)
 
 -- ---- the actions of a call that has ended
@@ -112,8 +112,8 @@ admits_within calls (Done c ∷ past) turn callers = admits_within calls past tu
 shared-part_of : (c : ℕ) (past : List Event) → shared_actions (part_of c past) ≡ part_of c past
 shared-part_of c [] = refl
 shared-part_of c (Admit d ∷ past) = shared-part_of c past
-shared-part_of c (Lock d x found ∷ past) = elim (cases_Bool (d == c)) [ inl mine ↦ rw mine (ap (λ z. A.Lock x found ∷ z) (shared-part_of c past)) | inr other ↦ rw other (shared-part_of c past) ]
-shared-part_of c (Free d x left ∷ past) = elim (cases_Bool (d == c)) [ inl mine ↦ rw mine (ap (λ z. A.Free x left ∷ z) (shared-part_of c past)) | inr other ↦ rw other (shared-part_of c past) ]
+shared-part_of c (Lock x d found ∷ past) = elim (cases_Bool (d == c)) [ inl mine ↦ rw mine (ap (λ z. A.Lock x found ∷ z) (shared-part_of c past)) | inr other ↦ rw other (shared-part_of c past) ]
+shared-part_of c (Free x d left ∷ past) = elim (cases_Bool (d == c)) [ inl mine ↦ rw mine (ap (λ z. A.Free x left ∷ z) (shared-part_of c past)) | inr other ↦ rw other (shared-part_of c past) ]
 shared-part_of c (Done d ∷ past) = elim (cases_Bool (d == c)) [ inl mine ↦ rw mine (ap (λ z. A.End ∷ z) (shared-part_of c past)) | inr other ↦ rw other (shared-part_of c past) ]
 
 -- before the end all that is shared is locks and frees

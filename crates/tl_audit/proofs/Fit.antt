@@ -108,7 +108,7 @@ list_of events vectors c v inside is =
     ap (λ w. actions_at events w.items) is ∙ sym (get_or-map (λ w. actions_at events w.items) vectors c v [] inside)
 
 module _ (lists : List (List Action)) (past : List Event) (c x : ℕ) (r : Record) (inside : c < length lists) (before : AreParts lists past) (new : List Action) where
-  pub lock_put : new ≡ get_or lists c [] ++ did.Lock x r ∷ [] → AreParts (slice_set lists c new) (Lock c x r ∷ past)
+  pub lock_put : new ≡ get_or lists c [] ++ did.Lock x r ∷ [] → AreParts (slice_set lists c new) (Lock x c r ∷ past)
   lock_put is k lt = elim (cases_eq c k) [
     | inl same ↦
         let q = eq-eqb c k same in
@@ -122,7 +122,7 @@ module _ (lists : List (List Action)) (past : List Event) (c x : ℕ) (r : Recor
         rw q (ap reverse (get_or-set_other lists c k new [] (λ e. other (sym e))) ∙ before k (omega arith))
   ]
 
-  pub free_put : new ≡ get_or lists c [] ++ did.Free x r ∷ [] → AreParts (slice_set lists c new) (Free c x r ∷ past)
+  pub free_put : new ≡ get_or lists c [] ++ did.Free x r ∷ [] → AreParts (slice_set lists c new) (Free x c r ∷ past)
   free_put is k lt = elim (cases_eq c k) [
     | inl same ↦
         let q = eq-eqb c k same in

@@ -27,9 +27,9 @@ use Rattle.tl_audit.specs.Recording.{told_call, trail_value, IsCoreCall}
 
 event_permitted : (parents : List ℕ) (e : Event) (past : List Event) → IsLegalHistory parents (e ∷ past) → IsPermitted parents past e
 event_permitted parents (Admit c) past legal = tt
-event_permitted parents (Lock c x found) past legal =
+event_permitted parents (Lock x c found) past legal =
     let each : EachPermitted parents (A.Lock x found ∷ part_of c past) = subst (EachPermitted parents) (part_of-lock c x found past) (legal.obeys c) in each.0
-event_permitted parents (Free c x left) past legal =
+event_permitted parents (Free x c left) past legal =
     let each : EachPermitted parents (A.Free x left ∷ part_of c past) = subst (EachPermitted parents) (part_of-free c x left past) (legal.obeys c) in each.0
 event_permitted parents (Done c) past legal =
     let each : EachPermitted parents (A.End ∷ part_of c past) = subst (EachPermitted parents) (part_of-done c past) (legal.obeys c) in each.0
@@ -41,13 +41,13 @@ legal_right parents opening (Admit c ∷ past) legal follows = (
   record { rules = record { may_happen = legal.in_turn.0; permitted = tt }; apart = tt; finds = tt },
   legal_right parents opening past (legal_before parents (Admit c) past legal) follows,
 )
-legal_right parents opening (Lock c x found ∷ past) legal follows = (
-  record { rules = record { may_happen = legal.in_turn.0; permitted = event_permitted parents (Lock c x found) past legal }; apart = λ d ne. legal.apart.0 d; finds = follows.0 },
-  legal_right parents opening past (legal_before parents (Lock c x found) past legal) follows.1,
+legal_right parents opening (Lock x c found ∷ past) legal follows = (
+  record { rules = record { may_happen = legal.in_turn.0; permitted = event_permitted parents (Lock x c found) past legal }; apart = λ d ne. legal.apart.0 d; finds = follows.0 },
+  legal_right parents opening past (legal_before parents (Lock x c found) past legal) follows.1,
 )
-legal_right parents opening (Free c x left ∷ past) legal follows = (
-  record { rules = record { may_happen = legal.in_turn.0; permitted = event_permitted parents (Free c x left) past legal }; apart = tt; finds = tt },
-  legal_right parents opening past (legal_before parents (Free c x left) past legal) follows,
+legal_right parents opening (Free x c left ∷ past) legal follows = (
+  record { rules = record { may_happen = legal.in_turn.0; permitted = event_permitted parents (Free x c left) past legal }; apart = tt; finds = tt },
+  legal_right parents opening past (legal_before parents (Free x c left) past legal) follows,
 )
 legal_right parents opening (Done c ∷ past) legal follows = (
   record { rules = record { may_happen = legal.in_turn.0; permitted = event_permitted parents (Done c) past legal }; apart = tt; finds = tt },
@@ -59,10 +59,10 @@ callers_admitted : (past : List Event) → InTurn past → (n : ℕ) → admits 
 callers_admitted [] turn n le = All-nil (λ e. caller e < n)
 callers_admitted (Admit c ∷ past) turn n le =
     let here : c ≡ admits past = turn.0 in All-cons (λ e. caller e < n) (Admit c) past (omega arith) (callers_admitted past turn.1 n (omega arith))
-callers_admitted (Lock c x found ∷ past) turn n le =
-    let here : c < admits past = turn.0.0 in All-cons (λ e. caller e < n) (Lock c x found) past (omega arith) (callers_admitted past turn.1 n le)
-callers_admitted (Free c x left ∷ past) turn n le =
-    let here : c < admits past = turn.0.0 in All-cons (λ e. caller e < n) (Free c x left) past (omega arith) (callers_admitted past turn.1 n le)
+callers_admitted (Lock x c found ∷ past) turn n le =
+    let here : c < admits past = turn.0.0 in All-cons (λ e. caller e < n) (Lock x c found) past (omega arith) (callers_admitted past turn.1 n le)
+callers_admitted (Free x c left ∷ past) turn n le =
+    let here : c < admits past = turn.0.0 in All-cons (λ e. caller e < n) (Free x c left) past (omega arith) (callers_admitted past turn.1 n le)
 callers_admitted (Done c ∷ past) turn n le =
     let here : c < admits past = turn.0.0 in All-cons (λ e. caller e < n) (Done c) past (omega arith) (callers_admitted past turn.1 n le)
 

@@ -25,11 +25,11 @@ use Rattle.tl_audit.specs.Clean.{KeepsRules, IsApart, IsRight, AreRight}
 
 obeys_own : (parents : List ℕ) (e : Event) (past : List Event) (c : ℕ) → caller e ≡ c → KeepsRules parents past e → EachPermitted parents (part_of c past) → EachPermitted parents (part_of c (e ∷ past))
 obeys_own parents (Admit d) past c same rules h = h
-obeys_own parents (Lock d x found) past c same rules h =
+obeys_own parents (Lock x d found) past c same rules h =
     let q = eq-eqb d c same in
     let permitted : Permitted parents (part_of c past) (A.Lock x found) = subst (λ k. Permitted parents (part_of k past) (A.Lock x found)) same rules.permitted in
     rw q (permitted, has_ended-part_of c past ∙ ap (λ k. is_done k past) (sym same) ∙ rules.may_happen.1, h)
-obeys_own parents (Free d x left) past c same rules h =
+obeys_own parents (Free x d left) past c same rules h =
     let q = eq-eqb d c same in
     let permitted : Permitted parents (part_of c past) (A.Free x left) = subst (λ k. Permitted parents (part_of k past) (A.Free x left)) same rules.permitted in
     rw q (permitted, has_ended-part_of c past ∙ ap (λ k. is_done k past) (sym same) ∙ rules.may_happen.1, h)
@@ -52,14 +52,14 @@ not_held done x none = elim (cases_Bool (held done x)) [
 
 apart_more : (parents : List ℕ) (opening : Records) (e : Event) (past : List Event) → IsRight parents opening past e → Apart past → Apart (e ∷ past)
 apart_more parents opening (Admit c) past r h = h
-apart_more parents opening (Lock c x found) past r h = (
+apart_more parents opening (Lock x c found) past r h = (
   λ d. elim (cases_eq d c) [
     | inl same ↦ subst (λ k. held (part_of k past) x ≡ false) (sym same) (not_held (part_of c past) x r.rules.permitted.0)
     | inr other ↦ r.apart d other
   ],
   h,
 )
-apart_more parents opening (Free c x left) past r h = h
+apart_more parents opening (Free x c left) past r h = h
 apart_more parents opening (Done c) past r h = h
 
 pub right_legal : (parents : List ℕ) (opening : Records) (past : List Event) → AreRight parents opening past → IsLegalHistory parents past
@@ -75,7 +75,7 @@ right_legal parents opening (e ∷ past) r =
 -- ---- who holds a node
 
 pub holder_apart : (parents : List ℕ) (past : List Event) → IsLegalHistory parents past → (c x h : ℕ) (found : Record) → holder_of past x ≡ Some h
-    → IsTrue (nat_eq h c) ↔ IsApart past (Lock c x found)
+    → IsTrue (nat_eq h c) ↔ IsApart past (Lock x c found)
 holder_apart parents past legal c x h found held_by = (
   λ own d other. elim (cases_Bool (held (part_of d past) x)) [
     | inl yes' ↦
@@ -103,12 +103,12 @@ all_later P e past all k d h = all (suc k) d (omega arith)
 pub locked_inside : (n : ℕ) (past : List Event) → All (IsOfNodes n) past → (c y : ℕ) → locked (part_of c past) y ≡ true → y < n
 locked_inside n [] all c y l = absurd cc
 locked_inside n (Admit d ∷ past) all c y l = locked_inside n past (all_later (IsOfNodes n) (Admit d) past all) c y l
-locked_inside n (Lock d x found ∷ past) all c y l = elim (locked-lock d x found past c y l) [
-  | inl same ↦ let here : x < n = all_first (IsOfNodes n) (Lock d x found) past all in let e = same.1 in omega arith
-  | inr before ↦ locked_inside n past (all_later (IsOfNodes n) (Lock d x found) past all) c y before
+locked_inside n (Lock x d found ∷ past) all c y l = elim (locked-lock d x found past c y l) [
+  | inl same ↦ let here : x < n = all_first (IsOfNodes n) (Lock x d found) past all in let e = same.1 in omega arith
+  | inr before ↦ locked_inside n past (all_later (IsOfNodes n) (Lock x d found) past all) c y before
 ]
-locked_inside n (Free d x left ∷ past) all c y l =
-    locked_inside n past (all_later (IsOfNodes n) (Free d x left) past all) c y (sym (locked-free d x left past c y) ∙ l)
+locked_inside n (Free x d left ∷ past) all c y l =
+    locked_inside n past (all_later (IsOfNodes n) (Free x d left) past all) c y (sym (locked-free d x left past c y) ∙ l)
 locked_inside n (Done d ∷ past) all c y l =
     locked_inside n past (all_later (IsOfNodes n) (Done d) past all) c y (sym (locked-done d past c y) ∙ l)
 
@@ -123,7 +123,7 @@ none_held n past all c none y = elim (cases_Bool (held (part_of c past) y)) [
 
 module _ (calls : ℕ) (past : List Event) (c x : ℕ) (r : Record) where
   pub begun-lock : (begun : List Bool) → c < length begun → ((k : ℕ) → k < calls → get_or begun k false ≡ locked_any (part_of k past))
-      → (k : ℕ) → k < calls → get_or (slice_set begun c true) k false ≡ locked_any (part_of k (Lock c x r ∷ past))
+      → (k : ℕ) → k < calls → get_or (slice_set begun c true) k false ≡ locked_any (part_of k (Lock x c r ∷ past))
   begun-lock begun inside h k lt = elim (cases_eq c k) [
     | inl same ↦
         let q = eq-eqb c k same in
@@ -134,11 +134,11 @@ module _ (calls : ℕ) (past : List Event) (c x : ℕ) (r : Record) where
   ]
 
   pub begun-free : (begun : List Bool) → ((k : ℕ) → k < calls → get_or begun k false ≡ locked_any (part_of k past))
-      → (k : ℕ) → k < calls → get_or begun k false ≡ locked_any (part_of k (Free c x r ∷ past))
+      → (k : ℕ) → k < calls → get_or begun k false ≡ locked_any (part_of k (Free x c r ∷ past))
   begun-free begun h k lt = h k lt ∙ sym (locked_any-free c x r past k)
 
   pub parts-lock : (parts : List Marks) (new : Marks) → c < length parts → Show parts past
-      → IsPart new (A.Lock x r ∷ part_of c past) → Show (slice_set parts c new) (Lock c x r ∷ past)
+      → IsPart new (A.Lock x r ∷ part_of c past) → Show (slice_set parts c new) (Lock x c r ∷ past)
   parts-lock parts new inside h own k lt = elim (cases_eq c k) [
     | inl same ↦
         let q = eq-eqb c k same in
@@ -151,7 +151,7 @@ module _ (calls : ℕ) (past : List Event) (c x : ℕ) (r : Record) where
   ]
 
   pub parts-free : (parts : List Marks) (new : Marks) → c < length parts → Show parts past
-      → IsPart new (A.Free x r ∷ part_of c past) → Show (slice_set parts c new) (Free c x r ∷ past)
+      → IsPart new (A.Free x r ∷ part_of c past) → Show (slice_set parts c new) (Free x c r ∷ past)
   parts-free parts new inside h own k lt = elim (cases_eq c k) [
     | inl same ↦
         let q = eq-eqb c k same in
@@ -172,7 +172,7 @@ module _ (calls : ℕ) (past : List Event) (c x : ℕ) (r : Record) where
   ]
 
   pub holders-lock : (n : ℕ) (holders : List (Option ℕ)) → x < length holders → ((y : ℕ) → y < n → get_or holders y None ≡ holder_of past y)
-      → (y : ℕ) → y < n → get_or (slice_set holders x (Some c)) y None ≡ holder_of (Lock c x r ∷ past) y
+      → (y : ℕ) → y < n → get_or (slice_set holders x (Some c)) y None ≡ holder_of (Lock x c r ∷ past) y
   holders-lock n holders inside h y lt = elim (cases_eq x y) [
     | inl same ↦
         let q = eq-eqb x y same in
@@ -183,7 +183,7 @@ module _ (calls : ℕ) (past : List Event) (c x : ℕ) (r : Record) where
   ]
 
   pub holders-free : (n : ℕ) (holders : List (Option ℕ)) → x < length holders → ((y : ℕ) → y < n → get_or holders y None ≡ holder_of past y)
-      → (y : ℕ) → y < n → get_or (slice_set holders x None) y None ≡ holder_of (Free c x r ∷ past) y
+      → (y : ℕ) → y < n → get_or (slice_set holders x None) y None ≡ holder_of (Free x c r ∷ past) y
   holders-free n holders inside h y lt = elim (cases_eq x y) [
     | inl same ↦
         let q = eq-eqb x y same in

@@ -46,8 +46,8 @@ call_whole procedures k = rw (integers_whole k.args, reply_whole k.reply) refl
 
 event_whole : (e : Event) → has_float (event_data e) ≡ false
 event_whole (Admit c) = refl
-event_whole (Lock c x found) = rw (integers_whole found) refl
-event_whole (Free c x left) = rw (integers_whole left) refl
+event_whole (Lock x c found) = rw (integers_whole found) refl
+event_whole (Free x c left) = rw (integers_whole left) refl
 event_whole (Done c) = refl
 
 pub trail_whole : (t : TrailValue) → has_float (trail_data t) ≡ false
@@ -67,8 +67,8 @@ call_shallow procedures k = omega (arith, integers_shallow k.args, reply_shallow
 
 event_shallow : (e : Event) → depth (event_data e) ≤ 2
 event_shallow (Admit c) = omega arith
-event_shallow (Lock c x found) = omega (arith, integers_shallow found)
-event_shallow (Free c x left) = omega (arith, integers_shallow left)
+event_shallow (Lock x c found) = omega (arith, integers_shallow found)
+event_shallow (Free x c left) = omega (arith, integers_shallow left)
 event_shallow (Done c) = omega arith
 
 procedure_shallow : (p : Named) → depth (procedure_data p) ≤ 2
@@ -95,8 +95,8 @@ call_form procedures k = record { name = (get_or procedures k.procedure no_proce
 
 abbrev pub event_form : Event → EventForm
 event_form (Admit c) = Admitted (pos c)
-event_form (Lock c x found) = Locked (pos c) (pos x) found
-event_form (Free c x left) = Freed (pos c) (pos x) left
+event_form (Lock x c found) = Locked (pos c) (pos x) found
+event_form (Free x c left) = Freed (pos c) (pos x) left
 event_form (Done c) = Ended (pos c)
 
 abbrev pub procedure_form : Named → List ℕ × List ℕ
@@ -130,14 +130,14 @@ record IsInside (calls nodes : ℕ) (e : Event) : Type 0 where
 module _ (calls nodes : ℕ) (few : calls ≤ 4096) (small : nodes ≤ 4096) where
   event_read : (e : Event) → IsInside calls nodes e → event_of (event_data e) ≡ Some (event_form e)
   event_read (Admit c) h = rw (natural_read c (omega (arith, h.call))) refl
-  event_read (Lock c x found) h = rw (natural_read c (omega (arith, h.call)), natural_read x (omega (arith, h.node)), record_back found h.own) refl
-  event_read (Free c x left) h = rw (natural_read c (omega (arith, h.call)), natural_read x (omega (arith, h.node)), record_back left h.own) refl
+  event_read (Lock x c found) h = rw (natural_read c (omega (arith, h.call)), natural_read x (omega (arith, h.node)), record_back found h.own) refl
+  event_read (Free x c left) h = rw (natural_read c (omega (arith, h.call)), natural_read x (omega (arith, h.node)), record_back left h.own) refl
   event_read (Done c) h = rw (natural_read c (omega (arith, h.call))) refl
 
   event_again : (e : Event) → IsInside calls nodes e → event_as calls nodes (event_form e) ≡ Some e
   event_again (Admit c) h = rw (lt-ltb c calls h.call) refl
-  event_again (Lock c x found) h = rw (lt-ltb c calls h.call, lt-ltb x nodes h.node) refl
-  event_again (Free c x left) h = rw (lt-ltb c calls h.call, lt-ltb x nodes h.node) refl
+  event_again (Lock x c found) h = rw (lt-ltb c calls h.call, lt-ltb x nodes h.node) refl
+  event_again (Free x c left) h = rw (lt-ltb c calls h.call, lt-ltb x nodes h.node) refl
   event_again (Done c) h = rw (lt-ltb c calls h.call) refl
 
   events_again : (es : List Event) → All (IsInside calls nodes) es → events_as calls nodes (map event_form es) ≡ Some es

@@ -16,8 +16,8 @@ use Rattle.tl_audit.specs.Trails.{TrailValue, call_at, found_alone}
 -- the protocol permits what the event's call does
 abbrev pub IsPermitted : List ℕ → List Event → Event → Type 0
 IsPermitted parents past (Admit c) = Unit {0}
-IsPermitted parents past (Lock c x found) = Permitted parents (part_of c past) (A.Lock x found)
-IsPermitted parents past (Free c x left) = Permitted parents (part_of c past) (A.Free x left)
+IsPermitted parents past (Lock x c found) = Permitted parents (part_of c past) (A.Lock x found)
+IsPermitted parents past (Free x c left) = Permitted parents (part_of c past) (A.Free x left)
 IsPermitted parents past (Done c) = Permitted parents (part_of c past) A.End
 
 -- An admission has the next number, and all else is of a call that is open. A lock is its call's first or comes under a
@@ -28,12 +28,12 @@ pub record KeepsRules (parents : List ℕ) (past : List Event) (e : Event) : Typ
 
 -- a lock is of a node that no other call holds
 abbrev pub IsApart : List Event → Event → Type 0
-IsApart past (Lock c x found) = (d : ℕ) → d ≢ c → held (part_of d past) x ≡ false
+IsApart past (Lock x c found) = (d : ℕ) → d ≢ c → held (part_of d past) x ≡ false
 IsApart past _ = Unit {0}
 
 -- a lock finds the record that was left last
 abbrev pub FindsNow : Records → List Event → Event → Type 0
-FindsNow opening past (Lock c x found) = found ≡ record_now past opening x
+FindsNow opening past (Lock x c found) = found ≡ record_now past opening x
 FindsNow opening past _ = Unit {0}
 
 -- nothing is wrong with the event

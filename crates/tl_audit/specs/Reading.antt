@@ -193,8 +193,8 @@ below count (negsuc n) = None
 -- an event of one of the calls and one of the nodes
 abbrev pub event_as : ℕ → ℕ → EventForm → Option Event
 event_as calls nodes (Admitted c) = option_map event.Admit (below calls c)
-event_as calls nodes (Locked c x r) = option_map (λ y. event.Lock y.0 y.1 r) (both (below calls c) (below nodes x))
-event_as calls nodes (Freed c x r) = option_map (λ y. event.Free y.0 y.1 r) (both (below calls c) (below nodes x))
+event_as calls nodes (Locked c x r) = option_map (λ y. event.Lock y.1 y.0 r) (both (below calls c) (below nodes x))
+event_as calls nodes (Freed c x r) = option_map (λ y. event.Free y.1 y.0 r) (both (below calls c) (below nodes x))
 event_as calls nodes (Ended c) = option_map event.Done (below calls c)
 
 abbrev pub events_as : ℕ → ℕ → List EventForm → Option (List Event)

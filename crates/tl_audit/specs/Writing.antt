@@ -37,8 +37,8 @@ call_data procedures k =
 
 abbrev pub event_data : Event → Data
 event_data (Admit c) = told (codes "a") (natural c ∷ [])
-event_data (Lock c x found) = told (codes "l") (natural c ∷ natural x ∷ integers_data found ∷ [])
-event_data (Free c x left) = told (codes "f") (natural c ∷ natural x ∷ integers_data left ∷ [])
+event_data (Lock x c found) = told (codes "l") (natural c ∷ natural x ∷ integers_data found ∷ [])
+event_data (Free x c left) = told (codes "f") (natural c ∷ natural x ∷ integers_data left ∷ [])
 event_data (Done c) = told (codes "d") (natural c ∷ [])
 
 -- the name and the canonical text
@@ -63,8 +63,8 @@ trail_text t = compact_text (trail_data t)
 -- the record of a lock or of a free is one
 abbrev pub HasRecord : Event → Type 0
 HasRecord (Admit c) = Unit {0}
-HasRecord (Lock c x found) = IsRecord found
-HasRecord (Free c x left) = IsRecord left
+HasRecord (Lock x c found) = IsRecord found
+HasRecord (Free x c left) = IsRecord left
 HasRecord (Done c) = Unit {0}
 
 -- the arguments fit 64 bits, and so does a reply, which has at most 32 values

@@ -22,10 +22,10 @@ part_after c did.End past done h = part_of-done c past ∙ ap (λ p. did.End ∷
 
 pub part_of_others : (c : ℕ) (a : Action) (past : List Event) (d : ℕ) → c ≢ d → part_of d (past_after c a past) ≡ part_of d past
 part_of_others c did.Plain past d other = refl
-part_of_others c (did.Lock x found) past d other = part_of-other (Lock c x found) d past other
+part_of_others c (did.Lock x found) past d other = part_of-other (Lock x c found) d past other
 part_of_others c (did.Read x f n) past d other = refl
 part_of_others c (did.Write x f n) past d other = refl
-part_of_others c (did.Free x left) past d other = part_of-other (Free c x left) d past other
+part_of_others c (did.Free x left) past d other = part_of-other (Free x c left) d past other
 part_of_others c (did.Emit n) past d other = refl
 part_of_others c did.End past d other = part_of-other (Done c) d past other
 

@@ -225,14 +225,14 @@ module _ (v : CoreValue) (now : TreeValue) (kept : List Call) (holders : List (O
 
       module _ (turn2 : TurnValue) (same : turn2 ≡ with_call k.turn turn2.call)
           (locked : Locks k.turn.code.instrs k.turn.parents k.turn.call x found turn2.call)
-          (history2 : Stored) (appended : history2 ≡ record { past = event.Lock c x found ∷ v.past; limit = v.limit; reserved = reserved - 1 }) where
+          (history2 : Stored) (appended : history2 ≡ record { past = event.Lock x c found ∷ v.past; limit = v.limit; reserved = reserved - 1 }) where
         lock_here : Locks k.turn.code.instrs v.parents k.turn.call x (record_now v.past v.opening x) turn2.call
         lock_here =
             subst (λ r. Locks k.turn.code.instrs v.parents k.turn.call x r turn2.call) record_is
             (subst (λ ps. Locks k.turn.code.instrs ps k.turn.call x found turn2.call) (keep v now kept holders unfinished reserved h c k at).shape locked)
 
-        past_is : history2.past ≡ event.Lock c x (record_now v.past v.opening x) ∷ v.past
-        past_is = ap (λ z. z.past) appended ∙ ap (λ r. event.Lock c x r ∷ v.past) record_is
+        past_is : history2.past ≡ event.Lock x c (record_now v.past v.opening x) ∷ v.past
+        past_is = ap (λ z. z.past) appended ∙ ap (λ r. event.Lock x c r ∷ v.past) record_is
 
         pub lock_seen : record v { calls = map call_value (set kept c (record { procedure = k.procedure; args = k.args; turn = turn2; reply = k.reply; places = k.places - 1 })); past = history2.past; limit = history2.limit }
             ≡ after_step v c (Ok (Moved (did.Lock x found)))
@@ -304,7 +304,7 @@ module _ (v : CoreValue) (now : TreeValue) (kept : List Call) (holders : List (O
     pub free_answer : Ok (Moved (did.Free x left)) ≡ step_answer (world_of v) c
     free_answer = moves v now kept holders unfinished reserved h c k at (did.Free x left) free_rest free_first free_no_lock
 
-    module _ (history2 : Stored) (appended : history2 ≡ record { past = event.Free c x left ∷ v.past; limit = v.limit; reserved = reserved - 1 }) where
+    module _ (history2 : Stored) (appended : history2 ≡ record { past = event.Free x c left ∷ v.past; limit = v.limit; reserved = reserved - 1 }) where
       pub free_seen : record v { calls = map call_value (set kept c (record { procedure = k.procedure; args = k.args; turn = turn2; reply = k.reply; places = k.places - 1 })); past = history2.past; limit = history2.limit }
           ≡ after_step v c (Ok (Moved (did.Free x left)))
       free_seen =

@@ -16,13 +16,13 @@ use Rattle.tl_protocol.proofs.Parts.{part_of-free, part_of-done, part_of-other, 
 use Rattle.tl_protocol.proofs.Laid.{free_held}
 use Rattle.tl_protocol.proofs.Standstill.{sound_history, next_permitted}
 
-held-free_back : (c x : ℕ) (left : Record) (past : List Event) (d y : ℕ) → held (part_of d past) y ≡ true → held (part_of d (Free c x left ∷ past)) y ≡ true ⊎ (c ≡ d) × (x ≡ y)
+held-free_back : (c x : ℕ) (left : Record) (past : List Event) (d y : ℕ) → held (part_of d past) y ≡ true → held (part_of d (Free x c left ∷ past)) y ≡ true ⊎ (c ≡ d) × (x ≡ y)
 held-free_back c x left past d y h = elim (cases_eq c d) [
   | inl same ↦ elim (cases_eq x y) [
     | inl node ↦ inr (same, node)
     | inr other ↦ let q = eq-eqb c d same in let ne = ne_eqb x y other in inl (rw q (rw ne (grind (arith, h))))
   ]
-  | inr other ↦ let q = part_of-other (Free c x left) d past other in inl (rw q h)
+  | inr other ↦ let q = part_of-other (Free x c left) d past other in inl (rw q h)
 ]
 
 -- whoever holds a node is its holder
@@ -30,8 +30,8 @@ pub held-holder : (parents : List ℕ) (past : List Event) → IsLegalHistory pa
 held-holder parents [] legal d x h = absurd (both_ways false refl h)
 held-holder parents (Admit c ∷ past) legal d x h = held-holder parents past (legal_before parents (Admit c) past legal) d x h
 held-holder parents (Done c ∷ past) legal d x h = held-holder parents past (legal_before parents (Done c) past legal) d x (held-done c past d x h)
-held-holder parents (Lock c y found ∷ past) legal d x h =
-    let legal' = legal_before parents (Lock c y found) past legal in
+held-holder parents (Lock y c found ∷ past) legal d x h =
+    let legal' = legal_before parents (Lock y c found) past legal in
     elim (held-lock c y found past d x h) [
       | inl new ↦ let q = eq-eqb y x new.1 in rw q (ap Some new.0)
       | inr old ↦
@@ -40,15 +40,15 @@ held-holder parents (Lock c y found ∷ past) legal d x h =
             | inr other ↦ ne_eqb y x other
           ] in rw ne (held-holder parents past legal' d x old)
     ]
-held-holder parents (Free c y left ∷ past) legal d x h =
-    let legal' = legal_before parents (Free c y left) past legal in
+held-holder parents (Free y c left ∷ past) legal d x h =
+    let legal' = legal_before parents (Free y c left) past legal in
     let old = held-free c y left past d x h in
     let ne : (y == x) ≡ false = elim (cases_eq y x) [
       | inl same ↦
           let mine : held (part_of c past) x ≡ true = subst (λ z. held (part_of c past) z ≡ true) same (free_held parents c y left past legal) in
           let one = exclusive past legal'.apart c d x mine old in
           let q = part_of-free c y left past in
-          let h2 : held (part_of c (Free c y left ∷ past)) x ≡ true = subst (λ z. held (part_of z (Free c y left ∷ past)) x ≡ true) (sym one) h in
+          let h2 : held (part_of c (Free y c left ∷ past)) x ≡ true = subst (λ z. held (part_of z (Free y c left ∷ past)) x ≡ true) (sym one) h in
           let h3 : held (A.Free y left ∷ part_of c past) x ≡ true = rw q at h2 in
           let self = eq-eqb y x same in
           grind (arith, h3, self)
@@ -70,20 +70,20 @@ holder-held parents (Done c ∷ past) legal d x h =
           absurd (both_ways (held (part_of d past) x) (subst (λ z. held (part_of z past) x ≡ false) same (mine.0 x)) old)
       | inr other ↦ let q = part_of-other (Done c) d past other in rw q old
     ]
-holder-held parents (Lock c y found ∷ past) legal d x h = elim (cases_Bool (y == x)) [
+holder-held parents (Lock y c found ∷ past) legal d x h = elim (cases_Bool (y == x)) [
   | inl same ↦
       let who : Some c ≡ Some d = rw same at h in
       let e : c ≡ d = cc in
       let q = eq-eqb c d e in
       rw q (grind (arith, same))
   | inr other ↦
-      let old = holder-held parents past (legal_before parents (Lock c y found) past legal) d x (rw other at h) in
+      let old = holder-held parents past (legal_before parents (Lock y c found) past legal) d x (rw other at h) in
       elim (cases_Bool (c == d)) [ inl q ↦ rw q (grind (arith, old)) | inr q ↦ rw q old ]
 ]
-holder-held parents (Free c y left ∷ past) legal d x h = elim (cases_Bool (y == x)) [
+holder-held parents (Free y c left ∷ past) legal d x h = elim (cases_Bool (y == x)) [
   | inl same ↦ let o : Option ℕ = None in let none : o ≡ Some d = rw same at h in absurd cc
   | inr other ↦
-      let old = holder-held parents past (legal_before parents (Free c y left) past legal) d x (rw other at h) in
+      let old = holder-held parents past (legal_before parents (Free y c left) past legal) d x (rw other at h) in
       elim (held-free_back c y left past d x old) [ inl kept ↦ kept | inr mine ↦ absurd (both_ways (y == x) other (eq-eqb y x mine.1)) ]
 ]
 

@@ -90,7 +90,7 @@ laid-last past x r left (e ∷ es) c once here is ahead =
 pub before_holder : (order : List ℕ) (past : List Event) → InLockOrder order past → Apart past → (c d x : ℕ) → held (part_of c past) x ≡ true → locked (part_of d past) x ≡ true → d ≢ c → before order d c ≡ true
 before_holder order [] sorted apart c d x h l ne = absurd (both_ways false refl h)
 before_holder order (Admit e ∷ past) sorted apart c d x h l ne = before_holder order past sorted apart c d x h l ne
-before_holder order (Lock e y found ∷ past) sorted apart c d x h l ne =
+before_holder order (Lock y e found ∷ past) sorted apart c d x h l ne =
     elim (held-lock e y found past c x h) [
       | inl new ↦ elim (locked-lock e y found past d x l) [
         | inl new' ↦ absurd (ne (sym new'.0 ∙ new.0))
@@ -101,24 +101,24 @@ before_holder order (Lock e y found ∷ past) sorted apart c d x h l ne =
         | inr old' ↦ before_holder order past sorted.1 apart.1 c d x old old' ne
       ]
     ]
-before_holder order (Free e y left ∷ past) sorted apart c d x h l ne = let q = locked-free e y left past d x in before_holder order past sorted apart c d x (held-free e y left past c x h) (rw q at l) ne
+before_holder order (Free y e left ∷ past) sorted apart c d x h l ne = let q = locked-free e y left past d x in before_holder order past sorted apart c d x (held-free e y left past c x h) (rw q at l) ne
 before_holder order (Done e ∷ past) sorted apart c d x h l ne = let q = locked-done e past d x in before_holder order past sorted apart c d x (held-done e past c x h) (rw q at l) ne
 
-left_in-lock : (e y : ℕ) (found : Record) (past : List Event) (c x : ℕ) (s : Record) → left_in (part_of c (Lock e y found ∷ past)) x s ≡ left_in (part_of c past) x s
+left_in-lock : (e y : ℕ) (found : Record) (past : List Event) (c x : ℕ) (s : Record) → left_in (part_of c (Lock y e found ∷ past)) x s ≡ left_in (part_of c past) x s
 left_in-lock e y found past c x s = elim (cases_Bool (e == c)) [ inl h ↦ rw h refl | inr h ↦ rw h refl ]
 
 left_in-done : (e : ℕ) (past : List Event) (c x : ℕ) (s : Record) → left_in (part_of c (Done e ∷ past)) x s ≡ left_in (part_of c past) x s
 left_in-done e past c x s = elim (cases_Bool (e == c)) [ inl h ↦ rw h refl | inr h ↦ rw h refl ]
 
 -- a free of another node, or by another call
-left_in-free_node : (e y : ℕ) (left : Record) (past : List Event) (c x : ℕ) (s : Record) → (y == x) ≡ false → left_in (part_of c (Free e y left ∷ past)) x s ≡ left_in (part_of c past) x s
+left_in-free_node : (e y : ℕ) (left : Record) (past : List Event) (c x : ℕ) (s : Record) → (y == x) ≡ false → left_in (part_of c (Free y e left ∷ past)) x s ≡ left_in (part_of c past) x s
 left_in-free_node e y left past c x s ne = elim (cases_Bool (e == c)) [ inl h ↦ rw h (rw ne refl) | inr h ↦ rw h refl ]
 
-left_in-free_call : (e y : ℕ) (left : Record) (past : List Event) (c x : ℕ) (s : Record) → e ≢ c → left_in (part_of c (Free e y left ∷ past)) x s ≡ left_in (part_of c past) x s
+left_in-free_call : (e y : ℕ) (left : Record) (past : List Event) (c x : ℕ) (s : Record) → e ≢ c → left_in (part_of c (Free y e left ∷ past)) x s ≡ left_in (part_of c past) x s
 left_in-free_call e y left past c x s ne = let q = ne_eqb e c ne in rw q refl
 
 -- what a free needs: the call holds the node
-pub free_held : (parents : List ℕ) (e y : ℕ) (left : Record) (past : List Event) → IsLegalHistory parents (Free e y left ∷ past) → held (part_of e past) y ≡ true
+pub free_held : (parents : List ℕ) (e y : ℕ) (left : Record) (past : List Event) → IsLegalHistory parents (Free y e left ∷ past) → held (part_of e past) y ≡ true
 free_held parents e y left past legal =
     let q = part_of-free e y left past in
     let mine : Permitted parents (part_of e past) (A.Free y left) × (has_ended (part_of e past) ≡ false) × EachPermitted parents (part_of e past) = rw q at (legal.obeys e) in
@@ -131,8 +131,8 @@ pub record Sorted (parents order : List ℕ) (past : List Event) : Type 0 where
 
 sorted_before : (parents order : List ℕ) (e : Event) (past : List Event) → Sorted parents order (e ∷ past) → Sorted parents order past
 sorted_before parents order (Admit d) past h = record { legal = legal_before parents (Admit d) past h.legal; sorted = h.sorted }
-sorted_before parents order (Lock d x found) past h = record { legal = legal_before parents (Lock d x found) past h.legal; sorted = h.sorted.1 }
-sorted_before parents order (Free d x left) past h = record { legal = legal_before parents (Free d x left) past h.legal; sorted = h.sorted }
+sorted_before parents order (Lock x d found) past h = record { legal = legal_before parents (Lock x d found) past h.legal; sorted = h.sorted.1 }
+sorted_before parents order (Free x d left) past h = record { legal = legal_before parents (Free x d left) past h.legal; sorted = h.sorted }
 sorted_before parents order (Done d) past h = record { legal = legal_before parents (Done d) past h.legal; sorted = h.sorted }
 
 -- the calls of the order leave, one after another, the records of the history
@@ -141,44 +141,44 @@ pub laid-last_left : (parents order : List ℕ) → IsDistinct order → (past :
 laid-last_left parents order once [] h in_order x r = laid-none [] x r order (λ c k. refl)
 laid-last_left parents order once (Admit c ∷ past) h in_order x r =
     laid-same (Admit c) past x r order (λ d s k. refl) ∙ laid-last_left parents order once past (sorted_before parents order (Admit c) past h) in_order x r
-laid-last_left parents order once (Lock c y found ∷ past) h in_order x r =
-    laid-same (Lock c y found) past x r order (λ d s k. left_in-lock c y found past d x s)
-    ∙ laid-last_left parents order once past (sorted_before parents order (Lock c y found) past h)
+laid-last_left parents order once (Lock y c found ∷ past) h in_order x r =
+    laid-same (Lock y c found) past x r order (λ d s k. left_in-lock c y found past d x s)
+    ∙ laid-last_left parents order once past (sorted_before parents order (Lock y c found) past h)
     (λ d z l. in_order d z (elim (cases_Bool (c == d)) [ inl q ↦ rw q (grind (arith, l)) | inr q ↦ rw q l ])) x r
 laid-last_left parents order once (Done c ∷ past) h in_order x r =
     laid-same (Done c) past x r order (λ d s k. left_in-done c past d x s)
     ∙ laid-last_left parents order once past (sorted_before parents order (Done c) past h) (λ d z l. in_order d z (let q = locked-done c past d z in rw q l)) x r
-laid-last_left parents order once (Free c y left ∷ past) h in_order x r =
-    let before' = sorted_before parents order (Free c y left) past h in
+laid-last_left parents order once (Free y c left ∷ past) h in_order x r =
+    let before' = sorted_before parents order (Free y c left) past h in
     let in_order' : (d z : ℕ) → locked (part_of d past) z ≡ true → stands d order ≡ true = λ d z l. in_order d z (let q = locked-free c y left past d z in rw q l) in
     elim (cases_Bool (y == x)) [
       | inl here ↦
           let same : y ≡ x = eqb-true y x here in
           let holds : held (part_of c past) x ≡ true = subst (λ z. held (part_of c past) z ≡ true) same (free_held parents c y left past h.legal) in
           let q = part_of-free c y left past in
-          rw here (laid-last (Free c y left ∷ past) x r left order c once (in_order' c x (held-locked (part_of c past) x holds))
+          rw here (laid-last (Free y c left ∷ past) x r left order c once (in_order' c x (held-locked (part_of c past) x holds))
           (λ s. rw q (rw here refl))
           (λ d ne k f.
-          let q2 = part_of-other (Free c y left) d past (λ (w : c ≡ d). ne (sym w)) in
+          let q2 = part_of-other (Free y c left) d past (λ (w : c ≡ d). ne (sym w)) in
           let f2 : freed (part_of d past) x ≡ true = rw q2 at f in
           before_holder order past before'.sorted before'.legal.apart c d x holds (freed-locked parents (part_of d past) x (before'.legal.obeys d) f2) ne))
-      | inr other ↦ rw other (laid-same (Free c y left) past x r order (λ d s k. left_in-free_node c y left past d x s other) ∙ laid-last_left parents order once past before' in_order' x r)
+      | inr other ↦ rw other (laid-same (Free y c left) past x r order (λ d s k. left_in-free_node c y left past d x s other) ∙ laid-last_left parents order once past before' in_order' x r)
     ]
 
-found_in-lock_other : (e y : ℕ) (found : Record) (past : List Event) (c x : ℕ) (r : Record) → ((e ≡ c) × (y ≡ x) → ⊥) → found_in (part_of c (Lock e y found ∷ past)) x r ≡ found_in (part_of c past) x r
+found_in-lock_other : (e y : ℕ) (found : Record) (past : List Event) (c x : ℕ) (r : Record) → ((e ≡ c) × (y ≡ x) → ⊥) → found_in (part_of c (Lock y e found ∷ past)) x r ≡ found_in (part_of c past) x r
 found_in-lock_other e y found past c x r ne = elim (cases_Bool (e == c)) [
   | inl h ↦ elim (cases_Bool (y == x)) [ inl k ↦ absurd (ne (eqb-true e c h, eqb-true y x k)) | inr k ↦ rw h (rw k refl) ]
   | inr h ↦ rw h refl
 ]
 
-found_in-free : (e y : ℕ) (left : Record) (past : List Event) (c x : ℕ) (r : Record) → found_in (part_of c (Free e y left ∷ past)) x r ≡ found_in (part_of c past) x r
+found_in-free : (e y : ℕ) (left : Record) (past : List Event) (c x : ℕ) (r : Record) → found_in (part_of c (Free y e left ∷ past)) x r ≡ found_in (part_of c past) x r
 found_in-free e y left past c x r = elim (cases_Bool (e == c)) [ inl h ↦ rw h refl | inr h ↦ rw h refl ]
 
 found_in-done : (e : ℕ) (past : List Event) (c x : ℕ) (r : Record) → found_in (part_of c (Done e ∷ past)) x r ≡ found_in (part_of c past) x r
 found_in-done e past c x r = elim (cases_Bool (e == c)) [ inl h ↦ rw h refl | inr h ↦ rw h refl ]
 
 -- what a lock needs
-lock_fresh : (parents : List ℕ) (e y : ℕ) (found : Record) (past : List Event) → IsLegalHistory parents (Lock e y found ∷ past) → locked (part_of e past) y ≡ false
+lock_fresh : (parents : List ℕ) (e y : ℕ) (found : Record) (past : List Event) → IsLegalHistory parents (Lock y e found ∷ past) → locked (part_of e past) y ≡ false
 lock_fresh parents e y found past legal =
     let q = part_of-lock e y found past in
     let mine : Permitted parents (part_of e past) (A.Lock y found) × (has_ended (part_of e past) ≡ false) × EachPermitted parents (part_of e past) = rw q at (legal.obeys e) in
@@ -191,13 +191,13 @@ pub laid-found : (parents front back : List ℕ) (c : ℕ) → IsDistinct (front
 laid-found parents front back c once opening [] h follows in_order x l = absurd (both_ways false refl l)
 laid-found parents front back c once opening (Admit e ∷ past) h follows in_order x l =
     laid-same (Admit e) past x (record_at opening x) front (λ d s k. refl) ∙ laid-found parents front back c once opening past (sorted_before parents (front ++ c ∷ back) (Admit e) past h) follows in_order x l
-laid-found parents front back c once opening (Lock e y found ∷ past) h follows in_order x l =
+laid-found parents front back c once opening (Lock y e found ∷ past) h follows in_order x l =
     let order = front ++ c ∷ back in
     let r = record_at opening x in
-    let before' = sorted_before parents order (Lock e y found) past h in
+    let before' = sorted_before parents order (Lock y e found) past h in
     let in_order' : (d z : ℕ) → locked (part_of d past) z ≡ true → stands d order ≡ true =
     λ d z k. in_order d z (elim (cases_Bool (e == d)) [ inl q ↦ rw q (grind (arith, k)) | inr q ↦ rw q k ]) in
-    let same = laid-same (Lock e y found) past x r front (λ d s k. left_in-lock e y found past d x s) in
+    let same = laid-same (Lock y e found) past x r front (λ d s k. left_in-lock e y found past d x s) in
     elim (locked-lock e y found past c x l) [
       | inl new ↦
           let fresh : locked (part_of c past) x ≡ false = subst (λ z. locked (part_of z past) x ≡ false) new.0 (subst (λ z. locked (part_of e past) z ≡ false) new.1 (lock_fresh parents e y found past h.legal)) in
@@ -213,7 +213,7 @@ laid-found parents front back c once opening (Lock e y found ∷ past) h follows
                 absurd (cut_apart front back c d once (before_cut front back c d once (subst (λ z. before order d z ≡ true) new.0 b)) k)
             | inr f ↦ f
           ]) in
-          let value : found_in (part_of c (Lock e y found ∷ past)) x r ≡ found = rw at_e (rw at_y refl) in
+          let value : found_in (part_of c (Lock y e found ∷ past)) x r ≡ found = rw at_e (rw at_y refl) in
           same ∙ sym rest ∙ sym cut ∙ whole ∙ sym is_now ∙ sym value
       | inr old ↦
           same ∙ laid-found parents front back c once opening past before' follows.1 in_order' x old
@@ -224,13 +224,13 @@ laid-found parents front back c once opening (Done e ∷ past) h follows in_orde
     laid-same (Done e) past x (record_at opening x) front (λ d s k. left_in-done e past d x s)
     ∙ laid-found parents front back c once opening past (sorted_before parents (front ++ c ∷ back) (Done e) past h) follows (λ d z k. in_order d z (let q2 = locked-done e past d z in rw q2 k)) x (rw q at l)
     ∙ sym (found_in-done e past c x (record_at opening x))
-laid-found parents front back c once opening (Free e y left ∷ past) h follows in_order x l =
+laid-found parents front back c once opening (Free y e left ∷ past) h follows in_order x l =
     let order = front ++ c ∷ back in
     let r = record_at opening x in
-    let before' = sorted_before parents order (Free e y left) past h in
+    let before' = sorted_before parents order (Free y e left) past h in
     let q = locked-free e y left past c x in
     let l' : locked (part_of c past) x ≡ true = rw q at l in
-    let same : (d : ℕ) (s : Record) → stands d front ≡ true → left_in (part_of d (Free e y left ∷ past)) x s ≡ left_in (part_of d past) x s =
+    let same : (d : ℕ) (s : Record) → stands d front ≡ true → left_in (part_of d (Free y e left ∷ past)) x s ≡ left_in (part_of d past) x s =
     λ d s k. elim (cases_Bool (y == x)) [
       | inl here ↦ elim (cases_eq e d) [
         | inl mine ↦
@@ -241,6 +241,6 @@ laid-found parents front back c once opening (Free e y left ∷ past) h follows 
       ]
       | inr away ↦ left_in-free_node e y left past d x s away
     ] in
-    laid-same (Free e y left) past x r front same
+    laid-same (Free y e left) past x r front same
     ∙ laid-found parents front back c once opening past before' follows (λ d z k. in_order d z (let q2 = locked-free e y left past d z in rw q2 k)) x l'
     ∙ sym (found_in-free e y left past c x r)

@@ -186,8 +186,8 @@ permitted_ends parents done h = subst EndsLast (earliest_first-reverse done) (go
 pub has_ended-part_of : (c : ℕ) (past : List Event) → has_ended (part_of c past) ≡ is_done c past
 has_ended-part_of c [] = refl
 has_ended-part_of c (Admit d ∷ past) = has_ended-part_of c past
-has_ended-part_of c (Lock d x found ∷ past) = elim (cases_Bool (d == c)) [ inl mine ↦ rw mine (has_ended-part_of c past) | inr other ↦ rw other (has_ended-part_of c past) ]
-has_ended-part_of c (Free d x left ∷ past) = elim (cases_Bool (d == c)) [ inl mine ↦ rw mine (has_ended-part_of c past) | inr other ↦ rw other (has_ended-part_of c past) ]
+has_ended-part_of c (Lock x d found ∷ past) = elim (cases_Bool (d == c)) [ inl mine ↦ rw mine (has_ended-part_of c past) | inr other ↦ rw other (has_ended-part_of c past) ]
+has_ended-part_of c (Free x d left ∷ past) = elim (cases_Bool (d == c)) [ inl mine ↦ rw mine (has_ended-part_of c past) | inr other ↦ rw other (has_ended-part_of c past) ]
 has_ended-part_of c (Done d ∷ past) = elim (cases_Bool (d == c)) [ inl mine ↦ rw mine refl | inr other ↦ rw other (has_ended-part_of c past) ]
 
 -- in turn, an event of a call comes while it isn't done
@@ -197,11 +197,11 @@ going_on past c d is_open mine = has_ended-part_of c past ∙ subst (λ z. is_do
 part_ends : (past : List Event) → InTurn past → (c : ℕ) → EndsLast (earliest_first (part_of c past))
 part_ends [] turn c = λ e w. absurd cc
 part_ends (Admit d ∷ past) turn c = part_ends past turn.1 c
-part_ends (Lock d x found ∷ past) turn c = elim (cases_Bool (d == c)) [
+part_ends (Lock x d found ∷ past) turn c = elim (cases_Bool (d == c)) [
   | inl mine ↦ rw mine (ends_more (part_of c past) (A.Lock x found) (going_on past c d turn.0 mine))
   | inr other ↦ rw other (part_ends past turn.1 c)
 ]
-part_ends (Free d x left ∷ past) turn c = elim (cases_Bool (d == c)) [
+part_ends (Free x d left ∷ past) turn c = elim (cases_Bool (d == c)) [
   | inl mine ↦ rw mine (ends_more (part_of c past) (A.Free x left) (going_on past c d turn.0 mine))
   | inr other ↦ rw other (part_ends past turn.1 c)
 ]

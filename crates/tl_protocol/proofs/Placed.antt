@@ -24,24 +24,24 @@ pub record KeepsOrder (parents order : List ℕ) (past : List Event) : Type 0 wh
 in_lock_order-more : (order longer : List ℕ) → ((a b : ℕ) → before order a b ≡ true → before longer a b ≡ true) → (past : List Event) → InLockOrder order past → InLockOrder longer past
 in_lock_order-more order longer more [] h = tt
 in_lock_order-more order longer more (Admit c ∷ past) h = in_lock_order-more order longer more past h
-in_lock_order-more order longer more (Lock d x found ∷ past) h = (λ c l. more c d (h.0 c l), in_lock_order-more order longer more past h.1)
-in_lock_order-more order longer more (Free c x left ∷ past) h = in_lock_order-more order longer more past h
+in_lock_order-more order longer more (Lock x d found ∷ past) h = (λ c l. more c d (h.0 c l), in_lock_order-more order longer more past h.1)
+in_lock_order-more order longer more (Free x c left ∷ past) h = in_lock_order-more order longer more past h
 in_lock_order-more order longer more (Done c ∷ past) h = in_lock_order-more order longer more past h
 
 -- what a call that may come somewhere after a child's lock could come to before it
 may_lock_before : (parents : List ℕ) → IsTree parents → (past : List Event) (c x : ℕ) (found : Record)
     → locked (part_of c past) x ≡ false → held (part_of c past) (parent parents x) ≡ true
-    → (d y : ℕ) → may_come parents (part_of d (Lock c x found ∷ past)) y ≡ true → may_come parents (part_of d past) y ≡ true
+    → (d y : ℕ) → may_come parents (part_of d (Lock x c found ∷ past)) y ≡ true → may_come parents (part_of d past) y ≡ true
 may_lock_before parents tree past c x found fresh under d y may = elim (cases_eq c d) [
   | inl same ↦
-      let m : may_come parents (part_of c (Lock c x found ∷ past)) y ≡ true = subst (λ e. may_come parents (part_of e (Lock c x found ∷ past)) y ≡ true) (sym same) may in
+      let m : may_come parents (part_of c (Lock x c found ∷ past)) y ≡ true = subst (λ e. may_come parents (part_of e (Lock x c found ∷ past)) y ≡ true) (sym same) may in
       let q = part_of-lock c x found past in
       subst (λ e. may_come parents (part_of e past) y ≡ true) same (may_child_shrinks parents tree (part_of c past) x found fresh under y (rw q at m))
-  | inr other ↦ let q = part_of-other (Lock c x found) d past other in rw q at may
+  | inr other ↦ let q = part_of-other (Lock x c found) d past other in rw q at may
 ]
 
 -- the one who locks a node doesn't come to it any more
-not_again : (parents : List ℕ) (past : List Event) (c x : ℕ) (found : Record) → may_come parents (part_of c (Lock c x found ∷ past)) x ≡ true → ⊥
+not_again : (parents : List ℕ) (past : List Event) (c x : ℕ) (found : Record) → may_come parents (part_of c (Lock x c found ∷ past)) x ≡ true → ⊥
 not_again parents past c x found may =
     let q = part_of-lock c x found past in
     let m = may_parts parents (A.Lock x found ∷ part_of c past) x (rw q at may) in
@@ -50,7 +50,7 @@ not_again parents past c x found may =
 
 -- a lock under a held parent
 kept_child : (parents : List ℕ) → IsTree parents → (order : List ℕ) (past : List Event) (c x : ℕ) (found : Record) → Apart past → KeepsOrder parents order past
-    → locked_any (part_of c past) ≡ true → locked (part_of c past) x ≡ false → held (part_of c past) (parent parents x) ≡ true → KeepsOrder parents order (Lock c x found ∷ past)
+    → locked_any (part_of c past) ≡ true → locked (part_of c past) x ≡ false → held (part_of c past) (parent parents x) ≡ true → KeepsOrder parents order (Lock x c found ∷ past)
 kept_child parents tree order past c x found apart old some fresh under = record {
   distinct = old.distinct;
   members = λ d. elim (cases_eq c d) [
@@ -59,19 +59,19 @@ kept_child parents tree order past c x found apart old some fresh under = record
         let q = eq-eqb c d same in
         let s : locked_any (part_of d past) ≡ true = subst (λ e. locked_any (part_of e past) ≡ true) same some in
         rw q (grind (arith, m, s))
-    | inr other ↦ let q = part_of-other (Lock c x found) d past other in rw q (old.members d)
+    | inr other ↦ let q = part_of-other (Lock x c found) d past other in rw q (old.members d)
   ];
   in_lock_order = (λ e l. old.ahead x e c l (child_may parents tree (part_of c past) x fresh under), old.in_lock_order);
   ahead = λ y e d l may.
       let may_old = may_lock_before parents tree past c x found fresh under d y may in
       elim (locked-lock c x found past e y l) [
         | inl new ↦
-            let may_x : may_come parents (part_of d (Lock c x found ∷ past)) x ≡ true = subst (λ z. may_come parents (part_of d (Lock c x found ∷ past)) z ≡ true) (sym new.1) may in
+            let may_x : may_come parents (part_of d (Lock x c found ∷ past)) x ≡ true = subst (λ z. may_come parents (part_of d (Lock x c found ∷ past)) z ≡ true) (sym new.1) may in
             let old_x : may_come parents (part_of d past) x ≡ true = subst (λ z. may_come parents (part_of d past) z ≡ true) (sym new.1) may_old in
             let pos = child_pos parents tree (part_of c past) x fresh under in
             subst (λ z. before order z d ≡ true) new.0 (
             elim (cases_eq c d) [
-              | inl same ↦ absurd (not_again parents past c x found (subst (λ z. may_come parents (part_of z (Lock c x found ∷ past)) x ≡ true) (sym same) may_x))
+              | inl same ↦ absurd (not_again parents past c x found (subst (λ z. may_come parents (part_of z (Lock x c found ∷ past)) x ≡ true) (sym same) may_x))
               | inr other ↦
                   let free : held (part_of d past) (parent parents x) ≡ false = elim (cases_Bool (held (part_of d past) (parent parents x))) [ inl h ↦ absurd (other (exclusive past apart c d (parent parents x) under h)) | inr h ↦ h ] in
                   old.ahead (parent parents x) c d (held-locked (part_of c past) (parent parents x) under) (may_up parents tree (part_of d past) x pos old_x free)
@@ -83,7 +83,7 @@ kept_child parents tree order past c x found apart old some fresh under = record
 -- a call's first lock
 kept_first : (parents : List ℕ) → IsTree parents → (order : List ℕ) (past : List Event) (c x : ℕ) (found : Record) → ((d : ℕ) → EachPermitted parents (part_of d past)) → KeepsOrder parents order past
     → locked_any (part_of c past) ≡ false → stands c order ≡ false
-    → KeepsOrder parents (put_before (λ d. may_come parents (part_of d past) x) c order) (Lock c x found ∷ past)
+    → KeepsOrder parents (put_before (λ d. may_come parents (part_of d past) x) c order) (Lock x c found ∷ past)
 kept_first parents tree order past c x found obeys old none out =
     let test : ℕ → Bool = λ d. may_come parents (part_of d past) x in
     let more : (a b : ℕ) → before order a b ≡ true → before (put_before test c order) a b ≡ true = before-put test c order out in
@@ -92,21 +92,21 @@ kept_first parents tree order past c x found obeys old none out =
       distinct = IsDistinct-put test c order out old.distinct;
       members = λ d. elim (cases_eq c d) [
         | inl same ↦ let q = eq-eqb c d same in let s = stands-put test c order d in rw q (grind (arith, s, q))
-        | inr other ↦ let q = part_of-other (Lock c x found) d past other in let s = stands-put test c order d in let m = old.members d in let ne = ne_eqb c d other in rw q (grind (arith, s, ne, m))
+        | inr other ↦ let q = part_of-other (Lock x c found) d past other in let s = stands-put test c order d in let m = old.members d in let ne = ne_eqb c d other in rw q (grind (arith, s, ne, m))
       ];
       in_lock_order = (λ e l. before_put_call test c order out old.distinct e (member e x l) (λ d k pass. old.ahead x e d l pass), in_lock_order-more order (put_before test c order) more past old.in_lock_order);
       ahead = λ y e d l may. elim (cases_eq c d) [
         | inl same ↦
-            let mine : may_come parents (part_of c (Lock c x found ∷ past)) y ≡ true = subst (λ z. may_come parents (part_of z (Lock c x found ∷ past)) y ≡ true) (sym same) may in
+            let mine : may_come parents (part_of c (Lock x c found ∷ past)) y ≡ true = subst (λ z. may_come parents (part_of z (Lock x c found ∷ past)) y ≡ true) (sym same) may in
             let q = part_of-lock c x found past in
             let m = may_parts parents (A.Lock x found ∷ part_of c past) y (rw q at mine) in
             subst (λ z. before (put_before test c order) e z ≡ true) same (elim (locked-lock c x found past e y l) [
-              | inl new ↦ absurd (not_again parents past c x found (subst (λ z. may_come parents (part_of c (Lock c x found ∷ past)) z ≡ true) (sym new.1) mine))
+              | inl new ↦ absurd (not_again parents past c x found (subst (λ z. may_come parents (part_of c (Lock x c found ∷ past)) z ≡ true) (sym new.1) mine))
               | inr earlier ↦ before_put_call test c order out old.distinct e (member e y earlier)
                   (λ d' k pass. old.ahead y e d' earlier (may_below parents tree (part_of c past) (part_of d' past) x found none (obeys d') pass y m.1))
             ])
         | inr other ↦
-            let q = part_of-other (Lock c x found) d past other in
+            let q = part_of-other (Lock x c found) d past other in
             let may_old : may_come parents (part_of d past) y ≡ true = rw q at may in
             elim (locked-lock c x found past e y l) [
               | inl new ↦
@@ -129,13 +129,13 @@ own_shrinks parents tree a plain e past own d y may = elim (cases_eq (caller e) 
   | inr other ↦ let q = part_of-other e d past other in rw q at may
 ]
 
-kept_free : (parents : List ℕ) → IsTree parents → (order : List ℕ) (past : List Event) (c x : ℕ) (left : Record) → KeepsOrder parents order past → KeepsOrder parents order (Free c x left ∷ past)
+kept_free : (parents : List ℕ) → IsTree parents → (order : List ℕ) (past : List Event) (c x : ℕ) (left : Record) → KeepsOrder parents order past → KeepsOrder parents order (Free x c left ∷ past)
 kept_free parents tree order past c x left old = record {
   distinct = old.distinct;
   members = λ d. let m = old.members d in let q = locked_any-free c x left past d in grind (arith, m, q);
   in_lock_order = old.in_lock_order;
   ahead = λ y e d l may. let q = locked-free c x left past e y in
-      old.ahead y e d (rw q at l) (own_shrinks parents tree (A.Free x left) refl (Free c x left) past (part_of-free c x left past) d y may);
+      old.ahead y e d (rw q at l) (own_shrinks parents tree (A.Free x left) refl (Free x c left) past (part_of-free c x left past) d y may);
 }
 
 -- a call that is done stands in the order
@@ -158,8 +158,8 @@ placed_keeps_order parents tree [] legal = record { distinct = tt; members = λ 
 placed_keeps_order parents tree (Admit c ∷ past) legal =
     let old = placed_keeps_order parents tree past (legal_before parents (Admit c) past legal) in
     record { distinct = old.distinct; members = old.members; in_lock_order = old.in_lock_order; ahead = old.ahead }
-placed_keeps_order parents tree (Lock c x found ∷ past) legal =
-    let legal' = legal_before parents (Lock c x found) past legal in
+placed_keeps_order parents tree (Lock x c found ∷ past) legal =
+    let legal' = legal_before parents (Lock x c found) past legal in
     let old = placed_keeps_order parents tree past legal' in
     let order = placed parents past in
     let m = old.members c in
@@ -174,7 +174,7 @@ placed_keeps_order parents tree (Lock c x found ∷ past) legal =
           let none : locked_any (part_of c past) ≡ false = grind (arith, m, goes_on, out) in
           rw out (kept_first parents tree order past c x found legal'.obeys old none out)
     ]
-placed_keeps_order parents tree (Free c x left ∷ past) legal = kept_free parents tree (placed parents past) past c x left (placed_keeps_order parents tree past (legal_before parents (Free c x left) past legal))
+placed_keeps_order parents tree (Free x c left ∷ past) legal = kept_free parents tree (placed parents past) past c x left (placed_keeps_order parents tree past (legal_before parents (Free x c left) past legal))
 placed_keeps_order parents tree (Done c ∷ past) legal =
     let old = placed_keeps_order parents tree past (legal_before parents (Done c) past legal) in
     let order = placed parents past in

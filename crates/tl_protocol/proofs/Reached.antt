@@ -22,8 +22,8 @@ use Rattle.tl_protocol.proofs.Standstill.{sound_history}
 pub unadmitted_done : (past : List Event) → InTurn past → (c : ℕ) → admits past ≤ c → is_done c past ≡ false
 unadmitted_done [] turn c le = refl
 unadmitted_done (Admit d ∷ past) turn c le = unadmitted_done past turn.1 c (omega arith)
-unadmitted_done (Lock d x found ∷ past) turn c le = unadmitted_done past turn.1 c le
-unadmitted_done (Free d x left ∷ past) turn c le = unadmitted_done past turn.1 c le
+unadmitted_done (Lock x d found ∷ past) turn c le = unadmitted_done past turn.1 c le
+unadmitted_done (Free x d left ∷ past) turn c le = unadmitted_done past turn.1 c le
 unadmitted_done (Done d ∷ past) turn c le =
     let lt : d < admits past = turn.0.0 in
     let ne : d ≢ c = λ w. omega arith in

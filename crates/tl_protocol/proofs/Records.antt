@@ -21,15 +21,15 @@ record_at-put_record t y r x lt = elim (cases_Bool (y == x)) [
 pub length-records_now : (past : List Event) (t : Records) → length (records_now past t) ≡ length t
 length-records_now [] t = refl
 length-records_now (Admit c ∷ past) t = length-records_now past t
-length-records_now (Lock c x found ∷ past) t = length-records_now past t
-length-records_now (Free c x left ∷ past) t = length-set (records_now past t) x left ∙ length-records_now past t
+length-records_now (Lock x c found ∷ past) t = length-records_now past t
+length-records_now (Free x c left ∷ past) t = length-set (records_now past t) x left ∙ length-records_now past t
 length-records_now (Done c ∷ past) t = length-records_now past t
 
 pub record_at-records_now : (past : List Event) (t : Records) (x : ℕ) → x < length t → record_at (records_now past t) x ≡ last_left past x (record_at t x)
 record_at-records_now [] t x lt = refl
 record_at-records_now (Admit c ∷ past) t x lt = record_at-records_now past t x lt
-record_at-records_now (Lock c y found ∷ past) t x lt = record_at-records_now past t x lt
-record_at-records_now (Free c y left ∷ past) t x lt = record_at-put_record (records_now past t) y left x (subst (λ n. x < n) (sym (length-records_now past t)) lt) ∙ ap (λ r. if y == x then left else r) (record_at-records_now past t x lt)
+record_at-records_now (Lock y c found ∷ past) t x lt = record_at-records_now past t x lt
+record_at-records_now (Free y c left ∷ past) t x lt = record_at-put_record (records_now past t) y left x (subst (λ n. x < n) (sym (length-records_now past t)) lt) ∙ ap (λ r. if y == x then left else r) (record_at-records_now past t x lt)
 record_at-records_now (Done c ∷ past) t x lt = record_at-records_now past t x lt
 
 pub length-with_found : (done : List Action) (t : Records) → length (with_found done t) ≡ length t

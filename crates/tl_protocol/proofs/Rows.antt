@@ -28,8 +28,8 @@ opening = record_of 0 ∷ record_of 10 ∷ record_of 20 ∷ []
 -- call 2 comes, and is done with node 2, where it leaves 22; only then does call 0 go on to node 2.
 abbrev against_the_clock : List Event
 against_the_clock =
-    Admit 0 ∷ Lock 0 0 (record_of 0) ∷ Lock 0 1 (record_of 10) ∷ Free 0 1 (record_of 11) ∷ Admit 1 ∷ Lock 1 1 (record_of 11) ∷ Free 1 1 (record_of 11) ∷ Done 1
-    ∷ Admit 2 ∷ Lock 2 2 (record_of 20) ∷ Free 2 2 (record_of 22) ∷ Done 2 ∷ Lock 0 2 (record_of 22) ∷ Free 0 2 (record_of 22) ∷ Free 0 0 (record_of 0) ∷ Done 0 ∷ []
+    Admit 0 ∷ Lock 0 0 (record_of 0) ∷ Lock 1 0 (record_of 10) ∷ Free 1 0 (record_of 11) ∷ Admit 1 ∷ Lock 1 1 (record_of 11) ∷ Free 1 1 (record_of 11) ∷ Done 1
+    ∷ Admit 2 ∷ Lock 2 2 (record_of 20) ∷ Free 2 2 (record_of 22) ∷ Done 2 ∷ Lock 2 0 (record_of 22) ∷ Free 2 0 (record_of 22) ∷ Free 0 0 (record_of 0) ∷ Done 0 ∷ []
 
 -- call 0 stands from its lock of the root on
 order_at_first_lock : placed two_children (past_of (take 2 against_the_clock)) ≡ 0 ∷ []

@@ -22,12 +22,12 @@ use Rattle.tl_protocol.proofs.Steps.{legal_history}
 done_free : (parents : List ℕ) (past : List Event) → IsLegalHistory parents past → (d x : ℕ) → is_done d past ≡ true → held (part_of d past) x ≡ false
 done_free parents [] legal d x h = refl
 done_free parents (Admit e ∷ past) legal d x h = done_free parents past (legal_before parents (Admit e) past legal) d x h
-done_free parents (Lock e y found ∷ past) legal d x h =
+done_free parents (Lock y e found ∷ past) legal d x h =
     let ne : e ≢ d = λ (w : e ≡ d). both_ways (is_done d past) (subst (λ z. is_done z past ≡ false) w legal.in_turn.0.1) h in
-    let q = part_of-other (Lock e y found) d past ne in rw q (done_free parents past (legal_before parents (Lock e y found) past legal) d x h)
-done_free parents (Free e y left ∷ past) legal d x h =
+    let q = part_of-other (Lock y e found) d past ne in rw q (done_free parents past (legal_before parents (Lock y e found) past legal) d x h)
+done_free parents (Free y e left ∷ past) legal d x h =
     let ne : e ≢ d = λ (w : e ≡ d). both_ways (is_done d past) (subst (λ z. is_done z past ≡ false) w legal.in_turn.0.1) h in
-    let q = part_of-other (Free e y left) d past ne in rw q (done_free parents past (legal_before parents (Free e y left) past legal) d x h)
+    let q = part_of-other (Free y e left) d past ne in rw q (done_free parents past (legal_before parents (Free y e left) past legal) d x h)
 done_free parents (Done e ∷ past) legal d x h = elim (cases_eq e d) [
   | inl same ↦
       let q = part_of-done e past in
@@ -44,13 +44,13 @@ done_free parents (Done e ∷ past) legal d x h = elim (cases_eq e d) [
 any_admitted : (parents : List ℕ) (past : List Event) → IsLegalHistory parents past → (c : ℕ) → locked_any (part_of c past) ≡ true → c < admits past
 any_admitted parents [] legal c h = absurd (both_ways false refl h)
 any_admitted parents (Admit e ∷ past) legal c h = let ih = any_admitted parents past (legal_before parents (Admit e) past legal) c h in omega arith
-any_admitted parents (Lock e y found ∷ past) legal c h = elim (cases_eq e c) [
+any_admitted parents (Lock y e found ∷ past) legal c h = elim (cases_eq e c) [
   | inl same ↦ subst (λ z. z < admits past) same legal.in_turn.0.0
-  | inr other ↦ let q = part_of-other (Lock e y found) c past other in any_admitted parents past (legal_before parents (Lock e y found) past legal) c (rw q at h)
+  | inr other ↦ let q = part_of-other (Lock y e found) c past other in any_admitted parents past (legal_before parents (Lock y e found) past legal) c (rw q at h)
 ]
-any_admitted parents (Free e y left ∷ past) legal c h = elim (cases_eq e c) [
+any_admitted parents (Free y e left ∷ past) legal c h = elim (cases_eq e c) [
   | inl same ↦ subst (λ z. z < admits past) same legal.in_turn.0.0
-  | inr other ↦ let q = part_of-other (Free e y left) c past other in any_admitted parents past (legal_before parents (Free e y left) past legal) c (rw q at h)
+  | inr other ↦ let q = part_of-other (Free y e left) c past other in any_admitted parents past (legal_before parents (Free y e left) past legal) c (rw q at h)
 ]
 any_admitted parents (Done e ∷ past) legal c h = elim (cases_eq e c) [
   | inl same ↦ subst (λ z. z < admits past) same legal.in_turn.0.0

@@ -21,8 +21,8 @@ use Rattle.tl_protocol.proofs.Alone.{taken-next, obeys_taken, permitted_at, find
 pub unadmitted : (past : List Event) → InTurn past → (c : ℕ) → admits past ≤ c → part_of c past ≡ []
 unadmitted [] turn c le = refl
 unadmitted (Admit d ∷ past) turn c le = unadmitted past turn.1 c (omega arith)
-unadmitted (Lock d x found ∷ past) turn c le = let lt : d < admits past = turn.0.0 in let ne : d ≢ c = λ w. omega arith in part_of-other (Lock d x found) c past ne ∙ unadmitted past turn.1 c le
-unadmitted (Free d x left ∷ past) turn c le = let lt : d < admits past = turn.0.0 in let ne : d ≢ c = λ w. omega arith in part_of-other (Free d x left) c past ne ∙ unadmitted past turn.1 c le
+unadmitted (Lock x d found ∷ past) turn c le = let lt : d < admits past = turn.0.0 in let ne : d ≢ c = λ w. omega arith in part_of-other (Lock x d found) c past ne ∙ unadmitted past turn.1 c le
+unadmitted (Free x d left ∷ past) turn c le = let lt : d < admits past = turn.0.0 in let ne : d ≢ c = λ w. omega arith in part_of-other (Free x d left) c past ne ∙ unadmitted past turn.1 c le
 unadmitted (Done d ∷ past) turn c le = let lt : d < admits past = turn.0.0 in let ne : d ≢ c = λ w. omega arith in part_of-other (Done d) c past ne ∙ unadmitted past turn.1 c le
 
 -- the history of a legal world is legal: what each call does is permitted because it is so alone
@@ -64,14 +64,14 @@ done_next alone opening past more c k a h r next same over =
 
 -- after a lock it does what it does on the tree that has the record found, and goes on from the same actions
 done_lock : (parents : List ℕ) (alone : Records → Outcome) → IsAlone parents alone → (opening : Records) → length opening ≡ length parents → (past : List Event) (c k x : ℕ) (r found : Record)
-    → Genuine alone opening past c k → is_done c past ≡ false → slice_get ((alone_of alone opening past c).actions) k ≡ Some (A.Lock x r) → Genuine alone opening (Lock c x found ∷ past) c (suc k)
+    → Genuine alone opening past c k → is_done c past ≡ false → slice_get ((alone_of alone opening past c).actions) k ≡ Some (A.Lock x r) → Genuine alone opening (Lock x c found ∷ past) c (suc k)
 done_lock parents alone is_alone opening len past c k x r found h goes_on next =
     let t = with_found (part_of c past) opening in
     let u = set t x found in
     let q = part_of-lock c x found past in
     let actions = (alone t).actions in
     let others = (alone u).actions in
-    let run2 : (alone_of alone opening (Lock c x found ∷ past) c).actions ≡ others = ap (λ p. (alone (with_found p opening)).actions) q in
+    let run2 : (alone_of alone opening (Lock x c found ∷ past) c).actions ≡ others = ap (λ p. (alone (with_found p opening)).actions) q in
     let size : length t ≡ length parents = length-with_found (part_of c past) opening ∙ len in
     let size2 : length u ≡ length t = length-set t x found in
     let p : Permitted parents (taken k actions []) (A.Lock x r) = permitted_at parents k actions [] (A.Lock x r) (is_alone.obeys t size) next in
@@ -106,7 +106,7 @@ own w c (A.Read x f n) is_alone len h may = done_next (w.meanings c) w.opening w
 own w c (A.Write x f n) is_alone len h may = done_next (w.meanings c) w.opening w.past w.past c (w.counts c) (A.Write x f n) h refl may.is_next h.is_part (own_later w c (A.Write x f n) is_alone len may refl)
 own w c (A.Free x left) is_alone len h may =
     let q = part_of-free c x left w.past in
-    done_next (w.meanings c) w.opening w.past (Free c x left ∷ w.past) c (w.counts c) (A.Free x left) h (ap (λ p. (w.meanings c (with_found p w.opening)).actions) q) may.is_next (q ∙ ap (λ z. A.Free x left ∷ z) h.is_part) (own_later w c (A.Free x left) is_alone len may refl)
+    done_next (w.meanings c) w.opening w.past (Free x c left ∷ w.past) c (w.counts c) (A.Free x left) h (ap (λ p. (w.meanings c (with_found p w.opening)).actions) q) may.is_next (q ∙ ap (λ z. A.Free x left ∷ z) h.is_part) (own_later w c (A.Free x left) is_alone len may refl)
 own w c (A.Emit n) is_alone len h may = done_next (w.meanings c) w.opening w.past w.past c (w.counts c) (A.Emit n) h refl may.is_next h.is_part (own_later w c (A.Emit n) is_alone len may refl)
 own w c A.End is_alone len h may =
     let q = part_of-done c w.past in
@@ -127,10 +127,10 @@ is_done-past_after c d A.End past ne = let q = ne_eqb c d ne in rw q refl
 is_done-past_after c d A.Plain past ne = refl
 
 part_of-past_after : (c d : ℕ) (a : Action) (past : List Event) → c ≢ d → part_of d (past_after c a past) ≡ part_of d past
-part_of-past_after c d (A.Lock x r) past ne = part_of-other (Lock c x r) d past ne
+part_of-past_after c d (A.Lock x r) past ne = part_of-other (Lock x c r) d past ne
 part_of-past_after c d (A.Read x f n) past ne = refl
 part_of-past_after c d (A.Write x f n) past ne = refl
-part_of-past_after c d (A.Free x left) past ne = part_of-other (Free c x left) d past ne
+part_of-past_after c d (A.Free x left) past ne = part_of-other (Free x c left) d past ne
 part_of-past_after c d (A.Emit n) past ne = refl
 part_of-past_after c d A.End past ne = part_of-other (Done c) d past ne
 part_of-past_after c d A.Plain past ne = refl

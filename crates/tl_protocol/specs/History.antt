@@ -13,16 +13,16 @@ past_of events = reverse events
 
 abbrev pub caller : Event → ℕ
 caller (Admit c) = c
-caller (Lock c x found) = c
-caller (Free c x left) = c
+caller (Lock x c found) = c
+caller (Free x c left) = c
 caller (Done c) = c
 
 -- what c did, the latest first
 abbrev pub part_of : ℕ → List Event → List Action
 part_of c [] = []
 part_of c (Admit d ∷ past) = part_of c past
-part_of c (Lock d x found ∷ past) = if d == c then A.Lock x found ∷ part_of c past else part_of c past
-part_of c (Free d x left ∷ past) = if d == c then A.Free x left ∷ part_of c past else part_of c past
+part_of c (Lock x d found ∷ past) = if d == c then A.Lock x found ∷ part_of c past else part_of c past
+part_of c (Free x d left ∷ past) = if d == c then A.Free x left ∷ part_of c past else part_of c past
 part_of c (Done d ∷ past) = if d == c then A.End ∷ part_of c past else part_of c past
 
 abbrev pub is_done : ℕ → List Event → Bool
@@ -47,8 +47,8 @@ AllDone past = (c : ℕ) → c < admits past → is_done c past ≡ true
 -- an admission has the next number, and all else is of a call that is open
 abbrev pub MayHappen : List Event → Event → Type 0
 MayHappen past (Admit c) = c ≡ admits past
-MayHappen past (Lock c x found) = IsOpen c past
-MayHappen past (Free c x left) = IsOpen c past
+MayHappen past (Lock x c found) = IsOpen c past
+MayHappen past (Free x c left) = IsOpen c past
 MayHappen past (Done c) = IsOpen c past
 
 -- admissions are numbered in order; each event of a call comes after its admission, and none after its end
@@ -59,7 +59,7 @@ InTurn (e ∷ past) = MayHappen past e × InTurn past
 -- each node is locked only while nobody holds it
 abbrev pub Apart : List Event → Type 0
 Apart [] = Unit {0}
-Apart (Lock c x found ∷ past) = ((d : ℕ) → held (part_of d past) x ≡ false) × Apart past
+Apart (Lock x c found ∷ past) = ((d : ℕ) → held (part_of d past) x ≡ false) × Apart past
 Apart (_ ∷ past) = Apart past
 
 -- after place j, and before place k, stands a free of x by c
@@ -68,19 +68,19 @@ pub record IsFreedBetween (events : List Event) (j k c x : ℕ) : Type 0 where
   pub left : Record
   pub later : j < place
   pub earlier : place < k
-  pub is_free : slice_get events place ≡ Some (Free c x left)
+  pub is_free : slice_get events place ≡ Some (Free x c left)
 
 -- the same as apart by places, of a history with the earliest event first: between two locks of one node stands a free
 -- of it by the first one's call
 abbrev pub FreesBetweenLocks : List Event → Type 0
 FreesBetweenLocks events =
-    (j k c d x : ℕ) (found again : Record) → j < k → slice_get events j ≡ Some (Lock c x found)
-    → slice_get events k ≡ Some (Lock d x again) → IsFreedBetween events j k c x
+    (j k c d x : ℕ) (found again : Record) → j < k → slice_get events j ≡ Some (Lock x c found)
+    → slice_get events k ≡ Some (Lock x d again) → IsFreedBetween events j k c x
 
 -- the record that was last left at x, and r where none was
 abbrev pub last_left : List Event → ℕ → Record → Record
 last_left [] x r = r
-last_left (Free c y left ∷ past) x r = if y == x then left else last_left past x r
+last_left (Free y c left ∷ past) x r = if y == x then left else last_left past x r
 last_left (_ ∷ past) x r = last_left past x r
 
 -- the record of x now
@@ -90,13 +90,13 @@ record_now past opening x = last_left past x (record_at opening x)
 -- the opening records with each that was last left
 abbrev pub records_now : List Event → Records → Records
 records_now [] opening = opening
-records_now (Free c x left ∷ past) opening = put_record (records_now past opening) x left
+records_now (Free x c left ∷ past) opening = put_record (records_now past opening) x left
 records_now (_ ∷ past) opening = records_now past opening
 
 -- each lock finds the record of its node at that moment
 abbrev pub Follows : Records → List Event → Type 0
 Follows opening [] = Unit {0}
-Follows opening (Lock c x found ∷ past) = (found ≡ record_now past opening x) × Follows opening past
+Follows opening (Lock x c found ∷ past) = (found ≡ record_now past opening x) × Follows opening past
 Follows opening (_ ∷ past) = Follows opening past
 
 -- what can be said of the events and the shape alone

@@ -29,11 +29,11 @@ put_before test c (d ∷ ds) = if test d then c ∷ d ∷ ds else d ∷ put_befo
 -- come to x, or at the end if there is none. A call that is done without a lock goes to the end. A call that stands
 -- isn't put in again, and nothing else moves.
 abbrev pub placed_after : List ℕ → List Event → Event → List ℕ → List ℕ
-placed_after parents past (Lock c x found) order =
+placed_after parents past (Lock x c found) order =
     if stands c order then order else put_before (λ d. may_come parents (part_of d past) x) c order
 placed_after parents past (Done c) order = if stands c order then order else order ++ c ∷ []
 placed_after parents past (Admit c) order = order
-placed_after parents past (Free c x left) order = order
+placed_after parents past (Free x c left) order = order
 
 -- the order of a history, event by event
 abbrev pub placed : List ℕ → List Event → List ℕ
@@ -43,7 +43,7 @@ placed parents (e ∷ past) = placed_after parents past e (placed parents past)
 -- whoever locked a node earlier stands before whoever locked it later
 abbrev pub InLockOrder : List ℕ → List Event → Type 0
 InLockOrder order [] = Unit {0}
-InLockOrder order (Lock d x found ∷ past) =
+InLockOrder order (Lock x d found ∷ past) =
     ((c : ℕ) → locked (part_of c past) x ≡ true → before order c d ≡ true) × InLockOrder order past
 InLockOrder order (_ ∷ past) = InLockOrder order past
 

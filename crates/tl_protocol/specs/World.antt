@@ -87,8 +87,8 @@ as_found w a = a
 
 -- the history after an action of c
 abbrev pub past_after : ℕ → Action → List Event → List Event
-past_after c (A.Lock x found) past = Lock c x found ∷ past
-past_after c (A.Free x left) past = Free c x left ∷ past
+past_after c (A.Lock x found) past = Lock x c found ∷ past
+past_after c (A.Free x left) past = Free x c left ∷ past
 past_after c A.End past = Done c ∷ past
 past_after c _ past = past
 

@@ -2,15 +2,16 @@
 
 use tl_tree::record::Record;
 
-/// One event of a history.
+/// One event of a history. The node stands before the call, beside the byte that tells the variants apart: so an event
+/// takes 40 bytes, and not 48.
 #[derive(Clone, Copy, Debug, PartialEq, Eq)]
 pub enum Event {
     /// The call was admitted. Calls are numbered 0, 1, .. in the order of their admissions.
     Admit { call: u32 },
     /// The call locked the node, which had this record.
-    Lock { call: u32, node: u16, found: Record },
+    Lock { node: u16, call: u32, found: Record },
     /// The call unlocked the node, which has this record from then on.
-    Free { call: u32, node: u16, left: Record },
+    Free { node: u16, call: u32, left: Record },
     /// The call ended.
     Done { call: u32 },
 }

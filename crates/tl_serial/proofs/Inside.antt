@@ -18,7 +18,7 @@ use Rattle.tl_protocol.proofs.Steps.{part_inside, unadmitted}
 use Rattle.tl_serial.specs.Parts.{IsOfNodes}
 
 -- what a call had locked, it has locked after a lock too
-locked_still : (d x : ℕ) (found : List ℤ) (past : List Event) (c y : ℕ) → locked (part_of c past) y ≡ true → locked (part_of c (Lock d x found ∷ past)) y ≡ true
+locked_still : (d x : ℕ) (found : List ℤ) (past : List Event) (c y : ℕ) → locked (part_of c past) y ≡ true → locked (part_of c (Lock x d found ∷ past)) y ≡ true
 locked_still d x found past c y l = elim (cases_eq d c) [
   | inl same ↦ let e = eq-eqb d c same in grind (arith, e, l)
   | inr other ↦ let e = ne_eqb d c other in grind (arith, e, l)
@@ -30,15 +30,15 @@ events_inside : (parents : List ℕ) (nodes : ℕ) (past : List Event) → IsLeg
 events_inside parents nodes [] legal inside = λ k d h. absurd (omega arith)
 events_inside parents nodes (Admit c ∷ past) legal inside =
     All-cons (IsOfNodes nodes) (Admit c) past tt (events_inside parents nodes past (legal_before parents (Admit c) past legal) inside)
-events_inside parents nodes (Lock c x found ∷ past) legal inside =
+events_inside parents nodes (Lock x c found ∷ past) legal inside =
     let self = eq-eqb x x refl in
-    let own : locked (part_of c (Lock c x found ∷ past)) x ≡ true = ap (λ p. locked p x) (part_of-lock c x found past) ∙ (grind (arith, self)) in
-    All-cons (IsOfNodes nodes) (Lock c x found) past (inside c x own)
-    (events_inside parents nodes past (legal_before parents (Lock c x found) past legal) (λ d y l. inside d y (locked_still c x found past d y l)))
-events_inside parents nodes (Free c x left ∷ past) legal inside =
+    let own : locked (part_of c (Lock x c found ∷ past)) x ≡ true = ap (λ p. locked p x) (part_of-lock c x found past) ∙ (grind (arith, self)) in
+    All-cons (IsOfNodes nodes) (Lock x c found) past (inside c x own)
+    (events_inside parents nodes past (legal_before parents (Lock x c found) past legal) (λ d y l. inside d y (locked_still c x found past d y l)))
+events_inside parents nodes (Free x c left ∷ past) legal inside =
     let own : EachPermitted parents (A.Free x left ∷ part_of c past) = subst (EachPermitted parents) (part_of-free c x left past) (legal.obeys c) in
-    All-cons (IsOfNodes nodes) (Free c x left) past (inside c x (locked-free c x left past c x ∙ held-locked (part_of c past) x own.0))
-    (events_inside parents nodes past (legal_before parents (Free c x left) past legal) (λ d y l. inside d y (locked-free c x left past d y ∙ l)))
+    All-cons (IsOfNodes nodes) (Free x c left) past (inside c x (locked-free c x left past c x ∙ held-locked (part_of c past) x own.0))
+    (events_inside parents nodes past (legal_before parents (Free x c left) past legal) (λ d y l. inside d y (locked-free c x left past d y ∙ l)))
 events_inside parents nodes (Done c ∷ past) legal inside =
     All-cons (IsOfNodes nodes) (Done c) past tt
     (events_inside parents nodes past (legal_before parents (Done c) past legal) (λ d y l. inside d y (locked-done c past d y ∙ l)))

@@ -17,21 +17,21 @@ fork = 0 ∷ 0 ∷ 0 ∷ []
 abbrev chain : List ℕ
 chain = 0 ∷ 0 ∷ 1 ∷ []
 
-without_a_lock : placed fork (past_of (Admit 0 ∷ Admit 1 ∷ Lock 1 0 zeros ∷ Free 1 0 zeros ∷ Done 1 ∷ Done 0 ∷ [])) ≡ 1 ∷ 0 ∷ []
+without_a_lock : placed fork (past_of (Admit 0 ∷ Admit 1 ∷ Lock 0 1 zeros ∷ Free 0 1 zeros ∷ Done 1 ∷ Done 0 ∷ [])) ≡ 1 ∷ 0 ∷ []
 unfolding climb
 without_a_lock = refl
 
-way_open : placed chain (past_of (Admit 0 ∷ Lock 0 0 zeros ∷ Admit 1 ∷ Lock 1 2 zeros ∷ [])) ≡ 1 ∷ 0 ∷ []
+way_open : placed chain (past_of (Admit 0 ∷ Lock 0 0 zeros ∷ Admit 1 ∷ Lock 2 1 zeros ∷ [])) ≡ 1 ∷ 0 ∷ []
 unfolding climb
 way_open = refl
 
-way_given_up : placed chain (past_of (Admit 0 ∷ Lock 0 0 zeros ∷ Lock 0 1 zeros ∷ Free 0 1 zeros ∷ Admit 1 ∷ Lock 1 2 zeros ∷ [])) ≡ 0 ∷ 1 ∷ []
+way_given_up : placed chain (past_of (Admit 0 ∷ Lock 0 0 zeros ∷ Lock 1 0 zeros ∷ Free 1 0 zeros ∷ Admit 1 ∷ Lock 2 1 zeros ∷ [])) ≡ 0 ∷ 1 ∷ []
 unfolding climb
 way_given_up = refl
 
 abbrev against_the_rules : List Event
 against_the_rules =
-    Free 9 1 zeros ∷ Lock 7 0 zeros ∷ Lock 3 0 zeros ∷ Done 7 ∷ Free 7 0 zeros ∷ Lock 7 0 zeros ∷ Lock 5 1 zeros ∷ Free 3 0 zeros ∷ Free 7 0 zeros ∷ Free 7 0 zeros ∷ Lock 9 1 zeros
+    Free 1 9 zeros ∷ Lock 0 7 zeros ∷ Lock 0 3 zeros ∷ Done 7 ∷ Free 0 7 zeros ∷ Lock 0 7 zeros ∷ Lock 1 5 zeros ∷ Free 0 3 zeros ∷ Free 0 7 zeros ∷ Free 0 7 zeros ∷ Lock 1 9 zeros
     ∷ Done 9 ∷ Done 2 ∷ Done 2 ∷ []
 
 order_against_the_rules : placed chain (past_of against_the_rules) ≡ 5 ∷ 7 ∷ 3 ∷ 9 ∷ 2 ∷ []

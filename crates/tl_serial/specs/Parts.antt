@@ -8,8 +8,8 @@ use Rattle.tl_serial.specs.Part.{Marks, IsPart, node_count, trues}
 -- the node of a lock or of a free is one of the first so many
 abbrev pub IsOfNodes : ℕ → Event → Type 0
 IsOfNodes nodes (Admit c) = Unit {0}
-IsOfNodes nodes (Lock c x found) = x < nodes
-IsOfNodes nodes (Free c x left) = x < nodes
+IsOfNodes nodes (Lock x c found) = x < nodes
+IsOfNodes nodes (Free x c left) = x < nodes
 IsOfNodes nodes (Done c) = Unit {0}
 
 abbrev pub no_marks : Marks

@@ -17,7 +17,7 @@ returns-in_ok-push-in-Lock-clause-more c events past at before =
     let inside : call < length (lists_of events vectors) = omega arith in
     let new : actions_at events c.push.new.self.items ≡ get_or (lists_of events vectors) call [] ++ did.Lock c.in-Lock.node c.in-Lock.found ∷ [] =
     ap (actions_at events) c.in_ok-push-in-Lock.ensures.items
-    ∙ actions_at-more events list.items c.args.place (Lock call c.in-Lock.node c.in-Lock.found) (sym c.in-Lock.is ∙ at)
+    ∙ actions_at-more events list.items c.args.place (Lock c.in-Lock.node call c.in-Lock.found) (sym c.in-Lock.is ∙ at)
     ∙ ap (λ l. l ++ did.Lock c.in-Lock.node c.in-Lock.found ∷ []) (list_of events vectors call list given c.index_mut.ensures.value) in
     rw (c.in-Lock.is, map-set) (lock_put (lists_of events vectors) past call c.in-Lock.node c.in-Lock.found inside before (actions_at events c.push.new.self.items) new)
 
@@ -31,6 +31,6 @@ returns-in_ok-push-in-Free-clause-more c events past at before =
     let inside : call < length (lists_of events vectors) = omega arith in
     let new : actions_at events c.push-in-Free.new.self.items ≡ get_or (lists_of events vectors) call [] ++ did.Free c.in-Free.node c.in-Free.left ∷ [] =
     ap (actions_at events) c.in_ok-push-in-Free.ensures.items
-    ∙ actions_at-more events list.items c.args.place (Free call c.in-Free.node c.in-Free.left) (sym c.in-Free.is ∙ at)
+    ∙ actions_at-more events list.items c.args.place (Free c.in-Free.node call c.in-Free.left) (sym c.in-Free.is ∙ at)
     ∙ ap (λ l. l ++ did.Free c.in-Free.node c.in-Free.left ∷ []) (list_of events vectors call list given c.index_mut-in-Free.ensures.value) in
     rw (c.in-Free.is, map-set) (free_put (lists_of events vectors) past call c.in-Free.node c.in-Free.left inside before (actions_at events c.push-in-Free.new.self.items) new)

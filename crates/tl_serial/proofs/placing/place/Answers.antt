@@ -17,7 +17,7 @@ returns-in-Lock-clause-ok c = on_ok_weaker c.put_in.result (λ now past shown.
     subst (λ ds. put_before test call ds ≡ insert ds c.first_coming-first.result call) c.calls.ensures.same first in
     let own : call ≡ c.in-Lock.call = c.caller-call.ensures ∙ ap caller c.in-Lock.is in
     let new : stands call order ≡ false = sym c.stands.ensures ∙ c.if-stands.false in
-    let is_put : placed_after c.args.shape.now past (Lock call c.in-Lock.node c.in-Lock.found) order ≡ put_before test call order = rw new refl in
-    let is_placed : placed_after c.args.shape.now past c.args.event.now order ≡ placed_after c.args.shape.now past (Lock call c.in-Lock.node c.in-Lock.found) order =
-    ap (λ e. placed_after c.args.shape.now past e order) (c.in-Lock.is ∙ ap (λ d. Lock d c.in-Lock.node c.in-Lock.found) (sym own)) in
+    let is_put : placed_after c.args.shape.now past (Lock c.in-Lock.node call c.in-Lock.found) order ≡ put_before test call order = rw new refl in
+    let is_placed : placed_after c.args.shape.now past c.args.event.now order ≡ placed_after c.args.shape.now past (Lock c.in-Lock.node call c.in-Lock.found) order =
+    ap (λ e. placed_after c.args.shape.now past e order) (c.in-Lock.is ∙ ap (λ d. Lock c.in-Lock.node d c.in-Lock.found) (sym own)) in
     ap (λ l. l.order) now ∙ sym (is_placed ∙ is_put ∙ at_order)) c.put_in.ensures

@@ -39,7 +39,7 @@ returns-in-Lock c parents opening calls past shows may =
       };
       calls_are = calls_are;
       nodes_are = length-set w.holders.items node (Some call) ∙ nodes_are;
-      inside = All-cons (IsOfNodes (length parents)) (Lock call node found) past (omega arith) shows.inside;
+      inside = All-cons (IsOfNodes (length parents)) (Lock node call found) past (omega arith) shows.inside;
       admitted = shows.admitted;
       done = shows.done;
       begun = begun-lock calls past call node found w.begun.items begun_in shows.begun;
@@ -76,7 +76,7 @@ returns-in-Free c parents opening calls past shows may =
       };
       calls_are = calls_are;
       nodes_are = length-set w.holders.items node None ∙ nodes_are;
-      inside = All-cons (IsOfNodes (length parents)) (Free call node left) past (omega arith) shows.inside;
+      inside = All-cons (IsOfNodes (length parents)) (Free node call left) past (omega arith) shows.inside;
       admitted = shows.admitted;
       done = shows.done;
       begun = begun-free calls past call node left w.begun.items shows.begun;
