@@ -1,7 +1,7 @@
 -- The calls, while they are taken one after another.
 use Rattle.std.proofs.Common.{◌≡◌, ◌+◌, ◌<◌, ℕ, List, [], ◌∷◌, ◌++◌, length, get_or, drop, map, Result, Ok, Err, refl, ap}
 use Rattle.std.proofs.lemmas.List.{append_assoc, drop_more, map_push}
-use Rattle.tl_core.specs.Cores.{Named}
+use Rattle.tl_procedures.specs.Names.{Named}
 use Rattle.tl_audit.specs.declared.fault.TrailFault.{TrailFault}
 use Rattle.tl_audit.specs.declared.form.CallText.{CallText}
 use Rattle.tl_audit.specs.declared.trail.TrailCall.{TrailCall}

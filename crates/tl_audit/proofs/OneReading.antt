@@ -6,7 +6,7 @@ use Rattle.tl_instr.specs.Codes.{CodeValue}
 use Rattle.tl_asm.proofs.Laws.{same_code, faultless}
 use Rattle.tl_verify.proofs.Looking.{nothing_found}
 use Rattle.tl_verify.specs.Acceptable.{Acceptable}
-use Rattle.tl_core.specs.Cores.{Named}
+use Rattle.tl_procedures.specs.Names.{Named}
 use Rattle.tl_audit.specs.declared.fault.TrailFault.{TrailFault}
 use Rattle.tl_audit.specs.declared.fault.TrailFault.TheVariants.{NotTrail, Tree, Asm, Verify, Core, Memory}
 use Rattle.tl_audit.specs.Trails.{TrailValue}

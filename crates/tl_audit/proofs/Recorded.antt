@@ -17,7 +17,7 @@ use Rattle.tl_protocol.proofs.Records.{length-records_now, record_at-records_now
 use Rattle.tl_protocol.proofs.Shared.{locks_and_frees-shared_actions}
 use Rattle.tl_protocol.proofs.Standstill.{sound_history}
 use Rattle.tl_machine.specs.Outcomes.{meaning}
-use Rattle.tl_serial.proofs.Inside.{sound_inside}
+use Rattle.tl_protocol.proofs.Inside.{sound_inside}
 use Rattle.tl_core.specs.Cores.{CoreValue, call_of, world_of}
 use Rattle.tl_audit.specs.Trails.{IsTrail, IsCallOf, call_at, no_call, code_of, found_alone}
 use Rattle.tl_audit.specs.Clean.{IsPermitted, AreRight, Clean}

@@ -2,7 +2,7 @@
 use Rattle.std.proofs.Common.{◌≡◌, ◌+◌, ◌<◌, ℕ, List, ◌∷◌, length, get_or, drop, map, ap, subst, inl, inr}
 use Rattle.std.proofs.lemmas.List.{drop_more}
 use Rattle.tl_instr.specs.Codes.{CodeValue}
-use Rattle.tl_core.specs.Cores.{Named}
+use Rattle.tl_procedures.specs.Names.{Named}
 use Rattle.tl_audit.specs.declared.fault.TrailFault.{TrailFault}
 use Rattle.tl_audit.specs.declared.form.ProcedureText.{ProcedureText}
 use Rattle.tl_audit.specs.Reading.{IsFit, and_named, TakenUp, IsUnfit, IsFirstUnfit}

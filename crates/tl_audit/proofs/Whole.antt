@@ -5,7 +5,7 @@ use Rattle.std.proofs.lemmas.List.{reverse-reverse, length-reverse}
 use Rattle.tl_tree.specs.Records.{Records}
 use Rattle.tl_tree.specs.Trees.{TreeValue}
 use Rattle.tl_protocol.specs.declared.event.Event.{Event}
-use Rattle.tl_core.specs.Cores.{Named}
+use Rattle.tl_procedures.specs.Names.{Named}
 use Rattle.tl_audit.specs.declared.fault.TrailFault.{TrailFault}
 use Rattle.tl_audit.specs.declared.fault.TrailFault.TheVariants.{NotTrail}
 use Rattle.tl_audit.specs.declared.form.EventForm.{EventForm}

@@ -20,15 +20,14 @@ use Rattle.tl_asm.specs.Listing.{listing}
 use Rattle.tl_protocol.specs.declared.event.Event.{Event}
 use Rattle.tl_protocol.specs.declared.event.Event.TheVariants.{Admit, Lock, Free, Done}
 use Rattle.tl_protocol.specs.History.{caller}
-use Rattle.tl_serial.specs.Parts.{IsOfNodes}
-use Rattle.tl_serial.proofs.Pasts.{All-reverse}
+use Rattle.tl_protocol.specs.Nodes.{IsOfNodes}
+use Rattle.tl_protocol.proofs.Pasts.{All-reverse}
 use Rattle.tl_asm.proofs.Appends.{same_bytes}
 use Rattle.tl_asm.proofs.Canonical.{canonical}
-use Rattle.tl_core.proofs.Naming.{free_number}
+use Rattle.tl_procedures.proofs.Naming.{free_number}
 use Rattle.tl_core.specs.declared.fault.CoreFault.TheVariants.{WrongArgs, TooManyCalls}
 use Rattle.tl_audit.specs.declared.fault.TrailFault.TheVariants.{Core}
-use Rattle.tl_core.specs.Cores.{Named, number_of}
-use Rattle.tl_core.specs.Entries.{AreFreeAfter, no_procedure}
+use Rattle.tl_procedures.specs.Names.{Named, number_of, AreFreeAfter, no_procedure}
 use Rattle.tl_audit.specs.Trails.{CallValue, TrailValue, IsCallOf}
 use Rattle.tl_audit.specs.declared.form.EventForm.{EventForm}
 use Rattle.tl_audit.specs.declared.form.EventForm.TheVariants.{Admitted, Locked, Freed, Ended}

@@ -4,7 +4,7 @@ use Rattle.tl_tree.specs.Records.{Records}
 use Rattle.tl_tree.specs.Trees.{TreeValue}
 use Rattle.tl_tree.specs.Reading.{tree_from}
 use Rattle.tl_tree.specs.declared.fault.TreeFault.{TreeFault}
-use Rattle.tl_core.specs.Cores.{Named}
+use Rattle.tl_procedures.specs.Names.{Named}
 use Rattle.tl_audit.specs.declared.fault.TrailFault.{TrailFault}
 use Rattle.tl_audit.specs.declared.fault.TrailFault.TheVariants.{NotTrail, Tree}
 use Rattle.tl_audit.specs.declared.form.CallText.{CallText}

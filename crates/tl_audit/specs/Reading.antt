@@ -20,8 +20,7 @@ use Rattle.tl_verify.specs.declared.fault.VerifyFault.{VerifyFault}
 use Rattle.tl_protocol.specs.declared.event.Event.{Event}
 use Rattle.tl_protocol.specs.declared.event.Event.TheVariants as event
 use Rattle.tl_protocol.specs.History.{past_of}
-use Rattle.tl_core.specs.Cores.{Named, number_of}
-use Rattle.tl_core.specs.Entries.{naming_refusal, no_procedure}
+use Rattle.tl_procedures.specs.Names.{Named, number_of, naming_refusal, no_procedure}
 use Rattle.tl_core.specs.declared.fault.CoreFault.{CoreFault}
 use Rattle.tl_core.specs.declared.fault.CoreFault.TheVariants.{NoProcedure, WrongArgs, TooManyCalls}
 use Rattle.tl_audit.specs.declared.form.EventForm.{EventForm}

@@ -10,9 +10,8 @@ use Rattle.tl_protocol.specs.Alone.{Outcome}
 use Rattle.tl_protocol.specs.History.{caller}
 use Rattle.tl_protocol.specs.World.{World, alone_of}
 use Rattle.tl_machine.specs.Outcomes.{meaning}
-use Rattle.tl_core.specs.Cores.{Named}
-use Rattle.tl_core.specs.Entries.{no_procedure}
-use Rattle.tl_serial.specs.Parts.{IsOfNodes}
+use Rattle.tl_procedures.specs.Names.{Named, no_procedure}
+use Rattle.tl_protocol.specs.Nodes.{IsOfNodes}
 use Rattle.tl_audit.specs.declared.trail.TrailCall.{TrailCall}
 
 -- a call: the number of its procedure, its arguments, and its reply, if any

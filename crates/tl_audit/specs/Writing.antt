@@ -12,8 +12,7 @@ use Rattle.tl_tree.specs.Writing.{integers_data, records_data, tree_data}
 use Rattle.tl_asm.specs.Listing.{listing}
 use Rattle.tl_protocol.specs.declared.event.Event.{Event}
 use Rattle.tl_protocol.specs.declared.event.Event.TheVariants.{Admit, Lock, Free, Done}
-use Rattle.tl_core.specs.Cores.{Named}
-use Rattle.tl_core.specs.Entries.{no_procedure, AreFreeAfter}
+use Rattle.tl_procedures.specs.Names.{Named, no_procedure, AreFreeAfter}
 use Rattle.tl_audit.specs.Trails.{CallValue, TrailValue, IsTrail}
 
 abbrev pub list_data : List Data → Data

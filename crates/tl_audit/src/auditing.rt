@@ -16,8 +16,8 @@ use crate::progress::{EVENTS_BETWEEN, Progress, Silent};
 use crate::trail::Trail;
 use crate::watch::Watch;
 use std::alloc::Global;
-use tl_serial::order::Order;
-use tl_serial::placing::order_of;
+use tl_order::order::Order;
+use tl_order::placing::order_of;
 use tl_tree::record::Record;
 
 /// Whether a trail is clean: the order that its events give, or the first thing that is wrong.

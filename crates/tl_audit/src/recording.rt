@@ -12,7 +12,7 @@ use crate::trail::{Trail, TrailCall};
 use arrayvec::ArrayVec;
 use std::alloc::Global;
 use tl_core::interleaving::Core;
-use tl_core::procedures::Procedures;
+use tl_procedures::procedures::Procedures;
 use tl_history::history::{History, MAX_EVENTS};
 use tl_machine::call::MAX_EMITS;
 

@@ -6,7 +6,7 @@ ghost use Rattle.tl_audit.specs.Trails.{IsTrail, call_value, call_at};
 use arrayvec::ArrayVec;
 use std::marker::Model;
 use tl_core::call::MAX_ARGS;
-use tl_core::procedures::Procedures;
+use tl_procedures::procedures::Procedures;
 use tl_history::history::History;
 use tl_machine::call::MAX_EMITS;
 use tl_protocol::event::Event;

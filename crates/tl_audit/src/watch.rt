@@ -12,7 +12,7 @@ ghost use Rattle.tl_audit.specs.Watching.{IsEventOf, IsEven, Shows};
 use crate::fault::AuditFault;
 use std::alloc::{AllocError, Global};
 use tl_protocol::event::Event;
-use tl_serial::part::Part;
+use tl_order::part::Part;
 use tl_tree::record::Record;
 use tl_tree::shape::Shape;
 use tl_tree::tree::Tree;

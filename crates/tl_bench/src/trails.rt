@@ -9,8 +9,8 @@ use tl_audit::reading::read_trail;
 use tl_audit::trail::Trail;
 use tl_audit::writing::write_trail;
 use tl_protocol::event::Event;
-use tl_serial::order::Order;
-use tl_serial::placing::order_of;
+use tl_order::order::Order;
+use tl_order::placing::order_of;
 
 fn trail_in(alloc: Global, text: &[u8]) -> Option<Trail> {
     let text = std::str::from_utf8(text).ok()?;

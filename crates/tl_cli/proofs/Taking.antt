@@ -2,7 +2,7 @@
 use Rattle.std.proofs.Common.{◌≡◌, ◌+◌, ◌<◌, ◌≤◌, ℕ, List, [], ◌∷◌, length, get_or, drop, map, refl, ap, subst, inl, inr}
 use Rattle.std.proofs.lemmas.List.{drop_more, drop_all}
 use Rattle.tl_instr.specs.Codes.{CodeValue}
-use Rattle.tl_core.specs.Cores.{Named}
+use Rattle.tl_procedures.specs.Names.{Named}
 use Rattle.tl_cli.specs.declared.fault.CliFault.{CliFault}
 use Rattle.tl_cli.specs.declared.script.NamedText.{NamedText}
 use Rattle.tl_cli.specs.Script.{named_view}

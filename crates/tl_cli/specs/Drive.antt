@@ -15,8 +15,10 @@ use Rattle.tl_verify.specs.Findings.{IsFirstFault}
 use Rattle.tl_verify.specs.declared.fault.VerifyFault.{VerifyFault}
 use Rattle.tl_protocol.specs.History.{AllDone, records_now}
 use Rattle.tl_protocol.specs.Order.{placed}
-use Rattle.tl_core.specs.Cores.{Named, CoreValue}
-use Rattle.tl_core.specs.Entries.{naming_refusal, Traced, after_moves}
+use Rattle.tl_procedures.specs.Names.{Named}
+use Rattle.tl_core.specs.Cores.{CoreValue}
+use Rattle.tl_procedures.specs.Names.{naming_refusal}
+use Rattle.tl_core.specs.Entries.{Traced, after_moves}
 use Rattle.tl_core.specs.declared.fault.CoreFault.{CoreFault}
 use Rattle.tl_core.specs.declared.moves.Move.{Move}
 use Rattle.tl_core.specs.declared.moves.Entry.{Entry}

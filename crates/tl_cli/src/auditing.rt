@@ -13,7 +13,7 @@ use tl_audit::fault::TrailFault;
 use tl_audit::progress::Progress;
 use tl_audit::reading::read_trail;
 use tl_audit::trail::Trail;
-use tl_serial::order::Order;
+use tl_order::order::Order;
 
 // The trail that a file has. 701 where it is no UTF-8, else as `read_trail`.
 fn trail_of_file(alloc: Global, bytes: &[u8]) -> Result<Trail, TrailFault>

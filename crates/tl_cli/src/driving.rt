@@ -24,7 +24,7 @@ use tl_core::fault::CoreFault;
 use tl_core::interleaving::Core;
 use tl_core::moves::Entry;
 use tl_serial::concluding::conclude;
-use tl_serial::fault::SerialFault;
+use tl_order::fault::SerialFault;
 use tl_tree::text::write_tree;
 use tl_verify::procedure::verify;
 

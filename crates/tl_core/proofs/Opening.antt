@@ -6,7 +6,8 @@ use Rattle.tl_tree.specs.Trees.{TreeValue, IsWhole}
 use Rattle.tl_protocol.proofs.Reached.{sound_opening}
 use Rattle.tl_core.specs.declared.call.Call.{Call}
 use Rattle.tl_history.specs.Stored.{Stored}
-use Rattle.tl_core.specs.Cores.{Named, CoreValue, world_of}
+use Rattle.tl_procedures.specs.Names.{Named}
+use Rattle.tl_core.specs.Cores.{CoreValue, world_of}
 use Rattle.tl_core.specs.Kept.{IsCore, call_value}
 
 abbrev none_held : ℕ → List (Option ℕ)

@@ -2,7 +2,7 @@ use Rattle.std.proofs.Common.{◌≡◌, ◌+◌, ◌<◌, drop, length, reverse
 use Rattle.std.specs.Prelude.{All}
 use Rattle.tl_tree.proofs.Items.{onto}
 use Rattle.tl_protocol.specs.History.{caller}
-use Rattle.tl_serial.specs.Parts.{IsOfNodes}
+use Rattle.tl_protocol.specs.Nodes.{IsOfNodes}
 use Rattle.tl_audit.specs.Reading.{events_as}
 use Rattle.tl_audit.proofs.reading.history_of.Given as goal
 

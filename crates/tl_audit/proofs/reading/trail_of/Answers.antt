@@ -4,7 +4,7 @@ use Rattle.std.proofs.lemmas.List.{length-map}
 use Rattle.std.proofs.lemmas.Result.{err_from_is_err_and}
 use Rattle.tl_tree.specs.Records.{Records}
 use Rattle.tl_protocol.specs.History.{caller}
-use Rattle.tl_serial.specs.Parts.{IsOfNodes}
+use Rattle.tl_protocol.specs.Nodes.{IsOfNodes}
 use Rattle.tl_audit.specs.declared.fault.TrailFault.TheVariants.{Memory}
 use Rattle.tl_audit.specs.Trails.{TrailValue, call_value}
 use Rattle.tl_audit.specs.Reading.{TakenUp, calls_as}

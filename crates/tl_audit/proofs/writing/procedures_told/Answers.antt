@@ -6,8 +6,7 @@ use Rattle.serde_json.proofs.Views.{view-Array}
 use Rattle.tl_tree.proofs.Items.{views_more}
 use Rattle.tl_instr.specs.Codes.{CodeValue, IsCode}
 use Rattle.tl_verify.specs.Acceptable.{Acceptable}
-use Rattle.tl_core.specs.Cores.{Named}
-use Rattle.tl_core.specs.Entries.{no_procedure}
+use Rattle.tl_procedures.specs.Names.{Named, no_procedure}
 use Rattle.tl_audit.specs.Writing.{list_data, procedure_data}
 use Rattle.tl_audit.proofs.writing.procedures_told.Goals as goal
 

@@ -3,7 +3,7 @@ use Rattle.std.specs.Prelude.{All}
 use Rattle.tl_tree.specs.Trees.{IsRecord}
 use Rattle.tl_tree.specs.Reading.{tree_of}
 use Rattle.tl_tree.specs.Writing.{tree_data}
-use Rattle.tl_core.specs.Entries.{AreFreeAfter}
+use Rattle.tl_procedures.specs.Names.{AreFreeAfter}
 use Rattle.tl_audit.specs.Writing.{HasRecord, AreAccepted}
 use Rattle.tl_audit.proofs.writing.trail_told.Goals as goal
 
