@@ -20,7 +20,7 @@ use Rattle.tl_order.specs.Parts.{AreOfNodes, Show, marks_of, no_marks}
 use Rattle.tl_order.specs.Part.{Marks, IsPart, node_count}
 use Rattle.tl_audit.specs.declared.watch.Watch.{Watch}
 use Rattle.tl_audit.specs.Watching.{Shows}
-use Rattle.tl_audit.specs.Clean.{KeepsRules, IsApart, IsRight, AreRight}
+use Rattle.tl_trail.specs.Clean.{KeepsRules, IsApart, IsRight, AreRight}
 
 -- ---- right events are a legal history
 

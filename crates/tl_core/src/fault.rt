@@ -37,7 +37,7 @@ impl CoreFault {
     ghost use Rattle.tl_core.specs.Faults.{numbers_of};
 
     /// The fault's number.
-    pub fn numbers(&self) -> ArrayVec<u64, 1>
+    pub fn numbers(&self) -> ArrayVec<u64, 3>
         ensures { result.items ≡ numbers_of self.now }
     {
         let mut numbers = ArrayVec::new();

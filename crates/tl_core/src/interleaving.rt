@@ -81,6 +81,20 @@ impl Core {
         ensures ok { IfOk result (λ core. core ≡ record { parents = tree.parents; opening = tree.records; procedures = []; calls = []; past = []; limit = limit }) }
         ensures err { IfErr result (λ e. e ≡ fault.Memory) }
     {
+        Core::with_procedures(alloc, tree, Procedures::new(alloc), limit)
+    }
+
+    /// A core of the tree with these procedures, without calls, for so many events. 690 where memory is refused.
+    pub fn with_procedures(
+        alloc: Global,
+        tree: Tree,
+        procedures: Procedures,
+        limit: usize,
+    ) -> Result<Core, CoreFault>
+        requires { limit ≤ MAX_EVENTS }
+        ensures ok { IfOk result (λ core. core ≡ record { parents = tree.parents; opening = tree.records; procedures = procedures; calls = []; past = []; limit = limit }) }
+        ensures err { IfErr result (λ e. e ≡ fault.Memory) }
+    {
         let Ok(latest) = tree.copy() else {
             return Err(CoreFault::Memory);
         };
@@ -89,7 +103,7 @@ impl Core {
         Ok(Core {
             opening: tree,
             latest,
-            procedures: Procedures::new(alloc),
+            procedures,
             calls: Vec::new(alloc),
             holders,
             unfinished: 0,

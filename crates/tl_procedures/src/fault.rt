@@ -28,7 +28,7 @@ impl NamingFault {
     ghost use Rattle.tl_procedures.specs.Faults.{numbers_of};
 
     /// The fault's number.
-    pub fn numbers(&self) -> ArrayVec<u64, 1>
+    pub fn numbers(&self) -> ArrayVec<u64, 3>
         ensures { result.items ≡ numbers_of self.now }
     {
         let mut numbers = ArrayVec::new();

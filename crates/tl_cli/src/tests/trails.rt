@@ -5,8 +5,9 @@ use crate::fault::CliFault;
 use std::alloc::Global;
 use std::process::Abort;
 use std::test::Fail;
-use tl_audit::fault::{AuditFault, TrailFault};
+use tl_audit::fault::AuditFault;
 use tl_audit::progress::Silent;
+use tl_trail::fault::TrailFault;
 
 /// What three calls did by turns, one event a line.
 const EVENTS: [&str; 16] = [
