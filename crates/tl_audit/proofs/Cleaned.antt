@@ -25,8 +25,9 @@ use Rattle.tl_protocol.proofs.Records.{length-records_now, record_at-records_now
 use Rattle.tl_machine.proofs.Beginning.{is_alone}
 use Rattle.tl_audit.specs.declared.fault.AuditFault.{AuditFault}
 use Rattle.tl_audit.specs.declared.fault.AuditFault.TheVariants.{RuleBroken, Overlap, WrongFound, NotGenuine, Unfinished, WrongEnd, WrongReply, Memory}
-use Rattle.tl_audit.specs.Trails.{TrailValue, IsTrail, IsCallOf, call_at, no_call, meaning_of, found_alone, world_of}
-use Rattle.tl_audit.specs.Clean.{IsRight, AreRight, IsFirstWrong, IsFirst, Clean}
+use Rattle.tl_trail.specs.Trails.{TrailValue, IsTrail, IsCallOf, call_at, no_call, meaning_of, found_alone, world_of}
+use Rattle.tl_trail.specs.Clean.{IsRight, AreRight, Clean}
+use Rattle.tl_audit.specs.Findings.{IsFirstWrong, IsFirst}
 
 -- ---- the events
 

@@ -7,8 +7,8 @@ use Rattle.std.specs.Ordering.{int_eq}
 use Rattle.tl_tree.specs.Records.{Records, record_at}
 use Rattle.tl_protocol.specs.History.{record_now, records_now}
 use Rattle.tl_protocol.proofs.Records.{record_at-records_now}
-use Rattle.tl_audit.specs.Trails.{TrailValue, IsTrail}
-use Rattle.tl_audit.specs.Clean.{EndsSo}
+use Rattle.tl_trail.specs.Trails.{TrailValue, IsTrail}
+use Rattle.tl_trail.specs.Clean.{EndsSo}
 
 module _ (t : TrailValue) (trail : IsTrail t) (ends : Records) (ends_are : ends ≡ t.ends) (now : Records) (now_is : now ≡ records_now t.past t.opening) (x : ℕ)
     (inside : x < length t.parents) where

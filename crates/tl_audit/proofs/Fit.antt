@@ -19,9 +19,9 @@ use Rattle.tl_machine.specs.Alone.{alone as run_alone}
 use Rattle.tl_machine.specs.Outcomes.{outcome_of}
 use Rattle.tl_machine.specs.Turns.{TurnValue, left_of}
 use Rattle.tl_machine.proofs.Beginning.{is_alone}
-use Rattle.tl_core.specs.Entries.{no_procedure}
-use Rattle.tl_audit.specs.Trails.{TrailValue, IsTrail, IsCallOf, call_at, code_of, no_call, found_alone}
-use Rattle.tl_audit.specs.Clean.{AreRight, IsGenuine}
+use Rattle.tl_procedures.specs.Names.{no_procedure}
+use Rattle.tl_trail.specs.Trails.{TrailValue, IsTrail, IsCallOf, call_at, code_of, no_call, found_alone}
+use Rattle.tl_trail.specs.Clean.{AreRight, IsGenuine}
 use Rattle.tl_audit.specs.Genuine.{AreFit, AreParts, action_of, actions_at, lists_of}
 use Rattle.tl_audit.proofs.Watching.{right_legal, locked_inside}
 use Rattle.tl_audit.proofs.Replaying.{freed-locks_and_frees}

@@ -1,13 +1,4 @@
-pub mod Written
 pub mod Cleaned
-pub mod Recorded
-pub mod Forms
-pub mod Told
-pub mod Taking
-pub mod Calls
-pub mod Events
-pub mod Whole
-pub mod OneReading
 pub mod Watching
 pub mod Seeing
 pub mod Ends

@@ -18,10 +18,9 @@ use Rattle.tl_machine.specs.declared.want.Want.{Want}
 use Rattle.tl_machine.specs.declared.want.Want.TheVariants as want
 use Rattle.tl_machine.specs.declared.want.Stop.TheVariants as stop
 use Rattle.tl_machine.specs.declared.call.CallState.{CallState}
-use Rattle.tl_core.specs.Kept.{after_done, with_left}
-use Rattle.tl_core.proofs.Along.{onto, actions-after_done, length-with_left, unfreed}
-use Rattle.tl_core.proofs.Standing.{lock_first, over_none}
-use Rattle.tl_serial.proofs.Pasts.{past_one_more}
+use Rattle.tl_machine.specs.Along.{after_done, with_left}
+use Rattle.tl_machine.proofs.Along.{onto, actions-after_done, length-with_left, unfreed, lock_first, over_none}
+use Rattle.tl_protocol.proofs.Pasts.{past_one_more}
 use Rattle.tl_audit.specs.Genuine.{AreFit}
 
 -- ---- locks and frees of longer lists

@@ -5,10 +5,11 @@ use Rattle.std.specs.Prelude.{All}
 use Rattle.tl_protocol.specs.declared.event.Event.{Event}
 use Rattle.tl_protocol.specs.declared.event.Event.TheVariants.{Admit}
 use Rattle.tl_protocol.specs.History.{caller, past_of}
-use Rattle.tl_serial.specs.Parts.{IsOfNodes}
-use Rattle.tl_serial.proofs.Pasts.{past_one_more, All-unreverse}
-use Rattle.tl_audit.specs.Trails.{TrailValue, IsTrail}
-use Rattle.tl_audit.specs.Clean.{AreRight, IsWrong, IsFirstWrong}
+use Rattle.tl_protocol.specs.Nodes.{IsOfNodes}
+use Rattle.tl_protocol.proofs.Pasts.{past_one_more, All-unreverse}
+use Rattle.tl_trail.specs.Trails.{TrailValue, IsTrail}
+use Rattle.tl_trail.specs.Clean.{AreRight}
+use Rattle.tl_audit.specs.Findings.{IsWrong, IsFirstWrong}
 use Rattle.tl_audit.specs.declared.fault.AuditFault.{AuditFault}
 use Rattle.tl_audit.specs.Watching.{IsEventOf}
 

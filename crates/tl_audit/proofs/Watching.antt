@@ -15,11 +15,12 @@ use Rattle.tl_protocol.proofs.Coming.{held-locked}
 use Rattle.tl_protocol.proofs.Holders.{held-holder, holder-held}
 use Rattle.tl_protocol.proofs.Parts.{part_of-other, locked-lock, locked-free, locked-done, locked_any-free}
 use Rattle.tl_protocol.proofs.Permitted.{has_ended-part_of}
-use Rattle.tl_serial.specs.Parts.{IsOfNodes, AreOfNodes, Show, marks_of, no_marks}
-use Rattle.tl_serial.specs.Part.{Marks, IsPart, node_count}
+use Rattle.tl_protocol.specs.Nodes.{IsOfNodes}
+use Rattle.tl_order.specs.Parts.{AreOfNodes, Show, marks_of, no_marks}
+use Rattle.tl_order.specs.Part.{Marks, IsPart, node_count}
 use Rattle.tl_audit.specs.declared.watch.Watch.{Watch}
 use Rattle.tl_audit.specs.Watching.{Shows}
-use Rattle.tl_audit.specs.Clean.{KeepsRules, IsApart, IsRight, AreRight}
+use Rattle.tl_trail.specs.Clean.{KeepsRules, IsApart, IsRight, AreRight}
 
 -- ---- right events are a legal history
 

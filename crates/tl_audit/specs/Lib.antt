@@ -1,9 +1,5 @@
-pub mod Trails
 pub mod Faults
-pub mod Clean
-pub mod Recording
-pub mod Reading
-pub mod Forms
-pub mod Writing
+pub mod Findings
+pub mod Verdict
 pub mod Watching
 pub mod Genuine

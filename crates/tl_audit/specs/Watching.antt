@@ -5,7 +5,8 @@ use Rattle.tl_protocol.specs.declared.event.Event.{Event}
 use Rattle.tl_protocol.specs.Actions.{locked_any}
 use Rattle.tl_protocol.specs.History.{caller, part_of, is_done, admits, records_now}
 use Rattle.tl_protocol.specs.Holders.{holder_of}
-use Rattle.tl_serial.specs.Parts.{IsOfNodes, AreOfNodes, Show}
+use Rattle.tl_protocol.specs.Nodes.{IsOfNodes}
+use Rattle.tl_order.specs.Parts.{AreOfNodes, Show}
 use Rattle.tl_audit.specs.declared.watch.Watch.{Watch}
 
 -- the event is of one of so many calls, and its node, if it has one, is one of so many

@@ -1,23 +1,21 @@
 // Whether a trail is clean.
 
 ghost use Rattle.std.specs.Prelude.{◌≡◌, ◌≢◌, ℕ, ◌<◌, [], length, map, Some, IfOk, IfErr, OnOk, MatchResult};
-ghost use Rattle.tl_protocol.specs.Alone.{serial};
 ghost use Rattle.tl_protocol.specs.History.{records_now};
-ghost use Rattle.tl_protocol.specs.Obeys.{Obeys};
-ghost use Rattle.tl_protocol.specs.Order.{placed, Agrees};
-ghost use Rattle.tl_protocol.specs.World.{Legal, reply_of};
-ghost use Rattle.tl_audit.specs.Trails.{call_at, found_alone, meaning_of, world_of};
-ghost use Rattle.tl_audit.specs.Clean.{Clean, AreRight, AreDone, AreSo, EndsSo, IsFirst, IsFirstWrong};
+ghost use Rattle.tl_protocol.specs.Order.{placed};
+ghost use Rattle.tl_trail.specs.Clean.{Clean, AreRight, AreDone, EndsSo};
+ghost use Rattle.tl_audit.specs.Findings.{AreSo, IsFirst, IsFirstWrong};
+ghost use Rattle.tl_audit.specs.Verdict.{IsVerdict};
 ghost use Rattle.tl_audit.specs.Watching.{Shows};
 
 use crate::fault::AuditFault;
 use crate::genuine::check_calls;
 use crate::progress::{EVENTS_BETWEEN, Progress, Silent};
-use crate::trail::Trail;
 use crate::watch::Watch;
 use std::alloc::Global;
-use tl_serial::order::Order;
-use tl_serial::placing::order_of;
+use tl_order::order::Order;
+use tl_order::placing::order_of;
+use tl_trail::trail::Trail;
 use tl_tree::record::Record;
 
 /// Whether a trail is clean: the order that its events give, or the first thing that is wrong.
@@ -26,20 +24,7 @@ use tl_tree::record::Record;
 /// the least call without an end; then call by call 714 and 717; then 716 at the least node. The work grows with the
 /// events, and each call is run alone once. 790 where memory is refused.
 pub fn audit(alloc: Global, trail: &Trail) -> Result<Order, AuditFault>
-    ensures clean { IfOk result (λ _. Clean trail.now) }
-    ensures order { IfOk result (λ o. o ≡ placed trail.now.parents trail.now.past) }
-    ensures fault { IfErr result (λ f. f ≢ AuditFault.Memory → IsFirst trail.now f) }
-    ensures only { Clean trail.now → MatchResult result (λ o. o ≡ placed trail.now.parents trail.now.past) (λ f. f ≡ AuditFault.Memory) }
-
-    // What a yes implies, whoever wrote the trail.
-    ensures legal { IfOk result (λ _. Legal (world_of trail.now)) }
-    ensures obeys { IfOk result (λ _. (c : ℕ) → c < length trail.now.calls → Obeys trail.now.parents (found_alone trail.now c).actions) }
-    ensures agrees { IfOk result (λ o. Agrees o trail.now.past) }
-    ensures tree { IfOk result (λ o. (serial (meaning_of trail.now) o trail.now.opening).tree ≡ trail.now.ends) }
-    ensures replies { IfOk result (λ o. (serial (meaning_of trail.now) o trail.now.opening).replies
-        ≡ map (reply_of (world_of trail.now)) o) }
-    ensures told { IfOk result (λ _. (c : ℕ) → c < length trail.now.calls
-        → (call_at trail.now c).reply ≡ Some (reply_of (world_of trail.now) c)) }
+    ensures { IsVerdict trail.now result }
 {
     audit_with(alloc, trail, &mut Silent)
 }
@@ -50,35 +35,23 @@ pub fn audit_with<P: Progress>(
     trail: &Trail,
     progress: &mut P,
 ) -> Result<Order, AuditFault>
-    ensures clean { IfOk result (λ _. Clean trail.now) }
-    ensures order { IfOk result (λ o. o ≡ placed trail.now.parents trail.now.past) }
-    ensures fault { IfErr result (λ f. f ≢ AuditFault.Memory → IsFirst trail.now f) }
-    ensures only { Clean trail.now → MatchResult result (λ o. o ≡ placed trail.now.parents trail.now.past) (λ f. f ≡ AuditFault.Memory) }
-
-    // What a yes implies, whoever wrote the trail.
-    ensures legal { IfOk result (λ _. Legal (world_of trail.now)) }
-    ensures obeys { IfOk result (λ _. (c : ℕ) → c < length trail.now.calls → Obeys trail.now.parents (found_alone trail.now c).actions) }
-    ensures agrees { IfOk result (λ o. Agrees o trail.now.past) }
-    ensures tree { IfOk result (λ o. (serial (meaning_of trail.now) o trail.now.opening).tree ≡ trail.now.ends) }
-    ensures replies { IfOk result (λ o. (serial (meaning_of trail.now) o trail.now.opening).replies
-        ≡ map (reply_of (world_of trail.now)) o) }
-    ensures told { IfOk result (λ _. (c : ℕ) → c < length trail.now.calls
-        → (call_at trail.now c).reply ≡ Some (reply_of (world_of trail.now) c)) }
+    ensures { IsVerdict trail.now result }
 {
     // What is so of every trail: here a proof learns that.
     let _opening = trail.opening();
-    judged(alloc, trail, progress)
+    judge(alloc, trail, progress)
 }
 
 // Whether a trail is clean, without what follows of that.
-fn judged<P: Progress>(alloc: Global, trail: &Trail, progress: &mut P) -> Result<Order, AuditFault>
+fn judge<P: Progress>(alloc: Global, trail: &Trail, progress: &mut P) -> Result<Order, AuditFault>
     ensures clean { IfOk result (λ _. Clean trail.now) }
     ensures order { IfOk result (λ o. o ≡ placed trail.now.parents trail.now.past) }
     ensures fault { IfErr result (λ f. f ≢ AuditFault.Memory → IsFirst trail.now f) }
 {
-    let records = last_records(alloc, trail, progress)?;
+    let watch = check_events(alloc, trail, progress)?;
+    check_done(&watch, trail)?;
     check_calls(alloc, trail, progress)?;
-    check_ends(trail, &records)?;
+    check_ends(trail, &watch.into_records())?;
     placed_order(alloc, trail)
 }
 
@@ -91,6 +64,21 @@ fn placed_order(alloc: Global, trail: &Trail) -> Result<Order, AuditFault>
         Ok(order) => Ok(order),
         Err(_) => Err(AuditFault::Memory),
     }
+}
+
+// Whether each event is right: 711, 712, 713 at the first that isn't. What the events came to is kept.
+fn check_events<P: Progress>(
+    alloc: Global,
+    trail: &Trail,
+    progress: &mut P,
+) -> Result<Watch, AuditFault>
+    ensures shows { IfOk result (λ w. Shows trail.now.parents trail.now.opening (length trail.now.calls) w trail.now.past) }
+    ensures right { IfOk result (λ _. AreRight trail.now.parents trail.now.opening trail.now.past) }
+    ensures fault { IfErr result (λ f. f ≢ AuditFault.Memory → IsFirst trail.now f) }
+{
+    let mut watch = Watch::new(alloc, trail.calls(), trail.opening())?;
+    see_all(&mut watch, trail, progress)?;
+    Ok(watch)
 }
 
 // Watches all events, where nothing is wrong with one.
@@ -116,7 +104,7 @@ fn see_all<P: Progress>(
     Ok(())
 }
 
-// Whether each call is done, where the events are right.
+// Whether each call is done, where the events are right: 715 at the least that isn't.
 fn check_done(watch: &Watch, trail: &Trail) -> Result<(), AuditFault>
     requires shows { Shows trail.now.parents trail.now.opening (length trail.now.calls) watch.now trail.now.past }
     requires right { AreRight trail.now.parents trail.now.opening trail.now.past }
@@ -131,24 +119,7 @@ fn check_done(watch: &Watch, trail: &Trail) -> Result<(), AuditFault>
     Ok(())
 }
 
-// The records in the end, where the events are right and each call is done.
-fn last_records<P: Progress>(
-    alloc: Global,
-    trail: &Trail,
-    progress: &mut P,
-) -> Result<Vec<Record>, AuditFault>
-    ensures records { IfOk result (λ r. r.items ≡ records_now trail.now.past trail.now.opening) }
-    ensures right { IfOk result (λ _. AreRight trail.now.parents trail.now.opening trail.now.past) }
-    ensures done { IfOk result (λ _. AreDone trail.now) }
-    ensures fault { IfErr result (λ f. f ≢ AuditFault.Memory → IsFirst trail.now f) }
-{
-    let mut watch = Watch::new(alloc, trail.calls(), trail.opening())?;
-    see_all(&mut watch, trail, progress)?;
-    check_done(&watch, trail)?;
-    Ok(watch.into_records())
-}
-
-// Whether the end records are these.
+// Whether the end records are these: 716 at the first that isn't.
 fn check_ends(trail: &Trail, records: &[Record]) -> Result<(), AuditFault>
     requires records { records.now ≡ records_now trail.now.past trail.now.opening }
     requires so { AreSo trail.now (length trail.now.calls) }

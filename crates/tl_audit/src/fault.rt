@@ -1,85 +1,12 @@
-// Why no trail was read, and what is wrong with one.
+// What is wrong with a trail.
 
 ghost use Rattle.std.specs.Prelude.{◌≡◌};
-ghost use Rattle.tl_core.specs.Faults.{numbers_of as core_numbers_of};
-ghost use Rattle.tl_audit.specs.declared.fault.TrailFault.TheVariants as trail;
 ghost use Rattle.tl_audit.specs.declared.fault.AuditFault.TheVariants as audit;
-ghost use Rattle.tl_audit.specs.Faults.{trail_numbers_of, audit_numbers_of};
+ghost use Rattle.tl_audit.specs.Faults.{audit_numbers_of};
 
 use arrayvec::ArrayVec;
 use std::alloc::{AllocError, AllocFailed};
 use thiserror::Error;
-use tl_asm::fault::AsmFault;
-use tl_core::fault::CoreFault;
-use tl_tree::fault::TreeFault;
-use tl_verify::fault::VerifyFault;
-
-/// Why no trail was read, or none was made.
-#[derive(Clone, Copy, Debug, PartialEq, Eq, Error)]
-pub enum TrailFault {
-    /// 701: the text has another form, or an event is of no call or no node of the trail, or there are more or fewer
-    /// records in the end than nodes, or more than 1,048,576 events.
-    #[error("not a trail")]
-    NotTrail,
-    /// 101 to 105: the opening tree.
-    #[error("the tree: {0}")]
-    Tree(TreeFault),
-    /// 251 to 254: the text of a procedure.
-    #[error("the text of a procedure: {0}")]
-    Asm(AsmFault),
-    /// 301 to 307, 401 to 409: a procedure isn't accepted.
-    #[error("a procedure: {0}")]
-    Verify(VerifyFault),
-    /// 501, 601, 603, 611, 612, 613: a name, or a call.
-    #[error("the calls: {0}")]
-    Core(CoreFault),
-    /// 790: memory was refused.
-    #[error("out of memory")]
-    Memory,
-}
-
-impl TrailFault {
-    /// The fault's number, and then its parts.
-    pub fn numbers(&self) -> ArrayVec<u64, 3>
-        ensures { result.items ≡ trail_numbers_of self.now }
-    {
-        let mut numbers = ArrayVec::new();
-        match self {
-            TrailFault::NotTrail => numbers.push(701),
-            TrailFault::Tree(fault) => return fault.numbers(),
-            TrailFault::Asm(fault) => return fault.numbers(),
-            TrailFault::Verify(fault) => return fault.numbers(),
-            TrailFault::Core(fault) => return core_numbers(fault),
-            TrailFault::Memory => numbers.push(790),
-        }
-        numbers
-    }
-}
-
-// The number of a core's fault.
-fn core_numbers(fault: &CoreFault) -> ArrayVec<u64, 3>
-    ensures { result.items ≡ core_numbers_of fault.now }
-{
-    let mut numbers = ArrayVec::new();
-    let _fits = numbers.try_extend_from_slice(fault.numbers().as_slice());
-    numbers
-}
-
-impl From<AllocError> for TrailFault {
-    ghost from_gives = { λ _ e. e ≡ trail.Memory };
-
-    fn from(_refused: AllocError) -> TrailFault {
-        TrailFault::Memory
-    }
-}
-
-impl<T: Drop> From<AllocFailed<T>> for TrailFault {
-    ghost from_gives = { λ _ e. e ≡ trail.Memory };
-
-    fn from(_refused: AllocFailed<T>) -> TrailFault {
-        TrailFault::Memory
-    }
-}
 
 /// What is wrong with a trail.
 #[derive(Clone, Copy, Debug, PartialEq, Eq, Error)]

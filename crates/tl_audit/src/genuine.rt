@@ -13,13 +13,13 @@ ghost use Rattle.tl_machine.specs.Alone.{alone as run_alone};
 ghost use Rattle.tl_protocol.specs.declared.event.Event.{Event as EventValue};
 ghost use Rattle.tl_protocol.specs.declared.event.Event.TheVariants as happened;
 ghost use Rattle.tl_protocol.specs.History.{caller, part_of};
-ghost use Rattle.tl_audit.specs.Trails.{IsTrail, call_at, code_of};
-ghost use Rattle.tl_audit.specs.Clean.{AreRight, AreDone, AreSo, IsGenuine, RepliesSo, IsFirst};
+ghost use Rattle.tl_trail.specs.Trails.{IsTrail, call_at, code_of};
+ghost use Rattle.tl_trail.specs.Clean.{AreRight, AreDone, IsGenuine, RepliesSo};
+ghost use Rattle.tl_audit.specs.Findings.{AreSo, IsFirst};
 ghost use Rattle.tl_audit.specs.Genuine.{AreFit, AreParts, action_of, actions_at, lists_of};
 
 use crate::fault::AuditFault;
 use crate::progress::{CALLS_BETWEEN, Progress};
-use crate::trail::Trail;
 use std::alloc::{AllocError, Global};
 use std::sync::Arc;
 use tl_machine::reply::Reply;
@@ -27,6 +27,7 @@ use tl_machine::turn::Turn;
 use tl_machine::want::{Advance, Stop};
 use tl_protocol::action::Action;
 use tl_protocol::event::Event;
+use tl_trail::trail::Trail;
 use tl_tree::record::Record;
 
 // The record that the action at the place finds, where it is a lock of the node.
@@ -62,7 +63,7 @@ fn frees_at(actions: &[Action], place: usize, node: u16, left: &Record) -> bool
     }
 }
 
-// Runs the call to its end, where each lock finds what is told: its reply, if its locks and frees are these.
+// Replays the call against its recorded locks and frees: its reply, or `None` at the first difference.
 fn replay(turn: &mut Turn, actions: &[Action]) -> Option<Reply>
     requires reply { reply_so_far turn.old.call ≡ [] }
     requires ends { (t : Records) → length t ≡ length turn.old.parents → EndsOnce (outcome_of (left_of turn.old t)).actions }

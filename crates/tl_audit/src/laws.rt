@@ -5,8 +5,9 @@ ghost use Rattle.tl_protocol.specs.Alone.{serial};
 ghost use Rattle.tl_protocol.specs.Obeys.{Obeys};
 ghost use Rattle.tl_protocol.specs.Order.{placed, Agrees};
 ghost use Rattle.tl_protocol.specs.World.{Legal, IsSound, reply_of};
-ghost use Rattle.tl_audit.specs.Trails.{TrailValue, IsTrail, found_alone, world_of, meaning_of, call_at};
-ghost use Rattle.tl_audit.specs.Clean.{Clean, IsFirst};
+ghost use Rattle.tl_trail.specs.Trails.{TrailValue, IsTrail, found_alone, world_of, meaning_of, call_at};
+ghost use Rattle.tl_trail.specs.Clean.{Clean};
+ghost use Rattle.tl_audit.specs.Findings.{IsFirst};
 ghost use Rattle.tl_audit.specs.declared.fault.AuditFault.{AuditFault};
 
 /// What is so of every clean trail, whoever wrote it. Its history is legal over its opening tree: admissions in turn, locks

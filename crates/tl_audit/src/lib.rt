@@ -1,17 +1,18 @@
-//! Trails of what calls did to a tree, and an auditor of them.
+//! An auditor of trails.
 //!
-//! A trail tells all that the calls of a core did: the tree before them, the procedures, what was asked and answered, the
-//! events in order, and the records in the end. The auditor trusts nobody who wrote one.
+//! The auditor trusts nobody who wrote a trail. It stands on the machine and on the protocol, and not on the core: a fault
+//! of the core can't hide behind the same fault in what checks it.
 #![tactic(auto)]
 
 pub mod auditing;
 pub mod fault;
-mod form;
 mod genuine;
 pub mod laws;
 pub mod progress;
-pub mod reading;
-pub mod recording;
-pub mod trail;
 mod watch;
-pub mod writing;
+
+pub use tl_record::recording::trail_of;
+pub use tl_trail::fault::TrailFault;
+pub use tl_trail::reading::read_trail;
+pub use tl_trail::trail::Trail;
+pub use tl_trail::writing::write_trail;

@@ -6,13 +6,14 @@ ghost use Rattle.tl_protocol.specs.declared.event.Event.{Event as EventValue};
 ghost use Rattle.tl_protocol.specs.declared.action.Action.TheVariants as did;
 ghost use Rattle.tl_protocol.specs.Actions.{Permitted};
 ghost use Rattle.tl_protocol.specs.History.{part_of, is_done, IsOpen, MayHappen, records_now};
-ghost use Rattle.tl_audit.specs.Clean.{KeepsRules, IsApart, FindsNow, IsRight, AreRight, IsWrong};
+ghost use Rattle.tl_trail.specs.Clean.{KeepsRules, IsApart, FindsNow, IsRight, AreRight};
+ghost use Rattle.tl_audit.specs.Findings.{IsWrong};
 ghost use Rattle.tl_audit.specs.Watching.{IsEventOf, IsEven, Shows};
 
 use crate::fault::AuditFault;
 use std::alloc::{AllocError, Global};
+use tl_order::part::Part;
 use tl_protocol::event::Event;
-use tl_serial::part::Part;
 use tl_tree::record::Record;
 use tl_tree::shape::Shape;
 use tl_tree::tree::Tree;

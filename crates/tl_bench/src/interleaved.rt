@@ -6,8 +6,8 @@ use crate::clock::now;
 use crate::measured::Measured;
 use crate::trees::{procedure_of, tree_of};
 use std::alloc::Global;
-use tl_audit::recording::trail_of;
-use tl_audit::writing::write_trail;
+use tl_record::recording::trail_of;
+use tl_trail::writing::write_trail;
 use tl_core::interleaving::Core;
 use tl_core::stepped::Stepped;
 

@@ -5,12 +5,12 @@ use crate::measured::Measured;
 use serde_json::Value;
 use std::alloc::Global;
 use tl_audit::auditing::audit;
-use tl_audit::reading::read_trail;
-use tl_audit::trail::Trail;
-use tl_audit::writing::write_trail;
+use tl_trail::reading::read_trail;
+use tl_trail::trail::Trail;
+use tl_trail::writing::write_trail;
 use tl_protocol::event::Event;
-use tl_serial::order::Order;
-use tl_serial::placing::order_of;
+use tl_order::order::Order;
+use tl_order::placing::order_of;
 
 fn trail_in(alloc: Global, text: &[u8]) -> Option<Trail> {
     let text = std::str::from_utf8(text).ok()?;

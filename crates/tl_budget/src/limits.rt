@@ -1,10 +1,13 @@
 // What a procedure may cost.
 
+/// The most instructions that a call does.
 pub const MAX_STEPS: u32 = 1_000_000;
 
+/// The most nodes that a call locks.
 pub const MAX_LOCKS: u16 = 4_096;
 
-pub const MAX_EMITS: u8 = 32;
+/// The most values that a call emits.
+pub const MAX_EMITS: usize = 32;
 
 /// What a call does at most, whatever its arguments and the tree.
 #[derive(Clone, Copy, Debug, PartialEq, Eq)]

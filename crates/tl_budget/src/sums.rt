@@ -105,7 +105,7 @@ pub fn bounds(code: &Code, nest: &Nest) -> Result<Bounds, NestFault>
     if totals.locks > u64::from(MAX_LOCKS) {
         return Err(NestFault::LocksOver);
     }
-    if totals.emits > u64::from(MAX_EMITS) {
+    if totals.emits > MAX_EMITS as u64 {
         return Err(NestFault::EmitsOver);
     }
     Ok(Bounds {

@@ -1,38 +1,39 @@
 -- The parts of a run of the command `drive`, together.
-use Rattle.std.proofs.Common.{◌≡◌, ℕ, List, [], map, ap, ◌∙◌, subst, Ok}
+use Rattle.std.proofs.Common.{◌≡◌, ℕ, List, [], map, sym, ap, ◌∙◌, subst, Ok}
 use Rattle.serde_json.specs.Data.{Data}
 use Rattle.tl_tree.specs.Trees.{TreeValue}
 use Rattle.tl_tree.specs.Reading.{tree_of_text}
+use Rattle.tl_procedures.specs.Names.{Named}
+use Rattle.tl_forms.specs.declared.procedure.ProcedureText.{ProcedureText}
+use Rattle.tl_forms.specs.Procedures.{procedure_form}
 use Rattle.tl_core.specs.Cores.{CoreValue}
 use Rattle.tl_core.specs.Entries.{Traced, after_moves}
 use Rattle.tl_core.specs.declared.moves.Move.{Move}
 use Rattle.tl_core.specs.declared.moves.Entry.{Entry}
-use Rattle.tl_commands.specs.declared.script.NamedText.{NamedText}
 use Rattle.tl_commands.specs.declared.script.Script.{Script}
-use Rattle.tl_commands.specs.Script.{IsScript, move_view, named_view, script_view}
-use Rattle.tl_audit.specs.Reading.{TakenUp}
+use Rattle.tl_commands.specs.Script.{IsScript, move_view, script_view}
+use Rattle.tl_forms.specs.Registering.{TakenUp}
 use Rattle.tl_commands.specs.Drive.{core_with, IsConclusion, tree_now, lines_told, IsDriven, Prints}
 
 -- the core before the moves
 pub record IsReady (t s : List ℕ) (tree : TreeValue) (script : Script) (core : CoreValue) (moves : List Move) : Type 0 where
   pub tree_is : tree_of_text t ≡ Ok tree
   pub script_is : IsScript s (script_view script)
-  pub taken_up : TakenUp [] (map named_view script.procedures.items) core.procedures
+  pub taken_up : TakenUp [] (map procedure_form script.procedures.items) core.procedures
   pub start : core ≡ core_with tree core.procedures
   pub moves_are : moves ≡ script.moves.items
 
-pub ready : (t s : List ℕ) (tree : TreeValue) (script : Script) (first core : CoreValue) (procedures : List NamedText) (moves : List Move)
-    → tree_of_text t ≡ Ok tree → IsScript s (script_view script) → first ≡ core_with tree [] → procedures ≡ script.procedures.items
-    → TakenUp first.procedures (map named_view procedures) core.procedures → core ≡ record first { procedures = core.procedures }
-    → moves ≡ script.moves.items → IsReady t s tree script core moves
-ready t s tree script first core procedures moves tree_is script_is first_is procedures_are taken same moves_are =
-    let by_name : TakenUp first.procedures (map named_view script.procedures.items) core.procedures =
-    subst (λ ps. TakenUp first.procedures (map named_view ps) core.procedures) procedures_are taken in
+pub ready : (t s : List ℕ) (tree : TreeValue) (script : Script) (core : CoreValue) (procedures : List Named) (texts : List ProcedureText) (moves : List Move)
+    → tree_of_text t ≡ Ok tree → IsScript s (script_view script) → texts ≡ script.procedures.items → TakenUp [] (map procedure_form texts) procedures
+    → core ≡ core_with tree procedures → moves ≡ script.moves.items → IsReady t s tree script core moves
+ready t s tree script core procedures texts moves tree_is script_is texts_are taken core_is moves_are =
+    let by_name : TakenUp [] (map procedure_form script.procedures.items) procedures = subst (λ ps. TakenUp [] (map procedure_form ps) procedures) texts_are taken in
+    let same : core.procedures ≡ procedures = ap (λ (v : CoreValue). v.procedures) core_is in
     record {
       tree_is = tree_is;
       script_is = script_is;
-      taken_up = subst (λ (v : CoreValue). TakenUp v.procedures (map named_view script.procedures.items) core.procedures) first_is by_name;
-      start = same ∙ ap (λ (v : CoreValue). record v { procedures = core.procedures }) first_is;
+      taken_up = subst (λ ps. TakenUp [] (map procedure_form script.procedures.items) ps) (sym same) by_name;
+      start = core_is ∙ ap (core_with tree) (sym same);
       moves_are = moves_are;
     }
 

@@ -1,7 +1,6 @@
 pub mod Line
 pub mod Scripts
 pub mod Texts
-pub mod Taking
 pub mod Driven
 pub mod Bounded
 mod Rows

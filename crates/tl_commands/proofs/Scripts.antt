@@ -8,7 +8,7 @@ use Rattle.serde_json.specs.View.{view, items_view}
 use Rattle.serde_json.specs.declared.value.Value.{Value}
 use Rattle.tl_tree.specs.Reading.{each_item}
 use Rattle.tl_tree.proofs.Items.{onto}
-use Rattle.tl_commands.specs.Script.{pair_in, parts_of}
+use Rattle.tl_commands.specs.Script.{parts_of}
 
 object_is : (d : Data) (ms : Members) → as_object d ≡ Some ms → d ≡ object ms
 object_is null ms e = absurd cc
@@ -27,24 +27,3 @@ parts_found d ms a b is two first second =
 
 pub parts_other : (d : Data) (ms : Members) → as_object d ≡ Some ms → members_len ms ≢ 2 → parts_of d ≡ None
 parts_other d ms is other = rw (object_is d ms is, ne_eqb (members_len ms) 2 other) refl
-
--- a list of another length is no pair
-pub other_pair : (vs : List Value) → length vs ≢ 2 → pair_in (items_view vs) ≡ None
-other_pair [] other = refl
-other_pair (a ∷ []) other = refl
-other_pair (a ∷ b ∷ []) other = absurd (other refl)
-other_pair (a ∷ b ∷ c ∷ vs) other = refl
-
-some_pushed : {A : Type 0} (xs ys : List A) (y : A) → onto xs (Some (y ∷ ys)) ≡ onto (xs ++ y ∷ []) (Some ys)
-some_pushed xs ys y = ap Some (sym (append_assoc xs (y ∷ []) ys))
-
-pushed : {A : Type 0} (xs : List A) (o : Option A) (y : A) (rest : Option (List A)) → o ≡ Some y → onto xs (option_and_then (λ x. option_map (λ zs. x ∷ zs) rest) o) ≡ onto (xs ++ y ∷ []) rest
-pushed xs o y None e = rw e refl
-pushed xs o y (Some ys) e = rw e (some_pushed xs ys y)
-
--- one item more is read
-pub item_read : {X A : Type 0} (f : X → A) (g : Data → Option A) (xs : List X) (x : X) (vs : List Value) (i : ℕ) (d : Value) → i < length vs → g (view (get_or vs i d)) ≡ Some (f x)
-    → onto (map f (xs ++ x ∷ [])) (each_item g (items_view (drop (i + 1) vs))) ≡ onto (map f xs) (each_item g (items_view (drop i vs)))
-item_read f g xs x vs i d lt e =
-    let next = pushed (map f xs) (g (view (get_or vs i d))) (f x) (each_item g (items_view (drop (i + 1) vs))) e in
-    rw (map_push f xs x, drop_more vs i d lt) (sym next)

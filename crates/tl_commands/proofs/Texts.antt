@@ -17,8 +17,9 @@ use Rattle.tl_core.specs.declared.stepped.Stepped.TheVariants.{Moved, Blocked, O
 use Rattle.tl_core.specs.declared.moves.Entry.{Entry}
 use Rattle.tl_core.specs.declared.moves.Entry.TheVariants as entry
 use Rattle.tl_protocol.specs.Order.{placed}
-use Rattle.tl_audit.specs.Writing.{natural}
-use Rattle.tl_commands.specs.Told.{action_data, stepped_data, entry_data, trace_data, order_data}
+use Rattle.tl_forms.specs.Lists.{natural}
+use Rattle.tl_commands.specs.Told.{action_data, stepped_data, entry_data, trace_data}
+use Rattle.tl_forms.specs.Lists.{order_data}
 use Rattle.tl_commands.specs.Drive.{IsConclusion, lines_told}
 
 -- one more value is written, after a first one

@@ -2,16 +2,17 @@
 use Rattle.std.specs.Prelude.{◌≡◌, ◌≢◌, ◌⊎◌, ℕ, List, [], ◌∷◌, ◌++◌, IsUtf8}
 use Rattle.serde_json.specs.Written.{compact_text}
 use Rattle.tl_protocol.specs.Order.{placed}
-use Rattle.tl_audit.specs.Trails.{TrailValue}
-use Rattle.tl_audit.specs.Reading.{IsTrailText, IsTrailFault}
-use Rattle.tl_audit.specs.Clean.{Clean, IsFirst}
-use Rattle.tl_audit.specs.declared.fault.TrailFault.{TrailFault}
-use Rattle.tl_audit.specs.declared.fault.TrailFault.TheVariants.{NotTrail}
+use Rattle.tl_trail.specs.Trails.{TrailValue}
+use Rattle.tl_trail.specs.Reading.{IsTrailText, IsTrailFault}
+use Rattle.tl_trail.specs.Clean.{Clean}
+use Rattle.tl_audit.specs.Findings.{IsFirst}
+use Rattle.tl_trail.specs.declared.fault.TrailFault.{TrailFault}
+use Rattle.tl_trail.specs.declared.fault.TrailFault.TheVariants.{NotTrail}
 use Rattle.tl_audit.specs.declared.fault.AuditFault.{AuditFault}
 use Rattle.tl_commands.specs.declared.fault.CliFault.{CliFault}
 use Rattle.tl_commands.specs.declared.fault.CliFault.TheVariants.{Trail, Audit}
 use Rattle.tl_commands.specs.Faults.{status_of}
-use Rattle.tl_commands.specs.Told.{order_data}
+use Rattle.tl_forms.specs.Lists.{order_data}
 
 -- the bytes are UTF-8, and a text of the trail
 pub record IsTrailFile (bytes : List ℕ) (t : TrailValue) : Type 0 where

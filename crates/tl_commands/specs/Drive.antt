@@ -6,45 +6,25 @@ use Rattle.tl_tree.specs.Trees.{TreeValue}
 use Rattle.tl_tree.specs.Reading.{tree_of_text}
 use Rattle.tl_tree.specs.Writing.{tree_text}
 use Rattle.tl_tree.specs.declared.fault.TreeFault.{TreeFault}
-use Rattle.tl_instr.specs.Codes.{CodeValue}
-use Rattle.tl_asm.specs.Texts.{Written}
-use Rattle.tl_asm.specs.Faults.{FirstFault}
-use Rattle.tl_asm.specs.declared.fault.AsmFault.{AsmFault}
-use Rattle.tl_verify.specs.Acceptable.{Acceptable}
-use Rattle.tl_verify.specs.Findings.{IsFirstFault}
-use Rattle.tl_verify.specs.declared.fault.VerifyFault.{VerifyFault}
 use Rattle.tl_protocol.specs.History.{AllDone, records_now}
 use Rattle.tl_protocol.specs.Order.{placed}
-use Rattle.tl_core.specs.Cores.{Named, CoreValue}
-use Rattle.tl_core.specs.Entries.{naming_refusal, Traced, after_moves}
-use Rattle.tl_core.specs.declared.fault.CoreFault.{CoreFault}
+use Rattle.tl_procedures.specs.Names.{Named}
+use Rattle.tl_core.specs.Cores.{CoreValue}
+use Rattle.tl_core.specs.Entries.{Traced, after_moves}
 use Rattle.tl_core.specs.declared.moves.Move.{Move}
 use Rattle.tl_core.specs.declared.moves.Entry.{Entry}
 use Rattle.tl_serial.specs.Unfinished.{IsLeastUnfinished}
-use Rattle.tl_audit.specs.Reading.{IsFit, and_named, TakenUp}
-use Rattle.tl_audit.specs.Recording.{trail_value}
-use Rattle.tl_audit.specs.Writing.{trail_text}
+use Rattle.tl_forms.specs.Registering.{TakenUp, IsFirstUnfit}
+use Rattle.tl_forms.specs.declared.fault.RegisterFault.{RegisterFault}
+use Rattle.tl_record.specs.Recording.{trail_value}
+use Rattle.tl_trail.specs.Writing.{trail_text}
 use Rattle.tl_commands.specs.declared.fault.CliFault.{CliFault}
-use Rattle.tl_commands.specs.declared.fault.CliFault.TheVariants.{Asm, Tree, Verify, Core, NotScript}
+use Rattle.tl_commands.specs.declared.fault.CliFault.TheVariants.{Tree, Register, NotScript}
 use Rattle.tl_commands.specs.Alone.{IsTreeFile, IsTreeFault}
 use Rattle.tl_commands.specs.Faults.{status_of}
 use Rattle.tl_commands.specs.Script.{ScriptValue, IsScript, move_view}
-use Rattle.tl_commands.specs.Told.{trace_data, order_data, unfinished_data}
-
--- ---- the procedures, each a name and a text
-
--- why one isn't taken up: its text, else its code, else its name
-abbrev pub IsUnfit : List Named → List ℕ × List ℕ → CliFault → Type 0
-IsUnfit before p e =
-    ((f : AsmFault) × (e ≡ Asm f) × FirstFault p.1 f)
-    ⊎ ((f : VerifyFault) × (code : CodeValue) × (e ≡ Verify f) × Written p.1 code × IsFirstFault code.instrs f)
-    ⊎ ((f : CoreFault) × (code : CodeValue) × (e ≡ Core f) × Written p.1 code × Acceptable code.instrs × (naming_refusal before p.0 ≡ Some f))
-
--- why they aren't taken up: of the first that isn't
-abbrev pub IsFirstUnfit : List Named → List (List ℕ × List ℕ) → CliFault → Type 0
-IsFirstUnfit before [] e = ⊥
-IsFirstUnfit before (p ∷ ps) e =
-    IsUnfit before p e ⊎ ((code : CodeValue) × IsFit before p code × IsFirstUnfit (and_named before p.0 code) ps e)
+use Rattle.tl_commands.specs.Told.{trace_data, unfinished_data}
+use Rattle.tl_forms.specs.Lists.{order_data}
 
 -- ---- what is printed
 
@@ -108,7 +88,7 @@ abbrev pub IsWrong : List ℕ → List ℕ → CliFault → Type 0
 IsWrong t s e =
     ((f : TreeFault) × (e ≡ Tree f) × IsTreeFault t f)
     ⊎ ((e ≡ NotScript) × IsTreeFile t × ((script : ScriptValue) → ¬ IsScript s script))
-    ⊎ ((script : ScriptValue) × IsTreeFile t × IsScript s script × IsFirstUnfit [] script.procedures e)
+    ⊎ ((script : ScriptValue) × (f : RegisterFault) × (e ≡ Register f) × IsTreeFile t × IsScript s script × IsFirstUnfit [] script.procedures f)
 
 -- the first fault, or want of memory
 abbrev pub IsDriveFault : List ℕ → List ℕ → CliFault → Type 0

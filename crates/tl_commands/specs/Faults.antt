@@ -1,5 +1,5 @@
 -- The numbers of the program's faults, and its exit statuses.
-use Rattle.std.specs.Prelude.{ℕ, List, [], ◌∷◌}
+use Rattle.std.specs.Prelude.{ℕ, List, [], ◌∷◌, if◌then◌else◌}
 use Rattle.tl_tree.specs.Faults.{numbers_of as tree_numbers_of}
 use Rattle.tl_tree.specs.declared.fault.TreeFault.TheVariants as tree
 use Rattle.tl_asm.specs.Faults.{numbers_of as asm_numbers_of}
@@ -8,13 +8,15 @@ use Rattle.tl_instr.specs.Faults.{numbers_of as code_numbers_of}
 use Rattle.tl_instr.specs.declared.fault.CodeFault.TheVariants as code
 use Rattle.tl_verify.specs.Faults.{numbers_of as verify_numbers_of}
 use Rattle.tl_verify.specs.declared.fault.VerifyFault.TheVariants as verify
+use Rattle.tl_forms.specs.Faults.{numbers_of as register_numbers_of, is_memory}
 use Rattle.tl_core.specs.Faults.{numbers_of as core_numbers_of}
 use Rattle.tl_core.specs.declared.fault.CoreFault.TheVariants as core
-use Rattle.tl_audit.specs.Faults.{trail_numbers_of, audit_numbers_of}
-use Rattle.tl_audit.specs.declared.fault.TrailFault.TheVariants as trail
+use Rattle.tl_trail.specs.Faults.{numbers_of as trail_numbers_of}
+use Rattle.tl_audit.specs.Faults.{audit_numbers_of}
+use Rattle.tl_trail.specs.declared.fault.TrailFault.TheVariants as trail
 use Rattle.tl_audit.specs.declared.fault.AuditFault.TheVariants as audit
 use Rattle.tl_commands.specs.declared.fault.CliFault.{CliFault}
-use Rattle.tl_commands.specs.declared.fault.CliFault.TheVariants.{Unreadable, Unwritable, NotUtf8, Asm, Tree, Code, Verify, Core, Trail, Audit, NotScript, NotArgs, WrongArgs, Memory}
+use Rattle.tl_commands.specs.declared.fault.CliFault.TheVariants.{Unreadable, Unwritable, NotUtf8, Asm, Tree, Code, Verify, Register, Core, Trail, Audit, NotScript, NotArgs, WrongArgs, Memory}
 
 abbrev pub numbers_of : CliFault → List ℕ
 numbers_of Unreadable = 31 ∷ []
@@ -24,6 +26,7 @@ numbers_of (Asm f) = asm_numbers_of f
 numbers_of (Tree f) = tree_numbers_of f
 numbers_of (Code f) = code_numbers_of f
 numbers_of (Verify f) = verify_numbers_of f
+numbers_of (Register f) = register_numbers_of f
 numbers_of (Core f) = core_numbers_of f
 numbers_of (Trail f) = trail_numbers_of f
 numbers_of (Audit f) = audit_numbers_of f
@@ -40,6 +43,7 @@ status_of (Asm asm.Memory) = 4
 status_of (Tree tree.Memory) = 4
 status_of (Code code.Memory) = 4
 status_of (Verify verify.Memory) = 4
+status_of (Register f) = if is_memory f then 4 else 1
 status_of (Core core.Memory) = 4
 status_of (Trail trail.Memory) = 4
 status_of (Audit audit.Memory) = 4

@@ -2,18 +2,18 @@
 
 ghost use Rattle.std.specs.Prelude.{◌≡◌, ◌≢◌, [], ◌∷◌, ◌++◌, string_bytes, IfOk, IfErr};
 ghost use Rattle.serde_json.specs.Written.{compact_text};
-ghost use Rattle.tl_commands.specs.Told.{order_data};
+ghost use Rattle.tl_forms.specs.Lists.{order_data};
 ghost use Rattle.tl_commands.specs.Audit.{IsTrailFile, IsTrailFileFault, Audits, IsAuditFault};
 
 use crate::fault::CliFault;
-use crate::told::order_told;
 use std::alloc::{AllocError, Global};
 use tl_audit::auditing::audit_with;
-use tl_audit::fault::TrailFault;
 use tl_audit::progress::Progress;
-use tl_audit::reading::read_trail;
-use tl_audit::trail::Trail;
-use tl_serial::order::Order;
+use tl_forms::order::order_to_value;
+use tl_order::order::Order;
+use tl_trail::fault::TrailFault;
+use tl_trail::reading::read_trail;
+use tl_trail::trail::Trail;
 
 // The trail that a file has. 701 where it is no UTF-8, else as `read_trail`.
 fn trail_of_file(alloc: Global, bytes: &[u8]) -> Result<Trail, TrailFault>
@@ -30,7 +30,7 @@ fn trail_of_file(alloc: Global, bytes: &[u8]) -> Result<Trail, TrailFault>
 fn order_line(alloc: Global, order: &Order) -> Result<String, AllocError>
     ensures { IfOk result (λ s. string_bytes s ≡ compact_text (order_data order.now) ++ 10 ∷ []) }
 {
-    let order = order_told(alloc, order.calls())?;
+    let order = order_to_value(alloc, order.calls())?;
     let mut line = order.to_string(alloc)?;
     line.push_str("\n")?;
     Ok(line)

@@ -1,64 +1,30 @@
 // The command `drive`.
 
-ghost use Rattle.std.specs.Prelude.{◌≡◌, ◌≢◌, [], ◌∷◌, ◌++◌, map, string_bytes, IfOk, IfErr, OnOk};
+ghost use Rattle.std.specs.Prelude.{◌≡◌, ◌≢◌, [], ◌∷◌, ◌++◌, string_bytes, IfOk, IfErr, OnOk};
 ghost use Rattle.serde_json.specs.Data.{Data};
 ghost use Rattle.serde_json.specs.View.{view};
-ghost use Rattle.tl_instr.specs.Codes.{CodeValue};
-ghost use Rattle.tl_commands.specs.Script.{named_view};
 ghost use Rattle.tl_commands.specs.Faults.{status_of};
-ghost use Rattle.tl_audit.specs.Reading.{IsFit, and_named, TakenUp};
-ghost use Rattle.tl_audit.specs.Recording.{trail_value};
-ghost use Rattle.tl_audit.specs.Writing.{trail_text};
-ghost use Rattle.tl_commands.specs.Drive.{IsUnfit, IsFirstUnfit, IsConclusion, tree_now, lines_told, IsDriven, Drives, DrivesToTrail, IsDriveFault};
+ghost use Rattle.tl_record.specs.Recording.{trail_value};
+ghost use Rattle.tl_trail.specs.Writing.{trail_text};
+ghost use Rattle.tl_commands.specs.Drive.{IsConclusion, tree_now, lines_told, IsDriven, Drives, DrivesToTrail, IsDriveFault};
 
 use crate::fault::CliFault;
 use crate::inputs::tree_of_file;
-use crate::script::{NamedText, read_script};
-use crate::told::{order_told, trace_told, unfinished_told};
+use crate::script::read_script;
+use crate::told::{trace_told, unfinished_told};
 use serde_json::Value;
 use std::alloc::{AllocError, Global};
-use tl_asm::assembling::assemble;
-use tl_audit::recording::trail_of;
-use tl_audit::writing::write_trail;
 use tl_core::fault::CoreFault;
 use tl_core::interleaving::Core;
 use tl_core::moves::Entry;
+use tl_forms::order::order_to_value;
+use tl_forms::registering::register_all;
+use tl_history::history::MAX_EVENTS;
+use tl_order::fault::SerialFault;
+use tl_record::recording::trail_of;
 use tl_serial::concluding::conclude;
-use tl_serial::fault::SerialFault;
+use tl_trail::writing::write_trail;
 use tl_tree::text::write_tree;
-use tl_verify::procedure::verify;
-
-// Takes up a procedure.
-fn take_up(alloc: Global, core: &mut Core, named: &NamedText) -> Result<(), CliFault>
-    ensures ok { OnOk result ((code : CodeValue) × IsFit core.old.procedures (named_view named.now) code
-        × (core.new ≡ record core.old { procedures = and_named core.old.procedures (string_bytes named.now.name) code })) }
-    ensures fault { IfErr result (λ e. status_of e ≢ 4 → IsUnfit core.old.procedures (named_view named.now) e) }
-{
-    let code = match assemble(alloc, &named.text) {
-        Ok(code) => code,
-        Err(fault) => return Err(CliFault::Asm(fault)),
-    };
-    let procedure = match verify(alloc, code) {
-        Ok(procedure) => procedure,
-        Err((_, fault)) => return Err(CliFault::Verify(fault)),
-    };
-    match core.add_proc(alloc, &named.name, procedure) {
-        Ok(_) => Ok(()),
-        Err(fault) => Err(CliFault::Core(fault)),
-    }
-}
-
-// Takes up the procedures, one after another.
-fn take_up_all(alloc: Global, core: &mut Core, procedures: &[NamedText]) -> Result<(), CliFault>
-    ensures ok { OnOk result (TakenUp core.old.procedures (map named_view procedures.now) core.new.procedures) }
-    ensures same { OnOk result (core.new ≡ record core.old { procedures = core.new.procedures }) }
-    ensures fault { IfErr result (λ e. status_of e ≢ 4 → IsFirstUnfit core.old.procedures (map named_view procedures.now) e) }
-{
-    for named in procedures {
-        take_up(alloc, core, named)?;
-    }
-    Ok(())
-}
 
 // The value of the second line.
 fn conclusion(alloc: Global, core: &Core) -> Result<Value, CliFault>
@@ -66,7 +32,7 @@ fn conclusion(alloc: Global, core: &Core) -> Result<Value, CliFault>
     ensures err { IfErr result (λ e. status_of e ≡ 4) }
 {
     match conclude(alloc, core) {
-        Ok(order) => Ok(order_told(alloc, order.calls())?),
+        Ok(order) => Ok(order_to_value(alloc, order.calls())?),
         Err(SerialFault::Unfinished { call }) => Ok(unfinished_told(alloc, call)?),
         Err(SerialFault::Memory) => Err(CliFault::Core(CoreFault::Memory)),
     }
@@ -87,9 +53,8 @@ fn lines(alloc: Global, core: &Core, trace: &[Entry]) -> Result<String, CliFault
 {
     let trace = trace_told(alloc, trace)?;
     let conclusion = conclusion(alloc, core)?;
-    let tree = match write_tree(alloc, core.tree()) {
-        Ok(tree) => tree,
-        Err(fault) => return Err(CliFault::Tree(fault)),
+    let Ok(tree) = write_tree(alloc, core.tree()) else {
+        return Err(CliFault::Memory);
     };
     let mut text = trace.to_string(alloc)?;
     next_line(&mut text, &conclusion.to_string(alloc)?)?;
@@ -115,11 +80,14 @@ fn carry_out(alloc: Global, tree: &[u8], script: &[u8]) -> Result<Driven, CliFau
         Err(fault) => return Err(CliFault::Tree(fault)),
     };
     let script = read_script(alloc, script)?;
-    let mut core = match Core::new(alloc, tree) {
+    let procedures = match register_all(alloc, &script.procedures) {
+        Ok(procedures) => procedures,
+        Err(fault) => return Err(CliFault::Register(fault)),
+    };
+    let mut core = match Core::with_procedures(alloc, tree, procedures, MAX_EVENTS) {
         Ok(core) => core,
         Err(fault) => return Err(CliFault::Core(fault)),
     };
-    take_up_all(alloc, &mut core, &script.procedures)?;
     match core.drive(alloc, &script.moves) {
         Ok(trace) => Ok(Driven { trace, core }),
         Err(fault) => Err(CliFault::Core(fault)),

@@ -1,7 +1,6 @@
 // What the program answers in the place of a result.
 
 ghost use Rattle.std.specs.Prelude.{◌≡◌};
-ghost use Rattle.tl_core.specs.Faults.{numbers_of as core_numbers_of};
 ghost use Rattle.tl_commands.specs.declared.fault.CliFault.TheVariants.{Memory};
 ghost use Rattle.tl_commands.specs.Faults.{numbers_of, status_of};
 
@@ -9,9 +8,11 @@ use arrayvec::ArrayVec;
 use std::alloc::AllocError;
 use thiserror::Error;
 use tl_asm::fault::AsmFault;
-use tl_audit::fault::{AuditFault, TrailFault};
+use tl_audit::fault::AuditFault;
 use tl_core::fault::CoreFault;
+use tl_forms::fault::RegisterFault;
 use tl_instr::fault::CodeFault;
+use tl_trail::fault::TrailFault;
 use tl_tree::fault::TreeFault;
 use tl_verify::fault::VerifyFault;
 
@@ -39,7 +40,10 @@ pub enum CliFault {
     /// 301 to 307, 401 to 409, 490: the code isn't accepted.
     #[error("the procedure: {0}")]
     Verify(VerifyFault),
-    /// 501 to 613, 690: many calls in turns.
+    /// 251 to 254, 290, 301 to 307, 401 to 409, 490, 611 to 613, 690: a procedure of a script.
+    #[error("a procedure: {0}")]
+    Register(RegisterFault),
+    /// 501 to 605, 690: many calls in turns.
     #[error("the calls: {0}")]
     Core(CoreFault),
     /// 701, 101 to 613 of what it tells, 790: the trail.
@@ -76,7 +80,8 @@ impl CliFault {
             CliFault::Tree(fault) => return fault.numbers(),
             CliFault::Code(fault) => return fault.numbers(),
             CliFault::Verify(fault) => return fault.numbers(),
-            CliFault::Core(fault) => return core_numbers(fault),
+            CliFault::Register(fault) => return fault.numbers(),
+            CliFault::Core(fault) => return fault.numbers(),
             CliFault::Trail(fault) => return fault.numbers(),
             CliFault::Audit(fault) => return fault.numbers(),
             CliFault::NotScript => numbers.push(731),
@@ -93,6 +98,7 @@ impl CliFault {
     {
         match self {
             CliFault::Unreadable | CliFault::Unwritable => 3,
+            CliFault::Register(fault) if fault.is_memory() => 4,
             CliFault::Tree(TreeFault::Memory)
             | CliFault::Asm(AsmFault::Memory)
             | CliFault::Code(CodeFault::Memory)
@@ -104,15 +110,6 @@ impl CliFault {
             _ => 1,
         }
     }
-}
-
-// The number of a core's fault.
-fn core_numbers(fault: &CoreFault) -> ArrayVec<u64, 3>
-    ensures { result.items ≡ core_numbers_of fault.now }
-{
-    let mut numbers = ArrayVec::new();
-    let _fits = numbers.try_extend_from_slice(fault.numbers().as_slice());
-    numbers
 }
 
 impl From<AllocError> for CliFault {

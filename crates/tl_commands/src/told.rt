@@ -3,47 +3,51 @@
 ghost use Rattle.std.specs.Prelude.{◌≡◌, ◌∷◌, [], codes, map, IfOk};
 ghost use Rattle.serde_json.specs.Data.{array};
 ghost use Rattle.serde_json.specs.View.{view, items_of};
-ghost use Rattle.tl_audit.specs.Writing.{natural, told};
-ghost use Rattle.tl_commands.specs.Told.{action_data, stepped_data, entry_data, trace_data, order_data, unfinished_data};
+ghost use Rattle.tl_forms.specs.Lists.{natural};
+ghost use Rattle.tl_forms.specs.Letters.{lettered};
+ghost use Rattle.tl_forms.specs.declared.letter.Letter.TheVariants as letter;
+ghost use Rattle.tl_commands.specs.Told.{action_data, stepped_data, entry_data, trace_data, unfinished_data};
+ghost use Rattle.tl_forms.specs.Lists.{order_data};
 
 use serde_json::{Value, json};
 use std::alloc::{AllocError, Global};
-use tl_audit::writing::{call_told, record_told};
 use tl_core::moves::Entry;
 use tl_core::stepped::Stepped;
+use tl_forms::event::{call_to_value, node_to_value};
+use tl_forms::letter::Letter;
 use tl_protocol::action::Action;
 
 // A call, a node, a field, and its value.
 fn field_told(
     alloc: Global,
-    letter: &str,
+    letter: Letter,
     call: u32,
     node: u16,
     field: u8,
     value: Value,
 ) -> Result<Value, AllocError>
-    ensures { IfOk result (λ v. view v ≡ told letter.now (natural call ∷ natural node ∷ natural field ∷ view value ∷ [])) }
+    ensures { IfOk result (λ v. view v ≡ lettered letter (natural call ∷ natural node ∷ natural field ∷ view value ∷ [])) }
 {
-    json!(in alloc; [letter, call, node, field, value])
+    json!(in alloc; [letter.as_str(), call, node, field, value])
 }
 
 fn emitted_told(alloc: Global, call: u32, value: Value) -> Result<Value, AllocError>
-    ensures { IfOk result (λ v. view v ≡ told (codes "e") (natural call ∷ view value ∷ [])) }
+    ensures { IfOk result (λ v. view v ≡ lettered letter.Emitted (natural call ∷ view value ∷ [])) }
 {
-    json!(in alloc; ["e", call, value])
+    json!(in alloc; [Letter::Emitted.as_str(), call, value])
 }
 
 fn blocked_told(alloc: Global, call: u32, node: u16, holder: u32) -> Result<Value, AllocError>
-    ensures { IfOk result (λ v. view v ≡ told (codes "b") (natural call ∷ natural node ∷ natural holder ∷ [])) }
+    ensures { IfOk result (λ v. view v ≡ lettered letter.Blocked (natural call ∷ natural node ∷ natural holder ∷ [])) }
 {
-    json!(in alloc; ["b", call, node, holder])
+    json!(in alloc; [Letter::Blocked.as_str(), call, node, holder])
 }
 
-fn numbers_told(alloc: Global, letter: &str, numbers: &[u64]) -> Result<Value, AllocError>
-    ensures { IfOk result (λ v. view v ≡ told letter.now (map natural numbers.now)) }
+fn numbers_told(alloc: Global, letter: Letter, numbers: &[u64]) -> Result<Value, AllocError>
+    ensures { IfOk result (λ v. view v ≡ lettered letter (map natural numbers.now)) }
 {
     let mut items = Vec::with_capacity(alloc, numbers.len())?;
-    items.push(Value::try_from_str(alloc, letter)?)?;
+    items.push(Value::try_from_str(alloc, letter.as_str())?)?;
     for number in numbers {
         items.push(Value::from(*number))?;
     }
@@ -55,17 +59,31 @@ fn action_told(alloc: Global, call: u32, action: &Action) -> Result<Value, Alloc
     ensures { IfOk result (λ v. view v ≡ action_data call action.now) }
 {
     match action {
-        Action::Plain => call_told(alloc, "s", call),
-        Action::Lock { node, found } => record_told(alloc, "l", call, *node, found),
+        Action::Plain => call_to_value(alloc, Letter::Plain, call),
+        Action::Lock { node, found } => node_to_value(alloc, Letter::Locked, call, *node, found),
         Action::Read { node, field, value } => {
-            field_told(alloc, "r", call, *node, *field, Value::from(*value))
+            field_told(
+                alloc,
+                Letter::Read,
+                call,
+                *node,
+                *field,
+                Value::from(*value),
+            )
         }
         Action::Write { node, field, value } => {
-            field_told(alloc, "w", call, *node, *field, Value::from(*value))
+            field_told(
+                alloc,
+                Letter::Written,
+                call,
+                *node,
+                *field,
+                Value::from(*value),
+            )
         }
-        Action::Free { node, left } => record_told(alloc, "f", call, *node, left),
+        Action::Free { node, left } => node_to_value(alloc, Letter::Freed, call, *node, left),
         Action::Emit { value } => emitted_told(alloc, call, Value::from(*value)),
-        Action::End => call_told(alloc, "d", call),
+        Action::End => call_to_value(alloc, Letter::Done, call),
     }
 }
 
@@ -76,7 +94,7 @@ fn stepped_told(alloc: Global, call: u32, stepped: &Stepped) -> Result<Value, Al
     match stepped {
         Stepped::Moved { action } => action_told(alloc, call, action),
         Stepped::Blocked { node, holder } => blocked_told(alloc, call, *node, *holder),
-        Stepped::Over => call_told(alloc, "o", call),
+        Stepped::Over => call_to_value(alloc, Letter::Over, call),
     }
 }
 
@@ -85,9 +103,13 @@ fn entry_told(alloc: Global, entry: &Entry) -> Result<Value, AllocError>
     ensures { IfOk result (λ v. view v ≡ entry_data entry.now) }
 {
     match entry {
-        Entry::Admitted { call } => call_told(alloc, "a", *call),
+        Entry::Admitted { call } => call_to_value(alloc, Letter::Admitted, *call),
         Entry::Stepped { call, stepped } => stepped_told(alloc, *call, stepped),
-        Entry::Refused { fault } => numbers_told(alloc, "x", fault.numbers().as_slice()),
+        Entry::Refused { fault } => numbers_told(
+            alloc,
+            Letter::Refused,
+            fault.numbers().as_slice(),
+        ),
     }
 }
 
@@ -101,30 +123,12 @@ fn entries_told(alloc: Global, entries: &[Entry]) -> Result<Value, AllocError>
     Ok(Value::Array(items))
 }
 
-fn calls_told(alloc: Global, calls: &[u32]) -> Result<Value, AllocError>
-    ensures { IfOk result (λ v. view v ≡ array (items_of (map natural calls.now))) }
-{
-    let mut items = Vec::with_capacity(alloc, calls.len())?;
-    for call in calls {
-        items.push(Value::from(*call))?;
-    }
-    Ok(Value::Array(items))
-}
-
 /// `{"trace":[..]}`, with what came of each move.
 pub fn trace_told(alloc: Global, entries: &[Entry]) -> Result<Value, AllocError>
     ensures { IfOk result (λ v. view v ≡ trace_data entries.now) }
 {
     let trace = entries_told(alloc, entries)?;
     json!(in alloc; {"trace": trace})
-}
-
-/// `{"order":[..]}`, with the calls in their order.
-pub fn order_told(alloc: Global, calls: &[u32]) -> Result<Value, AllocError>
-    ensures { IfOk result (λ v. view v ≡ order_data calls.now) }
-{
-    let order = calls_told(alloc, calls)?;
-    json!(in alloc; {"order": order})
 }
 
 /// `{"error":[651,c]}`: call c isn't done.

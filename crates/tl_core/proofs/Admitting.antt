@@ -27,7 +27,7 @@ use Rattle.tl_core.specs.Cores.{CoreValue, no_call, call_of, code_of, world_of, 
 use Rattle.tl_core.specs.Entries.{procedure_at}
 use Rattle.tl_core.specs.Begun.{Begins}
 use Rattle.tl_core.specs.Kept.{IsCore, IsKept, call_value}
-use Rattle.tl_core.proofs.Along.{along_start}
+use Rattle.tl_machine.proofs.Along.{along_start}
 use Rattle.tl_core.proofs.Totals.{total-same}
 use Rattle.tl_core.proofs.After.{open_in, some_same}
 

@@ -15,7 +15,8 @@ use Rattle.tl_machine.specs.Turns.{TurnValue, IsTurn, with_call}
 use Rattle.tl_core.specs.declared.call.Call.{Call}
 use Rattle.tl_core.specs.Cores.{CoreValue, call_of, world_of, total, owed_to, places}
 use Rattle.tl_core.specs.Entries.{one_more}
-use Rattle.tl_core.specs.Kept.{IsCore, IsKept, IsAlong, call_value}
+use Rattle.tl_machine.specs.Along.{IsAlong}
+use Rattle.tl_core.specs.Kept.{IsCore, IsKept, call_value}
 use Rattle.tl_core.proofs.Totals.{total-other}
 use Rattle.tl_core.proofs.Events.{part_after, part_of_others, done_of_others}
 use Rattle.tl_core.proofs.Standing.{keep, call_is, inside, after, sound_after, same_code}

@@ -24,7 +24,8 @@ use Rattle.tl_core.specs.declared.call.Call.{Call}
 use Rattle.tl_core.specs.Cores.{CoreValue, world_of}
 use Rattle.tl_core.specs.Kept.{IsCore}
 use Rattle.tl_core.proofs.After.{some_same}
-use Rattle.tl_core.proofs.Standing.{keep, rest, ended, wants_here, over_none, lock_first, next_first, open_first, may_first}
+use Rattle.tl_machine.proofs.Along.{over_none, lock_first}
+use Rattle.tl_core.proofs.Standing.{keep, rest, ended, wants_here, next_first, open_first, may_first}
 use Rattle.tl_core.proofs.Exits.{inside_tree}
 
 first_of : (r : Run) (w : Want) → want_of r ≡ w → w ≢ want.Stop stop.Over → (a : Action) × (more : Run) × (r ≡ Then a more)

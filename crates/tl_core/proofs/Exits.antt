@@ -30,9 +30,10 @@ use Rattle.tl_core.specs.declared.call.Call.{Call}
 use Rattle.tl_core.specs.declared.stepped.Stepped.TheVariants.{Moved, Blocked}
 use Rattle.tl_core.specs.Cores.{CoreValue, code_of, world_of}
 use Rattle.tl_core.specs.Entries.{stepped_by, step_answer, after_step}
-use Rattle.tl_core.specs.Kept.{IsCore, IsAlong, call_value}
-use Rattle.tl_core.proofs.Along.{along_step, along_lock, along_free, along_end}
-use Rattle.tl_core.proofs.Standing.{keep, call_is, rest, left_tree, left_size, found_tree, found_size, wants_here, lock_first, open_first, answer_first}
+use Rattle.tl_machine.specs.Along.{IsAlong}
+use Rattle.tl_core.specs.Kept.{IsCore, call_value}
+use Rattle.tl_machine.proofs.Along.{lock_first, along_step, along_lock, along_free, along_end}
+use Rattle.tl_core.proofs.Standing.{keep, call_is, rest, left_tree, left_size, found_tree, found_size, wants_here, open_first, answer_first}
 use Rattle.tl_core.proofs.Permitted.{lock_inside, lock_fresh, free_inside, some_place}
 use Rattle.tl_core.proofs.After.{set_holder, some_same}
 use Rattle.tl_core.proofs.Stepping.{moves, moved_on, seen, some_unfinished, places_reserved}

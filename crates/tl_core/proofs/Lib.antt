@@ -1,12 +1,10 @@
 pub mod Totals
-pub mod Along
 pub mod Events
 pub mod Standing
 pub mod Permitted
 pub mod After
 pub mod Stepping
 pub mod Exits
-pub mod Naming
 pub mod MoreProcedures
 pub mod Admitting
 pub mod Opening

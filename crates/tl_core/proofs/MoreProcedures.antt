@@ -2,10 +2,10 @@
 use Rattle.std.proofs.Common.{◌≡◌, ℕ, List, [], ◌∷◌, ◌++◌, Option, Result, Ok, Err, OnOk, OnErr, sym, ◌∙◌, ap, arith}
 use Rattle.std.proofs.lemmas.List.{get_or_append_left, length-append, append-nil}
 use Rattle.tl_tree.specs.Trees.{TreeValue}
-use Rattle.tl_core.specs.declared.fault.CoreFault.{CoreFault}
+use Rattle.tl_procedures.specs.declared.fault.NamingFault.{NamingFault}
 use Rattle.tl_core.specs.declared.call.Call.{Call}
-use Rattle.tl_core.specs.Cores.{Named, CoreValue}
-use Rattle.tl_core.specs.Entries.{no_procedure}
+use Rattle.tl_procedures.specs.Names.{Named, no_procedure}
+use Rattle.tl_core.specs.Cores.{CoreValue}
 use Rattle.tl_core.specs.Kept.{IsKept, IsCore}
 
 -- what is kept of a call names a procedure that was there before
@@ -44,7 +44,7 @@ keeps_core v more now kept holders unfinished reserved h =
     }
 
 -- a refusal adds none
-pub added : (result : Result ℕ CoreFault) (before after : List Named) (one : Named) → OnOk result (after ≡ before ++ one ∷ []) → OnErr result (after ≡ before)
+pub added : (result : Result ℕ NamingFault) (before after : List Named) (one : Named) → OnOk result (after ≡ before ++ one ∷ []) → OnErr result (after ≡ before)
     → (more : List Named) × (after ≡ before ++ more)
 added (Ok number) before after one last same = (one ∷ [], last)
 added (Err fault) before after one last same = ([], same ∙ sym (append-nil before))

@@ -22,7 +22,7 @@ use Rattle.tl_machine.specs.Runs.{Run, Then, actions}
 use Rattle.tl_core.specs.declared.call.Call.{Call}
 use Rattle.tl_core.specs.Cores.{CoreValue, call_of, code_of, world_of, places}
 use Rattle.tl_core.specs.Kept.{IsCore}
-use Rattle.tl_core.proofs.Along.{onto, taken-onto, length-onto}
+use Rattle.tl_machine.proofs.Along.{onto, taken-onto, length-onto}
 use Rattle.tl_core.proofs.Events.{length-shared, lock_count-shared, lock_count-taken}
 use Rattle.tl_core.proofs.Standing.{admitted, found_tree, found_size, rest, whole, count_is, next_first, open_first}
 

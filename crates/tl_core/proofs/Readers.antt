@@ -21,7 +21,7 @@ use Rattle.tl_core.specs.declared.call.Call.{Call}
 use Rattle.tl_core.specs.Cores.{CoreValue, call_of, code_of, world_of, done_by}
 use Rattle.tl_core.specs.Entries.{procedure_at}
 use Rattle.tl_core.specs.Kept.{IsCore, call_value}
-use Rattle.tl_core.proofs.Along.{onto, taken-onto, length-onto}
+use Rattle.tl_machine.proofs.Along.{onto, taken-onto, length-onto}
 use Rattle.tl_core.proofs.Standing.{keep, call_is, rest, whole, ended, admitted, found_tree, found_size}
 
 length-take : (k : ℕ) (more : List Action) → length (take k more) ≤ length more

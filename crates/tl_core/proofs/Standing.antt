@@ -26,32 +26,9 @@ use Rattle.tl_core.specs.declared.call.Call.{Call}
 use Rattle.tl_core.specs.declared.stepped.Stepped.TheVariants.{Over}
 use Rattle.tl_core.specs.Cores.{CallValue, CoreValue, no_call, call_of, world_of}
 use Rattle.tl_core.specs.Entries.{one_more, stepped_by, node_of, step_answer}
-use Rattle.tl_core.specs.Kept.{with_left, IsCore, IsKept, call_value}
-use Rattle.tl_core.proofs.Along.{onto, actions-after_done, length-onto, at-onto, has_found, length-with_left}
-
--- ---- the first action of a run
-
-pub lock_first : (r : Run) (x : ℕ) → want_of r ≡ want.Stop (stop.Lock x) → (found : Record) × (more : Run) × (r ≡ Then (did.Lock x found) more)
-lock_first (Then (did.Lock y found) more) x h = let e : y ≡ x = cc in (found, more, ap (λ z. Then (did.Lock z found) more) e)
-lock_first (Then (did.Free y left) more) x h = absurd cc
-lock_first (Then did.End more) x h = absurd cc
-lock_first (Then did.Plain more) x h = absurd cc
-lock_first (Then (did.Read y f n) more) x h = absurd cc
-lock_first (Then (did.Write y f n) more) x h = absurd cc
-lock_first (Then (did.Emit n) more) x h = absurd cc
-lock_first (At p s) x h = absurd cc
-lock_first (Ended s) x h = absurd cc
-
-pub over_none : (r : Run) → want_of r ≡ want.Stop stop.Over → actions r ≡ []
-over_none (Then (did.Lock y found) more) h = absurd cc
-over_none (Then (did.Free y left) more) h = absurd cc
-over_none (Then did.End more) h = absurd cc
-over_none (Then did.Plain more) h = absurd cc
-over_none (Then (did.Read y f n) more) h = absurd cc
-over_none (Then (did.Write y f n) more) h = absurd cc
-over_none (Then (did.Emit n) more) h = absurd cc
-over_none (At p s) h = refl
-over_none (Ended s) h = refl
+use Rattle.tl_machine.specs.Along.{with_left}
+use Rattle.tl_core.specs.Kept.{IsCore, IsKept, call_value}
+use Rattle.tl_machine.proofs.Along.{onto, actions-after_done, length-onto, at-onto, has_found, length-with_left, over_none}
 
 -- ---- a call of a core
 

@@ -18,7 +18,8 @@ use Rattle.tl_core.specs.declared.call.Call.{Call}
 use Rattle.tl_core.specs.declared.stepped.Stepped.TheVariants.{Moved}
 use Rattle.tl_core.specs.Cores.{CoreValue, code_of, world_of, owed_to, places}
 use Rattle.tl_core.specs.Entries.{one_more, stepped_by, node_of, step_answer, after_step}
-use Rattle.tl_core.specs.Kept.{IsCore, IsAlong, call_value}
+use Rattle.tl_machine.specs.Along.{IsAlong}
+use Rattle.tl_core.specs.Kept.{IsCore, call_value}
 use Rattle.tl_core.proofs.Totals.{part-total}
 use Rattle.tl_core.proofs.Events.{part_after, done_after}
 use Rattle.tl_core.proofs.Standing.{keep, inside, rest, open_first, answer_first, may_first}

@@ -1,6 +1,5 @@
 -- What callers see of a core.
-use Rattle.std.specs.Prelude.{ℕ, zero, suc, ◌+◌, ◌-◌, ◌*◌, List, [], length, get_or, Option, if◌then◌else◌, min, position, take, ℤ}
-use Rattle.std.specs.Str.{bytes_eq}
+use Rattle.std.specs.Prelude.{ℕ, zero, suc, ◌+◌, ◌-◌, ◌*◌, List, [], length, get_or, if◌then◌else◌, min, take, ℤ}
 use Rattle.tl_tree.specs.Records.{Records}
 use Rattle.tl_instr.specs.declared.instr.Instr.{Instr}
 use Rattle.tl_instr.specs.Codes.{CodeValue}
@@ -10,11 +9,7 @@ use Rattle.tl_protocol.specs.declared.event.Event.{Event}
 use Rattle.tl_protocol.specs.History.{part_of, is_done}
 use Rattle.tl_protocol.specs.World.{World, alone_of}
 use Rattle.tl_machine.specs.Outcomes.{meaning}
-
--- a procedure under its name
-pub record Named : Type 0 where
-  pub name : List ℕ
-  pub code : CodeValue
+use Rattle.tl_procedures.specs.Names.{Named}
 
 -- a call: the number of its procedure, the code that it runs, its arguments, and how many instructions it has done
 pub record CallValue : Type 0 where
@@ -32,10 +27,6 @@ pub record CoreValue : Type 0 where
   pub calls : List CallValue
   pub past : List Event
   pub limit : ℕ
-
--- the number of the procedure of that name
-abbrev pub number_of : List Named → List ℕ → Option ℕ
-number_of procedures name = position (λ p. bytes_eq name p.name) procedures
 
 abbrev pub no_call : CallValue
 no_call = record { procedure = 0; code = record { arity = 0; instrs = [] }; args = []; count = 0 }

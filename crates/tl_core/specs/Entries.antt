@@ -1,7 +1,5 @@
 -- What a core answers, and what it is then.
 use Rattle.std.specs.Prelude.{◌≡◌, ◌≢◌, ℕ, ◌+◌, Bool, List, [], ◌∷◌, ◌++◌, length, get_or, Option, Some, None, if◌then◌else◌, nat_lt, nat_le, nat_eq, slice_set, Result, Ok, Err, ℤ, string_bytes, ◌&&◌, ◌||◌, ◌==◌}
-use Rattle.std.specs.Char.{is_ascii_alphanumeric}
-use Rattle.std.specs.List.{list_all}
 use Rattle.std.specs.Option.{option_map_or}
 use Rattle.tl_protocol.specs.declared.action.Action.{Action}
 use Rattle.tl_protocol.specs.declared.action.Action.TheVariants.{Lock}
@@ -17,31 +15,8 @@ use Rattle.tl_core.specs.declared.moves.Move.{Move}
 use Rattle.tl_core.specs.declared.moves.Move.TheVariants as a_move
 use Rattle.tl_core.specs.declared.moves.Entry.{Entry}
 use Rattle.tl_core.specs.declared.moves.Entry.TheVariants as entry
-use Rattle.tl_core.specs.Cores.{Named, CallValue, CoreValue, number_of, call_of, world_of, open_calls, places, room}
-
--- ---- procedures
-
--- an ASCII letter, a digit, or `_`
-abbrev pub is_name_byte : ℕ → Bool
-is_name_byte b = is_ascii_alphanumeric b || (b == 95)
-
--- 1 to 32 of them
-abbrev pub is_name : List ℕ → Bool
-is_name name = nat_lt 0 (length name) && (nat_le (length name) 32 && list_all is_name_byte name)
-
-abbrev pub taken_by : Option ℕ → ℕ → Option CoreFault
-taken_by (Some number) count = Some fault.NameTaken
-taken_by None count = if nat_lt count 256 then None else Some fault.TooManyProcedures
-
--- why a name isn't taken up
-abbrev pub naming_refusal : List Named → List ℕ → Option CoreFault
-naming_refusal procedures name =
-    if is_name name then taken_by (number_of procedures name) (length procedures) else Some fault.BadName
-
--- each name was free when its procedure was taken up, one after another, after these
-abbrev pub AreFreeAfter : List Named → List Named → Type 0
-AreFreeAfter before [] = Unit {0}
-AreFreeAfter before (p ∷ ps) = (naming_refusal before p.name ≡ None) × AreFreeAfter (before ++ p ∷ []) ps
+use Rattle.tl_procedures.specs.Names.{Named, no_procedure, number_of}
+use Rattle.tl_core.specs.Cores.{CallValue, CoreValue, call_of, world_of, open_calls, places, room}
 
 -- ---- steps
 
@@ -78,9 +53,6 @@ after_step v c (Ok Over) = v
 after_step v c (Err e) = v
 
 -- ---- admissions
-
-abbrev pub no_procedure : Named
-no_procedure = record { name = []; code = record { arity = 0; instrs = [] } }
 
 abbrev pub procedure_at : CoreValue → ℕ → Named
 procedure_at v p = get_or v.procedures p no_procedure

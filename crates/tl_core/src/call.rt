@@ -8,13 +8,11 @@ ghost use Rattle.tl_core.specs.declared.fault.CoreFault.TheVariants as fault;
 use crate::fault::CoreFault;
 use arrayvec::ArrayVec;
 use std::sync::Arc;
+use tl_instr::operand::MAX_ARGS;
 use tl_machine::reply::Reply;
 use tl_machine::turn::Turn;
 use tl_tree::shape::Shape;
 use tl_verify::procedure::Proc;
-
-/// How many arguments a call has at most.
-pub const MAX_ARGS: usize = 8;
 
 /// A call as the core keeps it. Callers see it through the core's readers.
 #[derive(Debug, Drop)]

@@ -28,15 +28,6 @@ pub enum CoreFault {
     /// 605: the history has no room for all that the call may do.
     #[error("the history has no room for the call")]
     HistoryFull,
-    /// 611: a procedure has that name.
-    #[error("a procedure of that name is there already")]
-    NameTaken,
-    /// 612: a name is 1 to 32 of ASCII letters, digits and `_`.
-    #[error("not a name")]
-    BadName,
-    /// 613: there are 256 procedures.
-    #[error("too many procedures")]
-    TooManyProcedures,
     /// 690: memory was refused.
     #[error("out of memory")]
     Memory,
@@ -46,7 +37,7 @@ impl CoreFault {
     ghost use Rattle.tl_core.specs.Faults.{numbers_of};
 
     /// The fault's number.
-    pub fn numbers(&self) -> ArrayVec<u64, 1>
+    pub fn numbers(&self) -> ArrayVec<u64, 3>
         ensures { result.items ≡ numbers_of self.now }
     {
         let mut numbers = ArrayVec::new();
@@ -57,9 +48,6 @@ impl CoreFault {
             CoreFault::TooManyCalls => 603,
             CoreFault::TooManyOpen => 604,
             CoreFault::HistoryFull => 605,
-            CoreFault::NameTaken => 611,
-            CoreFault::BadName => 612,
-            CoreFault::TooManyProcedures => 613,
             CoreFault::Memory => 690,
         });
         numbers

@@ -8,30 +8,30 @@ ghost use Rattle.tl_protocol.specs.History.{admits, is_done, AllDone, record_now
 ghost use Rattle.tl_protocol.specs.Holders.{holder_of};
 ghost use Rattle.tl_protocol.specs.Obeys.{Obeys};
 ghost use Rattle.tl_protocol.specs.World.{Legal, IsSound, IsEnabled, reply_of};
-ghost use Rattle.tl_core.specs.Cores.{world_of, call_of, code_of, number_of, places, room, owed, all_budgets, done_by};
-ghost use Rattle.tl_core.specs.Entries.{naming_refusal, step_answer, after_step, admission_refusal, after_admission, procedure_at, IsEntry, after_entry, Traced, after_moves, moved};
+ghost use Rattle.tl_procedures.specs.Names.{number_of, naming_refusal};
+ghost use Rattle.tl_procedures.specs.declared.fault.NamingFault.TheVariants as naming;
+ghost use Rattle.tl_core.specs.Cores.{world_of, call_of, code_of, places, room, owed, all_budgets, done_by};
+ghost use Rattle.tl_core.specs.Entries.{step_answer, after_step, admission_refusal, after_admission, procedure_at, IsEntry, after_entry, Traced, after_moves, moved};
 ghost use Rattle.tl_machine.specs.Runs.{emitted};
 ghost use Rattle.tl_core.specs.declared.fault.CoreFault.TheVariants as fault;
 
 use crate::call::Call;
 use crate::fault::CoreFault;
 use crate::moves::{Entry, Move};
-use crate::procedures::Procedures;
 use crate::stepped::Stepped;
 use std::alloc::Global;
 use std::marker::Model;
 use std::sync::Arc;
-use tl_history::{History, MAX_EVENTS};
+use tl_history::{History, MAX_CALLS, MAX_EVENTS};
 use tl_machine::reply::Reply;
 use tl_machine::want::{Advance, Stop, Want};
+use tl_procedures::fault::NamingFault;
+use tl_procedures::procedures::Procedures;
 use tl_protocol::action::Action;
 use tl_protocol::event::Event;
 use tl_tree::record::Record;
 use tl_tree::tree::Tree;
 use tl_verify::procedure::Proc;
-
-/// How many calls a core has at most.
-pub const MAX_CALLS: usize = 4096;
 
 /// How many calls may be unfinished at once.
 pub const MAX_UNFINISHED: usize = 64;
@@ -81,6 +81,20 @@ impl Core {
         ensures ok { IfOk result (λ core. core ≡ record { parents = tree.parents; opening = tree.records; procedures = []; calls = []; past = []; limit = limit }) }
         ensures err { IfErr result (λ e. e ≡ fault.Memory) }
     {
+        Core::with_procedures(alloc, tree, Procedures::new(alloc), limit)
+    }
+
+    /// A core of the tree with these procedures, without calls, for so many events. 690 where memory is refused.
+    pub fn with_procedures(
+        alloc: Global,
+        tree: Tree,
+        procedures: Procedures,
+        limit: usize,
+    ) -> Result<Core, CoreFault>
+        requires { limit ≤ MAX_EVENTS }
+        ensures ok { IfOk result (λ core. core ≡ record { parents = tree.parents; opening = tree.records; procedures = procedures; calls = []; past = []; limit = limit }) }
+        ensures err { IfErr result (λ e. e ≡ fault.Memory) }
+    {
         let Ok(latest) = tree.copy() else {
             return Err(CoreFault::Memory);
         };
@@ -89,7 +103,7 @@ impl Core {
         Ok(Core {
             opening: tree,
             latest,
-            procedures: Procedures::new(alloc),
+            procedures,
             calls: Vec::new(alloc),
             holders,
             unfinished: 0,
@@ -100,11 +114,16 @@ impl Core {
     /// Takes up a procedure under a name, and answers its number, from 0. The first that holds of: 612 where the name
     /// isn't 1 to 32 of ASCII letters, digits and `_`; 611 where a procedure has that name; 613 where there are 256. Else
     /// 690 where memory is refused. A refusal changes nothing.
-    pub fn add_proc(&mut self, alloc: Global, name: &str, procedure: Proc) -> Result<u32, CoreFault>
+    pub fn add_proc(
+        &mut self,
+        alloc: Global,
+        name: &str,
+        procedure: Proc,
+    ) -> Result<u32, NamingFault>
         ensures number { IfOk result (λ n. n ≡ length self.old.procedures) }
         ensures free { IfOk result (λ _. naming_refusal self.old.procedures name.now ≡ None) }
         ensures last { OnOk result (self.new ≡ record self.old { procedures = self.old.procedures ++ record { name = name.now; code = procedure } ∷ [] }) }
-        ensures fault { IfErr result (λ e. e ≢ fault.Memory → naming_refusal self.old.procedures name.now ≡ Some e) }
+        ensures fault { IfErr result (λ e. e ≢ naming.Memory → naming_refusal self.old.procedures name.now ≡ Some e) }
         ensures err { OnErr result (self.new ≡ self.old) }
     {
         self.procedures.add(alloc, name, procedure)

@@ -9,7 +9,6 @@ pub mod call;
 pub mod fault;
 pub mod interleaving;
 pub mod moves;
-pub mod procedures;
 pub mod stepped;
 #[cfg(test)]
 mod tests;

@@ -10,6 +10,7 @@ use std::test::Fail;
 use tl_instr::code::Code;
 use tl_instr::instr::Instr;
 use tl_instr::operand::{Field, NodeRegister, ValueRegister};
+use tl_procedures::fault::NamingFault;
 use tl_protocol::action::Action;
 use tl_tree::record::Record;
 use tl_tree::shape::Shape;
@@ -150,8 +151,8 @@ fn a_name_is_taken_up_once(rt: HostRuntime) -> Result<(), Fail> {
     let alloc = rt.alloc();
     let mut core = core_of(alloc, 16)?;
     let again = core.add_proc(alloc, "store", store(alloc)?);
-    assert_eq!(rt; again, Err(CoreFault::NameTaken));
+    assert_eq!(rt; again, Err(NamingFault::NameTaken));
     let bad = core.add_proc(alloc, "a b", store(alloc)?);
-    assert_eq!(rt; bad, Err(CoreFault::BadName));
+    assert_eq!(rt; bad, Err(NamingFault::BadName));
     Ok(())
 }

@@ -14,6 +14,9 @@ use tl_tree::record::Record;
 /// The most events that a history may be made for.
 pub const MAX_EVENTS: usize = 1_048_576;
 
+/// The most calls whose events a history may have.
+pub const MAX_CALLS: usize = 4_096;
+
 /// What many calls have done, and the places that are reserved for what they may still do.
 ///
 /// A contract sees the events with the latest first, the limit, and how many places are reserved. The events and the

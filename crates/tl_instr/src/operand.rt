@@ -139,6 +139,9 @@ impl Field {
     }
 }
 
+/// The most arguments that a procedure takes.
+pub const MAX_ARGS: usize = 8;
+
 /// How many arguments a procedure takes, 0 to 8.
 #[derive(Clone, Copy, Debug, PartialEq, Eq)]
 pub struct Arity {
@@ -158,10 +161,10 @@ impl Model for Arity {
 impl Arity {
     /// The arity of that number, where there is one.
     pub fn new(number: u8) -> Option<Self>
-        ensures valid { IsSome result ↔ (number ≤ 8) }
+        ensures valid { IsSome result ↔ (number ≤ MAX_ARGS) }
         ensures value { IfSome result (λ a. a ≡ number) }
     {
-        if number <= 8 {
+        if usize::from(number) <= MAX_ARGS {
             Some(Arity { number })
         } else {
             None
@@ -170,7 +173,7 @@ impl Arity {
 
     pub fn number(self) -> u8
         ensures same { result ≡ self }
-        ensures in_range { result ≤ 8 }
+        ensures in_range { result ≤ MAX_ARGS }
     {
         self.number
     }

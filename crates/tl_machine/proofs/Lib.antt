@@ -22,3 +22,4 @@ pub mod Marching
 pub mod Lasting
 pub mod Twins
 pub mod Beginning
+pub mod Along

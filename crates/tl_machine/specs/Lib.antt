@@ -7,3 +7,4 @@ pub mod Stands
 pub mod Wants
 pub mod Turns
 pub mod Outcomes
+pub mod Along

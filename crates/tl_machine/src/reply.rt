@@ -2,8 +2,9 @@
 
 ghost use Rattle.std.specs.Prelude.{◌≡◌, ◌≤◌, length, take};
 
-use crate::call::{CallState, MAX_EMITS};
+use crate::call::CallState;
 use std::marker::Model;
+use tl_budget::limits::MAX_EMITS;
 
 /// The values that a call emitted, in order: up to 32.
 #[derive(Clone, Debug, Drop)]

@@ -4,8 +4,9 @@ ghost use Rattle.std.specs.Prelude.{◌≡◌, ◌↔◌, length, IsOk, IfOk};
 ghost use Rattle.tl_machine.specs.Stands.{Stands};
 ghost use Rattle.tl_machine.specs.Outcomes.{IsStart};
 
-use crate::call::{CallState, MAX_EMITS};
+use crate::call::CallState;
 use crate::fault::WrongArgs;
+use tl_budget::limits::MAX_EMITS;
 use tl_tree::shape::Shape;
 use tl_verify::procedure::Proc;
 

@@ -17,4 +17,6 @@ pub mod Permitted
 pub mod Apart
 pub mod Holders
 pub mod Counts
+pub mod Pasts
+pub mod Inside
 mod Rows

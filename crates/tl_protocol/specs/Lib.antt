@@ -6,3 +6,4 @@ pub mod Order
 pub mod Alone
 pub mod World
 pub mod Holders
+pub mod Nodes

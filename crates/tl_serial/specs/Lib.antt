@@ -1,6 +1,1 @@
-pub mod Faults
-pub mod Line
-pub mod Part
-pub mod Parts
 pub mod Unfinished
-pub mod Way

@@ -8,11 +8,11 @@ ghost use Rattle.tl_protocol.specs.World.{reply_of};
 ghost use Rattle.tl_core.specs.Cores.{world_of};
 ghost use Rattle.tl_serial.specs.Unfinished.{IsLeastUnfinished};
 
-use crate::fault::SerialFault;
-use crate::order::Order;
-use crate::placing::order_of;
 use std::alloc::Global;
 use tl_core::interleaving::Core;
+use tl_order::fault::SerialFault;
+use tl_order::order::Order;
+use tl_order::placing::order_of;
 
 /// The order that the core's history gives, once every call is done. Run alone, one after another along it, the calls
 /// leave the records that there are now, and each gives the reply that it gave.

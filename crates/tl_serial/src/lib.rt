@@ -1,17 +1,14 @@
-//! The serial order that a history gives, and the calls run again along it.
+//! What the serial order of a core's history promises, and the calls run again along it.
 //!
 //! Once the calls of a core are done, the records and the replies are those of the calls run alone, one after another
 //! along this order.
 #![tactic(auto)]
 
 pub mod concluding;
-pub mod fault;
-mod line;
-pub mod order;
-pub mod part;
-mod parts;
-pub mod placing;
 pub mod replaying;
 #[cfg(test)]
 mod tests;
-mod way;
+
+pub use tl_order::fault::SerialFault;
+pub use tl_order::order::Order;
+pub use tl_order::placing::{is_of_shape, order_of};

@@ -4,12 +4,12 @@ ghost use Rattle.std.specs.Prelude.{◌≡◌, ◌<◌, All, IfOk, IfErr, length
 ghost use Rattle.tl_protocol.specs.Alone.{serial};
 ghost use Rattle.tl_core.specs.Cores.{world_of};
 
-use crate::fault::SerialFault;
-use crate::order::Order;
 use std::alloc::Global;
 use tl_core::interleaving::Core;
 use tl_machine::alone_run::alone;
 use tl_machine::reply::Reply;
+use tl_order::fault::SerialFault;
+use tl_order::order::Order;
 use tl_tree::tree::Tree;
 
 /// The calls of the order run alone, one after another, from the opening tree: the tree that they leave, and their

@@ -1,6 +1,6 @@
 -- The end records of the nodes before this one are so.
 use Rattle.std.proofs.Common.{◌<◌, ℕ}
-use Rattle.tl_audit.specs.Clean.{EndsSo}
+use Rattle.tl_trail.specs.Clean.{EndsSo}
 use Rattle.tl_audit.proofs.auditing.check_ends.Given as goal
 
 abbrev pub invariant-loop-node : goal.invariant-loop-node

@@ -3,8 +3,9 @@ use Rattle.std.specs.Prelude.{IfErr}
 use Rattle.std.proofs.lemmas.Result.{IfErr-weaker}
 use Rattle.std.proofs.lemmas.List.{take_all, length-reverse, length-take-le}
 use Rattle.tl_protocol.specs.declared.event.Event.TheVariants.{Admit}
-use Rattle.tl_serial.proofs.Pasts.{past_one_more}
-use Rattle.tl_audit.specs.Clean.{AreRight, IsRight, IsWrong, IsFirstWrong}
+use Rattle.tl_protocol.proofs.Pasts.{past_one_more}
+use Rattle.tl_trail.specs.Clean.{AreRight, IsRight}
+use Rattle.tl_audit.specs.Findings.{IsWrong, IsFirstWrong}
 use Rattle.tl_audit.specs.Watching.{Shows, IsEventOf}
 use Rattle.tl_audit.proofs.Seeing.{event_at, first_wrong}
 use Rattle.tl_audit.proofs.auditing.see_all.Goals as goal

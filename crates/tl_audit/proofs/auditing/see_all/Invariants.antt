@@ -1,6 +1,6 @@
 -- The events so far were right, and were seen.
 use Rattle.std.proofs.Common.{length, take, reverse}
-use Rattle.tl_audit.specs.Clean.{AreRight}
+use Rattle.tl_trail.specs.Clean.{AreRight}
 use Rattle.tl_audit.specs.Watching.{Shows}
 use Rattle.tl_audit.proofs.auditing.see_all.Given as goal
 

@@ -2,7 +2,7 @@ use Rattle.std.proofs.Common.{◌≡◌, ◌<◌, ◌+◌, List, ◌∷◌, [], 
 use Rattle.std.proofs.lemmas.List.{length-map, length-replicate, get_or-replicate}
 use Rattle.tl_protocol.specs.declared.action.Action.{Action}
 use Rattle.tl_protocol.specs.declared.event.Event.TheVariants.{Admit}
-use Rattle.tl_serial.proofs.Pasts.{past_one_more}
+use Rattle.tl_protocol.proofs.Pasts.{past_one_more}
 use Rattle.tl_audit.specs.Genuine.{AreParts, actions_at, lists_of}
 use Rattle.tl_audit.proofs.genuine.by_call.Goals as goal
 

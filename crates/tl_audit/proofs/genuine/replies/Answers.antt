@@ -1,6 +1,6 @@
 use Rattle.std.proofs.Common.{◌≡◌, Some, sym, ap, ◌∙◌}
 use Rattle.std.specs.Cmp.Rules.{signed_items}
-use Rattle.tl_audit.specs.Trails.{call_at}
+use Rattle.tl_trail.specs.Trails.{call_at}
 use Rattle.tl_audit.proofs.genuine.replies.Goals as goal
 
 pub returns-in-Some : goal.returns-in-Some

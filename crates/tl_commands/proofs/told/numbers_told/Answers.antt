@@ -3,7 +3,8 @@ use Rattle.std.proofs.lemmas.List.{take_all}
 use Rattle.serde_json.specs.Data.{array, string}
 use Rattle.serde_json.specs.View.{view, items_of}
 use Rattle.serde_json.proofs.Views.{view-Array}
-use Rattle.tl_audit.specs.Writing.{natural}
+use Rattle.tl_forms.specs.Lists.{natural}
+use Rattle.tl_forms.specs.Letters.{text_of}
 use Rattle.tl_commands.proofs.Texts.{views_after}
 use Rattle.tl_commands.proofs.told.numbers_told.Goals as goal
 
@@ -14,8 +15,8 @@ loop-number-init c =
 pub loop-number-preserved : goal.loop-number-preserved
 loop-number-preserved c =
     ap (map view) c.in_ok-push-2.ensures.items
-    ∙ views_after (string c.args.letter.now) natural c.loop-number.items.items c.from.result c.args.numbers.now c.loop-number.number-index 0 (omega arith) c.loop-number.invariant c.from.ensures
+    ∙ views_after (string (text_of c.args.letter)) natural c.loop-number.items.items c.from.result c.args.numbers.now c.loop-number.number-index 0 (omega arith) c.loop-number.invariant c.from.ensures
 
 pub returns : goal.returns
 returns c =
-    view-Array c.loop-number.items ∙ ap (λ ds. array (items_of ds)) (c.loop-number.invariant ∙ ap (λ ns. string c.args.letter.now ∷ map natural ns) (take_all c.loop-number.number-index c.args.numbers.now (omega arith)))
+    view-Array c.loop-number.items ∙ ap (λ ds. array (items_of ds)) (c.loop-number.invariant ∙ ap (λ ns. string (text_of c.args.letter) ∷ map natural ns) (take_all c.loop-number.number-index c.args.numbers.now (omega arith)))

@@ -8,8 +8,8 @@ use Rattle.tl_protocol.proofs.Placed.{placed-agrees}
 use Rattle.tl_protocol.proofs.Reached.{serial-agreeing}
 use Rattle.tl_protocol.proofs.Standstill.{sound_history}
 use Rattle.tl_core.specs.Cores.{world_of}
-use Rattle.tl_serial.specs.Parts.{IsOfNodes}
-use Rattle.tl_serial.proofs.Inside.{sound_inside, order_known}
+use Rattle.tl_protocol.specs.Nodes.{IsOfNodes}
+use Rattle.tl_protocol.proofs.Inside.{sound_inside, order_known}
 use Rattle.tl_serial.proofs.concluding.conclude.Goals as goal
 
 pub order_of-requires : goal.order_of-requires

@@ -5,7 +5,7 @@ use Rattle.std.proofs.lemmas.List.{get_or_read}
 use Rattle.tl_tree.specs.Records.{record_at}
 use Rattle.tl_protocol.specs.History.{record_now}
 use Rattle.tl_protocol.proofs.Records.{record_at-records_now, length-records_now}
-use Rattle.tl_audit.specs.Clean.{FindsNow}
+use Rattle.tl_trail.specs.Clean.{FindsNow}
 use Rattle.tl_audit.specs.Watching.{IsEventOf}
 use Rattle.tl_audit.proofs.watch.Watch.finds_now.Goals as goal
 

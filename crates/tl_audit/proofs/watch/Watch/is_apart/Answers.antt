@@ -3,8 +3,8 @@ use Rattle.std.specs.Prelude.{IsTrue, ◌↔◌, nat_eq, get_or}
 use Rattle.std.proofs.lemmas.List.{get_or_read}
 use Rattle.tl_protocol.specs.Holders.{holder_of}
 use Rattle.tl_protocol.proofs.Holders.{nobody_holds}
-use Rattle.tl_serial.specs.Parts.{IsOfNodes}
-use Rattle.tl_audit.specs.Clean.{IsApart}
+use Rattle.tl_protocol.specs.Nodes.{IsOfNodes}
+use Rattle.tl_trail.specs.Clean.{IsApart}
 use Rattle.tl_audit.proofs.Watching.{right_legal, holder_apart}
 use Rattle.tl_audit.proofs.watch.Watch.is_apart.Goals as goal
 

@@ -1,6 +1,6 @@
 use Rattle.std.proofs.Common.{sym, subst}
 use Rattle.std.specs.Prelude.{IsTrue, ◌↔◌}
-use Rattle.tl_audit.specs.Clean.{KeepsRules}
+use Rattle.tl_trail.specs.Clean.{KeepsRules}
 use Rattle.tl_audit.proofs.watch.Watch.keeps_rules.Goals as goal
 
 pub returns-then-is_open : goal.returns-then-is_open

@@ -1,5 +1,5 @@
 use Rattle.std.proofs.Common.{rules, ◌≡◌, false, None, length, refl, ap, ◌∙◌, subst, arith, replicate}
-use Rattle.tl_serial.specs.Parts.{AreOfNodes}
+use Rattle.tl_order.specs.Parts.{AreOfNodes}
 use Rattle.tl_audit.proofs.Watching.{nothing_seen}
 use Rattle.tl_audit.proofs.watch.Watch.new.Goals as goal
 

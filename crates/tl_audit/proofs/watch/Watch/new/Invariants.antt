@@ -1,6 +1,6 @@
 -- As many parts, in which nothing was done.
 use Rattle.std.proofs.Common.{◌≡◌, [], length}
-use Rattle.tl_serial.specs.Parts.{AreOfNodes, Show}
+use Rattle.tl_order.specs.Parts.{AreOfNodes, Show}
 use Rattle.tl_audit.proofs.watch.Watch.new.Given as goal
 
 abbrev pub invariant-loop-call : goal.invariant-loop-call

@@ -4,8 +4,9 @@ use Rattle.std.proofs.lemmas.List.{get_or_read, length-set}
 use Rattle.std.proofs.lemmas.List.Elements.{All-cons}
 use Rattle.tl_protocol.specs.declared.event.Event.TheVariants.{Lock, Free}
 use Rattle.tl_protocol.specs.History.{part_of}
-use Rattle.tl_serial.specs.Part.{IsPart}
-use Rattle.tl_serial.specs.Parts.{IsOfNodes, AreOfNodes, no_marks}
+use Rattle.tl_order.specs.Part.{IsPart}
+use Rattle.tl_protocol.specs.Nodes.{IsOfNodes}
+use Rattle.tl_order.specs.Parts.{AreOfNodes, no_marks}
 use Rattle.tl_audit.specs.Watching.{IsEventOf}
 use Rattle.tl_audit.proofs.Watching.{begun-lock, begun-free, parts-lock, parts-free, nodes-set, holders-lock, holders-free}
 use Rattle.tl_audit.proofs.watch.Watch.note.Goals as goal

@@ -4,8 +4,8 @@ use Rattle.std.proofs.lemmas.List.{get_or_read}
 use Rattle.std.proofs.lemmas.Grind.{common_steps}
 use Rattle.tl_protocol.specs.Actions.{held}
 use Rattle.tl_protocol.specs.History.{part_of}
-use Rattle.tl_serial.specs.Part.{IsPart, node_count}
-use Rattle.tl_serial.specs.Parts.{no_marks}
+use Rattle.tl_order.specs.Part.{IsPart, node_count}
+use Rattle.tl_order.specs.Parts.{no_marks}
 use Rattle.tl_audit.proofs.Watching.{none_held}
 use Rattle.tl_audit.proofs.watch.Watch.permits_end.Goals as goal
 

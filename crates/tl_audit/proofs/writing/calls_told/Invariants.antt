@@ -1,9 +1,0 @@
-use Rattle.std.proofs.Common.{◌≡◌, map, take}
-use Rattle.std.specs.Prelude.{All}
-use Rattle.serde_json.specs.View.{view}
-use Rattle.tl_audit.specs.Writing.{call_data, FitsText}
-use Rattle.tl_audit.proofs.writing.calls_told.Given as goal
-
-abbrev pub invariant-loop-call : goal.invariant-loop-call
-invariant-loop-call l =
-    (map view l.items.items ≡ map (call_data l.trail.procedures) (take l.call l.trail.calls)) × All FitsText (take l.call l.trail.calls)

@@ -1,0 +1,52 @@
+-- What is wrong with a trail, first.
+use Rattle.std.specs.Prelude.{◌≡◌, ℕ, ◌<◌, true, false, List, ◌∷◌, ◌++◌, length}
+use Rattle.tl_tree.specs.Records.{Records}
+use Rattle.tl_protocol.specs.declared.event.Event.{Event}
+use Rattle.tl_protocol.specs.History.{is_done}
+use Rattle.tl_trail.specs.Trails.{TrailValue}
+use Rattle.tl_trail.specs.Clean.{KeepsRules, IsApart, FindsNow, AreRight, AreDone, IsGenuine, RepliesSo, EndsSo}
+use Rattle.tl_audit.specs.declared.fault.AuditFault.{AuditFault}
+use Rattle.tl_audit.specs.declared.fault.AuditFault.TheVariants.{RuleBroken, Overlap, WrongFound, NotGenuine, Unfinished, WrongEnd, WrongReply, Memory}
+
+-- what is wrong with the event first; it has the number of events before it
+abbrev pub IsWrong : List ℕ → Records → List Event → Event → AuditFault → Type 0
+IsWrong parents opening past e (RuleBroken n) = (n ≡ length past) × ¬ KeepsRules parents past e
+IsWrong parents opening past e (Overlap n) = (n ≡ length past) × KeepsRules parents past e × ¬ IsApart past e
+IsWrong parents opening past e (WrongFound n) =
+    (n ≡ length past) × KeepsRules parents past e × IsApart past e × ¬ FindsNow opening past e
+IsWrong parents opening past e _ = ⊥
+
+-- the first event with which something is wrong
+pub record IsFirstWrong (t : TrailValue) (f : AuditFault) : Type 0 where
+  pub later : List Event
+  pub event : Event
+  pub before : List Event
+  pub split : t.past ≡ later ++ event ∷ before
+  pub right : AreRight t.parents t.opening before
+  pub wrong : IsWrong t.parents t.opening before event f
+
+-- the events are right, and call c is the least that isn't done
+pub record IsUnfinished (t : TrailValue) (c : ℕ) : Type 0 where
+  pub right : AreRight t.parents t.opening t.past
+  pub inside : c < length t.calls
+  pub not_done : is_done c t.past ≡ false
+  pub least : (d : ℕ) → d < c → is_done d t.past ≡ true
+
+-- the events are right, each call is done, and so far each is genuine and has its reply
+pub record AreSo (t : TrailValue) (count : ℕ) : Type 0 where
+  pub right : AreRight t.parents t.opening t.past
+  pub done : AreDone t
+  pub genuine : (c : ℕ) → c < count → IsGenuine t c
+  pub replies : (c : ℕ) → c < count → RepliesSo t c
+
+-- the first thing that is wrong: of the events, else of their ends, else of the calls, else of the records in the end
+abbrev pub IsFirst : TrailValue → AuditFault → Type 0
+IsFirst t (RuleBroken n) = IsFirstWrong t (RuleBroken n)
+IsFirst t (Overlap n) = IsFirstWrong t (Overlap n)
+IsFirst t (WrongFound n) = IsFirstWrong t (WrongFound n)
+IsFirst t (Unfinished c) = IsUnfinished t c
+IsFirst t (NotGenuine c) = AreSo t c × (c < length t.calls) × ¬ IsGenuine t c
+IsFirst t (WrongReply c) = AreSo t c × (c < length t.calls) × IsGenuine t c × ¬ RepliesSo t c
+IsFirst t (WrongEnd x) =
+    AreSo t (length t.calls) × (x < length t.parents) × ¬ EndsSo t x × ((y : ℕ) → y < x → EndsSo t y)
+IsFirst t Memory = ⊥

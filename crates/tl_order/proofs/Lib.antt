@@ -1,0 +1,7 @@
+pub mod Marks
+pub mod Lines
+pub mod Coming
+pub mod Holding
+pub mod Ways
+pub mod Holders
+mod Rows

@@ -1,0 +1,187 @@
+// The order that a history gives.
+
+ghost use Rattle.std.specs.Prelude.{◌≡◌, ℕ, ◌^◌, ◌<◌, ◌≤◌, List, [], ◌∷◌, length, insert, All, IsTrue, ◌↔◌, IfOk, IfErr, OnOk};
+ghost use Rattle.tl_tree.specs.Shape.{IsTree};
+ghost use Rattle.tl_protocol.specs.declared.event.Event.{Event as EventValue};
+ghost use Rattle.tl_protocol.specs.Actions.{may_come};
+ghost use Rattle.tl_protocol.specs.History.{caller, part_of, past_of};
+ghost use Rattle.tl_protocol.specs.Order.{put_before, placed, placed_after};
+ghost use Rattle.tl_protocol.specs.Nodes.{IsOfNodes};
+ghost use Rattle.tl_order.specs.Parts.{AreOfNodes, Show, ShowAll};
+ghost use Rattle.tl_order.specs.Way.{IsWay};
+
+use crate::fault::SerialFault;
+use crate::line::Line;
+use crate::order::Order;
+use crate::parts::Parts;
+use crate::way::Way;
+use std::alloc::{AllocError, Global};
+use tl_history::history::History;
+use tl_protocol::event::Event;
+use tl_tree::shape::Shape;
+
+/// The order that a history gives, event by event.
+///
+/// At a call's first lock, of x, the call is put in just before the first call that may still come to x at that moment,
+/// or at the end if there is none. A call that is done without a lock goes to the end. A call that stands isn't put in
+/// again, and nothing else moves. So any history has an order, also one that breaks the rules.
+///
+/// 690 where memory is refused.
+pub fn order_of(alloc: Global, history: &History, shape: &Shape) -> Result<Order, SerialFault>
+    requires { All (IsOfNodes (length shape.now)) history.now.past }
+    ensures ok { IfOk result (λ o. o ≡ placed shape.now history.now.past) }
+    ensures err { IfErr result (λ e. e ≡ SerialFault.Memory) }
+{
+    let mut line = Line::new(alloc);
+    let mut parts = Parts::new(alloc);
+    let mut way = Way::new(alloc, usize::from(shape.node_count()))?;
+    place_all(
+        alloc,
+        &mut line,
+        &mut parts,
+        &mut way,
+        shape,
+        history.events(),
+    )?;
+    Ok(line.into_order())
+}
+
+// Puts the calls of the events in order, where there is no call yet.
+fn place_all(
+    alloc: Global,
+    line: &mut Line,
+    parts: &mut Parts,
+    way: &mut Way,
+    shape: &Shape,
+    events: &[Event],
+) -> Result<(), AllocError>
+    requires line { line.old ≡ record { order = []; count = 0 } }
+    requires parts { parts.old ≡ [] }
+    requires marks { length way.old ≡ length shape.now }
+    requires inside { All (IsOfNodes (length shape.now)) events.now }
+    ensures { OnOk result (line.new.order ≡ placed shape.now (past_of events.now)) }
+{
+    let nodes = usize::from(shape.node_count());
+    for event in events {
+        make_room(alloc, line, parts, nodes, caller(event))?;
+        place(line, parts, way, shape, event)?;
+        parts.note(event)?;
+    }
+    Ok(())
+}
+
+// Makes the calls up to this one known.
+fn make_room(
+    alloc: Global,
+    line: &mut Line,
+    parts: &mut Parts,
+    nodes: usize,
+    call: u32,
+) -> Result<(), AllocError>
+    requires calls { length parts.old ≡ line.old.count }
+    ensures order { OnOk result (line.new.order ≡ line.old.order) }
+    ensures calls { OnOk result (length parts.new ≡ line.new.count) }
+    ensures call { OnOk result (call < line.new.count) }
+    ensures nodes { OnOk result (AreOfNodes nodes parts.old → AreOfNodes nodes parts.new) }
+    ensures more { OnOk result ((past : List EventValue) → ShowAll parts.old past → ShowAll parts.new past) }
+{
+    for _call in parts.len()..call as usize + 1 {
+        parts.add(alloc, nodes)?;
+        line.add()?;
+    }
+    Ok(())
+}
+
+/// Whether each lock and each free of the history is of a node of the shape.
+pub fn is_of_shape(history: &History, shape: &Shape) -> bool
+    ensures { IsTrue result ↔ All (IsOfNodes (length shape.now)) history.now.past }
+{
+    for event in history.events() {
+        if !is_of_nodes(event, shape.node_count()) {
+            return false;
+        }
+    }
+    true
+}
+
+// Whether the node of the event, where it has one, is one of the first so many.
+fn is_of_nodes(event: &Event, nodes: u16) -> bool
+    ensures { IsTrue result ↔ IsOfNodes nodes event.now }
+{
+    match *event {
+        Event::Lock { node, .. } | Event::Free { node, .. } => node < nodes,
+        Event::Admit { .. } | Event::Done { .. } => true,
+    }
+}
+
+// The call whose event it is.
+fn caller(event: &Event) -> u32
+    ensures { result ≡ caller event.now }
+{
+    match *event {
+        Event::Admit { call }
+        | Event::Lock { call, .. }
+        | Event::Free { call, .. }
+        | Event::Done { call } => call,
+    }
+}
+
+// Puts the event's call in order, where it is its call's first lock, or its end without a lock.
+fn place(
+    line: &mut Line,
+    parts: &Parts,
+    way: &mut Way,
+    shape: &Shape,
+    event: &Event,
+) -> Result<(), AllocError>
+    requires tree { IsTree shape.now }
+    requires calls { length parts.now ≡ line.old.count }
+    requires nodes { AreOfNodes (length shape.now) parts.now }
+    requires marks { length way.old ≡ length shape.now }
+    requires caller { caller event.now < line.old.count }
+    requires node { IsOfNodes (length shape.now) event.now }
+    ensures marks { length way.new ≡ length way.old }
+    ensures count { OnOk result (line.new.count ≡ line.old.count) }
+    ensures ok { OnOk result ((past : List EventValue) → Show parts.now past
+        → line.new.order ≡ placed_after shape.now past event.now line.old.order) }
+{
+    let call = caller(event);
+    if line.stands(call) {
+        return Ok(());
+    }
+    match *event {
+        Event::Lock { node, .. } => {
+            way.mark(shape, node);
+            let first = first_coming(line.calls(), parts, shape, node, way);
+            way.clear(shape, node);
+            line.put_in(first, call)
+        }
+        Event::Done { .. } => line.put_in(line.calls().len(), call),
+        Event::Admit { .. } | Event::Free { .. } => Ok(()),
+    }
+}
+
+// The place of the first call in order that may still come to the node, to which the way leads, or the end.
+fn first_coming(order: &[u32], parts: &Parts, shape: &Shape, node: u16, way: &Way) -> usize
+    requires calls { All (λ c. c < length parts.now) order.now }
+    requires tree { IsTree shape.now }
+    requires nodes { AreOfNodes (length shape.now) parts.now }
+    requires node { node < length shape.now }
+    requires marks { length way.now ≡ length shape.now }
+    requires way { IsWay shape.now node way.now }
+    ensures within { result ≤ length order.now }
+    ensures first { (past : List EventValue) (call : ℕ) → Show parts.now past
+        → put_before (λ c. may_come shape.now (part_of c past) node) call order.now
+        ≡ insert order.now result call }
+{
+    // Mostly none may come, and only the few calls that hold a node need be asked to see that.
+    if !parts.any_may_come(shape, node, way) {
+        return order.len();
+    }
+    for (place, call) in order.iter().enumerate() {
+        if parts.may_come(*call, shape, node, way) {
+            return place;
+        }
+    }
+    order.len()
+}

@@ -1,0 +1,51 @@
+// Why a name isn't taken up.
+
+ghost use Rattle.std.specs.Prelude.{◌≡◌};
+ghost use Rattle.tl_procedures.specs.declared.fault.NamingFault.TheVariants.{Memory};
+
+use arrayvec::ArrayVec;
+use std::alloc::AllocError;
+use thiserror::Error;
+
+/// Why a procedure isn't taken up under a name.
+#[derive(Clone, Copy, Debug, PartialEq, Eq, Error)]
+pub enum NamingFault {
+    /// 611: a procedure has that name.
+    #[error("a procedure of that name is there already")]
+    NameTaken,
+    /// 612: a name is 1 to 32 of ASCII letters, digits and `_`.
+    #[error("not a name")]
+    BadName,
+    /// 613: there are 256 procedures.
+    #[error("too many procedures")]
+    TooManyProcedures,
+    /// 690: memory was refused.
+    #[error("out of memory")]
+    Memory,
+}
+
+impl NamingFault {
+    ghost use Rattle.tl_procedures.specs.Faults.{numbers_of};
+
+    /// The fault's number.
+    pub fn numbers(&self) -> ArrayVec<u64, 3>
+        ensures { result.items ≡ numbers_of self.now }
+    {
+        let mut numbers = ArrayVec::new();
+        numbers.push(match self {
+            NamingFault::NameTaken => 611,
+            NamingFault::BadName => 612,
+            NamingFault::TooManyProcedures => 613,
+            NamingFault::Memory => 690,
+        });
+        numbers
+    }
+}
+
+impl From<AllocError> for NamingFault {
+    ghost from_gives = { λ _ e. e ≡ Memory };
+
+    fn from(_refused: AllocError) -> NamingFault {
+        NamingFault::Memory
+    }
+}

@@ -1,0 +1,179 @@
+// Procedures under their names.
+
+ghost use Rattle.std.specs.Prelude.{◌≡◌, ◌≢◌, ◌≤◌, ◌<◌, ◌∷◌, ◌++◌, [], length, None, Some, IfOk, OnOk, OnErr, IfErr, slice_get, option_map, IsTrue, ◌↔◌, get_or};
+ghost use Rattle.std.specs.Arc.{arc_value};
+ghost use Rattle.tl_procedures.specs.Names.{number_of, is_name, naming_refusal, no_procedure, AreFreeAfter};
+ghost use Rattle.tl_procedures.specs.declared.fault.NamingFault.TheVariants as fault;
+
+use crate::fault::NamingFault;
+use indexmap::IndexMap;
+use std::alloc::{AllocError, Global};
+use std::marker::Model;
+use std::sync::Arc;
+use tl_verify::procedure::Proc;
+
+/// How many procedures there are at most.
+pub const MAX_PROCEDURES: usize = 256;
+
+/// Procedures under their names, numbered in the order in which they came.
+#[derive(Debug, Drop)]
+pub struct Procedures {
+    by_name: IndexMap<String, Arc<Proc>>,
+}
+
+impl Model for Procedures {
+    ghost use Rattle.std.specs.Prelude.{List, [], map, length, ◌≤◌, string_bytes};
+    ghost use Rattle.std.specs.Arc.{arc_value};
+    ghost use Rattle.tl_procedures.specs.Names.{Named, AreFreeAfter};
+
+    ghost Value = { List Named };
+
+    ghost view = { λ p. map (λ e. record { name = string_bytes e.0; code = arc_value e.1 }) p.by_name.entries };
+
+    ghost invariant = { λ p. (length p.by_name.entries ≤ 256)
+        × AreFreeAfter [] (map (λ e. record { name = string_bytes e.0; code = arc_value e.1 }) p.by_name.entries) };
+}
+
+impl Procedures {
+    pub fn new(alloc: Global) -> Procedures
+        ensures { result ≡ [] }
+    {
+        Procedures {
+            by_name: IndexMap::new(alloc),
+        }
+    }
+
+    pub fn len(&self) -> usize
+        ensures value { result ≡ length self.now }
+        ensures few { result ≤ 256 }
+        ensures free { AreFreeAfter [] self.now }
+    {
+        self.by_name.len()
+    }
+
+    /// The number of the procedure of that name.
+    pub fn number_of(&self, name: &str) -> Option<u32>
+        ensures { result ≡ number_of self.now name.now }
+    {
+        match self.by_name.get_index_of(name) {
+            Some(number) => Some(number as u32),
+            None => None,
+        }
+    }
+
+    /// The procedure of that number.
+    pub fn get(&self, number: u32) -> &Arc<Proc>
+        requires { number < length self.now }
+        ensures { arc_value result.now ≡ (get_or self.now number no_procedure).code }
+    {
+        match self.by_name.get_index(number as usize) {
+            Some((_, procedure)) => procedure,
+            None => unreachable!(),
+        }
+    }
+
+    /// The name of the procedure of that number.
+    pub fn name(&self, number: u32) -> &str
+        requires { number < length self.now }
+        ensures { result.now ≡ (get_or self.now number no_procedure).name }
+    {
+        match self.by_name.get_index(number as usize) {
+            Some((name, _)) => name.as_str(),
+            None => unreachable!(),
+        }
+    }
+
+    /// Puts a procedure last, under a name of its own, and answers its number. 612, 611, 613, 690.
+    pub fn add(&mut self, alloc: Global, name: &str, procedure: Proc) -> Result<u32, NamingFault>
+        ensures number { IfOk result (λ n. n ≡ length self.old) }
+        ensures free { IfOk result (λ _. naming_refusal self.old name.now ≡ None) }
+        ensures last { OnOk result (self.new ≡ self.old ++ record { name = name.now; code = procedure } ∷ []) }
+        ensures fault { IfErr result (λ e. e ≢ fault.Memory → naming_refusal self.old name.now ≡ Some e) }
+        ensures err { OnErr result (self.new ≡ self.old) }
+    {
+        self.find_free(name)?;
+        let Ok(procedure) = Arc::new(alloc, procedure) else {
+            return Err(NamingFault::Memory);
+        };
+        self.put_last(alloc, name, procedure)
+    }
+
+    /// The same with a procedure that others have too.
+    pub fn add_shared(
+        &mut self,
+        alloc: Global,
+        name: &str,
+        procedure: &Arc<Proc>,
+    ) -> Result<u32, NamingFault>
+        ensures number { IfOk result (λ n. n ≡ length self.old) }
+        ensures free { IfOk result (λ _. naming_refusal self.old name.now ≡ None) }
+        ensures last { OnOk result (self.new ≡ self.old ++ record { name = name.now; code = arc_value procedure.now } ∷ []) }
+        ensures fault { IfErr result (λ e. e ≢ fault.Memory → naming_refusal self.old name.now ≡ Some e) }
+        ensures err { OnErr result (self.new ≡ self.old) }
+    {
+        self.find_free(name)?;
+        self.put_last(alloc, name, Arc::try_clone(procedure)?)
+    }
+
+    /// The same procedures under the same names. None of the names is refused, since each was free where it came.
+    pub fn copy(&self, alloc: Global) -> Result<Procedures, AllocError>
+        ensures { IfOk result (λ p. p ≡ self.now) }
+    {
+        let mut copy = Procedures::new(alloc);
+        for number in 0..self.len() as u32 {
+            let Ok(_) = copy.add_shared(alloc, self.name(number), self.get(number)) else {
+                return Err(AllocError);
+            };
+        }
+        Ok(copy)
+    }
+
+    // Whether a procedure may be put last under the name: 612, 611, 613.
+    fn find_free(&self, name: &str) -> Result<(), NamingFault>
+        ensures free { OnOk result (naming_refusal self.now name.now ≡ None) }
+        ensures fault { IfErr result (λ e. naming_refusal self.now name.now ≡ Some e) }
+    {
+        if !is_name(name.as_bytes()) {
+            return Err(NamingFault::BadName);
+        }
+        if self.number_of(name).is_some() {
+            return Err(NamingFault::NameTaken);
+        }
+        if self.len() >= MAX_PROCEDURES {
+            return Err(NamingFault::TooManyProcedures);
+        }
+        Ok(())
+    }
+
+    // Puts a procedure last, under a name that is free.
+    fn put_last(
+        &mut self,
+        alloc: Global,
+        name: &str,
+        procedure: Arc<Proc>,
+    ) -> Result<u32, NamingFault>
+        requires { naming_refusal self.old name.now ≡ None }
+        ensures number { IfOk result (λ n. n ≡ length self.old) }
+        ensures last { OnOk result (self.new ≡ self.old ++ record { name = name.now; code = arc_value procedure } ∷ []) }
+        ensures fault { IfErr result (λ e. e ≡ fault.Memory) }
+        ensures err { OnErr result (self.new ≡ self.old) }
+    {
+        let number = self.len();
+        let name = String::from_str(alloc, name)?;
+        match self.by_name.insert(name, procedure) {
+            Ok(_) => Ok(number as u32),
+            Err(_) => Err(NamingFault::Memory),
+        }
+    }
+}
+
+// A name is 1 to 32 of ASCII letters, digits and `_`.
+fn is_name(name: &[u8]) -> bool
+    ensures { result ≡ is_name name.now }
+{
+    !name.is_empty()
+        && name.len() <= 32
+        && name
+            .iter()
+            .all(|byte| byte.is_ascii_alphanumeric() || *byte == b'_')
+}

@@ -1,0 +1,99 @@
+// The trail of a core.
+
+ghost use Rattle.std.specs.Prelude.{◌≡◌, ℕ, ◌<◌, ◌≤◌, ◌↔◌, length, map, option_map, IfOk, IfErr};
+ghost use Rattle.tl_protocol.specs.History.{AllDone, records_now};
+ghost use Rattle.tl_trail.specs.Trails.{call_value};
+ghost use Rattle.tl_trail.specs.Clean.{Clean};
+ghost use Rattle.tl_record.specs.Recording.{told_call, trail_value, IsCoreCall};
+ghost use Rattle.tl_trail.specs.declared.fault.TrailFault.{TrailFault};
+
+use arrayvec::ArrayVec;
+use std::alloc::Global;
+use tl_budget::limits::MAX_EMITS;
+use tl_core::interleaving::Core;
+use tl_history::history::{History, MAX_EVENTS};
+use tl_trail::fault::TrailFault;
+use tl_trail::trail::{Trail, TrailCall};
+
+/// What the calls of a core have done so far. While a call is unfinished it has no reply, and the trail isn't clean; once
+/// all are done, nothing is wrong with it. 790 where memory is refused.
+pub fn trail_of(alloc: Global, core: &Core) -> Result<Trail, TrailFault>
+    ensures trail { IfOk result (λ t. t ≡ trail_value core.now) }
+    ensures clean { IfOk result (λ t. Clean t ↔ AllDone core.now.past) }
+    ensures err { IfErr result (λ e. e ≡ TrailFault.Memory) }
+{
+    // The core's world is sound, and its calls are at most 4,096: here a proof learns that.
+    core.is_sound();
+    let calls = calls_of(alloc, core)?;
+    let Ok(opening) = core.opening().copy() else {
+        return Err(TrailFault::Memory);
+    };
+    let procedures = core.procedures().copy(alloc)?;
+    let history = history_of(alloc, core.history())?;
+    let ends = Vec::from_slice(alloc, core.tree().records())?;
+    Ok(Trail::new(opening, procedures, calls, history, ends))
+}
+
+// The calls, by number.
+fn calls_of(alloc: Global, core: &Core) -> Result<Vec<TrailCall>, TrailFault>
+    ensures calls { IfOk result (λ calls. map call_value calls.items ≡ (trail_value core.now).calls) }
+    ensures each { IfOk result (λ _. (c : ℕ) → c < length core.now.calls → IsCoreCall core.now c) }
+    ensures few { length core.now.calls ≤ 4096 }
+    ensures err { IfErr result (λ e. e ≡ TrailFault.Memory) }
+{
+    let count = core.calls();
+    let mut calls = Vec::with_capacity(alloc, count)?;
+    for call in 0..count as u32 {
+        calls.push_reserved(call_of(core, call));
+    }
+    Ok(calls)
+}
+
+// What was asked of a call, and what it answered.
+fn call_of(core: &Core, call: u32) -> TrailCall
+    requires { call < length core.now.calls }
+    ensures told { call_value result ≡ told_call core.now call }
+    ensures of_core { IsCoreCall core.now call }
+{
+    let (procedure, args) = core.request(call);
+    // The code is accepted, and has at most eight arguments, by its type: here a proof learns that.
+    let _arity = core.proc(procedure).code().arity();
+    let mut kept = ArrayVec::new();
+    let Ok(()) = kept.try_extend_from_slice(args) else {
+        unreachable!()
+    };
+    TrailCall {
+        procedure,
+        args: kept,
+        reply: reply_of(core, call),
+    }
+}
+
+// What a call answered, once it is done.
+fn reply_of(core: &Core, call: u32) -> Option<ArrayVec<i64, MAX_EMITS>>
+    requires { call < length core.now.calls }
+    ensures { option_map (λ r. r.items) result ≡ (told_call core.now call).reply }
+{
+    let reply = core.reply(call)?;
+    let mut told = ArrayVec::new();
+    let Ok(()) = told.try_extend_from_slice(reply.values()) else {
+        unreachable!()
+    };
+    Some(told)
+}
+
+// The same events. There is room for them, since no history has more.
+fn history_of(alloc: Global, history: &History) -> Result<History, TrailFault>
+    ensures past { IfOk result (λ copy. copy.past ≡ history.now.past) }
+    ensures err { IfErr result (λ e. e ≡ TrailFault.Memory) }
+{
+    let events = history.events();
+    let mut copy = History::new(alloc, MAX_EVENTS);
+    let Ok(()) = copy.reserve(events.len()) else {
+        return Err(TrailFault::Memory);
+    };
+    for event in events {
+        copy.append(*event);
+    }
+    Ok(copy)
+}

@@ -1,9 +1,0 @@
-pub mod Marks
-pub mod Lines
-pub mod Coming
-pub mod Holding
-pub mod Ways
-pub mod Pasts
-pub mod Inside
-pub mod Holders
-mod Rows

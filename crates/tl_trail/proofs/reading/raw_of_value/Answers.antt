@@ -1,0 +1,19 @@
+use Rattle.std.proofs.Common.{rules, ◌≡◌, ◌≢◌, Option, option_map, option_and_then, sym, subst}
+use Rattle.std.proofs.lemmas.Result.{err_from_is_err_and}
+use Rattle.serde_json.specs.View.{view}
+use Rattle.tl_tree.specs.Reading.{form_of as tree_form_of}
+use Rattle.tl_trail.specs.declared.fault.TrailFault.TheVariants.{Memory}
+use Rattle.tl_trail.specs.Reading.{parts_of, form_of_parts, TrailForm}
+use Rattle.tl_trail.specs.Raw.{form_with, IsUnread}
+use Rattle.tl_trail.proofs.HalfRead.{unread}
+use Rattle.tl_trail.proofs.reading.raw_of_value.Goals as goal
+
+pub returns-in_err-tree-clause-fault : goal.returns-in_err-tree-clause-fault
+returns-in_err-tree-clause-fault c =
+    let members = c.in-Some.members in
+    let raw = c.in-Some-2.raw in
+    let formed : option_and_then form_of_parts (parts_of (view c.args.value.now)) ≡ option_map (form_with raw) (tree_form_of (view members.tree.now)) = search rules in
+    let p = err_from_is_err_and c.from_residual-in_err-tree.result c.from_residual-in_err-tree.ensures.1 in
+    let wrong : p.0 ≢ Memory → IsUnread (option_and_then form_of_parts (parts_of (view c.args.value.now))) p.0 =
+    λ ne. subst (λ (o : Option TrailForm). IsUnread o p.0) (sym formed) (unread (tree_form_of (view members.tree.now)) raw c.in_err-tree.field-0.0 p.0 c.in_err-tree.ensures.fault p.2 ne) in
+    rw (p.1) wrong

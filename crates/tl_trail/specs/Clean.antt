@@ -1,0 +1,74 @@
+-- What it is for a trail to have nothing wrong.
+use Rattle.std.specs.Prelude.{◌≡◌, ◌≢◌, ℕ, ◌<◌, true, false, List, [], ◌∷◌, ◌++◌, length, Some}
+use Rattle.tl_tree.specs.Records.{Records, record_at}
+use Rattle.tl_protocol.specs.declared.action.Action.TheVariants as A
+use Rattle.tl_protocol.specs.declared.event.Event.{Event}
+use Rattle.tl_protocol.specs.declared.event.Event.TheVariants.{Admit, Lock, Free, Done}
+use Rattle.tl_protocol.specs.Actions.{held, locks_and_frees, Permitted}
+use Rattle.tl_protocol.specs.Alone.{all_taken}
+use Rattle.tl_protocol.specs.History.{part_of, is_done, MayHappen, record_now}
+use Rattle.tl_trail.specs.Trails.{TrailValue, call_at, found_alone}
+
+-- ---- one event, after those before it
+
+-- the protocol permits what the event's call does
+abbrev pub IsPermitted : List ℕ → List Event → Event → Type 0
+IsPermitted parents past (Admit c) = Unit {0}
+IsPermitted parents past (Lock x c found) = Permitted parents (part_of c past) (A.Lock x found)
+IsPermitted parents past (Free x c left) = Permitted parents (part_of c past) (A.Free x left)
+IsPermitted parents past (Done c) = Permitted parents (part_of c past) A.End
+
+-- An admission has the next number, and all else is of a call that is open. A lock is its call's first or comes under a
+-- held parent, and is of a node that the call hasn't locked; a free is of a node that it holds; at its end it holds none.
+pub record KeepsRules (parents : List ℕ) (past : List Event) (e : Event) : Type 0 where
+  pub may_happen : MayHappen past e
+  pub permitted : IsPermitted parents past e
+
+-- a lock is of a node that no other call holds
+abbrev pub IsApart : List Event → Event → Type 0
+IsApart past (Lock x c found) = (d : ℕ) → d ≢ c → held (part_of d past) x ≡ false
+IsApart past _ = Unit {0}
+
+-- a lock finds the record that was left last
+abbrev pub FindsNow : Records → List Event → Event → Type 0
+FindsNow opening past (Lock x c found) = found ≡ record_now past opening x
+FindsNow opening past _ = Unit {0}
+
+-- nothing is wrong with the event
+pub record IsRight (parents : List ℕ) (opening : Records) (past : List Event) (e : Event) : Type 0 where
+  pub rules : KeepsRules parents past e
+  pub apart : IsApart past e
+  pub finds : FindsNow opening past e
+
+-- nothing is wrong with any event
+abbrev pub AreRight : List ℕ → Records → List Event → Type 0
+AreRight parents opening [] = Unit {0}
+AreRight parents opening (e ∷ past) = IsRight parents opening past e × AreRight parents opening past
+
+-- ---- calls and records
+
+-- the locks and frees of call c are those of the call alone on the opening tree with the records that it found
+abbrev pub IsGenuine : TrailValue → ℕ → Type 0
+IsGenuine t c = locks_and_frees (part_of c t.past) ≡ locks_and_frees (all_taken (found_alone t c).actions)
+
+-- its reply is that of the call alone
+abbrev pub RepliesSo : TrailValue → ℕ → Type 0
+RepliesSo t c = (call_at t c).reply ≡ Some (found_alone t c).reply
+
+-- the end record of node x is the one left last
+abbrev pub EndsSo : TrailValue → ℕ → Type 0
+EndsSo t x = record_at t.ends x ≡ record_now t.past t.opening x
+
+-- each call is done
+abbrev pub AreDone : TrailValue → Type 0
+AreDone t = (c : ℕ) → c < length t.calls → is_done c t.past ≡ true
+
+-- ---- the whole trail
+
+-- nothing is wrong
+pub record Clean (t : TrailValue) : Type 0 where
+  pub right : AreRight t.parents t.opening t.past
+  pub done : AreDone t
+  pub genuine : (c : ℕ) → c < length t.calls → IsGenuine t c
+  pub replies : (c : ℕ) → c < length t.calls → RepliesSo t c
+  pub ends : (x : ℕ) → x < length t.parents → EndsSo t x

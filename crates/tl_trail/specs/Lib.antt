@@ -1,0 +1,6 @@
+pub mod Trails
+pub mod Faults
+pub mod Clean
+pub mod Reading
+pub mod Raw
+pub mod Writing

@@ -1,0 +1,54 @@
+-- A trail half read: what is kept of a text's form.
+use Rattle.std.specs.Prelude.{◌≡◌, ◌⊎◌, ℕ, ℤ, List, [], map, Option, Some, None, option_map, Ok, Err, string_bytes}
+use Rattle.tl_tree.specs.Records.{Records}
+use Rattle.tl_tree.specs.Trees.{TreeValue}
+use Rattle.tl_tree.specs.Reading.{tree_from}
+use Rattle.tl_tree.specs.declared.fault.TreeFault.{TreeFault}
+use Rattle.tl_procedures.specs.Names.{Named}
+use Rattle.tl_trail.specs.declared.fault.TrailFault.{TrailFault}
+use Rattle.tl_trail.specs.declared.fault.TrailFault.TheVariants.{NotTrail, Tree}
+use Rattle.tl_trail.specs.declared.raw.RawCall.{RawCall}
+use Rattle.tl_trail.specs.declared.raw.RawTrail.{RawTrail}
+use Rattle.tl_trail.specs.Trails.{TrailValue}
+use Rattle.tl_forms.specs.Procedures.{procedure_form}
+use Rattle.tl_forms.specs.Registering.{TakenUp}
+use Rattle.tl_trail.specs.Reading.{CallForm, TrailForm, trail_of_form, IsUnregistered}
+
+abbrev pub call_form : RawCall → CallForm
+call_form x = record { name = string_bytes x.name; args = x.args.items; reply = option_map (λ r. r.items) x.reply }
+
+-- the form of a text that is this and has that tree
+abbrev pub form_with : RawTrail → List ℤ × Records → TrailForm
+form_with raw tree = record {
+  tree = tree;
+  procedures = map procedure_form raw.procedures.items;
+  calls = map call_form raw.calls.items;
+  events = raw.events.items;
+  ends = raw.ends.items;
+}
+
+-- ---- the text
+
+-- The form is that of what was read and of the tree's parts.
+pub record IsHalfRead (form : Option TrailForm) (tree : TreeValue) (raw : RawTrail) : Type 0 where
+  pub parts : List ℤ × Records
+  pub form_is : form ≡ Some (form_with raw parts)
+  pub tree_is : tree_from (Some parts) ≡ Ok tree
+
+-- there is no form, or the tree has that fault
+abbrev pub IsUnread : Option TrailForm → TrailFault → Type 0
+IsUnread found e =
+    ((e ≡ NotTrail) × (found ≡ None))
+    ⊎ ((form : TrailForm) × (f : TreeFault) × (found ≡ Some form) × (e ≡ Tree f) × (tree_from (Some form.tree) ≡ Err f))
+
+-- ---- what the form stands for, with the tree
+
+pub record IsTrailOf (tree : TreeValue) (form : TrailForm) (t : TrailValue) : Type 0 where
+  pub taken_up : TakenUp [] form.procedures t.procedures
+  pub same : trail_of_form tree t.procedures form ≡ Ok t
+
+-- what is wrong besides the tree
+abbrev pub IsFaultOf : TreeValue → TrailForm → TrailFault → Type 0
+IsFaultOf tree form e =
+    IsUnregistered form.procedures e
+    ⊎ ((procedures : List Named) × TakenUp [] form.procedures procedures × (trail_of_form tree procedures form ≡ Err e))

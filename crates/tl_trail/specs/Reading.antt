@@ -1,0 +1,173 @@
+-- What a text of a trail is, and what is wrong with it first.
+use Rattle.std.specs.Prelude.{◌≡◌, ◌⊎◌, ℕ, ◌==◌, nat_lt, nat_le, ℤ, pos, negsuc, List, [], ◌∷◌, ◌++◌, length, get_or, codes, Option, Some, None, option_map, option_and_then, Result, Ok, Err, if◌then◌else◌, is_some, ◌&&◌}
+use Rattle.std.specs.Str.{bytes_eq}
+use Rattle.std.specs.Option.{option_or}
+use Rattle.serde_json.specs.Data.{Data, Items, no_items, item}
+use Rattle.serde_json.specs.Events.{members_len}
+use Rattle.serde_json.specs.Find.{as_null, as_str, as_array, as_object, get_member}
+use Rattle.serde_json.specs.Read.{read}
+use Rattle.tl_tree.specs.Records.{Record, Records}
+use Rattle.tl_tree.specs.Trees.{TreeValue}
+use Rattle.tl_tree.specs.Reading.{both, each_item, integer_of, integers_of, record_of, records_of, tree_from, form_of as tree_form_of}
+use Rattle.tl_tree.specs.declared.fault.TreeFault.{TreeFault}
+use Rattle.tl_protocol.specs.declared.event.Event.{Event}
+use Rattle.tl_protocol.specs.declared.event.Event.TheVariants as event
+use Rattle.tl_protocol.specs.History.{past_of}
+use Rattle.tl_procedures.specs.Names.{Named, number_of, no_procedure}
+use Rattle.tl_forms.specs.declared.event.RawEvent.{RawEvent}
+use Rattle.tl_forms.specs.declared.event.RawEvent.TheVariants.{Admitted, Locked, Freed, Ended}
+use Rattle.tl_trail.specs.declared.fault.TrailFault.{TrailFault}
+use Rattle.tl_trail.specs.declared.fault.TrailFault.TheVariants.{NotTrail, Tree, Procedure, NoProcedure, WrongArgs, TooManyCalls}
+use Rattle.tl_forms.specs.Lists.{list_of, each_of}
+use Rattle.tl_forms.specs.Procedures.{procedure_of}
+use Rattle.tl_forms.specs.Replies.{reply_of}
+use Rattle.tl_forms.specs.Events.{event_of}
+use Rattle.tl_forms.specs.Registering.{TakenUp, IsFirstUnfit}
+use Rattle.tl_forms.specs.declared.fault.RegisterFault.{RegisterFault}
+use Rattle.tl_trail.specs.Trails.{CallValue, TrailValue}
+
+-- ---- the form
+
+-- a call as it is written: the name of its procedure, its arguments, and its reply, if any
+pub record CallForm : Type 0 where
+  pub name : List ℕ
+  pub args : List ℤ
+  pub reply : Option (List ℤ)
+
+-- the tree's parents and records, the names and texts of the procedures, the calls, the events with the earliest first,
+-- and the records in the end
+pub record TrailForm : Type 0 where
+  pub tree : List ℤ × Records
+  pub procedures : List (List ℕ × List ℕ)
+  pub calls : List CallForm
+  pub events : List RawEvent
+  pub ends : Records
+
+-- the name of a procedure, arguments, and a reply
+abbrev pub call_in : List Data → Option CallForm
+call_in (name ∷ args ∷ reply ∷ []) =
+    option_map (λ x. record { name = x.0.0; args = x.0.1; reply = x.1 }) (both (both (as_str name) (integers_of args)) (reply_of reply))
+call_in _ = None
+
+abbrev pub call_of : Data → Option CallForm
+call_of d = option_and_then call_in (list_of d)
+
+-- the members of an object that has these five and no others
+pub record Parts : Type 0 where
+  pub calls : Data
+  pub ends : Data
+  pub events : Data
+  pub procedures : Data
+  pub tree : Data
+
+abbrev pub parts_of : Data → Option Parts
+parts_of d = option_and_then (λ ms. if members_len ms == 5
+    then option_map (λ x. record { calls = x.0.0; ends = x.0.1; events = x.1.0; procedures = x.1.1.0; tree = x.1.1.1 })
+    (both (both (get_member (codes "calls") ms) (get_member (codes "end") ms))
+    (both (get_member (codes "events") ms) (both (get_member (codes "procs") ms) (get_member (codes "tree") ms))))
+    else None) (as_object d)
+
+abbrev pub form_of_parts : Parts → Option TrailForm
+form_of_parts parts =
+    option_map (λ x. record { calls = x.0.0; ends = x.0.1; events = x.1.0; procedures = x.1.1.0; tree = x.1.1.1 })
+    (both (both (each_of call_of parts.calls) (records_of parts.ends))
+    (both (each_of event_of parts.events) (both (each_of procedure_of parts.procedures) (tree_form_of parts.tree))))
+
+-- the form that a text has
+abbrev pub form_in : List ℕ → Option TrailForm
+form_in text = option_and_then (λ d. option_and_then form_of_parts (parts_of d)) (read text)
+
+-- ---- calls, events and records in the end
+
+abbrev pub with_arity : Named → ℕ → CallForm → Result CallValue TrailFault
+with_arity p number form =
+    if length form.args == p.code.arity then Ok (record { procedure = number; args = form.args; reply = form.reply })
+    else Err WrongArgs
+
+abbrev pub called : List Named → CallForm → Option ℕ → Result CallValue TrailFault
+called procedures form (Some number) = with_arity (get_or procedures number no_procedure) number form
+called procedures form None = Err NoProcedure
+
+-- a call of the procedure of its name, with as many arguments as that takes
+abbrev pub call_as : List Named → CallForm → Result CallValue TrailFault
+call_as procedures form = called procedures form (number_of procedures form.name)
+
+abbrev pub and_calls : Result CallValue TrailFault → Result (List CallValue) TrailFault → Result (List CallValue) TrailFault
+and_calls (Err e) more = Err e
+and_calls (Ok k) (Err e) = Err e
+and_calls (Ok k) (Ok ks) = Ok (k ∷ ks)
+
+-- the calls, or the fault of the first that has one
+abbrev pub each_call : List Named → List CallForm → Result (List CallValue) TrailFault
+each_call procedures [] = Ok []
+each_call procedures (form ∷ forms) = and_calls (call_as procedures form) (each_call procedures forms)
+
+-- the same of at most 4,096 calls
+abbrev pub calls_as : List Named → List CallForm → Result (List CallValue) TrailFault
+calls_as procedures forms = if nat_le (length forms) 4096 then each_call procedures forms else Err TooManyCalls
+
+-- a number below the count
+abbrev pub below : ℕ → ℤ → Option ℕ
+below count (pos n) = if nat_lt n count then Some n else None
+below count (negsuc n) = None
+
+-- an event of one of the calls and one of the nodes
+abbrev pub event_as : ℕ → ℕ → RawEvent → Option Event
+event_as calls nodes (Admitted c) = option_map event.Admit (below calls c)
+event_as calls nodes (Locked c x r) = option_map (λ y. event.Lock y.1 y.0 r) (both (below calls c) (below nodes x))
+event_as calls nodes (Freed c x r) = option_map (λ y. event.Free y.1 y.0 r) (both (below calls c) (below nodes x))
+event_as calls nodes (Ended c) = option_map event.Done (below calls c)
+
+abbrev pub events_as : ℕ → ℕ → List RawEvent → Option (List Event)
+events_as calls nodes [] = Some []
+events_as calls nodes (e ∷ es) = option_map (λ x. x.0 ∷ x.1) (both (event_as calls nodes e) (events_as calls nodes es))
+
+-- the trail, where there are at most 1,048,576 events and one record in the end for each node
+abbrev pub trail_with : TreeValue → List Named → TrailForm → List CallValue → List Event → Result TrailValue TrailFault
+trail_with tree procedures form calls events =
+    if (length form.ends == length tree.parents) && nat_le (length events) 1048576
+    then Ok (record { parents = tree.parents; opening = tree.records; procedures = procedures; calls = calls; past = past_of events; ends = form.ends })
+    else Err NotTrail
+
+abbrev pub trail_of_events : TreeValue → List Named → TrailForm → List CallValue → Option (List Event) → Result TrailValue TrailFault
+trail_of_events tree procedures form calls (Some events) = trail_with tree procedures form calls events
+trail_of_events tree procedures form calls None = Err NotTrail
+
+abbrev pub trail_of_calls : TreeValue → List Named → TrailForm → Result (List CallValue) TrailFault → Result TrailValue TrailFault
+trail_of_calls tree procedures form (Ok calls) =
+    trail_of_events tree procedures form calls (events_as (length calls) (length tree.parents) form.events)
+trail_of_calls tree procedures form (Err e) = Err e
+
+-- the trail of that tree and of these procedures, or what is wrong first: the number of calls, a call, else the events
+-- or the records in the end
+abbrev pub trail_of_form : TreeValue → List Named → TrailForm → Result TrailValue TrailFault
+trail_of_form tree procedures form = trail_of_calls tree procedures form (calls_as procedures form.calls)
+
+-- ---- the text
+
+-- The text is one of the trail.
+pub record IsTrailText (text : List ℕ) (t : TrailValue) : Type 0 where
+  pub form : TrailForm
+  pub tree : TreeValue
+  pub form_is : form_in text ≡ Some form
+  pub tree_is : tree_from (Some form.tree) ≡ Ok tree
+  pub taken_up : TakenUp [] form.procedures t.procedures
+  pub same : trail_of_form tree t.procedures form ≡ Ok t
+
+-- what is wrong with the first procedure that isn't taken up
+abbrev pub IsUnregistered : List (List ℕ × List ℕ) → TrailFault → Type 0
+IsUnregistered ps e = (f : RegisterFault) × (e ≡ Procedure f) × IsFirstUnfit [] ps f
+
+-- what is wrong with a form first: the tree, else a procedure, else all the rest
+abbrev pub IsFormFault : TrailForm → TrailFault → Type 0
+IsFormFault form e =
+    ((f : TreeFault) × (e ≡ Tree f) × (tree_from (Some form.tree) ≡ Err f))
+    ⊎ ((tree : TreeValue) × (tree_from (Some form.tree) ≡ Ok tree)
+    × (IsUnregistered form.procedures e
+    ⊎ ((procedures : List Named) × TakenUp [] form.procedures procedures × (trail_of_form tree procedures form ≡ Err e))))
+
+-- what is wrong with a text first
+abbrev pub IsTrailFault : List ℕ → TrailFault → Type 0
+IsTrailFault text e =
+    ((e ≡ NotTrail) × (form_in text ≡ None))
+    ⊎ ((form : TrailForm) × (form_in text ≡ Some form) × IsFormFault form e)

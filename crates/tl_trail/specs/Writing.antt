@@ -1,0 +1,57 @@
+-- The value and the text that stand for a trail.
+use Rattle.std.specs.Prelude.{ℕ, ℤ, List, [], ◌∷◌, map, reverse, codes, get_or, length, ◌≤◌, ◌≡◌, Ok, Option, Some, None, All, FitsSigned, IfSome}
+use Rattle.serde_json.specs.Data.{Data, null, unsigned, number, string, array, object, member, no_members}
+use Rattle.serde_json.specs.View.{items_of}
+use Rattle.serde_json.specs.Written.{compact_text}
+use Rattle.std.specs.Int.{w64}
+use Rattle.tl_tree.specs.Trees.{IsRecord}
+use Rattle.tl_instr.specs.Codes.{IsCode}
+use Rattle.tl_verify.specs.Acceptable.{Acceptable}
+use Rattle.tl_tree.specs.Reading.{tree_of}
+use Rattle.tl_tree.specs.Writing.{integers_data, records_data, tree_data}
+use Rattle.tl_asm.specs.Listing.{listing}
+use Rattle.tl_protocol.specs.declared.event.Event.{Event}
+use Rattle.tl_protocol.specs.declared.event.Event.TheVariants.{Admit, Lock, Free, Done}
+use Rattle.tl_forms.specs.Lists.{list_data}
+use Rattle.tl_forms.specs.Procedures.{procedure_data, AreAccepted}
+use Rattle.tl_forms.specs.Replies.{reply_data}
+use Rattle.tl_forms.specs.Events.{event_data, HasRecord}
+use Rattle.tl_procedures.specs.Names.{Named, no_procedure, AreFreeAfter}
+use Rattle.tl_trail.specs.Trails.{CallValue, TrailValue, IsTrail}
+
+-- the name of the procedure, the arguments, the reply
+abbrev pub call_data : List Named → CallValue → Data
+call_data procedures k =
+    list_data (string (get_or procedures k.procedure no_procedure).name ∷ integers_data k.args ∷ reply_data k.reply ∷ [])
+
+-- the members in the order in which they are written
+abbrev pub trail_data : TrailValue → Data
+trail_data t = object
+    (member (codes "calls") (list_data (map (call_data t.procedures) t.calls))
+    (member (codes "end") (records_data t.ends)
+    (member (codes "events") (list_data (map event_data (reverse t.past)))
+    (member (codes "procs") (list_data (map procedure_data t.procedures))
+    (member (codes "tree") (tree_data (record { parents = t.parents; records = t.opening }))
+    no_members)))))
+
+abbrev pub trail_text : TrailValue → List ℕ
+trail_text t = compact_text (trail_data t)
+
+-- ---- what can be written
+
+-- the arguments fit 64 bits, and so does a reply, which has at most 32 values
+pub record FitsText (k : CallValue) : Type 0 where
+  pub args : All (FitsSigned w64) k.args
+  pub reply : IfSome k.reply (λ values. All (FitsSigned w64) values)
+  pub few : IfSome k.reply (λ values. length values ≤ 32)
+
+-- what is so of a trail that was written
+pub record IsWritable (t : TrailValue) : Type 0 where
+  pub trail : IsTrail t
+  pub free : AreFreeAfter [] t.procedures
+  pub accepted : AreAccepted t.procedures
+  pub calls : All FitsText t.calls
+  pub events : All HasRecord (reverse t.past)
+  pub few : length t.past ≤ 1048576
+  pub ends : All IsRecord t.ends
+  pub tree : tree_of (tree_data (record { parents = t.parents; records = t.opening })) ≡ Ok (record { parents = t.parents; records = t.opening })

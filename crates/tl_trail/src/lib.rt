@@ -1,0 +1,12 @@
+//! Trails: what the calls of a core did to a tree, as data and as text.
+//!
+//! A trail tells all that calls did: the tree before them, the procedures, what was asked and answered, the events in
+//! order, and the records in the end. Anybody may write one. What it is for nothing to be wrong with a trail is defined
+//! here; whoever makes trails and whoever judges them stand on this definition.
+#![tactic(auto)]
+
+pub mod fault;
+mod raw;
+pub mod reading;
+pub mod trail;
+pub mod writing;

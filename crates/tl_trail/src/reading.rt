@@ -1,0 +1,254 @@
+// Reading a trail from its text.
+
+ghost use Rattle.std.specs.Prelude.{◌≡◌, ◌≢◌, ◌<◌, ◌≤◌, ℤ, List, [], Some, Ok, Err, length, map, reverse, option_map, option_and_then, string_bytes, All, IfSome, IfOk, IfErr, OnOk, MatchResult};
+ghost use Rattle.serde_json.specs.View.{view};
+ghost use Rattle.tl_tree.specs.Records.{Records};
+ghost use Rattle.tl_protocol.specs.declared.event.Event.{Event as EventValue};
+ghost use Rattle.tl_protocol.specs.History.{caller};
+ghost use Rattle.tl_protocol.specs.Nodes.{IsOfNodes};
+ghost use Rattle.tl_trail.specs.Trails.{TrailValue, IsCallOf, call_value};
+ghost use Rattle.tl_trail.specs.Reading.{parts_of, form_of_parts, form_in, call_as, each_call, calls_as, below, event_as, events_as, IsTrailText, IsTrailFault};
+ghost use Rattle.tl_trail.specs.Raw.{call_form, form_with, IsHalfRead, IsUnread, IsTrailOf, IsFaultOf};
+
+use crate::fault::TrailFault;
+use crate::raw::{RawCall, RawTrail, members_of_value, raw_of_members};
+use crate::trail::{Trail, TrailCall};
+use arrayvec::ArrayVec;
+use serde_json::Value;
+use std::alloc::Global;
+use tl_budget::limits::MAX_EMITS;
+use tl_forms::event::RawEvent;
+use tl_forms::json::parse_text;
+use tl_forms::registering::register_all;
+use tl_history::fault::HistoryFault;
+use tl_history::history::{History, MAX_CALLS, MAX_EVENTS};
+use tl_procedures::procedures::Procedures;
+use tl_protocol::event::Event;
+use tl_tree::tree::Tree;
+use tl_tree::value::tree_from_value;
+
+// ---- the tree, and what else there is
+
+fn raw_of_value(alloc: Global, value: &Value) -> Result<(Tree, RawTrail), TrailFault>
+    ensures ok { IfOk result (λ found. IsHalfRead (option_and_then form_of_parts (parts_of (view value.now))) found.0 found.1) }
+    ensures fault { IfErr result (λ e. e ≢ TrailFault.Memory → IsUnread (option_and_then form_of_parts (parts_of (view value.now))) e) }
+{
+    let Some(members) = members_of_value(value) else {
+        return Err(TrailFault::NotTrail);
+    };
+    let Some(raw) = raw_of_members(alloc, &members)? else {
+        return Err(TrailFault::NotTrail);
+    };
+    let tree = tree_from_value(alloc, members.tree)?;
+    Ok((tree, raw))
+}
+
+fn raw_of_text(alloc: Global, text: &str) -> Result<(Tree, RawTrail), TrailFault>
+    ensures ok { IfOk result (λ found. IsHalfRead (form_in text.now) found.0 found.1) }
+    ensures fault { IfErr result (λ e. e ≢ TrailFault.Memory → IsUnread (form_in text.now) e) }
+{
+    match parse_text(alloc, text)? {
+        Some(value) => raw_of_value(alloc, &value),
+        None => Err(TrailFault::NotTrail),
+    }
+}
+
+// ---- the calls
+
+fn reply_copied(reply: &Option<ArrayVec<i64, MAX_EMITS>>) -> Option<ArrayVec<i64, MAX_EMITS>>
+    ensures { option_map (λ r. r.items) result ≡ option_map (λ r. r.items) reply.now }
+{
+    match reply {
+        Some(reply) => {
+            let mut copy = ArrayVec::new();
+            let Ok(()) = copy.try_extend_from_slice(reply.as_slice()) else {
+                unreachable!()
+            };
+            Some(copy)
+        }
+        None => None,
+    }
+}
+
+// A call of the procedure of its name, with as many arguments as that takes. 601, 501.
+fn checked_call(procedures: &Procedures, raw: &RawCall) -> Result<TrailCall, TrailFault>
+    ensures ok { IfOk result (λ k. call_as procedures.now (call_form raw.now) ≡ Ok (call_value k)) }
+    ensures call { IfOk result (λ k. IsCallOf procedures.now (call_value k)) }
+    ensures fault { IfErr result (λ e. call_as procedures.now (call_form raw.now) ≡ Err e) }
+{
+    let Some(number) = procedures.number_of(&raw.name) else {
+        return Err(TrailFault::NoProcedure);
+    };
+    let procedure = procedures.get(number);
+    if raw.args.len() != usize::from(procedure.code().arity().number()) {
+        return Err(TrailFault::WrongArgs);
+    }
+    let mut args = ArrayVec::new();
+    let Ok(()) = args.try_extend_from_slice(&raw.args) else {
+        unreachable!()
+    };
+    Ok(TrailCall {
+        procedure: number,
+        args,
+        reply: reply_copied(&raw.reply),
+    })
+}
+
+fn checked_each_call(
+    alloc: Global,
+    procedures: &Procedures,
+    raw: &[RawCall],
+) -> Result<Vec<TrailCall>, TrailFault>
+    ensures ok { IfOk result (λ calls. each_call procedures.now (map call_form raw.now) ≡ Ok (map call_value calls.items)) }
+    ensures calls { IfOk result (λ calls. All (IsCallOf procedures.now) (map call_value calls.items)) }
+    ensures count { IfOk result (λ calls. length calls.items ≡ length raw.now) }
+    ensures fault { IfErr result (λ e. e ≢ TrailFault.Memory → each_call procedures.now (map call_form raw.now) ≡ Err e) }
+{
+    let mut calls = Vec::with_capacity(alloc, raw.len())?;
+    for one in raw {
+        let call = checked_call(procedures, one)?;
+        calls.push(call)?;
+    }
+    Ok(calls)
+}
+
+// 603, and then what is wrong with the first call that has a fault.
+fn checked_calls(
+    alloc: Global,
+    procedures: &Procedures,
+    raw: &[RawCall],
+) -> Result<Vec<TrailCall>, TrailFault>
+    ensures ok { IfOk result (λ calls. calls_as procedures.now (map call_form raw.now) ≡ Ok (map call_value calls.items)) }
+    ensures calls { IfOk result (λ calls. All (IsCallOf procedures.now) (map call_value calls.items)) }
+    ensures few { IfOk result (λ calls. length calls.items ≤ 4096) }
+    ensures fault { IfErr result (λ e. e ≢ TrailFault.Memory → calls_as procedures.now (map call_form raw.now) ≡ Err e) }
+{
+    if raw.len() > MAX_CALLS {
+        return Err(TrailFault::TooManyCalls);
+    }
+    checked_each_call(alloc, procedures, raw)
+}
+
+// ---- the events
+
+// The number, if it is one of the first so many.
+fn below(count: u16, number: i64) -> Option<u16>
+    ensures number { result ≡ below count number }
+    ensures inside { IfSome result (λ n. n < count) }
+{
+    let number = u16::try_from(number).ok()?;
+    if number < count { Some(number) } else { None }
+}
+
+// An event of one of the calls and one of the nodes.
+fn checked_event(calls: u16, nodes: u16, form: RawEvent) -> Option<Event>
+    ensures event { result ≡ event_as calls nodes form }
+    ensures node { IfSome result (λ e. IsOfNodes nodes e) }
+    ensures call { IfSome result (λ e. caller e < calls) }
+{
+    match form {
+        RawEvent::Admitted { call } => Some(Event::Admit {
+            call: u32::from(below(calls, call)?),
+        }),
+        RawEvent::Locked { call, node, found } => Some(Event::Lock {
+            call: u32::from(below(calls, call)?),
+            node: below(nodes, node)?,
+            found,
+        }),
+        RawEvent::Freed { call, node, left } => Some(Event::Free {
+            call: u32::from(below(calls, call)?),
+            node: below(nodes, node)?,
+            left,
+        }),
+        RawEvent::Ended { call } => Some(Event::Done {
+            call: u32::from(below(calls, call)?),
+        }),
+    }
+}
+
+// An empty history with places for so many events: 701 where they are too many.
+fn history_for(alloc: Global, events: usize) -> Result<History, TrailFault>
+    ensures ok { IfOk result (λ h. (h.past ≡ []) × (h.reserved ≡ events)) }
+    ensures few { OnOk result (events ≤ 1048576) }
+    ensures fault { IfErr result (λ e. e ≢ TrailFault.Memory → (e ≡ TrailFault.NotTrail) × (1048576 < events)) }
+{
+    let mut history = History::new(alloc, MAX_EVENTS);
+    match history.reserve(events) {
+        Ok(()) => Ok(history),
+        Err(HistoryFault::HistoryFull) => Err(TrailFault::NotTrail),
+        Err(HistoryFault::Memory) => Err(TrailFault::Memory),
+    }
+}
+
+// The events of so many calls and nodes, at most 1,048,576: else 701.
+fn checked_history(
+    alloc: Global,
+    calls: u16,
+    nodes: u16,
+    forms: &[RawEvent],
+) -> Result<History, TrailFault>
+    ensures ok { IfOk result (λ h. events_as calls nodes forms.now ≡ Some (reverse h.past)) }
+    ensures few { IfOk result (λ h. length h.past ≤ 1048576) }
+    ensures nodes { IfOk result (λ h. All (IsOfNodes nodes) h.past) }
+    ensures callers { IfOk result (λ h. All (λ e. caller e < calls) h.past) }
+    ensures fault { IfErr result (λ e. e ≢ TrailFault.Memory → (e ≡ TrailFault.NotTrail)
+        × ((events : List EventValue) → events_as calls nodes forms.now ≡ Some events → 1048576 < length events)) }
+{
+    let mut history = history_for(alloc, forms.len())?;
+    for form in forms {
+        let Some(event) = checked_event(calls, nodes, *form) else {
+            return Err(TrailFault::NotTrail);
+        };
+        history.append(event);
+    }
+    Ok(history)
+}
+
+// ---- the trail
+
+fn checked_trail(alloc: Global, tree: Tree, raw: RawTrail) -> Result<Trail, TrailFault>
+    ensures ok { IfOk result (λ t. (parts : List ℤ × Records) → IsTrailOf tree (form_with raw parts) t) }
+    ensures fault { IfErr result (λ e. e ≢ TrailFault.Memory → (parts : List ℤ × Records) → IsFaultOf tree (form_with raw parts) e) }
+{
+    let procedures = register_all(alloc, &raw.procedures)?;
+    let calls = checked_calls(alloc, &procedures, &raw.calls)?;
+    let nodes = tree.shape().node_count();
+    if raw.ends.len() != usize::from(nodes) {
+        return Err(TrailFault::NotTrail);
+    }
+    let history = checked_history(alloc, calls.len() as u16, nodes, &raw.events)?;
+    Ok(Trail::new(tree, procedures, calls, history, raw.ends))
+}
+
+// The same as below, said by what a text is alone.
+fn trail_of_text(alloc: Global, text: &str) -> Result<Trail, TrailFault>
+    ensures ok { IfOk result (λ t. IsTrailText text.now t) }
+    ensures fault { IfErr result (λ e. e ≢ TrailFault.Memory → IsTrailFault text.now e) }
+{
+    let (tree, raw) = raw_of_text(alloc, text)?;
+    checked_trail(alloc, tree, raw)
+}
+
+/// The trail that a text is.
+///
+/// It is an object with these five members and no others: `calls`, a list with, of each call, the name of its procedure,
+/// its arguments and its reply, a list of at most 32 numbers or null; `end`, the records in the end; `events`, a list of
+/// `["a",call]` for an admission, `["l",call,node,record]` for a lock and the record found, `["f",call,node,record]` for a
+/// free and the record left, and `["d",call]` for an end; `procs`, a list of names and assembler texts; and `tree`, the
+/// tree before the calls. Numbers fit 64 bits with their sign.
+///
+/// What is wrong first: 701 for another form; the tree's 101 to 105; of each procedure in order the assembler's 251 to
+/// 254, the verifier's 301 to 307 and 401 to 409, and 612, 611, 613 of its name; 603 for more than 4,096 calls; of each
+/// call in order 601 and 501; then 701 where an event is of no call or of no node, where there are more or fewer records
+/// in the end than nodes, or where there are more than 1,048,576 events. 790 where memory is refused.
+pub fn read_trail(alloc: Global, text: &str) -> Result<Trail, TrailFault>
+    // What is read is the text's.
+    ensures ok { IfOk result (λ t. IsTrailText text.now t) }
+    // Which fault it is.
+    ensures fault { IfErr result (λ e. e ≢ TrailFault.Memory → IsTrailFault text.now e) }
+    // The trail of a text is read, unless memory is refused.
+    ensures taken { (t : TrailValue) → IsTrailText text.now t
+        → MatchResult result (λ r. r ≡ t) (λ e. e ≡ TrailFault.Memory) }
+{
+    trail_of_text(alloc, text)
+}
