@@ -17,9 +17,9 @@ use Rattle.tl_asm.specs.Statements.{DraftValue, plain, going, token, last, only_
 use Rattle.tl_asm.specs.Listing.{value_word, node_word, words_to}
 use Rattle.tl_asm.specs.Lines.{label_or_none, IsLabelFor, IsLineOf}
 use lib.Chars.{codes}
-use Rattle.tl_asm.proofs.Numbers.{own, is_digits}
-use Rattle.tl_asm.proofs.Appends.{bytes_same}
-use Rattle.tl_asm.proofs.Spelled.{both_true, number_again, value_again, node_again, signed_again}
+use Rattle.tl_asm.proofs.DecimalNumbers.{own, is_digits}
+use Rattle.tl_asm.proofs.StatementLists.{bytes_same}
+use Rattle.tl_asm.proofs.TokenSpelling.{both_true, number_again, value_again, node_again, signed_again}
 
 -- ---- tokens: each number, register and label has one spelling
 
@@ -41,7 +41,7 @@ number_word limit n word fits e =
     let small : digits_value 10 word < limit = ltb-true (digits_value 10 word) limit both.1 in
     let (some, digits, plain') = is_digits word both.0 in
     let first : get_or word 0 0 ≡ 48 → length word ≡ 1
-          = λ zero'. eqb-true (length word) 1 (one_digit (length word == 1) (slice_index word 0 == 48) plain' (eq-eqb (slice_index word 0) 48 zero')) in
+    = λ zero'. eqb-true (length word) 1 (one_digit (length word == 1) (slice_index word 0 == 48) plain' (eq-eqb (slice_index word 0) 48 zero')) in
     let written : decimal (digits_value 10 word) ≡ word = decimal-digits_value own word digits some first (omega arith) in
     (sym written ∙ ap decimal found.1, (let P : ℕ → Type 0 = λ k. k < limit in subst P found.1 small))
 
@@ -149,17 +149,17 @@ arithmetic_found : (words : List Word) (x : ℕ × ℕ × ℕ × Word) → arith
 unfolding arithmetic_in
 arithmetic_found words x e =
     let (to, to_is, e1) = bound (token value_register words) (λ to. do
-          left ← token value_register to.1
-          right ← token value_register left.1
-          label ← otherwise_in right.1
-          Some (to.0, left.0, right.0, label)) x e in
+      left ← token value_register to.1
+      right ← token value_register left.1
+      label ← otherwise_in right.1
+      Some (to.0, left.0, right.0, label)) x e in
     let (left, left_is, e2) = bound (token value_register to.1) (λ left. do
-          right ← token value_register left.1
-          label ← otherwise_in right.1
-          Some (to.0, left.0, right.0, label)) x e1 in
+      right ← token value_register left.1
+      label ← otherwise_in right.1
+      Some (to.0, left.0, right.0, label)) x e1 in
     let (right, right_is, e3) = bound (token value_register left.1) (λ right. do
-          label ← otherwise_in right.1
-          Some (to.0, left.0, right.0, label)) x e2 in
+      label ← otherwise_in right.1
+      Some (to.0, left.0, right.0, label)) x e2 in
     let (label, label_is, e4) = bound (otherwise_in right.1) (λ label. let r : Option (ℕ × ℕ × ℕ × Word) = Some (to.0, left.0, right.0, label) in r) x e3 in
     let (w0, at0, r0) = token_found value_register words to to_is in
     let (w1, at1, r1) = token_found value_register to.1 left left_is in
@@ -178,12 +178,12 @@ comparison_found : (words : List Word) (x : ℕ × ℕ × Word) → comparison_i
 unfolding comparison_in
 comparison_found words x e =
     let (left, left_is, e1) = bound (token value_register words) (λ left. do
-          right ← token value_register left.1
-          label ← last label_in right.1
-          Some (left.0, right.0, label)) x e in
+      right ← token value_register left.1
+      label ← last label_in right.1
+      Some (left.0, right.0, label)) x e in
     let (right, right_is, e2) = bound (token value_register left.1) (λ right. do
-          label ← last label_in right.1
-          Some (left.0, right.0, label)) x e1 in
+      label ← last label_in right.1
+      Some (left.0, right.0, label)) x e1 in
     let (label, label_is, e3) = bound (last label_in right.1) (λ label. let r : Option (ℕ × ℕ × Word) = Some (left.0, right.0, label) in r) x e2 in
     let (w0, at0, r0) = token_found value_register words left left_is in
     let (w1, at1, r1) = token_found value_register left.1 right right_is in
@@ -200,8 +200,8 @@ set_line : (words : List Word) (d : DraftValue) → set_in words ≡ Some d → 
 unfolding set_in Line
 set_line words d h =
     let (a, a_is, h0) = bound (token value_register words) (λ a. do
-          z ← last signed_in a.1
-          Some (plain (Set a.0 z))) d h in
+      z ← last signed_in a.1
+      Some (plain (Set a.0 z))) d h in
     let (z, z_is, hz) = bound (last signed_in a.1) (λ z. Some (plain (Set a.0 z))) d h0 in
     let (w_a, at_a, r_a) = token_found value_register words a a_is in
     let (v_a, b_a) = value_found a.0 w_a r_a in
@@ -215,8 +215,8 @@ copy_line : (words : List Word) (d : DraftValue) → copy_in words ≡ Some d �
 unfolding copy_in Line
 copy_line words d h =
     let (a, a_is, h0) = bound (token value_register words) (λ a. do
-          z ← last value_register a.1
-          Some (plain (Copy a.0 z))) d h in
+      z ← last value_register a.1
+      Some (plain (Copy a.0 z))) d h in
     let (z, z_is, hz) = bound (last value_register a.1) (λ z. Some (plain (Copy a.0 z))) d h0 in
     let (w_a, at_a, r_a) = token_found value_register words a a_is in
     let (v_a, b_a) = value_found a.0 w_a r_a in
@@ -298,12 +298,12 @@ first_line : (words : List Word) (d : DraftValue) → first_in words ≡ Some d 
 unfolding first_in Line
 first_line words d h =
     let (a, a_is, h0) = bound (token node_register words) (λ a. do
-          b ← token value_register a.1
-          z ← otherwise_in b.1
-          Some (going z (First a.0 b.0 0))) d h in
+      b ← token value_register a.1
+      z ← otherwise_in b.1
+      Some (going z (First a.0 b.0 0))) d h in
     let (b, b_is, h1) = bound (token value_register a.1) (λ b. do
-          z ← otherwise_in b.1
-          Some (going z (First a.0 b.0 0))) d h0 in
+      z ← otherwise_in b.1
+      Some (going z (First a.0 b.0 0))) d h0 in
     let (z, z_is, hz) = bound (otherwise_in b.1) (λ z. Some (going z (First a.0 b.0 0))) d h1 in
     let (w_a, at_a, r_a) = token_found node_register words a a_is in
     let (v_a, b_a) = node_found a.0 w_a r_a in
@@ -318,17 +318,17 @@ child_line : (words : List Word) (d : DraftValue) → child_in words ≡ Some d 
 unfolding child_in Line
 child_line words d h =
     let (a, a_is, h0) = bound (token node_register words) (λ a. do
-          b ← token node_register a.1
-          c ← token value_register b.1
-          z ← otherwise_in c.1
-          Some (going z (Child a.0 b.0 c.0 0))) d h in
+      b ← token node_register a.1
+      c ← token value_register b.1
+      z ← otherwise_in c.1
+      Some (going z (Child a.0 b.0 c.0 0))) d h in
     let (b, b_is, h1) = bound (token node_register a.1) (λ b. do
-          c ← token value_register b.1
-          z ← otherwise_in c.1
-          Some (going z (Child a.0 b.0 c.0 0))) d h0 in
+      c ← token value_register b.1
+      z ← otherwise_in c.1
+      Some (going z (Child a.0 b.0 c.0 0))) d h0 in
     let (c, c_is, h2) = bound (token value_register b.1) (λ c. do
-          z ← otherwise_in c.1
-          Some (going z (Child a.0 b.0 c.0 0))) d h1 in
+      z ← otherwise_in c.1
+      Some (going z (Child a.0 b.0 c.0 0))) d h1 in
     let (z, z_is, hz) = bound (otherwise_in c.1) (λ z. Some (going z (Child a.0 b.0 c.0 0))) d h2 in
     let (w_a, at_a, r_a) = token_found node_register words a a_is in
     let (v_a, b_a) = node_found a.0 w_a r_a in
@@ -345,8 +345,8 @@ move_line : (words : List Word) (d : DraftValue) → move_in words ≡ Some d �
 unfolding move_in Line
 move_line words d h =
     let (a, a_is, h0) = bound (token node_register words) (λ a. do
-          z ← last node_register a.1
-          Some (plain (Move a.0 z))) d h in
+      z ← last node_register a.1
+      Some (plain (Move a.0 z))) d h in
     let (z, z_is, hz) = bound (last node_register a.1) (λ z. Some (plain (Move a.0 z))) d h0 in
     let (w_a, at_a, r_a) = token_found node_register words a a_is in
     let (v_a, b_a) = node_found a.0 w_a r_a in
@@ -370,12 +370,12 @@ get_line : (words : List Word) (d : DraftValue) → get_in words ≡ Some d → 
 unfolding get_in Line
 get_line words d h =
     let (a, a_is, h0) = bound (token value_register words) (λ a. do
-          b ← token node_register a.1
-          z ← last (number_in 4) b.1
-          Some (plain (Get a.0 b.0 z))) d h in
+      b ← token node_register a.1
+      z ← last (number_in 4) b.1
+      Some (plain (Get a.0 b.0 z))) d h in
     let (b, b_is, h1) = bound (token node_register a.1) (λ b. do
-          z ← last (number_in 4) b.1
-          Some (plain (Get a.0 b.0 z))) d h0 in
+      z ← last (number_in 4) b.1
+      Some (plain (Get a.0 b.0 z))) d h0 in
     let (z, z_is, hz) = bound (last (number_in 4) b.1) (λ z. Some (plain (Get a.0 b.0 z))) d h1 in
     let (w_a, at_a, r_a) = token_found value_register words a a_is in
     let (v_a, b_a) = value_found a.0 w_a r_a in
@@ -391,12 +391,12 @@ put_line : (words : List Word) (d : DraftValue) → put_in words ≡ Some d → 
 unfolding put_in Line
 put_line words d h =
     let (a, a_is, h0) = bound (token node_register words) (λ a. do
-          b ← token (number_in 4) a.1
-          z ← last value_register b.1
-          Some (plain (Put a.0 b.0 z))) d h in
+      b ← token (number_in 4) a.1
+      z ← last value_register b.1
+      Some (plain (Put a.0 b.0 z))) d h in
     let (b, b_is, h1) = bound (token (number_in 4) a.1) (λ b. do
-          z ← last value_register b.1
-          Some (plain (Put a.0 b.0 z))) d h0 in
+      z ← last value_register b.1
+      Some (plain (Put a.0 b.0 z))) d h0 in
     let (z, z_is, hz) = bound (last value_register b.1) (λ z. Some (plain (Put a.0 b.0 z))) d h1 in
     let (w_a, at_a, r_a) = token_found node_register words a a_is in
     let (v_a, b_a) = node_found a.0 w_a r_a in
@@ -412,8 +412,8 @@ kids_line : (words : List Word) (d : DraftValue) → kids_in words ≡ Some d �
 unfolding kids_in Line
 kids_line words d h =
     let (a, a_is, h0) = bound (token value_register words) (λ a. do
-          z ← last node_register a.1
-          Some (plain (Kids a.0 z))) d h in
+      z ← last node_register a.1
+      Some (plain (Kids a.0 z))) d h in
     let (z, z_is, hz) = bound (last node_register a.1) (λ z. Some (plain (Kids a.0 z))) d h0 in
     let (w_a, at_a, r_a) = token_found value_register words a a_is in
     let (v_a, b_a) = value_found a.0 w_a r_a in

@@ -8,8 +8,8 @@ use Rattle.tl_asm.specs.declared.fault.AsmFault.{AsmFault}
 use Rattle.tl_asm.specs.declared.fault.AsmFault.TheVariants.{BadLine, NoLabel, LabelTwice, TooLong, Memory}
 use Rattle.tl_asm.specs.Statements.{DraftValue, Said}
 use Rattle.tl_asm.specs.Texts.{InPlace, Distinct, statements, aimed, labels_in, drafts_in}
-use Rattle.tl_asm.specs.Faults.{Begin, IsReached, IsWhole, IsFirstAstray, FirstFaultIn, FirstFault}
-use Rattle.tl_asm.proofs.Laws.{front_of, none_some}
+use Rattle.tl_asm.specs.Faults.{Begin, IsReached, IsWhole, IsFirstAstray, IsFirstFaultIn, IsFirstFault}
+use Rattle.tl_asm.proofs.OneCode.{front_of, none_some}
 
 module _ (ss : List (Option Said)) where
   -- what is wrong at line k + 1, in the order of the faults
@@ -29,7 +29,7 @@ module _ (ss : List (Option Said)) where
     begin : Begin ss
     kind : ((f ≡ BadLine (length ss)) × ¬ IsWhole ss) ⊎ ((n : ℕ) × (f ≡ NoLabel n) × IsFirstAstray ss n)
 
-  sorted : (f : AsmFault) → FirstFaultIn ss f → AtLine f ⊎ AtEnd f
+  sorted : (f : AsmFault) → IsFirstFaultIn ss f → AtLine f ⊎ AtEnd f
   unfolding Kind
   sorted (BadLine n) (inl h) = inl (record { k = h.0; reached = h.2; fails = λ b. h.3 b.in_place; kind = inl (ap BadLine h.1, h.3) })
   sorted (BadLine n) (inr h) = inr (record { begin = h.1; kind = inl (ap BadLine h.0, h.2) })
@@ -99,5 +99,5 @@ module _ (ss : List (Option Said)) where
   one_in f g (inr a) (inl b) = absurd (b.fails (front_of ss (b.k + 1) a.begin))
   one_in f g (inr a) (inr b) = one_end f g a b
 
-pub one_fault : (text : List ℕ) (f g : AsmFault) → FirstFault text f → FirstFault text g → f ≡ g
+pub one_fault : (text : List ℕ) (f g : AsmFault) → IsFirstFault text f → IsFirstFault text g → f ≡ g
 one_fault text f g a b = one_in (statements text) f g (sorted (statements text) f a) (sorted (statements text) g b)

@@ -42,17 +42,17 @@ pub record IsFirstAstray (ss : List (Option Said)) (n : ℕ) : Type 0 where
   pub before : All (λ d. IsSome (aimed (labels_in 0 ss) d.1.instr d.1.label)) (take place (drafts_in 1 ss))
 
 -- the first fault of what the lines say
-abbrev pub FirstFaultIn : List (Option Said) → AsmFault → Type 0
-FirstFaultIn ss (BadLine n) =
+abbrev pub IsFirstFaultIn : List (Option Said) → AsmFault → Type 0
+IsFirstFaultIn ss (BadLine n) =
     ((k : ℕ) × (n ≡ k + 1) × IsReached ss k × ¬ InPlace (take (k + 1) ss))
     ⊎ ((n ≡ length ss) × Begin ss × ¬ IsWhole ss)
-FirstFaultIn ss (LabelTwice n) =
+IsFirstFaultIn ss (LabelTwice n) =
     (k : ℕ) × (n ≡ k + 1) × IsReached ss k × InPlace (take (k + 1) ss) × ¬ Distinct (labels_in 0 (take (k + 1) ss))
-FirstFaultIn ss TooLong =
+IsFirstFaultIn ss TooLong =
     (k : ℕ) × IsReached ss k × InPlace (take (k + 1) ss) × Distinct (labels_in 0 (take (k + 1) ss)) × (MAX_COUNT < length (drafts_in 1 (take (k + 1) ss)))
-FirstFaultIn ss (NoLabel n) = IsFirstAstray ss n
-FirstFaultIn ss Memory = ⊥
+IsFirstFaultIn ss (NoLabel n) = IsFirstAstray ss n
+IsFirstFaultIn ss Memory = ⊥
 
 -- the first fault of a text that is no code's
-abbrev pub FirstFault : List ℕ → AsmFault → Type 0
-FirstFault text f = FirstFaultIn (statements text) f
+abbrev pub IsFirstFault : List ℕ → AsmFault → Type 0
+IsFirstFault text f = IsFirstFaultIn (statements text) f

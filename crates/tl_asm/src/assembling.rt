@@ -6,14 +6,14 @@ ghost use Rattle.tl_asm.specs.Words.{Word, lines_of};
 ghost use Rattle.tl_asm.specs.Statements.{DraftValue, draft_in};
 ghost use Rattle.tl_asm.specs.Lines.{IsLineOf};
 ghost use Rattle.tl_asm.specs.Texts.{Written};
-ghost use Rattle.tl_asm.specs.Faults.{FirstFault};
+ghost use Rattle.tl_asm.specs.Faults.{IsFirstFault};
 ghost use Rattle.tl_asm.specs.Listing.{listing};
 
 use crate::fault::AsmFault;
 use crate::resolving::resolved;
 use crate::sketch::sketch_of;
 use std::alloc::Global;
-use tl_instr::code::Code;
+use tl_instr::Code;
 
 fn lines_of(alloc: Global, text: &str) -> Result<Vec<&str>, AsmFault>
     ensures lines { IfOk result (λ v. map (λ line. line.now) v.items ≡ lines_of text.now) }
@@ -25,7 +25,7 @@ fn lines_of(alloc: Global, text: &str) -> Result<Vec<&str>, AsmFault>
 /// The code of the text, or the text's first fault.
 fn code_of(alloc: Global, text: &str) -> Result<Code, AsmFault>
     ensures found { IfOk result (λ code. Written text.now code) }
-    ensures fault { IfErr result (λ f. f ≢ AsmFault.Memory → FirstFault text.now f) }
+    ensures fault { IfErr result (λ f. f ≢ AsmFault.Memory → IsFirstFault text.now f) }
 {
     let lines = lines_of(alloc, text)?;
     let sketch = sketch_of(alloc, &lines)?;
@@ -53,7 +53,7 @@ pub fn assemble(alloc: Global, text: &str) -> Result<Code, AsmFault>
         (λ code. code ≡ c)
         (λ f. f ≡ AsmFault.Memory) }
     // Which fault it is.
-    ensures fault { IfErr result (λ f. f ≢ AsmFault.Memory → FirstFault text.now f) }
+    ensures fault { IfErr result (λ f. f ≢ AsmFault.Memory → IsFirstFault text.now f) }
 {
     code_of(alloc, text)
 }
@@ -63,8 +63,8 @@ pub fn assemble(alloc: Global, text: &str) -> Result<Code, AsmFault>
 pub fn one_reading()
     ensures canonical { (c : CodeValue) → IsCode c → Written (listing c) c }
     ensures one_code { (text : List ℕ) (c d : CodeValue) → Written text c → Written text d → c ≡ d }
-    ensures faultless { (text : List ℕ) (c : CodeValue) (f : AsmFault) → Written text c → ¬ FirstFault text f }
-    ensures one_fault { (text : List ℕ) (f g : AsmFault) → FirstFault text f → FirstFault text g → f ≡ g }
+    ensures faultless { (text : List ℕ) (c : CodeValue) (f : AsmFault) → Written text c → ¬ IsFirstFault text f }
+    ensures one_fault { (text : List ℕ) (f g : AsmFault) → IsFirstFault text f → IsFirstFault text g → f ≡ g }
 {}
 
 /// The law of lines: a name and the words after it are read as an instruction exactly where they are its words.

@@ -1,6 +1,6 @@
 //! An instruction before its target is known.
 
-use tl_instr::instr::Instr;
+use tl_instr::Instr;
 
 /// An instruction with 0 in the place of its target, and the label that is written there.
 #[derive(Clone, Copy, Debug)]

@@ -1,10 +1,10 @@
 //! The assembler: a procedure as text, and back.
 #![tactic(auto)]
 
-pub mod assembling;
+mod assembling;
 mod draft;
-pub mod fault;
-pub mod listing;
+mod fault;
+mod listing;
 mod reading;
 mod resolving;
 mod sketch;
@@ -13,3 +13,8 @@ mod statement;
 mod tests;
 mod token;
 mod word;
+
+pub use assembling::{assemble, one_line, one_reading};
+pub use fault::AsmFault;
+pub use listing::disassemble;
+pub use token::MAX_LABEL;

@@ -8,9 +8,7 @@ ghost use Rattle.tl_asm.specs.Listing.{line_of, value_word, node_word, label_wor
 
 use crate::fault::AsmFault;
 use std::alloc::Global;
-use tl_instr::code::Code;
-use tl_instr::instr::Instr;
-use tl_instr::operand::{Field, NodeRegister, ValueRegister};
+use tl_instr::{Code, Field, Instr, NodeRegister, ValueRegister};
 
 /// Whether control may go to this position.
 fn is_target(instrs: &[Instr], position: u16) -> bool

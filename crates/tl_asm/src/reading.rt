@@ -9,8 +9,7 @@ ghost use Rattle.tl_asm.specs.Statements.{view, token, only_of, last, label_in, 
 use crate::draft::Draft;
 use crate::token;
 use crate::word::next_word;
-use tl_instr::instr::Instr;
-use tl_instr::operand::{Field, NodeRegister, ValueRegister};
+use tl_instr::{Field, Instr, NodeRegister, ValueRegister};
 
 fn value(line: &[u8]) -> Option<(ValueRegister, &[u8])>
     ensures { Finds (λ x. (x.0, words_of x.1.now)) result (token value_register (words_of line.now)) }

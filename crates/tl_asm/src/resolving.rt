@@ -8,7 +8,7 @@ use crate::fault::AsmFault;
 use crate::sketch::Origin;
 use indexmap::IndexMap;
 use std::alloc::Global;
-use tl_instr::instr::Instr;
+use tl_instr::Instr;
 
 /// The instruction with this target, where it has one.
 fn with_target(instr: &Instr, target: u16) -> Instr

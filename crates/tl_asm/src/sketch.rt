@@ -3,7 +3,7 @@
 ghost use Rattle.std.specs.Prelude.{◌≡◌, ◌≢◌, ◌+◌, ◌≤◌, ◌++◌, ◌∷◌, [], List, Option, Some, length, IfOk, IfErr};
 ghost use Rattle.tl_instr.specs.Codes.{IsArity};
 ghost use Rattle.tl_instr.specs.Instructions.{IsInstr};
-ghost use Rattle.tl_asm.specs.Faults.{FirstFaultIn};
+ghost use Rattle.tl_asm.specs.Faults.{IsFirstFaultIn};
 ghost use Rattle.tl_asm.specs.Statements.{Said, Takes, Names, Does, view};
 ghost use Rattle.tl_asm.specs.Sketches.{IsSketch, IsWrongLast, said_by};
 
@@ -12,8 +12,7 @@ use crate::fault::AsmFault;
 use crate::statement::{Statement, statement_of};
 use indexmap::IndexMap;
 use std::alloc::Global;
-use tl_instr::code::MAX_COUNT;
-use tl_instr::instr::Instr;
+use tl_instr::{Instr, MAX_COUNT};
 
 /// Where an instruction stands, and the label in the place of its target.
 #[derive(Clone, Copy, Debug)]
@@ -98,7 +97,7 @@ impl<'a> Sketch<'a> {
 /// What the lines say together, up to the first that has no place there.
 pub fn sketch_of<'a>(alloc: Global, lines: &[&'a str]) -> Result<Sketch<'a>, AsmFault>
     ensures found { IfOk result (λ s. IsSketch (said_by lines.now) s) }
-    ensures fault { IfErr result (λ f. f ≢ AsmFault.Memory → FirstFaultIn (said_by lines.now) f) }
+    ensures fault { IfErr result (λ f. f ≢ AsmFault.Memory → IsFirstFaultIn (said_by lines.now) f) }
 {
     let mut sketch = Sketch::new(alloc);
     for index in 0..lines.len() {

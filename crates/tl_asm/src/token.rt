@@ -6,7 +6,7 @@ ghost use Rattle.std.specs.Str.{all_ascii_digits};
 ghost use Rattle.tl_asm.specs.Tokens.{is_number, number_in, register_in, value_register, node_register, signed_in, begins_label, continues_label, is_label};
 
 use std::str;
-use tl_instr::operand::{Arity, Field, NodeRegister, ValueRegister};
+use tl_instr::{Arity, Field, NodeRegister, ValueRegister};
 
 fn all_digits(word: &[u8]) -> bool
     ensures { result ≡ all_ascii_digits word.now }

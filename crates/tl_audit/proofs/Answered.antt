@@ -10,7 +10,7 @@ use Rattle.tl_protocol.specs.Order.{placed, Agrees}
 use Rattle.tl_protocol.specs.World.{Legal, reply_of}
 use Rattle.tl_trail.specs.Trails.{TrailValue, IsTrail, call_at, found_alone, meaning_of, world_of}
 use Rattle.tl_trail.specs.Clean.{Clean}
-use Rattle.tl_audit.specs.Findings.{IsFirst}
+use Rattle.tl_audit.specs.Findings.{IsFirstFault}
 use Rattle.tl_audit.specs.Verdict.{IsVerdict}
 use Rattle.tl_audit.proofs.Cleaned.{clean_faultless, clean_legal, clean_obeys, clean_agrees, clean_tree, clean_replies, clean_told}
 
@@ -19,7 +19,7 @@ both_ok (Ok x) P Q R f p q = f x p q
 both_ok (Err e) P Q R f p q = tt
 
 -- of a clean trail nothing but want of memory is told
-only_memory : (t : TrailValue) (f : AuditFault) → Clean t → (f ≢ Memory → IsFirst t f) → f ≡ Memory
+only_memory : (t : TrailValue) (f : AuditFault) → Clean t → (f ≢ Memory → IsFirstFault t f) → f ≡ Memory
 only_memory t (RuleBroken n) clean h = absurd (clean_faultless t (RuleBroken n) clean (h (λ e. cc)))
 only_memory t (Overlap n) clean h = absurd (clean_faultless t (Overlap n) clean (h (λ e. cc)))
 only_memory t (WrongFound n) clean h = absurd (clean_faultless t (WrongFound n) clean (h (λ e. cc)))
@@ -29,14 +29,14 @@ only_memory t (WrongEnd x) clean h = absurd (clean_faultless t (WrongEnd x) clea
 only_memory t (WrongReply c) clean h = absurd (clean_faultless t (WrongReply c) clean (h (λ e. cc)))
 only_memory t Memory clean h = refl
 
-pub only_order : {X : Type 0} (t : TrailValue) (r : Result X AuditFault) (P : X → Type 0) → IfOk r P → IfErr r (λ f. f ≢ Memory → IsFirst t f) → Clean t
+pub only_order : {X : Type 0} (t : TrailValue) (r : Result X AuditFault) (P : X → Type 0) → IfOk r P → IfErr r (λ f. f ≢ Memory → IsFirstFault t f) → Clean t
     → MatchResult r P (λ f. f ≡ Memory)
 only_order t (Ok x) P ok err clean = ok
 only_order t (Err f) P ok err clean = only_memory t f clean err
 
 -- an answer of a trail that is right says all that a verdict says
 pub verdict : (t : TrailValue) → IsTrail t → (r : Result (List ℕ) AuditFault) → IfOk r (λ _. Clean t) → IfOk r (λ o. o ≡ placed t.parents t.past)
-    → IfErr r (λ f. f ≢ Memory → IsFirst t f) → IsVerdict t r
+    → IfErr r (λ f. f ≢ Memory → IsFirstFault t f) → IsVerdict t r
 verdict t trail r clean order fault = record {
   clean = clean;
   order = order;

@@ -16,18 +16,18 @@ use Rattle.tl_protocol.specs.Obeys.{Obeys}
 use Rattle.tl_protocol.specs.Order.{placed, Agrees}
 use Rattle.tl_protocol.specs.World.{Genuine, Legal, IsSound, reply_of}
 use Rattle.tl_protocol.proofs.Alone.{obeys_taken}
-use Rattle.tl_protocol.proofs.Coming.{held-locked}
+use Rattle.tl_protocol.proofs.MayComeLemmas.{held-locked}
 use Rattle.tl_protocol.proofs.Permitted.{has_ended-part_of}
-use Rattle.tl_protocol.proofs.Placed.{placed-agrees}
-use Rattle.tl_protocol.proofs.Places.{obeys_alone}
-use Rattle.tl_protocol.proofs.Reached.{serial-placed}
+use Rattle.tl_protocol.proofs.PlacedAgrees.{placed-agrees}
+use Rattle.tl_protocol.proofs.ObeysByPlaces.{obeys_alone}
+use Rattle.tl_protocol.proofs.ReachedWorlds.{serial-placed}
 use Rattle.tl_protocol.proofs.Records.{length-records_now, record_at-records_now, length-with_found}
-use Rattle.tl_machine.proofs.Beginning.{is_alone}
+use Rattle.tl_machine.proofs.StartLemmas.{is_alone}
 use Rattle.tl_audit.specs.declared.fault.AuditFault.{AuditFault}
 use Rattle.tl_audit.specs.declared.fault.AuditFault.TheVariants.{RuleBroken, Overlap, WrongFound, NotGenuine, Unfinished, WrongEnd, WrongReply, Memory}
 use Rattle.tl_trail.specs.Trails.{TrailValue, IsTrail, IsCallOf, call_at, no_call, meaning_of, found_alone, world_of}
 use Rattle.tl_trail.specs.Clean.{IsRight, AreRight, Clean}
-use Rattle.tl_audit.specs.Findings.{IsFirstWrong, IsFirst}
+use Rattle.tl_audit.specs.Findings.{IsFirstEventFault, IsFirstFault}
 
 -- ---- the events
 
@@ -239,11 +239,11 @@ clean_told t c clean lt = clean.replies c lt
 -- ---- faults
 
 -- no event of a clean trail is wrong
-first_right : (t : TrailValue) (f : AuditFault) → Clean t → (w : IsFirstWrong t f) → IsRight t.parents t.opening w.before w.event
+first_right : (t : TrailValue) (f : AuditFault) → Clean t → (w : IsFirstEventFault t f) → IsRight t.parents t.opening w.before w.event
 first_right t f clean w = right_within t.parents t.opening w.later w.event w.before (subst (AreRight t.parents t.opening) w.split clean.right)
 
 -- a clean trail has no first fault
-pub clean_faultless : (t : TrailValue) (f : AuditFault) → Clean t → IsFirst t f → ⊥
+pub clean_faultless : (t : TrailValue) (f : AuditFault) → Clean t → IsFirstFault t f → ⊥
 clean_faultless t (RuleBroken n) clean w = w.wrong.1 (first_right t (RuleBroken n) clean w).rules
 clean_faultless t (Overlap n) clean w = w.wrong.2 (first_right t (Overlap n) clean w).apart
 clean_faultless t (WrongFound n) clean w = w.wrong.3 (first_right t (WrongFound n) clean w).finds

@@ -12,13 +12,13 @@ use Rattle.tl_protocol.specs.declared.event.Event.TheVariants.{Admit, Lock, Free
 use Rattle.tl_protocol.specs.Actions.{locked, freed, found_in, with_found, locks_and_frees, EachPermitted}
 use Rattle.tl_protocol.specs.Alone.{EndsOnce, all_taken}
 use Rattle.tl_protocol.specs.History.{part_of}
-use Rattle.tl_protocol.proofs.Laid.{freed-locked}
+use Rattle.tl_protocol.proofs.RecordsAlongOrder.{freed-locked}
 use Rattle.tl_protocol.proofs.Records.{length-with_found, record_at-with_found}
 use Rattle.tl_machine.specs.Runs.{actions}
 use Rattle.tl_machine.specs.Alone.{alone as run_alone}
 use Rattle.tl_machine.specs.Outcomes.{outcome_of}
 use Rattle.tl_machine.specs.Turns.{TurnValue, left_of}
-use Rattle.tl_machine.proofs.Beginning.{is_alone}
+use Rattle.tl_machine.proofs.StartLemmas.{is_alone}
 use Rattle.tl_procedures.specs.Names.{no_procedure}
 use Rattle.tl_trail.specs.Trails.{TrailValue, IsTrail, IsCallOf, call_at, code_of, no_call, found_alone}
 use Rattle.tl_trail.specs.Clean.{AreRight, IsGenuine}

@@ -8,7 +8,7 @@ use Rattle.tl_protocol.specs.declared.action.Action.{Action}
 use Rattle.tl_protocol.specs.declared.action.Action.TheVariants as did
 use Rattle.tl_protocol.specs.Actions.{freed, emitted, has_ended, is_end, locks_and_frees}
 use Rattle.tl_protocol.specs.Alone.{EndsOnce, all_taken}
-use Rattle.tl_protocol.proofs.Places.{reverse-taken}
+use Rattle.tl_protocol.proofs.ObeysByPlaces.{reverse-taken}
 use Rattle.tl_machine.specs.Runs.{Run, Then, Ended, actions, emitted as newly}
 use Rattle.tl_machine.specs.Call.{in_tree, reply_so_far}
 use Rattle.tl_machine.specs.Stands.{run_left, Steps, Locks, Frees, Ends, Counts}

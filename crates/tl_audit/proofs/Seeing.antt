@@ -9,7 +9,7 @@ use Rattle.tl_protocol.specs.Nodes.{IsOfNodes}
 use Rattle.tl_protocol.proofs.Pasts.{past_one_more, All-unreverse}
 use Rattle.tl_trail.specs.Trails.{TrailValue, IsTrail}
 use Rattle.tl_trail.specs.Clean.{AreRight}
-use Rattle.tl_audit.specs.Findings.{IsWrong, IsFirstWrong}
+use Rattle.tl_audit.specs.Findings.{IsWrong, IsFirstEventFault}
 use Rattle.tl_audit.specs.declared.fault.AuditFault.{AuditFault}
 use Rattle.tl_audit.specs.Watching.{IsEventOf}
 
@@ -30,7 +30,7 @@ past_split events i inside =
 
 pub first_wrong : (t : TrailValue) (events : List Event) → past_of events ≡ t.past → (i : ℕ) → i < length events
     → AreRight t.parents t.opening (reverse (take i events)) → (f : AuditFault)
-    → IsWrong t.parents t.opening (reverse (take i events)) (get_or events i (Admit 0)) f → IsFirstWrong t f
+    → IsWrong t.parents t.opening (reverse (take i events)) (get_or events i (Admit 0)) f → IsFirstEventFault t f
 first_wrong t events whole i inside right f wrong = record {
   later = reverse (drop (i + 1) events);
   event = get_or events i (Admit 0);

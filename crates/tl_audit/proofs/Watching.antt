@@ -11,9 +11,9 @@ use Rattle.tl_protocol.specs.declared.event.Event.TheVariants.{Admit, Lock, Free
 use Rattle.tl_protocol.specs.Actions.{locked, held, locked_any, EachPermitted, Permitted}
 use Rattle.tl_protocol.specs.History.{caller, part_of, is_done, Apart, IsLegalHistory}
 use Rattle.tl_protocol.specs.Holders.{holder_of}
-use Rattle.tl_protocol.proofs.Coming.{held-locked}
+use Rattle.tl_protocol.proofs.MayComeLemmas.{held-locked}
 use Rattle.tl_protocol.proofs.Holders.{held-holder, holder-held}
-use Rattle.tl_protocol.proofs.Parts.{part_of-other, locked-lock, locked-free, locked-done, locked_any-free}
+use Rattle.tl_protocol.proofs.PartLemmas.{part_of-other, locked-lock, locked-free, locked-done, locked_any-free}
 use Rattle.tl_protocol.proofs.Permitted.{has_ended-part_of}
 use Rattle.tl_protocol.specs.Nodes.{IsOfNodes}
 use Rattle.tl_order.specs.Parts.{AreOfNodes, Show, marks_of, no_marks}

@@ -17,7 +17,7 @@ IsWrong parents opening past e (WrongFound n) =
 IsWrong parents opening past e _ = ⊥
 
 -- the first event with which something is wrong
-pub record IsFirstWrong (t : TrailValue) (f : AuditFault) : Type 0 where
+pub record IsFirstEventFault (t : TrailValue) (f : AuditFault) : Type 0 where
   pub later : List Event
   pub event : Event
   pub before : List Event
@@ -40,13 +40,13 @@ pub record AreSo (t : TrailValue) (count : ℕ) : Type 0 where
   pub replies : (c : ℕ) → c < count → RepliesSo t c
 
 -- the first thing that is wrong: of the events, else of their ends, else of the calls, else of the records in the end
-abbrev pub IsFirst : TrailValue → AuditFault → Type 0
-IsFirst t (RuleBroken n) = IsFirstWrong t (RuleBroken n)
-IsFirst t (Overlap n) = IsFirstWrong t (Overlap n)
-IsFirst t (WrongFound n) = IsFirstWrong t (WrongFound n)
-IsFirst t (Unfinished c) = IsUnfinished t c
-IsFirst t (NotGenuine c) = AreSo t c × (c < length t.calls) × ¬ IsGenuine t c
-IsFirst t (WrongReply c) = AreSo t c × (c < length t.calls) × IsGenuine t c × ¬ RepliesSo t c
-IsFirst t (WrongEnd x) =
+abbrev pub IsFirstFault : TrailValue → AuditFault → Type 0
+IsFirstFault t (RuleBroken n) = IsFirstEventFault t (RuleBroken n)
+IsFirstFault t (Overlap n) = IsFirstEventFault t (Overlap n)
+IsFirstFault t (WrongFound n) = IsFirstEventFault t (WrongFound n)
+IsFirstFault t (Unfinished c) = IsUnfinished t c
+IsFirstFault t (NotGenuine c) = AreSo t c × (c < length t.calls) × ¬ IsGenuine t c
+IsFirstFault t (WrongReply c) = AreSo t c × (c < length t.calls) × IsGenuine t c × ¬ RepliesSo t c
+IsFirstFault t (WrongEnd x) =
     AreSo t (length t.calls) × (x < length t.parents) × ¬ EndsSo t x × ((y : ℕ) → y < x → EndsSo t y)
-IsFirst t Memory = ⊥
+IsFirstFault t Memory = ⊥

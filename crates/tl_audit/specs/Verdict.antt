@@ -6,7 +6,7 @@ use Rattle.tl_protocol.specs.Order.{placed, Agrees}
 use Rattle.tl_protocol.specs.World.{Legal, reply_of}
 use Rattle.tl_trail.specs.Trails.{TrailValue, call_at, found_alone, meaning_of, world_of}
 use Rattle.tl_trail.specs.Clean.{Clean}
-use Rattle.tl_audit.specs.Findings.{IsFirst}
+use Rattle.tl_audit.specs.Findings.{IsFirstFault}
 use Rattle.tl_audit.specs.declared.fault.AuditFault.{AuditFault}
 use Rattle.tl_audit.specs.declared.fault.AuditFault.TheVariants.{Memory}
 
@@ -15,7 +15,7 @@ use Rattle.tl_audit.specs.declared.fault.AuditFault.TheVariants.{Memory}
 pub record IsVerdict (t : TrailValue) (answer : Result (List ℕ) AuditFault) : Type 0 where
   pub clean : IfOk answer (λ _. Clean t)
   pub order : IfOk answer (λ o. o ≡ placed t.parents t.past)
-  pub fault : IfErr answer (λ f. f ≢ Memory → IsFirst t f)
+  pub fault : IfErr answer (λ f. f ≢ Memory → IsFirstFault t f)
   pub only : Clean t → MatchResult answer (λ o. o ≡ placed t.parents t.past) (λ f. f ≡ Memory)
   pub legal : IfOk answer (λ _. Legal (world_of t))
   pub obeys : IfOk answer (λ _. (c : ℕ) → c < length t.calls → Obeys t.parents (found_alone t c).actions)

@@ -4,7 +4,7 @@ ghost use Rattle.std.specs.Prelude.{◌≡◌, ◌≢◌, ℕ, ◌<◌, [], leng
 ghost use Rattle.tl_protocol.specs.History.{records_now};
 ghost use Rattle.tl_protocol.specs.Order.{placed};
 ghost use Rattle.tl_trail.specs.Clean.{Clean, AreRight, AreDone, EndsSo};
-ghost use Rattle.tl_audit.specs.Findings.{AreSo, IsFirst, IsFirstWrong};
+ghost use Rattle.tl_audit.specs.Findings.{AreSo, IsFirstFault, IsFirstEventFault};
 ghost use Rattle.tl_audit.specs.Verdict.{IsVerdict};
 ghost use Rattle.tl_audit.specs.Watching.{Shows};
 
@@ -13,10 +13,9 @@ use crate::genuine::check_calls;
 use crate::progress::{EVENTS_BETWEEN, Progress, Silent};
 use crate::watch::Watch;
 use std::alloc::Global;
-use tl_order::order::Order;
-use tl_order::placing::order_of;
-use tl_trail::trail::Trail;
-use tl_tree::record::Record;
+use tl_order::{Order, order_of};
+use tl_trail::Trail;
+use tl_tree::Record;
 
 /// Whether a trail is clean: the order that its events give, or the first thing that is wrong.
 ///
@@ -46,7 +45,7 @@ pub fn audit_with<P: Progress>(
 fn judge<P: Progress>(alloc: Global, trail: &Trail, progress: &mut P) -> Result<Order, AuditFault>
     ensures clean { IfOk result (λ _. Clean trail.now) }
     ensures order { IfOk result (λ o. o ≡ placed trail.now.parents trail.now.past) }
-    ensures fault { IfErr result (λ f. f ≢ AuditFault.Memory → IsFirst trail.now f) }
+    ensures fault { IfErr result (λ f. f ≢ AuditFault.Memory → IsFirstFault trail.now f) }
 {
     let watch = check_events(alloc, trail, progress)?;
     check_done(&watch, trail)?;
@@ -74,7 +73,7 @@ fn check_events<P: Progress>(
 ) -> Result<Watch, AuditFault>
     ensures shows { IfOk result (λ w. Shows trail.now.parents trail.now.opening (length trail.now.calls) w trail.now.past) }
     ensures right { IfOk result (λ _. AreRight trail.now.parents trail.now.opening trail.now.past) }
-    ensures fault { IfErr result (λ f. f ≢ AuditFault.Memory → IsFirst trail.now f) }
+    ensures fault { IfErr result (λ f. f ≢ AuditFault.Memory → IsFirstFault trail.now f) }
 {
     let mut watch = Watch::new(alloc, trail.calls(), trail.opening())?;
     see_all(&mut watch, trail, progress)?;
@@ -90,7 +89,7 @@ fn see_all<P: Progress>(
     requires { Shows trail.now.parents trail.now.opening (length trail.now.calls) watch.old [] }
     ensures shows { OnOk result (Shows trail.now.parents trail.now.opening (length trail.now.calls) watch.new trail.now.past) }
     ensures right { OnOk result (AreRight trail.now.parents trail.now.opening trail.now.past) }
-    ensures fault { IfErr result (λ f. IsFirstWrong trail.now f) }
+    ensures fault { IfErr result (λ f. IsFirstEventFault trail.now f) }
 {
     let shape = trail.opening().shape();
     let events = trail.history().events();
@@ -109,7 +108,7 @@ fn check_done(watch: &Watch, trail: &Trail) -> Result<(), AuditFault>
     requires shows { Shows trail.now.parents trail.now.opening (length trail.now.calls) watch.now trail.now.past }
     requires right { AreRight trail.now.parents trail.now.opening trail.now.past }
     ensures done { OnOk result (AreDone trail.now) }
-    ensures fault { IfErr result (λ f. IsFirst trail.now f) }
+    ensures fault { IfErr result (λ f. IsFirstFault trail.now f) }
 {
     for call in 0..trail.calls() as u32 {
         if !watch.is_done(call) {
@@ -124,7 +123,7 @@ fn check_ends(trail: &Trail, records: &[Record]) -> Result<(), AuditFault>
     requires records { records.now ≡ records_now trail.now.past trail.now.opening }
     requires so { AreSo trail.now (length trail.now.calls) }
     ensures ends { OnOk result ((x : ℕ) → x < length trail.now.parents → EndsSo trail.now x) }
-    ensures fault { IfErr result (λ f. IsFirst trail.now f) }
+    ensures fault { IfErr result (λ f. IsFirstFault trail.now f) }
 {
     let ends = trail.ends();
     for node in 0..trail.opening().shape().node_count() {

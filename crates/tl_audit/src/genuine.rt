@@ -15,20 +15,17 @@ ghost use Rattle.tl_protocol.specs.declared.event.Event.TheVariants as happened;
 ghost use Rattle.tl_protocol.specs.History.{caller, part_of};
 ghost use Rattle.tl_trail.specs.Trails.{IsTrail, call_at, code_of};
 ghost use Rattle.tl_trail.specs.Clean.{AreRight, AreDone, IsGenuine, RepliesSo};
-ghost use Rattle.tl_audit.specs.Findings.{AreSo, IsFirst};
+ghost use Rattle.tl_audit.specs.Findings.{AreSo, IsFirstFault};
 ghost use Rattle.tl_audit.specs.Genuine.{AreFit, AreParts, action_of, actions_at, lists_of};
 
 use crate::fault::AuditFault;
 use crate::progress::{CALLS_BETWEEN, Progress};
 use std::alloc::{AllocError, Global};
 use std::sync::Arc;
-use tl_machine::reply::Reply;
-use tl_machine::turn::Turn;
-use tl_machine::want::{Advance, Stop};
-use tl_protocol::action::Action;
-use tl_protocol::event::Event;
-use tl_trail::trail::Trail;
-use tl_tree::record::Record;
+use tl_machine::{Advance, Reply, Stop, Turn};
+use tl_protocol::{Action, Event};
+use tl_trail::Trail;
+use tl_tree::Record;
 
 // The record that the action at the place finds, where it is a lock of the node.
 fn lock_at(actions: &[Action], place: usize, node: u16) -> Option<Record>
@@ -138,7 +135,7 @@ fn check_call(trail: &Trail, call: u32, actions: &[Action]) -> Result<(), AuditF
     requires actions { reverse actions.now ≡ locks_and_frees (part_of call trail.now.past) }
     ensures genuine { OnOk result (IsGenuine trail.now call) }
     ensures replies { OnOk result (RepliesSo trail.now call) }
-    ensures fault { IfErr result (λ f. AreSo trail.now call → f ≢ AuditFault.Memory → IsFirst trail.now f) }
+    ensures fault { IfErr result (λ f. AreSo trail.now call → f ≢ AuditFault.Memory → IsFirstFault trail.now f) }
 {
     let mut turn = start(trail, call)?;
     let Some(reply) = replay(&mut turn, actions) else {
@@ -215,7 +212,7 @@ pub(crate) fn check_calls<P: Progress>(
     requires right { AreRight trail.now.parents trail.now.opening trail.now.past }
     requires done { AreDone trail.now }
     ensures so { OnOk result (AreSo trail.now (length trail.now.calls)) }
-    ensures fault { IfErr result (λ f. f ≢ AuditFault.Memory → IsFirst trail.now f) }
+    ensures fault { IfErr result (λ f. f ≢ AuditFault.Memory → IsFirstFault trail.now f) }
 {
     let lists = by_call(alloc, trail)?;
     let events = trail.history().events();

@@ -7,7 +7,7 @@ ghost use Rattle.tl_protocol.specs.Order.{placed, Agrees};
 ghost use Rattle.tl_protocol.specs.World.{Legal, IsSound, reply_of};
 ghost use Rattle.tl_trail.specs.Trails.{TrailValue, IsTrail, found_alone, world_of, meaning_of, call_at};
 ghost use Rattle.tl_trail.specs.Clean.{Clean};
-ghost use Rattle.tl_audit.specs.Findings.{IsFirst};
+ghost use Rattle.tl_audit.specs.Findings.{IsFirstFault};
 ghost use Rattle.tl_audit.specs.declared.fault.AuditFault.{AuditFault};
 
 /// What is so of every clean trail, whoever wrote it. Its history is legal over its opening tree: admissions in turn, locks
@@ -27,5 +27,5 @@ pub fn clean_trails()
         ≡ map (reply_of (world_of t)) (placed t.parents t.past) }
     ensures told { (t : TrailValue) (c : ℕ) → Clean t → c < length t.calls
         → (call_at t c).reply ≡ Some (reply_of (world_of t) c) }
-    ensures faultless { (t : TrailValue) (f : AuditFault) → Clean t → ¬ IsFirst t f }
+    ensures faultless { (t : TrailValue) (f : AuditFault) → Clean t → ¬ IsFirstFault t f }
 {}

@@ -4,15 +4,15 @@
 //! of the core can't hide behind the same fault in what checks it.
 #![tactic(auto)]
 
-pub mod auditing;
-pub mod fault;
+mod auditing;
+mod fault;
 mod genuine;
 pub mod laws;
-pub mod progress;
+mod progress;
 mod watch;
 
-pub use tl_record::recording::trail_of;
-pub use tl_trail::fault::TrailFault;
-pub use tl_trail::reading::read_trail;
-pub use tl_trail::trail::Trail;
-pub use tl_trail::writing::write_trail;
+pub use auditing::{audit, audit_with};
+pub use fault::AuditFault;
+pub use progress::{CALLS_BETWEEN, EVENTS_BETWEEN, Progress, Silent};
+pub use tl_record::trail_of;
+pub use tl_trail::{Trail, TrailFault, read_trail, write_trail};

@@ -12,11 +12,9 @@ ghost use Rattle.tl_audit.specs.Watching.{IsEventOf, IsEven, Shows};
 
 use crate::fault::AuditFault;
 use std::alloc::{AllocError, Global};
-use tl_order::part::Part;
-use tl_protocol::event::Event;
-use tl_tree::record::Record;
-use tl_tree::shape::Shape;
-use tl_tree::tree::Tree;
+use tl_order::Part;
+use tl_protocol::Event;
+use tl_tree::{Record, Shape, Tree};
 
 /// What the events so far came to.
 #[derive(Drop)]

@@ -5,9 +5,9 @@ use crate::measured::Measured;
 use crate::trees::{chain, procedure_of, tree_of};
 use std::alloc::Global;
 use std::sync::Arc;
-use tl_instr::container::decode;
-use tl_machine::alone_run::alone;
-use tl_verify::procedure::verify;
+use tl_instr::decode;
+use tl_machine::alone;
+use tl_verify::verify;
 
 fn ran(alloc: Global, code: &[u8], nodes: u16, args: &[i64], times: u32) -> Option<Measured> {
     let procedure = Arc::new(alloc, procedure_of(alloc, code)?).ok()?;

@@ -6,10 +6,9 @@ use crate::clock::now;
 use crate::measured::Measured;
 use crate::trees::{procedure_of, tree_of};
 use std::alloc::Global;
-use tl_record::recording::trail_of;
-use tl_trail::writing::write_trail;
-use tl_core::interleaving::Core;
-use tl_core::stepped::Stepped;
+use tl_core::{Core, Stepped};
+use tl_record::trail_of;
+use tl_trail::write_trail;
 
 // How many calls are open at a time.
 const OPEN: usize = 64;

@@ -4,13 +4,10 @@ use crate::clock::now;
 use crate::measured::Measured;
 use serde_json::Value;
 use std::alloc::Global;
-use tl_audit::auditing::audit;
-use tl_trail::reading::read_trail;
-use tl_trail::trail::Trail;
-use tl_trail::writing::write_trail;
-use tl_protocol::event::Event;
-use tl_order::order::Order;
-use tl_order::placing::order_of;
+use tl_audit::audit;
+use tl_order::{Order, order_of};
+use tl_protocol::Event;
+use tl_trail::{Trail, read_trail, write_trail};
 
 fn trail_in(alloc: Global, text: &[u8]) -> Option<Trail> {
     let text = std::str::from_utf8(text).ok()?;

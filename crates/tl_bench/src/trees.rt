@@ -2,11 +2,9 @@
 
 use std::alloc::Global;
 use std::sync::Arc;
-use tl_instr::container::decode;
-use tl_tree::record::Record;
-use tl_tree::shape::Shape;
-use tl_tree::tree::Tree;
-use tl_verify::procedure::{Proc, verify};
+use tl_instr::decode;
+use tl_tree::{Record, Shape, Tree};
+use tl_verify::{Proc, verify};
 
 // The record of a node in the beginning: one to four times its number.
 fn record_of(node: u16) -> Record {

@@ -7,9 +7,9 @@ use Rattle.tl_budget.specs.declared.fault.NestFault.TheVariants.{EndAlone, ZeroC
 use Rattle.tl_budget.specs.Findings.{Finding, Alone, Zero, Deep, Unclosed, pass, position, rank, Precedes, fault_of, IsFirstFault}
 use Rattle.tl_budget.specs.Loops.{Kind, Opens, Closes, Returns, Acts, kind_at}
 use Rattle.tl_budget.specs.Nested.{IsNested}
-use Rattle.tl_budget.proofs.Clear.{Clear, ClearAt, clear_start, clear_next, clear_opens, clear_closes, clear_else, is_nested, first_zero, first_deep, first_alone, first_unclosed}
-use Rattle.tl_budget.proofs.Opened.{opened}
-use Rattle.tl_budget.proofs.Matching.{nothing_found}
+use Rattle.tl_budget.proofs.NothingFound.{Clear, ClearAt, clear_start, clear_next, clear_opens, clear_closes, clear_else, is_nested, first_zero, first_deep, first_alone, first_unclosed}
+use Rattle.tl_budget.proofs.OpenLoops.{opened}
+use Rattle.tl_budget.proofs.AroundLemmas.{nothing_found}
 
 pub none_where_nested : (code : List Instr) (f : NestFault) → IsNested code → IsFirstFault code f → ⊥
 none_where_nested code f nested h = nothing_found code nested h.finding h.arises

@@ -5,7 +5,7 @@ use Rattle.std.specs.List.{Contains}
 use Rattle.std.proofs.lemmas.Bool.{cases_order, le-leb, leb-true}
 use Rattle.tl_instr.specs.declared.instr.Instr.{Instr}
 use Rattle.tl_budget.specs.Loops.{Kind, Opens, Closes, Returns, Acts, kind_at, Loop, loop_at, loop_by, with_loop, around_from, around, IsAround}
-use Rattle.tl_budget.proofs.Nest.{opening_is, closes_after, closes_at_end, nested}
+use Rattle.tl_budget.proofs.LoopLemmas.{opening_is, closes_after, closes_at_end, nested}
 
 pub closes_further_on : (code : List Instr) (o : ℕ) (l : Loop) → loop_at code o ≡ Some l → (l.opening ≡ o) × (o < l.close) × (kind_at code l.close ≡ Some Closes)
 closes_further_on code o l e = (opening_is code o l e, closes_after code o l e, closes_at_end code o l e)

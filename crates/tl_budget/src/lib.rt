@@ -1,11 +1,17 @@
 //! Loops, and what a procedure costs at most.
 #![tactic(auto)]
 
-pub mod fault;
+mod fault;
 pub mod laws;
-pub mod limits;
-pub mod nested;
-pub mod nesting;
-pub mod sums;
+mod limits;
+mod nested;
+mod nesting;
+mod sums;
 #[cfg(test)]
 mod tests;
+
+pub use fault::NestFault;
+pub use limits::{Bounds, MAX_EMITS, MAX_LOCKS, MAX_STEPS};
+pub use nested::{Nest, Place};
+pub use nesting::nest;
+pub use sums::bounds;

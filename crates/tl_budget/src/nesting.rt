@@ -9,8 +9,7 @@ use crate::fault::NestFault;
 use crate::nested::{Nest, Place};
 use arrayvec::ArrayVec;
 use std::alloc::Global;
-use tl_instr::code::Code;
-use tl_instr::instr::Instr;
+use tl_instr::{Code, Instr};
 
 // The place of a position, where loops are open that open at these positions, the outermost first.
 fn place(openings: &ArrayVec<u16, 4>) -> Place

@@ -9,8 +9,7 @@ ghost use Rattle.tl_budget.specs.Capped.{capped};
 use crate::fault::NestFault;
 use crate::limits::{Bounds, MAX_EMITS, MAX_LOCKS, MAX_STEPS};
 use crate::nested::Nest;
-use tl_instr::code::Code;
-use tl_instr::instr::Instr;
+use tl_instr::{Code, Instr};
 
 // The sums of the weights: of all instructions, of those that lock a node, and of those that emit a value. A sum that doesn't
 // fit is the greatest number, which is above each limit.

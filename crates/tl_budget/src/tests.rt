@@ -5,9 +5,7 @@ use crate::sums::bounds;
 use arrayvec::ArrayVec;
 use std::alloc::Global;
 use std::test::Fail;
-use tl_instr::code::Code;
-use tl_instr::instr::Instr;
-use tl_instr::operand::{NodeRegister, ValueRegister};
+use tl_instr::{Code, Instr, NodeRegister, ValueRegister};
 
 fn repeat(count: u16) -> Instr {
     Instr::Repeat { count }

@@ -1,7 +1,7 @@
 // Why the program has nothing to print.
 
 use std::{fmt, io};
-use tl_commands::fault::CliFault;
+use tl_commands::CliFault;
 
 /// The fault of a command, or a file that can't be read or written, with the system's reason.
 #[derive(Drop)]

@@ -12,11 +12,9 @@ use command_line::Asked;
 use program::Program;
 use std::io::{ErrorKind, IsTerminal};
 use std::process::ExitCode;
-pub use tl_commands::alone::alone_cmd;
-pub use tl_commands::auditing::audit_cmd;
-pub use tl_commands::driving::{drive_cmd, drive_with_trail_cmd};
-pub use tl_commands::fault::CliFault;
-pub use tl_commands::procedures::{asm_cmd, dis_cmd, verify_cmd};
+pub use tl_commands::{
+    CliFault, alone_cmd, asm_cmd, audit_cmd, dis_cmd, drive_cmd, drive_with_trail_cmd, verify_cmd,
+};
 
 /// The exit status where memory is refused before a command is known. Nothing is printed then.
 const NO_MEMORY: u8 = 4;

@@ -2,8 +2,8 @@
 
 use crate::failure::Failure;
 use std::io;
-use tl_asm::fault::AsmFault;
-use tl_commands::fault::CliFault;
+use tl_asm::AsmFault;
+use tl_commands::CliFault;
 
 /// Prints a failure: its numbers on standard output, `{"error":[..]}`, and its message for people on standard error.
 pub fn print_failure<R: Print + Eprint>(rt: &R, failure: &Failure<'_>) -> io::Result<()> {

@@ -1,6 +1,6 @@
 // How far an audit is, on a terminal.
 
-use tl_audit::progress::Progress;
+use tl_audit::Progress;
 
 /// Shows on standard error how far an audit is, where that is a terminal. Where the first word of it is the last, nothing
 /// is shown.

@@ -9,7 +9,7 @@ use Rattle.tl_tree.specs.declared.fault.TreeFault.{TreeFault}
 use Rattle.tl_tree.specs.declared.fault.TreeFault.TheVariants as tree
 use Rattle.tl_instr.specs.Codes.{CodeValue}
 use Rattle.tl_instr.specs.Spelling.{Spelled}
-use Rattle.tl_instr.specs.Faults.{FirstFault}
+use Rattle.tl_instr.specs.Faults.{IsFirstFault}
 use Rattle.tl_instr.specs.declared.fault.CodeFault.TheVariants as code
 use Rattle.tl_verify.specs.Acceptable.{Acceptable}
 use Rattle.tl_verify.specs.Findings.{IsFirstFault}
@@ -58,18 +58,18 @@ abbrev pub IsTreeFault : List ℕ → TreeFault → Type 0
 IsTreeFault t f = ((IsUtf8 t → ⊥) × (f ≡ tree.NotTree)) ⊎ (tree_of_text t ≡ Err f)
 
 -- The fault of the first input that has one: the tree, the container, the verifier, the arguments, their number.
-abbrev pub IsFault : List ℕ → List ℕ → List ℕ → CliFault → Type 0
-IsFault t c a (Tree f) = f ≢ tree.Memory → IsTreeFault t f
-IsFault t c a (Code f) = f ≢ code.Memory → IsTreeFile t × FirstFault c f
-IsFault t c a (Verify f) = f ≢ verify.Memory → IsTreeFile t × (code' : CodeValue) × Spelled c code' × IsFirstFault code'.instrs f
-IsFault t c a NotArgs = IsTreeFile t × (code' : CodeValue) × Spelled c code' × Acceptable code'.instrs × (args_of_text a ≡ None)
-IsFault t c a WrongArgs = (inputs : Inputs t c a) × (length inputs.args ≢ inputs.code.arity)
-IsFault t c a Memory = Unit {0}
-IsFault t c a Unreadable = ⊥
-IsFault t c a Unwritable = ⊥
-IsFault t c a NotUtf8 = ⊥
-IsFault t c a (Asm f) = ⊥
-IsFault t c a (Core f) = ⊥
-IsFault t c a (Trail f) = ⊥
-IsFault t c a (Audit f) = ⊥
-IsFault t c a NotScript = ⊥
+abbrev pub IsFirstAloneFault : List ℕ → List ℕ → List ℕ → CliFault → Type 0
+IsFirstAloneFault t c a (Tree f) = f ≢ tree.Memory → IsTreeFault t f
+IsFirstAloneFault t c a (Code f) = f ≢ code.Memory → IsTreeFile t × IsFirstFault c f
+IsFirstAloneFault t c a (Verify f) = f ≢ verify.Memory → IsTreeFile t × (code' : CodeValue) × Spelled c code' × IsFirstFault code'.instrs f
+IsFirstAloneFault t c a NotArgs = IsTreeFile t × (code' : CodeValue) × Spelled c code' × Acceptable code'.instrs × (args_of_text a ≡ None)
+IsFirstAloneFault t c a WrongArgs = (inputs : Inputs t c a) × (length inputs.args ≢ inputs.code.arity)
+IsFirstAloneFault t c a Memory = Unit {0}
+IsFirstAloneFault t c a Unreadable = ⊥
+IsFirstAloneFault t c a Unwritable = ⊥
+IsFirstAloneFault t c a NotUtf8 = ⊥
+IsFirstAloneFault t c a (Asm f) = ⊥
+IsFirstAloneFault t c a (Core f) = ⊥
+IsFirstAloneFault t c a (Trail f) = ⊥
+IsFirstAloneFault t c a (Audit f) = ⊥
+IsFirstAloneFault t c a NotScript = ⊥

@@ -3,9 +3,9 @@ use Rattle.std.specs.Prelude.{◌≡◌, ◌≢◌, ◌⊎◌, ℕ, List, [], �
 use Rattle.serde_json.specs.Written.{compact_text}
 use Rattle.tl_protocol.specs.Order.{placed}
 use Rattle.tl_trail.specs.Trails.{TrailValue}
-use Rattle.tl_trail.specs.Reading.{IsTrailText, IsTrailFault}
+use Rattle.tl_trail.specs.Reading.{IsTrailText, IsFirstTrailFault}
 use Rattle.tl_trail.specs.Clean.{Clean}
-use Rattle.tl_audit.specs.Findings.{IsFirst}
+use Rattle.tl_audit.specs.Findings.{IsFirstFault}
 use Rattle.tl_trail.specs.declared.fault.TrailFault.{TrailFault}
 use Rattle.tl_trail.specs.declared.fault.TrailFault.TheVariants.{NotTrail}
 use Rattle.tl_audit.specs.declared.fault.AuditFault.{AuditFault}
@@ -21,7 +21,7 @@ pub record IsTrailFile (bytes : List ℕ) (t : TrailValue) : Type 0 where
 
 -- what is wrong with a file of a trail
 abbrev pub IsTrailFileFault : List ℕ → TrailFault → Type 0
-IsTrailFileFault bytes f = ((f ≡ NotTrail) × (IsUtf8 bytes → ⊥)) ⊎ IsTrailFault bytes f
+IsTrailFileFault bytes f = ((f ≡ NotTrail) × (IsUtf8 bytes → ⊥)) ⊎ IsFirstTrailFault bytes f
 
 -- The trail is clean, and what is printed is the order that its events give.
 pub record Audits (bytes out : List ℕ) : Type 0 where
@@ -31,7 +31,7 @@ pub record Audits (bytes out : List ℕ) : Type 0 where
   pub same : out ≡ compact_text (order_data (placed trail.parents trail.past)) ++ 10 ∷ []
 
 -- the first fault of the file, else the first of the trail; or want of memory
-abbrev pub IsAuditFault : List ℕ → CliFault → Type 0
-IsAuditFault bytes e = status_of e ≢ 4 →
+abbrev pub IsFirstAuditFault : List ℕ → CliFault → Type 0
+IsFirstAuditFault bytes e = status_of e ≢ 4 →
     ((f : TrailFault) × (e ≡ Trail f) × IsTrailFileFault bytes f)
-    ⊎ ((t : TrailValue) × (f : AuditFault) × (e ≡ Audit f) × IsTrailFile bytes t × IsFirst t f)
+    ⊎ ((t : TrailValue) × (f : AuditFault) × (e ≡ Audit f) × IsTrailFile bytes t × IsFirstFault t f)

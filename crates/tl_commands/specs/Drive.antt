@@ -91,5 +91,5 @@ IsWrong t s e =
     ⊎ ((script : ScriptValue) × (f : RegisterFault) × (e ≡ Register f) × IsTreeFile t × IsScript s script × IsFirstUnfit [] script.procedures f)
 
 -- the first fault, or want of memory
-abbrev pub IsDriveFault : List ℕ → List ℕ → CliFault → Type 0
-IsDriveFault t s e = status_of e ≢ 4 → IsWrong t s e
+abbrev pub IsFirstDriveFault : List ℕ → List ℕ → CliFault → Type 0
+IsFirstDriveFault t s e = status_of e ≢ 4 → IsWrong t s e

@@ -2,11 +2,11 @@
 use Rattle.std.specs.Prelude.{◌≡◌, ◌≢◌, ◌⊎◌, ℕ, List, ◌++◌, length, codes, decimal, IsUtf8}
 use Rattle.tl_instr.specs.Codes.{CodeValue}
 use Rattle.tl_instr.specs.Spelling.{Spelled}
-use Rattle.tl_instr.specs.Faults.{FirstFault as FirstCodeFault}
+use Rattle.tl_instr.specs.Faults.{IsFirstFault as IsFirstCodeFault}
 use Rattle.tl_instr.specs.declared.fault.CodeFault.{CodeFault}
 use Rattle.tl_asm.specs.Texts.{Written}
 use Rattle.tl_asm.specs.Listing.{listing}
-use Rattle.tl_asm.specs.Faults.{FirstFault as FirstTextFault}
+use Rattle.tl_asm.specs.Faults.{IsFirstFault as IsFirstTextFault}
 use Rattle.tl_asm.specs.declared.fault.AsmFault.{AsmFault}
 use Rattle.tl_budget.specs.Loops.{budget, lock_bound, emit_bound}
 use Rattle.tl_verify.specs.Acceptable.{Acceptable}
@@ -36,10 +36,10 @@ pub record Assembles (text out file : List ℕ) : Type 0 where
   pub same : out ≡ count_text (length code.instrs)
 
 -- the text isn't UTF-8, else its first fault; or want of memory
-abbrev pub IsAssemblingFault : List ℕ → CliFault → Type 0
-IsAssemblingFault text e = status_of e ≢ 4 →
+abbrev pub IsFirstAssemblingFault : List ℕ → CliFault → Type 0
+IsFirstAssemblingFault text e = status_of e ≢ 4 →
     ((e ≡ NotUtf8) × (IsUtf8 text → ⊥))
-    ⊎ ((f : AsmFault) × (e ≡ Asm f) × FirstTextFault text f)
+    ⊎ ((f : AsmFault) × (e ≡ Asm f) × IsFirstTextFault text f)
 
 -- ---- `dis`
 
@@ -50,8 +50,8 @@ pub record Lists (container out : List ℕ) : Type 0 where
   pub same : out ≡ listing code
 
 -- the container's first fault, or want of memory
-abbrev pub IsContainerFault : List ℕ → CliFault → Type 0
-IsContainerFault container e = status_of e ≢ 4 → (f : CodeFault) × (e ≡ Code f) × FirstCodeFault container f
+abbrev pub IsFirstContainerFault : List ℕ → CliFault → Type 0
+IsFirstContainerFault container e = status_of e ≢ 4 → (f : CodeFault) × (e ≡ Code f) × IsFirstCodeFault container f
 
 -- ---- `verify`
 
@@ -63,7 +63,7 @@ pub record Verifies (container out : List ℕ) : Type 0 where
   pub same : out ≡ bounds_text (emit_bound code.instrs) (lock_bound code.instrs) (budget code.instrs)
 
 -- the container's first fault, else the first of its code; or want of memory
-abbrev pub IsVerifyingFault : List ℕ → CliFault → Type 0
-IsVerifyingFault container e = status_of e ≢ 4 →
-    ((f : CodeFault) × (e ≡ Code f) × FirstCodeFault container f)
+abbrev pub IsFirstVerifyingFault : List ℕ → CliFault → Type 0
+IsFirstVerifyingFault container e = status_of e ≢ 4 →
+    ((f : CodeFault) × (e ≡ Code f) × IsFirstCodeFault container f)
     ⊎ ((f : VerifyFault) × (code : CodeValue) × (e ≡ Verify f) × Spelled container code × IsFirstFault code.instrs f)

@@ -6,24 +6,23 @@ ghost use Rattle.serde_json.specs.View.{view};
 ghost use Rattle.tl_instr.specs.Spelling.{Spelled};
 ghost use Rattle.tl_verify.specs.Acceptable.{Acceptable};
 ghost use Rattle.tl_tree.specs.Writing.{integer_data, integers_data, tree_text};
-ghost use Rattle.tl_commands.specs.Alone.{answer_text, args_of_text, Prints, IsTreeFile, IsFault};
+ghost use Rattle.tl_commands.specs.Alone.{answer_text, args_of_text, Prints, IsTreeFile, IsFirstAloneFault};
 
 use crate::fault::CliFault;
 use crate::inputs::tree_of_file;
 use serde_json::{Value, json};
 use std::alloc::{AllocError, Global};
 use std::sync::Arc;
-use tl_instr::container::decode;
-use tl_machine::alone_run::{Answer, alone};
-use tl_tree::text::write_tree;
-use tl_tree::value::{integers_from_value, integers_to_value};
-use tl_verify::procedure::{Proc, verify};
+use tl_instr::decode;
+use tl_machine::{Answer, alone};
+use tl_tree::{integers_from_value, integers_to_value, write_tree};
+use tl_verify::{Proc, verify};
 
 // The procedure that a file has.
 fn procedure_of_file(alloc: Global, bytes: &[u8]) -> Result<Proc, CliFault>
     ensures spelled { IfOk result (λ p. Spelled bytes.now p) }
     ensures accepted { IfOk result (λ p. Acceptable p.instrs) }
-    ensures fault { IfErr result (λ e. (tree args : List ℕ) → IsTreeFile tree → IsFault tree bytes.now args e) }
+    ensures fault { IfErr result (λ e. (tree args : List ℕ) → IsTreeFile tree → IsFirstAloneFault tree bytes.now args e) }
 {
     let code = match decode(alloc, bytes) {
         Ok(code) => code,
@@ -82,7 +81,7 @@ pub fn alone_cmd(
     args: &str,
 ) -> Result<String, CliFault>
     ensures printed { IfOk result (λ s. Prints tree.now procedure.now args.now (string_bytes s)) }
-    ensures fault { IfErr result (IsFault tree.now procedure.now args.now) }
+    ensures fault { IfErr result (IsFirstAloneFault tree.now procedure.now args.now) }
 {
     let mut tree = match tree_of_file(alloc, tree) {
         Ok(tree) => tree,

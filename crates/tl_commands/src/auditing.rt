@@ -3,17 +3,14 @@
 ghost use Rattle.std.specs.Prelude.{◌≡◌, ◌≢◌, [], ◌∷◌, ◌++◌, string_bytes, IfOk, IfErr};
 ghost use Rattle.serde_json.specs.Written.{compact_text};
 ghost use Rattle.tl_forms.specs.Lists.{order_data};
-ghost use Rattle.tl_commands.specs.Audit.{IsTrailFile, IsTrailFileFault, Audits, IsAuditFault};
+ghost use Rattle.tl_commands.specs.Audit.{IsTrailFile, IsTrailFileFault, Audits, IsFirstAuditFault};
 
 use crate::fault::CliFault;
 use std::alloc::{AllocError, Global};
-use tl_audit::auditing::audit_with;
-use tl_audit::progress::Progress;
-use tl_forms::order::order_to_value;
-use tl_order::order::Order;
-use tl_trail::fault::TrailFault;
-use tl_trail::reading::read_trail;
-use tl_trail::trail::Trail;
+use tl_audit::{Progress, audit_with};
+use tl_forms::order_to_value;
+use tl_order::Order;
+use tl_trail::{Trail, TrailFault, read_trail};
 
 // The trail that a file has. 701 where it is no UTF-8, else as `read_trail`.
 fn trail_of_file(alloc: Global, bytes: &[u8]) -> Result<Trail, TrailFault>
@@ -49,7 +46,7 @@ pub fn audit_cmd<P: Progress>(
     progress: &mut P,
 ) -> Result<String, CliFault>
     ensures printed { IfOk result (λ s. Audits trail.now (string_bytes s)) }
-    ensures fault { IfErr result (λ e. IsAuditFault trail.now e) }
+    ensures fault { IfErr result (λ e. IsFirstAuditFault trail.now e) }
 {
     let trail = match trail_of_file(alloc, trail) {
         Ok(trail) => trail,

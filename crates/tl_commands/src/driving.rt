@@ -6,7 +6,7 @@ ghost use Rattle.serde_json.specs.View.{view};
 ghost use Rattle.tl_commands.specs.Faults.{status_of};
 ghost use Rattle.tl_record.specs.Recording.{trail_value};
 ghost use Rattle.tl_trail.specs.Writing.{trail_text};
-ghost use Rattle.tl_commands.specs.Drive.{IsConclusion, tree_now, lines_told, IsDriven, Drives, DrivesToTrail, IsDriveFault};
+ghost use Rattle.tl_commands.specs.Drive.{IsConclusion, tree_now, lines_told, IsDriven, Drives, DrivesToTrail, IsFirstDriveFault};
 
 use crate::fault::CliFault;
 use crate::inputs::tree_of_file;
@@ -14,17 +14,14 @@ use crate::script::read_script;
 use crate::told::{trace_told, unfinished_told};
 use serde_json::Value;
 use std::alloc::{AllocError, Global};
-use tl_core::fault::CoreFault;
-use tl_core::interleaving::Core;
-use tl_core::moves::Entry;
-use tl_forms::order::order_to_value;
-use tl_forms::registering::register_all;
-use tl_history::history::MAX_EVENTS;
-use tl_order::fault::SerialFault;
-use tl_record::recording::trail_of;
-use tl_serial::concluding::conclude;
-use tl_trail::writing::write_trail;
-use tl_tree::text::write_tree;
+use tl_core::{Core, CoreFault, Entry};
+use tl_forms::{order_to_value, register_all};
+use tl_history::MAX_EVENTS;
+use tl_order::SerialFault;
+use tl_record::trail_of;
+use tl_serial::conclude;
+use tl_trail::write_trail;
+use tl_tree::write_tree;
 
 // The value of the second line.
 fn conclusion(alloc: Global, core: &Core) -> Result<Value, CliFault>
@@ -73,7 +70,7 @@ pub struct Driven {
 // Carries out a script on a tree.
 fn carry_out(alloc: Global, tree: &[u8], script: &[u8]) -> Result<Driven, CliFault>
     ensures ok { IfOk result (λ d. IsDriven tree.now script.now d.trace.items d.core) }
-    ensures fault { IfErr result (λ e. IsDriveFault tree.now script.now e) }
+    ensures fault { IfErr result (λ e. IsFirstDriveFault tree.now script.now e) }
 {
     let tree = match tree_of_file(alloc, tree) {
         Ok(tree) => tree,
@@ -119,7 +116,7 @@ fn trail_file(alloc: Global, core: &Core) -> Result<String, CliFault>
 /// 290, 490, 690 or 990.
 pub fn drive_cmd(alloc: Global, tree: &[u8], script: &[u8]) -> Result<String, CliFault>
     ensures printed { IfOk result (λ s. Drives tree.now script.now (string_bytes s)) }
-    ensures fault { IfErr result (λ e. IsDriveFault tree.now script.now e) }
+    ensures fault { IfErr result (λ e. IsFirstDriveFault tree.now script.now e) }
 {
     let driven = carry_out(alloc, tree, script)?;
     lines(alloc, &driven.core, &driven.trace)
@@ -132,7 +129,7 @@ pub fn drive_with_trail_cmd(
     script: &[u8],
 ) -> Result<(String, String), CliFault>
     ensures printed { IfOk result (λ r. DrivesToTrail tree.now script.now (string_bytes r.0) (string_bytes r.1)) }
-    ensures fault { IfErr result (λ e. IsDriveFault tree.now script.now e) }
+    ensures fault { IfErr result (λ e. IsFirstDriveFault tree.now script.now e) }
 {
     let driven = carry_out(alloc, tree, script)?;
     let text = lines(alloc, &driven.core, &driven.trace)?;

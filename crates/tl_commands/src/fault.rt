@@ -7,14 +7,14 @@ ghost use Rattle.tl_commands.specs.Faults.{numbers_of, status_of};
 use arrayvec::ArrayVec;
 use std::alloc::AllocError;
 use thiserror::Error;
-use tl_asm::fault::AsmFault;
-use tl_audit::fault::AuditFault;
-use tl_core::fault::CoreFault;
-use tl_forms::fault::RegisterFault;
-use tl_instr::fault::CodeFault;
-use tl_trail::fault::TrailFault;
-use tl_tree::fault::TreeFault;
-use tl_verify::fault::VerifyFault;
+use tl_asm::AsmFault;
+use tl_audit::AuditFault;
+use tl_core::CoreFault;
+use tl_forms::RegisterFault;
+use tl_instr::CodeFault;
+use tl_trail::TrailFault;
+use tl_tree::TreeFault;
+use tl_verify::VerifyFault;
 
 /// Why the program has no result to print.
 #[derive(Clone, Copy, Debug, PartialEq, Eq, Error)]

@@ -5,9 +5,7 @@ ghost use Rattle.tl_tree.specs.Reading.{tree_of_text};
 ghost use Rattle.tl_commands.specs.Alone.{IsTreeFault};
 
 use std::alloc::Global;
-use tl_tree::fault::TreeFault;
-use tl_tree::text::read_tree;
-use tl_tree::tree::Tree;
+use tl_tree::{Tree, TreeFault, read_tree};
 
 /// The tree that a file has. 106 where it is no UTF-8 or has another form, then 101 to 105.
 pub fn tree_of_file(alloc: Global, bytes: &[u8]) -> Result<Tree, TreeFault>

@@ -4,11 +4,18 @@
 //! first fault. Reading and writing the files is left to the program.
 #![tactic(auto)]
 
-pub mod alone;
-pub mod auditing;
-pub mod driving;
-pub mod fault;
+mod alone;
+mod auditing;
+mod driving;
+mod fault;
 mod inputs;
-pub mod procedures;
-pub mod script;
+mod procedures;
+mod script;
 mod told;
+
+pub use alone::alone_cmd;
+pub use auditing::audit_cmd;
+pub use driving::{Driven, drive_cmd, drive_with_trail_cmd};
+pub use fault::CliFault;
+pub use procedures::{asm_cmd, dis_cmd, verify_cmd};
+pub use script::{Script, read_script};

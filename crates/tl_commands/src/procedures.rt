@@ -7,23 +7,21 @@ ghost use Rattle.serde_json.specs.Written.{has_float, compact_text};
 ghost use Rattle.tl_tree.specs.Writing.{integer_data};
 ghost use Rattle.tl_instr.specs.Spelling.{Spelled};
 ghost use Rattle.tl_asm.specs.Texts.{Written};
-ghost use Rattle.tl_commands.specs.Procedures.{count_text, bounds_text, Assembles, IsAssemblingFault, Lists, IsContainerFault, Verifies, IsVerifyingFault};
+ghost use Rattle.tl_commands.specs.Procedures.{count_text, bounds_text, Assembles, IsFirstAssemblingFault, Lists, IsFirstContainerFault, Verifies, IsFirstVerifyingFault};
 
 use crate::fault::CliFault;
 use serde_json::{Value, json};
 use std::alloc::{AllocError, Global};
-use tl_asm::assembling::assemble;
-use tl_asm::listing::disassemble;
-use tl_budget::limits::Bounds;
-use tl_instr::code::Code;
-use tl_instr::container::{decode, encode};
-use tl_verify::procedure::verify;
+use tl_asm::{assemble, disassemble};
+use tl_budget::Bounds;
+use tl_instr::{Code, decode, encode};
+use tl_verify::verify;
 
 // The code of an assembler text.
 fn code_of_text(alloc: Global, text: &[u8]) -> Result<Code, CliFault>
     ensures utf8 { IfOk result (λ _. IsUtf8 text.now) }
     ensures written { IfOk result (λ code. Written text.now code) }
-    ensures fault { IfErr result (λ e. IsAssemblingFault text.now e) }
+    ensures fault { IfErr result (λ e. IsFirstAssemblingFault text.now e) }
 {
     let Ok(text) = std::str::from_utf8(text) else {
         return Err(CliFault::NotUtf8);
@@ -37,7 +35,7 @@ fn code_of_text(alloc: Global, text: &[u8]) -> Result<Code, CliFault>
 // The code of a container.
 fn code_of_container(alloc: Global, container: &[u8]) -> Result<Code, CliFault>
     ensures spelled { IfOk result (λ code. Spelled container.now code) }
-    ensures fault { IfErr result (λ e. IsContainerFault container.now e) }
+    ensures fault { IfErr result (λ e. IsFirstContainerFault container.now e) }
 {
     match decode(alloc, container) {
         Ok(code) => Ok(code),
@@ -97,7 +95,7 @@ fn bounds_line(alloc: Global, bounds: Bounds) -> Result<String, AllocError>
 /// has the arity or an instruction; 252. Where memory was refused, 290 or 990.
 pub fn asm_cmd(alloc: Global, text: &[u8]) -> Result<(String, Vec<u8>), CliFault>
     ensures printed { IfOk result (λ r. Assembles text.now (string_bytes r.0) r.1.items) }
-    ensures fault { IfErr result (λ e. IsAssemblingFault text.now e) }
+    ensures fault { IfErr result (λ e. IsFirstAssemblingFault text.now e) }
 {
     let code = code_of_text(alloc, text)?;
     let container = match encode(alloc, &code) {
@@ -113,7 +111,7 @@ pub fn asm_cmd(alloc: Global, text: &[u8]) -> Result<(String, Vec<u8>), CliFault
 /// Else the container's first fault, 201 to 206. Where memory was refused, 290.
 pub fn dis_cmd(alloc: Global, container: &[u8]) -> Result<String, CliFault>
     ensures printed { IfOk result (λ text. Lists container.now (string_bytes text)) }
-    ensures fault { IfErr result (λ e. IsContainerFault container.now e) }
+    ensures fault { IfErr result (λ e. IsFirstContainerFault container.now e) }
 {
     let code = code_of_container(alloc, container)?;
     match disassemble(alloc, &code) {
@@ -128,7 +126,7 @@ pub fn dis_cmd(alloc: Global, container: &[u8]) -> Result<String, CliFault>
 /// 290, 490 or 990.
 pub fn verify_cmd(alloc: Global, container: &[u8]) -> Result<String, CliFault>
     ensures printed { IfOk result (λ s. Verifies container.now (string_bytes s)) }
-    ensures fault { IfErr result (λ e. IsVerifyingFault container.now e) }
+    ensures fault { IfErr result (λ e. IsFirstVerifyingFault container.now e) }
 {
     let code = code_of_container(alloc, container)?;
     match verify(alloc, code) {

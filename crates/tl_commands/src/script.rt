@@ -7,10 +7,8 @@ ghost use Rattle.tl_commands.specs.Script.{ScriptValue, script_view, call_of, pa
 use crate::fault::CliFault;
 use serde_json::Value;
 use std::alloc::{AllocError, Global};
-use tl_core::moves::Move;
-use tl_forms::json::{FromValue, each_of, parse};
-use tl_forms::procedure::ProcedureText;
-use tl_forms::request::Request;
+use tl_core::Move;
+use tl_forms::{FromValue, ProcedureText, Request, each_of, parse};
 
 /// What is to be registered, and then the moves.
 #[derive(Debug, Drop)]

@@ -11,11 +11,9 @@ ghost use Rattle.tl_forms.specs.Lists.{order_data};
 
 use serde_json::{Value, json};
 use std::alloc::{AllocError, Global};
-use tl_core::moves::Entry;
-use tl_core::stepped::Stepped;
-use tl_forms::event::{call_to_value, node_to_value};
-use tl_forms::letter::Letter;
-use tl_protocol::action::Action;
+use tl_core::{Entry, Stepped};
+use tl_forms::{Letter, call_to_value, node_to_value};
+use tl_protocol::Action;
 
 // A call, a node, a field, and its value.
 fn field_told(

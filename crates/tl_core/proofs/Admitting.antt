@@ -12,8 +12,8 @@ use Rattle.tl_protocol.specs.declared.event.Event.TheVariants as event
 use Rattle.tl_protocol.specs.Alone.{Outcome, EndsOnce, IsAlone}
 use Rattle.tl_protocol.specs.History.{part_of, is_done, admits}
 use Rattle.tl_protocol.specs.World.{IsSound, after_admission}
-use Rattle.tl_protocol.proofs.Reached.{sound_after_admission, unadmitted_done}
-use Rattle.tl_protocol.proofs.Steps.{unadmitted}
+use Rattle.tl_protocol.proofs.ReachedWorlds.{sound_after_admission, unadmitted_done}
+use Rattle.tl_protocol.proofs.WorldSteps.{unadmitted}
 use Rattle.tl_history.specs.Stored.{Stored}
 use Rattle.tl_machine.specs.Runs.{Run, actions}
 use Rattle.tl_machine.specs.Alone.{alone}
@@ -21,7 +21,7 @@ use Rattle.tl_machine.specs.Call.{reply_so_far}
 use Rattle.tl_machine.specs.Outcomes.{meaning}
 use Rattle.tl_machine.specs.Stands.{run_left}
 use Rattle.tl_machine.specs.Turns.{IsTurn}
-use Rattle.tl_machine.proofs.Beginning.{is_alone}
+use Rattle.tl_machine.proofs.StartLemmas.{is_alone}
 use Rattle.tl_core.specs.declared.call.Call.{Call}
 use Rattle.tl_core.specs.Cores.{CoreValue, no_call, call_of, code_of, world_of, total, owed_to, places}
 use Rattle.tl_core.specs.Entries.{procedure_at}

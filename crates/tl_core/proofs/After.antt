@@ -10,7 +10,7 @@ use Rattle.tl_protocol.specs.Actions.{emitted}
 use Rattle.tl_protocol.specs.History.{is_done, records_now}
 use Rattle.tl_protocol.specs.Holders.{holder_of}
 use Rattle.tl_protocol.specs.World.{MayTake, as_found}
-use Rattle.tl_protocol.proofs.Steps.{admits-past_after}
+use Rattle.tl_protocol.proofs.WorldSteps.{admits-past_after}
 use Rattle.tl_machine.specs.Turns.{TurnValue, IsTurn, with_call}
 use Rattle.tl_core.specs.declared.call.Call.{Call}
 use Rattle.tl_core.specs.Cores.{CoreValue, call_of, world_of, total, owed_to, places}

@@ -8,7 +8,7 @@ use Rattle.tl_budget.specs.Loops.{budget}
 use Rattle.tl_protocol.specs.declared.action.Action.{Action}
 use Rattle.tl_protocol.specs.History.{admits, is_done}
 use Rattle.tl_protocol.specs.World.{next_of}
-use Rattle.tl_protocol.proofs.Steps.{admits-past_after}
+use Rattle.tl_protocol.proofs.WorldSteps.{admits-past_after}
 use Rattle.tl_core.specs.declared.fault.CoreFault.{CoreFault}
 use Rattle.tl_core.specs.declared.stepped.Stepped.{Stepped}
 use Rattle.tl_core.specs.declared.stepped.Stepped.TheVariants.{Moved, Blocked, Over}

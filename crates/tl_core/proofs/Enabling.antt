@@ -12,7 +12,7 @@ use Rattle.tl_protocol.specs.History.{is_done, admits, AllDone}
 use Rattle.tl_protocol.specs.Holders.{holder_of}
 use Rattle.tl_protocol.specs.World.{IsEnabled}
 use Rattle.tl_protocol.proofs.Holders.{holder_stuck}
-use Rattle.tl_protocol.proofs.Standstill.{may_take_enabled, some_enabled}
+use Rattle.tl_protocol.proofs.NoStandstill.{may_take_enabled, some_enabled}
 use Rattle.tl_machine.specs.Runs.{Run, Then, At, Ended, actions}
 use Rattle.tl_machine.specs.Turns.{Wants, Stops}
 use Rattle.tl_machine.specs.Wants.{want_of}

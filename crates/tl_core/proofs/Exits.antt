@@ -25,7 +25,7 @@ use Rattle.tl_machine.specs.Turns.{TurnValue, IsTurn, running, over, Wants, Stop
 use Rattle.tl_machine.specs.declared.call.CallState.{CallState}
 use Rattle.tl_machine.specs.declared.want.Want.TheVariants as want
 use Rattle.tl_machine.specs.declared.want.Stop.TheVariants as stop
-use Rattle.tl_machine.proofs.Beginning.{few_locks}
+use Rattle.tl_machine.proofs.StartLemmas.{few_locks}
 use Rattle.tl_core.specs.declared.call.Call.{Call}
 use Rattle.tl_core.specs.declared.stepped.Stepped.TheVariants.{Moved, Blocked}
 use Rattle.tl_core.specs.Cores.{CoreValue, code_of, world_of}

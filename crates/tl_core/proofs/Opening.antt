@@ -3,7 +3,7 @@ use Rattle.std.proofs.Common.{◌≡◌, ℕ, List, [], length, replicate, map, 
 use Rattle.std.proofs.lemmas.List.{get_or-replicate, length-replicate}
 use Rattle.std.proofs.lemmas.Option.{slice_get-get_or}
 use Rattle.tl_tree.specs.Trees.{TreeValue, IsWhole}
-use Rattle.tl_protocol.proofs.Reached.{sound_opening}
+use Rattle.tl_protocol.proofs.ReachedWorlds.{sound_opening}
 use Rattle.tl_core.specs.declared.call.Call.{Call}
 use Rattle.tl_history.specs.Stored.{Stored}
 use Rattle.tl_procedures.specs.Names.{Named}

@@ -13,11 +13,11 @@ use Rattle.tl_protocol.specs.Alone.{all_taken}
 use Rattle.tl_protocol.specs.History.{part_of}
 use Rattle.tl_protocol.specs.World.{alone_of}
 use Rattle.tl_protocol.proofs.Alone.{taken-next, obeys_taken, finds_at}
-use Rattle.tl_protocol.proofs.Coming.{held-locked}
+use Rattle.tl_protocol.proofs.MayComeLemmas.{held-locked}
 use Rattle.tl_protocol.proofs.Counts.{frees_within, part_locks_within}
-use Rattle.tl_protocol.proofs.Laid.{freed-locked}
-use Rattle.tl_protocol.proofs.Shared.{locked-shared_actions}
-use Rattle.tl_protocol.proofs.Steps.{part_inside}
+use Rattle.tl_protocol.proofs.RecordsAlongOrder.{freed-locked}
+use Rattle.tl_protocol.proofs.SharedActions.{locked-shared_actions}
+use Rattle.tl_protocol.proofs.WorldSteps.{part_inside}
 use Rattle.tl_machine.specs.Runs.{Run, Then, actions}
 use Rattle.tl_core.specs.declared.call.Call.{Call}
 use Rattle.tl_core.specs.Cores.{CoreValue, call_of, code_of, world_of, places}

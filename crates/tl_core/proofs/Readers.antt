@@ -13,10 +13,10 @@ use Rattle.tl_protocol.specs.History.{is_done, admits, record_now}
 use Rattle.tl_protocol.specs.Obeys.{Obeys}
 use Rattle.tl_protocol.specs.World.{alone_of, reply_of}
 use Rattle.tl_protocol.proofs.Records.{record_at-records_now, length-records_now}
-use Rattle.tl_protocol.proofs.Places.{obeys_first}
+use Rattle.tl_protocol.proofs.ObeysByPlaces.{obeys_first}
 use Rattle.tl_machine.specs.Runs.{actions, emitted as newly}
 use Rattle.tl_machine.specs.Outcomes.{meaning}
-use Rattle.tl_machine.proofs.Beginning.{few_steps, few_locks, few_values}
+use Rattle.tl_machine.proofs.StartLemmas.{few_steps, few_locks, few_values}
 use Rattle.tl_core.specs.declared.call.Call.{Call}
 use Rattle.tl_core.specs.Cores.{CoreValue, call_of, code_of, world_of, done_by}
 use Rattle.tl_core.specs.Entries.{procedure_at}

@@ -13,7 +13,7 @@ use Rattle.tl_protocol.specs.Holders.{holder_of}
 use Rattle.tl_protocol.specs.World.{IsSound, MayTake, alone_of, next_of, as_found, past_after, after_step as world_after}
 use Rattle.tl_protocol.proofs.Records.{length-with_found}
 use Rattle.tl_protocol.proofs.Holders.{holderless_may_take}
-use Rattle.tl_protocol.proofs.Reached.{sound_after_step}
+use Rattle.tl_protocol.proofs.ReachedWorlds.{sound_after_step}
 use Rattle.tl_machine.specs.Runs.{Run, Then, At, Ended, actions}
 use Rattle.tl_machine.specs.Outcomes.{meaning}
 use Rattle.tl_machine.specs.Stands.{run_left}

@@ -8,11 +8,10 @@ ghost use Rattle.tl_core.specs.declared.fault.CoreFault.TheVariants as fault;
 use crate::fault::CoreFault;
 use arrayvec::ArrayVec;
 use std::sync::Arc;
-use tl_instr::operand::MAX_ARGS;
-use tl_machine::reply::Reply;
-use tl_machine::turn::Turn;
-use tl_tree::shape::Shape;
-use tl_verify::procedure::Proc;
+use tl_instr::MAX_ARGS;
+use tl_machine::{Reply, Turn};
+use tl_tree::Shape;
+use tl_verify::Proc;
 
 /// A call as the core keeps it. Callers see it through the core's readers.
 #[derive(Debug, Drop)]

@@ -23,15 +23,11 @@ use std::alloc::Global;
 use std::marker::Model;
 use std::sync::Arc;
 use tl_history::{History, MAX_CALLS, MAX_EVENTS};
-use tl_machine::reply::Reply;
-use tl_machine::want::{Advance, Stop, Want};
-use tl_procedures::fault::NamingFault;
-use tl_procedures::procedures::Procedures;
-use tl_protocol::action::Action;
-use tl_protocol::event::Event;
-use tl_tree::record::Record;
-use tl_tree::tree::Tree;
-use tl_verify::procedure::Proc;
+use tl_machine::{Advance, Reply, Stop, Want};
+use tl_procedures::{NamingFault, Procedures};
+use tl_protocol::{Action, Event};
+use tl_tree::{Record, Tree};
+use tl_verify::Proc;
 
 /// How many calls may be unfinished at once.
 pub const MAX_UNFINISHED: usize = 64;

@@ -5,10 +5,15 @@
 //! do to the tree is stored as a history. Its world is legal, whatever is asked of it.
 #![tactic(auto)]
 
-pub mod call;
-pub mod fault;
-pub mod interleaving;
-pub mod moves;
-pub mod stepped;
+mod call;
+mod fault;
+mod interleaving;
+mod moves;
+mod stepped;
 #[cfg(test)]
 mod tests;
+
+pub use fault::CoreFault;
+pub use interleaving::{Core, MAX_UNFINISHED};
+pub use moves::{Entry, Move};
+pub use stepped::Stepped;

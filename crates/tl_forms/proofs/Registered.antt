@@ -1,8 +1,8 @@
 -- Texts under names are taken up in one way, or have a fault.
 use Rattle.std.proofs.Common.{◌≡◌, ℕ, List, [], ◌∷◌, sym, ◌∙◌, subst, inl, inr}
 use Rattle.tl_instr.specs.Codes.{CodeValue}
-use Rattle.tl_asm.proofs.Laws.{same_code, faultless}
-use Rattle.tl_verify.proofs.Looking.{nothing_found}
+use Rattle.tl_asm.proofs.OneCode.{same_code, faultless}
+use Rattle.tl_verify.proofs.NoFindings.{nothing_found}
 use Rattle.tl_verify.specs.Acceptable.{Acceptable}
 use Rattle.tl_procedures.specs.Names.{Named}
 use Rattle.tl_forms.specs.declared.fault.ProcedureFault.{ProcedureFault}

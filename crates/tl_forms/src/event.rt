@@ -12,9 +12,8 @@ use crate::json::{FromValue, ToValue, each_of, four_of, two_of};
 use crate::letter::Letter;
 use serde_json::{Value, json};
 use std::alloc::{AllocError, Global};
-use tl_protocol::event::Event;
-use tl_tree::record::Record;
-use tl_tree::value::{record_from_value, record_to_value};
+use tl_protocol::Event;
+use tl_tree::{Record, record_from_value, record_to_value};
 
 /// An event as it is written: its call and its node may be any numbers.
 #[derive(Clone, Copy, Debug)]

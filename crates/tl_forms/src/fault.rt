@@ -7,9 +7,9 @@ ghost use Rattle.tl_forms.specs.Faults.{text_numbers_of, is_text_memory, numbers
 
 use arrayvec::ArrayVec;
 use thiserror::Error;
-use tl_asm::fault::AsmFault;
-use tl_procedures::fault::NamingFault;
-use tl_verify::fault::VerifyFault;
+use tl_asm::AsmFault;
+use tl_procedures::NamingFault;
+use tl_verify::VerifyFault;
 
 /// Why a text is no procedure's.
 #[derive(Clone, Copy, Debug, PartialEq, Eq, Error)]

@@ -5,12 +5,24 @@
 //! runs a call.
 #![tactic(auto)]
 
-pub mod event;
-pub mod fault;
-pub mod json;
-pub mod letter;
-pub mod order;
-pub mod procedure;
-pub mod registering;
-pub mod reply;
-pub mod request;
+mod event;
+mod fault;
+mod json;
+mod letter;
+mod order;
+mod procedure;
+mod registering;
+mod reply;
+mod request;
+
+pub use event::{RawEvent, call_to_value, events_from_value, node_to_value};
+pub use fault::{ProcedureFault, RegisterFault};
+pub use json::{
+    FromValue, ToValue, each_of, four_of, list_to_value, parse, parse_text, three_of, two_of,
+};
+pub use letter::Letter;
+pub use order::order_to_value;
+pub use procedure::{ProcedureText, procedures_to_value};
+pub use registering::{procedure_of_text, register, register_all};
+pub use reply::{reply_from_value, reply_to_value};
+pub use request::Request;

@@ -12,9 +12,9 @@ ghost use Rattle.tl_forms.specs.Procedures.{procedure_data, AreAccepted};
 use crate::json::{FromValue, two_of};
 use serde_json::{Value, json};
 use std::alloc::{AllocError, Global};
-use tl_asm::listing::disassemble;
-use tl_procedures::procedures::Procedures;
-use tl_verify::procedure::Proc;
+use tl_asm::disassemble;
+use tl_procedures::Procedures;
+use tl_verify::Proc;
 
 /// A procedure as it is written: its name, and its assembler text.
 #[derive(Debug, Drop)]

@@ -9,9 +9,9 @@ ghost use Rattle.tl_forms.specs.Registering.{IsCodeText, IsTextFault, IsFit, and
 use crate::fault::{ProcedureFault, RegisterFault};
 use crate::procedure::ProcedureText;
 use std::alloc::Global;
-use tl_asm::assembling::assemble;
-use tl_procedures::procedures::Procedures;
-use tl_verify::procedure::{Proc, verify};
+use tl_asm::assemble;
+use tl_procedures::Procedures;
+use tl_verify::{Proc, verify};
 
 /// The procedure of an assembler text. What is wrong first: the assembler's 251 to 254, and then the verifier's 301 to
 /// 307 and 401 to 409. 290 or 490 where memory is refused.

@@ -8,8 +8,8 @@ ghost use Rattle.tl_forms.specs.Replies.{reply_of, reply_data};
 use arrayvec::ArrayVec;
 use serde_json::Value;
 use std::alloc::{AllocError, Global};
-use tl_budget::limits::MAX_EMITS;
-use tl_tree::value::{integers_from_value, integers_to_value};
+use tl_budget::MAX_EMITS;
+use tl_tree::{integers_from_value, integers_to_value};
 
 /// The reply of a call, if it has any: null, or a list of at most 32 numbers. `None` for another value.
 pub fn reply_from_value(

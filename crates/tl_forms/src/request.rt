@@ -5,7 +5,7 @@ ghost use Rattle.std.specs.Prelude.{◌≡◌};
 use crate::json::{FromValue, two_of};
 use serde_json::Value;
 use std::alloc::{AllocError, Global};
-use tl_tree::value::integers_from_value;
+use tl_tree::integers_from_value;
 
 /// What is asked of a call: the name of its procedure, and its arguments.
 #[derive(Debug, Drop)]

@@ -8,8 +8,8 @@ ghost use Rattle.tl_history.specs.Stored.{room_of, IsWithinLimit};
 use crate::fault::HistoryFault;
 use std::alloc::{AllocError, Global};
 use std::marker::Model;
-use tl_protocol::event::Event;
-use tl_tree::record::Record;
+use tl_protocol::Event;
+use tl_tree::Record;
 
 /// The most events that a history may be made for.
 pub const MAX_EVENTS: usize = 1_048_576;

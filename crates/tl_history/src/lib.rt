@@ -10,4 +10,4 @@ mod history;
 mod tests;
 
 pub use fault::HistoryFault;
-pub use history::{History, MAX_EVENTS};
+pub use history::{History, MAX_CALLS, MAX_EVENTS};

@@ -1,7 +1,7 @@
 use crate::fault::HistoryFault;
 use crate::history::{History, MAX_EVENTS};
 use std::test::Fail;
-use tl_protocol::event::Event;
+use tl_protocol::Event;
 
 const EVENTS: [Event; 7] = [
     Event::Admit { call: 0 },

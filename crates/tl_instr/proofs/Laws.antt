@@ -10,7 +10,7 @@ use Rattle.tl_instr.specs.declared.fault.CodeFault.TheVariants.{BadMagic, BadLen
 use Rattle.tl_instr.specs.declared.instr.Instr.{Instr}
 use Rattle.tl_instr.specs.Instructions.{IsInstr}
 use Rattle.tl_instr.specs.Codes.{CodeValue, IsCode, IsCount}
-use Rattle.tl_instr.specs.Faults.{IsCell, FirstFault, count_at, cell_at}
+use Rattle.tl_instr.specs.Faults.{IsCell, IsFirstFault, count_at, cell_at}
 use Rattle.tl_instr.specs.Spelling.{instr_bytes, spelling, Spelled}
 use Rattle.tl_instr.proofs.Bytes.{same_instr}
 
@@ -81,7 +81,7 @@ has_cell c k valid lt =
     let at : cell_at (spelling c) k ≡ take 8 (drop (8 * k) (cells c.instrs)) = rw (eight, moved) refl in
     subst (λ (n : ℕ). IsCell n (cell_at (spelling c) k)) (sym (count_at-spelling c (small c valid))) (subst (IsCell (length c.instrs)) (sym at) there)
 
-spelling_faultless : (c : CodeValue) (f : CodeFault) → IsCode c → FirstFault (spelling c) f → ⊥
+spelling_faultless : (c : CodeValue) (f : CodeFault) → IsCode c → IsFirstFault (spelling c) f → ⊥
 spelling_faultless c BadMagic valid fault = fault refl
 spelling_faultless c BadLength valid (magic, inl short) = omega (arith, length-spelling c)
 spelling_faultless c BadLength valid (magic, inr long) = long.3 (length-spelling c ∙ ap (λ (n : ℕ). 8 + 8 * n) (sym (count_at-spelling c (small c valid))))
@@ -92,5 +92,5 @@ spelling_faultless c BadArity valid fault = fault.2 (valid.arity, refl)
 spelling_faultless c Memory valid fault = fault
 
 -- what is spelled has no fault
-pub faultless : (bytes : List ℕ) (c : CodeValue) (f : CodeFault) → Spelled bytes c → FirstFault bytes f → ⊥
-faultless bytes c f spelled fault = spelling_faultless c f spelled.valid (subst (λ (b : List ℕ). FirstFault b f) spelled.same fault)
+pub faultless : (bytes : List ℕ) (c : CodeValue) (f : CodeFault) → Spelled bytes c → IsFirstFault bytes f → ⊥
+faultless bytes c f spelled fault = spelling_faultless c f spelled.valid (subst (λ (b : List ℕ). IsFirstFault b f) spelled.same fault)

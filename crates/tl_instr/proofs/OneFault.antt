@@ -3,17 +3,17 @@ use Rattle.std.proofs.Common.{◌≡◌, ℕ, List, refl, sym, ap, subst, arith,
 use Rattle.std.proofs.lemmas.Bool.{cases_order}
 use Rattle.tl_instr.specs.declared.fault.CodeFault.{CodeFault}
 use Rattle.tl_instr.specs.declared.fault.CodeFault.TheVariants.{BadMagic, BadLength, BadOpcode, BadOperand, BadCount, BadArity, Memory}
-use Rattle.tl_instr.specs.Faults.{IsFramed, IsFirstBad, IsOpcode, FirstFault, opcode_at}
+use Rattle.tl_instr.specs.Faults.{IsFramed, IsFirstBad, IsOpcode, IsFirstFault, opcode_at}
 
-length_arity : (bytes : List ℕ) → FirstFault bytes BadLength → FirstFault bytes BadArity → ⊥
+length_arity : (bytes : List ℕ) → IsFirstFault bytes BadLength → IsFirstFault bytes BadArity → ⊥
 length_arity bytes (magic, inl short) q = omega (arith, q.1)
 length_arity bytes (magic, inr long) q = q.2 long.1
 
-length_count : (bytes : List ℕ) → FirstFault bytes BadLength → FirstFault bytes BadCount → ⊥
+length_count : (bytes : List ℕ) → IsFirstFault bytes BadLength → IsFirstFault bytes BadCount → ⊥
 length_count bytes (magic, inl short) q = omega (arith, q.1)
 length_count bytes (magic, inr long) q = q.3 long.2
 
-length_framed : (bytes : List ℕ) → FirstFault bytes BadLength → IsFramed bytes → ⊥
+length_framed : (bytes : List ℕ) → IsFirstFault bytes BadLength → IsFramed bytes → ⊥
 length_framed bytes (magic, inl short) framed = omega (arith, framed.header)
 length_framed bytes (magic, inr long) framed = long.3 framed.size
 
@@ -26,11 +26,11 @@ same_place bytes j k p q =
       | inr (inr gt) ↦ absurd (q.here (p.before k gt))
     ]
 
-known_or_not : (bytes : List ℕ) (j k : ℕ) → FirstFault bytes (BadOpcode j) → FirstFault bytes (BadOperand k) → ⊥
+known_or_not : (bytes : List ℕ) (j k : ℕ) → IsFirstFault bytes (BadOpcode j) → IsFirstFault bytes (BadOperand k) → ⊥
 known_or_not bytes j k p q =
     p.1 (subst (λ (n : ℕ). IsOpcode (opcode_at bytes n)) (sym (same_place bytes j k p.0 q.0)) q.1)
 
-pub one_fault : (bytes : List ℕ) (f g : CodeFault) → FirstFault bytes f → FirstFault bytes g → f ≡ g
+pub one_fault : (bytes : List ℕ) (f g : CodeFault) → IsFirstFault bytes f → IsFirstFault bytes g → f ≡ g
 one_fault bytes BadMagic BadMagic p q = refl
 one_fault bytes BadMagic BadLength p q = absurd (p q.0)
 one_fault bytes BadMagic BadArity p q = absurd (p q.0)

@@ -12,7 +12,7 @@ use Rattle.tl_instr.specs.declared.fault.CodeFault.TheVariants.{BadMagic, BadLen
 use Rattle.tl_instr.specs.declared.instr.Instr.{Instr}
 use Rattle.tl_instr.specs.Instructions.{IsInstr}
 use Rattle.tl_instr.specs.Codes.{CodeValue, IsCode, IsArity, IsCount}
-use Rattle.tl_instr.specs.Faults.{IsFramed, FirstFault, count_at}
+use Rattle.tl_instr.specs.Faults.{IsFramed, IsFirstFault, count_at}
 use Rattle.tl_instr.specs.Spelling.{magic, header, instr_bytes, Spelled}
 use Rattle.tl_instr.proofs.Laws.{faultless}
 
@@ -55,7 +55,7 @@ is_spelled bytes arity count instrs fits framed arity_is count_is valid counted 
     }
 
 -- a fault that isn't memory's stands where nothing is spelled
-pub memory_alone : (bytes : List ℕ) (c : CodeValue) (f : CodeFault) → Spelled bytes c → (f ≢ Memory → FirstFault bytes f) → f ≡ Memory
+pub memory_alone : (bytes : List ℕ) (c : CodeValue) (f : CodeFault) → Spelled bytes c → (f ≢ Memory → IsFirstFault bytes f) → f ≡ Memory
 memory_alone bytes c Memory spelled first = refl
 memory_alone bytes c BadMagic spelled first = absurd (faultless bytes c BadMagic spelled (first (λ e. cc)))
 memory_alone bytes c BadLength spelled first = absurd (faultless bytes c BadLength spelled (first (λ e. cc)))

@@ -10,7 +10,7 @@ use Rattle.tl_instr.specs.declared.fault.CodeFault.{CodeFault}
 use Rattle.tl_instr.specs.declared.fault.CodeFault.TheVariants.{BadOpcode, BadOperand}
 use Rattle.tl_instr.specs.declared.instr.Instr.{Instr}
 use Rattle.tl_instr.specs.Instructions.{IsInstr}
-use Rattle.tl_instr.specs.Faults.{IsFramed, IsOpcode, IsCell, IsFirstBad, IsCellFault, FirstFault, HasLength, count_at, cell_at, opcode_at}
+use Rattle.tl_instr.specs.Faults.{IsFramed, IsOpcode, IsCell, IsFirstBad, IsCellFault, IsFirstFault, HasLength, count_at, cell_at, opcode_at}
 use Rattle.tl_instr.specs.Spelling.{cell_of, cell_bytes, instr_bytes}
 use Rattle.tl_instr.proofs.Bytes.{no_cell}
 
@@ -50,12 +50,12 @@ all_walked bytes count pos instrs le size e walked =
     sym (take_all (8 * pos) (drop 8 bytes) long) ∙ walked.spelled
 
 -- the fault at the first position that has one is the first
-pub first_bad : (bytes : List ℕ) (count pos : ℕ) (f : CodeFault) → IsFramed bytes → count ≡ count_at bytes → pos < count → ((k : ℕ) → k < pos → IsCell count (cell_at bytes k)) → IsCellFault bytes pos f → FirstFault bytes f
+pub first_bad : (bytes : List ℕ) (count pos : ℕ) (f : CodeFault) → IsFramed bytes → count ≡ count_at bytes → pos < count → ((k : ℕ) → k < pos → IsCell count (cell_at bytes k)) → IsCellFault bytes pos f → IsFirstFault bytes f
 first_bad bytes count pos f framed e lt before fault =
     let bad : IsFirstBad bytes pos = record { framed = framed; inside = omega arith; before = λ k below. subst (λ (n : ℕ). IsCell n (cell_at bytes k)) e (before k below); here = fault.0 } in
     elim fault.1 [
-      | inl opcode ↦ subst (FirstFault bytes) (sym opcode.0) (bad, opcode.1)
-      | inr operand ↦ subst (FirstFault bytes) (sym operand.0) (bad, operand.1)
+      | inl opcode ↦ subst (IsFirstFault bytes) (sym opcode.0) (bad, opcode.1)
+      | inr operand ↦ subst (IsFirstFault bytes) (sym operand.0) (bad, operand.1)
     ]
 
 cell_opcode : (bytes : List ℕ) (pos : ℕ) (c : Cell) → cell_bytes c ≡ cell_at bytes pos → c.opcode ≡ opcode_at bytes pos

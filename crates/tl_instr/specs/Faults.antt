@@ -74,14 +74,14 @@ pub record IsFirstBad (bytes : List ℕ) (pc : ℕ) : Type 0 where
   pub here : ¬ IsCell (count_at bytes) (cell_at bytes pc)
 
 -- The first fault of bytes that are no container.
-abbrev pub FirstFault : List ℕ → CodeFault → Type 0
-FirstFault bytes BadMagic = ¬ HasMagic bytes
-FirstFault bytes BadLength = HasMagic bytes × ((length bytes < 8) ⊎ ((8 ≤ length bytes) × HasArity bytes × IsCount (count_at bytes) × ¬ HasLength bytes))
-FirstFault bytes BadArity = HasMagic bytes × (8 ≤ length bytes) × ¬ HasArity bytes
-FirstFault bytes BadCount = HasMagic bytes × (8 ≤ length bytes) × HasArity bytes × ¬ IsCount (count_at bytes)
-FirstFault bytes (BadOpcode pc) = IsFirstBad bytes pc × ¬ IsOpcode (opcode_at bytes pc)
-FirstFault bytes (BadOperand pc) = IsFirstBad bytes pc × IsOpcode (opcode_at bytes pc)
-FirstFault bytes Memory = ⊥
+abbrev pub IsFirstFault : List ℕ → CodeFault → Type 0
+IsFirstFault bytes BadMagic = ¬ HasMagic bytes
+IsFirstFault bytes BadLength = HasMagic bytes × ((length bytes < 8) ⊎ ((8 ≤ length bytes) × HasArity bytes × IsCount (count_at bytes) × ¬ HasLength bytes))
+IsFirstFault bytes BadArity = HasMagic bytes × (8 ≤ length bytes) × ¬ HasArity bytes
+IsFirstFault bytes BadCount = HasMagic bytes × (8 ≤ length bytes) × HasArity bytes × ¬ IsCount (count_at bytes)
+IsFirstFault bytes (BadOpcode pc) = IsFirstBad bytes pc × ¬ IsOpcode (opcode_at bytes pc)
+IsFirstFault bytes (BadOperand pc) = IsFirstBad bytes pc × IsOpcode (opcode_at bytes pc)
+IsFirstFault bytes Memory = ⊥
 
 -- what is wrong with the bytes at pc alone
 abbrev pub IsCellFault : List ℕ → ℕ → CodeFault → Type 0

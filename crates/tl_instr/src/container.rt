@@ -3,7 +3,7 @@
 ghost use Rattle.std.specs.Prelude.{◌≡◌, ◌≢◌, ℕ, List, ◌+◌, ◌*◌, ◌<◌, ◌≤◌, length, drop, slice_index, IfOk, IfErr, MatchResult};
 ghost use Rattle.std.specs.List.{All, flat_map};
 ghost use Rattle.tl_instr.specs.Codes.{CodeValue, IsCode};
-ghost use Rattle.tl_instr.specs.Faults.{IsFramed, IsCellFault, FirstFault, count_at, cell_at};
+ghost use Rattle.tl_instr.specs.Faults.{IsFramed, IsCellFault, IsFirstFault, count_at, cell_at};
 ghost use Rattle.tl_instr.specs.Instructions.{IsInstr};
 ghost use Rattle.tl_instr.specs.Spelling.{Spelled, spelling, instr_bytes};
 
@@ -31,7 +31,7 @@ struct Header {
 fn header_of(bytes: &[u8]) -> Result<Header, CodeFault>
     ensures { MatchResult result
         (λ h. IsFramed bytes.now × (h.arity ≡ slice_index bytes.now 4) × (h.count ≡ count_at bytes.now))
-        (FirstFault bytes.now) }
+        (IsFirstFault bytes.now) }
 {
     if !bytes.starts_with(&MAGIC) {
         return Err(CodeFault::BadMagic);
@@ -80,7 +80,7 @@ fn instrs_of(alloc: Global, bytes: &[u8], count: u16) -> Result<Vec<Instr>, Code
     requires counted { count ≡ count_at bytes.now }
     ensures valid { IfOk result (λ v. All (IsInstr count) v.items × (length v.items ≡ count)) }
     ensures spelled { IfOk result (λ v. drop 8 bytes.now ≡ flat_map instr_bytes v.items) }
-    ensures fault { IfErr result (λ f. f ≢ CodeFault.Memory → FirstFault bytes.now f) }
+    ensures fault { IfErr result (λ f. f ≢ CodeFault.Memory → IsFirstFault bytes.now f) }
 {
     let mut instrs = Vec::with_capacity(alloc, usize::from(count))?;
     for position in 0..count {
@@ -103,7 +103,7 @@ pub fn decode(alloc: Global, bytes: &[u8]) -> Result<Code, CodeFault>
         (λ code. code ≡ c)
         (λ f. f ≡ CodeFault.Memory) }
     // Which fault it is.
-    ensures fault { IfErr result (λ f. f ≢ CodeFault.Memory → FirstFault bytes.now f) }
+    ensures fault { IfErr result (λ f. f ≢ CodeFault.Memory → IsFirstFault bytes.now f) }
 {
     let Header { arity, count } = header_of(bytes)?;
     let instrs = instrs_of(alloc, bytes, count)?;
@@ -135,8 +135,8 @@ pub fn one_spelling()
     ensures each { (c : CodeValue) → IsCode c → Spelled (spelling c) c }
     ensures one_code { (bytes : List ℕ) (c d : CodeValue) → Spelled bytes c → Spelled bytes d → c ≡ d }
     ensures one_spelling { (a b : List ℕ) (c : CodeValue) → Spelled a c → Spelled b c → a ≡ b }
-    ensures faultless { (bytes : List ℕ) (c : CodeValue) (f : CodeFault) → Spelled bytes c → ¬ FirstFault bytes f }
-    ensures one_fault { (bytes : List ℕ) (f g : CodeFault) → FirstFault bytes f → FirstFault bytes g → f ≡ g }
+    ensures faultless { (bytes : List ℕ) (c : CodeValue) (f : CodeFault) → Spelled bytes c → ¬ IsFirstFault bytes f }
+    ensures one_fault { (bytes : List ℕ) (f g : CodeFault) → IsFirstFault bytes f → IsFirstFault bytes g → f ≡ g }
 {}
 
 #[cfg(test)]

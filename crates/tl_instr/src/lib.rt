@@ -2,9 +2,15 @@
 #![tactic(auto)]
 
 mod cell;
-pub mod code;
-pub mod container;
-pub mod fault;
-pub mod instr;
-pub mod operand;
+mod code;
+mod container;
+mod fault;
+mod instr;
+mod operand;
 mod reading;
+
+pub use code::{Code, MAX_COUNT};
+pub use container::{decode, encode, one_spelling};
+pub use fault::CodeFault;
+pub use instr::Instr;
+pub use operand::{Arity, Field, MAX_ARGS, NodeRegister, ValueRegister};

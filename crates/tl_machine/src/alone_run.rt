@@ -13,8 +13,8 @@ use crate::reply::Reply;
 use crate::start::start;
 use crate::want::{Advance, Stop};
 use std::sync::Arc;
-use tl_tree::tree::Tree;
-use tl_verify::procedure::Proc;
+use tl_tree::Tree;
+use tl_verify::Proc;
 
 /// What a call run alone answers, and how many instructions it did.
 #[derive(Debug, Drop)]

@@ -1,18 +1,26 @@
 //! One call: its state, its steps, and what it does alone.
 #![tactic(auto)]
 
-pub mod alone_run;
-pub mod call;
-pub mod fault;
+mod alone_run;
+mod call;
+mod fault;
 pub mod laws;
 mod loops;
 mod nodes;
-pub mod reply;
-pub mod segment;
+mod reply;
+mod segment;
 mod start;
 mod step;
 #[cfg(test)]
 mod tests;
-pub mod turn;
+mod turn;
 mod values;
-pub mod want;
+mod want;
+
+pub use alone_run::{Answer, alone};
+pub use call::{CallState, HeldNode};
+pub use fault::WrongArgs;
+pub use reply::Reply;
+pub use segment::{Segment, local};
+pub use turn::Turn;
+pub use want::{Advance, Stop, Want};

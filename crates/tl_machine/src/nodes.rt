@@ -8,9 +8,9 @@ ghost use Rattle.tl_machine.specs.declared.call.HeldNode.{HeldNode as HeldNode'}
 ghost use Rattle.tl_machine.specs.Call.{in_tree, held_view, Distinct, AreIn, IsHeld, Takes, MayGoOn};
 
 use crate::call::CallState;
-use tl_instr::operand::{Field, NodeRegister, ValueRegister};
-use tl_protocol::action::Action;
-use tl_tree::shape::Shape;
+use tl_instr::{Field, NodeRegister, ValueRegister};
+use tl_protocol::Action;
+use tl_tree::Shape;
 
 /// `get`
 pub fn get(call: &mut CallState, to: ValueRegister, node: NodeRegister, field: Field) -> Action

@@ -4,7 +4,7 @@ ghost use Rattle.std.specs.Prelude.{◌≡◌, ◌≤◌, length, take};
 
 use crate::call::CallState;
 use std::marker::Model;
-use tl_budget::limits::MAX_EMITS;
+use tl_budget::MAX_EMITS;
 
 /// The values that a call emitted, in order: up to 32.
 #[derive(Clone, Debug, Drop)]

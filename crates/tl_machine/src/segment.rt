@@ -9,8 +9,8 @@ use crate::turn::Turn;
 use crate::want::{Advance, Stop};
 use std::marker::Model;
 use std::sync::Arc;
-use tl_tree::shape::Shape;
-use tl_verify::procedure::Proc;
+use tl_tree::Shape;
+use tl_verify::Proc;
 
 /// The local instructions that a call did in a row: the state from which it did them, the one to which they led, and where
 /// it stops then. By its type the second state comes from the first by local instructions. Only `local` makes one.

@@ -6,9 +6,9 @@ ghost use Rattle.tl_machine.specs.Outcomes.{IsStart};
 
 use crate::call::CallState;
 use crate::fault::WrongArgs;
-use tl_budget::limits::MAX_EMITS;
-use tl_tree::shape::Shape;
-use tl_verify::procedure::Proc;
+use tl_budget::MAX_EMITS;
+use tl_tree::Shape;
+use tl_verify::Proc;
 
 /// The state of a call at its start: the arguments stand in the first registers, and all else is 0 or empty.
 pub fn start(procedure: &Proc, shape: &Shape, args: &[i64]) -> Result<CallState, WrongArgs>

@@ -6,13 +6,9 @@ use std::alloc::Global;
 use std::process::Abort;
 use std::sync::Arc;
 use std::test::Fail;
-use tl_instr::code::Code;
-use tl_instr::instr::Instr;
-use tl_instr::operand::{Field, NodeRegister, ValueRegister};
-use tl_tree::record::Record;
-use tl_tree::shape::Shape;
-use tl_tree::tree::Tree;
-use tl_verify::procedure::{Proc, verify};
+use tl_instr::{Code, Field, Instr, NodeRegister, ValueRegister};
+use tl_tree::{Record, Shape, Tree};
+use tl_verify::{Proc, verify};
 
 // ---- trees
 

@@ -19,10 +19,9 @@ use crate::start;
 use crate::want::{Advance, Stop, Want};
 use std::marker::Model;
 use std::sync::Arc;
-use tl_protocol::action::Action;
-use tl_tree::record::Record;
-use tl_tree::shape::Shape;
-use tl_verify::procedure::Proc;
+use tl_protocol::Action;
+use tl_tree::{Record, Shape};
+use tl_verify::Proc;
 
 /// A call of a procedure on trees of a shape, somewhere between its start and its end. By its type its state is one of
 /// that procedure on that shape: a register that has to hold a node does, a target is there, and the budget is not spent.

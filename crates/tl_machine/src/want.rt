@@ -1,6 +1,6 @@
 // Where a call stands before its next instruction, and what came of going on.
 
-use tl_protocol::action::Action;
+use tl_protocol::Action;
 
 /// An instruction that a call can't do by itself, and why it stops there.
 #[derive(Clone, Copy, Debug, PartialEq, Eq)]

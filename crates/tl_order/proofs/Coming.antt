@@ -5,7 +5,7 @@ use Rattle.tl_tree.specs.Shape.{parent, IsTree}
 use Rattle.tl_protocol.specs.declared.action.Action.{Action}
 use Rattle.tl_protocol.specs.Actions.{locked, held, may_come}
 use Rattle.tl_protocol.proofs.Ancestors.{by_climbing, parent-lower}
-use Rattle.tl_protocol.proofs.Coming.{comes, comes-root, comes-step}
+use Rattle.tl_protocol.proofs.MayComeLemmas.{comes, comes-root, comes-step}
 use Rattle.tl_order.specs.Part.{IsPart, trues}
 use Rattle.tl_order.proofs.Marks.{marks, trues-none}
 

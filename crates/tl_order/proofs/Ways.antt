@@ -8,7 +8,7 @@ use Rattle.tl_protocol.specs.declared.action.Action.{Action}
 use Rattle.tl_protocol.specs.Actions.{locked, held}
 use Rattle.tl_protocol.specs.Ancestors.{nodes_above}
 use Rattle.tl_protocol.proofs.Ancestors.{by_climbing, parent-lower, nodes_above-root, nodes_above-step}
-use Rattle.tl_protocol.proofs.Coming.{comes, comes-root, comes-step}
+use Rattle.tl_protocol.proofs.MayComeLemmas.{comes, comes-root, comes-step}
 use Rattle.tl_order.specs.Part.{IsPart}
 use Rattle.tl_order.specs.Way.{LeadTo, IsWay, NoneMarked, is_open}
 use Rattle.tl_order.proofs.Marks.{marks}

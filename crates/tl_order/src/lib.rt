@@ -4,12 +4,17 @@
 //! to that node. Nothing here knows a procedure, nor who made the history.
 #![tactic(auto)]
 
-pub mod fault;
+mod fault;
 mod line;
-pub mod order;
-pub mod part;
+mod order;
+mod part;
 mod parts;
-pub mod placing;
+mod placing;
 #[cfg(test)]
 mod tests;
 mod way;
+
+pub use fault::SerialFault;
+pub use order::Order;
+pub use part::Part;
+pub use placing::{is_of_shape, order_of};

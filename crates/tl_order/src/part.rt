@@ -12,7 +12,7 @@ use crate::way::Way;
 use arrayvec::ArrayVec;
 use std::alloc::{AllocError, Global};
 use std::marker::Model;
-use tl_tree::shape::Shape;
+use tl_tree::Shape;
 
 /// What one call did to a node.
 #[derive(Clone, Copy, Debug, PartialEq, Eq)]

@@ -16,8 +16,8 @@ use crate::part::Part;
 use crate::way::Way;
 use std::alloc::{AllocError, Global};
 use std::marker::Model;
-use tl_protocol::event::Event;
-use tl_tree::shape::Shape;
+use tl_protocol::Event;
+use tl_tree::Shape;
 
 /// What each call did to the nodes. A contract sees of each call what its part shows.
 #[derive(Drop)]

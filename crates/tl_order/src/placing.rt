@@ -16,9 +16,9 @@ use crate::order::Order;
 use crate::parts::Parts;
 use crate::way::Way;
 use std::alloc::{AllocError, Global};
-use tl_history::history::History;
-use tl_protocol::event::Event;
-use tl_tree::shape::Shape;
+use tl_history::History;
+use tl_protocol::Event;
+use tl_tree::Shape;
 
 /// The order that a history gives, event by event.
 ///

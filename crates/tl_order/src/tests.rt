@@ -2,9 +2,9 @@ use crate::placing::{is_of_shape, order_of};
 use std::alloc::Global;
 use std::process::Abort;
 use std::test::Fail;
-use tl_history::history::{History, MAX_EVENTS};
-use tl_protocol::event::Event;
-use tl_tree::shape::Shape;
+use tl_history::{History, MAX_EVENTS};
+use tl_protocol::Event;
+use tl_tree::Shape;
 
 // ---- histories
 

@@ -7,7 +7,7 @@ ghost use Rattle.tl_order.specs.Way.{IsWay, NoneMarked};
 
 use std::alloc::{AllocError, Global};
 use std::marker::Model;
-use tl_tree::shape::Shape;
+use tl_tree::Shape;
 
 /// The way from a node up to the root, marked: each node above has the number of the next one on the way down to the
 /// node. A contract sees all marks, 0 where there is none; the root is never the next one.

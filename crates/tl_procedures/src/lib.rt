@@ -4,5 +4,8 @@
 //! order in which they came. Whoever runs calls, and whoever checks what calls did, looks a call's code up here.
 #![tactic(auto)]
 
-pub mod fault;
-pub mod procedures;
+mod fault;
+mod procedures;
+
+pub use fault::NamingFault;
+pub use procedures::{MAX_PROCEDURES, Procedures};

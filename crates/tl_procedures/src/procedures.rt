@@ -10,7 +10,7 @@ use indexmap::IndexMap;
 use std::alloc::{AllocError, Global};
 use std::marker::Model;
 use std::sync::Arc;
-use tl_verify::procedure::Proc;
+use tl_verify::Proc;
 
 /// How many procedures there are at most.
 pub const MAX_PROCEDURES: usize = 256;

@@ -9,8 +9,8 @@ use Rattle.tl_protocol.specs.declared.event.Event.{Event}
 use Rattle.tl_protocol.specs.declared.event.Event.TheVariants.{Admit, Lock, Free, Done}
 use Rattle.tl_protocol.specs.Actions.{frees, held}
 use Rattle.tl_protocol.specs.History.{past_of, part_of, Apart, IsFreedBetween, FreesBetweenLocks}
-use Rattle.tl_protocol.proofs.Parts.{part_of-lock, apart_before, held-lock, held-free, held-done}
-use Rattle.tl_protocol.proofs.Lists.{earliest_first, earliest_first-reverse, place_kept, place_back, place_new, place_cases}
+use Rattle.tl_protocol.proofs.PartLemmas.{part_of-lock, apart_before, held-lock, held-free, held-done}
+use Rattle.tl_protocol.proofs.ListPlaces.{earliest_first, earliest_first-reverse, place_kept, place_back, place_new, place_cases}
 
 -- a node that c doesn't hold after an event it didn't hold before, or the event is its free
 free_before : (e : Event) (past : List Event) (c x : ℕ) → held (part_of c (e ∷ past)) x ≡ false → (held (part_of c past) x ≡ false) ⊎ ((left : Record) × (e ≡ Free x c left))

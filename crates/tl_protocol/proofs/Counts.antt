@@ -8,8 +8,8 @@ use Rattle.tl_protocol.specs.declared.action.Action.TheVariants as A
 use Rattle.tl_protocol.specs.Actions.{locks, locked, held, lock_count, free_count, EachPermitted}
 use Rattle.tl_protocol.specs.History.{part_of}
 use Rattle.tl_protocol.specs.World.{World, IsSound}
-use Rattle.tl_protocol.proofs.Steps.{part_inside}
-use Rattle.tl_protocol.proofs.Standstill.{sound_history}
+use Rattle.tl_protocol.proofs.WorldSteps.{part_inside}
+use Rattle.tl_protocol.proofs.NoStandstill.{sound_history}
 
 abbrev has : ℕ → List ℕ → Bool
 has x [] = false

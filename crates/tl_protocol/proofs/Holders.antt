@@ -11,10 +11,10 @@ use Rattle.tl_protocol.specs.Actions.{locked, held, has_ended, Permitted, EachPe
 use Rattle.tl_protocol.specs.History.{part_of, IsOpen, IsLegalHistory}
 use Rattle.tl_protocol.specs.World.{World, IsSound, next_of, IsStuck, IsFree, MayTake}
 use Rattle.tl_protocol.specs.Holders.{holder_of}
-use Rattle.tl_protocol.proofs.Coming.{held-locked, may_come_holds}
-use Rattle.tl_protocol.proofs.Parts.{part_of-free, part_of-done, part_of-other, legal_before, held-lock, held-free, held-done, exclusive}
-use Rattle.tl_protocol.proofs.Laid.{free_held}
-use Rattle.tl_protocol.proofs.Standstill.{sound_history, next_permitted}
+use Rattle.tl_protocol.proofs.MayComeLemmas.{held-locked, may_come_holds}
+use Rattle.tl_protocol.proofs.PartLemmas.{part_of-free, part_of-done, part_of-other, legal_before, held-lock, held-free, held-done, exclusive}
+use Rattle.tl_protocol.proofs.RecordsAlongOrder.{free_held}
+use Rattle.tl_protocol.proofs.NoStandstill.{sound_history, next_permitted}
 
 held-free_back : (c x : ℕ) (left : Record) (past : List Event) (d y : ℕ) → held (part_of d past) y ≡ true → held (part_of d (Free x c left ∷ past)) y ≡ true ⊎ (c ≡ d) × (x ≡ y)
 held-free_back c x left past d y h = elim (cases_eq c d) [

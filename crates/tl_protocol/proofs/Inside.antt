@@ -10,11 +10,11 @@ use Rattle.tl_protocol.specs.Actions.{locked, locked_any, EachPermitted}
 use Rattle.tl_protocol.specs.History.{part_of, admits, IsLegalHistory}
 use Rattle.tl_protocol.specs.Order.{stands, Agrees}
 use Rattle.tl_protocol.specs.World.{World, IsSound}
-use Rattle.tl_protocol.proofs.Coming.{held-locked}
-use Rattle.tl_protocol.proofs.Parts.{part_of-lock, part_of-free, locked-free, locked-done, legal_before}
-use Rattle.tl_protocol.proofs.Reached.{unadmitted_done}
-use Rattle.tl_protocol.proofs.Standstill.{sound_history}
-use Rattle.tl_protocol.proofs.Steps.{part_inside, unadmitted}
+use Rattle.tl_protocol.proofs.MayComeLemmas.{held-locked}
+use Rattle.tl_protocol.proofs.PartLemmas.{part_of-lock, part_of-free, locked-free, locked-done, legal_before}
+use Rattle.tl_protocol.proofs.ReachedWorlds.{unadmitted_done}
+use Rattle.tl_protocol.proofs.NoStandstill.{sound_history}
+use Rattle.tl_protocol.proofs.WorldSteps.{part_inside, unadmitted}
 use Rattle.tl_protocol.specs.Nodes.{IsOfNodes}
 
 -- what a call had locked, it has locked after a lock too

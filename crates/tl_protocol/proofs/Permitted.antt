@@ -11,8 +11,8 @@ use Rattle.tl_protocol.specs.declared.event.Event.TheVariants.{Admit, Lock, Free
 use Rattle.tl_protocol.specs.Actions.{locks, frees, is_lock, is_end, locked, held, locked_any, has_ended, Permitted, EachPermitted}
 use Rattle.tl_protocol.specs.Obeys.{IsHeldAt, Touches, Obeys, EndsLast}
 use Rattle.tl_protocol.specs.History.{part_of, is_done, IsOpen, InTurn, Apart, IsLegalHistory}
-use Rattle.tl_protocol.proofs.Lists.{earliest_first, earliest_first-reverse, place_kept, place_back, place_new, place_cases}
-use Rattle.tl_protocol.proofs.Places.{lock_is, free_is, locks_it, ended_there, held_at}
+use Rattle.tl_protocol.proofs.ListPlaces.{earliest_first, earliest_first-reverse, place_kept, place_back, place_new, place_cases}
+use Rattle.tl_protocol.proofs.ObeysByPlaces.{lock_is, free_is, locks_it, ended_there, held_at}
 
 -- ---- what was done stands at some place
 

@@ -10,11 +10,11 @@ use Rattle.tl_protocol.specs.History.{part_of, records_now, Follows, IsLegalHist
 use Rattle.tl_protocol.specs.Order.{stands, Agrees}
 use Rattle.tl_protocol.specs.Alone.{Outcome, all_taken, IsAlone, serial}
 use Rattle.tl_protocol.specs.World.{alone_of}
-use Rattle.tl_protocol.proofs.Coming.{locked-any}
+use Rattle.tl_protocol.proofs.MayComeLemmas.{locked-any}
 use Rattle.tl_protocol.proofs.Orders.{stands-append}
 use Rattle.tl_protocol.proofs.Records.{length-records_now, record_at-records_now, length-with_found, record_at-with_found}
-use Rattle.tl_protocol.proofs.Shared.{locked-shared_actions, left_in-shared_actions}
-use Rattle.tl_protocol.proofs.Laid.{laid, laid-append, laid-last_left, laid-found}
+use Rattle.tl_protocol.proofs.SharedActions.{locked-shared_actions, left_in-shared_actions}
+use Rattle.tl_protocol.proofs.RecordsAlongOrder.{laid, laid-append, laid-last_left, laid-found}
 use Rattle.tl_protocol.proofs.Alone.{Alike, same_taken, taken_inside}
 
 -- what a call alone reads of a tree are the records of the nodes that it locks, and it changes those that it frees

@@ -1,6 +1,6 @@
 // What one instruction of a call did.
 
-use tl_tree::record::Record;
+use tl_tree::Record;
 
 /// One action of a call. Each instruction that a call does is one action.
 #[derive(Clone, Copy, Debug, PartialEq, Eq)]

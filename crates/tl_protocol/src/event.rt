@@ -1,6 +1,6 @@
 // What a history of many calls stores.
 
-use tl_tree::record::Record;
+use tl_tree::Record;
 
 /// One event of a history. The node stands before the call, beside the byte that tells the variants apart: so an event
 /// takes 40 bytes, and not 48.

@@ -7,6 +7,9 @@
 //! fields a record has.
 #![tactic(auto)]
 
-pub mod action;
-pub mod event;
+mod action;
+mod event;
 pub mod laws;
+
+pub use action::Action;
+pub use event::Event;

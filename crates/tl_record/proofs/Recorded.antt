@@ -12,10 +12,10 @@ use Rattle.tl_protocol.specs.Actions.{with_found, locks_and_frees, taken, EachPe
 use Rattle.tl_protocol.specs.Alone.{all_taken}
 use Rattle.tl_protocol.specs.History.{caller, part_of, is_done, admits, AllDone, InTurn, Follows, IsLegalHistory}
 use Rattle.tl_protocol.specs.World.{IsSound, alone_of}
-use Rattle.tl_protocol.proofs.Parts.{part_of-lock, part_of-free, part_of-done, legal_before}
+use Rattle.tl_protocol.proofs.PartLemmas.{part_of-lock, part_of-free, part_of-done, legal_before}
 use Rattle.tl_protocol.proofs.Records.{length-records_now, record_at-records_now}
-use Rattle.tl_protocol.proofs.Shared.{locks_and_frees-shared_actions}
-use Rattle.tl_protocol.proofs.Standstill.{sound_history}
+use Rattle.tl_protocol.proofs.SharedActions.{locks_and_frees-shared_actions}
+use Rattle.tl_protocol.proofs.NoStandstill.{sound_history}
 use Rattle.tl_machine.specs.Outcomes.{meaning}
 use Rattle.tl_protocol.proofs.Inside.{sound_inside}
 use Rattle.tl_core.specs.Cores.{CoreValue, call_of, world_of}

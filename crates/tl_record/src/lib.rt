@@ -3,4 +3,6 @@
 //! What a core's calls did is told here, and nowhere else: an auditor of trails needs nothing of a core.
 #![tactic(auto)]
 
-pub mod recording;
+mod recording;
+
+pub use recording::trail_of;

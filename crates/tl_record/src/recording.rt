@@ -9,11 +9,10 @@ ghost use Rattle.tl_trail.specs.declared.fault.TrailFault.{TrailFault};
 
 use arrayvec::ArrayVec;
 use std::alloc::Global;
-use tl_budget::limits::MAX_EMITS;
-use tl_core::interleaving::Core;
-use tl_history::history::{History, MAX_EVENTS};
-use tl_trail::fault::TrailFault;
-use tl_trail::trail::{Trail, TrailCall};
+use tl_budget::MAX_EMITS;
+use tl_core::Core;
+use tl_history::{History, MAX_EVENTS};
+use tl_trail::{Trail, TrailCall, TrailFault};
 
 /// What the calls of a core have done so far. While a call is unfinished it has no reply, and the trail isn't clean; once
 /// all are done, nothing is wrong with it. 790 where memory is refused.

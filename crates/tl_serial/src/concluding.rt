@@ -9,10 +9,8 @@ ghost use Rattle.tl_core.specs.Cores.{world_of};
 ghost use Rattle.tl_serial.specs.Unfinished.{IsLeastUnfinished};
 
 use std::alloc::Global;
-use tl_core::interleaving::Core;
-use tl_order::fault::SerialFault;
-use tl_order::order::Order;
-use tl_order::placing::order_of;
+use tl_core::Core;
+use tl_order::{Order, SerialFault, order_of};
 
 /// The order that the core's history gives, once every call is done. Run alone, one after another along it, the calls
 /// leave the records that there are now, and each gives the reply that it gave.

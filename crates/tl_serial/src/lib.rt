@@ -4,11 +4,11 @@
 //! along this order.
 #![tactic(auto)]
 
-pub mod concluding;
-pub mod replaying;
+mod concluding;
+mod replaying;
 #[cfg(test)]
 mod tests;
 
-pub use tl_order::fault::SerialFault;
-pub use tl_order::order::Order;
-pub use tl_order::placing::{is_of_shape, order_of};
+pub use concluding::conclude;
+pub use replaying::replay;
+pub use tl_order::{Order, SerialFault, is_of_shape, order_of};

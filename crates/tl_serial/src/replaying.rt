@@ -5,12 +5,10 @@ ghost use Rattle.tl_protocol.specs.Alone.{serial};
 ghost use Rattle.tl_core.specs.Cores.{world_of};
 
 use std::alloc::Global;
-use tl_core::interleaving::Core;
-use tl_machine::alone_run::alone;
-use tl_machine::reply::Reply;
-use tl_order::fault::SerialFault;
-use tl_order::order::Order;
-use tl_tree::tree::Tree;
+use tl_core::Core;
+use tl_machine::{Reply, alone};
+use tl_order::{Order, SerialFault};
+use tl_tree::Tree;
 
 /// The calls of the order run alone, one after another, from the opening tree: the tree that they leave, and their
 /// replies in that order. The core stays as it is. 690 where memory is refused.

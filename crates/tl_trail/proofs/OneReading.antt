@@ -8,7 +8,7 @@ use Rattle.tl_trail.specs.declared.fault.TrailFault.TheVariants.{NotTrail, Tree,
 use Rattle.tl_trail.specs.Trails.{TrailValue}
 use Rattle.tl_forms.specs.Registering.{TakenUp}
 use Rattle.tl_forms.proofs.Registered.{one_taking, none_unfit}
-use Rattle.tl_trail.specs.Reading.{TrailForm, trail_of_form, IsTrailText, IsFormFault, IsTrailFault, form_in}
+use Rattle.tl_trail.specs.Reading.{TrailForm, trail_of_form, IsTrailText, IsFormFault, IsFirstTrailFault, form_in}
 
 -- ---- texts
 
@@ -44,7 +44,7 @@ no_form_fault form tree t e tree_is taken same (inr (other, other_is, inr (proce
     let both_are : Err e ≡ Ok t = one_standing form tree procedures t.procedures (Err e) t again taken here same in
     absurd cc
 
-no_fault : (text : List ℕ) (t : TrailValue) (e : TrailFault) → IsTrailText text t → ¬ IsTrailFault text e
+no_fault : (text : List ℕ) (t : TrailValue) (e : TrailFault) → IsTrailText text t → ¬ IsFirstTrailFault text e
 no_fault text t e a (inl (is, none)) = let form_is = a.form_is in absurd cc
 no_fault text t e a (inr (form, is, wrong)) =
     let same : form ≡ a.form = same_form text t a form is in
@@ -60,7 +60,7 @@ only_memory TooManyCalls h = absurd (h (λ e. cc))
 only_memory Memory h = refl
 
 -- the text's trail is read, unless memory is refused
-pub only_one : (text : List ℕ) (r : Result TrailValue TrailFault) (t : TrailValue) → IfOk r (λ u. IsTrailText text u) → IfErr r (λ e. e ≢ Memory → IsTrailFault text e) → IsTrailText text t
+pub only_one : (text : List ℕ) (r : Result TrailValue TrailFault) (t : TrailValue) → IfOk r (λ u. IsTrailText text u) → IfErr r (λ e. e ≢ Memory → IsFirstTrailFault text e) → IsTrailText text t
     → MatchResult r (λ u. u ≡ t) (λ e. e ≡ Memory)
 only_one text (Ok u) t ok fault a = one_trail text u t ok a
 only_one text (Err e) t ok fault a = only_memory e (λ other. no_fault text t e a (fault other))

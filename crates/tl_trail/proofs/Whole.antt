@@ -16,7 +16,7 @@ use Rattle.tl_trail.specs.Faults.{of_register}
 use Rattle.tl_trail.specs.Trails.{CallValue, TrailValue}
 use Rattle.tl_forms.specs.Registering.{TakenUp, IsFirstUnfit}
 use Rattle.tl_forms.specs.Procedures.{procedure_form}
-use Rattle.tl_trail.specs.Reading.{TrailForm, calls_as, events_as, trail_of_events, trail_of_form, form_in, IsTrailText, IsTrailFault}
+use Rattle.tl_trail.specs.Reading.{TrailForm, calls_as, events_as, trail_of_events, trail_of_form, form_in, IsTrailText, IsFirstTrailFault}
 use Rattle.tl_trail.specs.Raw.{call_form, form_with, IsHalfRead, IsTrailOf, IsFaultOf}
 
 module _ (tree : TreeValue) (procedures : List Named) (form : TrailForm) where
@@ -101,5 +101,5 @@ text_is text tree raw t is trail = record {
   same = (trail is.parts).same;
 }
 
-pub text_fault : (text : List ℕ) (tree : TreeValue) (raw : RawTrail) (e : TrailFault) → IsHalfRead (form_in text) tree raw → ((parts : List ℤ × Records) → IsFaultOf tree (form_with raw parts) e) → IsTrailFault text e
+pub text_fault : (text : List ℕ) (tree : TreeValue) (raw : RawTrail) (e : TrailFault) → IsHalfRead (form_in text) tree raw → ((parts : List ℤ × Records) → IsFaultOf tree (form_with raw parts) e) → IsFirstTrailFault text e
 text_fault text tree raw e is wrong = inr (form_with raw is.parts, is.form_is, inr (tree, is.tree_is, wrong is.parts))

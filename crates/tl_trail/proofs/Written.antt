@@ -22,8 +22,8 @@ use Rattle.tl_protocol.specs.declared.event.Event.TheVariants.{Admit, Lock, Free
 use Rattle.tl_protocol.specs.History.{caller}
 use Rattle.tl_protocol.specs.Nodes.{IsOfNodes}
 use Rattle.tl_protocol.proofs.Pasts.{All-reverse}
-use Rattle.tl_asm.proofs.Appends.{same_bytes}
-use Rattle.tl_asm.proofs.Canonical.{canonical}
+use Rattle.tl_asm.proofs.StatementLists.{same_bytes}
+use Rattle.tl_asm.proofs.CanonicalText.{canonical}
 use Rattle.tl_procedures.proofs.Naming.{free_number}
 use Rattle.tl_trail.specs.declared.fault.TrailFault.TheVariants.{WrongArgs, TooManyCalls}
 use Rattle.tl_procedures.specs.Names.{Named, number_of, AreFreeAfter, no_procedure}

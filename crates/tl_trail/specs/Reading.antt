@@ -167,7 +167,7 @@ IsFormFault form e =
     ⊎ ((procedures : List Named) × TakenUp [] form.procedures procedures × (trail_of_form tree procedures form ≡ Err e))))
 
 -- what is wrong with a text first
-abbrev pub IsTrailFault : List ℕ → TrailFault → Type 0
-IsTrailFault text e =
+abbrev pub IsFirstTrailFault : List ℕ → TrailFault → Type 0
+IsFirstTrailFault text e =
     ((e ≡ NotTrail) × (form_in text ≡ None))
     ⊎ ((form : TrailForm) × (form_in text ≡ Some form) × IsFormFault form e)

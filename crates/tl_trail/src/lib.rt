@@ -5,8 +5,13 @@
 //! here; whoever makes trails and whoever judges them stand on this definition.
 #![tactic(auto)]
 
-pub mod fault;
+mod fault;
 mod raw;
-pub mod reading;
-pub mod trail;
-pub mod writing;
+mod reading;
+mod trail;
+mod writing;
+
+pub use fault::TrailFault;
+pub use reading::read_trail;
+pub use trail::{Trail, TrailCall};
+pub use writing::write_trail;

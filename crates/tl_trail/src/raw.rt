@@ -9,13 +9,11 @@ ghost use Rattle.tl_trail.specs.Raw.{form_with};
 use arrayvec::ArrayVec;
 use serde_json::Value;
 use std::alloc::{AllocError, Global};
-use tl_budget::limits::MAX_EMITS;
-use tl_forms::event::{RawEvent, events_from_value};
-use tl_forms::json::{FromValue, each_of, three_of};
-use tl_forms::procedure::ProcedureText;
-use tl_forms::reply::reply_from_value;
-use tl_tree::record::Record;
-use tl_tree::value::{integers_from_value, records_from_value};
+use tl_budget::MAX_EMITS;
+use tl_forms::{
+    FromValue, ProcedureText, RawEvent, each_of, events_from_value, reply_from_value, three_of,
+};
+use tl_tree::{Record, integers_from_value, records_from_value};
 
 /// A call as it is written: the name of its procedure, its arguments, and its reply, if any.
 #[derive(Debug, Drop)]

@@ -7,7 +7,7 @@ ghost use Rattle.tl_protocol.specs.declared.event.Event.{Event as EventValue};
 ghost use Rattle.tl_protocol.specs.History.{caller};
 ghost use Rattle.tl_protocol.specs.Nodes.{IsOfNodes};
 ghost use Rattle.tl_trail.specs.Trails.{TrailValue, IsCallOf, call_value};
-ghost use Rattle.tl_trail.specs.Reading.{parts_of, form_of_parts, form_in, call_as, each_call, calls_as, below, event_as, events_as, IsTrailText, IsTrailFault};
+ghost use Rattle.tl_trail.specs.Reading.{parts_of, form_of_parts, form_in, call_as, each_call, calls_as, below, event_as, events_as, IsTrailText, IsFirstTrailFault};
 ghost use Rattle.tl_trail.specs.Raw.{call_form, form_with, IsHalfRead, IsUnread, IsTrailOf, IsFaultOf};
 
 use crate::fault::TrailFault;
@@ -16,16 +16,12 @@ use crate::trail::{Trail, TrailCall};
 use arrayvec::ArrayVec;
 use serde_json::Value;
 use std::alloc::Global;
-use tl_budget::limits::MAX_EMITS;
-use tl_forms::event::RawEvent;
-use tl_forms::json::parse_text;
-use tl_forms::registering::register_all;
-use tl_history::fault::HistoryFault;
-use tl_history::history::{History, MAX_CALLS, MAX_EVENTS};
-use tl_procedures::procedures::Procedures;
-use tl_protocol::event::Event;
-use tl_tree::tree::Tree;
-use tl_tree::value::tree_from_value;
+use tl_budget::MAX_EMITS;
+use tl_forms::{RawEvent, parse_text, register_all};
+use tl_history::{History, HistoryFault, MAX_CALLS, MAX_EVENTS};
+use tl_procedures::Procedures;
+use tl_protocol::Event;
+use tl_tree::{Tree, tree_from_value};
 
 // ---- the tree, and what else there is
 
@@ -223,7 +219,7 @@ fn checked_trail(alloc: Global, tree: Tree, raw: RawTrail) -> Result<Trail, Trai
 // The same as below, said by what a text is alone.
 fn trail_of_text(alloc: Global, text: &str) -> Result<Trail, TrailFault>
     ensures ok { IfOk result (λ t. IsTrailText text.now t) }
-    ensures fault { IfErr result (λ e. e ≢ TrailFault.Memory → IsTrailFault text.now e) }
+    ensures fault { IfErr result (λ e. e ≢ TrailFault.Memory → IsFirstTrailFault text.now e) }
 {
     let (tree, raw) = raw_of_text(alloc, text)?;
     checked_trail(alloc, tree, raw)
@@ -245,7 +241,7 @@ pub fn read_trail(alloc: Global, text: &str) -> Result<Trail, TrailFault>
     // What is read is the text's.
     ensures ok { IfOk result (λ t. IsTrailText text.now t) }
     // Which fault it is.
-    ensures fault { IfErr result (λ e. e ≢ TrailFault.Memory → IsTrailFault text.now e) }
+    ensures fault { IfErr result (λ e. e ≢ TrailFault.Memory → IsFirstTrailFault text.now e) }
     // The trail of a text is read, unless memory is refused.
     ensures taken { (t : TrailValue) → IsTrailText text.now t
         → MatchResult result (λ r. r ≡ t) (λ e. e ≡ TrailFault.Memory) }

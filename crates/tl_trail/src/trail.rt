@@ -5,13 +5,12 @@ ghost use Rattle.tl_trail.specs.Trails.{IsTrail, call_value, call_at};
 
 use arrayvec::ArrayVec;
 use std::marker::Model;
-use tl_budget::limits::MAX_EMITS;
-use tl_history::history::History;
-use tl_instr::operand::MAX_ARGS;
-use tl_procedures::procedures::Procedures;
-use tl_protocol::event::Event;
-use tl_tree::record::Record;
-use tl_tree::tree::Tree;
+use tl_budget::MAX_EMITS;
+use tl_history::History;
+use tl_instr::MAX_ARGS;
+use tl_procedures::Procedures;
+use tl_protocol::Event;
+use tl_tree::{Record, Tree};
 
 /// A call of a trail: the number of its procedure, its arguments, and its reply, if any.
 #[derive(Debug, Drop)]

@@ -12,10 +12,8 @@ use crate::fault::TrailFault;
 use crate::trail::Trail;
 use serde_json::{Value, json};
 use std::alloc::{AllocError, Global};
-use tl_forms::json::list_to_value;
-use tl_forms::procedure::procedures_to_value;
-use tl_forms::reply::reply_to_value;
-use tl_tree::value::{integers_to_value, records_to_value, tree_to_value};
+use tl_forms::{list_to_value, procedures_to_value, reply_to_value};
+use tl_tree::{integers_to_value, records_to_value, tree_to_value};
 
 fn call_to_value(alloc: Global, trail: &Trail, call: u32) -> Result<Value, AllocError>
     requires { call < length trail.now.calls }

@@ -10,8 +10,8 @@ use Rattle.tl_verify.specs.declared.fault.VerifyFault.{VerifyFault}
 use Rattle.tl_verify.specs.Acceptable.{Acceptable}
 use Rattle.tl_verify.specs.Marks.{is_held, source, destination}
 use Rattle.tl_verify.specs.Findings.{Finding, OfLoops, TargetBack, TargetPastEnd, TargetInLoop, Joined, Spent, Missing, Taken, LeftHeld, Changed, NextPastEnd, Steps, Locks, Emits, Arises, Meets, Precedes, pass, position, rank, fault_of, IsFirstFault}
-use Rattle.tl_verify.proofs.Alike.{pointwise_same, pointwise_itself}
-use Rattle.tl_verify.proofs.Looking.{nothing_found}
+use Rattle.tl_verify.proofs.MarksLemmas.{pointwise_same, pointwise_itself}
+use Rattle.tl_verify.proofs.NoFindings.{nothing_found}
 use lib.Pointwise.{pointwise}
 use mathlib.Core.Bool.{beq}
 
@@ -133,8 +133,8 @@ same_finding code f g a b first first' = passes (cases_order (pass f) (pass g))
     ranks : pass f ≡ pass g → position f ≡ position g → rank f ≡ rank g → f ≡ g
     ranks e there same =
         let as_named : named (pass f) (position f) (rank f) (register g) ≡ g
-              = ap (λ k. named k (position f) (rank f) (register g)) e ∙ ap (λ p. named (pass g) p (rank f) (register g)) there
-                ∙ ap (λ r. named (pass g) (position g) r (register g)) same ∙ is_named g in
+        = ap (λ k. named k (position f) (rank f) (register g)) e ∙ ap (λ p. named (pass g) p (rank f) (register g)) there
+        ∙ ap (λ r. named (pass g) (position g) r (register g)) same ∙ is_named g in
         let A : Finding → Type 0 = λ h. Arises code h in
         let F : Finding → Type 0 = λ h. Alone code h in
         sym (is_named f)

@@ -7,7 +7,7 @@ ghost use Rattle.tl_verify.specs.declared.fault.VerifyFault.TheVariants.{Memory}
 use arrayvec::ArrayVec;
 use std::alloc::AllocError;
 use thiserror::Error;
-use tl_budget::fault::NestFault;
+use tl_budget::NestFault;
 
 /// Why a code isn't accepted. Positions are counted from 0.
 #[derive(Clone, Copy, Debug, PartialEq, Eq, Error)]

@@ -6,9 +6,8 @@ ghost use Rattle.tl_verify.specs.Findings.{IsFirstFault};
 ghost use Rattle.tl_verify.specs.Known.{Ahead};
 
 use crate::fault::VerifyFault;
-use tl_budget::nested::Nest;
-use tl_instr::code::MAX_COUNT;
-use tl_instr::instr::Instr;
+use tl_budget::Nest;
+use tl_instr::{Instr, MAX_COUNT};
 
 /// The first target that isn't ahead of its jump, or is past the end, or in a loop that the jump isn't in.
 pub fn jumps(code: &[Instr], nest: &Nest) -> Option<VerifyFault>

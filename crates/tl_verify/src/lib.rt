@@ -2,13 +2,16 @@
 #![tactic(auto)]
 
 mod arrivals;
-pub mod fault;
+mod fault;
 mod jumps;
 pub mod laws;
 mod marks;
 mod objection;
-pub mod procedure;
+mod procedure;
 mod register_set;
 mod registers;
 #[cfg(test)]
 mod tests;
+
+pub use fault::VerifyFault;
+pub use procedure::{Proc, verify};

@@ -10,8 +10,7 @@ use crate::arrivals::Arrivals;
 use crate::fault::VerifyFault;
 use crate::marks::Marks;
 use crate::register_set::RegisterSet;
-use tl_instr::instr::Instr;
-use tl_instr::operand::NodeRegister;
+use tl_instr::{Instr, NodeRegister};
 
 /// Whether control may go to the next position.
 pub fn goes_on(instr: &Instr) -> bool

@@ -14,11 +14,8 @@ use crate::jumps::jumps;
 use crate::registers::registers;
 use std::alloc::Global;
 use std::marker::Model;
-use tl_budget::limits::Bounds;
-use tl_budget::nested::Nest;
-use tl_budget::nesting::nest;
-use tl_budget::sums::bounds;
-use tl_instr::code::Code;
+use tl_budget::{Bounds, Nest, bounds, nest};
+use tl_instr::Code;
 
 /// A code that was accepted, with its loops and its bounds. Only `verify` makes one.
 #[derive(Debug, Drop)]

@@ -1,7 +1,7 @@
 // Sets of node registers.
 
 use std::marker::Model;
-use tl_instr::operand::NodeRegister;
+use tl_instr::NodeRegister;
 
 /// A set of node registers. A contract sees of each register whether it is in the set.
 #[derive(Clone, Copy, Debug)]

@@ -14,9 +14,8 @@ use crate::fault::VerifyFault;
 use crate::marks::Marks;
 use crate::objection::{goes_on, is_end, objection};
 use std::alloc::{AllocError, Global};
-use tl_budget::nested::Nest;
-use tl_instr::code::MAX_COUNT;
-use tl_instr::instr::Instr;
+use tl_budget::Nest;
+use tl_instr::{Instr, MAX_COUNT};
 
 // The states behind an instruction come to where it leads.
 #[inline(always)]

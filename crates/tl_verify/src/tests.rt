@@ -3,10 +3,8 @@ use arrayvec::ArrayVec;
 use std::alloc::Global;
 use std::process::Abort;
 use std::test::Fail;
-use tl_budget::limits::Bounds;
-use tl_instr::code::Code;
-use tl_instr::instr::Instr;
-use tl_instr::operand::{Field, NodeRegister, ValueRegister};
+use tl_budget::Bounds;
+use tl_instr::{Code, Field, Instr, NodeRegister, ValueRegister};
 
 // ---- instructions, as in the text form
 

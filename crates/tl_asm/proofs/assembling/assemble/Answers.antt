@@ -1,4 +1,4 @@
-use Rattle.tl_asm.proofs.Laws.{only_one}
+use Rattle.tl_asm.proofs.OneCode.{only_one}
 use Rattle.tl_asm.proofs.assembling.assemble.Goals as goal
 
 pub returns-clause-only : goal.returns-clause-only

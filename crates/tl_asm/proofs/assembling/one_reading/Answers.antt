@@ -1,5 +1,5 @@
-use Rattle.tl_asm.proofs.Canonical.{canonical}
-use Rattle.tl_asm.proofs.Laws.{same_code, faultless}
+use Rattle.tl_asm.proofs.CanonicalText.{canonical}
+use Rattle.tl_asm.proofs.OneCode.{same_code, faultless}
 use Rattle.tl_asm.proofs.OneFault.{one_fault}
 use Rattle.tl_asm.proofs.assembling.one_reading.Goals as goal
 

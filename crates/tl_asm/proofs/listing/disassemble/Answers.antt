@@ -2,8 +2,8 @@ use Rattle.std.proofs.Common.{rules, ◌≡◌, ◌<◌, ◌++◌, length, get_o
 use Rattle.std.specs.String.{string_bytes}
 use Rattle.tl_asm.specs.Texts.{Written}
 use Rattle.tl_asm.specs.Listing.{label_line, instr_line, listing}
-use Rattle.tl_asm.proofs.Canonical.{canonical}
-use Rattle.tl_asm.proofs.Listed.{one_listed, all_listed}
+use Rattle.tl_asm.proofs.CanonicalText.{canonical}
+use Rattle.tl_asm.proofs.ListingLines.{one_listed, all_listed}
 use Rattle.tl_asm.proofs.listing.disassemble.Goals as goal
 
 pub loop-position-preserved : goal.loop-position-preserved

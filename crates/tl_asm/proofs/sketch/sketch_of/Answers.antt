@@ -4,7 +4,7 @@ use Rattle.std.proofs.lemmas.Result.{err_from_is_err_and}
 use Rattle.tl_asm.specs.declared.fault.AsmFault.TheVariants.{BadLine}
 use Rattle.tl_asm.specs.Statements.{Said, Blank, Takes, Names, Does, shown, view, says}
 use Rattle.tl_asm.specs.Sketches.{IsSketch, said_by, known, traced}
-use Rattle.tl_asm.proofs.Steps.{misplaced, no_form, first_fault, next_says, blank_line}
+use Rattle.tl_asm.proofs.SketchSteps.{misplaced, no_form, first_fault, next_says, blank_line}
 use Rattle.tl_asm.proofs.sketch.sketch_of.Goals.{in-Blank, in-Takes+in_ok-take_arity-in-Takes, in-Names+in_ok-take_label-in-Names, in-Does+in_ok-take_draft-in-Does}
 use Rattle.tl_asm.proofs.sketch.sketch_of.Goals as goal
 

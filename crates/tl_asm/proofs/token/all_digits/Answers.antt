@@ -2,7 +2,7 @@ use Rattle.std.proofs.Common.{rules, tests, ◌∙◌}
 use Rattle.std.specs.Char.{is_ascii_digit}
 use Rattle.std.proofs.lemmas.Iterator.{YieldsList-from_slice}
 use Rattle.std.proofs.lemmas.Iterator.Search.{all_from_yields_List}
-use Rattle.tl_asm.proofs.Numbers.{all_digits}
+use Rattle.tl_asm.proofs.DecimalNumbers.{all_digits}
 use Rattle.tl_asm.proofs.token.all_digits.Goals as goal
 
 pub returns : goal.returns

@@ -2,7 +2,7 @@ use Rattle.std.proofs.Common.{rules, arith, ◌≡◌, ◌∙◌, sym, None, sub
 use Rattle.std.specs.Result.{result_ok}
 use Rattle.std.specs.Str.Parse.{ParsesUnsigned}
 use Rattle.tl_asm.specs.Tokens.{is_number}
-use Rattle.tl_asm.proofs.Numbers.{is_text, too_large, no_text}
+use Rattle.tl_asm.proofs.DecimalNumbers.{is_text, too_large, no_text}
 use Rattle.tl_asm.proofs.token.number_in.Goals as goal
 
 pub returns-in_err-ok-clause-value : goal.returns-in_err-ok-clause-value

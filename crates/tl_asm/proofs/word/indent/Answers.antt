@@ -2,7 +2,7 @@ use Rattle.std.proofs.Common.{rules, tests, not}
 use Rattle.std.proofs.lemmas.Iterator.{YieldsList-from_slice}
 use Rattle.std.proofs.lemmas.Iterator.Search.{position_from_yields_List}
 use Rattle.tl_asm.specs.Words.{is_blank}
-use Rattle.tl_asm.proofs.Searched.{searched}
+use Rattle.tl_asm.proofs.ByteSearch.{searched}
 use Rattle.tl_asm.proofs.word.indent.Goals as goal
 
 pub returns : goal.returns

@@ -4,7 +4,7 @@ use Rattle.std.proofs.lemmas.Iterator.Search.{position_from_yields_List}
 use Rattle.std.proofs.lemmas.List.Sums.{prefix_len-le-length}
 use Rattle.std.specs.List.{position_or_len}
 use Rattle.tl_asm.specs.Words.{is_blank, first_of}
-use Rattle.tl_asm.proofs.Searched.{searched, no_word, a_word}
+use Rattle.tl_asm.proofs.ByteSearch.{searched, no_word, a_word}
 use Rattle.tl_asm.proofs.word.next_word.Goals as goal
 
 pub split_at-requires : goal.split_at-requires

@@ -2,7 +2,7 @@ use Rattle.std.proofs.Common.{rules, tests, ◌≡◌, ◌∙◌, ap, take, ◌=
 use Rattle.std.proofs.lemmas.Iterator.{YieldsList-from_slice}
 use Rattle.std.proofs.lemmas.Iterator.Search.{position_from_yields_List}
 use Rattle.std.specs.List.{position_or_len}
-use Rattle.tl_asm.proofs.Searched.{searched}
+use Rattle.tl_asm.proofs.ByteSearch.{searched}
 use Rattle.tl_asm.proofs.word.without_comment.Goals as goal
 
 pub returns : goal.returns

@@ -5,7 +5,7 @@ use Rattle.std.proofs.lemmas.List.{take_all, length-reverse, length-take-le}
 use Rattle.tl_protocol.specs.declared.event.Event.TheVariants.{Admit}
 use Rattle.tl_protocol.proofs.Pasts.{past_one_more}
 use Rattle.tl_trail.specs.Clean.{AreRight, IsRight}
-use Rattle.tl_audit.specs.Findings.{IsWrong, IsFirstWrong}
+use Rattle.tl_audit.specs.Findings.{IsWrong, IsFirstEventFault}
 use Rattle.tl_audit.specs.Watching.{Shows, IsEventOf}
 use Rattle.tl_audit.proofs.Seeing.{event_at, first_wrong}
 use Rattle.tl_audit.proofs.auditing.see_all.Goals as goal
@@ -42,8 +42,8 @@ returns-in_err-judge-clause-fault g c =
     let right = subst (λ ps. AreRight ps t.opening past) (sym same) c.loop-number.invariant.right in
     let up_to = length-take-le i events (omega arith) in
     let count : i ≡ length past = sym (length-reverse (take i events) ∙ up_to) in
-    let wrong : IfErr c.judge.result (λ f. IsFirstWrong t f) =
-    IfErr-weaker c.judge.result _ (λ f. IsFirstWrong t f)
+    let wrong : IfErr c.judge.result (λ f. IsFirstEventFault t f) =
+    IfErr-weaker c.judge.result _ (λ f. IsFirstEventFault t f)
     (λ f w. first_wrong t events whole i inside c.loop-number.invariant.right f
     (subst (λ ps. IsWrong ps t.opening past e f) same (w t.opening (length t.calls) past shows right count))) c.judge.ensures.wrong in
     search rules

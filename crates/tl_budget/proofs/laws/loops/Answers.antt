@@ -1,4 +1,4 @@
-use Rattle.tl_budget.proofs.Costing.{weight_is}
+use Rattle.tl_budget.proofs.SectionCosts.{weight_is}
 use Rattle.tl_budget.proofs.LoopWays.{closes_further_on, listed, inside_or_apart}
 use Rattle.tl_budget.proofs.laws.loops.Goals as goal
 

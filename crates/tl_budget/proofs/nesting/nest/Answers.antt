@@ -3,8 +3,8 @@ use Rattle.std.specs.Prelude.{slice_get, option_map}
 use Rattle.std.proofs.lemmas.Option.{slice_get_read}
 use Rattle.std.proofs.lemmas.Result.{err_from_is_err_and}
 use Rattle.tl_budget.specs.Loops.{Opens, Closes, kind, kind_at}
-use Rattle.tl_budget.proofs.Placed.{marks}
-use Rattle.tl_budget.proofs.Walking.{placed_here, opens_before, neither, walked_in, not_in, walked_out, not_out, walked_on, walked_through, left_open, only_memory}
+use Rattle.tl_budget.proofs.NestLemmas.{marks}
+use Rattle.tl_budget.proofs.NestingWalk.{placed_here, opens_before, neither, walked_in, not_in, walked_out, not_out, walked_on, walked_through, left_open, only_memory}
 use Rattle.tl_budget.proofs.nesting.nest.Goals as goal
 use Rattle.tl_budget.proofs.nesting.nest.Goals.{in-Repeat+in_ok-enter-in-Repeat, in-End+in_ok-opening-in-End, in_default-instr}
 

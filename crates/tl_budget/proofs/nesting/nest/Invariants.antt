@@ -1,4 +1,4 @@
-use Rattle.tl_budget.proofs.Walking.{Walked}
+use Rattle.tl_budget.proofs.NestingWalk.{Walked}
 use Rattle.tl_budget.proofs.nesting.nest.Given as goal
 
 abbrev pub invariant-loop-position : goal.invariant-loop-position

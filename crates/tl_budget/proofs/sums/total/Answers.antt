@@ -2,7 +2,7 @@ use Rattle.std.proofs.Common.{◌*◌, ap, ◌≡◌, get_or, Some, arith, rules
 use Rattle.std.specs.Prelude.{slice_get}
 use Rattle.std.proofs.lemmas.Option.{slice_get_read, MatchOption-at_none}
 use Rattle.tl_budget.specs.Loops.{is_any, is_lock, is_emit}
-use Rattle.tl_budget.proofs.Weights.{weighs, room_for_one, turned_small, one_more, opened, passed}
+use Rattle.tl_budget.proofs.WeightSums.{weighs, room_for_one, turned_small, one_more, opened, passed}
 use Rattle.tl_budget.proofs.sums.total.Goals as goal
 use Rattle.tl_budget.proofs.sums.total.Goals.{in-Some, in_default}
 

@@ -1,5 +1,5 @@
 use Rattle.tl_budget.specs.Loops.{is_any, is_lock, is_emit}
-use Rattle.tl_budget.proofs.Weights.{Summed, Around}
+use Rattle.tl_budget.proofs.WeightSums.{Summed, Around}
 use Rattle.tl_budget.proofs.sums.total.Given as goal
 
 abbrev pub invariant-loop-position : goal.invariant-loop-position

@@ -2,7 +2,7 @@ use Rattle.std.proofs.Common.{refl, sym, ap, ◌∙◌, subst, ℕ, List, [], ta
 use Rattle.tl_tree.specs.Trees.{TreeValue}
 use Rattle.tl_tree.specs.Records.{Records}
 use Rattle.tl_machine.specs.declared.want.Stop.TheVariants as stop
-use Rattle.tl_machine.proofs.Going.{still, is_turn, stands_at, did_on, lock_at, lock_inside, lock_on, free_at, free_inside, free_on, end_at, end_on, more_left, all_done, stop_is}
+use Rattle.tl_machine.proofs.RunFromStart.{still, is_turn, stands_at, did_on, lock_at, lock_inside, lock_on, free_at, free_inside, free_on, end_at, end_on, more_left, all_done, stop_is}
 use Rattle.tl_machine.proofs.alone_run.run.Goals as goal
 
 pub loop-node-init : goal.loop-node-init

@@ -1,7 +1,7 @@
 use Rattle.std.proofs.Common.{◌≡◌, ◌-◌}
 use Rattle.tl_budget.specs.Loops.{budget}
 use Rattle.tl_machine.specs.Stands.{run_left}
-use Rattle.tl_machine.proofs.Going.{UnderWay}
+use Rattle.tl_machine.proofs.RunFromStart.{UnderWay}
 use Rattle.tl_machine.proofs.alone_run.run.Given as goal
 
 -- what was done so far is what was to be done, and the tree has the shape that it had

@@ -1,4 +1,4 @@
-use Rattle.tl_machine.proofs.Beginning.{locks_find, long, left_is, reply_is}
+use Rattle.tl_machine.proofs.StartLemmas.{locks_find, long, left_is, reply_is}
 use Rattle.tl_machine.proofs.laws.alone_finds_and_leaves.Goals as goal
 
 pub returns-clause-finds : goal.returns-clause-finds

@@ -1,4 +1,4 @@
-use Rattle.tl_machine.proofs.Beginning.{is_alone}
+use Rattle.tl_machine.proofs.StartLemmas.{is_alone}
 use Rattle.tl_machine.proofs.laws.alone_is_alone.Goals as goal
 
 pub returns : goal.returns

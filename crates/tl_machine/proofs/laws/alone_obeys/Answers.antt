@@ -1,4 +1,4 @@
-use Rattle.tl_machine.proofs.Beginning.{obeys, ends}
+use Rattle.tl_machine.proofs.StartLemmas.{obeys, ends}
 use Rattle.tl_machine.proofs.laws.alone_obeys.Goals as goal
 
 pub returns-clause-obeys : goal.returns-clause-obeys

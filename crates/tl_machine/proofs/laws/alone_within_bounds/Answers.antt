@@ -1,4 +1,4 @@
-use Rattle.tl_machine.proofs.Beginning.{few_steps, few_locks, few_values}
+use Rattle.tl_machine.proofs.StartLemmas.{few_steps, few_locks, few_values}
 use Rattle.tl_machine.proofs.laws.alone_within_bounds.Goals as goal
 
 pub returns-clause-steps : goal.returns-clause-steps

@@ -1,7 +1,7 @@
 use Rattle.std.proofs.Common.{rules, refl, arith}
 use Rattle.tl_machine.specs.Call.{held}
-use Rattle.tl_machine.proofs.Copies.{node_at}
-use Rattle.tl_machine.proofs.Effects.{kids_is}
+use Rattle.tl_machine.proofs.TreeCopies.{node_at}
+use Rattle.tl_machine.proofs.GetAndPut.{kids_is}
 use Rattle.tl_machine.proofs.nodes.kids.Goals as goal
 
 pub kids-requires : goal.kids-requires

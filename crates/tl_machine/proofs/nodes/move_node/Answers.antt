@@ -1,5 +1,5 @@
 use Rattle.std.proofs.Common.{rules, refl, arith, append-nil, sym}
-use Rattle.tl_machine.proofs.Effects.{move_is}
+use Rattle.tl_machine.proofs.GetAndPut.{move_is}
 use Rattle.tl_machine.proofs.nodes.move_node.Goals as goal
 
 pub returns : goal.returns

@@ -1,6 +1,6 @@
 use Rattle.std.proofs.Common.{refl, ◌∙◌, ap, length, ◌++◌, drop}
 use Rattle.std.specs.Prelude.{pos, replicate}
-use Rattle.tl_machine.proofs.Going.{drop-replicate, start_stands}
+use Rattle.tl_machine.proofs.RunFromStart.{drop-replicate, start_stands}
 use Rattle.tl_machine.proofs.start.start.Goals as goal
 
 pub returns-clause-start : goal.returns-clause-start

@@ -1,7 +1,7 @@
 use Rattle.std.proofs.Common.{[], ap, ◌∙◌}
 use Rattle.tl_protocol.specs.Actions.{locks_and_frees, taken}
 use Rattle.tl_protocol.specs.World.{alone_of}
-use Rattle.tl_protocol.proofs.Shared.{locks_and_frees-shared_actions}
+use Rattle.tl_protocol.proofs.SharedActions.{locks_and_frees-shared_actions}
 use Rattle.tl_protocol.proofs.laws.genuine_locks_and_frees.Goals as goal
 
 pub returns : goal.returns

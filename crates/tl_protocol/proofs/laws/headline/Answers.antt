@@ -5,10 +5,10 @@ use Rattle.tl_protocol.specs.History.{part_of, records_now}
 use Rattle.tl_protocol.specs.Order.{placed}
 use Rattle.tl_protocol.specs.Alone.{IsAlone, serial}
 use Rattle.tl_protocol.specs.World.{reply_of}
-use Rattle.tl_protocol.proofs.Places.{obeys_first}
+use Rattle.tl_protocol.proofs.ObeysByPlaces.{obeys_first}
 use Rattle.tl_protocol.proofs.Records.{length-with_found}
-use Rattle.tl_protocol.proofs.Standstill.{some_may_take}
-use Rattle.tl_protocol.proofs.Reached.{reached_sound, serial-placed}
+use Rattle.tl_protocol.proofs.NoStandstill.{some_may_take}
+use Rattle.tl_protocol.proofs.ReachedWorlds.{reached_sound, serial-placed}
 use Rattle.tl_protocol.proofs.laws.headline.Goals as goal
 
 pub returns-clause-legal : goal.returns-clause-legal

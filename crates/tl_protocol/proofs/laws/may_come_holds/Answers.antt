@@ -1,4 +1,4 @@
-use Rattle.tl_protocol.proofs.Coming.{may_holds, may_come_holds}
+use Rattle.tl_protocol.proofs.MayComeLemmas.{may_holds, may_come_holds}
 use Rattle.tl_protocol.proofs.laws.may_come_holds.Goals as goal
 
 pub returns-clause-holder : goal.returns-clause-holder

@@ -1,4 +1,4 @@
-use Rattle.tl_protocol.proofs.Standstill.{some_enabled, enabled_may_take, may_take_enabled}
+use Rattle.tl_protocol.proofs.NoStandstill.{some_enabled, enabled_may_take, may_take_enabled}
 use Rattle.tl_protocol.proofs.laws.no_standstill.Goals as goal
 
 pub returns-clause-some_enabled : goal.returns-clause-some_enabled

@@ -1,4 +1,4 @@
-use Rattle.tl_protocol.proofs.Places.{obeys_places, obeys_first, obeys_alone}
+use Rattle.tl_protocol.proofs.ObeysByPlaces.{obeys_places, obeys_first, obeys_alone}
 use Rattle.tl_protocol.proofs.Permitted.{places_permitted, permitted_ends, places_legal}
 use Rattle.tl_protocol.specs.History.{part_of}
 use Rattle.tl_protocol.proofs.laws.obeys_by_places.Goals as goal

@@ -1,4 +1,4 @@
-use Rattle.tl_protocol.proofs.Placed.{placed-agrees}
+use Rattle.tl_protocol.proofs.PlacedAgrees.{placed-agrees}
 use Rattle.tl_protocol.proofs.laws.placed_agrees.Goals as goal
 
 pub returns : goal.returns

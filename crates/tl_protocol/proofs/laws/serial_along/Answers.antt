@@ -1,4 +1,4 @@
-use Rattle.tl_protocol.proofs.Reached.{serial-agreeing}
+use Rattle.tl_protocol.proofs.ReachedWorlds.{serial-agreeing}
 use Rattle.tl_protocol.proofs.laws.serial_along.Goals as goal
 
 pub returns-clause-tree : goal.returns-clause-tree

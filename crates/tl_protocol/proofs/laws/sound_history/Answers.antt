@@ -1,4 +1,4 @@
-use Rattle.tl_protocol.proofs.Standstill.{sound_history}
+use Rattle.tl_protocol.proofs.NoStandstill.{sound_history}
 use Rattle.tl_protocol.proofs.laws.sound_history.Goals as goal
 
 pub returns : goal.returns

@@ -1,4 +1,4 @@
-use Rattle.tl_protocol.proofs.Reached.{sound_after_admission, sound_after_step}
+use Rattle.tl_protocol.proofs.ReachedWorlds.{sound_after_admission, sound_after_step}
 use Rattle.tl_protocol.proofs.laws.steps_keep_sound.Goals as goal
 
 pub returns-clause-admission : goal.returns-clause-admission

@@ -4,9 +4,9 @@ use Rattle.tl_protocol.specs.Alone.{serial}
 use Rattle.tl_protocol.specs.History.{AllDone, records_now}
 use Rattle.tl_protocol.specs.Order.{placed, Agrees}
 use Rattle.tl_protocol.specs.World.{reply_of}
-use Rattle.tl_protocol.proofs.Placed.{placed-agrees}
-use Rattle.tl_protocol.proofs.Reached.{serial-agreeing}
-use Rattle.tl_protocol.proofs.Standstill.{sound_history}
+use Rattle.tl_protocol.proofs.PlacedAgrees.{placed-agrees}
+use Rattle.tl_protocol.proofs.ReachedWorlds.{serial-agreeing}
+use Rattle.tl_protocol.proofs.NoStandstill.{sound_history}
 use Rattle.tl_core.specs.Cores.{world_of}
 use Rattle.tl_protocol.specs.Nodes.{IsOfNodes}
 use Rattle.tl_protocol.proofs.Inside.{sound_inside, order_known}

@@ -2,7 +2,7 @@ use Rattle.std.proofs.Common.{◌≢◌, ℤ, List}
 use Rattle.std.proofs.lemmas.Result.{IfOk-weaker, IfErr-weaker}
 use Rattle.tl_tree.specs.Records.{Records}
 use Rattle.tl_trail.specs.declared.fault.TrailFault.TheVariants.{Memory}
-use Rattle.tl_trail.specs.Reading.{IsTrailText, IsTrailFault}
+use Rattle.tl_trail.specs.Reading.{IsTrailText, IsFirstTrailFault}
 use Rattle.tl_trail.specs.Raw.{form_with, IsTrailOf, IsFaultOf}
 use Rattle.tl_trail.proofs.Whole.{text_is, text_fault}
 use Rattle.tl_trail.proofs.reading.trail_of_text.Goals as goal
@@ -20,5 +20,5 @@ returns-clause-fault c =
     let text = c.args.text.now in
     let tree = c.in_ok-tree.tree in
     let raw = c.in_ok-tree.raw in
-    IfErr-weaker c.checked_trail.result (λ e. e ≢ Memory → (parts : List ℤ × Records) → IsFaultOf tree (form_with raw parts) e) (λ e. e ≢ Memory → IsTrailFault text e)
+    IfErr-weaker c.checked_trail.result (λ e. e ≢ Memory → (parts : List ℤ × Records) → IsFaultOf tree (form_with raw parts) e) (λ e. e ≢ Memory → IsFirstTrailFault text e)
     (λ e wrong ne. text_fault text tree raw e c.in_ok-tree.ensures.ok (wrong ne)) c.checked_trail.ensures.fault

@@ -1,7 +1,7 @@
 use Rattle.std.proofs.Common.{◌≡◌, length, refl, sym, arith, subst, inl, inr}
 use Rattle.std.proofs.lemmas.Option.{slice_get_read}
 use Rattle.tl_verify.specs.Known.{AheadTo}
-use Rattle.tl_verify.proofs.Jumping.{none_more, ahead_more, back_is_first, past_is_first, into_is_first, all_ahead}
+use Rattle.tl_verify.proofs.JumpsLemmas.{none_more, ahead_more, back_is_first, past_is_first, into_is_first, all_ahead}
 use Rattle.tl_verify.proofs.jumps.jumps.Goals.{else-depth_at-gt0-via-then-depth_at-gt0+else-opening_of-position, else-depth_at-gt0-via-else-depth_at-gt0}
 use Rattle.tl_verify.proofs.jumps.jumps.Goals as goal
 

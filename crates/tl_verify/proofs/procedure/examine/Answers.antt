@@ -1,5 +1,5 @@
 use Rattle.std.proofs.lemmas.Result.{err_from_is_err_and}
-use Rattle.tl_verify.proofs.Accepting.{accepted, loops_fault, over_is_first}
+use Rattle.tl_verify.proofs.ProcedureLemmas.{accepted, loops_fault, over_is_first}
 use Rattle.tl_verify.proofs.procedure.examine.Goals as goal
 
 pub returns-in_err-loops-clause-fault : goal.returns-in_err-loops-clause-fault

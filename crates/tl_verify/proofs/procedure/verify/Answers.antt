@@ -1,4 +1,4 @@
-use Rattle.tl_verify.proofs.Accepting.{only_memory}
+use Rattle.tl_verify.proofs.ProcedureLemmas.{only_memory}
 use Rattle.tl_verify.proofs.procedure.verify.Goals as goal
 
 pub returns-in-Err-clause-accepts : goal.returns-in-Err-clause-accepts

@@ -2,7 +2,7 @@ use Rattle.std.proofs.Common.{◌≡◌, ◌+◌, ◌<◌, true, None, length, g
 use Rattle.std.proofs.lemmas.List.{get_or_default}
 use Rattle.tl_budget.specs.Nested.{place_at}
 use Rattle.tl_verify.specs.Pass.{is_end}
-use Rattle.tl_verify.proofs.Alike.{other_registers, where_open, where_spent}
+use Rattle.tl_verify.proofs.MarksLemmas.{other_registers, where_open, where_spent}
 use Rattle.tl_verify.proofs.registers.is_changed.Goals as goal
 
 pub returns-then-ne : goal.returns-then-ne

@@ -1,4 +1,4 @@
-use Rattle.tl_verify.proofs.Walking.{settled_fits}
+use Rattle.tl_verify.proofs.RegistersLemmas.{settled_fits}
 use Rattle.tl_verify.proofs.registers.registers.Goals as goal
 
 pub returns : goal.returns

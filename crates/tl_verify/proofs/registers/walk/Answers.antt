@@ -2,8 +2,8 @@ use Rattle.std.proofs.Common.{◌<◌, None, length, refl, ◌∙◌, arith, get
 use Rattle.std.proofs.lemmas.List.{get_or_default}
 use Rattle.std.proofs.lemmas.Option.{slice_get-get_or, slice_get_read}
 use Rattle.tl_instr.specs.declared.instr.Instr.TheVariants.{Return}
-use Rattle.tl_verify.proofs.Knowing.{known_next, known_skip}
-use Rattle.tl_verify.proofs.Walking.{clear_skip, clear_next, fault_here, alike, next_inside, target_inside, body_inside}
+use Rattle.tl_verify.proofs.KnownLemmas.{known_next, known_skip}
+use Rattle.tl_verify.proofs.RegistersLemmas.{clear_skip, clear_next, fault_here, alike, next_inside, target_inside, body_inside}
 use Rattle.tl_verify.proofs.registers.walk.Goals as goal
 
 pub loop-position-preserved-in_default : goal.loop-position-preserved-in_default

@@ -1,7 +1,7 @@
 use Rattle.std.proofs.Common.{◌≡◌, ◌∷◌, [], ◌∙◌, Some, None, arith, length-append, sym, ap, is_some, true}
 use Rattle.tl_asm.specs.Statements.{Takes}
 use Rattle.tl_asm.specs.Sketches.{known, traced}
-use Rattle.tl_asm.proofs.Steps.{misplaced, second_arity, arity_line, none_from}
+use Rattle.tl_asm.proofs.SketchSteps.{misplaced, second_arity, arity_line, none_from}
 use Rattle.tl_asm.proofs.sketch.Sketch.take_arity.Goals as goal
 
 pub returns-then-is_some-clause-fault : goal.returns-then-is_some-clause-fault

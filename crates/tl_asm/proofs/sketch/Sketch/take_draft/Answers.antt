@@ -2,7 +2,7 @@ use Rattle.std.proofs.Common.{rules, ◌≡◌, ◌≢◌, ◌<◌, ◌++◌, �
 use Rattle.std.proofs.lemmas.List.{map-append}
 use Rattle.tl_asm.specs.Statements.{Does, view}
 use Rattle.tl_asm.specs.Sketches.{known, traced}
-use Rattle.tl_asm.proofs.Steps.{misplaced, early_instr, too_long, instr_line, is_some_given, none_given, few}
+use Rattle.tl_asm.proofs.SketchSteps.{misplaced, early_instr, too_long, instr_line, is_some_given, none_given, few}
 use Rattle.tl_asm.proofs.sketch.Sketch.take_draft.Goals as goal
 
 pub returns-then-is_none-clause-fault : goal.returns-then-is_none-clause-fault

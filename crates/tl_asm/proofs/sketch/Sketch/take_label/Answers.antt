@@ -5,8 +5,8 @@ use Rattle.std.specs.Map.{lookup}
 use Rattle.tl_asm.specs.Statements.{Names}
 use Rattle.tl_asm.specs.Texts.{position_of}
 use Rattle.tl_asm.specs.Sketches.{known, traced}
-use Rattle.tl_asm.proofs.Appends.{known_at}
-use Rattle.tl_asm.proofs.Steps.{misplaced, early_label, twice, label_line, is_some_given, none_given, none_from}
+use Rattle.tl_asm.proofs.StatementLists.{known_at}
+use Rattle.tl_asm.proofs.SketchSteps.{misplaced, early_label, twice, label_line, is_some_given, none_given, none_from}
 use Rattle.tl_asm.proofs.sketch.Sketch.take_label.Goals as goal
 
 pub returns-then-is_none-clause-fault : goal.returns-then-is_none-clause-fault

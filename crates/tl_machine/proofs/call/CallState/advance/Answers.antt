@@ -1,4 +1,4 @@
-use Rattle.tl_machine.proofs.Turning.{stands_running, over_wants, attempted_steps, attempted_stops, attempted_unchanged}
+use Rattle.tl_machine.proofs.TurnLemmas.{stands_running, over_wants, attempted_steps, attempted_stops, attempted_unchanged}
 use Rattle.tl_machine.proofs.call.CallState.advance.Goals as goal
 
 pub returns-then-self-clause-stops : goal.returns-then-self-clause-stops

@@ -1,5 +1,5 @@
 use Rattle.std.proofs.Common.{refl}
-use Rattle.tl_machine.proofs.Moves.{ends}
+use Rattle.tl_machine.proofs.LockFreeEnd.{ends}
 use Rattle.tl_machine.proofs.call.CallState.finish.Goals as goal
 
 pub returns : goal.returns

@@ -1,7 +1,7 @@
 use Rattle.std.proofs.Common.{◌∙◌, ap}
 use Rattle.tl_instr.specs.Codes.{CodeValue}
-use Rattle.tl_machine.proofs.Moves.{frees}
-use Rattle.tl_machine.proofs.Standing.{at_read, steps_short}
+use Rattle.tl_machine.proofs.LockFreeEnd.{frees}
+use Rattle.tl_machine.proofs.BetweenStepsLemmas.{at_read, steps_short}
 use Rattle.tl_machine.proofs.call.CallState.free.Goals as goal
 
 pub go_to-requires : goal.go_to-requires

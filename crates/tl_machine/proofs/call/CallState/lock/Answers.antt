@@ -1,7 +1,7 @@
 use Rattle.std.proofs.Common.{refl}
-use Rattle.tl_machine.proofs.Standing.{may_go_on}
-use Rattle.tl_machine.proofs.Moves.{first_locks}
-use Rattle.tl_machine.proofs.Attempting.{at_position, first_found, child_found, child_few, child_taken, no_other_locks}
+use Rattle.tl_machine.proofs.BetweenStepsLemmas.{may_go_on}
+use Rattle.tl_machine.proofs.LockFreeEnd.{first_locks}
+use Rattle.tl_machine.proofs.AdvanceLemmas.{at_position, first_found, child_found, child_few, child_taken, no_other_locks}
 use Rattle.tl_machine.proofs.call.CallState.lock.Goals as goal
 
 pub bounds-instrs-self : goal.bounds-instrs-self

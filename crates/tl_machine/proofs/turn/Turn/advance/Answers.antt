@@ -1,5 +1,5 @@
 use Rattle.std.proofs.Common.{sym}
-use Rattle.tl_machine.proofs.Turning.{advanced_turn}
+use Rattle.tl_machine.proofs.TurnLemmas.{advanced_turn}
 use Rattle.tl_machine.proofs.turn.Turn.advance.Goals as goal
 
 pub advance-requires : goal.advance-requires

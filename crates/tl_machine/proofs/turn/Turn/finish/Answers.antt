@@ -2,7 +2,7 @@ use Rattle.std.proofs.Common.{sym}
 use Rattle.tl_machine.specs.declared.want.Want.TheVariants as want
 use Rattle.tl_machine.specs.declared.want.Stop.TheVariants as stop
 use Rattle.tl_machine.specs.Turns.{over}
-use Rattle.tl_machine.proofs.Turning.{stands_wants, is_at_end, ended_over}
+use Rattle.tl_machine.proofs.TurnLemmas.{stands_wants, is_at_end, ended_over}
 use Rattle.tl_machine.proofs.turn.Turn.finish.Goals as goal
 
 pub finish-requires-clause-stands : goal.finish-requires-clause-stands

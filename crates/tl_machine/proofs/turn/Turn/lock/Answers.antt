@@ -1,7 +1,7 @@
 use Rattle.std.proofs.Common.{◌≡◌, sym, ◌∙◌}
 use Rattle.tl_machine.specs.declared.want.Want.TheVariants as want
 use Rattle.tl_machine.specs.declared.want.Stop.TheVariants as stop
-use Rattle.tl_machine.proofs.Turning.{two_wants}
+use Rattle.tl_machine.proofs.TurnLemmas.{two_wants}
 use Rattle.tl_machine.proofs.turn.Turn.lock.Goals as goal
 
 pub unreachable-requires : goal.unreachable-requires

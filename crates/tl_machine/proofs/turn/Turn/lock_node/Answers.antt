@@ -1,7 +1,7 @@
 use Rattle.std.proofs.Common.{sym}
 use Rattle.tl_machine.specs.declared.want.Want.TheVariants as want
 use Rattle.tl_machine.specs.declared.want.Stop.TheVariants as stop
-use Rattle.tl_machine.proofs.Turning.{stands_wants, is_at_lock}
+use Rattle.tl_machine.proofs.TurnLemmas.{stands_wants, is_at_lock}
 use Rattle.tl_machine.proofs.turn.Turn.lock_node.Goals as goal
 
 pub lock-requires-clause-stands : goal.lock-requires-clause-stands

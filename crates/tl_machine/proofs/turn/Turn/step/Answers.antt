@@ -1,7 +1,7 @@
 use Rattle.std.proofs.Common.{sym}
 use Rattle.std.specs.Arc.{arc_value}
 use Rattle.tl_machine.specs.declared.want.Want.TheVariants as want
-use Rattle.tl_machine.proofs.Turning.{two_wants}
+use Rattle.tl_machine.proofs.TurnLemmas.{two_wants}
 use Rattle.tl_machine.proofs.turn.Turn.step.Goals as goal
 
 pub advance-requires : goal.advance-requires

@@ -1,5 +1,5 @@
 use Rattle.std.proofs.Common.{sym}
-use Rattle.tl_machine.proofs.Turning.{stands_running, wants_waits}
+use Rattle.tl_machine.proofs.TurnLemmas.{stands_running, wants_waits}
 use Rattle.tl_machine.proofs.turn.Turn.want.Goals as goal
 
 pub returns : goal.returns

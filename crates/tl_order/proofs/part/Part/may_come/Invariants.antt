@@ -1,6 +1,6 @@
 use Rattle.std.proofs.Common.{◌≡◌, ◌<◌, List, length}
 use Rattle.tl_protocol.specs.declared.action.Action.{Action}
-use Rattle.tl_protocol.proofs.Coming.{comes}
+use Rattle.tl_protocol.proofs.MayComeLemmas.{comes}
 use Rattle.tl_order.specs.Part.{IsPart}
 use Rattle.tl_order.proofs.part.Part.may_come.Given as goal
 

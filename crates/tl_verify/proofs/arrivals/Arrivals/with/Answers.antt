@@ -1,5 +1,5 @@
 use Rattle.std.proofs.Common.{refl, inl, inr, ⊎_elim}
-use Rattle.tl_verify.proofs.Alike.{not_differs, differs, or_false, or_true}
+use Rattle.tl_verify.proofs.MarksLemmas.{not_differs, differs, or_false, or_true}
 use Rattle.tl_verify.proofs.arrivals.Arrivals.with.Goals as goal
 
 pub returns : goal.returns

@@ -1,5 +1,5 @@
 use Rattle.std.proofs.Common.{sym, arith}
-use Rattle.tl_verify.proofs.Bits.{lowest_bit}
+use Rattle.tl_verify.proofs.RegisterSetLemmas.{lowest_bit}
 use Rattle.tl_verify.proofs.register_set.RegisterSet.first.Goals as goal
 
 pub returns : goal.returns

@@ -1,4 +1,4 @@
-use Rattle.tl_verify.proofs.Bits.{tested}
+use Rattle.tl_verify.proofs.RegisterSetLemmas.{tested}
 use Rattle.tl_verify.proofs.register_set.RegisterSet.has.Goals as goal
 
 pub returns : goal.returns

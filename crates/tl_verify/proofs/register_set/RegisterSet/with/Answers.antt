@@ -1,4 +1,4 @@
-use Rattle.tl_verify.proofs.Bits.{set_bit}
+use Rattle.tl_verify.proofs.RegisterSetLemmas.{set_bit}
 use Rattle.tl_verify.proofs.register_set.RegisterSet.with.Goals as goal
 
 pub returns : goal.returns

@@ -1,4 +1,4 @@
-use Rattle.tl_verify.proofs.Bits.{cleared_bit}
+use Rattle.tl_verify.proofs.RegisterSetLemmas.{cleared_bit}
 use Rattle.tl_verify.proofs.register_set.RegisterSet.without.Goals as goal
 
 pub returns : goal.returns

@@ -1,4 +1,4 @@
-use Rattle.tl_verify.proofs.Alike.{compared}
+use Rattle.tl_verify.proofs.MarksLemmas.{compared}
 use Rattle.tl_verify.proofs.register_set.RegisterSetPartialEq.eq.Goals as goal
 
 pub returns : goal.returns
