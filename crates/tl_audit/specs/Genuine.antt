@@ -17,8 +17,8 @@ AreFit t (_ ∷ done) = AreFit t done
 -- the lock or the free that an event is; any other event stands for nothing here
 abbrev pub action_of : Event → Action
 action_of (Event.Admit c) = Plain
-action_of (Event.Lock c x found) = Lock x found
-action_of (Event.Free c x left) = Free x left
+action_of (Event.Lock x c found) = Lock x found
+action_of (Event.Free x c left) = Free x left
 action_of (Event.Done c) = Plain
 
 -- the actions of the events at these places
