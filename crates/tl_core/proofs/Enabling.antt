@@ -33,7 +33,7 @@ first_of (Then a more) w h goes = (a, more, refl)
 first_of (At p s) w h goes = absurd (goes (sym h))
 first_of (Ended s) w h goes = absurd (goes (sym h))
 
--- the stops that are neither a lock nor the end of all
+-- a free or the return is no lock, and the call isn't over
 pub unlocking : (s : Stop) → ((x : ℕ) × (s ≡ stop.Free x)) ⊎ (s ≡ stop.Return) → (want.Stop s ≢ want.Stop stop.Over) × ((x : ℕ) → want.Stop s ≢ want.Stop (stop.Lock x))
 unlocking s (inl (x, free)) = ((λ e. absurd cc), (λ y e. absurd cc))
 unlocking s (inr end) = ((λ e. absurd cc), (λ x e. absurd cc))

@@ -319,7 +319,7 @@ impl Core {
     }
 
     /// The tree as it is now: each record is the one that a call left last, or the opening one. What a call has written to
-    /// a node that it holds isn't seen here before it lets the node go.
+    /// a node that it holds isn't seen here before it frees the node.
     pub fn tree(&self) -> &Tree
         ensures { result.now ≡ record { parents = self.now.parents; records = records_now self.now.past self.now.opening } }
     {

@@ -31,7 +31,7 @@ fn n(number: u8) -> Result<NodeRegister, Fail> {
     Ok(NodeRegister::new(number).ok_or("a node register")?)
 }
 
-/// Locks the node `v0`, stores `v1` in its field 0, emits it, and lets the node go.
+/// Locks the node `v0`, stores `v1` in its field 0, emits it, and frees the node.
 fn store(alloc: Global) -> Result<Proc, Fail> {
     let (node, number, value) = (n(0)?, v(0)?, v(1)?);
     let field = Field::new(0).ok_or("a field")?;

@@ -111,7 +111,7 @@ impl Turn {
         self.lock_node(node, found);
     }
 
-    /// The same for who knows already which node it is: `advance` or `want` told.
+    /// The same for a caller that knows the node already, since `advance` or `want` told it.
     #[inline(always)]
     pub fn lock_node(&mut self, node: u16, found: Record)
         requires { Stops self.old (stop.Lock node) }

@@ -1,8 +1,8 @@
-use Rattle.std.proofs.Common.{refl, sym, ap, ◌∙◌, subst, ℕ, List, [], take, arith}
+use Rattle.std.proofs.Common.{refl, sym, ap, ◌∙◌, ℕ, List, [], take}
 use Rattle.tl_tree.specs.Trees.{TreeValue}
 use Rattle.tl_tree.specs.Records.{Records}
 use Rattle.tl_machine.specs.declared.want.Stop.TheVariants as stop
-use Rattle.tl_machine.proofs.RunFromStart.{still, is_turn, stands_at, did_on, lock_at, lock_inside, lock_on, free_at, free_inside, free_on, end_at, end_on, more_left, all_done, stop_is}
+use Rattle.tl_machine.proofs.RunFromStart.{still, is_turn, stands_at, did_on, lock_at, lock_inside, lock_on, free_at, free_inside, free_on, return_at, return_on, more_left, all_done, stop_is}
 use Rattle.tl_machine.proofs.alone_run.run.Goals as goal
 
 pub loop-node-init : goal.loop-node-init
@@ -114,7 +114,7 @@ finish-requires-clause-end c =
     let u = c.loop-node.invariant.under_way in
     let wants = stop_is c.args.procedure.now.instrs c.loop-node.tree.parents c.loop-node.call stop.Return _ c.in-Stopped-Return.field-0-is (rw same at c.in-Stopped-Return.ensures.stops) in
     let st = stands_at _ _ _ _ _ c.shape.ensures.whole.count stop.Return u (λ e. cc) wants in
-    rw c.in-Stopped-Return.ensures.unchanged (end_at _ _ _ _ _ c.shape.ensures.whole.count u st wants)
+    rw c.in-Stopped-Return.ensures.unchanged (return_at _ _ _ _ _ c.shape.ensures.whole.count u st wants)
 
 pub loop-node-smaller : goal.loop-node-smaller
 loop-node-smaller c =
@@ -132,7 +132,7 @@ loop-node-preserved c =
     let st = stands_at _ _ _ _ _ c.shape.ensures.whole.count stop.Return u (λ e. cc) wants in
     let again = c.deref-in-Stopped-Return.ensures ∙ c.shape-in-Stopped-Return.ensures.shape in
     record {
-      under_way = end_on _ _ _ _ _ c.shape.ensures.whole.count u st c.finish.new.self wants (rw (again, c.in-Stopped-Return.ensures.unchanged) at c.finish.ensures);
+      under_way = return_on _ _ _ _ _ c.shape.ensures.whole.count u st c.finish.new.self wants (rw (again, c.in-Stopped-Return.ensures.unchanged) at c.finish.ensures);
       shape = c.loop-node.invariant.shape;
     }
 

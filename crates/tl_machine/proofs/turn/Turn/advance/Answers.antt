@@ -1,4 +1,3 @@
-use Rattle.std.proofs.Common.{sym}
 use Rattle.tl_machine.proofs.TurnLemmas.{advanced_turn}
 use Rattle.tl_machine.proofs.turn.Turn.advance.Goals as goal
 
