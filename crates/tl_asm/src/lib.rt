@@ -9,7 +9,5 @@ mod reading;
 mod resolving;
 mod sketch;
 mod statement;
-#[cfg(test)]
-mod tests;
 mod token;
 mod word;

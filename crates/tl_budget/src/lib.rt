@@ -7,5 +7,3 @@ pub mod limits;
 pub mod nested;
 pub mod nesting;
 pub mod sums;
-#[cfg(test)]
-mod tests;

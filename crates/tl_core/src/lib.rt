@@ -11,5 +11,3 @@ pub mod interleaving;
 pub mod moves;
 pub mod procedures;
 pub mod stepped;
-#[cfg(test)]
-mod tests;

@@ -6,5 +6,3 @@
 
 pub mod fault;
 pub mod history;
-#[cfg(test)]
-mod tests;

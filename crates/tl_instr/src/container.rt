@@ -138,6 +138,3 @@ pub fn one_spelling()
     ensures faultless { (bytes : List ℕ) (c : CodeValue) (f : CodeFault) → Spelled bytes c → ¬ FirstFault bytes f }
     ensures one_fault { (bytes : List ℕ) (f g : CodeFault) → FirstFault bytes f → FirstFault bytes g → f ≡ g }
 {}
-
-#[cfg(test)]
-mod tests;

@@ -12,8 +12,6 @@ pub mod reply;
 pub mod segment;
 mod start;
 mod step;
-#[cfg(test)]
-mod tests;
 pub mod turn;
 mod values;
 pub mod want;

@@ -12,6 +12,4 @@ pub mod part;
 mod parts;
 pub mod placing;
 pub mod replaying;
-#[cfg(test)]
-mod tests;
 mod way;

@@ -4,8 +4,6 @@
 pub mod fault;
 pub mod record;
 pub mod shape;
-#[cfg(test)]
-mod tests;
 pub mod text;
 pub mod tree;
 pub mod value;

@@ -9,5 +9,3 @@ mod objection;
 pub mod procedure;
 mod register_set;
 mod registers;
-#[cfg(test)]
-mod tests;

@@ -1,21 +1,18 @@
-use crate::concluding::conclude;
-use crate::placing::{is_of_shape, order_of};
-use crate::replaying::replay;
+//! Orders of calls, and calls that run again along one.
+
+use crate::texts::{LOOK, procedure_of, tree_of};
 use std::alloc::Global;
 use std::process::Abort;
-use std::sync::Arc;
 use std::test::Fail;
 use tl_core::interleaving::Core;
 use tl_core::moves::Move;
 use tl_history::history::{History, MAX_EVENTS};
-use tl_instr::code::Code;
-use tl_instr::instr::Instr;
-use tl_instr::operand::{Field, NodeRegister, ValueRegister};
 use tl_protocol::event::Event;
+use tl_serial::concluding::conclude;
+use tl_serial::placing::{is_of_shape, order_of};
+use tl_serial::replaying::replay;
 use tl_tree::record::Record;
 use tl_tree::shape::Shape;
-use tl_tree::tree::Tree;
-use tl_verify::procedure::{Proc, verify};
 
 // ---- histories
 
@@ -175,74 +172,15 @@ fn a_million_events_of_many_calls(rt: HostRuntime) -> Result<(), Fail> {
     Ok(())
 }
 
-// ---- instructions, as in the text form
-
-fn v(number: u8) -> Result<ValueRegister, Fail> {
-    Ok(ValueRegister::new(number).ok_or("a value register")?)
-}
-
-fn n(number: u8) -> Result<NodeRegister, Fail> {
-    Ok(NodeRegister::new(number).ok_or("a node register")?)
-}
-
-fn first(to: u8, number: u8, otherwise: u16) -> Result<Instr, Fail> {
-    Ok(Instr::First {
-        to: n(to)?,
-        number: v(number)?,
-        otherwise,
-    })
-}
-
-/// Reads field 0.
-fn get(to: u8, node: u8) -> Result<Instr, Fail> {
-    Ok(Instr::Get {
-        to: v(to)?,
-        node: n(node)?,
-        field: Field::new(0).ok_or("a field")?,
-    })
-}
-
-fn emit(from: u8) -> Result<Instr, Fail> {
-    Ok(Instr::Emit { from: v(from)? })
-}
-
-fn release(node: u8) -> Result<Instr, Fail> {
-    Ok(Instr::Release { node: n(node)? })
-}
-
-// ---- procedures
-
-fn procedure_of(alloc: Global, arity: u8, instrs: &[Instr]) -> Result<Proc, Fail> {
-    let code = Code::new(arity, Vec::from_slice(alloc, instrs)?)?;
-    Ok(verify(alloc, code).ok().ok_or("refused")?)
-}
-
-/// Emits field 0 of the node `v0`.
-fn look(alloc: Global) -> Result<Proc, Fail> {
-    let instrs = [
-        first(0, 0, 4)?,
-        get(1, 0)?,
-        emit(1)?,
-        release(0)?,
-        Instr::Return,
-    ];
-    procedure_of(alloc, 1, &instrs)
-}
-
 // ---- cores
 
-/// Records with these numbers in field 0, and 0 in the others.
-fn records_of(numbers: [i64; 3]) -> [Record; 3] {
-    let [first, second, third] = numbers;
-    [[first, 0, 0, 0], [second, 0, 0, 0], [third, 0, 0, 0]]
-}
+const RECORDS: [Record; 3] = [[5, 0, 0, 0], [6, 0, 0, 0], [7, 0, 0, 0]];
 
-/// A core of a root with two children that have these numbers in field 0.
-fn core_of(alloc: Global, numbers: [i64; 3]) -> Result<Core, Fail> {
-    let shape = Arc::new(alloc, Shape::new(alloc, &FORK)?)?;
-    let records = Vec::from_slice(alloc, &records_of(numbers))?;
-    let mut core = Core::new(alloc, Tree::new(shape, records)?)?;
-    core.add_proc(alloc, "look", look(alloc)?)?;
+/// A core of a root with two children that have these records, and one procedure.
+fn core_of(alloc: Global) -> Result<Core, Fail> {
+    let tree = "{\"parents\":[0,0,0],\"records\":[[5,0,0,0],[6,0,0,0],[7,0,0,0]]}";
+    let mut core = Core::new(alloc, tree_of(alloc, tree)?)?;
+    core.add_proc(alloc, "look", procedure_of(alloc, LOOK)?)?;
     Ok(core)
 }
 
@@ -262,24 +200,19 @@ fn put_steps(moves: &mut Vec<Move>, call: u32, times: usize) -> Result<(), Fail>
     Ok(())
 }
 
-/// The core's calls have this order. Run again along it they leave these records, which are those now.
-fn assert_order(
-    rt: &impl Abort,
-    alloc: Global,
-    core: &Core,
-    expected: &[u32],
-    left: [i64; 3],
-) -> Result<(), Fail> {
-    let order = conclude(alloc, core)?;
-    assert_eq!(rt; order.calls(), expected);
-    let (tree, replies) = replay(alloc, &order, core)?;
-    assert_eq!(rt; tree.records(), records_of(left).as_slice());
-    assert_eq!(rt; core.tree().records(), records_of(left).as_slice());
-    assert_eq!(rt; replies.len(), expected.len());
-    Ok(())
+/// Call 0, which locks nothing, is done after call 1.
+fn driven(alloc: Global) -> Result<Core, Fail> {
+    let mut core = core_of(alloc)?;
+    let mut moves = Vec::new(alloc);
+    ask(alloc, &mut moves, "look", &[-1])?;
+    ask(alloc, &mut moves, "look", &[0])?;
+    put_steps(&mut moves, 1, 5)?;
+    put_steps(&mut moves, 0, 2)?;
+    core.drive(alloc, &moves)?;
+    Ok(core)
 }
 
-/// What the call at this place of the order replies when it runs again.
+/// What the call at a place of the order replies when it runs again.
 fn assert_reply(
     rt: &impl Abort,
     alloc: Global,
@@ -289,24 +222,20 @@ fn assert_reply(
 ) -> Result<(), Fail> {
     let order = conclude(alloc, core)?;
     let (_, replies) = replay(alloc, &order, core)?;
-    match replies.get(place) {
-        Some(reply) => assert_eq!(rt; reply.values(), values, "{place}"),
-        None => assert!(rt; false, "no reply"),
-    }
+    let reply = replies.get(place).ok_or("no reply")?;
+    assert_eq!(rt; reply.values(), values, "{place}");
     Ok(())
 }
 
 #[test]
 fn a_call_without_a_lock_runs_again_last(rt: HostRuntime) -> Result<(), Fail> {
     let alloc = rt.alloc();
-    let mut core = core_of(alloc, [5, 6, 7])?;
-    let mut moves = Vec::new(alloc);
-    ask(alloc, &mut moves, "look", &[-1])?;
-    ask(alloc, &mut moves, "look", &[0])?;
-    put_steps(&mut moves, 1, 5)?;
-    put_steps(&mut moves, 0, 2)?;
-    core.drive(alloc, &moves)?;
-    assert_order(&rt, alloc, &core, &[1, 0], [5, 6, 7])?;
+    let core = driven(alloc)?;
+    let order = conclude(alloc, &core)?;
+    assert_eq!(rt; order.calls(), [1, 0].as_slice());
+    let (tree, replies) = replay(alloc, &order, &core)?;
+    assert_eq!(rt; tree.records(), RECORDS.as_slice());
+    assert_eq!(rt; replies.len(), 2);
     assert_reply(&rt, alloc, &core, 0, &[5])?;
     assert_reply(&rt, alloc, &core, 1, &[])
 }
