@@ -9,8 +9,6 @@ mod reading;
 mod resolving;
 mod sketch;
 mod statement;
-#[cfg(test)]
-mod tests;
 mod token;
 mod word;
 

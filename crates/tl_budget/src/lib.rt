@@ -7,8 +7,6 @@ mod limits;
 mod nested;
 mod nesting;
 mod sums;
-#[cfg(test)]
-mod tests;
 
 pub use fault::NestFault;
 pub use limits::{Bounds, MAX_EMITS, MAX_LOCKS, MAX_STEPS};

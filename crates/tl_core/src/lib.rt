@@ -10,8 +10,6 @@ mod fault;
 mod interleaving;
 mod moves;
 mod stepped;
-#[cfg(test)]
-mod tests;
 
 pub use fault::CoreFault;
 pub use interleaving::{Core, MAX_UNFINISHED};

@@ -6,8 +6,6 @@
 
 mod fault;
 mod history;
-#[cfg(test)]
-mod tests;
 
 pub use fault::HistoryFault;
 pub use history::{History, MAX_CALLS, MAX_EVENTS};

@@ -138,6 +138,3 @@ pub fn one_spelling()
     ensures faultless { (bytes : List ℕ) (c : CodeValue) (f : CodeFault) → Spelled bytes c → ¬ IsFirstFault bytes f }
     ensures one_fault { (bytes : List ℕ) (f g : CodeFault) → IsFirstFault bytes f → IsFirstFault bytes g → f ≡ g }
 {}
-
-#[cfg(test)]
-mod tests;

@@ -11,8 +11,6 @@ mod reply;
 mod segment;
 mod start;
 mod step;
-#[cfg(test)]
-mod tests;
 mod turn;
 mod values;
 mod want;

@@ -10,8 +10,6 @@ mod order;
 mod part;
 mod parts;
 mod placing;
-#[cfg(test)]
-mod tests;
 mod way;
 
 pub use fault::SerialFault;

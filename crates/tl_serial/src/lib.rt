@@ -6,8 +6,6 @@
 
 mod concluding;
 mod replaying;
-#[cfg(test)]
-mod tests;
 
 pub use concluding::conclude;
 pub use replaying::replay;

@@ -4,8 +4,6 @@
 mod fault;
 mod record;
 mod shape;
-#[cfg(test)]
-mod tests;
 mod text;
 mod tree;
 mod value;

@@ -10,8 +10,6 @@ mod objection;
 mod procedure;
 mod register_set;
 mod registers;
-#[cfg(test)]
-mod tests;
 
 pub use fault::VerifyFault;
 pub use procedure::{Proc, verify};

@@ -1,8 +1,10 @@
-use crate::assembling::assemble;
-use crate::listing::disassemble;
+//! Assembler texts.
+
 use arrayvec::ArrayVec;
 use std::alloc::Global;
-use std::test::*;
+use std::test::Fail;
+use tl_asm::assembling::assemble;
+use tl_asm::listing::disassemble;
 
 /// The numbers of the fault, or none where the text is read.
 fn fault_in(alloc: Global, text: &str) -> ArrayVec<u64, 3> {
@@ -19,48 +21,6 @@ fn returns(alloc: Global, count: u16) -> Result<String, Fail> {
         text.push_str("ret\n")?;
     }
     Ok(text)
-}
-
-#[test]
-fn canonical_texts_come_back(rt: HostRuntime) -> Result<(), Fail> {
-    let cases: [(&str, u16); 8] = [
-        (
-            "arity 2\nfirst n0 v0 else L6\nget v2 n0 0\nadd v2 v2 v1 else L4\nput n0 0 v2\nL4:\nemit v2\nrel n0\nL6:\nret\n",
-            7,
-        ),
-        ("arity 2\ndiv v2 v0 v1 else L2\nemit v2\nL2:\nret\n", 3),
-        (
-            "arity 1\nfirst n0 v0 else L4\nget v1 n0 0\nemit v1\nrel n0\nL4:\nret\n",
-            5,
-        ),
-        (
-            "arity 2\nfirst n0 v0 else L3\nput n0 0 v1\nrel n0\nL3:\nret\n",
-            4,
-        ),
-        (
-            "arity 1\nfirst n0 v1 else L10\nchild n1 n0 v1 else L9\nput n1 0 v0\nrel n1\nset v2 1\nchild n1 n0 v2 else L9\nget v3 n1 0\nemit v3\nrel n1\nL9:\nrel n0\nL10:\nret\n",
-            11,
-        ),
-        (
-            "arity 1\nfirst n0 v0 else L9\nrep 12\nchild n1 n0 v1 else L6\nrel n0\nmove n0 n1\nend\nL6:\nget v2 n0 0\nemit v2\nrel n0\nL9:\nret\n",
-            10,
-        ),
-        (
-            "arity 1\nfirst n0 v1 else L10\nrep 12\nget v2 n0 0\nadd v2 v2 v0 else L4\nL4:\nput n0 0 v2\nchild n1 n0 v1 else L9\nrel n0\nmove n0 n1\nend\nL9:\nrel n0\nL10:\nret\n",
-            11,
-        ),
-        (
-            "arity 0\nfirst n0 v0 else L9\nset v1 1\nchild n1 n0 v1 else L8\nrel n1\nchild n1 n0 v0 else L7\nemit v1\nrel n1\nL7:\nemit v0\nL8:\nrel n0\nL9:\nret\n",
-            10,
-        ),
-    ];
-    for (text, count) in cases {
-        let code = assemble(rt.alloc(), text)?;
-        assert_eq!(rt; code.count(), count);
-        let listing = disassemble(rt.alloc(), &code)?;
-        assert_eq!(rt; listing.as_str(), text);
-    }
-    Ok(())
 }
 
 #[test]

@@ -1,18 +1,19 @@
-use crate::fault::TreeFault;
-use crate::record::Record;
-use crate::shape::Shape;
-use crate::text::{read_tree, write_tree};
-use crate::tree::Tree;
-use crate::value;
+//! Trees: their shapes, records and texts.
+
+use crate::texts::FORK;
 use serde_json::Value;
 use std::alloc::Global;
 use std::process::Abort;
 use std::sync::Arc;
 use std::test::Fail;
+use tl_tree::fault::TreeFault;
+use tl_tree::record::Record;
+use tl_tree::shape::Shape;
+use tl_tree::text::{read_tree, write_tree};
+use tl_tree::tree::Tree;
+use tl_tree::value;
 
-const SMALL: &str = "{\"parents\":[0,0,0],\"records\":[[0,0,0,0],[10,0,0,0],[20,0,0,0]]}";
-
-fn is_small(rt: &impl Abort, tree: &Tree) {
+fn is_fork(rt: &impl Abort, tree: &Tree) {
     let records: [Record; 3] = [[0, 0, 0, 0], [10, 0, 0, 0], [20, 0, 0, 0]];
     assert_eq!(rt; tree.shape().node_count(), 3);
     assert_eq!(rt; tree.shape().kids(0), 2);
@@ -21,11 +22,11 @@ fn is_small(rt: &impl Abort, tree: &Tree) {
 
 #[test]
 fn a_tree_is_read_copied_and_written(rt: HostRuntime) -> Result<(), Fail> {
-    let mut tree = read_tree(rt.alloc(), SMALL)?;
-    is_small(&rt, &tree);
+    let mut tree = read_tree(rt.alloc(), FORK)?;
+    is_fork(&rt, &tree);
     let copy = tree.copy()?;
-    is_small(&rt, &copy);
-    assert_eq!(rt; write_tree(rt.alloc(), &copy)?.as_str(), SMALL);
+    is_fork(&rt, &copy);
+    assert_eq!(rt; write_tree(rt.alloc(), &copy)?.as_str(), FORK);
 
     assert_eq!(rt; tree.records().len(), 3);
     tree.put_at(1, [i64::MIN, -1, 0, i64::MAX]);
@@ -37,7 +38,7 @@ fn a_tree_is_read_copied_and_written(rt: HostRuntime) -> Result<(), Fail> {
     );
     let again = read_tree(rt.alloc(), text.as_str())?;
     assert_eq!(rt; again.records(), tree.records());
-    is_small(&rt, &copy);
+    is_fork(&rt, &copy);
     Ok(())
 }
 
@@ -49,7 +50,7 @@ fn other_spellings_are_the_same_tree(rt: HostRuntime) -> Result<(), Fail> {
         "{\"\\u0070arents\":[0,0,0],\"rec\\u006frds\":[[0,0,0,0],[10,0,0,0],[20,0,0,0]]}",
         "{\"parents\":7,\"records\":[[0,0,0,0],[10,0,0,0],[20,0,0,0]],\"parents\":[0,0,0]}",
     ] {
-        is_small(&rt, &read_tree(rt.alloc(), text)?);
+        is_fork(&rt, &read_tree(rt.alloc(), text)?);
     }
     Ok(())
 }
@@ -166,9 +167,9 @@ fn values_are_read_and_made(rt: HostRuntime) -> Result<(), Fail> {
     let records = value::records_from_value(alloc, &value_of(alloc, "[[1,2,3,4],[5,6,7,8]]")?)?;
     let two: [Record; 2] = [[1, 2, 3, 4], [5, 6, 7, 8]];
     assert_eq!(rt; records.ok_or("records")?.as_slice(), two.as_slice());
-    is_small(
+    is_fork(
         &rt,
-        &value::tree_from_value(alloc, &value_of(alloc, SMALL)?)?,
+        &value::tree_from_value(alloc, &value_of(alloc, FORK)?)?,
     );
 
     let integers = value::integers_to_value(alloc, &[3, -4])?.to_string(alloc)?;

@@ -1,10 +1,18 @@
-use crate::placing::{is_of_shape, order_of};
+//! Orders of calls, and calls that run again along one.
+
+use crate::texts::{LOOK, procedure_of, tree_of};
 use std::alloc::Global;
 use std::process::Abort;
 use std::test::Fail;
-use tl_history::{History, MAX_EVENTS};
-use tl_protocol::Event;
-use tl_tree::Shape;
+use tl_core::interleaving::Core;
+use tl_core::moves::Move;
+use tl_history::history::{History, MAX_EVENTS};
+use tl_protocol::event::Event;
+use tl_serial::concluding::conclude;
+use tl_serial::placing::{is_of_shape, order_of};
+use tl_serial::replaying::replay;
+use tl_tree::record::Record;
+use tl_tree::shape::Shape;
 
 // ---- histories
 
@@ -162,4 +170,72 @@ fn a_million_events_of_many_calls(rt: HostRuntime) -> Result<(), Fail> {
         assert_eq!(rt; *call as usize, place);
     }
     Ok(())
+}
+
+// ---- cores
+
+const RECORDS: [Record; 3] = [[5, 0, 0, 0], [6, 0, 0, 0], [7, 0, 0, 0]];
+
+/// A core of a root with two children that have these records, and one procedure.
+fn core_of(alloc: Global) -> Result<Core, Fail> {
+    let tree = "{\"parents\":[0,0,0],\"records\":[[5,0,0,0],[6,0,0,0],[7,0,0,0]]}";
+    let mut core = Core::new(alloc, tree_of(alloc, tree)?)?;
+    core.add_proc(alloc, "look", procedure_of(alloc, LOOK)?)?;
+    Ok(core)
+}
+
+/// Puts an admission last.
+fn ask(alloc: Global, moves: &mut Vec<Move>, name: &str, args: &[i64]) -> Result<(), Fail> {
+    let name = String::from_str(alloc, name)?;
+    let args = Vec::from_slice(alloc, args)?;
+    moves.push(Move::Admit { name, args })?;
+    Ok(())
+}
+
+/// Puts so many steps of the call last.
+fn put_steps(moves: &mut Vec<Move>, call: u32, times: usize) -> Result<(), Fail> {
+    for _ in 0..times {
+        moves.push(Move::Step { call })?;
+    }
+    Ok(())
+}
+
+/// Call 0, which locks nothing, is done after call 1.
+fn driven(alloc: Global) -> Result<Core, Fail> {
+    let mut core = core_of(alloc)?;
+    let mut moves = Vec::new(alloc);
+    ask(alloc, &mut moves, "look", &[-1])?;
+    ask(alloc, &mut moves, "look", &[0])?;
+    put_steps(&mut moves, 1, 5)?;
+    put_steps(&mut moves, 0, 2)?;
+    core.drive(alloc, &moves)?;
+    Ok(core)
+}
+
+/// What the call at a place of the order replies when it runs again.
+fn assert_reply(
+    rt: &impl Abort,
+    alloc: Global,
+    core: &Core,
+    place: usize,
+    values: &[i64],
+) -> Result<(), Fail> {
+    let order = conclude(alloc, core)?;
+    let (_, replies) = replay(alloc, &order, core)?;
+    let reply = replies.get(place).ok_or("no reply")?;
+    assert_eq!(rt; reply.values(), values, "{place}");
+    Ok(())
+}
+
+#[test]
+fn a_call_without_a_lock_runs_again_last(rt: HostRuntime) -> Result<(), Fail> {
+    let alloc = rt.alloc();
+    let core = driven(alloc)?;
+    let order = conclude(alloc, &core)?;
+    assert_eq!(rt; order.calls(), [1, 0].as_slice());
+    let (tree, replies) = replay(alloc, &order, &core)?;
+    assert_eq!(rt; tree.records(), RECORDS.as_slice());
+    assert_eq!(rt; replies.len(), 2);
+    assert_reply(&rt, alloc, &core, 0, &[5])?;
+    assert_reply(&rt, alloc, &core, 1, &[])
 }

@@ -1,19 +1,13 @@
-use super::*;
-use crate::operand::ValueRegister;
-use arrayvec::ArrayVec;
-use std::test::*;
+//! Codes and their containers.
 
-/// `first n0 v0 else 6`, `get v2 n0 0`, `add v2 v2 v1 else 4`, `put n0 0 v2`, `emit v2`, `rel n0`, `ret`.
-const ADD: [u8; 64] = [
-    0x54, 0x4C, 0x50, 0x31, 0x02, 0x00, 0x00, 0x07, //
-    0x0C, 0x00, 0x00, 0x00, 0x00, 0x00, 0x00, 0x06, //
-    0x10, 0x02, 0x00, 0x00, 0x00, 0x00, 0x00, 0x00, //
-    0x03, 0x02, 0x02, 0x01, 0x00, 0x00, 0x00, 0x04, //
-    0x11, 0x00, 0x00, 0x02, 0x00, 0x00, 0x00, 0x00, //
-    0x13, 0x02, 0x00, 0x00, 0x00, 0x00, 0x00, 0x00, //
-    0x0F, 0x00, 0x00, 0x00, 0x00, 0x00, 0x00, 0x00, //
-    0x14, 0x00, 0x00, 0x00, 0x00, 0x00, 0x00, 0x00, //
-];
+use crate::texts::ADD_BYTES;
+use arrayvec::ArrayVec;
+use std::alloc::Global;
+use std::test::Fail;
+use tl_instr::code::Code;
+use tl_instr::container::{decode, encode};
+use tl_instr::instr::Instr;
+use tl_instr::operand::ValueRegister;
 
 /// The numbers of the fault, or none where the bytes are read.
 fn fault_in(alloc: Global, bytes: &[u8]) -> ArrayVec<u64, 3> {
@@ -35,12 +29,12 @@ fn returns(alloc: Global, count: u16) -> Result<Vec<u8>, Fail> {
 
 #[test]
 fn add_is_read_and_written(rt: HostRuntime) -> Result<(), Fail> {
-    let code = decode(rt.alloc(), &ADD)?;
+    let code = decode(rt.alloc(), &ADD_BYTES)?;
     assert_eq!(rt; code.arity().number(), 2);
     assert_eq!(rt; code.count(), 7);
     assert_eq!(rt; code.instrs().last(), Some(&Instr::Return));
     assert_eq!(rt; code.instr_at(7), None);
-    assert_eq!(rt; encode(rt.alloc(), &code)?.as_slice(), ADD.as_slice());
+    assert_eq!(rt; encode(rt.alloc(), &code)?.as_slice(), ADD_BYTES.as_slice());
     Ok(())
 }
 
@@ -60,7 +54,7 @@ fn one_byte_changed(rt: HostRuntime) -> Result<(), Fail> {
         (57, 1, &[204, 6]),
     ];
     for (place, byte, want) in cases {
-        let mut bytes = ADD;
+        let mut bytes = ADD_BYTES;
         assert!(rt; place < 64);
         bytes[place] = byte;
         let fault = fault_in(rt.alloc(), &bytes);
@@ -71,16 +65,16 @@ fn one_byte_changed(rt: HostRuntime) -> Result<(), Fail> {
 
 #[test]
 fn lengths_and_counts(rt: HostRuntime) -> Result<(), Fail> {
-    let mut longer = ADD.to_vec(rt.alloc())?;
+    let mut longer = ADD_BYTES.to_vec(rt.alloc())?;
     longer.push(0)?;
     let none = returns(rt.alloc(), 0)?;
     let most = returns(rt.alloc(), 1024)?;
     let too_many = returns(rt.alloc(), 1025)?;
     let cases: [(&[u8], &[u64]); 8] = [
         (&[], &[201]),
-        (&ADD[..3], &[201]),
-        (&ADD[..7], &[202]),
-        (&ADD[..63], &[202]),
+        (&ADD_BYTES[..3], &[201]),
+        (&ADD_BYTES[..7], &[202]),
+        (&ADD_BYTES[..63], &[202]),
         (&longer, &[202]),
         (&none, &[205]),
         (&most, &[]),

@@ -1,7 +1,9 @@
-use crate::fault::HistoryFault;
-use crate::history::{History, MAX_EVENTS};
+//! Histories: the events of many calls, with places reserved.
+
 use std::test::Fail;
-use tl_protocol::Event;
+use tl_history::fault::HistoryFault;
+use tl_history::history::{History, MAX_EVENTS};
+use tl_protocol::event::Event;
 
 const EVENTS: [Event; 7] = [
     Event::Admit { call: 0 },
