@@ -2,7 +2,7 @@
 
 use crate::texts::{ADD, CHAIN, FORK, LOOK, ONE_NODE, QUO, STORE, SWEEP, TURN, WALK, container_of};
 use std::test::Fail;
-use tl_commands::alone::alone_cmd;
+use tl_commands::alone_cmd;
 
 /// A tree with the greatest number in field 0.
 const GREATEST: &str = "{\"parents\":[0],\"records\":[[9223372036854775807,0,0,0]]}";

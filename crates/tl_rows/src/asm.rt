@@ -3,8 +3,7 @@
 use arrayvec::ArrayVec;
 use std::alloc::Global;
 use std::test::Fail;
-use tl_asm::assembling::assemble;
-use tl_asm::listing::disassemble;
+use tl_asm::{assemble, disassemble};
 
 /// The numbers of the fault, or none where the text is read.
 fn fault_in(alloc: Global, text: &str) -> ArrayVec<u64, 3> {

@@ -4,9 +4,8 @@ use crate::texts::{BOTH, FORK, LOOK, STORE, SWEEP, named};
 use std::alloc::Global;
 use std::process::Abort;
 use std::test::Fail;
-use tl_audit::progress::Silent;
-use tl_commands::auditing::audit_cmd;
-use tl_commands::driving::drive_with_trail_cmd;
+use tl_audit::Silent;
+use tl_commands::{audit_cmd, drive_with_trail_cmd};
 
 /// What three calls did by turns, one event a line.
 const EVENTS: [&str; 16] = [

@@ -2,13 +2,9 @@
 
 use std::alloc::Global;
 use std::test::Fail;
-use tl_asm::assembling::assemble;
-use tl_budget::fault::NestFault;
-use tl_budget::limits::Bounds;
-use tl_budget::nesting::nest;
-use tl_budget::sums::bounds;
-use tl_instr::code::Code;
-use tl_instr::instr::Instr;
+use tl_asm::assemble;
+use tl_budget::{Bounds, NestFault, bounds, nest};
+use tl_instr::{Code, Instr};
 
 fn bounds_of(alloc: Global, code: &Code) -> Result<Bounds, NestFault> {
     let nest = nest(alloc, code)?;

@@ -4,11 +4,10 @@ use crate::texts::{ADD, BOTH, CHAIN, FORK, LOOK, ONE_NODE, STORE, WALK, procedur
 use std::alloc::Global;
 use std::process::Abort;
 use std::test::Fail;
-use tl_core::fault::CoreFault;
-use tl_core::interleaving::Core;
-use tl_core::stepped::Stepped;
-use tl_protocol::action::Action;
-use tl_tree::record::Record;
+use tl_core::{Core, CoreFault, Stepped};
+use tl_procedures::NamingFault;
+use tl_protocol::Action;
+use tl_tree::Record;
 
 /// A core of a tree, with one procedure and room for so many events.
 fn core_of(
@@ -109,9 +108,9 @@ fn a_name_is_taken_up_once(rt: HostRuntime) -> Result<(), Fail> {
     let alloc = rt.alloc();
     let mut core = core_of(alloc, FORK, "store", STORE, 16)?;
     let again = core.add_proc(alloc, "store", procedure_of(alloc, LOOK)?);
-    assert_eq!(rt; again, Err(CoreFault::NameTaken));
+    assert_eq!(rt; again, Err(NamingFault::NameTaken));
     let bad = core.add_proc(alloc, "a b", procedure_of(alloc, LOOK)?);
-    assert_eq!(rt; bad, Err(CoreFault::BadName));
+    assert_eq!(rt; bad, Err(NamingFault::BadName));
     Ok(())
 }
 

@@ -3,8 +3,7 @@
 use crate::texts::{BOTH, FORK, LOOK, ONE_NODE, STORE, SWEEP, named};
 use std::alloc::Global;
 use std::test::Fail;
-use tl_commands::driving::drive_cmd;
-use tl_commands::fault::CliFault;
+use tl_commands::{CliFault, drive_cmd};
 
 /// A root with a child that has a child, all of zeros.
 const ZEROS: &str = "{\"parents\":[0,0,1],\"records\":[[0,0,0,0],[0,0,0,0],[0,0,0,0]]}";

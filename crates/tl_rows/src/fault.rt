@@ -1,13 +1,13 @@
 //! The numbers and the exit statuses of the commands' faults.
 
 use std::test::Fail;
-use tl_asm::fault::AsmFault;
-use tl_audit::fault::{AuditFault, TrailFault};
-use tl_commands::fault::CliFault;
-use tl_core::fault::CoreFault;
-use tl_instr::fault::CodeFault;
-use tl_tree::fault::TreeFault;
-use tl_verify::fault::VerifyFault;
+use tl_asm::AsmFault;
+use tl_audit::{AuditFault, TrailFault};
+use tl_commands::CliFault;
+use tl_core::CoreFault;
+use tl_instr::CodeFault;
+use tl_tree::TreeFault;
+use tl_verify::VerifyFault;
 
 #[test]
 fn a_fault_has_its_numbers_and_its_status(rt: HostRuntime) -> Result<(), Fail> {

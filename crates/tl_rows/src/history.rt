@@ -1,9 +1,8 @@
 //! Histories: the events of many calls, with places reserved.
 
 use std::test::Fail;
-use tl_history::fault::HistoryFault;
-use tl_history::history::{History, MAX_EVENTS};
-use tl_protocol::event::Event;
+use tl_history::{History, HistoryFault, MAX_EVENTS};
+use tl_protocol::Event;
 
 const EVENTS: [Event; 7] = [
     Event::Admit { call: 0 },

@@ -4,10 +4,7 @@ use crate::texts::ADD_BYTES;
 use arrayvec::ArrayVec;
 use std::alloc::Global;
 use std::test::Fail;
-use tl_instr::code::Code;
-use tl_instr::container::{decode, encode};
-use tl_instr::instr::Instr;
-use tl_instr::operand::ValueRegister;
+use tl_instr::{Code, Instr, ValueRegister, decode, encode};
 
 /// The numbers of the fault, or none where the bytes are read.
 fn fault_in(alloc: Global, bytes: &[u8]) -> ArrayVec<u64, 3> {

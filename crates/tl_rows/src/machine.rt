@@ -7,13 +7,9 @@ use std::alloc::Global;
 use std::process::Abort;
 use std::sync::Arc;
 use std::test::Fail;
-use tl_machine::alone_run::alone;
-use tl_machine::segment::local;
-use tl_machine::turn::Turn;
-use tl_machine::want::Want;
-use tl_tree::shape::Shape;
-use tl_tree::text::write_tree;
-use tl_verify::procedure::Proc;
+use tl_machine::{Stop, Turn, Want, alone, local};
+use tl_tree::{Shape, write_tree};
+use tl_verify::Proc;
 
 /// The procedure of a text, as calls share it.
 fn shared(alloc: Global, text: &str) -> Result<Arc<Proc>, Fail> {
@@ -342,28 +338,27 @@ fn a_turn_is_driven_by_what_it_wants(rt: HostRuntime) -> Result<(), Fail> {
         wants.push(want)?;
         match want {
             Want::Local => {
-                let done = turn.advance();
-                assert!(rt; done.is_ok());
+                turn.step();
             }
-            Want::Lock(_) => turn.lock([20, 0, 0, 0]),
-            Want::Free(_) => {
+            Want::Stop(Stop::Lock(_)) => turn.lock([20, 0, 0, 0]),
+            Want::Stop(Stop::Free(_)) => {
                 let left = turn.free();
                 assert_eq!(rt; left, [20, 0, 0, 0]);
             }
-            Want::Return => {
+            Want::Stop(Stop::Return) => {
                 let reply = turn.finish();
                 assert_eq!(rt; reply.values(), [20].as_slice());
             }
-            Want::Over => {}
+            Want::Stop(Stop::Over) => {}
         }
     }
     let expected = [
-        Want::Lock(2),
+        Want::Stop(Stop::Lock(2)),
         Want::Local,
         Want::Local,
-        Want::Free(2),
-        Want::Return,
-        Want::Over,
+        Want::Stop(Stop::Free(2)),
+        Want::Stop(Stop::Return),
+        Want::Stop(Stop::Over),
     ];
     assert_eq!(rt; wants.as_slice(), expected.as_slice());
     assert_eq!(rt; turn.call().steps, 5);
@@ -378,6 +373,6 @@ fn a_segment_is_what_a_call_does_by_itself(rt: HostRuntime) -> Result<(), Fail> 
     let segment = local(turn);
     assert_eq!(rt; segment.from().steps, 0);
     assert_eq!(rt; segment.to().steps, 1);
-    assert_eq!(rt; segment.stop(), Want::Return);
+    assert_eq!(rt; segment.stop(), Stop::Return);
     Ok(())
 }

@@ -2,7 +2,7 @@
 
 use crate::texts::{ADD, ADD_BYTES, BOTH, LOOK, QUO, STORE, SWEEP, TURN, WALK, container_of};
 use std::test::Fail;
-use tl_commands::procedures::{asm_cmd, dis_cmd, verify_cmd};
+use tl_commands::{asm_cmd, dis_cmd, verify_cmd};
 
 /// A text that isn't the one that is written for its code.
 const SPACED: &str = "arity 1 ; one\n\nstart:\n  jmp  end_\nend_:\nret\n";

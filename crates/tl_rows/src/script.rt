@@ -2,9 +2,8 @@
 
 use std::alloc::Global;
 use std::test::Fail;
-use tl_commands::fault::CliFault;
-use tl_commands::script::{Script, read_script};
-use tl_core::moves::Move;
+use tl_commands::{CliFault, Script, read_script};
+use tl_core::Move;
 
 /// Writes a script's moves, a line each: an admission's name and arguments, or a step's call.
 fn shown(alloc: Global, script: &Script) -> Result<String, Fail> {

@@ -4,15 +4,11 @@ use crate::texts::{LOOK, procedure_of, tree_of};
 use std::alloc::Global;
 use std::process::Abort;
 use std::test::Fail;
-use tl_core::interleaving::Core;
-use tl_core::moves::Move;
-use tl_history::history::{History, MAX_EVENTS};
-use tl_protocol::event::Event;
-use tl_serial::concluding::conclude;
-use tl_serial::placing::{is_of_shape, order_of};
-use tl_serial::replaying::replay;
-use tl_tree::record::Record;
-use tl_tree::shape::Shape;
+use tl_core::{Core, Move};
+use tl_history::{History, MAX_EVENTS};
+use tl_protocol::Event;
+use tl_serial::{conclude, is_of_shape, order_of, replay};
+use tl_tree::{Record, Shape};
 
 // ---- histories
 

@@ -2,11 +2,10 @@
 
 use std::alloc::Global;
 use std::test::Fail;
-use tl_asm::assembling::assemble;
-use tl_commands::procedures::asm_cmd;
-use tl_tree::text::read_tree;
-use tl_tree::tree::Tree;
-use tl_verify::procedure::{Proc, verify};
+use tl_asm::assemble;
+use tl_commands::asm_cmd;
+use tl_tree::{Tree, read_tree};
+use tl_verify::{Proc, verify};
 
 pub const ONE_NODE: &str = "{\"parents\":[0],\"records\":[[5,0,0,0]]}";
 

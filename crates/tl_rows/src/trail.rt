@@ -3,11 +3,9 @@
 use crate::texts::{FORK, LOOK, named, procedure_of, tree_of};
 use std::alloc::Global;
 use std::test::Fail;
-use tl_audit::auditing::audit;
-use tl_audit::reading::read_trail;
-use tl_audit::recording::trail_of;
-use tl_audit::writing::write_trail;
-use tl_core::interleaving::Core;
+use tl_audit::{audit, trail_of};
+use tl_core::Core;
+use tl_trail::{read_trail, write_trail};
 
 /// A core with one call, which looks at node 1 and takes so many steps.
 fn core_of(alloc: Global, steps: u8) -> Result<Core, Fail> {

@@ -6,12 +6,7 @@ use std::alloc::Global;
 use std::process::Abort;
 use std::sync::Arc;
 use std::test::Fail;
-use tl_tree::fault::TreeFault;
-use tl_tree::record::Record;
-use tl_tree::shape::Shape;
-use tl_tree::text::{read_tree, write_tree};
-use tl_tree::tree::Tree;
-use tl_tree::value;
+use tl_tree::{Record, Shape, Tree, TreeFault, read_tree, value, write_tree};
 
 fn is_fork(rt: &impl Abort, tree: &Tree) {
     let records: [Record; 3] = [[0, 0, 0, 0], [10, 0, 0, 0], [20, 0, 0, 0]];

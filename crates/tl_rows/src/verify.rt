@@ -5,11 +5,10 @@ use arrayvec::ArrayVec;
 use std::alloc::Global;
 use std::process::Abort;
 use std::test::Fail;
-use tl_asm::assembling::assemble;
-use tl_budget::limits::Bounds;
-use tl_instr::code::Code;
-use tl_instr::instr::Instr;
-use tl_verify::procedure::verify;
+use tl_asm::assemble;
+use tl_budget::Bounds;
+use tl_instr::{Code, Instr};
+use tl_verify::verify;
 
 /// Each text, and the steps, locks and emitted values of its procedure.
 const ACCEPTED: [(&str, u32, u16, u8); 4] = [
