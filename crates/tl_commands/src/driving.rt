@@ -50,8 +50,9 @@ fn lines(alloc: Global, core: &Core, trace: &[Entry]) -> Result<String, CliFault
 {
     let trace = trace_told(alloc, trace)?;
     let conclusion = conclusion(alloc, core)?;
-    let Ok(tree) = write_tree(alloc, core.tree()) else {
-        return Err(CliFault::Memory);
+    let tree = match write_tree(alloc, core.tree()) {
+        Ok(tree) => tree,
+        Err(fault) => return Err(CliFault::Tree(fault)),
     };
     let mut text = trace.to_string(alloc)?;
     next_line(&mut text, &conclusion.to_string(alloc)?)?;

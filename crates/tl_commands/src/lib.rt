@@ -15,7 +15,7 @@ mod told;
 
 pub use alone::alone_cmd;
 pub use auditing::audit_cmd;
-pub use driving::{Driven, drive_cmd, drive_with_trail_cmd};
+pub use driving::{drive_cmd, drive_with_trail_cmd};
 pub use fault::CliFault;
 pub use procedures::{asm_cmd, dis_cmd, verify_cmd};
 pub use script::{Script, read_script};
