@@ -18,7 +18,7 @@ use Rattle.tl_machine.specs.Alone.{alone}
 use Rattle.tl_protocol.specs.Alone.{Outcome}
 use Rattle.tl_machine.specs.Outcomes.{outcome_of}
 use Rattle.tl_cli.specs.declared.fault.CliFault.{CliFault}
-use Rattle.tl_cli.specs.declared.fault.CliFault.TheVariants.{Unreadable, Unwritable, NotUtf8, Asm, Tree, Code, Verify, Core, Trail, Audit, NotScript, NotArgs, WrongArgs, Memory}
+use Rattle.tl_cli.specs.declared.fault.CliFault.TheVariants.{Unreadable, Unwritable, NotUtf8, Asm, Tree, Code, Verify, Register, Core, Trail, Audit, NotScript, NotArgs, WrongArgs, Memory}
 
 -- the first line: the reply, and how many instructions were done
 abbrev pub answer_text : List ℤ → ℕ → List ℕ
@@ -69,6 +69,7 @@ IsFault t c a Unreadable = ⊥
 IsFault t c a Unwritable = ⊥
 IsFault t c a NotUtf8 = ⊥
 IsFault t c a (Asm f) = ⊥
+IsFault t c a (Register f) = ⊥
 IsFault t c a (Core f) = ⊥
 IsFault t c a (Trail f) = ⊥
 IsFault t c a (Audit f) = ⊥
