@@ -9,7 +9,7 @@ use Rattle.tl_tree.specs.declared.fault.TreeFault.{TreeFault}
 use Rattle.tl_tree.specs.declared.fault.TreeFault.TheVariants as tree
 use Rattle.tl_instr.specs.Codes.{CodeValue}
 use Rattle.tl_instr.specs.Spelling.{Spelled}
-use Rattle.tl_instr.specs.Faults.{IsFirstFault}
+use Rattle.tl_instr.specs.Faults.{IsFirstFault as IsFirstCodeFault}
 use Rattle.tl_instr.specs.declared.fault.CodeFault.TheVariants as code
 use Rattle.tl_verify.specs.Acceptable.{Acceptable}
 use Rattle.tl_verify.specs.Findings.{IsFirstFault}
@@ -18,7 +18,7 @@ use Rattle.tl_machine.specs.Alone.{alone}
 use Rattle.tl_protocol.specs.Alone.{Outcome}
 use Rattle.tl_machine.specs.Outcomes.{outcome_of}
 use Rattle.tl_commands.specs.declared.fault.CliFault.{CliFault}
-use Rattle.tl_commands.specs.declared.fault.CliFault.TheVariants.{Unreadable, Unwritable, NotUtf8, Asm, Tree, Code, Verify, Core, Trail, Audit, NotScript, NotArgs, WrongArgs, Memory}
+use Rattle.tl_commands.specs.declared.fault.CliFault.TheVariants.{Unreadable, Unwritable, NotUtf8, Asm, Tree, Code, Verify, Register, Core, Trail, Audit, NotScript, NotArgs, WrongArgs, Memory}
 
 -- the first line: the reply, and how many instructions were done
 abbrev pub answer_text : List ℤ → ℕ → List ℕ
@@ -60,7 +60,7 @@ IsTreeFault t f = ((IsUtf8 t → ⊥) × (f ≡ tree.NotTree)) ⊎ (tree_of_text
 -- The fault of the first input that has one: the tree, the container, the verifier, the arguments, their number.
 abbrev pub IsFirstAloneFault : List ℕ → List ℕ → List ℕ → CliFault → Type 0
 IsFirstAloneFault t c a (Tree f) = f ≢ tree.Memory → IsTreeFault t f
-IsFirstAloneFault t c a (Code f) = f ≢ code.Memory → IsTreeFile t × IsFirstFault c f
+IsFirstAloneFault t c a (Code f) = f ≢ code.Memory → IsTreeFile t × IsFirstCodeFault c f
 IsFirstAloneFault t c a (Verify f) = f ≢ verify.Memory → IsTreeFile t × (code' : CodeValue) × Spelled c code' × IsFirstFault code'.instrs f
 IsFirstAloneFault t c a NotArgs = IsTreeFile t × (code' : CodeValue) × Spelled c code' × Acceptable code'.instrs × (args_of_text a ≡ None)
 IsFirstAloneFault t c a WrongArgs = (inputs : Inputs t c a) × (length inputs.args ≢ inputs.code.arity)
@@ -69,6 +69,7 @@ IsFirstAloneFault t c a Unreadable = ⊥
 IsFirstAloneFault t c a Unwritable = ⊥
 IsFirstAloneFault t c a NotUtf8 = ⊥
 IsFirstAloneFault t c a (Asm f) = ⊥
+IsFirstAloneFault t c a (Register f) = ⊥
 IsFirstAloneFault t c a (Core f) = ⊥
 IsFirstAloneFault t c a (Trail f) = ⊥
 IsFirstAloneFault t c a (Audit f) = ⊥

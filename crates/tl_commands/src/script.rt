@@ -24,8 +24,12 @@ fn call_of_value(value: &Value) -> Option<u32>
     u32::try_from(value.as_u64()?).ok()
 }
 
-/// An admission or a step.
-impl FromValue for Move {
+/// The form of a move: an admission or a step.
+struct MoveForm;
+
+impl FromValue for MoveForm {
+    type Item = Move;
+
     ghost use Rattle.tl_commands.specs.Script.{MoveValue, move_view, move_of};
 
     ghost Form = { MoveValue };
@@ -61,10 +65,10 @@ fn script_of_value(alloc: Global, value: &Value) -> Result<Option<Script>, Alloc
     let Some((procedures, moves)) = parts_of_value(value) else {
         return Ok(None);
     };
-    let Some(procedures) = each_of(alloc, procedures)? else {
+    let Some(procedures) = each_of::<ProcedureText>(alloc, procedures)? else {
         return Ok(None);
     };
-    let Some(moves) = each_of(alloc, moves)? else {
+    let Some(moves) = each_of::<MoveForm>(alloc, moves)? else {
         return Ok(None);
     };
     Ok(Some(Script { procedures, moves }))

@@ -7,7 +7,6 @@ ghost use Rattle.tl_forms.specs.Lists.{natural};
 ghost use Rattle.tl_forms.specs.Letters.{lettered};
 ghost use Rattle.tl_forms.specs.declared.letter.Letter.TheVariants as letter;
 ghost use Rattle.tl_commands.specs.Told.{action_data, stepped_data, entry_data, trace_data, unfinished_data};
-ghost use Rattle.tl_forms.specs.Lists.{order_data};
 
 use serde_json::{Value, json};
 use std::alloc::{AllocError, Global};

@@ -73,6 +73,8 @@ fn event_from_value(value: &Value) -> Option<RawEvent>
 
 /// `["a",call]` or `["d",call]`, or `["l",call,node,record]` or `["f",call,node,record]`
 impl FromValue for RawEvent {
+    type Item = RawEvent;
+
     ghost use Rattle.tl_forms.specs.declared.event.RawEvent.{RawEvent as Raw};
     ghost use Rattle.tl_forms.specs.Events.{event_of};
 
@@ -91,7 +93,7 @@ impl FromValue for RawEvent {
 pub fn events_from_value(alloc: Global, value: &Value) -> Result<Option<Vec<RawEvent>>, AllocError>
     ensures { IfOk result (λ found. option_map (λ v. v.items) found ≡ each_of event_of (view value.now)) }
 {
-    each_of(alloc, value)
+    each_of::<RawEvent>(alloc, value)
 }
 
 /// `["letter",call]`

@@ -36,32 +36,42 @@ pub fn parse(alloc: Global, bytes: &[u8]) -> Result<Option<Value>, AllocError>
 
 // ---- reading
 
-/// What a JSON value may stand for.
-pub trait FromValue: Sized + Drop {
+/// A form of JSON values. A type of the crate that reads it is a form of its own; a type from elsewhere has its form in an
+/// empty struct.
+pub trait FromValue {
+    /// What a value of the form stands for.
+    type Item: Drop;
+
     // What a contract sees of it.
     ghost Form: { Type 0 };
 
-    ghost form: { Self → Self.Form };
+    ghost form: { Self.Item → Self.Form };
 
     // What a value stands for, where it stands for any.
     ghost form_of: { Data → Option Self.Form };
 
     /// What the value stands for, or `None` where it has another form.
-    fn from_value(alloc: Global, value: &Value) -> Result<Option<Self>, AllocError>
+    fn from_value(alloc: Global, value: &Value) -> Result<Option<Self::Item>, AllocError>
         ensures { IfOk result (λ found. option_map Self.form found ≡ Self.form_of (view value.now)) };
 }
 
 /// What the items of a list stand for, or `None` where the value is no list, or an item has another form.
-pub fn each_of<T: FromValue>(alloc: Global, value: &Value) -> Result<Option<Vec<T>>, AllocError>
+pub fn each_of<T: FromValue>(
+    alloc: Global,
+    value: &Value,
+) -> Result<Option<Vec<T::Item>>, AllocError>
     ensures { IfOk result (λ found. option_map (λ v. map T.form v.items) found ≡ each_of T.form_of (view value.now)) }
 {
     match value.as_array() {
-        Some(items) => each_item(alloc, items),
+        Some(items) => each_item::<T>(alloc, items),
         None => Ok(None),
     }
 }
 
-fn each_item<T: FromValue>(alloc: Global, items: &[Value]) -> Result<Option<Vec<T>>, AllocError>
+fn each_item<T: FromValue>(
+    alloc: Global,
+    items: &[Value],
+) -> Result<Option<Vec<T::Item>>, AllocError>
     ensures { IfOk result (λ found. option_map (λ v. map T.form v.items) found ≡ each_item T.form_of (items_view items.now)) }
 {
     let mut found = Vec::with_capacity(alloc, items.len())?;

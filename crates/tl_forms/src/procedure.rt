@@ -25,6 +25,8 @@ pub struct ProcedureText {
 
 /// `[name,text]`
 impl FromValue for ProcedureText {
+    type Item = ProcedureText;
+
     ghost use Rattle.std.specs.Prelude.{ℕ, List};
     ghost use Rattle.tl_forms.specs.Procedures.{procedure_form, procedure_of};
 

@@ -16,6 +16,8 @@ pub struct Request {
 
 /// `[name,args]`
 impl FromValue for Request {
+    type Item = Request;
+
     ghost use Rattle.std.specs.Prelude.{ℕ, ℤ, List};
     ghost use Rattle.tl_forms.specs.Requests.{request_form, request_of};
 

@@ -44,6 +44,8 @@ pub(crate) struct Members<'a> {
 
 /// `[name,args,reply]`
 impl FromValue for RawCall {
+    type Item = RawCall;
+
     ghost use Rattle.tl_trail.specs.Reading.{CallForm, call_of};
     ghost use Rattle.tl_trail.specs.Raw.{call_form};
 
@@ -100,7 +102,7 @@ pub(crate) fn raw_of_members(
         form_of_parts (record { calls = view members.now.calls.now; ends = view members.now.ends.now; events = view members.now.events.now; procedures = view members.now.procedures.now; tree = view members.now.tree.now })
         ≡ option_and_then (λ raw. option_map (form_with raw) (tree_form_of (view members.now.tree.now))) found) }
 {
-    let Some(calls) = each_of(alloc, members.calls)? else {
+    let Some(calls) = each_of::<RawCall>(alloc, members.calls)? else {
         return Ok(None);
     };
     let Some(ends) = records_from_value(alloc, members.ends)? else {
@@ -109,7 +111,7 @@ pub(crate) fn raw_of_members(
     let Some(events) = events_from_value(alloc, members.events)? else {
         return Ok(None);
     };
-    let Some(procedures) = each_of(alloc, members.procedures)? else {
+    let Some(procedures) = each_of::<ProcedureText>(alloc, members.procedures)? else {
         return Ok(None);
     };
     Ok(Some(RawTrail {

@@ -6,4 +6,4 @@ use Rattle.tl_forms.specs.Letters.{text_of}
 use Rattle.tl_commands.proofs.told.numbers_told.Given as goal
 
 abbrev pub invariant-loop-number : goal.invariant-loop-number
-invariant-loop-number l = map view l.items.items ≡ string (text_of l.letter) ∷ map natural (take l.number-index l.numbers)
+invariant-loop-number l = map view l.items.items ≡ string (text_of l.fn.letter) ∷ map natural (take l.number-index l.numbers)
