@@ -2,7 +2,7 @@
 use Rattle.std.specs.Prelude.{◌≡◌, ◌⊎◌, ℕ, List, [], ◌∷◌, ◌++◌, None, Some}
 use Rattle.tl_instr.specs.Codes.{CodeValue}
 use Rattle.tl_asm.specs.Texts.{Written}
-use Rattle.tl_asm.specs.Faults.{IsFirstFault}
+use Rattle.tl_asm.specs.Faults.{IsFirstFault as IsFirstTextFault}
 use Rattle.tl_verify.specs.Acceptable.{Acceptable}
 use Rattle.tl_verify.specs.Findings.{IsFirstFault}
 use Rattle.tl_procedures.specs.Names.{Named, naming_refusal}
@@ -18,7 +18,7 @@ pub record IsCodeText (text : List ℕ) (code : CodeValue) : Type 0 where
 
 -- why a text stands for none: the text, else its code
 abbrev pub IsTextFault : List ℕ → ProcedureFault → Type 0
-IsTextFault text (Asm f) = IsFirstFault text f
+IsTextFault text (Asm f) = IsFirstTextFault text f
 IsTextFault text (Verify f) = (code : CodeValue) × Written text code × IsFirstFault code.instrs f
 
 -- The text stands for an accepted code, and the name is free.
