@@ -25,7 +25,7 @@ fn driven(alloc: Global, tree: &str, procedures: &str, moves: &str) -> Result<St
 
 /// Each tree and moves, and what is printed: what came of each move; the order, or the least call that isn't done; and the
 /// tree as it is then.
-const RUNS: [(&str, &str, &str, &str, &str); 7] = [
+const RUNS: [(&str, &str, &str, &str, &str); 8] = [
     // Call 2 comes to node 2 before call 0, which began first.
     (
         FORK,
@@ -46,11 +46,19 @@ const RUNS: [(&str, &str, &str, &str, &str); 7] = [
     (ONE_NODE, "", "{\"trace\":[]}", "{\"order\":[]}", ONE_NODE),
     // A call that has done nothing.
     (
-        FORK,
+        ONE_NODE,
         "[\"look\",[0]]",
         "{\"trace\":[[\"a\",0]]}",
         "{\"error\":[651,0]}",
-        FORK,
+        ONE_NODE,
+    ),
+    // A call that locks nothing is done last.
+    (
+        ONE_NODE,
+        "[\"look\",[-1]],[\"look\",[0]],1,1,1,1,1,0,0",
+        "{\"trace\":[[\"a\",0],[\"a\",1],[\"l\",1,0,[5,0,0,0]],[\"r\",1,0,0,5],[\"e\",1,5],[\"f\",1,0,[5,0,0,0]],[\"d\",1],[\"s\",0],[\"d\",0]]}",
+        "{\"order\":[1,0]}",
+        ONE_NODE,
     ),
     // Call 0 holds the node while call 1 asks for it, and isn't done. What it has written isn't seen.
     (

@@ -1,6 +1,6 @@
 //! Orders of calls, and calls that run again along one.
 
-use crate::texts::{LOOK, procedure_of, tree_of};
+use crate::texts::{LOOK, ONE_NODE, procedure_of, tree_of};
 use std::alloc::Global;
 use std::process::Abort;
 use std::test::Fail;
@@ -8,7 +8,7 @@ use tl_core::{Core, Move};
 use tl_history::{History, MAX_EVENTS};
 use tl_protocol::Event;
 use tl_serial::{conclude, is_of_shape, order_of, replay};
-use tl_tree::{Record, Shape};
+use tl_tree::Shape;
 
 // ---- histories
 
@@ -170,12 +170,9 @@ fn a_million_events_of_many_calls(rt: HostRuntime) -> Result<(), Fail> {
 
 // ---- cores
 
-const RECORDS: [Record; 3] = [[5, 0, 0, 0], [6, 0, 0, 0], [7, 0, 0, 0]];
-
-/// A core of a root with two children that have these records, and one procedure.
+/// A core of one node, with one procedure.
 fn core_of(alloc: Global) -> Result<Core, Fail> {
-    let tree = "{\"parents\":[0,0,0],\"records\":[[5,0,0,0],[6,0,0,0],[7,0,0,0]]}";
-    let mut core = Core::new(alloc, tree_of(alloc, tree)?)?;
+    let mut core = Core::new(alloc, tree_of(alloc, ONE_NODE)?)?;
     core.add_proc(alloc, "look", procedure_of(alloc, LOOK)?)?;
     Ok(core)
 }
@@ -230,7 +227,7 @@ fn a_call_without_a_lock_runs_again_last(rt: HostRuntime) -> Result<(), Fail> {
     let order = conclude(alloc, &core)?;
     assert_eq!(rt; order.calls(), [1, 0].as_slice());
     let (tree, replies) = replay(alloc, &order, &core)?;
-    assert_eq!(rt; tree.records(), RECORDS.as_slice());
+    assert_eq!(rt; tree.records(), [[5, 0, 0, 0]].as_slice());
     assert_eq!(rt; replies.len(), 2);
     assert_reply(&rt, alloc, &core, 0, &[5])?;
     assert_reply(&rt, alloc, &core, 1, &[])
