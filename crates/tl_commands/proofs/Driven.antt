@@ -13,7 +13,7 @@ use Rattle.tl_core.specs.declared.moves.Entry.{Entry}
 use Rattle.tl_commands.specs.declared.script.Script.{Script}
 use Rattle.tl_commands.specs.Script.{IsScript, move_view, script_view}
 use Rattle.tl_forms.specs.Registering.{TakenUp}
-use Rattle.tl_commands.specs.Drive.{core_with, IsConclusion, tree_now, lines_told, IsDriven, Prints}
+use Rattle.tl_commands.specs.Drive.{core_with, IsConclusion, tree_now, lines_text, IsDriven, Prints}
 
 -- the core before the moves
 pub record IsReady (t s : List ℕ) (tree : TreeValue) (script : Script) (core : CoreValue) (moves : List Move) : Type 0 where
@@ -54,11 +54,11 @@ driven t s tree script core after moves entries is traced after_is =
     }
 
 pub printed : (t s out : List ℕ) (after : CoreValue) (entries shown : List Entry) → IsDriven t s entries after → shown ≡ entries
-    → ((d : Data) × IsConclusion after d × (out ≡ lines_told shown d (tree_now after))) → Prints t s out after
+    → ((d : Data) × IsConclusion after d × (out ≡ lines_text shown d (tree_now after))) → Prints t s out after
 printed t s out after entries shown is same told = record {
   entries = entries;
   conclusion = told.0;
   driven = is;
   concluded = told.1;
-  same = told.2 ∙ ap (λ es. lines_told es told.0 (tree_now after)) same;
+  same = told.2 ∙ ap (λ es. lines_text es told.0 (tree_now after)) same;
 }

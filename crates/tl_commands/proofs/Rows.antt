@@ -7,7 +7,7 @@ use Rattle.tl_protocol.specs.declared.action.Action.TheVariants.{Plain, Lock, Re
 use Rattle.tl_core.specs.declared.fault.CoreFault.TheVariants.{NoCall}
 use Rattle.tl_core.specs.declared.stepped.Stepped.TheVariants.{Moved, Blocked, Over}
 use Rattle.tl_core.specs.declared.moves.Entry.TheVariants.{Admitted, Stepped, Refused}
-use Rattle.tl_commands.specs.Told.{trace_data, unfinished_data}
+use Rattle.tl_commands.specs.Trace.{trace_data, unfinished_data}
 use Rattle.tl_forms.specs.Lists.{order_data}
 
 done : compact_text (trace_data (Admitted 0 ∷ Stepped 0 (Moved Plain) ∷ Stepped 0 (Moved (Lock 2 (pos 20 ∷ pos 0 ∷ pos 0 ∷ negsuc 0 ∷ []))) ∷ Stepped 0 (Moved (Read 2 0 (pos 20))) ∷ []))

@@ -18,9 +18,9 @@ use Rattle.tl_core.specs.declared.moves.Entry.{Entry}
 use Rattle.tl_core.specs.declared.moves.Entry.TheVariants as entry
 use Rattle.tl_protocol.specs.Order.{placed}
 use Rattle.tl_forms.specs.Lists.{natural}
-use Rattle.tl_commands.specs.Told.{action_data, stepped_data, entry_data, trace_data}
+use Rattle.tl_commands.specs.Trace.{action_data, stepped_data, entry_data, trace_data}
 use Rattle.tl_forms.specs.Lists.{order_data}
-use Rattle.tl_commands.specs.Drive.{IsConclusion, lines_told}
+use Rattle.tl_commands.specs.Drive.{IsConclusion, lines_text}
 
 -- one more value is written, after a first one
 pub views_after : {A : Type 0} (head : Data) (f : A → Data) (vs : List Value) (v : Value) (xs : List A) (i : ℕ) (d : A) → i < length xs → map view vs ≡ head ∷ map f (take i xs) → view v ≡ f (get_or xs i d)
@@ -66,6 +66,6 @@ conclusion_whole v d (inr unfinished) = ap has_float unfinished.2
 pub three_lines : (entries : List Entry) (d : Data) (tree : TreeValue) (second third s0 s1 s2 s3 : List ℕ)
     → s0 ≡ compact_text (trace_data entries) → second ≡ compact_text d → third ≡ tree_text tree
     → s1 ≡ s0 ++ 10 ∷ second → s2 ≡ s1 ++ 10 ∷ third → s3 ≡ s2 ++ 10 ∷ []
-    → s3 ≡ lines_told entries d tree
+    → s3 ≡ lines_text entries d tree
 three_lines entries d tree second third s0 s1 s2 s3 trace_is conclusion_is tree_is e1 e2 e3 =
     e3 ∙ ap (λ s. s ++ 10 ∷ []) (e2 ∙ ap₂ (λ a b. a ++ 10 ∷ b) (e1 ∙ ap₂ (λ a b. a ++ 10 ∷ b) trace_is conclusion_is) tree_is)

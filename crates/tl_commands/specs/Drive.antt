@@ -23,7 +23,7 @@ use Rattle.tl_commands.specs.declared.fault.CliFault.TheVariants.{Tree, Register
 use Rattle.tl_commands.specs.Alone.{IsTreeFile, IsTreeFault}
 use Rattle.tl_commands.specs.Faults.{status_of}
 use Rattle.tl_commands.specs.Script.{ScriptValue, IsScript, move_view}
-use Rattle.tl_commands.specs.Told.{trace_data, unfinished_data}
+use Rattle.tl_commands.specs.Trace.{trace_data, unfinished_data}
 use Rattle.tl_forms.specs.Lists.{order_data}
 
 -- ---- what is printed
@@ -49,8 +49,8 @@ abbrev pub tree_now : CoreValue → TreeValue
 tree_now v = record { parents = v.parents; records = records_now v.past v.opening }
 
 -- three lines: the trace, the conclusion, and the tree as it is then
-abbrev pub lines_told : List Entry → Data → TreeValue → List ℕ
-lines_told entries conclusion tree =
+abbrev pub lines_text : List Entry → Data → TreeValue → List ℕ
+lines_text entries conclusion tree =
     compact_text (trace_data entries) ++ 10 ∷ compact_text conclusion ++ 10 ∷ tree_text tree ++ 10 ∷ []
 
 -- What comes of the script's moves, on that tree and with the script's procedures: the entries, and the core then.
@@ -72,7 +72,7 @@ pub record Prints (tree_bytes script_bytes out : List ℕ) (v : CoreValue) : Typ
   pub conclusion : Data
   pub driven : IsDriven tree_bytes script_bytes entries v
   pub concluded : IsConclusion v conclusion
-  pub same : out ≡ lines_told entries conclusion (tree_now v)
+  pub same : out ≡ lines_text entries conclusion (tree_now v)
 
 abbrev pub Drives : List ℕ → List ℕ → List ℕ → Type 0
 Drives t s out = (v : CoreValue) × Prints t s out v

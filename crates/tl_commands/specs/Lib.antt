@@ -1,7 +1,7 @@
 pub mod Faults
 pub mod Alone
 pub mod Script
-pub mod Told
+pub mod Trace
 pub mod Drive
 pub mod Audit
 pub mod Procedures

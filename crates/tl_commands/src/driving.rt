@@ -6,12 +6,12 @@ ghost use Rattle.serde_json.specs.View.{view};
 ghost use Rattle.tl_commands.specs.Faults.{status_of};
 ghost use Rattle.tl_record.specs.Recording.{trail_value};
 ghost use Rattle.tl_trail.specs.Writing.{trail_text};
-ghost use Rattle.tl_commands.specs.Drive.{IsConclusion, tree_now, lines_told, IsDriven, Drives, DrivesToTrail, IsFirstDriveFault};
+ghost use Rattle.tl_commands.specs.Drive.{IsConclusion, tree_now, lines_text, IsDriven, Drives, DrivesToTrail, IsFirstDriveFault};
 
 use crate::fault::CliFault;
 use crate::inputs::tree_of_file;
 use crate::script::read_script;
-use crate::told::{trace_told, unfinished_told};
+use crate::trace::{trace_to_value, unfinished_to_value};
 use serde_json::Value;
 use std::alloc::{AllocError, Global};
 use tl_core::{Core, CoreFault, Entry};
@@ -30,7 +30,7 @@ fn conclusion(alloc: Global, core: &Core) -> Result<Value, CliFault>
 {
     match conclude(alloc, core) {
         Ok(order) => Ok(order_to_value(alloc, order.calls())?),
-        Err(SerialFault::Unfinished { call }) => Ok(unfinished_told(alloc, call)?),
+        Err(SerialFault::Unfinished { call }) => Ok(unfinished_to_value(alloc, call)?),
         Err(SerialFault::Memory) => Err(CliFault::Core(CoreFault::Memory)),
     }
 }
@@ -45,10 +45,10 @@ fn next_line(text: &mut String, line: &str) -> Result<(), AllocError>
 
 // The three lines.
 fn lines(alloc: Global, core: &Core, trace: &[Entry]) -> Result<String, CliFault>
-    ensures ok { IfOk result (λ s. (d : Data) × IsConclusion core.now d × (string_bytes s ≡ lines_told trace.now d (tree_now core.now))) }
+    ensures ok { IfOk result (λ s. (d : Data) × IsConclusion core.now d × (string_bytes s ≡ lines_text trace.now d (tree_now core.now))) }
     ensures err { IfErr result (λ e. status_of e ≡ 4) }
 {
-    let trace = trace_told(alloc, trace)?;
+    let trace = trace_to_value(alloc, trace)?;
     let conclusion = conclusion(alloc, core)?;
     let tree = match write_tree(alloc, core.tree()) {
         Ok(tree) => tree,

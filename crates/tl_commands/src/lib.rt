@@ -11,7 +11,7 @@ mod fault;
 mod inputs;
 mod procedures;
 mod script;
-mod told;
+mod trace;
 
 pub use alone::alone_cmd;
 pub use auditing::audit_cmd;

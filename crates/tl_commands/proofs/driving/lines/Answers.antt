@@ -2,7 +2,7 @@ use Rattle.std.proofs.Common.{◌≡◌, ap, ◌∙◌, string_bytes}
 use Rattle.serde_json.specs.View.{view}
 use Rattle.serde_json.specs.Written.{compact_text, has_float}
 use Rattle.tl_tree.specs.Writing.{tree_text}
-use Rattle.tl_commands.specs.Told.{trace_data}
+use Rattle.tl_commands.specs.Trace.{trace_data}
 use Rattle.tl_commands.specs.Drive.{tree_now}
 use Rattle.tl_commands.proofs.Texts.{trace_whole, conclusion_whole, three_lines}
 use Rattle.tl_commands.proofs.driving.lines.Goals as goal

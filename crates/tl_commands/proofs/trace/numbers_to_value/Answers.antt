@@ -6,7 +6,7 @@ use Rattle.serde_json.proofs.Views.{view-Array}
 use Rattle.tl_forms.specs.Lists.{natural}
 use Rattle.tl_forms.specs.Letters.{text_of}
 use Rattle.tl_commands.proofs.Texts.{views_after}
-use Rattle.tl_commands.proofs.told.numbers_told.Goals as goal
+use Rattle.tl_commands.proofs.trace.numbers_to_value.Goals as goal
 
 pub loop-number-init : goal.loop-number-init
 loop-number-init c =

@@ -6,7 +6,7 @@ ghost use Rattle.serde_json.specs.View.{view, items_of};
 ghost use Rattle.tl_forms.specs.Lists.{natural};
 ghost use Rattle.tl_forms.specs.Letters.{lettered};
 ghost use Rattle.tl_forms.specs.declared.letter.Letter.TheVariants as letter;
-ghost use Rattle.tl_commands.specs.Told.{action_data, stepped_data, entry_data, trace_data, unfinished_data};
+ghost use Rattle.tl_commands.specs.Trace.{action_data, stepped_data, entry_data, trace_data, unfinished_data};
 
 use serde_json::{Value, json};
 use std::alloc::{AllocError, Global};
@@ -15,7 +15,7 @@ use tl_forms::{Letter, call_to_value, node_to_value};
 use tl_protocol::Action;
 
 // A call, a node, a field, and its value.
-fn field_told(
+fn field_to_value(
     alloc: Global,
     letter: Letter,
     call: u32,
@@ -28,19 +28,19 @@ fn field_told(
     json!(in alloc; [letter.as_str(), call, node, field, value])
 }
 
-fn emitted_told(alloc: Global, call: u32, value: Value) -> Result<Value, AllocError>
+fn emitted_to_value(alloc: Global, call: u32, value: Value) -> Result<Value, AllocError>
     ensures { IfOk result (λ v. view v ≡ lettered letter.Emitted (natural call ∷ view value ∷ [])) }
 {
     json!(in alloc; [Letter::Emitted.as_str(), call, value])
 }
 
-fn blocked_told(alloc: Global, call: u32, node: u16, holder: u32) -> Result<Value, AllocError>
+fn blocked_to_value(alloc: Global, call: u32, node: u16, holder: u32) -> Result<Value, AllocError>
     ensures { IfOk result (λ v. view v ≡ lettered letter.Blocked (natural call ∷ natural node ∷ natural holder ∷ [])) }
 {
     json!(in alloc; [Letter::Blocked.as_str(), call, node, holder])
 }
 
-fn numbers_told(alloc: Global, letter: Letter, numbers: &[u64]) -> Result<Value, AllocError>
+fn numbers_to_value(alloc: Global, letter: Letter, numbers: &[u64]) -> Result<Value, AllocError>
     ensures { IfOk result (λ v. view v ≡ lettered letter (map natural numbers.now)) }
 {
     let mut items = Vec::with_capacity(alloc, numbers.len())?;
@@ -52,14 +52,14 @@ fn numbers_told(alloc: Global, letter: Letter, numbers: &[u64]) -> Result<Value,
 }
 
 // An instruction that a call did.
-fn action_told(alloc: Global, call: u32, action: &Action) -> Result<Value, AllocError>
+fn action_to_value(alloc: Global, call: u32, action: &Action) -> Result<Value, AllocError>
     ensures { IfOk result (λ v. view v ≡ action_data call action.now) }
 {
     match action {
         Action::Plain => call_to_value(alloc, Letter::Plain, call),
         Action::Lock { node, found } => node_to_value(alloc, Letter::Locked, call, *node, found),
         Action::Read { node, field, value } => {
-            field_told(
+            field_to_value(
                 alloc,
                 Letter::Read,
                 call,
@@ -69,7 +69,7 @@ fn action_told(alloc: Global, call: u32, action: &Action) -> Result<Value, Alloc
             )
         }
         Action::Write { node, field, value } => {
-            field_told(
+            field_to_value(
                 alloc,
                 Letter::Written,
                 call,
@@ -79,30 +79,30 @@ fn action_told(alloc: Global, call: u32, action: &Action) -> Result<Value, Alloc
             )
         }
         Action::Free { node, left } => node_to_value(alloc, Letter::Freed, call, *node, left),
-        Action::Emit { value } => emitted_told(alloc, call, Value::from(*value)),
+        Action::Emit { value } => emitted_to_value(alloc, call, Value::from(*value)),
         Action::End => call_to_value(alloc, Letter::Done, call),
     }
 }
 
 // What a step of a call came to.
-fn stepped_told(alloc: Global, call: u32, stepped: &Stepped) -> Result<Value, AllocError>
+fn stepped_to_value(alloc: Global, call: u32, stepped: &Stepped) -> Result<Value, AllocError>
     ensures { IfOk result (λ v. view v ≡ stepped_data call stepped.now) }
 {
     match stepped {
-        Stepped::Moved { action } => action_told(alloc, call, action),
-        Stepped::Blocked { node, holder } => blocked_told(alloc, call, *node, *holder),
+        Stepped::Moved { action } => action_to_value(alloc, call, action),
+        Stepped::Blocked { node, holder } => blocked_to_value(alloc, call, *node, *holder),
         Stepped::Over => call_to_value(alloc, Letter::Over, call),
     }
 }
 
 // What came of a move.
-fn entry_told(alloc: Global, entry: &Entry) -> Result<Value, AllocError>
+fn entry_to_value(alloc: Global, entry: &Entry) -> Result<Value, AllocError>
     ensures { IfOk result (λ v. view v ≡ entry_data entry.now) }
 {
     match entry {
         Entry::Admitted { call } => call_to_value(alloc, Letter::Admitted, *call),
-        Entry::Stepped { call, stepped } => stepped_told(alloc, *call, stepped),
-        Entry::Refused { fault } => numbers_told(
+        Entry::Stepped { call, stepped } => stepped_to_value(alloc, *call, stepped),
+        Entry::Refused { fault } => numbers_to_value(
             alloc,
             Letter::Refused,
             fault.numbers().as_slice(),
@@ -110,26 +110,26 @@ fn entry_told(alloc: Global, entry: &Entry) -> Result<Value, AllocError>
     }
 }
 
-fn entries_told(alloc: Global, entries: &[Entry]) -> Result<Value, AllocError>
+fn entries_to_value(alloc: Global, entries: &[Entry]) -> Result<Value, AllocError>
     ensures { IfOk result (λ v. view v ≡ array (items_of (map entry_data entries.now))) }
 {
     let mut items = Vec::with_capacity(alloc, entries.len())?;
     for entry in entries {
-        items.push(entry_told(alloc, entry)?)?;
+        items.push(entry_to_value(alloc, entry)?)?;
     }
     Ok(Value::Array(items))
 }
 
 /// `{"trace":[..]}`, with what came of each move.
-pub fn trace_told(alloc: Global, entries: &[Entry]) -> Result<Value, AllocError>
+pub fn trace_to_value(alloc: Global, entries: &[Entry]) -> Result<Value, AllocError>
     ensures { IfOk result (λ v. view v ≡ trace_data entries.now) }
 {
-    let trace = entries_told(alloc, entries)?;
+    let trace = entries_to_value(alloc, entries)?;
     json!(in alloc; {"trace": trace})
 }
 
 /// `{"error":[651,c]}`: call c isn't done.
-pub fn unfinished_told(alloc: Global, call: u32) -> Result<Value, AllocError>
+pub fn unfinished_to_value(alloc: Global, call: u32) -> Result<Value, AllocError>
     ensures { IfOk result (λ v. view v ≡ unfinished_data call) }
 {
     json!(in alloc; {"error": [651u32, call]})
