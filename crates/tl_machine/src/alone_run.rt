@@ -11,7 +11,7 @@ use crate::call::CallState;
 use crate::fault::WrongArgs;
 use crate::reply::Reply;
 use crate::start::start;
-use crate::want::{Advance, Stop};
+use crate::want::Stop;
 use std::sync::Arc;
 use tl_tree::Tree;
 use tl_verify::Proc;
@@ -33,18 +33,17 @@ fn run(procedure: &Proc, mut call: CallState, tree: &mut Tree) -> Answer
     ensures tree { tree.new ≡ record tree.old { records = (outcome_of (run_left procedure.now.instrs tree.old.parents call tree.old.records)).tree } }
 {
     loop {
-        match call.advance(procedure, tree.shape()) {
-            Advance::Did(_) => {}
-            Advance::Stopped(Stop::Lock(node)) => {
+        match call.run_local(procedure, tree.shape()) {
+            Stop::Lock(node) => {
                 let found = tree.record_at(node);
                 call.lock(procedure, tree.shape(), node, found);
             }
-            Advance::Stopped(Stop::Free(node)) => {
+            Stop::Free(node) => {
                 let left = call.free(procedure, tree.shape());
                 tree.put_at(node, left);
             }
-            Advance::Stopped(Stop::Return) => call.finish(procedure, tree.shape()),
-            Advance::Stopped(Stop::Over) => {
+            Stop::Return => call.finish(procedure, tree.shape()),
+            Stop::Over => {
                 return Answer {
                     reply: Reply::of(&call),
                     steps: call.steps,

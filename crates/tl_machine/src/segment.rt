@@ -2,11 +2,11 @@
 
 ghost use Rattle.std.specs.Prelude.{◌≡◌};
 ghost use Rattle.std.specs.Arc.{arc_value};
-ghost use Rattle.tl_machine.specs.Turns.{IsTurn, IsSegment, Follows, Stops};
+ghost use Rattle.tl_machine.specs.Turns.{IsSegment};
 
 use crate::call::CallState;
 use crate::turn::Turn;
-use crate::want::{Advance, Stop};
+use crate::want::Stop;
 use std::marker::Model;
 use std::sync::Arc;
 use tl_tree::Shape;
@@ -74,21 +74,6 @@ impl Segment {
     }
 }
 
-// Does local instructions as long as the next one is local.
-fn run_local(procedure: &Proc, shape: &Shape, call: &mut CallState) -> Stop
-    requires { IsTurn procedure.now.instrs shape.now call.old }
-    ensures turn { IsTurn procedure.now.instrs shape.now call.new }
-    ensures follows { Follows procedure.now.instrs shape.now call.old call.new }
-    ensures stop { Stops (record { code = procedure.now; parents = shape.now; call = call.new }) result }
-{
-    loop {
-        match call.advance(procedure, shape) {
-            Advance::Did(_) => {}
-            Advance::Stopped(stop) => return stop,
-        }
-    }
-}
-
 /// Does a call's local instructions from where it stands, up to the first that isn't local. Takes no memory.
 pub fn local(turn: Turn) -> Segment
     ensures code { result.code ≡ turn.code }
@@ -97,7 +82,7 @@ pub fn local(turn: Turn) -> Segment
 {
     let (procedure, shape, from) = turn.into_parts();
     let mut to = from;
-    let stop = run_local(&procedure, &shape, &mut to);
+    let stop = to.run_local(&procedure, &shape);
     Segment {
         procedure,
         shape,
