@@ -10,7 +10,7 @@ use Rattle.tl_cli.proofs.told.numbers_told.Goals as goal
 
 pub loop-number-init : goal.loop-number-init
 loop-number-init c =
-    ap (map view) (c.in_ok-push.ensures.items ∙ ap (λ vs. vs ++ c.in_ok-try_from_str.field-0 ∷ []) c.in_ok-items.ensures.items) ∙ ap (λ d. d ∷ []) c.in_ok-try_from_str.ensures
+    ap (map view) (c.in_ok-push.ensures.items ∙ ap (λ vs. vs ++ c.in_ok-try_from_str.field-0 ∷ []) c.in_ok-items.ensures.items) ∙ ap (λ d. d ∷ []) (c.in_ok-try_from_str.ensures ∙ ap string c.as_str.ensures)
 
 pub loop-number-preserved : goal.loop-number-preserved
 loop-number-preserved c =
