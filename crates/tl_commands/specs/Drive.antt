@@ -2,6 +2,7 @@
 use Rattle.std.specs.Prelude.{◌≡◌, ◌≢◌, ◌⊎◌, ℕ, List, [], ◌∷◌, ◌++◌, map, Some, Ok}
 use Rattle.serde_json.specs.Data.{Data}
 use Rattle.serde_json.specs.Written.{compact_text}
+use Rattle.tl_history.specs.declared.history.TheConstants.{MAX_EVENTS}
 use Rattle.tl_tree.specs.Trees.{TreeValue}
 use Rattle.tl_tree.specs.Reading.{tree_of_text}
 use Rattle.tl_tree.specs.Writing.{tree_text}
@@ -36,7 +37,7 @@ core_with tree procedures = record {
   procedures = procedures;
   calls = [];
   past = [];
-  limit = 1048576;
+  limit = MAX_EVENTS;
 }
 
 -- the order, once every call is done, else the least unfinished call

@@ -210,7 +210,7 @@ impl Core {
         ensures arity { IfOk result (λ r. length args.now ≡ (procedure_at self.now r.0).code.arity) }
         ensures places { IfOk result (λ r. r.1 ≡ places (procedure_at self.now r.0).code.instrs (length self.now.parents)) }
         ensures room { IfOk result (λ r. r.1 ≤ room self.now) }
-        ensures few { IfOk result (λ _. length self.now.calls < 4096) }
+        ensures few { IfOk result (λ _. length self.now.calls < MAX_CALLS) }
     {
         let Some(procedure) = self.procedures.number_of(name) else {
             return Err(CoreFault::NoProcedure);

@@ -3,6 +3,7 @@ use Rattle.std.specs.Prelude.{◌≡◌, ℕ, Bool, List, [], ◌∷◌, ◌++�
 use Rattle.std.specs.Char.{is_ascii_alphanumeric}
 use Rattle.std.specs.List.{list_all}
 use Rattle.std.specs.Str.{bytes_eq}
+use Rattle.tl_procedures.specs.declared.procedures.TheConstants.{MAX_NAME, MAX_PROCEDURES}
 use Rattle.tl_instr.specs.Codes.{CodeValue}
 use Rattle.tl_procedures.specs.declared.fault.NamingFault.{NamingFault}
 use Rattle.tl_procedures.specs.declared.fault.NamingFault.TheVariants.{NameTaken, BadName, TooManyProcedures}
@@ -25,11 +26,11 @@ is_name_byte b = is_ascii_alphanumeric b || (b == 95)
 
 -- 1 to 32 of them
 abbrev pub is_name : List ℕ → Bool
-is_name name = nat_lt 0 (length name) && (nat_le (length name) 32 && list_all is_name_byte name)
+is_name name = nat_lt 0 (length name) && (nat_le (length name) MAX_NAME && list_all is_name_byte name)
 
 abbrev pub taken_by : Option ℕ → ℕ → Option NamingFault
 taken_by (Some number) count = Some NameTaken
-taken_by None count = if nat_lt count 256 then None else Some TooManyProcedures
+taken_by None count = if nat_lt count MAX_PROCEDURES then None else Some TooManyProcedures
 
 -- why a name isn't taken up
 abbrev pub naming_refusal : List Named → List ℕ → Option NamingFault

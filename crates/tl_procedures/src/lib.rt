@@ -8,4 +8,4 @@ mod fault;
 mod procedures;
 
 pub use fault::NamingFault;
-pub use procedures::{MAX_PROCEDURES, Procedures};
+pub use procedures::{MAX_NAME, MAX_PROCEDURES, Procedures};

@@ -15,6 +15,9 @@ use tl_verify::Proc;
 /// How many procedures there are at most.
 pub const MAX_PROCEDURES: usize = 256;
 
+/// How many bytes a name has at most.
+pub const MAX_NAME: usize = 32;
+
 /// Procedures under their names, numbered in the order in which they came.
 #[derive(Debug, Drop)]
 pub struct Procedures {
@@ -30,7 +33,7 @@ impl Model for Procedures {
 
     ghost view = { λ p. map (λ e. record { name = string_bytes e.0; code = arc_value e.1 }) p.by_name.entries };
 
-    ghost invariant = { λ p. (length p.by_name.entries ≤ 256)
+    ghost invariant = { λ p. (length p.by_name.entries ≤ MAX_PROCEDURES)
         × AreFreeAfter [] (map (λ e. record { name = string_bytes e.0; code = arc_value e.1 }) p.by_name.entries) };
 }
 
@@ -45,7 +48,7 @@ impl Procedures {
 
     pub fn len(&self) -> usize
         ensures value { result ≡ length self.now }
-        ensures few { result ≤ 256 }
+        ensures few { result ≤ MAX_PROCEDURES }
         ensures free { AreFreeAfter [] self.now }
     {
         self.by_name.len()
@@ -172,7 +175,7 @@ fn is_name(name: &[u8]) -> bool
     ensures { result ≡ is_name name.now }
 {
     !name.is_empty()
-        && name.len() <= 32
+        && name.len() <= MAX_NAME
         && name
             .iter()
             .all(|byte| byte.is_ascii_alphanumeric() || *byte == b'_')

@@ -11,7 +11,7 @@ use arrayvec::ArrayVec;
 use std::alloc::Global;
 use tl_budget::MAX_EMITS;
 use tl_core::Core;
-use tl_history::{History, MAX_EVENTS};
+use tl_history::{History, MAX_CALLS, MAX_EVENTS};
 use tl_trail::{Trail, TrailCall, TrailFault};
 
 /// What the calls of a core have done so far. While a call is unfinished it has no reply, and the trail isn't clean; once
@@ -37,7 +37,7 @@ pub fn trail_of(alloc: Global, core: &Core) -> Result<Trail, TrailFault>
 fn calls_of(alloc: Global, core: &Core) -> Result<Vec<TrailCall>, TrailFault>
     ensures calls { IfOk result (λ calls. map call_value calls.items ≡ (trail_value core.now).calls) }
     ensures each { IfOk result (λ _. (c : ℕ) → c < length core.now.calls → IsCoreCall core.now c) }
-    ensures few { length core.now.calls ≤ 4096 }
+    ensures few { length core.now.calls ≤ MAX_CALLS }
     ensures err { IfErr result (λ e. e ≡ TrailFault.Memory) }
 {
     let count = core.calls();

@@ -6,6 +6,7 @@ use Rattle.serde_json.specs.Data.{Data, Items, no_items, item}
 use Rattle.serde_json.specs.Events.{members_len}
 use Rattle.serde_json.specs.Find.{as_null, as_str, as_array, as_object, get_member}
 use Rattle.serde_json.specs.Read.{read}
+use Rattle.tl_history.specs.declared.history.TheConstants.{MAX_CALLS, MAX_EVENTS}
 use Rattle.tl_tree.specs.Records.{Record, Records}
 use Rattle.tl_tree.specs.Trees.{TreeValue}
 use Rattle.tl_tree.specs.Reading.{both, each_item, integer_of, integers_of, record_of, records_of, tree_from, form_of as tree_form_of}
@@ -104,7 +105,7 @@ each_call procedures (form ∷ forms) = and_calls (call_as procedures form) (eac
 
 -- the same of at most 4,096 calls
 abbrev pub calls_as : List Named → List CallForm → Result (List CallValue) TrailFault
-calls_as procedures forms = if nat_le (length forms) 4096 then each_call procedures forms else Err TooManyCalls
+calls_as procedures forms = if nat_le (length forms) MAX_CALLS then each_call procedures forms else Err TooManyCalls
 
 -- a number below the count
 abbrev pub below : ℕ → ℤ → Option ℕ
@@ -125,7 +126,7 @@ events_as calls nodes (e ∷ es) = option_map (λ x. x.0 ∷ x.1) (both (event_a
 -- the trail, where there are at most 1,048,576 events and one record in the end for each node
 abbrev pub trail_with : TreeValue → List Named → TrailForm → List CallValue → List Event → Result TrailValue TrailFault
 trail_with tree procedures form calls events =
-    if (length form.ends == length tree.parents) && nat_le (length events) 1048576
+    if (length form.ends == length tree.parents) && nat_le (length events) MAX_EVENTS
     then Ok (record { parents = tree.parents; opening = tree.records; procedures = procedures; calls = calls; past = past_of events; ends = form.ends })
     else Err NotTrail
 

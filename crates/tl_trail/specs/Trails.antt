@@ -1,5 +1,6 @@
 -- What a trail tells: a tree, procedures, calls with their replies, events, and the records in the end.
 use Rattle.std.specs.Prelude.{◌≡◌, ℕ, ◌<◌, ◌≤◌, List, [], length, get_or, Option, None, option_map, All, ℤ}
+use Rattle.tl_history.specs.declared.history.TheConstants.{MAX_CALLS}
 use Rattle.tl_tree.specs.Records.{Records}
 use Rattle.tl_tree.specs.Shape.{IsTree}
 use Rattle.tl_instr.specs.declared.instr.Instr.{Instr}
@@ -55,7 +56,7 @@ pub record IsTrail (t : TrailValue) : Type 0 where
   pub tree : IsTree t.parents
   pub size : length t.opening ≡ length t.parents
   pub end_size : length t.ends ≡ length t.parents
-  pub few : length t.calls ≤ 4096
+  pub few : length t.calls ≤ MAX_CALLS
   pub calls : All (IsCallOf t.procedures) t.calls
   pub nodes : All (IsOfNodes (length t.parents)) t.past
   pub callers : All (λ e. caller e < length t.calls) t.past

@@ -4,6 +4,7 @@ use Rattle.serde_json.specs.Data.{Data, null, unsigned, number, string, array, o
 use Rattle.serde_json.specs.View.{items_of}
 use Rattle.serde_json.specs.Written.{compact_text}
 use Rattle.std.specs.Int.{w64}
+use Rattle.tl_history.specs.declared.history.TheConstants.{MAX_EVENTS}
 use Rattle.tl_tree.specs.Trees.{IsRecord}
 use Rattle.tl_instr.specs.Codes.{IsCode}
 use Rattle.tl_verify.specs.Acceptable.{Acceptable}
@@ -52,6 +53,6 @@ pub record IsWritable (t : TrailValue) : Type 0 where
   pub accepted : AreAccepted t.procedures
   pub calls : All FitsText t.calls
   pub events : All HasRecord (reverse t.past)
-  pub few : length t.past ≤ 1048576
+  pub few : length t.past ≤ MAX_EVENTS
   pub ends : All IsRecord t.ends
   pub tree : tree_of (tree_data (record { parents = t.parents; records = t.opening })) ≡ Ok (record { parents = t.parents; records = t.opening })

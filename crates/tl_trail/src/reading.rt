@@ -116,7 +116,7 @@ fn checked_calls(
 ) -> Result<Vec<TrailCall>, TrailFault>
     ensures ok { IfOk result (λ calls. calls_as procedures.now (map call_form raw.now) ≡ Ok (map call_value calls.items)) }
     ensures calls { IfOk result (λ calls. All (IsCallOf procedures.now) (map call_value calls.items)) }
-    ensures few { IfOk result (λ calls. length calls.items ≤ 4096) }
+    ensures few { IfOk result (λ calls. length calls.items ≤ MAX_CALLS) }
     ensures fault { IfErr result (λ e. e ≢ TrailFault.Memory → calls_as procedures.now (map call_form raw.now) ≡ Err e) }
 {
     if raw.len() > MAX_CALLS {
@@ -165,8 +165,8 @@ fn checked_event(calls: u16, nodes: u16, form: RawEvent) -> Option<Event>
 // An empty history with places for so many events: 701 where they are too many.
 fn history_for(alloc: Global, events: usize) -> Result<History, TrailFault>
     ensures ok { IfOk result (λ h. (h.past ≡ []) × (h.reserved ≡ events)) }
-    ensures few { OnOk result (events ≤ 1048576) }
-    ensures fault { IfErr result (λ e. e ≢ TrailFault.Memory → (e ≡ TrailFault.NotTrail) × (1048576 < events)) }
+    ensures few { OnOk result (events ≤ MAX_EVENTS) }
+    ensures fault { IfErr result (λ e. e ≢ TrailFault.Memory → (e ≡ TrailFault.NotTrail) × (MAX_EVENTS < events)) }
 {
     let mut history = History::new(alloc, MAX_EVENTS);
     match history.reserve(events) {
@@ -184,11 +184,11 @@ fn checked_history(
     forms: &[RawEvent],
 ) -> Result<History, TrailFault>
     ensures ok { IfOk result (λ h. events_as calls nodes forms.now ≡ Some (reverse h.past)) }
-    ensures few { IfOk result (λ h. length h.past ≤ 1048576) }
+    ensures few { IfOk result (λ h. length h.past ≤ MAX_EVENTS) }
     ensures nodes { IfOk result (λ h. All (IsOfNodes nodes) h.past) }
     ensures callers { IfOk result (λ h. All (λ e. caller e < calls) h.past) }
     ensures fault { IfErr result (λ e. e ≢ TrailFault.Memory → (e ≡ TrailFault.NotTrail)
-        × ((events : List EventValue) → events_as calls nodes forms.now ≡ Some events → 1048576 < length events)) }
+        × ((events : List EventValue) → events_as calls nodes forms.now ≡ Some events → MAX_EVENTS < length events)) }
 {
     let mut history = history_for(alloc, forms.len())?;
     for form in forms {

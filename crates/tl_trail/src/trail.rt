@@ -6,7 +6,7 @@ ghost use Rattle.tl_trail.specs.Trails.{IsTrail, call_value, call_at};
 use arrayvec::ArrayVec;
 use std::marker::Model;
 use tl_budget::MAX_EMITS;
-use tl_history::History;
+use tl_history::{History, MAX_CALLS};
 use tl_instr::MAX_ARGS;
 use tl_procedures::Procedures;
 use tl_protocol::Event;
@@ -85,7 +85,7 @@ impl Trail {
     /// How many calls there are. They are numbered from 0.
     pub fn calls(&self) -> usize
         ensures count { result ≡ length self.now.calls }
-        ensures few { result ≤ 4096 }
+        ensures few { result ≤ MAX_CALLS }
     {
         self.calls.len()
     }
