@@ -28,6 +28,7 @@ impl Model for Procedures {
     ghost use Rattle.std.specs.Prelude.{List, [], map, length, ◌≤◌, string_bytes};
     ghost use Rattle.std.specs.Arc.{arc_value};
     ghost use Rattle.tl_procedures.specs.Names.{Named, AreFreeAfter};
+    ghost use Rattle.tl_procedures.specs.declared.procedures.TheConstants.{MAX_PROCEDURES};
 
     ghost Value = { List Named };
 
