@@ -1,10 +1,9 @@
 //! The command `audit`, and the trails that `drive` leaves.
 
-use crate::texts::{BOTH, FORK, LOOK, STORE, SWEEP, named};
+use crate::texts::{BOTH, FORK, LOOK, STORE, SWEEP, answer, named};
 use std::alloc::Global;
-use std::process::Abort;
 use std::test::Fail;
-use tl_audit::Silent;
+use tl_audit::{Silent, audit, read_trail};
 use tl_commands::{audit_cmd, drive_with_trail_cmd};
 
 /// What three calls did by turns, one event a line.
@@ -54,14 +53,9 @@ fn trail_with(alloc: Global, chosen: &[usize]) -> Result<String, Fail> {
     )?)
 }
 
-/// The auditor names this first.
-fn assert_wrong(rt: &impl Abort, alloc: Global, trail: &str, numbers: &[u64]) -> Result<(), Fail> {
-    let fault = audit_cmd(alloc, trail.as_bytes(), &mut Silent)
-        .err()
-        .ok_or("clean")?;
-    assert_eq!(rt; fault.numbers().as_slice(), numbers, "{trail}");
-    assert_eq!(rt; fault.status(), 1);
-    Ok(())
+/// What the auditor answers.
+fn audited(alloc: Global, trail: &str) -> Result<String, Fail> {
+    answer(alloc, audit_cmd(alloc, trail.as_bytes(), &mut Silent))
 }
 
 /// What a script of these moves prints on a tree, and its trail.
@@ -84,37 +78,40 @@ fn a_script_leaves_a_clean_trail(rt: HostRuntime) -> Result<(), Fail> {
     let mut expected = trail_with(alloc, &WHOLE)?;
     expected.push_str("\n")?;
     assert_eq!(rt; trail.as_str(), expected.as_str());
-    let order = audit_cmd(alloc, trail.as_bytes(), &mut Silent)?;
+    let order = audited(alloc, &trail)?;
     assert_eq!(rt; order.as_str(), "{\"order\":[2,0,1]}\n");
     Ok(())
 }
 
-/// The trail that these moves leave is clean, and has this order.
-fn assert_order(
-    rt: &impl Abort,
-    alloc: Global,
-    tree: &str,
-    moves: &str,
-    order: &str,
-) -> Result<(), Fail> {
-    let procedures = format!(in alloc; "{},{}", procedures(alloc)?, named(alloc, "sweep", SWEEP)?)?;
-    let (_, trail) = driven(alloc, tree, &procedures, moves)?;
-    let line = audit_cmd(alloc, trail.as_bytes(), &mut Silent)?;
-    assert_eq!(rt; line.as_str(), order);
-    Ok(())
-}
+/// A root with a child that has a child, all of zeros.
+const ZEROS: &str = "{\"parents\":[0,0,1],\"records\":[[0,0,0,0],[0,0,0,0],[0,0,0,0]]}";
+
+/// Each tree and moves, and the order that the auditor finds in the trail.
+const ORDERS: [(&str, &str, &str); 2] = [
+    // Call 1 holds node 2 when call 0 asks for it.
+    (
+        FORK,
+        "[\"both\",[11]],[\"look\",[2]],1,0,0,0,0,0,0,1,1,1,1,0,0,0,0,0,0",
+        "{\"order\":[1,0]}\n",
+    ),
+    // Call 1 goes down after call 0.
+    (
+        ZEROS,
+        "[\"sweep\",[1]],[\"sweep\",[10]],0,1,0,1,0,1,0,1,0,1,0,1,0,1,0,1,0,1,0,1,0,1,0,1,0,1,0,1,0,1,0,1,0,1,0,1,0,1,0,1,0,1,0,1,0,1,0,1,0,1,0,1,0,1,0,1,0,1,0,1",
+        "{\"order\":[0,1]}\n",
+    ),
+];
 
 #[test]
 fn blocked_and_following_calls_leave_clean_trails(rt: HostRuntime) -> Result<(), Fail> {
     let alloc = rt.alloc();
-    let blocked = "[\"both\",[11]],[\"look\",[2]],1,0,0,0,0,0,0,1,1,1,1,0,0,0,0,0,0";
-    assert_order(&rt, alloc, FORK, blocked, "{\"order\":[1,0]}\n")?;
-    let mut following = String::from_str(alloc, "[\"sweep\",[1]],[\"sweep\",[10]]")?;
-    for _ in 0..30 {
-        following.push_str(",0,1")?;
+    let procedures = format!(in alloc; "{},{}", procedures(alloc)?, named(alloc, "sweep", SWEEP)?)?;
+    for (tree, moves, order) in ORDERS {
+        let (_, trail) = driven(alloc, tree, &procedures, moves)?;
+        let found = audited(alloc, &trail)?;
+        assert_eq!(rt; found.as_str(), order, "{moves}");
     }
-    let zeros = "{\"parents\":[0,0,1],\"records\":[[0,0,0,0],[0,0,0,0],[0,0,0,0]]}";
-    assert_order(&rt, alloc, zeros, &following, "{\"order\":[0,1]}\n")
+    Ok(())
 }
 
 // Call 0 isn't done. Its reply is told as null, and the auditor says so.
@@ -132,72 +129,76 @@ fn an_unfinished_call_has_no_reply(rt: HostRuntime) -> Result<(), Fail> {
     let events = "\"events\":[[\"a\",0],[\"l\",0,1,[10,0,0,0]]]";
     let expected = format!(in alloc; "{told},{events},\"procs\":[{look}],\"tree\":{FORK}}}\n")?;
     assert_eq!(rt; trail.as_str(), expected.as_str());
-    assert_wrong(&rt, alloc, &trail, &[715, 0])
-}
-
-#[test]
-fn events_that_could_not_be_are_refused(rt: HostRuntime) -> Result<(), Fail> {
-    let cases: [(&[usize], &[u64]); 5] = [
-        (
-            &[0, 1, 2, 4, 5, 6, 7, 8, 9, 10, 11, 12, 13, 14, 15],
-            &[712, 4],
-        ),
-        (
-            &[0, 1, 2, 3, 4, 5, 7, 8, 9, 10, 11, 12, 13, 14, 15],
-            &[711, 6],
-        ),
-        (
-            &[0, 1, 2, 3, 4, 5, 6, 7, 8, 9, 10, 11, 14, 12, 13, 15],
-            &[711, 13],
-        ),
-        (
-            &[0, 1, 2, 3, 8, 5, 6, 7, 4, 9, 10, 11, 12, 13, 14, 15],
-            &[711, 4],
-        ),
-        (
-            &[0, 1, 2, 3, 4, 5, 6, 7, 8, 9, 10, 11, 12, 13, 14],
-            &[715, 0],
-        ),
-    ];
-    for (chosen, numbers) in cases {
-        let trail = trail_with(rt.alloc(), chosen)?;
-        assert_wrong(&rt, rt.alloc(), &trail, numbers)?;
-    }
+    let found = audited(alloc, &trail)?;
+    assert_eq!(rt; found.as_str(), "[715, 0] 1");
     Ok(())
 }
+
+/// Each choice of the events, a text of the trail and what is put there, and what is wrong first.
+const WRONG: [(&[usize], &str, &str, &str); 11] = [
+    // Events that could not be.
+    (
+        &[0, 1, 2, 4, 5, 6, 7, 8, 9, 10, 11, 12, 13, 14, 15],
+        "",
+        "",
+        "[712, 4] 1",
+    ),
+    (
+        &[0, 1, 2, 3, 4, 5, 7, 8, 9, 10, 11, 12, 13, 14, 15],
+        "",
+        "",
+        "[711, 6] 1",
+    ),
+    (
+        &[0, 1, 2, 3, 4, 5, 6, 7, 8, 9, 10, 11, 14, 12, 13, 15],
+        "",
+        "",
+        "[711, 13] 1",
+    ),
+    (
+        &[0, 1, 2, 3, 8, 5, 6, 7, 4, 9, 10, 11, 12, 13, 14, 15],
+        "",
+        "",
+        "[711, 4] 1",
+    ),
+    (
+        &[0, 1, 2, 3, 4, 5, 6, 7, 8, 9, 10, 11, 12, 13, 14],
+        "",
+        "",
+        "[715, 0] 1",
+    ),
+    // What is told otherwise than it was.
+    (&WHOLE, "[\"l\",1,1,[11", "[\"l\",1,1,[12", "[713, 5] 1"),
+    (&WHOLE, "[1],[11]]", "[1],[12]]", "[717, 1] 1"),
+    (&WHOLE, "[1],[11]]", "[1],null]", "[717, 1] 1"),
+    (
+        &WHOLE,
+        ",[22,0,0,0]],\"events\"",
+        ",[23,0,0,0]],\"events\"",
+        "[716, 2] 1",
+    ),
+    // The events are well together, and call 0 doesn't do them.
+    (&WHOLE, "[\"both\",[11]", "[\"both\",[12]", "[714, 0] 1"),
+    (&WHOLE, "\"tree\":", "\"trees\":", "[701] 1"),
+];
 
 #[test]
 fn what_is_told_otherwise_is_refused(rt: HostRuntime) -> Result<(), Fail> {
     let alloc = rt.alloc();
-    let whole = trail_with(alloc, &WHOLE)?;
-    let cases: [(&str, &str, &[u64]); 5] = [
-        ("[\"l\",1,1,[11", "[\"l\",1,1,[12", &[713, 5]),
-        ("[1],[11]]", "[1],[12]]", &[717, 1]),
-        ("[1],[11]]", "[1],null]", &[717, 1]),
-        (
-            ",[22,0,0,0]],\"events\"",
-            ",[23,0,0,0]],\"events\"",
-            &[716, 2],
-        ),
-        ("\"tree\":", "\"trees\":", &[701]),
-    ];
-    for (old, new, numbers) in cases {
-        let changed = whole.replace(alloc, old, new)?;
-        assert_wrong(&rt, alloc, &changed, numbers)?;
+    for (chosen, old, new, told) in WRONG {
+        let trail = trail_with(alloc, chosen)?;
+        let found = audited(alloc, &trail.replace(alloc, old, new)?)?;
+        assert_eq!(rt; found.as_str(), told, "{chosen:?} {old}");
     }
-    // Nothing found is wrong, and call 0 doesn't do this.
-    let other = whole.replace(alloc, "[11,0,0,0]", "[13,0,0,0]")?;
-    let other = other.replace(alloc, "[1],[11]]", "[1],[13]]")?;
-    assert_wrong(&rt, alloc, &other, &[714, 0])
+    Ok(())
 }
 
+// The command audits with a report of its progress. This is the audit that is called without one.
 #[test]
-fn other_bytes_are_no_trail(rt: HostRuntime) -> Result<(), Fail> {
-    for bytes in [b"\xFF".as_slice(), b"".as_slice(), b"{}".as_slice()] {
-        let fault = audit_cmd(rt.alloc(), bytes, &mut Silent)
-            .err()
-            .ok_or("read")?;
-        assert_eq!(rt; fault.numbers().as_slice(), [701].as_slice());
-    }
+fn a_trail_is_audited_in_silence(rt: HostRuntime) -> Result<(), Fail> {
+    let alloc = rt.alloc();
+    let trail = read_trail(alloc, &trail_with(alloc, &WHOLE)?)?;
+    let order = audit(alloc, &trail)?;
+    assert_eq!(rt; order.calls(), [2, 0, 1].as_slice());
     Ok(())
 }

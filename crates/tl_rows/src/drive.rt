@@ -1,6 +1,6 @@
 //! The command `drive`.
 
-use crate::texts::{BOTH, FORK, LOOK, ONE_NODE, STORE, SWEEP, named};
+use crate::texts::{BOTH, FORK, LOOK, ONE_NODE, STORE, SWEEP, answer, named};
 use std::alloc::Global;
 use std::test::Fail;
 use tl_commands::{CliFault, drive_cmd};
@@ -117,32 +117,91 @@ fn at_most_64_calls_are_unfinished(rt: HostRuntime) -> Result<(), Fail> {
     Ok(())
 }
 
-/// Each tree and procedures, and the numbers of what is wrong first.
-const REFUSED: [(&str, &str, &[u64]); 7] = [
-    ("[]", "0", &[106]),
-    (ONE_NODE, "0", &[731]),
-    (ONE_NODE, "[\"a b\",\"arity 0\"]", &[251, 1]),
-    (ONE_NODE, "[\"a b\",\"arity 0\\nset v0 1\"]", &[403, 0]),
-    (ONE_NODE, "[\"a b\",\"arity 0\\nret\"]", &[612]),
+/// Each tree and script, and what is answered: what is wrong first, or what is printed.
+const SCRIPTS: [(&str, &[u8], &str); 22] = [
+    ("[]", b"{\"moves\":[],\"procs\":[0]}", "[106] 1"),
+    (ONE_NODE, b"{\"moves\":[],\"procs\":[0]}", "[731] 1"),
     (
         ONE_NODE,
-        "[\"a\",\"arity 0\\nret\"],[\"a\",\"arity 1\\nret\"],[\"\",\"\"]",
-        &[611],
+        b"{\"moves\":[],\"procs\":[[\"a b\",\"arity 0\"]]}",
+        "[251, 1] 1",
     ),
     (
         ONE_NODE,
-        "[\"a\",\"arity 0\\nret\"],[\"\",\"\"],[\"a\",\"arity 0\\nret\"]",
-        &[251, 1],
+        b"{\"moves\":[],\"procs\":[[\"a b\",\"arity 0\\nset v0 1\"]]}",
+        "[403, 0] 1",
+    ),
+    (
+        ONE_NODE,
+        b"{\"moves\":[],\"procs\":[[\"a b\",\"arity 0\\nret\"]]}",
+        "[612] 1",
+    ),
+    (
+        ONE_NODE,
+        b"{\"moves\":[],\"procs\":[[\"a\",\"arity 0\\nret\"],[\"a\",\"arity 1\\nret\"],[\"\",\"\"]]}",
+        "[611] 1",
+    ),
+    (
+        ONE_NODE,
+        b"{\"moves\":[],\"procs\":[[\"a\",\"arity 0\\nret\"],[\"\",\"\"],[\"a\",\"arity 0\\nret\"]]}",
+        "[251, 1] 1",
+    ),
+    // Bytes that are no script's.
+    (ONE_NODE, b"", "[731] 1"),
+    (ONE_NODE, b"\xFF", "[731] 1"),
+    (ONE_NODE, b"[]", "[731] 1"),
+    (ONE_NODE, b"{\"moves\":[]}", "[731] 1"),
+    (ONE_NODE, b"{\"moves\":null,\"procs\":[]}", "[731] 1"),
+    (
+        ONE_NODE,
+        b"{\"moves\":[],\"op \":true,\"procs\":[]}",
+        "[731] 1",
+    ),
+    (ONE_NODE, b"{\"moves\":[-1],\"procs\":[]}", "[731] 1"),
+    (
+        ONE_NODE,
+        b"{\"moves\":[4294967296],\"procs\":[]}",
+        "[731] 1",
+    ),
+    (ONE_NODE, b"{\"moves\":[0.0],\"procs\":[]}", "[731] 1"),
+    (
+        ONE_NODE,
+        b"{\"moves\":[[\"look\",[9223372036854775808]]],\"procs\":[]}",
+        "[731] 1",
+    ),
+    (
+        ONE_NODE,
+        b"{\"moves\":[[\"look\"]],\"procs\":[]}",
+        "[731] 1",
+    ),
+    (
+        ONE_NODE,
+        b"{\"moves\":[[\"look\",[],0]],\"procs\":[]}",
+        "[731] 1",
+    ),
+    (
+        ONE_NODE,
+        b"{\"moves\":[],\"procs\":[[\"look\"]]}",
+        "[731] 1",
+    ),
+    (
+        ONE_NODE,
+        b"{\"moves\":[],\"procs\":[[\"look\",[]]]}",
+        "[731] 1",
+    ),
+    (
+        ONE_NODE,
+        b" { \"procs\" : [ ] , \"moves\" : [ ] } ",
+        "{\"trace\":[]}\n{\"order\":[]}\n{\"parents\":[0],\"records\":[[5,0,0,0]]}\n",
     ),
 ];
 
 #[test]
 fn what_is_wrong_first_is_told(rt: HostRuntime) -> Result<(), Fail> {
     let alloc = rt.alloc();
-    for (tree, procedures, numbers) in REFUSED {
-        let fault = driven(alloc, tree, procedures, "").err().ok_or("accepted")?;
-        assert_eq!(rt; fault.numbers().as_slice(), numbers, "{procedures}");
-        assert_eq!(rt; fault.status(), 1);
+    for (tree, script, told) in SCRIPTS {
+        let printed = answer(alloc, drive_cmd(alloc, tree.as_bytes(), script))?;
+        assert_eq!(rt; printed.as_str(), told, "{script:?}");
     }
     Ok(())
 }

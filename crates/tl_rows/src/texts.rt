@@ -3,7 +3,7 @@
 use std::alloc::Global;
 use std::test::Fail;
 use tl_asm::assemble;
-use tl_commands::asm_cmd;
+use tl_commands::{CliFault, asm_cmd};
 use tl_tree::{Tree, read_tree};
 use tl_verify::{Proc, verify};
 
@@ -134,6 +134,19 @@ pub const ADD_BYTES: [u8; 64] = [
     0x0F, 0x00, 0x00, 0x00, 0x00, 0x00, 0x00, 0x00, //
     0x14, 0x00, 0x00, 0x00, 0x00, 0x00, 0x00, 0x00, //
 ];
+
+/// What a command answers: what it prints, or the numbers of what is wrong first, and the exit status.
+pub fn answer(alloc: Global, answer: Result<String, CliFault>) -> Result<String, Fail> {
+    match answer {
+        Ok(text) => Ok(text),
+        Err(fault) => {
+            let numbers = fault.numbers();
+            let numbers = numbers.as_slice();
+            let status = fault.status();
+            Ok(format!(in alloc; "{numbers:?} {status}")?)
+        }
+    }
+}
 
 /// The container of a text's code.
 pub fn container_of(alloc: Global, text: &str) -> Result<Vec<u8>, Fail> {

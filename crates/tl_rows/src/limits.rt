@@ -1,0 +1,34 @@
+//! The limits.
+
+use std::test::Fail;
+use tl_asm::MAX_LABEL;
+use tl_budget::{MAX_EMITS, MAX_LOCKS, MAX_STEPS};
+use tl_core::MAX_UNFINISHED;
+use tl_history::{MAX_CALLS, MAX_EVENTS};
+use tl_instr::{MAX_ARGS, MAX_COUNT};
+use tl_procedures::MAX_PROCEDURES;
+use tl_tree::{FIELD_COUNT, MAX_NODES};
+
+/// Each limit's constant, and its number in the documents.
+const LIMITS: [(&str, usize, usize); 12] = [
+    ("nodes of a tree", MAX_NODES, 4_096),
+    ("fields of a record", FIELD_COUNT, 4),
+    ("instructions of a code", MAX_COUNT, 1_024),
+    ("arguments of a call", MAX_ARGS, 8),
+    ("characters of a label", MAX_LABEL, 32),
+    ("steps of a procedure", MAX_STEPS as usize, 1_000_000),
+    ("locks of a procedure", MAX_LOCKS as usize, 4_096),
+    ("values that a procedure emits", MAX_EMITS, 32),
+    ("procedures", MAX_PROCEDURES, 256),
+    ("calls of a core", MAX_CALLS, 4_096),
+    ("unfinished calls of a core", MAX_UNFINISHED, 64),
+    ("stored events", MAX_EVENTS, 1_048_576),
+];
+
+#[test]
+fn limits_are_as_documented(rt: HostRuntime) -> Result<(), Fail> {
+    for (limit, constant, number) in LIMITS {
+        assert_eq!(rt; constant, number, "{limit}");
+    }
+    Ok(())
+}
