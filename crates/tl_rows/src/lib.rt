@@ -2,7 +2,8 @@
 //!
 //! A test is proved with its crate, so the tests stand here together, and each crate below is proved once, without them.
 //! A row of a table costs nearly nothing, and a function does. So what a command can show is a row of its table in `alone`,
-//! `procedures`, `drive` or `audit`, from bytes to bytes. `serial` has what no command calls.
+//! `procedures`, `drive` or `audit`, from bytes to bytes. `cores`, `machine`, `serial` and `tree`
+//! have what no command shows.
 #![tactic(auto)]
 
 #[cfg(test)]
@@ -10,14 +11,20 @@ mod alone;
 #[cfg(test)]
 mod audit;
 #[cfg(test)]
+mod cores;
+#[cfg(test)]
 mod drive;
 #[cfg(test)]
 mod fault;
 #[cfg(test)]
 mod limits;
 #[cfg(test)]
+mod machine;
+#[cfg(test)]
 mod procedures;
 #[cfg(test)]
 mod serial;
 #[cfg(test)]
 mod texts;
+#[cfg(test)]
+mod tree;

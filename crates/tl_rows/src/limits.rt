@@ -6,11 +6,11 @@ use tl_budget::{MAX_EMITS, MAX_LOCKS, MAX_STEPS};
 use tl_core::MAX_UNFINISHED;
 use tl_history::{MAX_CALLS, MAX_EVENTS};
 use tl_instr::{MAX_ARGS, MAX_COUNT};
-use tl_procedures::MAX_PROCEDURES;
+use tl_procedures::{MAX_NAME, MAX_PROCEDURES};
 use tl_tree::{FIELD_COUNT, MAX_NODES};
 
 /// Each limit's constant, and its number in the documents.
-const LIMITS: [(&str, usize, usize); 12] = [
+const LIMITS: [(&str, usize, usize); 13] = [
     ("nodes of a tree", MAX_NODES, 4_096),
     ("fields of a record", FIELD_COUNT, 4),
     ("instructions of a code", MAX_COUNT, 1_024),
@@ -19,6 +19,7 @@ const LIMITS: [(&str, usize, usize); 12] = [
     ("steps of a procedure", MAX_STEPS as usize, 1_000_000),
     ("locks of a procedure", MAX_LOCKS as usize, 4_096),
     ("values that a procedure emits", MAX_EMITS, 32),
+    ("characters of a name", MAX_NAME, 32),
     ("procedures", MAX_PROCEDURES, 256),
     ("calls of a core", MAX_CALLS, 4_096),
     ("unfinished calls of a core", MAX_UNFINISHED, 64),
