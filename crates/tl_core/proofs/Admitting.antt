@@ -1,5 +1,5 @@
 -- A core after an admission.
-use Rattle.std.proofs.Common.{◌≡◌, ◌≢◌, ℕ, zero, suc, ◌+◌, ◌-◌, ◌<◌, ◌==◌, Bool, true, false, List, [], ◌∷◌, ◌++◌, length, map, refl, sym, ap, ◌∙◌, subst, inl, inr, arith, Option, Some, None, slice_get, get_or, if◌then◌else◌, ◌⊎◌, ℤ}
+use Rattle.std.proofs.Common.{◌≡◌, ◌≢◌, ℕ, zero, suc, ◌+◌, ◌-◌, ◌<◌, ◌≤◌, ◌==◌, Bool, true, false, List, [], ◌∷◌, ◌++◌, length, map, refl, sym, ap, ap₂, ◌∙◌, subst, inl, inr, arith, Option, Some, None, slice_get, get_or, if◌then◌else◌, ℤ}
 use Rattle.std.proofs.lemmas.Bool.{cases_eq, ne_eqb, eq-eqb}
 use Rattle.std.proofs.lemmas.List.{length-map, length-append, map-append}
 use Rattle.std.proofs.lemmas.Option.{slice_get_within}
@@ -20,16 +20,23 @@ use Rattle.tl_machine.specs.Alone.{alone}
 use Rattle.tl_machine.specs.Call.{reply_so_far}
 use Rattle.tl_machine.specs.Outcomes.{meaning}
 use Rattle.tl_machine.specs.Stands.{run_left}
-use Rattle.tl_machine.specs.Turns.{IsTurn}
+use Rattle.tl_machine.specs.Turns.{TurnValue, IsTurn}
 use Rattle.tl_machine.proofs.StartLemmas.{is_alone}
 use Rattle.tl_core.specs.declared.call.Call.{Call}
+use Rattle.tl_core.specs.declared.call.OpenCall.{OpenCall}
+use Rattle.tl_core.specs.declared.call.Progress.TheVariants.{Open}
+use Rattle.tl_core.specs.declared.interleaving.TheConstants.{MAX_OPEN}
+use Rattle.tl_core.specs.Stored.{Kept, seen_call, AreStored}
+use Rattle.tl_core.proofs.Storing.{more_at, seen_are, stored_more}
 use Rattle.tl_core.specs.Cores.{CoreValue, no_call, call_of, code_of, world_of, total, owed_to, places}
-use Rattle.tl_core.specs.Entries.{procedure_at}
+use Rattle.std.specs.Option.{option_map_or}
+use Rattle.tl_procedures.specs.Names.{number_of}
+use Rattle.tl_core.specs.Entries.{procedure_at, with_call_of, after_admission as core_after}
 use Rattle.tl_core.specs.Begun.{Begins}
-use Rattle.tl_core.specs.Kept.{IsCore, IsKept, call_value}
+use Rattle.tl_core.specs.Kept.{IsCore, IsWholeCore, IsKept, call_value}
 use Rattle.tl_machine.proofs.Along.{along_start}
 use Rattle.tl_core.proofs.Totals.{total-same}
-use Rattle.tl_core.proofs.After.{open_in, some_same}
+use Rattle.tl_core.proofs.After.{open_in}
 
 last_of : {X : Type 0} → (xs : List X) (x other : X) → get_or (xs ++ x ∷ []) (length xs) other ≡ x
 last_of [] x other = refl
@@ -47,25 +54,16 @@ get_or-last xs x d other = elim (cases_eq (length xs) d) [
   | inr ne ↦ let q = ne_eqb (length xs) d ne in rw q (others_of xs x d other ne)
 ]
 
-slice_get-last : {X : Type 0} → (xs : List X) (x y : X) (d : ℕ) → slice_get (xs ++ x ∷ []) d ≡ Some y → ((d ≡ length xs) × (x ≡ y)) ⊎ (slice_get xs d ≡ Some y)
-slice_get-last [] x y zero h = inl (refl, some_same h)
-slice_get-last [] x y (suc d) h = absurd cc
-slice_get-last (z ∷ xs) x y zero h = inr h
-slice_get-last (z ∷ xs) x y (suc d) h = elim (slice_get-last xs x y d h) [
-  | inl last ↦ inl (ap suc last.0, last.1)
-  | inr before ↦ inr before
-]
-
 -- what begins a call alone isn't over
 not_over : (b : Bool) (r left : Run) (s : Run) → EndsOnce (actions r) → (if b then s else left) ≡ r → actions s ≡ [] → b ≡ false
 not_over true r left s ends same none = absurd (subst EndsOnce (ap actions (sym same) ∙ none) ends)
 not_over false r left s ends same none = refl
 
-module _ (v : CoreValue) (now : TreeValue) (kept : List Call) (holders : List (Option ℕ)) (unfinished reserved : ℕ) (h : IsCore v now kept holders unfinished reserved) (k : Call)
+module _ (v : CoreValue) (now : TreeValue) (kept : List Kept) (holders : List (Option ℕ)) (open_count reserved : ℕ) (h : IsCore v now kept holders open_count reserved) (k : Kept)
     (shape : k.turn.parents ≡ v.parents) (known : k.procedure < length v.procedures) (code : (procedure_at v k.procedure).code ≡ k.turn.code)
-    (valid : IsCode k.turn.code) (accepted : Acceptable k.turn.code.instrs) (arity : length k.args.items ≡ k.turn.code.arity)
+    (valid : IsCode k.turn.code) (accepted : Acceptable k.turn.code.instrs) (arity : length k.args ≡ k.turn.code.arity)
     (turn : IsTurn k.turn.code.instrs v.parents k.turn.call)
-    (left : (t : Records) → run_left k.turn.code.instrs v.parents k.turn.call t ≡ alone k.turn.code.instrs v.parents k.args.items t)
+    (left : (t : Records) → run_left k.turn.code.instrs v.parents k.turn.call t ≡ alone k.turn.code.instrs v.parents k.args t)
     (steps : k.turn.call.steps ≡ 0) (reply : reply_so_far k.turn.call ≡ []) (none : k.reply ≡ None)
     (places_are : k.places ≡ places k.turn.code.instrs (length v.parents) - 1) (few : length v.calls < 4096) where
   c : ℕ
@@ -78,10 +76,10 @@ module _ (v : CoreValue) (now : TreeValue) (kept : List Call) (holders : List (O
   then_ = record v { calls = v.calls ++ call_value k ∷ []; past = new_past }
 
   abbrev does : Records → Outcome
-  does = meaning k.turn.code.instrs v.parents k.args.items
+  does = meaning k.turn.code.instrs v.parents k.args
 
   is_like : IsAlone v.parents does
-  is_like = is_alone k.turn.code v.parents k.args.items valid accepted h.sound.tree
+  is_like = is_alone k.turn.code v.parents k.args valid accepted h.sound.tree
 
   call_then : (d : ℕ) → call_of then_ d ≡ (if length v.calls == d then call_value k else call_of v d)
   call_then d = get_or-last v.calls (call_value k) d no_call
@@ -127,7 +125,7 @@ module _ (v : CoreValue) (now : TreeValue) (kept : List Call) (holders : List (O
       let code' = code_before d lt in
       λ i. if is_done d v.past then 0 else places (code' i).instrs (length v.parents) - (length (part_of d v.past) + 1)
 
-  before_kept : (d : ℕ) (kd : Call) → d < length v.calls → IsKept v d kd → IsKept then_ d kd
+  before_kept : (d : ℕ) (kd : Kept) → d < length v.calls → IsKept v d kd → IsKept then_ d kd
   before_kept d kd lt keep = record {
     turn = keep.turn;
     shape = keep.shape;
@@ -164,7 +162,7 @@ module _ (v : CoreValue) (now : TreeValue) (kept : List Call) (holders : List (O
 
   goes_on : k.turn.call.is_over ≡ false
   goes_on =
-      not_over k.turn.call.is_over (alone k.turn.code.instrs v.parents k.args.items v.opening) _ _ (is_like.ends v.opening h.sound.size) (left v.opening) refl
+      not_over k.turn.call.is_over (alone k.turn.code.instrs v.parents k.args v.opening) _ _ (is_like.ends v.opening h.sound.size) (left v.opening) refl
 
   new_kept : IsKept then_ (length v.calls) k
   new_kept = record {
@@ -176,7 +174,7 @@ module _ (v : CoreValue) (now : TreeValue) (kept : List Call) (holders : List (O
     accepted = accepted;
     arity = arity;
     done = [];
-    along = along_start k.turn.code.instrs v.parents k.args.items k.turn.call left steps reply;
+    along = along_start k.turn.code.instrs v.parents k.args k.turn.call left steps reply;
     part = nothing;
     over = goes_on ∙ sym fresh;
     reply = none ∙ ap (λ b. if b then Some [] else None) (sym fresh);
@@ -185,16 +183,16 @@ module _ (v : CoreValue) (now : TreeValue) (kept : List Call) (holders : List (O
 
   -- ---- the whole core
 
-  pub admitted : (kept2 : List Call) → kept2 ≡ kept ++ k ∷ [] → (unfinished2 : ℕ) → unfinished2 ≡ unfinished + 1
+  pub admitted : (kept2 : List Kept) → kept2 ≡ kept ++ k ∷ [] → (open_count2 : ℕ) → open_count2 ≡ open_count + 1
       → (history2 : Stored) → history2 ≡ record { past = new_past; limit = v.limit; reserved = reserved + k.places }
-      → IsCore (record v { calls = map call_value kept2; past = history2.past; limit = history2.limit }) now kept2 holders unfinished2 history2.reserved
-  admitted kept2 kept_is unfinished2 unfinished_is history2 history_is =
+      → IsCore (record v { calls = map call_value kept2; past = history2.past; limit = history2.limit }) now kept2 holders open_count2 history2.reserved
+  admitted kept2 kept_is open_count2 open_is history2 history_is =
       let calls : map call_value kept2 ≡ then_.calls =
       ap (map call_value) kept_is ∙ map-append call_value kept (k ∷ []) ∙ ap (λ l. l ++ call_value k ∷ []) (sym h.calls) in
       let long : length then_.calls ≡ suc (length v.calls) = let e = length-append v.calls (call_value k ∷ []) in omega arith in
       let kept_long : length v.calls ≡ length kept = ap length h.calls ∙ length-map kept call_value in
-      subst (λ z. IsCore (record v { calls = map call_value kept2; past = z.past; limit = z.limit }) now kept2 holders unfinished2 z.reserved) (sym history_is)
-      (subst (λ l. IsCore (record v { calls = l; past = new_past }) now kept2 holders unfinished2 (reserved + k.places)) (sym calls)
+      subst (λ z. IsCore (record v { calls = map call_value kept2; past = z.past; limit = z.limit }) now kept2 holders open_count2 z.reserved) (sym history_is)
+      (subst (λ l. IsCore (record v { calls = l; past = new_past }) now kept2 holders open_count2 (reserved + k.places)) (sym calls)
       (record {
         sound = sound_then;
         counted = let e = h.counted in omega arith;
@@ -203,7 +201,7 @@ module _ (v : CoreValue) (now : TreeValue) (kept : List Call) (holders : List (O
         now_is = h.now_is;
         each_node = h.each_node;
         holds = h.holds;
-        each = λ d kd there. elim (slice_get-last kept k kd d (ap (λ l. slice_get l d) (sym kept_is) ∙ there)) [
+        each = λ d kd there. elim (more_at kept k kd d (ap (λ l. slice_get l d) (sym kept_is) ∙ there)) [
           | inl last ↦
               let same : length v.calls ≡ d = kept_long ∙ sym last.0 in
               subst (λ z. IsKept then_ z kd) same (subst (IsKept then_ (length v.calls)) last.1 new_kept)
@@ -211,10 +209,10 @@ module _ (v : CoreValue) (now : TreeValue) (kept : List Call) (holders : List (O
               let lt = slice_get_within kept d kd before in
               before_kept d kd (omega arith) (h.each d kd before)
         ];
-        unfinished_are =
-            let before = h.unfinished_are in
+        open_are =
+            let before = h.open_are in
             let one : open_in v.past (length v.calls) ≡ 1 = ap (λ b. if b then 0 else 1) fresh in
-            let all : unfinished2 ≡ total (open_in v.past) (length v.calls) + open_in v.past (length v.calls) = omega arith in
+            let all : open_count2 ≡ total (open_in v.past) (length v.calls) + open_in v.past (length v.calls) = omega arith in
             all ∙ ap (total (open_in v.past)) (sym long);
         reserved_are =
             let before = h.reserved_are in
@@ -227,26 +225,77 @@ module _ (v : CoreValue) (now : TreeValue) (kept : List Call) (holders : List (O
 abbrev one_used : ℕ → Stored → Stored
 one_used c history = record history { past = event.Admit c ∷ history.past; reserved = history.reserved - 1 }
 
--- the same, from a call that was begun
-pub admitted_begun : (v : CoreValue) (now : TreeValue) (kept : List Call) (holders : List (Option ℕ)) (unfinished reserved : ℕ) → IsCore v now kept holders unfinished reserved
-    → (k : Call) (c : CodeValue) (parents : List ℕ) (number : ℕ) (given : List ℤ) (room : ℕ) → Begins c parents number given (room - 1) k
-    → parents ≡ v.parents → c ≡ (procedure_at v number).code → number < length v.procedures → length given ≡ (procedure_at v number).code.arity
-    → room ≡ places (procedure_at v number).code.instrs (length v.parents) → length v.calls < 4096
-    → (kept2 : List Call) → kept2 ≡ kept ++ k ∷ [] → (history history2 : Stored) → history ≡ record { past = v.past; limit = v.limit; reserved = reserved + room }
-    → history2 ≡ record history { past = event.Admit (length v.calls) ∷ history.past; reserved = history.reserved - 1 }
-    → IsCore (record v { calls = map call_value kept2; past = history2.past; limit = history2.limit }) now kept2 holders (unfinished + 1) history2.reserved
-admitted_begun v now kept holders unfinished reserved h k c parents number given room b same_shape same_code known arity room_is few kept2 kept_is history history2 reserved_is appended =
-    let code : k.turn.code ≡ (procedure_at v number).code = b.code ∙ same_code in
-    let shape : k.turn.parents ≡ v.parents = b.shape ∙ same_shape in
-    let at_number : (procedure_at v k.procedure).code ≡ k.turn.code = ap (λ p. (procedure_at v p).code) b.procedure ∙ sym code in
-    let in_list : k.procedure < length v.procedures = let e = b.procedure in omega arith in
-    let fits : length k.args.items ≡ k.turn.code.arity = ap length b.args ∙ arity ∙ ap (λ z. z.arity) (sym code) in
-    let places_are : k.places ≡ places k.turn.code.instrs (length v.parents) - 1 =
-    b.places ∙ ap (λ n. n - 1) room_is ∙ ap (λ z. places z.instrs (length v.parents) - 1) (sym code) in
-    let more : reserved + room - 1 ≡ reserved + k.places = let e = b.places in let r = room_is in omega arith in
-    let history_is : history2 ≡ record { past = event.Admit (length v.calls) ∷ v.past; limit = v.limit; reserved = reserved + k.places } =
-    appended ∙ ap (λ z. one_used (length v.calls) z) reserved_is ∙ (λ i. record { past = event.Admit (length v.calls) ∷ v.past; limit = v.limit; reserved = more i }) in
-    admitted v now kept holders unfinished reserved h k shape in_list at_number b.valid b.accepted fits
-    (subst (λ ps. IsTurn k.turn.code.instrs ps k.turn.call) shape b.turn)
-    (subst (λ ps. (t : Records) → run_left k.turn.code.instrs ps k.turn.call t ≡ alone k.turn.code.instrs ps k.args.items t) shape b.left)
-    b.steps b.reply b.none places_are few kept2 kept_is (unfinished + 1) refl history2 history_is
+-- the same, of a call that was begun
+module _ (v : CoreValue) (now : TreeValue) (calls : List Call) (slots : List OpenCall) (holders : List (Option ℕ)) (reserved capacity : ℕ) (w : IsWholeCore v now calls slots holders reserved capacity)
+    (code : CodeValue) (parents : List ℕ) (number : ℕ) (given args : List ℤ) (turn : TurnValue) (room : ℕ) (b : Begins code parents given args turn)
+    (same_shape : parents ≡ v.parents) (same_code : code ≡ (procedure_at v number).code) (known : number < length v.procedures) (arity : length given ≡ (procedure_at v number).code.arity)
+    (room_is : room ≡ places (procedure_at v number).code.instrs (length v.parents)) (few : length v.calls < 4096)
+    (s : Call) (procedure : s.procedure ≡ number) (args_are : s.args.items ≡ args) (progress : s.progress ≡ Open (length slots))
+    (o : OpenCall) (o_is : o ≡ record { call = length calls; places = room - 1; turn = turn }) where
+  abbrev new_call : Kept
+  new_call = record { procedure = number; args = args; turn = turn; reply = None; places = room - 1 }
+
+  code_is : (procedure_at v number).code ≡ turn.code
+  code_is = sym (b.code ∙ same_code)
+
+  calls_long : length calls ≡ length v.calls
+  calls_long = w.stored.long ∙ sym (length-map w.kept call_value) ∙ ap length (sym w.core.calls)
+
+  begun_stored : AreStored v.procedures (calls ++ s ∷ []) (slots ++ o ∷ []) (w.kept ++ new_call ∷ [])
+  begun_stored = stored_more v.procedures calls slots w.kept w.stored s new_call procedure args_are code_is progress refl o o_is
+
+  begun_seen : map (seen_call v.procedures (slots ++ o ∷ [])) (calls ++ s ∷ []) ≡ map call_value (w.kept ++ new_call ∷ [])
+  begun_seen = seen_are v.procedures (calls ++ s ∷ []) (slots ++ o ∷ []) (w.kept ++ new_call ∷ []) begun_stored
+
+  -- what callers see then
+  pub seen_begun : (calls2 : List Call) → calls2 ≡ calls ++ s ∷ [] → (slots2 : List OpenCall) → slots2 ≡ slots ++ o ∷ []
+      → map (seen_call v.procedures slots2) calls2 ≡ v.calls ++ record { procedure = number; code = (procedure_at v number).code; args = given; count = 0 } ∷ []
+  seen_begun calls2 calls_are slots2 slots_are =
+      let code_same = sym code_is in
+      let args_same = b.args in
+      let none_done = b.steps in
+      ap₂ (λ os cs. map (seen_call v.procedures os) cs) slots_are calls_are ∙ begun_seen ∙ map-append call_value w.kept (new_call ∷ [])
+      ∙ ap (λ l. l ++ call_value new_call ∷ []) (sym w.core.calls)
+      ∙ (λ i. v.calls ++ record { procedure = number; code = code_same i; args = args_same i; count = none_done i } ∷ [])
+
+  pub after_begun : (calls2 : List Call) → calls2 ≡ calls ++ s ∷ [] → (slots2 : List OpenCall) → slots2 ≡ slots ++ o ∷ []
+      → (history2 : Stored) → history2.past ≡ event.Admit (length v.calls) ∷ v.past → history2.limit ≡ v.limit → (name : List ℕ) → number_of v.procedures name ≡ Some number
+      → record v { calls = map (seen_call v.procedures slots2) calls2; past = history2.past; limit = history2.limit } ≡ core_after v name given
+  after_begun calls2 calls_are slots2 slots_are history2 past_is limit_is name found =
+      let seen = seen_begun calls2 calls_are slots2 slots_are in
+      (λ i. record v { calls = seen i; past = past_is i; limit = limit_is i })
+      ∙ ap (λ n. option_map_or (λ p. with_call_of v p given) n v) (sym found)
+
+  pub admitted_begun : (calls2 : List Call) → calls2 ≡ calls ++ s ∷ [] → (slots2 : List OpenCall) → slots2 ≡ slots ++ o ∷ []
+      → (history history2 : Stored) → history ≡ record { past = v.past; limit = v.limit; reserved = reserved + room }
+      → history2 ≡ record history { past = event.Admit (length v.calls) ∷ history.past; reserved = history.reserved - 1 }
+      → (capacity2 : ℕ) → MAX_OPEN ≤ capacity2
+      → IsWholeCore (record v { calls = map (seen_call v.procedures slots2) calls2; past = history2.past; limit = history2.limit }) now calls2 slots2 holders history2.reserved capacity2
+  admitted_begun calls2 calls_are slots2 slots_are history history2 reserved_is appended capacity2 enough =
+      let shape : turn.parents ≡ v.parents = b.shape ∙ same_shape in
+      let fits : length args ≡ turn.code.arity = ap length b.args ∙ arity ∙ ap (λ z. z.arity) code_is in
+      let places_are : room - 1 ≡ places turn.code.instrs (length v.parents) - 1 = ap (λ n. n - 1) room_is ∙ ap (λ z. places z.instrs (length v.parents) - 1) code_is in
+      let some : 1 ≤ room = let r = room_is in omega arith in
+      let more : reserved + room - 1 ≡ reserved + (room - 1) = omega arith in
+      let history_is : history2 ≡ record { past = event.Admit (length v.calls) ∷ v.past; limit = v.limit; reserved = reserved + (room - 1) } =
+      appended ∙ ap (λ z. one_used (length v.calls) z) reserved_is ∙ (λ i. record { past = event.Admit (length v.calls) ∷ v.past; limit = v.limit; reserved = more i }) in
+      let kept2 : List Kept = w.kept ++ new_call ∷ [] in
+      let one_more : length slots2 ≡ length slots + 1 = ap length slots_are ∙ length-append slots (o ∷ []) in
+      let core : IsCore (record v { calls = map call_value kept2; past = history2.past; limit = history2.limit }) now kept2 holders (length slots2) history2.reserved =
+      admitted v now w.kept holders (length slots) reserved w.core new_call shape known code_is b.valid b.accepted fits
+      (subst (λ ps. IsTurn turn.code.instrs ps turn.call) shape b.is_turn)
+      (subst (λ ps. (t : Records) → run_left turn.code.instrs ps turn.call t ≡ alone turn.code.instrs ps args t) shape b.left)
+      b.steps b.reply refl places_are few kept2 refl (length slots2) one_more history2 history_is in
+      record {
+        kept = kept2;
+        stored = stored_begun calls2 calls_are slots2 slots_are;
+        core =
+            subst (λ l. IsCore (record v { calls = l; past = history2.past; limit = history2.limit }) now kept2 holders (length slots2) history2.reserved)
+            (sym (ap₂ (λ os cs. map (seen_call v.procedures os) cs) slots_are calls_are ∙ begun_seen)) core;
+        room = enough;
+      }
+    where
+      stored_begun : (calls2 : List Call) → calls2 ≡ calls ++ s ∷ [] → (slots2 : List OpenCall) → slots2 ≡ slots ++ o ∷ [] → AreStored v.procedures calls2 slots2 (w.kept ++ new_call ∷ [])
+      stored_begun calls2 calls_are slots2 slots_are =
+          subst (λ cs. AreStored v.procedures cs slots2 (w.kept ++ new_call ∷ [])) (sym calls_are)
+          (subst (λ os. AreStored v.procedures (calls ++ s ∷ []) os (w.kept ++ new_call ∷ [])) (sym slots_are) begun_stored)

@@ -1,5 +1,6 @@
 pub mod Totals
 pub mod Events
+pub mod Storing
 pub mod Standing
 pub mod Permitted
 pub mod After
@@ -9,5 +10,6 @@ pub mod MoreProcedures
 pub mod Admitting
 pub mod Opening
 pub mod Readers
+pub mod Whole
 pub mod Enabling
 pub mod Driving

@@ -1,15 +1,18 @@
 -- A core with more procedures keeps its calls.
-use Rattle.std.proofs.Common.{◌≡◌, ℕ, List, [], ◌∷◌, ◌++◌, Option, Result, Ok, Err, OnOk, OnErr, sym, ◌∙◌, ap, arith}
+use Rattle.std.proofs.Common.{◌≡◌, ℕ, List, [], ◌∷◌, ◌++◌, length, map, subst, Option, Result, Ok, Err, OnOk, OnErr, sym, ◌∙◌, ap, arith}
 use Rattle.std.proofs.lemmas.List.{get_or_append_left, length-append, append-nil}
 use Rattle.tl_tree.specs.Trees.{TreeValue}
 use Rattle.tl_procedures.specs.declared.fault.NamingFault.{NamingFault}
 use Rattle.tl_core.specs.declared.call.Call.{Call}
+use Rattle.tl_core.specs.declared.call.OpenCall.{OpenCall}
+use Rattle.tl_core.specs.Stored.{Kept, seen_call, AreStored}
 use Rattle.tl_procedures.specs.Names.{Named, no_procedure}
 use Rattle.tl_core.specs.Cores.{CoreValue}
-use Rattle.tl_core.specs.Kept.{IsKept, IsCore}
+use Rattle.tl_core.specs.Kept.{IsKept, IsCore, IsWholeCore}
+use Rattle.tl_core.proofs.Storing.{seen_are}
 
 -- what is kept of a call names a procedure that was there before
-keeps_call : (v : CoreValue) (more : List Named) (c : ℕ) (k : Call) → IsKept v c k → IsKept (record v { procedures = v.procedures ++ more }) c k
+keeps_call : (v : CoreValue) (more : List Named) (c : ℕ) (k : Kept) → IsKept v c k → IsKept (record v { procedures = v.procedures ++ more }) c k
 keeps_call v more c k h =
     record {
       turn = h.turn;
@@ -27,9 +30,9 @@ keeps_call v more c k h =
       places = h.places;
     }
 
-pub keeps_core : (v : CoreValue) (more : List Named) (now : TreeValue) (kept : List Call) (holders : List (Option ℕ)) (unfinished reserved : ℕ)
-    → IsCore v now kept holders unfinished reserved → IsCore (record v { procedures = v.procedures ++ more }) now kept holders unfinished reserved
-keeps_core v more now kept holders unfinished reserved h =
+pub keeps_core : (v : CoreValue) (more : List Named) (now : TreeValue) (kept : List Kept) (holders : List (Option ℕ)) (open_count reserved : ℕ)
+    → IsCore v now kept holders open_count reserved → IsCore (record v { procedures = v.procedures ++ more }) now kept holders open_count reserved
+keeps_core v more now kept holders open_count reserved h =
     record {
       sound = h.sound;
       counted = h.counted;
@@ -39,12 +42,52 @@ keeps_core v more now kept holders unfinished reserved h =
       each_node = h.each_node;
       holds = h.holds;
       each = λ c k at. keeps_call v more c k (h.each c k at);
-      unfinished_are = h.unfinished_are;
+      open_are = h.open_are;
       reserved_are = h.reserved_are;
     }
+
+-- and stores them as they were
+module _ (v : CoreValue) (more : List Named) (now : TreeValue) (calls : List Call) (slots : List OpenCall) (holders : List (Option ℕ)) (reserved capacity : ℕ) (w : IsWholeCore v now calls slots holders reserved capacity) where
+  still_stored : AreStored (v.procedures ++ more) calls slots w.kept
+  still_stored = record {
+    long = w.stored.long;
+    each = λ c k s at there.
+        let was = w.stored.each c k s at there in
+        record {
+          procedure = was.procedure;
+          args = was.args;
+          code = ap (λ p. p.code) (get_or_append_left v.procedures more no_procedure k.procedure (w.core.each c k at).known) ∙ was.code;
+          reply = was.reply;
+          slot = was.slot;
+          steps = was.steps;
+        };
+    each_slot = w.stored.each_slot;
+  }
+
+  pub still_seen : map (seen_call (v.procedures ++ more) slots) calls ≡ v.calls
+  still_seen = seen_are (v.procedures ++ more) calls slots w.kept still_stored ∙ sym w.core.calls
+
+  pub keeps_whole : IsWholeCore (record v { procedures = v.procedures ++ more; calls = map (seen_call (v.procedures ++ more) slots) calls }) now calls slots holders reserved capacity
+  keeps_whole = record {
+    kept = w.kept;
+    stored = still_stored;
+    core =
+        subst (λ l. IsCore (record v { procedures = v.procedures ++ more; calls = l }) now w.kept holders (length slots) reserved) (sym still_seen)
+        (keeps_core v more now w.kept holders (length slots) reserved w.core);
+    room = w.room;
+  }
 
 -- a refusal adds none
 pub added : (result : Result ℕ NamingFault) (before after : List Named) (one : Named) → OnOk result (after ≡ before ++ one ∷ []) → OnErr result (after ≡ before)
     → (more : List Named) × (after ≡ before ++ more)
 added (Ok number) before after one last same = (one ∷ [], last)
 added (Err fault) before after one last same = ([], same ∙ sym (append-nil before))
+
+-- what callers see then
+pub seen_added : (v : CoreValue) (now : TreeValue) (calls : List Call) (slots : List OpenCall) (holders : List (Option ℕ)) (reserved capacity : ℕ) → IsWholeCore v now calls slots holders reserved capacity
+    → (result : Result ℕ NamingFault) (after : List Named) (one : Named) → OnOk result (after ≡ v.procedures ++ one ∷ [])
+    → OnOk result (record v { procedures = after; calls = map (seen_call after slots) calls } ≡ record v { procedures = v.procedures ++ one ∷ [] })
+seen_added v now calls slots holders reserved capacity w (Ok number) after one last =
+    ap (λ ps. record v { procedures = ps; calls = map (seen_call ps slots) calls }) last
+    ∙ ap (λ l. record v { procedures = v.procedures ++ one ∷ []; calls = l }) (still_seen v (one ∷ []) now calls slots holders reserved capacity w)
+seen_added v now calls slots holders reserved capacity w (Err fault) after one last = tt

@@ -19,7 +19,7 @@ use Rattle.tl_protocol.proofs.RecordsAlongOrder.{freed-locked}
 use Rattle.tl_protocol.proofs.SharedActions.{locked-shared_actions}
 use Rattle.tl_protocol.proofs.WorldSteps.{part_inside}
 use Rattle.tl_machine.specs.Runs.{Run, Then, actions}
-use Rattle.tl_core.specs.declared.call.Call.{Call}
+use Rattle.tl_core.specs.Stored.{Kept}
 use Rattle.tl_core.specs.Cores.{CoreValue, call_of, code_of, world_of, places}
 use Rattle.tl_core.specs.Kept.{IsCore}
 use Rattle.tl_machine.proofs.Along.{onto, taken-onto, length-onto}
@@ -39,7 +39,7 @@ taken-more (a ∷ done) more k =
     let e : length (a ∷ done) + k ≡ length done + suc k = omega arith in
     ap (λ n. taken n (onto done (a ∷ more)) []) e ∙ taken-more done (a ∷ more) (suc k)
 
-module _ (v : CoreValue) (now : TreeValue) (kept : List Call) (holders : List (Option ℕ)) (unfinished reserved : ℕ) (h : IsCore v now kept holders unfinished reserved) (c : ℕ) (k : Call) (at : slice_get kept c ≡ Some k) (a : Action) (more : Run) (first : rest v now kept holders unfinished reserved h c k at ≡ Then a more) where
+module _ (v : CoreValue) (now : TreeValue) (kept : List Kept) (holders : List (Option ℕ)) (open_count reserved : ℕ) (h : IsCore v now kept holders open_count reserved) (c : ℕ) (k : Kept) (at : slice_get kept c ≡ Some k) (a : Action) (more : Run) (first : rest v now kept holders open_count reserved h c k at ≡ Then a more) where
   abbrev pub done : List Action
   done = (h.each c k at).done
 
@@ -48,25 +48,25 @@ module _ (v : CoreValue) (now : TreeValue) (kept : List Call) (holders : List (O
 
   taken_is : taken (call_of v c).count acts [] ≡ done
   taken_is =
-      ap₂ (λ n list. taken n list []) (count_is v now kept holders unfinished reserved h c k at) (whole v now kept holders unfinished reserved h c k at)
-      ∙ taken-onto done (actions (rest v now kept holders unfinished reserved h c k at))
+      ap₂ (λ n list. taken n list []) (count_is v now kept holders open_count reserved h c k at) (whole v now kept holders open_count reserved h c k at)
+      ∙ taken-onto done (actions (rest v now kept holders open_count reserved h c k at))
 
   pub next_permitted : EachPermitted v.parents (a ∷ done)
   next_permitted =
-      let in_world = admitted v now kept holders unfinished reserved h c k at in
-      let size = found_size v now kept holders unfinished reserved h c k at in
-      let obeys = (h.sound.meanings c in_world).obeys (found_tree v now kept holders unfinished reserved h c k at) size in
-      let next = next_first v now kept holders unfinished reserved h c k at a more first in
+      let in_world = admitted v now kept holders open_count reserved h c k at in
+      let size = found_size v now kept holders open_count reserved h c k at in
+      let obeys = (h.sound.meanings c in_world).obeys (found_tree v now kept holders open_count reserved h c k at) size in
+      let next = next_first v now kept holders open_count reserved h c k at a more first in
       subst (EachPermitted v.parents) (taken-next (call_of v c).count acts [] a next ∙ ap (λ d. a ∷ d) taken_is)
       (obeys_taken v.parents (suc (call_of v c).count) acts [] obeys tt)
 
   pub lock_inside : (x : ℕ) (found : Record) → a ≡ did.Lock x found → x < length v.parents
   lock_inside x found is =
-      let in_world = admitted v now kept holders unfinished reserved h c k at in
-      let size = found_size v now kept holders unfinished reserved h c k at in
-      let finds = (h.sound.meanings c in_world).finds (found_tree v now kept holders unfinished reserved h c k at) size in
-      let next = next_first v now kept holders unfinished reserved h c k at a more first ∙ ap Some is in
-      let lt = (finds_at (found_tree v now kept holders unfinished reserved h c k at) (call_of v c).count acts x found finds next).0 in
+      let in_world = admitted v now kept holders open_count reserved h c k at in
+      let size = found_size v now kept holders open_count reserved h c k at in
+      let finds = (h.sound.meanings c in_world).finds (found_tree v now kept holders open_count reserved h c k at) size in
+      let next = next_first v now kept holders open_count reserved h c k at a more first ∙ ap Some is in
+      let lt = (finds_at (found_tree v now kept holders open_count reserved h c k at) (call_of v c).count acts x found finds next).0 in
       omega arith
 
   pub lock_fresh : (x : ℕ) (found : Record) → a ≡ did.Lock x found → (locked done x ≡ false) × (freed done x ≡ false)
@@ -90,12 +90,12 @@ module _ (v : CoreValue) (now : TreeValue) (kept : List Call) (holders : List (O
       let frees = frees_within v.parents done p.2 in
       let in_tree = part_locks_within (world_of v) h.sound c in
       let same : lock_count (part_of c v.past) ≡ lock_count done = ap lock_count keep'.part ∙ lock_count-shared done in
-      let left = actions (rest v now kept holders unfinished reserved h c k at) in
+      let left = actions (rest v now kept holders open_count reserved h c k at) in
       let all : lock_count (all_taken acts) ≡ lock_count (taken (length left) left done) =
-      ap (λ list. lock_count (all_taken list)) (whole v now kept holders unfinished reserved h c k at)
+      ap (λ list. lock_count (all_taken list)) (whole v now kept holders open_count reserved h c k at)
       ∙ ap (λ n. lock_count (taken n (onto done left) [])) (length-onto done left) ∙ ap lock_count (taken-more done left (length left)) in
       let so_far = lock_count-taken (length left) left done in
-      let over = (open_first v now kept holders unfinished reserved h c k at a more first).1 in
+      let over = (open_first v now kept holders open_count reserved h c k at a more first).1 in
       let owed : k.places ≡ places (code_of v c) (length v.parents) - (length (part_of c v.past) + 1) = let e = keep'.places in rw over at e in
       let least : lock_count done ≤ min (lock_bound (code_of v c)) (length v.parents) = le-min (omega arith) (omega arith) in
       omega arith

@@ -17,11 +17,12 @@ use Rattle.tl_protocol.proofs.ObeysByPlaces.{obeys_first}
 use Rattle.tl_machine.specs.Runs.{actions, emitted as newly}
 use Rattle.tl_machine.specs.Outcomes.{meaning}
 use Rattle.tl_machine.proofs.StartLemmas.{few_steps, few_locks, few_values}
-use Rattle.tl_core.specs.declared.call.Call.{Call}
+use Rattle.tl_core.specs.Stored.{Kept}
 use Rattle.tl_core.specs.Cores.{CoreValue, call_of, code_of, world_of, done_by}
 use Rattle.tl_core.specs.Entries.{procedure_at}
 use Rattle.tl_core.specs.Kept.{IsCore, call_value}
 use Rattle.tl_machine.proofs.Along.{onto, taken-onto, length-onto}
+use Rattle.tl_core.proofs.Storing.{some_at}
 use Rattle.tl_core.proofs.Standing.{keep, call_is, rest, whole, ended, admitted, found_tree, found_size}
 
 length-take : (k : ℕ) (more : List Action) → length (take k more) ≤ length more
@@ -62,7 +63,7 @@ locks-taken (did.Free x left ∷ more) done = locks-taken more (did.Free x left 
 locks-taken (did.Emit n ∷ more) done = locks-taken more (did.Emit n ∷ done)
 locks-taken (did.End ∷ more) done = locks-taken more (did.End ∷ done)
 
-module _ (v : CoreValue) (now : TreeValue) (kept : List Call) (holders : List (Option ℕ)) (unfinished reserved : ℕ) (h : IsCore v now kept holders unfinished reserved) where
+module _ (v : CoreValue) (now : TreeValue) (kept : List Kept) (holders : List (Option ℕ)) (open_count reserved : ℕ) (h : IsCore v now kept holders open_count reserved) where
   pub calls_long : length v.calls ≡ length kept
   calls_long = ap length h.calls ∙ length-map kept call_value
 
@@ -72,47 +73,42 @@ module _ (v : CoreValue) (now : TreeValue) (kept : List Call) (holders : List (O
   pub record_is : (x : ℕ) → x < length v.parents → record_at now.records x ≡ record_now v.past v.opening x
   record_is x lt = let size = h.sound.size in ap (λ t. record_at t.records x) h.now_is ∙ record_at-records_now v.past v.opening x (omega arith)
 
-  module _ (c : ℕ) (k : Call) (at : slice_get kept c ≡ Some k) where
+  module _ (c : ℕ) (k : Kept) (at : slice_get kept c ≡ Some k) where
     pub request_known : k.procedure < length v.procedures
-    request_known = (keep v now kept holders unfinished reserved h c k at).known
+    request_known = (keep v now kept holders open_count reserved h c k at).known
 
     pub request_code : (procedure_at v k.procedure).code ≡ (call_of v c).code
-    request_code = (keep v now kept holders unfinished reserved h c k at).code ∙ ap (λ z. z.code) (sym (call_is v now kept holders unfinished reserved h c k at))
+    request_code = (keep v now kept holders open_count reserved h c k at).code ∙ ap (λ z. z.code) (sym (call_is v now kept holders open_count reserved h c k at))
 
-    pub request_arity : length k.args.items ≡ (call_of v c).code.arity
-    request_arity = (keep v now kept holders unfinished reserved h c k at).arity ∙ ap (λ z. z.code.arity) (sym (call_is v now kept holders unfinished reserved h c k at))
+    pub request_arity : length k.args ≡ (call_of v c).code.arity
+    request_arity = (keep v now kept holders open_count reserved h c k at).arity ∙ ap (λ z. z.code.arity) (sym (call_is v now kept holders open_count reserved h c k at))
 
-    done_reply : is_done c v.past ≡ true → emitted (keep v now kept holders unfinished reserved h c k at).done ≡ reply_of (world_of v) c
+    done_reply : is_done c v.past ≡ true → emitted (keep v now kept holders open_count reserved h c k at).done ≡ reply_of (world_of v) c
     done_reply over =
-        let keep' = keep v now kept holders unfinished reserved h c k at in
-        let left = actions (rest v now kept holders unfinished reserved h c k at) in
-        let acts = whole v now kept holders unfinished reserved h c k at in
-        let all = eqb-true (length keep'.done) (length keep'.done + length left) (sym (ended v now kept holders unfinished reserved h c k at) ∙ over) in
+        let keep' = keep v now kept holders open_count reserved h c k at in
+        let left = actions (rest v now kept holders open_count reserved h c k at) in
+        let acts = whole v now kept holders open_count reserved h c k at in
+        let all = eqb-true (length keep'.done) (length keep'.done + length left) (sym (ended v now kept holders open_count reserved h c k at) ∙ over) in
         let none : length left ≡ 0 = omega arith in
-        let alone' = h.sound.meanings c (admitted v now kept holders unfinished reserved h c k at) in
-        let reply = alone'.reply (found_tree v now kept holders unfinished reserved h c k at) (found_size v now kept holders unfinished reserved h c k at) in
+        let alone' = h.sound.meanings c (admitted v now kept holders open_count reserved h c k at) in
+        let reply = alone'.reply (found_tree v now kept holders open_count reserved h c k at) (found_size v now kept holders open_count reserved h c k at) in
         let long : length (onto keep'.done left) ≡ length keep'.done = let e = length-onto keep'.done left in omega arith in
         sym (reply ∙ ap (λ l. emitted (all_taken l)) acts ∙ ap (λ n. emitted (taken n (onto keep'.done left) [])) long ∙ ap emitted (taken-onto keep'.done left))
 
     pub reply_is : k.reply ≡ (if is_done c v.past then Some (reply_of (world_of v) c) else None)
-    reply_is = (keep v now kept holders unfinished reserved h c k at).reply ∙ by_done (is_done c v.past) refl
+    reply_is = (keep v now kept holders open_count reserved h c k at).reply ∙ by_done (is_done c v.past) refl
       where
-        by_done : (b : Bool) → is_done c v.past ≡ b → (if b then Some (emitted (keep v now kept holders unfinished reserved h c k at).done) else None) ≡ (if b then Some (reply_of (world_of v) c) else None)
+        by_done : (b : Bool) → is_done c v.past ≡ b → (if b then Some (emitted (keep v now kept holders open_count reserved h c k at).done) else None) ≡ (if b then Some (reply_of (world_of v) c) else None)
         by_done true over = ap Some (done_reply over)
         by_done false open' = refl
 
   -- ---- what each call has done
 
-  kept_at : (c : ℕ) → c < admits v.past → (k : Call) × (slice_get kept c ≡ Some k)
+  pub kept_at : (c : ℕ) → c < admits v.past → (k : Kept) × (slice_get kept c ≡ Some k)
   kept_at c lt =
       let long = calls_long in
       let e = h.counted in
       some_at kept c (omega arith)
-    where
-      some_at : {X : Type 0} → (xs : List X) (i : ℕ) → i < length xs → (x : X) × (slice_get xs i ≡ Some x)
-      some_at [] i less = absurd (omega arith)
-      some_at (x ∷ xs) zero less = (x, refl)
-      some_at (x ∷ xs) (suc i) less = some_at xs i (omega arith)
 
   module _ (c : ℕ) (lt : c < admits v.past) where
     -- what the call does alone on the tree with what it found
@@ -122,32 +118,32 @@ module _ (v : CoreValue) (now : TreeValue) (kept : List Call) (holders : List (O
     pub obeys_so_far : Obeys v.parents (done_by v c)
     obeys_so_far =
         let k = kept_at c lt in
-        obeys_first v.parents ((world_of v).meanings c) (h.sound.meanings c lt) (found_tree v now kept holders unfinished reserved h c k.0 k.1)
-        (found_size v now kept holders unfinished reserved h c k.0 k.1) (call_of v c).count
+        obeys_first v.parents ((world_of v).meanings c) (h.sound.meanings c lt) (found_tree v now kept holders open_count reserved h c k.0 k.1)
+        (found_size v now kept holders open_count reserved h c k.0 k.1) (call_of v c).count
 
     in_steps : length acts ≤ budget (code_of v c)
     in_steps =
         let k = kept_at c lt in
-        let keep' = keep v now kept holders unfinished reserved h c k.0 k.1 in
-        let tree = found_tree v now kept holders unfinished reserved h c k.0 k.1 in
-        let few = few_steps k.0.turn.code keep'.valid keep'.accepted v.parents h.sound.tree k.0.args.items tree (found_size v now kept holders unfinished reserved h c k.0 k.1) in
-        subst (λ z. length (meaning z.code.instrs v.parents z.args tree).actions ≤ budget z.code.instrs) (sym (call_is v now kept holders unfinished reserved h c k.0 k.1)) few
+        let keep' = keep v now kept holders open_count reserved h c k.0 k.1 in
+        let tree = found_tree v now kept holders open_count reserved h c k.0 k.1 in
+        let few = few_steps k.0.turn.code keep'.valid keep'.accepted v.parents h.sound.tree k.0.args tree (found_size v now kept holders open_count reserved h c k.0 k.1) in
+        subst (λ z. length (meaning z.code.instrs v.parents z.args tree).actions ≤ budget z.code.instrs) (sym (call_is v now kept holders open_count reserved h c k.0 k.1)) few
 
     in_locks : lock_count (all_taken acts) ≤ lock_bound (code_of v c)
     in_locks =
         let k = kept_at c lt in
-        let keep' = keep v now kept holders unfinished reserved h c k.0 k.1 in
-        let tree = found_tree v now kept holders unfinished reserved h c k.0 k.1 in
-        let few = few_locks k.0.turn.code keep'.valid keep'.accepted v.parents h.sound.tree k.0.args.items tree (found_size v now kept holders unfinished reserved h c k.0 k.1) in
-        subst (λ z. lock_count (all_taken (meaning z.code.instrs v.parents z.args tree).actions) ≤ lock_bound z.code.instrs) (sym (call_is v now kept holders unfinished reserved h c k.0 k.1)) few
+        let keep' = keep v now kept holders open_count reserved h c k.0 k.1 in
+        let tree = found_tree v now kept holders open_count reserved h c k.0 k.1 in
+        let few = few_locks k.0.turn.code keep'.valid keep'.accepted v.parents h.sound.tree k.0.args tree (found_size v now kept holders open_count reserved h c k.0 k.1) in
+        subst (λ z. lock_count (all_taken (meaning z.code.instrs v.parents z.args tree).actions) ≤ lock_bound z.code.instrs) (sym (call_is v now kept holders open_count reserved h c k.0 k.1)) few
 
     in_emits : length (newly acts) ≤ emit_bound (code_of v c)
     in_emits =
         let k = kept_at c lt in
-        let keep' = keep v now kept holders unfinished reserved h c k.0 k.1 in
-        let tree = found_tree v now kept holders unfinished reserved h c k.0 k.1 in
-        let few = few_values k.0.turn.code keep'.valid keep'.accepted v.parents h.sound.tree k.0.args.items tree (found_size v now kept holders unfinished reserved h c k.0 k.1) in
-        subst (λ z. length (meaning z.code.instrs v.parents z.args tree).reply ≤ emit_bound z.code.instrs) (sym (call_is v now kept holders unfinished reserved h c k.0 k.1)) few
+        let keep' = keep v now kept holders open_count reserved h c k.0 k.1 in
+        let tree = found_tree v now kept holders open_count reserved h c k.0 k.1 in
+        let few = few_values k.0.turn.code keep'.valid keep'.accepted v.parents h.sound.tree k.0.args tree (found_size v now kept holders open_count reserved h c k.0 k.1) in
+        subst (λ z. length (meaning z.code.instrs v.parents z.args tree).reply ≤ emit_bound z.code.instrs) (sym (call_is v now kept holders open_count reserved h c k.0 k.1)) few
 
     pub steps_so_far : length (done_by v c) ≤ budget (code_of v c)
     steps_so_far = let all = in_steps in let part = length-take (call_of v c).count acts in omega arith

@@ -1,5 +1,5 @@
 -- Where a call stands in its core's world.
-use Rattle.std.proofs.Common.{◌≡◌, ◌≢◌, ℕ, suc, ◌+◌, ◌<◌, ◌==◌, true, List, [], length, map, refl, sym, ap, ap₂, ◌∙◌, subst, inl, inr, arith, Option, Some, None, option_map, slice_get, get_or, set, Ok, if◌then◌else◌}
+use Rattle.std.proofs.Common.{◌≡◌, ◌≢◌, ℕ, suc, ◌+◌, ◌<◌, ◌==◌, true, List, length, map, refl, sym, ap, ap₂, ◌∙◌, subst, inl, inr, arith, Option, Some, None, option_map, slice_get, get_or, set, Ok, if◌then◌else◌}
 use Rattle.std.proofs.lemmas.Bool.{cases_eq, ne_eqb, eq-eqb, lt-ltb}
 use Rattle.std.proofs.lemmas.List.{length-map, get_or-set_same, get_or-set_other}
 use Rattle.std.proofs.lemmas.Option.{slice_get-map, slice_get_within, get_or_from_slice_get}
@@ -14,7 +14,7 @@ use Rattle.tl_protocol.specs.World.{IsSound, MayTake, alone_of, next_of, as_foun
 use Rattle.tl_protocol.proofs.Records.{length-with_found}
 use Rattle.tl_protocol.proofs.Holders.{holderless_may_take}
 use Rattle.tl_protocol.proofs.ReachedWorlds.{sound_after_step}
-use Rattle.tl_machine.specs.Runs.{Run, Then, At, Ended, actions}
+use Rattle.tl_machine.specs.Runs.{Run, Then, actions}
 use Rattle.tl_machine.specs.Outcomes.{meaning}
 use Rattle.tl_machine.specs.Stands.{run_left}
 use Rattle.tl_machine.specs.Turns.{Wants, Stops}
@@ -22,8 +22,7 @@ use Rattle.tl_machine.specs.Wants.{want_of}
 use Rattle.tl_machine.specs.declared.want.Want.{Want}
 use Rattle.tl_machine.specs.declared.want.Want.TheVariants as want
 use Rattle.tl_machine.specs.declared.want.Stop.TheVariants as stop
-use Rattle.tl_core.specs.declared.call.Call.{Call}
-use Rattle.tl_core.specs.declared.stepped.Stepped.TheVariants.{Over}
+use Rattle.tl_core.specs.Stored.{Kept}
 use Rattle.tl_core.specs.Cores.{CallValue, CoreValue, no_call, call_of, world_of}
 use Rattle.tl_core.specs.Entries.{one_more, stepped_by, node_of, step_answer}
 use Rattle.tl_machine.specs.Along.{with_left}
@@ -32,7 +31,7 @@ use Rattle.tl_machine.proofs.Along.{onto, actions-after_done, length-onto, at-on
 
 -- ---- a call of a core
 
-module _ (v : CoreValue) (now : TreeValue) (kept : List Call) (holders : List (Option ℕ)) (unfinished reserved : ℕ) (h : IsCore v now kept holders unfinished reserved) (c : ℕ) (k : Call) (at : slice_get kept c ≡ Some k) where
+module _ (v : CoreValue) (now : TreeValue) (kept : List Kept) (holders : List (Option ℕ)) (open_count reserved : ℕ) (h : IsCore v now kept holders open_count reserved) (c : ℕ) (k : Kept) (at : slice_get kept c ≡ Some k) where
   abbrev pub keep : IsKept v c k
   keep = h.each c k at
 
@@ -91,12 +90,10 @@ module _ (v : CoreValue) (now : TreeValue) (kept : List Call) (holders : List (O
 
   -- ---- with no action left it is done
 
-  pub over_answer : Stops k.turn stop.Over → Ok Over ≡ step_answer (world_of v) c
-  over_answer wants =
+  pub over_done : Stops k.turn stop.Over → is_done c v.past ≡ true
+  over_done wants =
       let none : length (actions rest) ≡ 0 = ap length (over_none rest (wants_here (want.Stop stop.Over) wants)) in
-      let over : is_done c v.past ≡ true = ended ∙ eq-eqb (length keep.done) (length keep.done + length (actions rest)) (omega arith) in
-      let known = lt-ltb c (admits v.past) admitted in
-      rw (known, over) refl
+      ended ∙ eq-eqb (length keep.done) (length keep.done + length (actions rest)) (omega arith)
 
   -- ---- with an action left
 

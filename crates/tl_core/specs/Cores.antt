@@ -57,7 +57,7 @@ abbrev pub total : (ℕ → ℕ) → ℕ → ℕ
 total f zero = 0
 total f (suc n) = total f n + f n
 
--- how many calls are unfinished
+-- how many calls are open
 abbrev pub open_calls : CoreValue → ℕ
 open_calls v = total (λ c. if is_done c v.past then 0 else 1) (length v.calls)
 
@@ -65,7 +65,7 @@ open_calls v = total (λ c. if is_done c v.past then 0 else 1) (length v.calls)
 abbrev pub places : List Instr → ℕ → ℕ
 places code nodes = 2 * min (lock_bound code) nodes + 2
 
--- how many events the history still keeps a place for: of each unfinished call as many as it may have, less those that
+-- how many events the history still keeps a place for: of each open call as many as it may have, less those that
 -- it has, its admission among them
 abbrev pub owed_to : CoreValue → ℕ → ℕ
 owed_to v c = if is_done c v.past then 0 else places (code_of v c) (length v.parents) - (length (part_of c v.past) + 1)

@@ -2,7 +2,7 @@
 use Rattle.std.specs.Prelude.{◌≡◌, ◌≢◌, ℕ, ◌+◌, Bool, List, [], ◌∷◌, ◌++◌, length, get_or, Option, Some, None, if◌then◌else◌, nat_lt, nat_le, nat_eq, slice_set, Result, Ok, Err, ℤ, string_bytes, ◌&&◌, ◌||◌, ◌==◌}
 use Rattle.std.specs.Option.{option_map_or}
 use Rattle.tl_history.specs.declared.history.TheConstants.{MAX_CALLS}
-use Rattle.tl_core.specs.declared.interleaving.TheConstants.{MAX_UNFINISHED}
+use Rattle.tl_core.specs.declared.interleaving.TheConstants.{MAX_OPEN}
 use Rattle.tl_protocol.specs.declared.action.Action.{Action}
 use Rattle.tl_protocol.specs.declared.action.Action.TheVariants.{Lock}
 use Rattle.tl_protocol.specs.declared.event.Event.TheVariants.{Admit as Admission}
@@ -59,10 +59,10 @@ after_step v c (Err e) = v
 abbrev pub procedure_at : CoreValue → ℕ → Named
 procedure_at v p = get_or v.procedures p no_procedure
 
--- the first that holds: another number of arguments, 4,096 calls, 64 of them unfinished, no room for all its events
+-- the first that holds: another number of arguments, 4,096 calls, 64 of them open, no room for all its events
 abbrev pub refusal_of : CoreValue → Named → List ℤ → Option CoreFault
 refusal_of v p args =
-    if nat_eq (length args) p.code.arity then (if nat_lt (length v.calls) MAX_CALLS then (if nat_lt (open_calls v) MAX_UNFINISHED then (if nat_le (places p.code.instrs (length v.parents)) (room v) then None else Some fault.HistoryFull)
+    if nat_eq (length args) p.code.arity then (if nat_lt (length v.calls) MAX_CALLS then (if nat_lt (open_calls v) MAX_OPEN then (if nat_le (places p.code.instrs (length v.parents)) (room v) then None else Some fault.HistoryFull)
     else Some fault.TooManyOpen)
     else Some fault.TooManyCalls)
     else Some fault.WrongArgs

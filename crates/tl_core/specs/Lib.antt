@@ -2,4 +2,5 @@ pub mod Faults
 pub mod Cores
 pub mod Entries
 pub mod Begun
+pub mod Stored
 pub mod Kept

@@ -1,9 +1,10 @@
 // What a core keeps of a call.
 
-ghost use Rattle.std.specs.Prelude.{◌≡◌, length, IfOk, IfErr};
+ghost use Rattle.std.specs.Prelude.{◌≡◌, length, IfOk, IfErr, option_copied};
 ghost use Rattle.std.specs.Arc.{arc_value};
 ghost use Rattle.tl_core.specs.Begun.{Begins};
 ghost use Rattle.tl_core.specs.declared.fault.CoreFault.TheVariants as fault;
+ghost use Rattle.tl_core.specs.Stored.{slot_of, reply_in};
 
 use crate::fault::CoreFault;
 use arrayvec::ArrayVec;
@@ -13,50 +14,77 @@ use tl_machine::{Reply, Turn};
 use tl_tree::Shape;
 use tl_verify::Proc;
 
-/// A call as the core keeps it. Callers see it through the core's readers.
+/// A call as the core keeps it for ever. Callers see it through the core's readers.
 #[derive(Debug, Drop)]
 pub struct Call {
     // The number of its procedure.
     pub(crate) procedure: u32,
     pub(crate) args: ArrayVec<i64, MAX_ARGS>,
+    pub(crate) progress: Progress,
+}
+
+/// How far a call is.
+#[derive(Debug, Drop)]
+pub enum Progress {
+    /// Its turn stands in this slot.
+    Open { slot: usize },
+    /// It answered this, after so many instructions. Its turn is gone.
+    Done { reply: Reply, steps: u32 },
+}
+
+/// What a core keeps of a call only while the call is open. It stands in a slot.
+#[derive(Debug, Drop)]
+pub struct OpenCall {
+    // The call's number.
+    pub(crate) call: u32,
     // How many places of the history are reserved for it. It stands beside what each step of the turn uses.
     pub(crate) places: usize,
     pub(crate) turn: Turn,
-    // Once the call is done.
-    pub(crate) reply: Option<Reply>,
 }
 
 impl Call {
-    // A call at its start, of the procedure of that number. 690 where memory is refused.
-    pub(crate) fn start(
-        proc: &Arc<Proc>,
-        shape: &Arc<Shape>,
-        procedure: u32,
-        args: &[i64],
-        places: usize,
-    ) -> Result<Call, CoreFault>
-        requires { length args.now ≡ (arc_value proc.now).arity }
-        ensures begins { IfOk result (Begins (arc_value proc.now) (arc_value shape.now) procedure args.now places) }
-        ensures err { IfErr result (λ e. e ≡ fault.Memory) }
+    // The slot of an open call.
+    pub(crate) fn slot(&self) -> Option<usize>
+        ensures { result ≡ slot_of self.now.progress }
     {
-        // The code is accepted, and has at most eight arguments, by its type: here a proof learns that.
-        let _arity = proc.code().arity();
-        let proc = Arc::try_clone(proc)?;
-        let shape = Arc::try_clone(shape)?;
-        let Ok(turn) = Turn::start(proc, shape, args) else {
-            unreachable!()
-        };
-        let _call = turn.call();
-        let mut kept = ArrayVec::new();
-        let Ok(()) = kept.try_extend_from_slice(args) else {
-            unreachable!()
-        };
-        Ok(Call {
-            procedure,
-            args: kept,
-            places,
-            turn,
-            reply: None,
-        })
+        match self.progress {
+            Progress::Open { slot } => Some(slot),
+            Progress::Done { .. } => None,
+        }
     }
+
+    // What a done call answered.
+    pub(crate) fn reply(&self) -> Option<&Reply>
+        ensures { option_copied result ≡ reply_in self.now.progress }
+    {
+        match &self.progress {
+            Progress::Open { .. } => None,
+            Progress::Done { reply, .. } => Some(reply),
+        }
+    }
+}
+
+// The arguments as a core keeps them, and the turn of a call at its start. 690 where memory is refused.
+pub(crate) fn begin(
+    proc: &Arc<Proc>,
+    shape: &Arc<Shape>,
+    args: &[i64],
+) -> Result<(ArrayVec<i64, MAX_ARGS>, Turn), CoreFault>
+    requires { length args.now ≡ (arc_value proc.now).arity }
+    ensures begins { IfOk result (λ r. Begins (arc_value proc.now) (arc_value shape.now) args.now r.0.items r.1) }
+    ensures err { IfErr result (λ e. e ≡ fault.Memory) }
+{
+    // The code is accepted, and has at most eight arguments, by its type: here a proof learns that.
+    let _arity = proc.code().arity();
+    let proc = Arc::try_clone(proc)?;
+    let shape = Arc::try_clone(shape)?;
+    let Ok(turn) = Turn::start(proc, shape, args) else {
+        unreachable!()
+    };
+    let _call = turn.call();
+    let mut kept = ArrayVec::new();
+    let Ok(()) = kept.try_extend_from_slice(args) else {
+        unreachable!()
+    };
+    Ok((kept, turn))
 }

@@ -22,7 +22,7 @@ pub enum CoreFault {
     /// 603: 4,096 calls were admitted.
     #[error("too many calls")]
     TooManyCalls,
-    /// 604: 64 calls are unfinished.
+    /// 604: 64 calls are open.
     #[error("too many calls are unfinished")]
     TooManyOpen,
     /// 605: the history has no room for all that the call may do.

@@ -15,7 +15,7 @@ ghost use Rattle.tl_core.specs.Entries.{step_answer, after_step, admission_refus
 ghost use Rattle.tl_machine.specs.Runs.{emitted};
 ghost use Rattle.tl_core.specs.declared.fault.CoreFault.TheVariants as fault;
 
-use crate::call::Call;
+use crate::call::{Call, OpenCall, Progress, begin};
 use crate::fault::CoreFault;
 use crate::moves::{Entry, Move};
 use crate::stepped::Stepped;
@@ -29,8 +29,8 @@ use tl_protocol::{Action, Event};
 use tl_tree::{Record, Tree};
 use tl_verify::Proc;
 
-/// How many calls may be unfinished at once.
-pub const MAX_UNFINISHED: usize = 64;
+/// How many calls may be open at once.
+pub const MAX_OPEN: usize = 64;
 
 /// A tree, procedures, and calls of them that take turns.
 ///
@@ -42,24 +42,27 @@ pub struct Core {
     // The tree as it is now.
     latest: Tree,
     procedures: Procedures,
+    // By number. A done call keeps no turn.
     calls: Vec<Call>,
+    // The open calls, in no order: a call names its slot, and the slot names its call. There is memory for 64 from the start.
+    slots: Vec<OpenCall>,
     // Of each node the call that holds it.
     holders: Vec<Option<u32>>,
-    // How many calls are unfinished.
-    unfinished: usize,
+    // `reserved()` is the sum of the places of the open calls.
     history: History,
 }
 
 impl Model for Core {
-    ghost use Rattle.std.specs.Prelude.{map};
+    ghost use Rattle.std.specs.Prelude.{map, vec_capacity};
     ghost use Rattle.tl_core.specs.Cores.{CoreValue};
-    ghost use Rattle.tl_core.specs.Kept.{IsCore, call_value};
+    ghost use Rattle.tl_core.specs.Stored.{seen_call};
+    ghost use Rattle.tl_core.specs.Kept.{IsWholeCore};
 
     ghost Value = { CoreValue };
 
-    ghost view = { λ s. record { parents = s.opening.parents; opening = s.opening.records; procedures = s.procedures; calls = map call_value s.calls.items; past = s.history.past; limit = s.history.limit } };
+    ghost view = { λ s. record { parents = s.opening.parents; opening = s.opening.records; procedures = s.procedures; calls = map (seen_call s.procedures s.slots.items) s.calls.items; past = s.history.past; limit = s.history.limit } };
 
-    ghost invariant = { λ s. IsCore (record { parents = s.opening.parents; opening = s.opening.records; procedures = s.procedures; calls = map call_value s.calls.items; past = s.history.past; limit = s.history.limit }) s.latest s.calls.items s.holders.items s.unfinished s.history.reserved };
+    ghost invariant = { λ s. IsWholeCore (record { parents = s.opening.parents; opening = s.opening.records; procedures = s.procedures; calls = map (seen_call s.procedures s.slots.items) s.calls.items; past = s.history.past; limit = s.history.limit }) s.latest s.calls.items s.slots.items s.holders.items s.history.reserved (vec_capacity s.slots) };
 }
 
 impl Core {
@@ -96,13 +99,14 @@ impl Core {
         };
         let nodes = usize::from(tree.shape().node_count());
         let holders = vec![in alloc; None; nodes]?;
+        let slots = Vec::with_capacity(alloc, MAX_OPEN)?;
         Ok(Core {
             opening: tree,
             latest,
             procedures,
             calls: Vec::new(alloc),
+            slots,
             holders,
-            unfinished: 0,
             history: History::new(alloc, limit),
         })
     }
@@ -134,10 +138,14 @@ impl Core {
         if index >= self.calls.len() {
             return Err(CoreFault::NoCall);
         }
-        let current = &mut self.calls[index];
+        let Some(slot) = self.calls[index].slot() else {
+            return Ok(Stepped::Over);
+        };
+        let current = &mut self.slots[slot];
         match current.turn.advance() {
             Advance::Did(action) => Ok(Stepped::Moved { action }),
-            Advance::Stopped(Stop::Over) => Ok(Stepped::Over),
+            // A call that is over is done, and has no slot.
+            Advance::Stopped(Stop::Over) => unreachable!(),
             Advance::Stopped(Stop::Lock(node)) => {
                 let held_by = self.holders[usize::from(node)];
                 if let Some(holder) = held_by {
@@ -163,11 +171,17 @@ impl Core {
                 })
             }
             Advance::Stopped(Stop::Return) => {
-                current.reply = Some(current.turn.finish());
+                let reply = current.turn.finish();
+                let steps = current.turn.call().steps;
                 self.history.append(Event::Done { call });
                 self.history.give_back(current.places - 1);
-                current.places = 0;
-                self.unfinished -= 1;
+                self.calls[index].progress = Progress::Done { reply, steps };
+                self.slots.swap_remove(slot);
+                // The last of the open calls stands in the slot now, if the slot wasn't the last itself.
+                if slot < self.slots.len() {
+                    let moved = self.slots[slot].call as usize;
+                    self.calls[moved].progress = Progress::Open { slot };
+                }
                 Ok(Stepped::Moved {
                     action: Action::End,
                 })
@@ -177,7 +191,7 @@ impl Core {
 
     /// Admits a call of the procedure of that name with these arguments, and answers its number. The first that holds of:
     /// 601 where no procedure has that name; 501 where there are more or fewer arguments than it takes; 603 where 4,096
-    /// calls were admitted; 604 where 64 are unfinished; 605 where the history has no room for all events that the call
+    /// calls were admitted; 604 where 64 are open; 605 where the history has no room for all events that the call
     /// may have. Else 690 where memory is refused. A refusal changes nothing, and from then on no step of the call takes
     /// memory.
     pub fn admit(&mut self, name: &str, args: &[i64]) -> Result<u32, CoreFault>
@@ -189,15 +203,24 @@ impl Core {
     {
         let (procedure, places) = self.place_for(name, args)?;
         let proc = self.procedures.get(procedure);
-        let begun = Call::start(proc, self.opening.shape(), procedure, args, places - 1)?;
+        let (args, turn) = begin(proc, self.opening.shape(), args)?;
         let call = self.calls.len();
         self.calls.reserve(1)?;
         let Ok(()) = self.history.reserve(places) else {
             return Err(CoreFault::Memory);
         };
         self.history.append(Event::Admit { call: call as u32 });
-        self.unfinished += 1;
-        self.calls.push_reserved(begun);
+        let slot = self.slots.len();
+        self.calls.push_reserved(Call {
+            procedure,
+            args,
+            progress: Progress::Open { slot },
+        });
+        self.slots.push_reserved(OpenCall {
+            call: call as u32,
+            places: places - 1,
+            turn,
+        });
         Ok(call as u32)
     }
 
@@ -222,7 +245,7 @@ impl Core {
         if self.calls.len() >= MAX_CALLS {
             return Err(CoreFault::TooManyCalls);
         }
-        if self.unfinished >= MAX_UNFINISHED {
+        if self.slots.len() >= MAX_OPEN {
             return Err(CoreFault::TooManyOpen);
         }
         let nodes = self.opening.shape().node_count();
@@ -233,7 +256,7 @@ impl Core {
         Ok((procedure, places))
     }
 
-    /// Whether the call is unfinished and its next instruction locks no node that another call holds. 602 where no call of
+    /// Whether the call is open and its next instruction locks no node that another call holds. 602 where no call of
     /// that number was admitted. Takes no memory.
     pub fn enabled(&self, call: u32) -> Result<bool, CoreFault>
         ensures known { IsOk result ↔ (call < admits self.now.past) }
@@ -244,11 +267,15 @@ impl Core {
         if index >= self.calls.len() {
             return Err(CoreFault::NoCall);
         }
-        let Want::Stop(stop) = self.calls[index].turn.want() else {
+        let Some(slot) = self.calls[index].slot() else {
+            return Ok(false);
+        };
+        let Want::Stop(stop) = self.slots[slot].turn.want() else {
             return Ok(true);
         };
         match stop {
-            Stop::Over => Ok(false),
+            // A call that is over is done, and has no slot.
+            Stop::Over => unreachable!(),
             Stop::Lock(node) => {
                 let held_by = self.holders[usize::from(node)];
                 Ok(held_by.is_none())
@@ -257,19 +284,24 @@ impl Core {
         }
     }
 
-    /// The least call that is enabled. There is none exactly where no call is unfinished. Takes no memory.
+    /// The least call that is enabled. There is none exactly where no call is open. Takes no memory.
     pub fn some_enabled(&self) -> Option<u32>
         ensures enabled { IfSome result (λ c. IsEnabled (world_of self.now) c) }
         ensures least { IfSome result (λ c. (d : ℕ) → IsEnabled (world_of self.now) d → c ≤ d) }
         ensures none { IsNone result ↔ AllDone self.now.past }
     {
-        for call in 0..self.calls.len() as u32 {
-            let is_enabled = self.enabled(call).unwrap_or(false);
-            if is_enabled {
-                return Some(call);
+        let mut least: Option<u32> = None;
+        for current in &self.slots {
+            let call = current.call;
+            let is_less = match least {
+                Some(other) => call < other,
+                None => true,
+            };
+            if is_less && self.enabled(call).unwrap_or(false) {
+                least = Some(call);
             }
         }
-        None
+        least
     }
 
     /// The moves, one after another: what came of each, in their order, refusals too. 690 where there is no memory for the
@@ -408,7 +440,7 @@ impl Core {
         requires { call < length self.now.calls }
         ensures { option_copied result ≡ (if is_done call self.now.past then Some (reply_of (world_of self.now) call) else None) }
     {
-        self.calls[call as usize].reply.as_ref()
+        self.calls[call as usize].reply()
     }
 
     /// What is so of every core: its world is sound and legal, and what each call has done obeys the tree protocol and is

@@ -12,6 +12,6 @@ mod moves;
 mod stepped;
 
 pub use fault::CoreFault;
-pub use interleaving::{Core, MAX_UNFINISHED};
+pub use interleaving::{Core, MAX_OPEN};
 pub use moves::{Entry, Move};
 pub use stepped::Stepped;

@@ -3,7 +3,7 @@
 use std::test::Fail;
 use tl_asm::MAX_LABEL;
 use tl_budget::{MAX_EMITS, MAX_LOCKS, MAX_STEPS};
-use tl_core::MAX_UNFINISHED;
+use tl_core::MAX_OPEN;
 use tl_history::{MAX_CALLS, MAX_EVENTS};
 use tl_instr::{MAX_ARGS, MAX_COUNT};
 use tl_procedures::{MAX_NAME, MAX_PROCEDURES};
@@ -22,7 +22,7 @@ const LIMITS: [(&str, usize, usize); 13] = [
     ("characters of a name", MAX_NAME, 32),
     ("procedures", MAX_PROCEDURES, 256),
     ("calls of a core", MAX_CALLS, 4_096),
-    ("unfinished calls of a core", MAX_UNFINISHED, 64),
+    ("unfinished calls of a core", MAX_OPEN, 64),
     ("stored events", MAX_EVENTS, 1_048_576),
 ];
 

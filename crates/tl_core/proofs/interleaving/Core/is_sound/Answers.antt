@@ -2,16 +2,16 @@ use Rattle.tl_core.proofs.Readers.{obeys_so_far, steps_so_far, count_so_far, loc
 use Rattle.tl_core.proofs.interleaving.Core.is_sound.Goals as goal
 
 pub returns-clause-obeys : goal.returns-clause-obeys
-returns-clause-obeys c = rw (← c.self.view_is) (λ d lt. obeys_so_far _ _ _ _ _ _ c.self.invariant d lt)
+returns-clause-obeys c = rw (← c.self.view_is) (λ d lt. obeys_so_far _ _ _ _ _ _ c.self.invariant.core d lt)
 
 pub returns-clause-steps : goal.returns-clause-steps
-returns-clause-steps c = rw (← c.self.view_is) (λ d lt. steps_so_far _ _ _ _ _ _ c.self.invariant d lt)
+returns-clause-steps c = rw (← c.self.view_is) (λ d lt. steps_so_far _ _ _ _ _ _ c.self.invariant.core d lt)
 
 pub returns-clause-counts : goal.returns-clause-counts
-returns-clause-counts c = rw (← c.self.view_is) (λ d lt. count_so_far _ _ _ _ _ _ c.self.invariant d lt)
+returns-clause-counts c = rw (← c.self.view_is) (λ d lt. count_so_far _ _ _ _ _ _ c.self.invariant.core d lt)
 
 pub returns-clause-locks : goal.returns-clause-locks
-returns-clause-locks c = rw (← c.self.view_is) (λ d lt. locks_so_far _ _ _ _ _ _ c.self.invariant d lt)
+returns-clause-locks c = rw (← c.self.view_is) (λ d lt. locks_so_far _ _ _ _ _ _ c.self.invariant.core d lt)
 
 pub returns-clause-emits : goal.returns-clause-emits
-returns-clause-emits c = rw (← c.self.view_is) (λ d lt. emits_so_far _ _ _ _ _ _ c.self.invariant d lt)
+returns-clause-emits c = rw (← c.self.view_is) (λ d lt. emits_so_far _ _ _ _ _ _ c.self.invariant.core d lt)
