@@ -214,12 +214,11 @@ impl Turn {
         &self.call
     }
 
-    pub(crate) fn into_parts(self) -> (Arc<Proc>, Arc<Shape>, CallState)
-        ensures code { arc_value result.0 ≡ self.code }
-        ensures parents { arc_value result.1 ≡ self.parents }
-        ensures state { result.2 ≡ self.call }
-        ensures turn { IsTurn self.code.instrs self.parents self.call }
+    // Puts the call at another state of its own.
+    pub(crate) fn put_at(&mut self, state: &CallState)
+        requires { IsTurn self.old.code.instrs self.old.parents state.now }
+        ensures { self.new ≡ with_call self.old state.now }
     {
-        (self.procedure, self.shape, self.call)
+        self.call = *state;
     }
 }
