@@ -23,3 +23,4 @@ pub mod IsAloneLemmas
 pub mod SameUntilFound
 pub mod StartLemmas
 pub mod Along
+pub mod SameStates
