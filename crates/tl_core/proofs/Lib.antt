@@ -14,4 +14,8 @@ pub mod Readers
 pub mod Whole
 pub mod Enabling
 pub mod RunParts
+pub mod Following
+pub mod FollowAnswers
+pub mod KeptTurns
+pub mod LedCores
 pub mod Driving

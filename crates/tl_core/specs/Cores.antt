@@ -64,6 +64,13 @@ world_of v = record {
   counts = λ c. (call_of v c).count;
 }
 
+-- the turn is that of call c, which is open
+pub record IsTurnOf (v : CoreValue) (c : ℕ) (t : TurnValue) : Type 0 where
+  pub is_open : IsOpen c v.past
+  pub code : t.code ≡ (call_of v c).code
+  pub parents : t.parents ≡ v.parents
+  pub count : t.call.steps ≡ (call_of v c).count
+
 -- what call c has done, the earliest action first
 abbrev pub done_by : CoreValue → ℕ → List Action
 done_by v c = done_of (world_of v) c

@@ -1,22 +1,27 @@
 // Many calls on one tree.
 
-ghost use Rattle.std.specs.Prelude.{◌≡◌, ◌≢◌, ℕ, ◌+◌, ◌<◌, ◌≤◌, ◌↔◌, List, [], ◌∷◌, ◌++◌, length, true, IsTrue, IsOk, IsNone, IfOk, OnOk, OnErr, IfErr, IfSome, None, Some, option_copied, if◌then◌else◌};
+ghost use Rattle.std.specs.Prelude.{◌≡◌, ◌≢◌, ℕ, ◌+◌, ◌<◌, ◌≤◌, ◌↔◌, List, [], ◌∷◌, ◌++◌, length, true, false, IsTrue, IsOk, IsNone, IfOk, OnOk, OnErr, IfErr, IfSome, None, Some, option_copied, if◌then◌else◌};
 ghost use Rattle.std.specs.Arc.{arc_value};
 ghost use Rattle.tl_budget.specs.Loops.{budget, lock_bound, emit_bound};
 ghost use Rattle.tl_protocol.specs.Actions.{held, lock_count};
-ghost use Rattle.tl_protocol.specs.History.{part_of, admits, is_done, AllDone, record_now, records_now};
+ghost use Rattle.tl_protocol.specs.History.{part_of, admits, is_done, IsOpen, AllDone, record_now, records_now};
 ghost use Rattle.tl_protocol.specs.Holders.{holder_of};
 ghost use Rattle.tl_protocol.specs.Obeys.{Obeys};
 ghost use Rattle.tl_protocol.specs.World.{Legal, IsSound, IsStuck, IsEnabled, reply_of};
 ghost use Rattle.tl_procedures.specs.Names.{number_of, naming_refusal};
 ghost use Rattle.tl_procedures.specs.declared.fault.NamingFault.TheVariants as naming;
-ghost use Rattle.tl_core.specs.Cores.{world_of, call_of, code_of, opened, kept_turn, places, room, owed, open_calls, all_budgets, done_by, IsLeastUnfinished};
+ghost use Rattle.tl_core.specs.Cores.{world_of, call_of, code_of, opened, kept_turn, places, room, owed, open_calls, all_budgets, done_by, IsLeastUnfinished, IsTurnOf};
 ghost use Rattle.tl_core.specs.Entries.{step_answer, after_step, admission_refusal, after_admission, procedure_at, IsEntry, after_entry, Traced, after_moves, moved, part_of_run, entry_of, IsBlocked};
 ghost use Rattle.tl_machine.specs.Runs.{emitted};
+ghost use Rattle.tl_machine.specs.Turns.{TurnValue, Stops, end_of};
+ghost use Rattle.tl_machine.specs.declared.want.Stop.{Stop};
+ghost use Rattle.tl_machine.specs.declared.want.Stop.TheVariants as stop;
+ghost use Rattle.tl_core.specs.Followed.{IsFollowed, IsUnhindered, IsFollowFault, IsInTheWay, IsLed, NextEndsStop};
 ghost use Rattle.tl_core.specs.declared.fault.CoreFault.TheVariants as fault;
 
 use crate::call::{Call, OpenCall, Progress, begin};
 use crate::fault::CoreFault;
+use crate::followed::Followed;
 use crate::moves::{Entry, Move};
 use crate::stepped::Stepped;
 use std::alloc::Global;
@@ -24,7 +29,7 @@ use std::marker::Model;
 use std::sync::Arc;
 use tl_history::{History, MAX_CALLS, MAX_EVENTS};
 use tl_instr::MAX_ARGS;
-use tl_machine::{Advance, Reply, Stop, Want};
+use tl_machine::{Advance, Reply, Segment, Stop, Turn, Want};
 use tl_procedures::{NamingFault, Procedures};
 use tl_protocol::{Action, Event};
 use tl_tree::{Record, Tree};
@@ -481,12 +486,133 @@ impl Core {
         self.calls[call as usize].reply()
     }
 
+    /// Whether the call is open and this is the turn that the core keeps of it. 602 where no call of that number was
+    /// admitted. Takes no memory.
+    pub fn is_at(&self, call: u32, turn: &Turn) -> Result<bool, CoreFault>
+        ensures known { IsOk result ↔ (call < admits self.now.seen.past) }
+        ensures kept { IfOk result (λ b. IsTrue b ↔ (kept_turn self.now call ≡ Some turn.now)) }
+        ensures fault { IfErr result (λ e. e ≡ fault.NoCall) }
+    {
+        let index = call as usize;
+        if index >= self.calls.len() {
+            return Err(CoreFault::NoCall);
+        }
+        let Some(slot) = self.calls[index].slot() else {
+            return Ok(false);
+        };
+        Ok(self.slots[slot].turn.is(turn))
+    }
+
+    /// The turn at which the call is; that of a call that is done wants nothing more. 602 where no call of that number was
+    /// admitted; else 690 where memory is refused.
+    pub fn turn(&self, call: u32) -> Result<Turn, CoreFault>
+        ensures known { IfOk result (λ _. call < admits self.now.seen.past) }
+        ensures kept { IfOk result (λ t. is_done call self.now.seen.past ≡ false → kept_turn self.now call ≡ Some t) }
+        ensures over { IfOk result (λ t. is_done call self.now.seen.past ≡ true → Stops t stop.Over) }
+        ensures fault { IfErr result (λ e. e ≢ fault.Memory → (e ≡ fault.NoCall) × (admits self.now.seen.past ≤ call)) }
+        ensures memory { IfErr result (λ e. e ≡ fault.Memory → call < admits self.now.seen.past) }
+    {
+        let index = call as usize;
+        if index >= self.calls.len() {
+            return Err(CoreFault::NoCall);
+        }
+        let current = &self.calls[index];
+        let Some(slot) = current.slot() else {
+            let procedure = Arc::try_clone(self.procedures.get(current.procedure))?;
+            let shape = Arc::try_clone(self.opening.shape())?;
+            return Ok(Turn::over(procedure, shape));
+        };
+        Ok(self.slots[slot].turn.try_clone()?)
+    }
+
+    /// Lets a call do the instructions of a segment, which were done elsewhere, and then the lock, free or return where the
+    /// segment stops. 602 where no call of that number was admitted; 607 where the segment doesn't begin at the call's turn.
+    /// Blocked, and nothing changed, where the stop is a lock of a node that another call holds. No local instruction is
+    /// done again. Takes no memory.
+    pub fn follow(&mut self, call: u32, segment: Segment) -> Result<Followed, CoreFault>
+        ensures from { IfOk result (λ _. kept_turn self.old call ≡ Some segment.from) }
+        ensures followed { IfOk result (λ f. IsFollowed self.old call segment f self.new) }
+        ensures unhindered { IfOk result (λ f. IsUnhindered self.old segment f) }
+        ensures turns { (c : ℕ) → c ≢ call → kept_turn self.new c ≡ kept_turn self.old c }
+        ensures fault { IfErr result (λ e. IsFollowFault self.old call segment e) }
+        ensures err { OnErr result (self.new ≡ self.old) }
+    {
+        if !self.is_at(call, segment.from())? {
+            return Err(CoreFault::NotFrom);
+        }
+        if let Some((node, holder)) = self.in_the_way(call, &segment) {
+            return Ok(Followed::Blocked { node, holder });
+        }
+        self.take_end(call, &segment);
+        // What is so of the call's turn: here a proof learns that.
+        self.is_sound();
+        self.at_stop(call);
+        // Nobody is in the way, so this is the action of the stop.
+        let _moved = self.do_next(call);
+        match self.reply(call) {
+            Some(reply) => Ok(Followed::Finished(reply.copy())),
+            None => Ok(Followed::Went(self.led(call, segment.into_turn()))),
+        }
+    }
+
+    // The node that the segment's stop locks, and the call that holds it.
+    fn in_the_way(&self, call: u32, segment: &Segment) -> Option<(u16, u32)>
+        requires { kept_turn self.now call ≡ Some segment.now.from }
+        ensures some { IfSome result (λ r. IsInTheWay self.now.seen segment.now.stop r.0 r.1) }
+        ensures none { IsNone result → (x d : ℕ) → IsInTheWay self.now.seen segment.now.stop x d → ⊥ }
+    {
+        let Stop::Lock(node) = segment.stop() else {
+            return None;
+        };
+        let holder = self.holders[usize::from(node)]?;
+        Some((node, holder))
+    }
+
+    // Puts the call's turn at the segment's end.
+    fn take_end(&mut self, call: u32, segment: &Segment)
+        requires { kept_turn self.old call ≡ Some segment.now.from }
+        ensures turn { kept_turn self.new call ≡ Some (end_of segment.now) }
+        ensures turns { (c : ℕ) → c ≢ call → kept_turn self.new c ≡ kept_turn self.old c }
+        ensures past { self.new.seen.past ≡ self.old.seen.past }
+        ensures led { IsLed self.old call segment.now self.new }
+    {
+        let Some(slot) = self.calls[call as usize].slot() else {
+            unreachable!()
+        };
+        self.slots[slot].turn.take_end(segment);
+    }
+
+    // Where a call's turn stops, its next action is that of the stop: here a proof learns that.
+    fn at_stop(&self, call: u32)
+        ensures { (t : TurnValue) (s : Stop) → kept_turn self.now call ≡ Some t → Stops t s → NextEndsStop self.now.seen call s }
+    {
+        let _ = &self.history;
+    }
+
+    // The turn of an open call, on the procedure and the shape of a turn of the same call.
+    fn led(&self, call: u32, turn: Turn) -> Turn
+        requires known { call < length self.now.seen.calls }
+        requires open { is_done call self.now.seen.past ≡ false }
+        requires code { turn.code ≡ (call_of self.now.seen call).code }
+        requires parents { turn.parents ≡ self.now.seen.parents }
+        ensures { kept_turn self.now call ≡ Some result }
+    {
+        let Some(slot) = self.calls[call as usize].slot() else {
+            unreachable!()
+        };
+        let mut turn = turn;
+        turn.follow(&self.slots[slot].turn);
+        turn
+    }
+
     /// What is so of every core: its world is sound and legal, and what each call has done obeys the tree protocol and is
     /// within the bounds of its procedure.
     pub fn is_sound(&self)
         ensures sound { IsSound (world_of self.now.seen) }
         ensures legal { Legal (world_of self.now.seen) }
         ensures counted { length self.now.seen.calls ≡ admits self.now.seen.past }
+        ensures turned { (c : ℕ) → IsOpen c self.now.seen.past → (t : TurnValue) × (kept_turn self.now c ≡ Some t) }
+        ensures turn_of { (c : ℕ) (t : TurnValue) → kept_turn self.now c ≡ Some t → IsTurnOf self.now.seen c t }
         ensures obeys { (c : ℕ) → c < admits self.now.seen.past → Obeys self.now.seen.parents (done_by self.now.seen c) }
         ensures steps { (c : ℕ) → c < admits self.now.seen.past → length (done_by self.now.seen c) ≤ budget (code_of self.now.seen c) }
         ensures counts { (c : ℕ) → c < admits self.now.seen.past → (call_of self.now.seen c).count ≤ budget (code_of self.now.seen c) }
