@@ -5,6 +5,7 @@ ghost use Rattle.tl_tree.specs.Records.{Records, record_at};
 ghost use Rattle.tl_tree.specs.Shape.{IsTree};
 ghost use Rattle.tl_instr.specs.Codes.{CodeValue, IsCode};
 ghost use Rattle.tl_protocol.specs.Actions.{left_in, emitted as replies, lock_count, PermittedAfter};
+ghost use Rattle.tl_protocol.specs.Obeys.{Obeys};
 ghost use Rattle.tl_protocol.specs.Alone.{EndsOnce, Finds, IsAlone, all_taken};
 ghost use Rattle.tl_budget.specs.Loops.{budget, lock_bound, emit_bound};
 ghost use Rattle.tl_verify.specs.Acceptable.{Acceptable};
@@ -16,6 +17,8 @@ ghost use Rattle.tl_machine.specs.Outcomes.{meaning};
 pub fn alone_obeys()
     ensures obeys { (c : CodeValue) (parents : List ℕ) (args : List ℤ) (t : Records) → IsCode c → Acceptable c.instrs → IsTree parents → length t ≡ length parents
         → PermittedAfter parents [] (meaning c.instrs parents args t).actions }
+    ensures by_places { (c : CodeValue) (parents : List ℕ) (args : List ℤ) (t : Records) → IsCode c → Acceptable c.instrs → IsTree parents → length t ≡ length parents
+        → Obeys parents (meaning c.instrs parents args t).actions }
     ensures ends { (c : CodeValue) (parents : List ℕ) (args : List ℤ) (t : Records) → IsCode c → Acceptable c.instrs → IsTree parents → length t ≡ length parents
         → EndsOnce (meaning c.instrs parents args t).actions }
 {}
