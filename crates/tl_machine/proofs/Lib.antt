@@ -24,3 +24,4 @@ pub mod SameUntilFound
 pub mod StartLemmas
 pub mod Along
 pub mod SameStates
+pub mod RestOfCall
