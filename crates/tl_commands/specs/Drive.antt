@@ -10,11 +10,10 @@ use Rattle.tl_tree.specs.declared.fault.TreeFault.{TreeFault}
 use Rattle.tl_protocol.specs.History.{AllDone, records_now}
 use Rattle.tl_protocol.specs.Order.{placed}
 use Rattle.tl_procedures.specs.Names.{Named}
-use Rattle.tl_core.specs.Cores.{CoreValue}
+use Rattle.tl_core.specs.Cores.{CoreValue, IsLeastUnfinished}
 use Rattle.tl_core.specs.Entries.{Traced, after_moves}
 use Rattle.tl_core.specs.declared.moves.Move.{Move}
 use Rattle.tl_core.specs.declared.moves.Entry.{Entry}
-use Rattle.tl_serial.specs.Unfinished.{IsLeastUnfinished}
 use Rattle.tl_forms.specs.Registering.{TakenUp, IsFirstUnfit}
 use Rattle.tl_forms.specs.declared.fault.RegisterFault.{RegisterFault}
 use Rattle.tl_record.specs.Recording.{trail_value}

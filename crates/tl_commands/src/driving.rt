@@ -25,7 +25,7 @@ use tl_tree::write_tree;
 
 // The value of the second line.
 fn conclusion(alloc: Global, core: &Core) -> Result<Value, CliFault>
-    ensures ok { IfOk result (λ v. IsConclusion core.now (view v)) }
+    ensures ok { IfOk result (λ v. IsConclusion core.now.seen (view v)) }
     ensures err { IfErr result (λ e. status_of e ≡ 4) }
 {
     match conclude(alloc, core) {
@@ -45,7 +45,7 @@ fn next_line(text: &mut String, line: &str) -> Result<(), AllocError>
 
 // The three lines.
 fn lines(alloc: Global, core: &Core, trace: &[Entry]) -> Result<String, CliFault>
-    ensures ok { IfOk result (λ s. (d : Data) × IsConclusion core.now d × (string_bytes s ≡ lines_text trace.now d (tree_now core.now))) }
+    ensures ok { IfOk result (λ s. (d : Data) × IsConclusion core.now.seen d × (string_bytes s ≡ lines_text trace.now d (tree_now core.now.seen))) }
     ensures err { IfErr result (λ e. status_of e ≡ 4) }
 {
     let trace = trace_to_value(alloc, trace)?;
@@ -70,7 +70,7 @@ pub struct Driven {
 
 // Carries out a script on a tree.
 fn carry_out(alloc: Global, tree: &[u8], script: &[u8]) -> Result<Driven, CliFault>
-    ensures ok { IfOk result (λ d. IsDriven tree.now script.now d.trace.items d.core) }
+    ensures ok { IfOk result (λ d. IsDriven tree.now script.now d.trace.items d.core.seen) }
     ensures fault { IfErr result (λ e. IsFirstDriveFault tree.now script.now e) }
 {
     let tree = match tree_of_file(alloc, tree) {
@@ -94,7 +94,7 @@ fn carry_out(alloc: Global, tree: &[u8], script: &[u8]) -> Result<Driven, CliFau
 
 // The text of the core's trail, as a file.
 fn trail_file(alloc: Global, core: &Core) -> Result<String, CliFault>
-    ensures ok { IfOk result (λ s. string_bytes s ≡ trail_text (trail_value core.now) ++ 10 ∷ []) }
+    ensures ok { IfOk result (λ s. string_bytes s ≡ trail_text (trail_value core.now.seen) ++ 10 ∷ []) }
     ensures err { IfErr result (λ e. status_of e ≡ 4) }
 {
     let trail = match trail_of(alloc, core) {

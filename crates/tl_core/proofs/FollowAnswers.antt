@@ -1,5 +1,5 @@
 -- What came of a segment.
-use Rattle.std.proofs.Common.{◌≡◌, ℕ, ◌<◌, Bool, true, false, List, [], ◌∷◌, ◌++◌, length, refl, sym, ap, ◌∙◌, subst, inl, inr, arith, Option, Some, None, Ok, Err, if◌then◌else◌, get_or}
+use Rattle.std.proofs.Common.{◌≡◌, ℕ, Bool, true, false, length, refl, sym, ap, ◌∙◌, inl, inr, arith, Option, Some, None, Ok, Err, if◌then◌else◌, get_or}
 use Rattle.std.specs.Prelude.{Result}
 use Rattle.std.proofs.lemmas.List.{get_or-set_same, set_past}
 use Rattle.std.proofs.lemmas.Bool.{lt-ltb, cases_lt}
@@ -10,7 +10,6 @@ use Rattle.tl_protocol.specs.Holders.{holder_of}
 use Rattle.tl_protocol.specs.World.{as_found}
 use Rattle.tl_machine.specs.Turns.{SegmentValue}
 use Rattle.tl_machine.specs.declared.want.Stop.{Stop}
-use Rattle.tl_machine.specs.declared.want.Stop.TheVariants as stop
 use Rattle.tl_core.specs.declared.fault.CoreFault.{CoreFault}
 use Rattle.tl_core.specs.declared.stepped.Stepped.{Stepped}
 use Rattle.tl_core.specs.declared.stepped.Stepped.TheVariants.{Moved, Blocked, Over}

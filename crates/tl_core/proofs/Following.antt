@@ -1,16 +1,14 @@
 -- A call that is led to the end of a segment.
-use Rattle.std.proofs.Common.{◌≡◌, ◌≢◌, ℕ, zero, suc, ◌+◌, ◌<◌, false, List, [], ◌∷◌, ◌++◌, length, map, refl, sym, ap, ◌∙◌, subst, arith, Option, Some, None, slice_get, set, Ok}
+use Rattle.std.proofs.Common.{◌≡◌, ◌≢◌, ℕ, zero, suc, ◌<◌, false, List, [], ◌∷◌, ◌++◌, length, map, refl, sym, ap, ◌∙◌, subst, Option, Some, slice_get, set, Ok}
 use Rattle.std.proofs.lemmas.Bool.{both_ways}
 use Rattle.std.proofs.lemmas.Option.{slice_get_within}
 use Rattle.tl_tree.specs.Trees.{TreeValue}
 use Rattle.tl_protocol.specs.declared.action.Action.{Action}
 use Rattle.tl_protocol.specs.declared.action.Action.TheVariants as did
 use Rattle.tl_protocol.specs.History.{is_done}
-use Rattle.tl_protocol.specs.Holders.{holder_of}
-use Rattle.tl_protocol.specs.World.{next_of, as_found, past_after}
 use Rattle.tl_machine.specs.Runs.{Run, Then, At, Ended}
-use Rattle.tl_machine.specs.Stands.{IsLocal, Steps}
-use Rattle.tl_machine.specs.Turns.{TurnValue, Follows, here, onward, Stops, with_call}
+use Rattle.tl_machine.specs.Stands.{IsLocal}
+use Rattle.tl_machine.specs.Turns.{Follows, here, onward, Stops, with_call}
 use Rattle.tl_machine.specs.Wants.{want_of}
 use Rattle.tl_machine.specs.declared.call.CallState.{CallState}
 use Rattle.tl_machine.specs.declared.want.Want.TheVariants as want

@@ -1,11 +1,11 @@
 -- The turns that a core keeps.
-use Rattle.std.proofs.Common.{◌≡◌, ℕ, ◌+◌, ◌<◌, Bool, true, false, List, length, map, refl, sym, ap, ◌∙◌, subst, inl, inr, arith, Option, Some, None, option_map, slice_get, get_or, if◌then◌else◌, ℤ}
+use Rattle.std.proofs.Common.{◌≡◌, ℕ, List, length, map, refl, sym, ap, ◌∙◌, subst, inl, inr, arith, Option, Some, None, option_map, slice_get, get_or, drop, ℤ}
 use Rattle.std.proofs.lemmas.Bool.{cases_lt}
 use Rattle.std.proofs.lemmas.List.{length-map, get_or_past}
 use Rattle.std.proofs.lemmas.Option.{slice_get-map, get_or_from_slice_get}
 use Rattle.tl_tree.specs.Trees.{TreeValue}
-use Rattle.tl_protocol.specs.History.{is_done, admits, IsOpen}
-use Rattle.tl_machine.specs.Turns.{TurnValue, Stops}
+use Rattle.tl_protocol.specs.History.{part_of, is_done, IsOpen}
+use Rattle.tl_machine.specs.Turns.{TurnValue, Stops, left_of}
 use Rattle.tl_machine.specs.declared.want.Stop.{Stop}
 use Rattle.tl_core.specs.declared.call.Call.{Call}
 use Rattle.tl_core.specs.declared.call.OpenCall.{OpenCall}
@@ -15,7 +15,12 @@ use Rattle.tl_core.specs.Followed.{NextEndsStop}
 use Rattle.tl_core.specs.Kept.{IsWholeCore}
 use Rattle.tl_core.proofs.Storing.{unless_done, open_turn, turns_are, some_at}
 use Rattle.tl_core.proofs.Readers.{kept_at}
-use Rattle.tl_core.proofs.Standing.{call_is, admitted}
+use Rattle.tl_core.proofs.Standing.{call_is, admitted, found_tree, found_size}
+use Rattle.tl_machine.proofs.Along.{has_found}
+use Rattle.tl_machine.proofs.RestOfCall.{is_rest}
+use Rattle.tl_machine.specs.Runs.{actions}
+use Rattle.tl_machine.specs.Outcomes.{meaning}
+use Rattle.tl_machine.specs.Stands.{run_left}
 use Rattle.tl_core.proofs.Following.{next_at_stop}
 use Rattle.tl_core.proofs.FollowAnswers.{none_reply}
 
@@ -60,6 +65,12 @@ module _ (v : CoreValue) (now : TreeValue) (calls : List Call) (slots : List Ope
         code = ap (λ z. z.code) (sym same) ∙ ap (λ z. z.code) (sym seen);
         parents = ap (λ z. z.parents) (sym same) ∙ keep.shape;
         count = ap (λ z. z.call.steps) (sym same) ∙ ap (λ z. z.count) (sym seen);
+        rest =
+            let found = found_tree v now w.kept holders (length slots) reserved w.core c k.call k.there in
+            let its_rest = is_rest k.call.turn.code v.parents k.call.args keep.done k.call.turn.call found keep.valid keep.accepted w.core.sound.tree keep.turn keep.along
+            (found_size v now w.kept holders (length slots) reserved w.core c k.call k.there) (has_found keep.done (part_of c v.past) v.opening keep.part) in
+            ap (λ z. actions (left_of z found)) (sym same) ∙ ap (λ ps. actions (run_left k.call.turn.code.instrs ps k.call.turn.call found)) keep.shape ∙ its_rest
+            ∙ ap (λ z. drop z.count (meaning z.code.instrs v.parents z.args found).actions) (sym seen);
       }
 
   pub turned : (c : ℕ) → IsOpen c v.past → (t : TurnValue) × (get_or (map (seen_turn slots) calls) c None ≡ Some t)

@@ -1,5 +1,5 @@
 -- A core one of whose calls is led to the end of a segment.
-use Rattle.std.proofs.Common.{◌≡◌, ℕ, ◌<◌, ◌≤◌, List, length, map, refl, sym, ap, ◌∙◌, subst, arith, Option, Some, None, slice_get, get_or, set}
+use Rattle.std.proofs.Common.{◌≡◌, ℕ, ◌<◌, List, length, map, sym, ap, ◌∙◌, subst, arith, Option, Some, None, slice_get, get_or, set}
 use Rattle.tl_tree.specs.Trees.{TreeValue}
 use Rattle.tl_protocol.specs.declared.action.Action.{Action}
 use Rattle.tl_machine.specs.Turns.{TurnValue, SegmentValue, IsSegment, Follows, Stops, with_call, end_of}

@@ -1,7 +1,7 @@
 -- Where a call stands in its core's world.
-use Rattle.std.proofs.Common.{◌≡◌, ◌≢◌, ℕ, suc, ◌+◌, ◌<◌, ◌==◌, true, List, length, map, refl, sym, ap, ap₂, ◌∙◌, subst, inl, inr, arith, Option, Some, None, option_map, slice_get, get_or, set, Ok, if◌then◌else◌}
-use Rattle.std.proofs.lemmas.Bool.{cases_eq, ne_eqb, eq-eqb, lt-ltb}
-use Rattle.std.proofs.lemmas.List.{length-map, get_or-set_same, get_or-set_other}
+use Rattle.std.proofs.Common.{◌≡◌, ◌≢◌, ℕ, suc, ◌+◌, ◌<◌, ◌==◌, true, List, length, map, refl, sym, ap, ap₂, ◌∙◌, subst, arith, Option, Some, None, option_map, slice_get, get_or, Ok}
+use Rattle.std.proofs.lemmas.Bool.{ne_eqb, eq-eqb, lt-ltb}
+use Rattle.std.proofs.lemmas.List.{length-map}
 use Rattle.std.proofs.lemmas.Option.{slice_get-map, slice_get_within, get_or_from_slice_get}
 use Rattle.tl_tree.specs.Records.{Record, Records}
 use Rattle.tl_tree.specs.Trees.{TreeValue}
@@ -10,7 +10,7 @@ use Rattle.tl_protocol.specs.declared.action.Action.TheVariants as did
 use Rattle.tl_protocol.specs.Actions.{with_found}
 use Rattle.tl_protocol.specs.History.{part_of, is_done, admits, IsOpen}
 use Rattle.tl_protocol.specs.Holders.{holder_of}
-use Rattle.tl_protocol.specs.World.{IsSound, MayTake, alone_of, next_of, as_found, past_after, after_step as world_after}
+use Rattle.tl_protocol.specs.World.{IsSound, MayTake, alone_of, next_of}
 use Rattle.tl_protocol.proofs.Records.{length-with_found}
 use Rattle.tl_protocol.proofs.Holders.{holderless_may_take}
 use Rattle.tl_protocol.proofs.ReachedWorlds.{sound_after_step}
@@ -23,8 +23,8 @@ use Rattle.tl_machine.specs.declared.want.Want.{Want}
 use Rattle.tl_machine.specs.declared.want.Want.TheVariants as want
 use Rattle.tl_machine.specs.declared.want.Stop.TheVariants as stop
 use Rattle.tl_core.specs.Stored.{Kept}
-use Rattle.tl_core.specs.Cores.{CallValue, CoreValue, no_call, call_of, world_of}
-use Rattle.tl_core.specs.Entries.{one_more, stepped_by, node_of, step_answer}
+use Rattle.tl_core.specs.Cores.{CoreValue, no_call, call_of, world_of}
+use Rattle.tl_core.specs.Entries.{stepped_by, node_of, step_answer}
 use Rattle.tl_machine.specs.Along.{with_left}
 use Rattle.tl_core.specs.Kept.{IsCore, IsKept, call_value}
 use Rattle.tl_core.proofs.WorldAfter.{after as core_after, code_after, world_is}

@@ -1,5 +1,5 @@
 -- The world of a core after an action of a call.
-use Rattle.std.proofs.Common.{◌≡◌, ℕ, suc, ◌+◌, ◌<◌, ◌==◌, List, length, refl, sym, ap, ◌∙◌, subst, inl, inr, arith, get_or, set, if◌then◌else◌}
+use Rattle.std.proofs.Common.{◌≡◌, ℕ, suc, ◌+◌, ◌<◌, ◌==◌, List, length, sym, ap, ◌∙◌, subst, inl, inr, arith, get_or, set, if◌then◌else◌}
 use Rattle.std.proofs.lemmas.Bool.{cases_eq, ne_eqb, eq-eqb}
 use Rattle.std.proofs.lemmas.List.{get_or-set_same, get_or-set_other}
 use Rattle.tl_protocol.specs.declared.action.Action.{Action}

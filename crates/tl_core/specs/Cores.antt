@@ -1,5 +1,5 @@
 -- What callers see of a core.
-use Rattle.std.specs.Prelude.{◌≡◌, ℕ, zero, suc, ◌+◌, ◌-◌, ◌*◌, ◌<◌, true, List, [], length, get_or, if◌then◌else◌, min, Option, None, ℤ}
+use Rattle.std.specs.Prelude.{◌≡◌, ℕ, zero, suc, ◌+◌, ◌-◌, ◌*◌, ◌<◌, true, List, [], length, get_or, if◌then◌else◌, min, drop, Option, None, ℤ}
 use Rattle.tl_tree.specs.Records.{Records}
 use Rattle.tl_instr.specs.declared.instr.Instr.{Instr}
 use Rattle.tl_instr.specs.Codes.{CodeValue}
@@ -7,9 +7,11 @@ use Rattle.tl_budget.specs.Loops.{budget, lock_bound}
 use Rattle.tl_protocol.specs.declared.action.Action.{Action}
 use Rattle.tl_protocol.specs.declared.event.Event.{Event}
 use Rattle.tl_protocol.specs.History.{part_of, is_done, IsOpen}
-use Rattle.tl_protocol.specs.World.{World, done_of}
+use Rattle.tl_protocol.specs.World.{World, alone_of, done_of}
 use Rattle.tl_machine.specs.Outcomes.{meaning}
-use Rattle.tl_machine.specs.Turns.{TurnValue}
+use Rattle.tl_protocol.specs.Actions.{with_found}
+use Rattle.tl_machine.specs.Runs.{actions}
+use Rattle.tl_machine.specs.Turns.{TurnValue, left_of}
 use Rattle.tl_procedures.specs.Names.{Named}
 use Rattle.tl_tree.specs.Trees.{TreeValue}
 
@@ -64,12 +66,14 @@ world_of v = record {
   counts = λ c. (call_of v c).count;
 }
 
--- the turn is that of call c, which is open
+-- The turn is that of call c, which is open: what is left of it, on the opening tree with each record that the call found put in
+-- its place, is the rest of what the call does alone.
 pub record IsTurnOf (v : CoreValue) (c : ℕ) (t : TurnValue) : Type 0 where
   pub is_open : IsOpen c v.past
   pub code : t.code ≡ (call_of v c).code
   pub parents : t.parents ≡ v.parents
   pub count : t.call.steps ≡ (call_of v c).count
+  pub rest : actions (left_of t (with_found (part_of c v.past) v.opening)) ≡ drop (call_of v c).count (alone_of ((world_of v).meanings c) v.opening v.past c).actions
 
 -- what call c has done, the earliest action first
 abbrev pub done_by : CoreValue → ℕ → List Action

@@ -1,5 +1,5 @@
 -- What a core answers, and what it is then.
-use Rattle.std.specs.Prelude.{◌≡◌, ◌≢◌, ℕ, ◌+◌, Bool, List, [], ◌∷◌, ◌++◌, length, get_or, Option, Some, None, if◌then◌else◌, nat_lt, nat_le, nat_eq, slice_set, Result, Ok, Err, ℤ, string_bytes, ◌&&◌, ◌||◌, ◌==◌}
+use Rattle.std.specs.Prelude.{◌≡◌, ◌≢◌, ℕ, ◌+◌, List, [], ◌∷◌, ◌++◌, length, get_or, Option, Some, None, if◌then◌else◌, nat_lt, nat_le, nat_eq, slice_set, Result, Ok, Err, ℤ, string_bytes, ◌==◌}
 use Rattle.std.specs.Option.{option_map_or}
 use Rattle.tl_history.specs.declared.history.TheConstants.{MAX_CALLS}
 use Rattle.tl_core.specs.declared.interleaving.TheConstants.{MAX_OPEN}

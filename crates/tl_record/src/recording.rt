@@ -17,8 +17,8 @@ use tl_trail::{Trail, TrailCall, TrailFault};
 /// What the calls of a core have done so far. While a call is unfinished it has no reply, and the trail isn't clean; once
 /// all are done, nothing is wrong with it. 790 where memory is refused.
 pub fn trail_of(alloc: Global, core: &Core) -> Result<Trail, TrailFault>
-    ensures trail { IfOk result (λ t. t ≡ trail_value core.now) }
-    ensures clean { IfOk result (λ t. Clean t ↔ AllDone core.now.past) }
+    ensures trail { IfOk result (λ t. t ≡ trail_value core.now.seen) }
+    ensures clean { IfOk result (λ t. Clean t ↔ AllDone core.now.seen.past) }
     ensures err { IfErr result (λ e. e ≡ TrailFault.Memory) }
 {
     // The core's world is sound, and its calls are at most 4,096: here a proof learns that.
@@ -35,9 +35,9 @@ pub fn trail_of(alloc: Global, core: &Core) -> Result<Trail, TrailFault>
 
 // The calls, by number.
 fn calls_of(alloc: Global, core: &Core) -> Result<Vec<TrailCall>, TrailFault>
-    ensures calls { IfOk result (λ calls. map call_value calls.items ≡ (trail_value core.now).calls) }
-    ensures each { IfOk result (λ _. (c : ℕ) → c < length core.now.calls → IsCoreCall core.now c) }
-    ensures few { length core.now.calls ≤ MAX_CALLS }
+    ensures calls { IfOk result (λ calls. map call_value calls.items ≡ (trail_value core.now.seen).calls) }
+    ensures each { IfOk result (λ _. (c : ℕ) → c < length core.now.seen.calls → IsCoreCall core.now.seen c) }
+    ensures few { length core.now.seen.calls ≤ MAX_CALLS }
     ensures err { IfErr result (λ e. e ≡ TrailFault.Memory) }
 {
     let count = core.calls();
@@ -50,9 +50,9 @@ fn calls_of(alloc: Global, core: &Core) -> Result<Vec<TrailCall>, TrailFault>
 
 // What was asked of a call, and what it answered.
 fn call_of(core: &Core, call: u32) -> TrailCall
-    requires { call < length core.now.calls }
-    ensures told { call_value result ≡ told_call core.now call }
-    ensures of_core { IsCoreCall core.now call }
+    requires { call < length core.now.seen.calls }
+    ensures told { call_value result ≡ told_call core.now.seen call }
+    ensures of_core { IsCoreCall core.now.seen call }
 {
     let (procedure, args) = core.request(call);
     // The code is accepted, and has at most eight arguments, by its type: here a proof learns that.
@@ -70,8 +70,8 @@ fn call_of(core: &Core, call: u32) -> TrailCall
 
 // What a call answered, once it is done.
 fn reply_of(core: &Core, call: u32) -> Option<ArrayVec<i64, MAX_EMITS>>
-    requires { call < length core.now.calls }
-    ensures { option_map (λ r. r.items) result ≡ (told_call core.now call).reply }
+    requires { call < length core.now.seen.calls }
+    ensures { option_map (λ r. r.items) result ≡ (told_call core.now.seen call).reply }
 {
     let reply = core.reply(call)?;
     let mut told = ArrayVec::new();

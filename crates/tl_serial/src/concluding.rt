@@ -1,12 +1,11 @@
 // What follows from a core's history, once every call is done.
 
-ghost use Rattle.std.specs.Prelude.{◌≡◌, ◌≢◌, ◌<◌, ℕ, All, IfOk, IfErr, IfSome, IsNone, length, map};
+ghost use Rattle.std.specs.Prelude.{◌≡◌, ◌≢◌, ◌<◌, ℕ, All, IfOk, IfErr, length, map};
 ghost use Rattle.tl_protocol.specs.Alone.{serial};
 ghost use Rattle.tl_protocol.specs.History.{AllDone, records_now};
 ghost use Rattle.tl_protocol.specs.Order.{placed, Agrees};
 ghost use Rattle.tl_protocol.specs.World.{reply_of};
-ghost use Rattle.tl_core.specs.Cores.{world_of};
-ghost use Rattle.tl_serial.specs.Unfinished.{IsLeastUnfinished};
+ghost use Rattle.tl_core.specs.Cores.{world_of, IsLeastUnfinished};
 
 use std::alloc::Global;
 use tl_core::Core;
@@ -18,34 +17,21 @@ use tl_order::{Order, SerialFault, order_of};
 /// 651 with the least unfinished call where there is one; else 690 where memory is refused.
 pub fn conclude(alloc: Global, core: &Core) -> Result<Order, SerialFault>
     ensures unfinished { IfErr result (λ e. e ≢ SerialFault.Memory
-        → (c : ℕ) × (e ≡ SerialFault.Unfinished c) × IsLeastUnfinished core.now.past c) }
-    ensures memory { IfErr result (λ e. e ≡ SerialFault.Memory → AllDone core.now.past) }
-    ensures done { IfOk result (λ _. AllDone core.now.past) }
-    ensures order { IfOk result (λ o. o ≡ placed core.now.parents core.now.past) }
-    ensures known { IfOk result (λ o. All (λ c. c < length core.now.calls) o) }
-    ensures agrees { IfOk result (λ o. Agrees o core.now.past) }
-    ensures tree { IfOk result (λ o. (serial (world_of core.now).meanings o core.now.opening).tree
-        ≡ records_now core.now.past core.now.opening) }
-    ensures replies { IfOk result (λ o. (serial (world_of core.now).meanings o core.now.opening).replies
-        ≡ map (reply_of (world_of core.now)) o) }
+        → (c : ℕ) × (e ≡ SerialFault.Unfinished c) × IsLeastUnfinished core.now.seen.past c) }
+    ensures memory { IfErr result (λ e. e ≡ SerialFault.Memory → AllDone core.now.seen.past) }
+    ensures done { IfOk result (λ _. AllDone core.now.seen.past) }
+    ensures order { IfOk result (λ o. o ≡ placed core.now.seen.parents core.now.seen.past) }
+    ensures known { IfOk result (λ o. All (λ c. c < length core.now.seen.calls) o) }
+    ensures agrees { IfOk result (λ o. Agrees o core.now.seen.past) }
+    ensures tree { IfOk result (λ o. (serial (world_of core.now.seen).meanings o core.now.seen.opening).tree
+        ≡ records_now core.now.seen.past core.now.seen.opening) }
+    ensures replies { IfOk result (λ o. (serial (world_of core.now.seen).meanings o core.now.seen.opening).replies
+        ≡ map (reply_of (world_of core.now.seen)) o) }
 {
-    if let Some(call) = least_unfinished(core) {
+    if let Some(call) = core.least_unfinished() {
         return Err(SerialFault::Unfinished { call });
     }
     // What the order promises comes of the core being sound: here a proof learns that.
     core.is_sound();
     order_of(alloc, core.history(), core.opening().shape())
-}
-
-// The least call that isn't done.
-fn least_unfinished(core: &Core) -> Option<u32>
-    ensures some { IfSome result (λ c. IsLeastUnfinished core.now.past c) }
-    ensures none { IsNone result → AllDone core.now.past }
-{
-    for call in 0..core.calls() as u32 {
-        if core.reply(call).is_none() {
-            return Some(call);
-        }
-    }
-    None
 }

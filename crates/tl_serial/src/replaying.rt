@@ -13,13 +13,13 @@ use tl_tree::Tree;
 /// The calls of the order run alone, one after another, from the opening tree: the tree that they leave, and their
 /// replies in that order. The core stays as it is. 690 where memory is refused.
 pub fn replay(alloc: Global, order: &Order, core: &Core) -> Result<(Tree, Vec<Reply>), SerialFault>
-    requires { All (λ c. c < length core.now.calls) order.now }
+    requires { All (λ c. c < length core.now.seen.calls) order.now }
     ensures tree { IfOk result (λ r. r.0 ≡ record {
-      parents = core.now.parents;
-      records = (serial (world_of core.now).meanings order.now core.now.opening).tree;
+      parents = core.now.seen.parents;
+      records = (serial (world_of core.now.seen).meanings order.now core.now.seen.opening).tree;
     }) }
     ensures replies { IfOk result (λ r. r.1.items
-        ≡ (serial (world_of core.now).meanings order.now core.now.opening).replies) }
+        ≡ (serial (world_of core.now.seen).meanings order.now core.now.seen.opening).replies) }
     ensures err { IfErr result (λ e. e ≡ SerialFault.Memory) }
 {
     let Ok(mut tree) = core.opening().copy() else {
@@ -35,10 +35,10 @@ pub fn replay(alloc: Global, order: &Order, core: &Core) -> Result<(Tree, Vec<Re
 
 // Runs a call of the core alone on the tree, and answers its reply.
 fn run_again(core: &Core, call: u32, tree: &mut Tree) -> Reply
-    requires known { call < length core.now.calls }
-    requires shape { tree.old.parents ≡ core.now.parents }
-    ensures tree { tree.new ≡ record tree.old { records = ((world_of core.now).meanings call tree.old.records).tree } }
-    ensures reply { result ≡ ((world_of core.now).meanings call tree.old.records).reply }
+    requires known { call < length core.now.seen.calls }
+    requires shape { tree.old.parents ≡ core.now.seen.parents }
+    ensures tree { tree.new ≡ record tree.old { records = ((world_of core.now.seen).meanings call tree.old.records).tree } }
+    ensures reply { result ≡ ((world_of core.now.seen).meanings call tree.old.records).reply }
 {
     let (procedure, args) = core.request(call);
     let Ok(answer) = alone(core.proc(procedure), args, tree) else {

@@ -10,5 +10,5 @@ returns-clause-printed c =
     let s = c.args.script.now in
     let driven = c.in_ok-driven.driven in
     IfOk-weaker c.lines.result _ (λ text. Drives t s (string_bytes text))
-    (λ text told. (driven.core, printed t s (string_bytes text) driven.core driven.trace.items c.deref.result.now c.in_ok-driven.ensures.ok c.deref.ensures.value told))
+    (λ text told. (driven.core.seen, printed t s (string_bytes text) driven.core.seen driven.trace.items c.deref.result.now c.in_ok-driven.ensures.ok c.deref.ensures.value told))
     c.lines.ensures.ok

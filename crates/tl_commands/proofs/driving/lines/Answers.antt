@@ -9,7 +9,7 @@ use Rattle.tl_commands.proofs.driving.lines.Goals as goal
 
 pub returns-clause-ok : goal.returns-clause-ok
 returns-clause-ok c =
-    let v = c.args.core.now in
+    let v = c.args.core.now.seen in
     let entries = c.args.trace.now in
     let d = view c.in_ok-conclusion.conclusion in
     let first : string_bytes c.in_ok-text.text ≡ compact_text (trace_data entries) =

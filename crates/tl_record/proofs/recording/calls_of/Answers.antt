@@ -8,7 +8,7 @@ use Rattle.tl_record.proofs.recording.calls_of.Goals as goal
 
 pub loop-call-preserved : goal.loop-call-preserved
 loop-call-preserved c =
-    let core = c.args.core.now in
+    let core = c.args.core.now.seen in
     let before = c.loop-call.calls.items in
     let call = c.loop-call.call in
     record {

@@ -9,7 +9,7 @@ use Rattle.tl_record.proofs.recording.trail_of.Goals as goal
 
 pub new-requires : goal.new-requires
 new-requires c =
-    let v = c.args.core.now in
+    let v = c.args.core.now.seen in
     let told : TrailValue = record {
       parents = c.in-Ok.opening.parents;
       opening = c.in-Ok.opening.records;
@@ -23,6 +23,6 @@ new-requires c =
 
 pub returns-clause-clean : goal.returns-clause-clean
 returns-clause-clean c =
-    let v = c.args.core.now in
+    let v = c.args.core.now.seen in
     let same : c.new.result ≡ trail_value v = search rules in
     subst (λ t. Clean t ↔ AllDone v.past) (sym same) (recorded_clean v c.is_sound.ensures.sound c.is_sound.ensures.counted c.in_ok-calls.ensures.each)

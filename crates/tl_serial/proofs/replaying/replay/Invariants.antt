@@ -6,8 +6,8 @@ use Rattle.tl_serial.proofs.replaying.replay.Given as goal
 -- the rest of the calls, run from the tree so far, leave the tree of all; their replies come behind those so far
 abbrev pub invariant-loop-call : goal.invariant-loop-call
 invariant-loop-call l =
-    (l.tree.parents ≡ l.core.parents)
+    (l.tree.parents ≡ l.core.seen.parents)
     × (l.replies.len ≡ l.call-index)
     × (length l.calls ≤ l.replies.cap)
-    × ((serial (world_of l.core).meanings (drop l.call-index l.calls) l.tree.records).tree ≡ (serial (world_of l.core).meanings l.calls l.core.opening).tree)
-    × (l.replies.items ++ (serial (world_of l.core).meanings (drop l.call-index l.calls) l.tree.records).replies ≡ (serial (world_of l.core).meanings l.calls l.core.opening).replies)
+    × ((serial (world_of l.core.seen).meanings (drop l.call-index l.calls) l.tree.records).tree ≡ (serial (world_of l.core.seen).meanings l.calls l.core.seen.opening).tree)
+    × (l.replies.items ++ (serial (world_of l.core.seen).meanings (drop l.call-index l.calls) l.tree.records).replies ≡ (serial (world_of l.core.seen).meanings l.calls l.core.seen.opening).replies)

@@ -1,6 +1,3 @@
-use Rattle.std.proofs.Common.{◌≡◌, ℕ, ◌++◌, [], ◌∷◌, subst, sym}
-use Rattle.tl_core.specs.Cores.{done_by}
-use Rattle.tl_core.specs.Entries.{part_of_run, entry_of}
 use Rattle.tl_core.proofs.RunParts.{step_done, step_blocked}
 use Rattle.tl_core.proofs.interleaving.Core.step.Goals as goal
 

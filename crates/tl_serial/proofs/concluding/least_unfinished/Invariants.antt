@@ -1,7 +1,0 @@
-use Rattle.std.proofs.Common.{◌≡◌, ◌<◌, ℕ, true}
-use Rattle.tl_protocol.specs.History.{is_done}
-use Rattle.tl_serial.proofs.concluding.least_unfinished.Given as goal
-
--- each call before this one is done
-abbrev pub invariant-loop-call : goal.invariant-loop-call
-invariant-loop-call l = (d : ℕ) → d < l.call → is_done d l.core.past ≡ true
