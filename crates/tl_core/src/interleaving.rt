@@ -12,7 +12,7 @@ ghost use Rattle.tl_procedures.specs.Names.{number_of, naming_refusal};
 ghost use Rattle.tl_procedures.specs.declared.fault.NamingFault.TheVariants as naming;
 ghost use Rattle.tl_core.specs.Cores.{world_of, call_of, code_of, places, room, owed, all_budgets, done_by};
 ghost use Rattle.tl_core.specs.Entries.{step_answer, after_step, admission_refusal, after_admission, procedure_at, IsEntry, after_entry, Traced, after_moves, moved};
-ghost use Rattle.tl_machine.specs.Runs.{emitted};
+ghost use Rattle.tl_machine.specs.Runs.{emits_of};
 ghost use Rattle.tl_core.specs.declared.fault.CoreFault.TheVariants as fault;
 
 use crate::call::{Call, OpenCall, Progress, begin};
@@ -453,7 +453,7 @@ impl Core {
         ensures steps { (c : ℕ) → c < admits self.now.past → length (done_by self.now c) ≤ budget (code_of self.now c) }
         ensures counts { (c : ℕ) → c < admits self.now.past → (call_of self.now c).count ≤ budget (code_of self.now c) }
         ensures locks { (c : ℕ) → c < admits self.now.past → lock_count (done_by self.now c) ≤ lock_bound (code_of self.now c) }
-        ensures emits { (c : ℕ) → c < admits self.now.past → length (emitted (done_by self.now c)) ≤ emit_bound (code_of self.now c) }
+        ensures emits { (c : ℕ) → c < admits self.now.past → length (emits_of (done_by self.now c)) ≤ emit_bound (code_of self.now c) }
     {
         let _ = &self.history;
     }
