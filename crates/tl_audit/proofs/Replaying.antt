@@ -9,9 +9,9 @@ use Rattle.tl_protocol.specs.declared.action.Action.TheVariants as did
 use Rattle.tl_protocol.specs.Actions.{freed, emitted, has_ended, is_end, locks_and_frees}
 use Rattle.tl_protocol.specs.Alone.{EndsOnce, all_taken}
 use Rattle.tl_protocol.proofs.ObeysByPlaces.{reverse-taken}
-use Rattle.tl_machine.specs.Runs.{Run, Then, Ended, actions, emitted as newly}
+use Rattle.tl_machine.specs.Runs.{Run, Then, Ended, actions, emits_of}
 use Rattle.tl_machine.specs.Call.{in_tree, reply_so_far}
-use Rattle.tl_machine.specs.Stands.{run_left, Steps, Locks, Frees, Ends, Counts}
+use Rattle.tl_machine.specs.BetweenSteps.{run_left, Steps, Locks, Frees, Ends, Counts}
 use Rattle.tl_machine.specs.Turns.{TurnValue, Wants, Stops, with_call}
 use Rattle.tl_machine.specs.Wants.{want_of}
 use Rattle.tl_machine.specs.declared.want.Want.{Want}
@@ -86,15 +86,15 @@ freed-locks_and_frees (did.End ∷ done) x = freed-locks_and_frees done x
 
 -- ---- what is emitted, and where a run ends
 
-newly-onto : (done more : List Action) → newly (onto done more) ≡ emitted done ++ newly more
-newly-onto [] more = refl
-newly-onto (did.Plain ∷ done) more = newly-onto done (did.Plain ∷ more)
-newly-onto (did.Lock y r ∷ done) more = newly-onto done (did.Lock y r ∷ more)
-newly-onto (did.Read y f n ∷ done) more = newly-onto done (did.Read y f n ∷ more)
-newly-onto (did.Write y f n ∷ done) more = newly-onto done (did.Write y f n ∷ more)
-newly-onto (did.Free y r ∷ done) more = newly-onto done (did.Free y r ∷ more)
-newly-onto (did.Emit n ∷ done) more = newly-onto done (did.Emit n ∷ more) ∙ sym (append_assoc (emitted done) (n ∷ []) (newly more))
-newly-onto (did.End ∷ done) more = newly-onto done (did.End ∷ more)
+emits_of-onto : (done more : List Action) → emits_of (onto done more) ≡ emitted done ++ emits_of more
+emits_of-onto [] more = refl
+emits_of-onto (did.Plain ∷ done) more = emits_of-onto done (did.Plain ∷ more)
+emits_of-onto (did.Lock y r ∷ done) more = emits_of-onto done (did.Lock y r ∷ more)
+emits_of-onto (did.Read y f n ∷ done) more = emits_of-onto done (did.Read y f n ∷ more)
+emits_of-onto (did.Write y f n ∷ done) more = emits_of-onto done (did.Write y f n ∷ more)
+emits_of-onto (did.Free y r ∷ done) more = emits_of-onto done (did.Free y r ∷ more)
+emits_of-onto (did.Emit n ∷ done) more = emits_of-onto done (did.Emit n ∷ more) ∙ sym (append_assoc (emitted done) (n ∷ []) (emits_of more))
+emits_of-onto (did.End ∷ done) more = emits_of-onto done (did.End ∷ more)
 
 no_end-onto : (done more : List Action) → has_ended done ≡ false → has_ended more ≡ false → has_ended (onto done more) ≡ false
 no_end-onto [] more d m = m
@@ -166,14 +166,14 @@ module _ (t : Records) (whole : Run) (given : List Action) (used : ℕ) (turn : 
     with_it : (place : ℕ) → IsOn t whole given place (with_call turn new.call) → IsOn t whole given place new
     with_it place on = subst (IsOn t whole given place) (sym same) on
 
-    plain : (act : Action) → Counts turn.call act new.call → emitted (act ∷ h.done) ≡ emitted h.done ++ newly (act ∷ []) → is_end act ≡ false
+    plain : (act : Action) → Counts turn.call act new.call → emitted (act ∷ h.done) ≡ emitted h.done ++ emits_of (act ∷ []) → is_end act ≡ false
         → locks_and_frees (act ∷ h.done) ≡ locks_and_frees h.done → with_left (act ∷ h.done) t ≡ with_left h.done t
         → run_left turn.code.instrs turn.parents turn.call (with_left h.done t) ≡ Then act (run_left turn.code.instrs turn.parents new.call (with_left h.done t))
         → IsOn t whole given used new
     plain act counts emits open' told left leads = with_it used (record {
       done = act ∷ h.done;
       runs = h.runs ∙ ap (after_done h.done) leads ∙ ap (λ u. after_done h.done (Then act (run_left turn.code.instrs turn.parents new.call u))) (sym left);
-      reply = counts.reply ∙ ap (λ r. r ++ newly (act ∷ [])) h.reply ∙ sym emits;
+      reply = counts.reply ∙ ap (λ r. r ++ emits_of (act ∷ [])) h.reply ∙ sym emits;
       told = told ∙ h.told;
       goes_on = rw open' h.goes_on;
     })
@@ -264,10 +264,10 @@ module _ (t : Records) (whole : Run) (given : List Action) (used : ℕ) (turn : 
         let e : take used given ≡ given = take_all used given all in
         ap reverse (sym e ∙ sym (append-nil (take used given))) ∙ sym (all_of (Then did.End (Ended (in_tree new (with_left h.done t)))) ending)
 
-    pub end_reply : reply_so_far turn.call ≡ newly (actions whole)
+    pub end_reply : reply_so_far turn.call ≡ emits_of (actions whole)
     end_reply =
-        h.reply ∙ sym (append-nil (emitted h.done)) ∙ sym (newly-onto h.done (did.End ∷ []))
-        ∙ sym (ap newly (ap actions h.runs ∙ actions-after_done h.done (run_left turn.code.instrs turn.parents turn.call (with_left h.done t)) ∙ ap (λ r. onto h.done (actions r)) ending))
+        h.reply ∙ sym (append-nil (emitted h.done)) ∙ sym (emits_of-onto h.done (did.End ∷ []))
+        ∙ sym (ap emits_of (ap actions h.runs ∙ actions-after_done h.done (run_left turn.code.instrs turn.parents turn.call (with_left h.done t)) ∙ ap (λ r. onto h.done (actions r)) ending))
 
   -- a run that ends isn't over before its end
   pub not_over : EndsOnce (actions whole) → Stops turn stop.Over → ⊥

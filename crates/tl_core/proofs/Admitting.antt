@@ -19,7 +19,7 @@ use Rattle.tl_machine.specs.Runs.{Run, actions}
 use Rattle.tl_machine.specs.Alone.{alone}
 use Rattle.tl_machine.specs.Call.{reply_so_far}
 use Rattle.tl_machine.specs.Outcomes.{meaning}
-use Rattle.tl_machine.specs.Stands.{run_left}
+use Rattle.tl_machine.specs.BetweenSteps.{run_left}
 use Rattle.tl_machine.specs.Turns.{TurnValue, IsTurn}
 use Rattle.tl_machine.proofs.StartLemmas.{is_alone}
 use Rattle.tl_core.specs.declared.call.Call.{Call}

@@ -20,7 +20,7 @@ use Rattle.tl_history.specs.Stored.{Stored}
 use Rattle.tl_machine.specs.Runs.{Run, Then}
 use Rattle.tl_machine.specs.Outcomes.{meaning}
 use Rattle.tl_machine.specs.Call.{reply_so_far}
-use Rattle.tl_machine.specs.Stands.{IsLocal, Steps, Locks, Frees, Ends, run_left}
+use Rattle.tl_machine.specs.BetweenSteps.{IsLocal, Steps, Locks, Frees, Ends, run_left}
 use Rattle.tl_machine.specs.Turns.{TurnValue, IsTurn, running, over, Stops, with_call}
 use Rattle.tl_machine.specs.declared.call.CallState.{CallState}
 use Rattle.tl_machine.specs.declared.want.Want.TheVariants as want

@@ -7,8 +7,8 @@ use Rattle.tl_protocol.specs.declared.action.Action.{Action}
 use Rattle.tl_protocol.specs.declared.action.Action.TheVariants as did
 use Rattle.tl_protocol.specs.History.{is_done}
 use Rattle.tl_machine.specs.Runs.{Run, Then, At, Ended}
-use Rattle.tl_machine.specs.Stands.{IsLocal}
-use Rattle.tl_machine.specs.Turns.{Follows, here, onward, Stops, with_call}
+use Rattle.tl_machine.specs.BetweenSteps.{IsLocal}
+use Rattle.tl_machine.specs.Turns.{ComesByLocal, here, onward, Stops, with_call}
 use Rattle.tl_machine.specs.Wants.{want_of}
 use Rattle.tl_machine.specs.declared.call.CallState.{CallState}
 use Rattle.tl_machine.specs.declared.want.Want.TheVariants as want
@@ -65,7 +65,7 @@ module _ (v : CoreValue) (now : TreeValue) (kept : List Kept) (holders : List (O
     core : IsCore (core_led d) now (kept_led d) holders open_count reserved
     goes : Goes v c local (core_led d)
 
-  there : (d : CallState) → Follows k.turn.code.instrs k.turn.parents k.turn.call d → IsThere d
+  there : (d : CallState) → ComesByLocal k.turn.code.instrs k.turn.parents k.turn.call d → IsThere d
   there d here =
       let same = set_same kept c k at in
       let seen : v ≡ core_led d = λ i. record v { calls = (h.calls ∙ ap (map call_value) (sym same)) i } in
@@ -92,7 +92,7 @@ module _ (v : CoreValue) (now : TreeValue) (kept : List Kept) (holders : List (O
             (sym (local_seen (core_led d1) now (kept_led d1) holders open_count reserved before.core c (kept_on d1) at1 act (with_call k.turn d) refl steps) ∙ ap (λ l. record v { calls = map call_value l }) again);
       }
 
-  module _ (d : CallState) (follows : Follows k.turn.code.instrs k.turn.parents k.turn.call d) where
+  module _ (d : CallState) (follows : ComesByLocal k.turn.code.instrs k.turn.parents k.turn.call d) where
     pub led_core : IsCore (core_led d) now (kept_led d) holders open_count reserved
     led_core = (there d follows).core
 

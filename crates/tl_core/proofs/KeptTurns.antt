@@ -20,7 +20,7 @@ use Rattle.tl_machine.proofs.Along.{has_found}
 use Rattle.tl_machine.proofs.RestOfCall.{is_rest}
 use Rattle.tl_machine.specs.Runs.{actions}
 use Rattle.tl_machine.specs.Outcomes.{meaning}
-use Rattle.tl_machine.specs.Stands.{run_left}
+use Rattle.tl_machine.specs.BetweenSteps.{run_left}
 use Rattle.tl_core.proofs.Following.{next_at_stop}
 use Rattle.tl_core.proofs.FollowAnswers.{none_reply}
 

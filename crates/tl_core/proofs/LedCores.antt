@@ -2,7 +2,7 @@
 use Rattle.std.proofs.Common.{◌≡◌, ℕ, ◌<◌, List, length, map, sym, ap, ◌∙◌, subst, arith, Option, Some, None, slice_get, get_or, set}
 use Rattle.tl_tree.specs.Trees.{TreeValue}
 use Rattle.tl_protocol.specs.declared.action.Action.{Action}
-use Rattle.tl_machine.specs.Turns.{TurnValue, SegmentValue, IsSegment, Follows, Stops, with_call, end_of}
+use Rattle.tl_machine.specs.Turns.{TurnValue, SegmentValue, IsSegment, ComesByLocal, Stops, with_call, end_of}
 use Rattle.tl_machine.specs.declared.want.Stop.TheVariants as stop
 use Rattle.tl_core.specs.declared.call.Call.{Call}
 use Rattle.tl_core.specs.declared.call.OpenCall.{OpenCall}
@@ -22,7 +22,7 @@ module _ (v : CoreValue) (now : TreeValue) (calls : List Call) (slots : List Ope
   pub segment_inside : (x : ℕ) → seg.stop ≡ stop.Lock x → x < length v.parents
   segment_inside x locks =
       let k = kept_with v now calls slots holders reserved capacity w c seg.from kept in
-      led_inside v now w.kept holders (length slots) reserved w.core c k.call k.there seg.to (subst (λ t. Follows t.code.instrs t.parents t.call seg.to) (sym k.turn) is.follows) x
+      led_inside v now w.kept holders (length slots) reserved w.core c k.call k.there seg.to (subst (λ t. ComesByLocal t.code.instrs t.parents t.call seg.to) (sym k.turn) is.follows) x
       (subst (λ t. Stops (with_call t seg.to) (stop.Lock x)) (sym k.turn) (subst (Stops (end_of seg)) locks is.stop))
 
   pub segment_slot : (x : ℕ) → seg.stop ≡ stop.Lock x → x < length holders
@@ -46,8 +46,8 @@ module _ (v : CoreValue) (now : TreeValue) (calls : List Call) (slots : List Ope
     pub same_code : turn2.code ≡ o.turn.code
     same_code = ap (λ t. t.code) at_end ∙ ap (λ t. t.code) (sym begins)
 
-    comes : Follows o.turn.code.instrs o.turn.parents o.turn.call seg.to
-    comes = subst (λ t. Follows t.code.instrs t.parents t.call seg.to) (sym begins) is.follows
+    comes : ComesByLocal o.turn.code.instrs o.turn.parents o.turn.call seg.to
+    comes = subst (λ t. ComesByLocal t.code.instrs t.parents t.call seg.to) (sym begins) is.follows
 
     led_turn : with_call o.turn seg.to ≡ turn2
     led_turn = ap (λ t. with_call t seg.to) begins ∙ sym at_end

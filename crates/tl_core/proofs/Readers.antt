@@ -17,7 +17,7 @@ use Rattle.tl_protocol.specs.Obeys.{Obeys}
 use Rattle.tl_protocol.specs.World.{alone_of, reply_of}
 use Rattle.tl_protocol.proofs.Records.{record_at-records_now, length-records_now}
 use Rattle.tl_protocol.proofs.ObeysByPlaces.{obeys_first}
-use Rattle.tl_machine.specs.Runs.{actions, emitted as newly}
+use Rattle.tl_machine.specs.Runs.{actions, emits_of}
 use Rattle.tl_machine.specs.Outcomes.{meaning}
 use Rattle.tl_machine.proofs.StartLemmas.{few_steps, few_locks, few_values}
 use Rattle.tl_core.specs.Stored.{Kept}
@@ -44,7 +44,7 @@ locks-take (suc k) (did.Free x left ∷ more) = locks-take k more
 locks-take (suc k) (did.Emit n ∷ more) = locks-take k more
 locks-take (suc k) (did.End ∷ more) = locks-take k more
 
-emits-take : (k : ℕ) (more : List Action) → length (newly (take k more)) ≤ length (newly more)
+emits-take : (k : ℕ) (more : List Action) → length (emits_of (take k more)) ≤ length (emits_of more)
 emits-take zero more = omega arith
 emits-take (suc k) [] = omega arith
 emits-take (suc k) (did.Plain ∷ more) = emits-take k more
@@ -147,7 +147,7 @@ module _ (v : CoreValue) (now : TreeValue) (kept : List Kept) (holders : List (O
         let few = few_locks k.0.turn.code keep'.valid keep'.accepted v.parents h.sound.tree k.0.args tree (found_size v now kept holders open_count reserved h c k.0 k.1) in
         subst (λ z. lock_count (all_taken (meaning z.code.instrs v.parents z.args tree).actions) ≤ lock_bound z.code.instrs) (sym (call_is v now kept holders open_count reserved h c k.0 k.1)) few
 
-    in_emits : length (newly acts) ≤ emit_bound (code_of v c)
+    in_emits : length (emits_of acts) ≤ emit_bound (code_of v c)
     in_emits =
         let k = kept_at c lt in
         let keep' = keep v now kept holders open_count reserved h c k.0 k.1 in
@@ -164,5 +164,5 @@ module _ (v : CoreValue) (now : TreeValue) (kept : List Kept) (holders : List (O
     pub locks_so_far : lock_count (done_by v c) ≤ lock_bound (code_of v c)
     locks_so_far = let all = in_locks in let part = locks-take (call_of v c).count acts in let same = locks-taken acts [] in omega arith
 
-    pub emits_so_far : length (newly (done_by v c)) ≤ emit_bound (code_of v c)
+    pub emits_so_far : length (emits_of (done_by v c)) ≤ emit_bound (code_of v c)
     emits_so_far = let all = in_emits in let part = emits-take (call_of v c).count acts in omega arith

@@ -16,7 +16,7 @@ use Rattle.tl_protocol.proofs.Holders.{holderless_may_take}
 use Rattle.tl_protocol.proofs.ReachedWorlds.{sound_after_step}
 use Rattle.tl_machine.specs.Runs.{Run, Then, actions}
 use Rattle.tl_machine.specs.Outcomes.{meaning}
-use Rattle.tl_machine.specs.Stands.{run_left}
+use Rattle.tl_machine.specs.BetweenSteps.{run_left}
 use Rattle.tl_machine.specs.Turns.{Wants, Stops}
 use Rattle.tl_machine.specs.Wants.{want_of}
 use Rattle.tl_machine.specs.declared.want.Want.{Want}

@@ -5,7 +5,7 @@ use Rattle.tl_instr.specs.Codes.{CodeValue, IsCode}
 use Rattle.tl_verify.specs.Acceptable.{Acceptable}
 use Rattle.tl_machine.specs.Alone.{alone}
 use Rattle.tl_machine.specs.Call.{reply_so_far}
-use Rattle.tl_machine.specs.Stands.{run_left}
+use Rattle.tl_machine.specs.BetweenSteps.{run_left}
 use Rattle.tl_machine.specs.Turns.{TurnValue, IsTurn}
 
 -- the arguments are kept, and the turn is one of a call of an accepted code with them that has done nothing yet

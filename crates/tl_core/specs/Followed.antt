@@ -5,7 +5,7 @@ use Rattle.tl_protocol.specs.declared.action.Action.TheVariants as did
 use Rattle.tl_protocol.specs.History.{is_done, admits, IsOpen}
 use Rattle.tl_protocol.specs.Holders.{holder_of}
 use Rattle.tl_protocol.specs.World.{next_of, reply_of}
-use Rattle.tl_machine.specs.Stands.{IsLocal}
+use Rattle.tl_machine.specs.BetweenSteps.{IsLocal}
 use Rattle.tl_machine.specs.Turns.{SegmentValue}
 use Rattle.tl_machine.specs.declared.want.Stop.{Stop}
 use Rattle.tl_machine.specs.declared.want.Stop.TheVariants as stop

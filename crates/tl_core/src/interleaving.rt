@@ -12,7 +12,7 @@ ghost use Rattle.tl_procedures.specs.Names.{number_of, naming_refusal};
 ghost use Rattle.tl_procedures.specs.declared.fault.NamingFault.TheVariants as naming;
 ghost use Rattle.tl_core.specs.Cores.{world_of, call_of, code_of, opened, kept_turn, places, room, owed, open_calls, all_budgets, done_by, IsLeastUnfinished, IsTurnOf};
 ghost use Rattle.tl_core.specs.Entries.{step_answer, after_step, admission_refusal, after_admission, procedure_at, IsEntry, after_entry, Traced, after_moves, moved, part_of_run, entry_of, IsBlocked};
-ghost use Rattle.tl_machine.specs.Runs.{emitted};
+ghost use Rattle.tl_machine.specs.Runs.{emits_of};
 ghost use Rattle.tl_machine.specs.Turns.{TurnValue, Stops, end_of};
 ghost use Rattle.tl_machine.specs.declared.want.Stop.{Stop};
 ghost use Rattle.tl_machine.specs.declared.want.Stop.TheVariants as stop;
@@ -617,7 +617,7 @@ impl Core {
         ensures steps { (c : ℕ) → c < admits self.now.seen.past → length (done_by self.now.seen c) ≤ budget (code_of self.now.seen c) }
         ensures counts { (c : ℕ) → c < admits self.now.seen.past → (call_of self.now.seen c).count ≤ budget (code_of self.now.seen c) }
         ensures locks { (c : ℕ) → c < admits self.now.seen.past → lock_count (done_by self.now.seen c) ≤ lock_bound (code_of self.now.seen c) }
-        ensures emits { (c : ℕ) → c < admits self.now.seen.past → length (emitted (done_by self.now.seen c)) ≤ emit_bound (code_of self.now.seen c) }
+        ensures emits { (c : ℕ) → c < admits self.now.seen.past → length (emits_of (done_by self.now.seen c)) ≤ emit_bound (code_of self.now.seen c) }
     {
         let _ = &self.history;
     }

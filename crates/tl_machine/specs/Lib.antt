@@ -3,7 +3,7 @@ pub mod Alone
 pub mod Left
 pub mod Rooms
 pub mod Call
-pub mod Stands
+pub mod BetweenSteps
 pub mod Wants
 pub mod Turns
 pub mod Outcomes

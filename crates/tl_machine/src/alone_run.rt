@@ -6,7 +6,7 @@ ghost use Rattle.tl_budget.specs.Loops.{budget, lock_bound, emit_bound};
 ghost use Rattle.tl_protocol.specs.Actions.{lock_count};
 ghost use Rattle.tl_protocol.specs.Alone.{all_taken};
 ghost use Rattle.tl_protocol.specs.Obeys.{Obeys};
-ghost use Rattle.tl_machine.specs.Stands.{Stands, run_left};
+ghost use Rattle.tl_machine.specs.BetweenSteps.{IsBetweenSteps, run_left};
 ghost use Rattle.tl_machine.specs.Outcomes.{IsAnswer, outcome_of, meaning};
 ghost use Rattle.tl_machine.specs.Alone.{alone as run_alone};
 
@@ -28,7 +28,7 @@ pub struct Answer {
 
 // Runs a call to its end, from its start.
 fn run(procedure: &Proc, mut call: CallState, tree: &mut Tree) -> Answer
-    requires stands { Stands procedure.now.instrs tree.old.parents call }
+    requires stands { IsBetweenSteps procedure.now.instrs tree.old.parents call }
     requires steps { call.steps ≡ 0 }
     requires emits { call.emit_count ≡ 0 }
     ensures answer { IsAnswer (outcome_of (run_left procedure.now.instrs tree.old.parents call tree.old.records)) result.reply result.steps }

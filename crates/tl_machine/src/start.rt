@@ -1,7 +1,7 @@
 // Where a call begins.
 
 ghost use Rattle.std.specs.Prelude.{◌≡◌, ◌↔◌, length, IsOk, IfOk};
-ghost use Rattle.tl_machine.specs.Stands.{Stands};
+ghost use Rattle.tl_machine.specs.BetweenSteps.{IsBetweenSteps};
 ghost use Rattle.tl_machine.specs.Outcomes.{IsStart};
 
 use crate::call::CallState;
@@ -14,7 +14,7 @@ use tl_verify::Proc;
 pub fn start(procedure: &Proc, shape: &Shape, args: &[i64]) -> Result<CallState, WrongArgs>
     ensures wrong { IsOk result ↔ (length args.now ≡ procedure.now.arity) }
     ensures start { IfOk result (IsStart args.now) }
-    ensures stands { IfOk result (Stands procedure.now.instrs shape.now) }
+    ensures stands { IfOk result (IsBetweenSteps procedure.now.instrs shape.now) }
 {
     let arity = usize::from(procedure.code().arity().number());
     if args.len() != arity {

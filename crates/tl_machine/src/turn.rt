@@ -7,7 +7,7 @@ ghost use Rattle.tl_protocol.specs.declared.action.Action.TheVariants as did;
 ghost use Rattle.tl_machine.specs.Runs.{Then, Ended};
 ghost use Rattle.tl_machine.specs.Alone.{alone as run_alone};
 ghost use Rattle.tl_machine.specs.Call.{in_tree, reply_so_far};
-ghost use Rattle.tl_machine.specs.Stands.{Steps, Locks, Frees, Ends};
+ghost use Rattle.tl_machine.specs.BetweenSteps.{Steps, Locks, Frees, Ends};
 ghost use Rattle.tl_machine.specs.Turns.{IsTurn, Wants, Stops, IfDid, IfStopped, left_of, with_call};
 ghost use Rattle.tl_machine.specs.declared.want.Want.TheVariants as want;
 ghost use Rattle.tl_machine.specs.declared.want.Stop.TheVariants as stop;

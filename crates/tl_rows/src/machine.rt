@@ -34,6 +34,7 @@ fn a_turn_is_driven_by_what_it_wants(rt: HostRuntime) -> Result<(), Fail> {
             Want::Stop(Stop::Return) => {
                 let reply = turn.finish();
                 assert_eq!(rt; reply.values(), [20].as_slice());
+                assert!(rt; reply.copy() == reply);
             }
             Want::Stop(Stop::Over) => {}
         }
@@ -68,20 +69,23 @@ fn a_kept_turn_takes_the_end_of_a_segment(rt: HostRuntime) -> Result<(), Fail> {
     let alloc = rt.alloc();
     let shape = Arc::new(alloc, Shape::new(alloc, &[0, 0, 0])?)?;
     let mut kept = Turn::start(shared(alloc, LOOK)?, shape, &[-1])?;
-    let turn = kept.try_clone()?;
-    assert!(rt; turn.is(&kept));
-    let segment = local(turn);
+    let mut other = kept.try_clone()?;
+    let segment = local(kept.try_clone()?);
     assert!(rt; kept.is(segment.from()));
     kept.take_end(&segment);
     assert!(rt; !kept.is(segment.from()));
-    if let Want::Stop(Stop::Return) = kept.want() {
-        let reply = kept.finish();
-        assert!(rt; reply == reply.copy());
-    }
-    let mut told = segment.into_turn();
-    assert_eq!(rt; told.want(), Want::Stop(Stop::Return));
-    told.follow(&kept);
-    assert!(rt; told.is(&kept));
-    assert_eq!(rt; told.want(), Want::Stop(Stop::Over));
+    assert_eq!(rt; kept.want(), Want::Stop(Stop::Return));
+    other.follow(&kept);
+    let end = segment.into_turn();
+    assert!(rt; other.is(&end));
+    Ok(())
+}
+
+#[test]
+fn a_turn_that_is_over_wants_nothing(rt: HostRuntime) -> Result<(), Fail> {
+    let alloc = rt.alloc();
+    let shape = Arc::new(alloc, Shape::new(alloc, &[0, 0, 0])?)?;
+    let turn = Turn::over(shared(alloc, LOOK)?, shape);
+    assert_eq!(rt; turn.want(), Want::Stop(Stop::Over));
     Ok(())
 }

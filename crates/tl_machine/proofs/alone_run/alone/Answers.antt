@@ -5,15 +5,15 @@ use Rattle.tl_instr.specs.Codes.{CodeValue, IsCode}
 use Rattle.tl_budget.specs.Loops.{emit_bound}
 use Rattle.tl_verify.specs.Acceptable.{Acceptable}
 use Rattle.tl_protocol.proofs.ObeysByPlaces.{obeys_alone}
-use Rattle.tl_machine.specs.Stands.{Stands}
+use Rattle.tl_machine.specs.BetweenSteps.{IsBetweenSteps}
 use Rattle.tl_machine.specs.Outcomes.{meaning}
 use Rattle.tl_machine.proofs.StartLemmas.{is_alone, few_locks, few_values}
 use Rattle.tl_machine.proofs.alone_run.alone.Goals as goal
 
 pub run-requires-clause-stands : goal.run-requires-clause-stands
 run-requires-clause-stands c =
-    subst (λ (parents : List ℕ). Stands c.deref-5.result.now.instrs parents c.in_ok-call.call) (c.deref-2.ensures ∙ c.shape.ensures.shape)
-    (subst (λ (p : CodeValue). Stands p.instrs c.deref-2.result.now c.in_ok-call.call) (c.deref.ensures ∙ sym c.deref-5.ensures) c.in_ok-call.ensures.stands)
+    subst (λ (parents : List ℕ). IsBetweenSteps c.deref-5.result.now.instrs parents c.in_ok-call.call) (c.deref-2.ensures ∙ c.shape.ensures.shape)
+    (subst (λ (p : CodeValue). IsBetweenSteps p.instrs c.deref-2.result.now c.in_ok-call.call) (c.deref.ensures ∙ sym c.deref-5.ensures) c.in_ok-call.ensures.stands)
 
 pub returns-clause-answer : goal.returns-clause-answer
 returns-clause-answer c = search rules

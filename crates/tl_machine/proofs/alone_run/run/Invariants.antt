@@ -1,6 +1,6 @@
 use Rattle.std.proofs.Common.{◌≡◌, ◌-◌}
 use Rattle.tl_budget.specs.Loops.{budget}
-use Rattle.tl_machine.specs.Stands.{run_left}
+use Rattle.tl_machine.specs.BetweenSteps.{run_left}
 use Rattle.tl_machine.proofs.RunFromStart.{UnderWay}
 use Rattle.tl_machine.proofs.alone_run.run.Given as goal
 

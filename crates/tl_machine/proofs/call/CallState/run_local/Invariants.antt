@@ -1,14 +1,14 @@
 use Rattle.std.proofs.Common.{◌-◌}
 use Rattle.tl_budget.specs.Loops.{budget}
-use Rattle.tl_machine.specs.Stands.{Stands}
-use Rattle.tl_machine.specs.Turns.{Follows}
+use Rattle.tl_machine.specs.BetweenSteps.{IsBetweenSteps}
+use Rattle.tl_machine.specs.Turns.{ComesByLocal}
 use Rattle.tl_machine.proofs.call.CallState.run_local.Given as goal
 
 -- the call is open, where local instructions led it
 abbrev pub invariant-loop-stop : goal.invariant-loop-stop
 invariant-loop-stop l = record {
-  stands : Stands l.procedure.instrs l.shape l.self;
-  follows : Follows l.procedure.instrs l.shape l.initial.self l.self;
+  stands : IsBetweenSteps l.procedure.instrs l.shape l.self;
+  follows : ComesByLocal l.procedure.instrs l.shape l.initial.self l.self;
 }
 
 abbrev pub decreases-loop-stop : goal.decreases-loop-stop
