@@ -87,12 +87,14 @@ impl Procedures {
         }
     }
 
-    /// Puts a procedure last, under a name of its own, and answers its number. 612, 611, 613, 690.
+    /// Puts a procedure last, under a name of its own, and answers its number. Else the first that holds of 612, 611 and 613,
+    /// and only where none does, 690 where memory is refused.
     pub fn add(&mut self, alloc: Global, name: &str, procedure: Proc) -> Result<u32, NamingFault>
         ensures number { IfOk result (λ n. n ≡ length self.old) }
         ensures free { IfOk result (λ _. naming_refusal self.old name.now ≡ None) }
         ensures last { OnOk result (self.new ≡ self.old ++ record { name = name.now; code = procedure } ∷ []) }
         ensures fault { IfErr result (λ e. e ≢ fault.Memory → naming_refusal self.old name.now ≡ Some e) }
+        ensures memory { IfErr result (λ e. e ≡ fault.Memory → naming_refusal self.old name.now ≡ None) }
         ensures err { OnErr result (self.new ≡ self.old) }
     {
         self.find_free(name)?;
@@ -113,6 +115,7 @@ impl Procedures {
         ensures free { IfOk result (λ _. naming_refusal self.old name.now ≡ None) }
         ensures last { OnOk result (self.new ≡ self.old ++ record { name = name.now; code = arc_value procedure.now } ∷ []) }
         ensures fault { IfErr result (λ e. e ≢ fault.Memory → naming_refusal self.old name.now ≡ Some e) }
+        ensures memory { IfErr result (λ e. e ≡ fault.Memory → naming_refusal self.old name.now ≡ None) }
         ensures err { OnErr result (self.new ≡ self.old) }
     {
         self.find_free(name)?;
@@ -136,6 +139,7 @@ impl Procedures {
     fn find_free(&self, name: &str) -> Result<(), NamingFault>
         ensures free { OnOk result (naming_refusal self.now name.now ≡ None) }
         ensures fault { IfErr result (λ e. naming_refusal self.now name.now ≡ Some e) }
+        ensures named { IfErr result (λ e. e ≢ fault.Memory) }
     {
         if !is_name(name.as_bytes()) {
             return Err(NamingFault::BadName);
