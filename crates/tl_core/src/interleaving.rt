@@ -130,6 +130,7 @@ impl Core {
         ensures free { IfOk result (λ _. naming_refusal self.old.seen.procedures name.now ≡ None) }
         ensures last { OnOk result (self.new ≡ record self.old { seen = record self.old.seen { procedures = self.old.seen.procedures ++ record { name = name.now; code = procedure } ∷ [] } }) }
         ensures fault { IfErr result (λ e. e ≢ naming.Memory → naming_refusal self.old.seen.procedures name.now ≡ Some e) }
+        ensures memory { IfErr result (λ e. e ≡ naming.Memory → naming_refusal self.old.seen.procedures name.now ≡ None) }
         ensures err { OnErr result (self.new ≡ self.old) }
     {
         self.procedures.add(alloc, name, procedure)

@@ -4,7 +4,8 @@ use crate::texts::{ADD, BOTH, CHAIN, FORK, LOOK, ONE_NODE, STORE, WALK, procedur
 use std::alloc::Global;
 use std::process::Abort;
 use std::test::Fail;
-use tl_core::{Core, CoreFault, Stepped};
+use tl_core::{Core, CoreFault, Followed, Stepped};
+use tl_machine::local;
 use tl_procedures::NamingFault;
 use tl_protocol::Action;
 use tl_tree::Record;
@@ -175,6 +176,45 @@ fn step_enables(
     assert_eq!(rt; core.some_enabled(), least, "{call}");
     Ok(())
 }
+
+// ---- segments
+
+/// Does a call's next local instructions outside the core, hands them in, and says what came of it.
+fn follow(core: &mut Core, call: u32) -> Result<&'static str, CoreFault> {
+    let segment = local(core.turn(call)?);
+    match core.follow(call, segment)? {
+        Followed::Went(_) => Ok("went"),
+        Followed::Blocked { .. } => Ok("blocked"),
+        Followed::Finished(_) => Ok("finished"),
+    }
+}
+
+/// Whose segment is next, and what comes of it: call 0 locks node 2, stores, frees it and ends.
+const SEGMENTS: [(u32, Result<&str, CoreFault>); 8] = [
+    (0, Ok("went")),
+    (1, Ok("blocked")),
+    (0, Ok("went")),
+    (1, Ok("went")),
+    (0, Ok("finished")),
+    (0, Err(CoreFault::NotFrom)),
+    (1, Ok("went")),
+    (2, Err(CoreFault::NoCall)),
+];
+
+#[test]
+fn calls_follow_segments_done_elsewhere(rt: HostRuntime) -> Result<(), Fail> {
+    let mut core = core_of(rt.alloc(), FORK, "store", STORE, 16)?;
+    admits(&rt, &mut core, "store", &[2, 22], Ok(0))?;
+    admits(&rt, &mut core, "store", &[2, 33], Ok(1))?;
+    let foreign = local(core.turn(1)?);
+    assert_eq!(rt; core.is_at(0, foreign.from()), Ok(false));
+    for (call, outcome) in SEGMENTS {
+        assert_eq!(rt; follow(&mut core, call), outcome, "{call}");
+    }
+    holds(&rt, &core, 2, [33, 0, 0, 0], None)
+}
+
+// ---- which call is enabled, by steps
 
 // Call 1 holds node 2 when call 0 asks for it, and call 0 goes on once it is free.
 #[test]
