@@ -4,8 +4,8 @@ ghost use Rattle.std.specs.Prelude.{◌≡◌, ℕ, ◌^◌, ◌<◌, ◌≤◌,
 ghost use Rattle.tl_tree.specs.Shape.{IsTree};
 ghost use Rattle.tl_protocol.specs.declared.event.Event.{Event as EventValue};
 ghost use Rattle.tl_protocol.specs.Actions.{may_come};
-ghost use Rattle.tl_protocol.specs.History.{caller, part_of, past_of};
-ghost use Rattle.tl_protocol.specs.Order.{put_before, placed, placed_after};
+ghost use Rattle.tl_protocol.specs.History.{caller, part_of, past_of, IsLegalHistory};
+ghost use Rattle.tl_protocol.specs.Order.{put_before, placed, placed_after, Agrees};
 ghost use Rattle.tl_protocol.specs.Nodes.{IsOfNodes};
 ghost use Rattle.tl_order.specs.Parts.{AreOfNodes, Show, ShowAll};
 ghost use Rattle.tl_order.specs.Way.{IsWay};
@@ -24,10 +24,24 @@ use tl_tree::Shape;
 ///
 /// At a call's first lock, of x, the call is put in just before the first call that may still come to x at that moment,
 /// or at the end if there is none. A call that is done without a lock goes to the end. A call that stands isn't put in
-/// again, and nothing else moves. So any history has an order, also one that breaks the rules.
+/// again, and nothing else moves. So any history has an order, also one that breaks the rules. The order agrees with a
+/// history that keeps them: its members are the calls that locked a node or are done, and those that locked a node stand in
+/// the order in which they locked it.
 ///
 /// 690 where memory is refused.
 pub fn order_of(alloc: Global, history: &History, shape: &Shape) -> Result<Order, SerialFault>
+    requires { All (IsOfNodes (length shape.now)) history.now.past }
+    ensures ok { IfOk result (λ o. o ≡ placed shape.now history.now.past) }
+    ensures agrees { IfOk result (λ o. IsLegalHistory shape.now history.now.past → Agrees o history.now.past) }
+    ensures err { IfErr result (λ e. e ≡ SerialFault.Memory) }
+{
+    // The shape is a tree's: here a proof learns that.
+    let _nodes = shape.node_count();
+    placed_order(alloc, history, shape)
+}
+
+// The same, without what is so of it where the history keeps the rules.
+fn placed_order(alloc: Global, history: &History, shape: &Shape) -> Result<Order, SerialFault>
     requires { All (IsOfNodes (length shape.now)) history.now.past }
     ensures ok { IfOk result (λ o. o ≡ placed shape.now history.now.past) }
     ensures err { IfErr result (λ e. e ≡ SerialFault.Memory) }

@@ -1,0 +1,13 @@
+use Rattle.std.proofs.Common.{◌≡◌, sym, subst}
+use Rattle.std.proofs.lemmas.Result.{IfOk-weaker}
+use Rattle.tl_protocol.specs.History.{IsLegalHistory}
+use Rattle.tl_protocol.specs.Order.{placed, Agrees}
+use Rattle.tl_protocol.proofs.PlacedAgrees.{placed-agrees}
+use Rattle.tl_order.proofs.placing.order_of.Goals as goal
+
+pub returns-clause-agrees : goal.returns-clause-agrees
+returns-clause-agrees c =
+    let shape = c.args.shape.now in
+    let past = c.args.history.now.past in
+    IfOk-weaker c.placed_order.result (λ o. o ≡ placed shape past) (λ o. IsLegalHistory shape past → Agrees o past)
+    (λ o is legal. subst (λ z. Agrees z past) (sym is) (placed-agrees shape c.node_count-nodes.ensures.tree past legal)) c.placed_order.ensures.ok
