@@ -94,7 +94,7 @@ impl Core {
         ensures ok { IfOk result (λ core. core ≡ record { parents = tree.parents; opening = tree.records; procedures = procedures; calls = []; past = []; limit = limit }) }
         ensures err { IfErr result (λ e. e ≡ fault.Memory) }
     {
-        let Ok(latest) = tree.copy() else {
+        let Ok(latest) = tree.copy(alloc) else {
             return Err(CoreFault::Memory);
         };
         let nodes = usize::from(tree.shape().node_count());
@@ -194,7 +194,7 @@ impl Core {
     /// calls were admitted; 604 where 64 are open; 605 where the history has no room for all events that the call
     /// may have. Else 690 where memory is refused. A refusal changes nothing, and from then on no step of the call takes
     /// memory.
-    pub fn admit(&mut self, name: &str, args: &[i64]) -> Result<u32, CoreFault>
+    pub fn admit(&mut self, alloc: Global, name: &str, args: &[i64]) -> Result<u32, CoreFault>
         ensures number { IfOk result (λ n. n ≡ length self.old.calls) }
         ensures free { IfOk result (λ _. admission_refusal self.old name.now args.now ≡ None) }
         ensures after { OnOk result (self.new ≡ after_admission self.old name.now args.now) }
@@ -206,7 +206,7 @@ impl Core {
         let (args, turn) = begin(proc, self.opening.shape(), args)?;
         let call = self.calls.len();
         self.calls.reserve(1)?;
-        let Ok(()) = self.history.reserve(places) else {
+        let Ok(()) = self.history.reserve(alloc, places) else {
             return Err(CoreFault::Memory);
         };
         self.history.append(Event::Admit { call: call as u32 });
@@ -317,19 +317,19 @@ impl Core {
         self.is_sound();
         let mut trace = Vec::with_capacity(alloc, moves.len())?;
         for one in moves {
-            trace.push_reserved(self.carry_out(one));
+            trace.push_reserved(self.carry_out(alloc, one));
         }
         self.is_sound();
         Ok(trace)
     }
 
     // One move.
-    fn carry_out(&mut self, one: &Move) -> Entry
+    fn carry_out(&mut self, alloc: Global, one: &Move) -> Entry
         ensures entry { IsEntry self.old one.now result }
         ensures after { self.new ≡ after_entry self.old one.now result }
     {
         match one {
-            Move::Admit { name, args } => match self.admit(name, args) {
+            Move::Admit { name, args } => match self.admit(alloc, name, args) {
                 Ok(call) => Entry::Admitted { call },
                 Err(fault) => Entry::Refused { fault },
             },
