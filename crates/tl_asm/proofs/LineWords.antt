@@ -11,6 +11,8 @@ use Rattle.std.proofs.lemmas.Fmt.{decimal-digits_value}
 use Rattle.tl_instr.specs.declared.instr.Instr.{Instr}
 use Rattle.tl_instr.specs.declared.instr.Instr.TheVariants.{Set, Copy, Add, Subtract, Multiply, Divide, Jump, JumpIfLess, JumpIfEqual, Repeat, End, First, Child, Move, Release, Get, Put, Kids, Emit, Return}
 use Rattle.tl_instr.specs.Instructions.{InRange, target}
+use Rattle.tl_fields.specs.Fields.{field_count}
+use Rattle.tl_instr.specs.declared.operand.TheConstants.{VALUE_REGISTERS, NODE_REGISTERS}
 use Rattle.tl_asm.specs.Words.{Word, first_of}
 use Rattle.tl_asm.specs.Tokens.{◌>>=◌, is_number, number_in, register_in, value_register, node_register, signed_in, is_label}
 use Rattle.tl_asm.specs.Statements.{DraftValue, plain, going, token, last, only_of, label_in, else_in, otherwise_in, alone_in, set_in, copy_in, arithmetic_in, add_in, subtract_in, multiply_in, divide_in, jump_in, comparison_in, jump_if_less_in, jump_if_equal_in, repeat_in, first_in, child_in, move_in, release_in, get_in, put_in, kids_in, emit_in, draft_in}
@@ -57,11 +59,11 @@ register_word letter limit n (b ∷ word) fits e = by (b == letter) refl e
         ((ap (λ x. x ∷ word) same ∙ ap (λ ds. letter ∷ ds) is), small)
     by false t e = absurd (cc e)
 
-value_found : (n : ℕ) (word : Word) → value_register word ≡ Some n → (word ≡ value_word n) × (n < 16)
-value_found n word e = register_word 118 16 n word (omega arith) e
+value_found : (n : ℕ) (word : Word) → value_register word ≡ Some n → (word ≡ value_word n) × (n < VALUE_REGISTERS)
+value_found n word e = register_word 118 VALUE_REGISTERS n word (omega arith) e
 
-node_found : (n : ℕ) (word : Word) → node_register word ≡ Some n → (word ≡ node_word n) × (n < 8)
-node_found n word e = register_word 110 8 n word (omega arith) e
+node_found : (n : ℕ) (word : Word) → node_register word ≡ Some n → (word ≡ node_word n) × (n < NODE_REGISTERS)
+node_found n word e = register_word 110 NODE_REGISTERS n word (omega arith) e
 
 negative : (n : ℕ) (z : ℤ) → n < 2147483649 → cond (n == 0) None (Some (neg_ℤ (pos n))) ≡ Some z → (45 ∷ decimal n ≡ signed_decimal z) × FitsSigned w32 z
 negative zero z small e = absurd (cc e)
@@ -145,7 +147,7 @@ otherwise_found words l e =
     (at ∙ ap (λ x. x ∷ literal.1) word ∙ ap (λ ws. codes "else" ∷ ws) after ∙ ap (λ x. codes "else" ∷ x ∷ []) label, good)
 
 arithmetic_found : (words : List Word) (x : ℕ × ℕ × ℕ × Word) → arithmetic_in words ≡ Some x
-    → (words ≡ value_word x.0 ∷ value_word x.1 ∷ value_word x.2 ∷ codes "else" ∷ x.3 ∷ []) × (x.0 < 16) × (x.1 < 16) × (x.2 < 16) × (is_label x.3 ≡ true)
+    → (words ≡ value_word x.0 ∷ value_word x.1 ∷ value_word x.2 ∷ codes "else" ∷ x.3 ∷ []) × (x.0 < VALUE_REGISTERS) × (x.1 < VALUE_REGISTERS) × (x.2 < VALUE_REGISTERS) × (is_label x.3 ≡ true)
 unfolding arithmetic_in
 arithmetic_found words x e =
     let (to, to_is, e1) = bound (token value_register words) (λ to. do
@@ -169,12 +171,12 @@ arithmetic_found words x e =
     let (v1, b1) = value_found left.0 w1 r1 in
     let (v2, b2) = value_found right.0 w2 r2 in
     let same : (to.0, left.0, right.0, label) ≡ x = cc e4 in
-    let P : (ℕ × ℕ × ℕ × Word) → Type 0 = λ x. (words ≡ value_word x.0 ∷ value_word x.1 ∷ value_word x.2 ∷ codes "else" ∷ x.3 ∷ []) × (x.0 < 16) × (x.1 < 16) × (x.2 < 16) × (is_label x.3 ≡ true) in
+    let P : (ℕ × ℕ × ℕ × Word) → Type 0 = λ x. (words ≡ value_word x.0 ∷ value_word x.1 ∷ value_word x.2 ∷ codes "else" ∷ x.3 ∷ []) × (x.0 < VALUE_REGISTERS) × (x.1 < VALUE_REGISTERS) × (x.2 < VALUE_REGISTERS) × (is_label x.3 ≡ true) in
     let all : words ≡ value_word to.0 ∷ value_word left.0 ∷ value_word right.0 ∷ codes "else" ∷ label ∷ [] = cc in
     subst P same (all, b0, b1, b2, good)
 
 comparison_found : (words : List Word) (x : ℕ × ℕ × Word) → comparison_in words ≡ Some x
-    → (words ≡ value_word x.0 ∷ value_word x.1 ∷ x.2 ∷ []) × (x.0 < 16) × (x.1 < 16) × (is_label x.2 ≡ true)
+    → (words ≡ value_word x.0 ∷ value_word x.1 ∷ x.2 ∷ []) × (x.0 < VALUE_REGISTERS) × (x.1 < VALUE_REGISTERS) × (is_label x.2 ≡ true)
 unfolding comparison_in
 comparison_found words x e =
     let (left, left_is, e1) = bound (token value_register words) (λ left. do
@@ -192,7 +194,7 @@ comparison_found words x e =
     let (v1, b1) = value_found right.0 w1 r1 in
     let (v2, good) = label_found label w2 r2 in
     let same : (left.0, right.0, label) ≡ x = cc e3 in
-    let P : (ℕ × ℕ × Word) → Type 0 = λ x. (words ≡ value_word x.0 ∷ value_word x.1 ∷ x.2 ∷ []) × (x.0 < 16) × (x.1 < 16) × (is_label x.2 ≡ true) in
+    let P : (ℕ × ℕ × Word) → Type 0 = λ x. (words ≡ value_word x.0 ∷ value_word x.1 ∷ x.2 ∷ []) × (x.0 < VALUE_REGISTERS) × (x.1 < VALUE_REGISTERS) × (is_label x.2 ≡ true) in
     let all : words ≡ value_word left.0 ∷ value_word right.0 ∷ label ∷ [] = cc in
     subst P same (all, b0, b1, good)
 
@@ -371,18 +373,18 @@ unfolding get_in Line
 get_line words d h =
     let (a, a_is, h0) = bound (token value_register words) (λ a. do
       b ← token node_register a.1
-      z ← last (number_in 4) b.1
+      z ← last (number_in field_count) b.1
       Some (plain (Get a.0 b.0 z))) d h in
     let (b, b_is, h1) = bound (token node_register a.1) (λ b. do
-      z ← last (number_in 4) b.1
+      z ← last (number_in field_count) b.1
       Some (plain (Get a.0 b.0 z))) d h0 in
-    let (z, z_is, hz) = bound (last (number_in 4) b.1) (λ z. Some (plain (Get a.0 b.0 z))) d h1 in
+    let (z, z_is, hz) = bound (last (number_in field_count) b.1) (λ z. Some (plain (Get a.0 b.0 z))) d h1 in
     let (w_a, at_a, r_a) = token_found value_register words a a_is in
     let (v_a, b_a) = value_found a.0 w_a r_a in
     let (w_b, at_b, r_b) = token_found node_register a.1 b b_is in
     let (v_b, b_b) = node_found b.0 w_b r_b in
-    let (w_z, at_z, r_z) = last_found (number_in 4) b.1 z z_is in
-    let (v_z, b_z) = number_word 4 z w_z (omega arith) r_z in
+    let (w_z, at_z, r_z) = last_found (number_in field_count) b.1 z z_is in
+    let (v_z, b_z) = number_word field_count z w_z (omega arith) r_z in
     let same : plain (Get a.0 b.0 z) ≡ d = cc hz in
     let all : words ≡ value_word a.0 ∷ node_word b.0 ∷ decimal z ∷ [] = cc in
     subst (Line (codes "get") words) same (record { words_are = ap (λ ws. codes "get" ∷ ws) all; in_range = (b_a, b_b, b_z); label = refl })
@@ -391,17 +393,17 @@ put_line : (words : List Word) (d : DraftValue) → put_in words ≡ Some d → 
 unfolding put_in Line
 put_line words d h =
     let (a, a_is, h0) = bound (token node_register words) (λ a. do
-      b ← token (number_in 4) a.1
+      b ← token (number_in field_count) a.1
       z ← last value_register b.1
       Some (plain (Put a.0 b.0 z))) d h in
-    let (b, b_is, h1) = bound (token (number_in 4) a.1) (λ b. do
+    let (b, b_is, h1) = bound (token (number_in field_count) a.1) (λ b. do
       z ← last value_register b.1
       Some (plain (Put a.0 b.0 z))) d h0 in
     let (z, z_is, hz) = bound (last value_register b.1) (λ z. Some (plain (Put a.0 b.0 z))) d h1 in
     let (w_a, at_a, r_a) = token_found node_register words a a_is in
     let (v_a, b_a) = node_found a.0 w_a r_a in
-    let (w_b, at_b, r_b) = token_found (number_in 4) a.1 b b_is in
-    let (v_b, b_b) = number_word 4 b.0 w_b (omega arith) r_b in
+    let (w_b, at_b, r_b) = token_found (number_in field_count) a.1 b b_is in
+    let (v_b, b_b) = number_word field_count b.0 w_b (omega arith) r_b in
     let (w_z, at_z, r_z) = last_found value_register b.1 z z_is in
     let (v_z, b_z) = value_found z w_z r_z in
     let same : plain (Put a.0 b.0 z) ≡ d = cc hz in
@@ -512,8 +514,8 @@ read_again (Child to parent number otherwise) None h k = absurd k
 read_again (Child to parent number otherwise) (Some w) h k = rw (node_again to h.0, node_again parent h.1, value_again number h.2, k.1) (ap (λ o. Some (with_label (Child to parent number o) (Some w))) (sym k.0))
 read_again (Move to from) label h k = rw (node_again to h.0, node_again from h.1) (ap (λ l. Some (with_label (Move to from) l)) (sym k))
 read_again (Release node) label h k = rw (node_again node h) (ap (λ l. Some (with_label (Release node) l)) (sym k))
-read_again (Get to node field) label h k = rw (value_again to h.0, node_again node h.1, number_again 4 field h.2 (omega arith)) (ap (λ l. Some (with_label (Get to node field) l)) (sym k))
-read_again (Put node field from) label h k = rw (node_again node h.0, number_again 4 field h.1 (omega arith), value_again from h.2) (ap (λ l. Some (with_label (Put node field from) l)) (sym k))
+read_again (Get to node field) label h k = rw (value_again to h.0, node_again node h.1, number_again field_count field h.2 (omega arith)) (ap (λ l. Some (with_label (Get to node field) l)) (sym k))
+read_again (Put node field from) label h k = rw (node_again node h.0, number_again field_count field h.1 (omega arith), value_again from h.2) (ap (λ l. Some (with_label (Put node field from) l)) (sym k))
 read_again (Kids to node) label h k = rw (value_again to h.0, node_again node h.1) (ap (λ l. Some (with_label (Kids to node) l)) (sym k))
 read_again (Emit from) label h k = rw (value_again from h) (ap (λ l. Some (with_label (Emit from) l)) (sym k))
 read_again Return label h k = (ap (λ l. Some (with_label Return l)) (sym k))

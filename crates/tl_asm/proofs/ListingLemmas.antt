@@ -10,6 +10,7 @@ use Rattle.std.proofs.lemmas.Fmt.{decimal_nonempty}
 use Rattle.tl_instr.specs.declared.instr.Instr.{Instr}
 use Rattle.tl_instr.specs.declared.instr.Instr.TheVariants.{Set, Copy, Add, Subtract, Multiply, Divide, Jump, JumpIfLess, JumpIfEqual, Repeat, End, First, Child, Move, Release, Get, Put, Kids, Emit, Return}
 use Rattle.tl_instr.specs.Instructions.{InRange, GoesWithin}
+use Rattle.tl_instr.specs.declared.operand.TheConstants.{VALUE_REGISTERS, NODE_REGISTERS}
 use Rattle.tl_asm.specs.Words.{Word, words_of}
 use Rattle.tl_asm.specs.Statements.{Said, Blank, Names, Does, said_in}
 use Rattle.tl_asm.specs.Texts.{statements}
@@ -45,10 +46,10 @@ signed_word : (z : ℤ) → FitsSigned w32 z → IsCleanWord (signed_decimal z)
 signed_word (pos n) h = let lt : n < 2147483648 = h.sfits in number_word n (omega arith)
 signed_word (negsuc n) h = let lt : n < 2147483648 = h.sfits in (refl, refl, refl, clean_decimal (suc n) (omega arith))
 
-value_clean : (n : ℕ) → n < 16 → IsCleanWord (118 ∷ decimal n)
+value_clean : (n : ℕ) → n < VALUE_REGISTERS → IsCleanWord (118 ∷ decimal n)
 value_clean n lt = (refl, refl, refl, clean_decimal n (omega arith))
 
-node_clean : (n : ℕ) → n < 8 → IsCleanWord (110 ∷ decimal n)
+node_clean : (n : ℕ) → n < NODE_REGISTERS → IsCleanWord (110 ∷ decimal n)
 node_clean n lt = (refl, refl, refl, clean_decimal n (omega arith))
 
 label_clean : (pc : ℕ) → pc ≤ 1024 → IsCleanWord (76 ∷ decimal pc)

@@ -13,6 +13,8 @@ use Rattle.std.proofs.lemmas.Fmt.{digits_decimal, digits_value-decimal, decimal_
 use Rattle.tl_instr.specs.declared.instr.Instr.{Instr}
 use Rattle.tl_instr.specs.declared.instr.Instr.TheVariants.{Set, Copy, Add, Subtract, Multiply, Divide, Jump, JumpIfLess, JumpIfEqual, Repeat, End, First, Child, Move, Release, Get, Put, Kids, Emit, Return}
 use Rattle.tl_instr.specs.Instructions.{InRange, GoesWithin, target}
+use Rattle.tl_fields.specs.Fields.{field_count}
+use Rattle.tl_instr.specs.declared.operand.TheConstants.{VALUE_REGISTERS, NODE_REGISTERS}
 use Rattle.tl_asm.specs.Tokens.{is_number, number_in, register_in, signed_in, continues_label, is_label}
 use Rattle.tl_asm.specs.Statements.{DraftValue, Takes, Names, Does, otherwise_in, alone_in, set_in, copy_in, arithmetic_in, add_in, subtract_in, multiply_in, divide_in, jump_in, comparison_in, jump_if_less_in, jump_if_equal_in, repeat_in, first_in, child_in, move_in, release_in, get_in, put_in, kids_in, emit_in, draft_in, said_in}
 use Rattle.tl_asm.specs.Texts.{with_target}
@@ -39,13 +41,13 @@ number_again limit n lt fits =
     let small : n < 2 ^ 64 = omega arith in
     rw (is_number_again n small, digits_value-decimal own n small, lt-ltb n limit lt) refl
 
-pub value_again : (n : ℕ) → n < 16 → register_in 118 16 (118 ∷ decimal n) ≡ Some n
+pub value_again : (n : ℕ) → n < VALUE_REGISTERS → register_in 118 VALUE_REGISTERS (118 ∷ decimal n) ≡ Some n
 unfolding register_in
-value_again n lt = number_again 16 n lt (omega arith)
+value_again n lt = number_again VALUE_REGISTERS n lt (omega arith)
 
-pub node_again : (n : ℕ) → n < 8 → register_in 110 8 (110 ∷ decimal n) ≡ Some n
+pub node_again : (n : ℕ) → n < NODE_REGISTERS → register_in 110 NODE_REGISTERS (110 ∷ decimal n) ≡ Some n
 unfolding register_in
-node_again n lt = number_again 8 n lt (omega arith)
+node_again n lt = number_again NODE_REGISTERS n lt (omega arith)
 
 unsigned : (ds : List ℕ) → 0 < length ds → get_or ds 0 0 ≢ 45 → signed_in ds ≡ option_map pos (number_in 2147483648 ds)
 unfolding signed_in
@@ -105,8 +107,8 @@ instr_again (First to number otherwise) h t = rw (node_again to h.0, value_again
 instr_again (Child to parent number otherwise) h t = rw (node_again to h.0, node_again parent h.1, value_again number h.2, label_again otherwise t) refl
 instr_again (Move to from) h t = rw (node_again to h.0, node_again from h.1) refl
 instr_again (Release node) h t = rw (node_again node h) refl
-instr_again (Get to node field) h t = rw (value_again to h.0, node_again node h.1, number_again 4 field h.2 (omega arith)) refl
-instr_again (Put node field from) h t = rw (node_again node h.0, number_again 4 field h.1 (omega arith), value_again from h.2) refl
+instr_again (Get to node field) h t = rw (value_again to h.0, node_again node h.1, number_again field_count field h.2 (omega arith)) refl
+instr_again (Put node field from) h t = rw (node_again node h.0, number_again field_count field h.1 (omega arith), value_again from h.2) refl
 instr_again (Kids to node) h t = rw (value_again to h.0, node_again node h.1) refl
 instr_again (Emit from) h t = rw (value_again from h) refl
 instr_again Return h t = refl

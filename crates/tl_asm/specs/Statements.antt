@@ -2,6 +2,7 @@
 use Rattle.std.specs.Prelude.{ℕ, ◌-◌, List, [], ◌∷◌, length, take, slice_index, Option, Some, None, option_map, ◌==◌, if◌then◌else◌}
 use Rattle.std.specs.Str.{bytes_eq}
 use lib.Chars.{codes}
+use Rattle.tl_fields.specs.Fields.{field_count}
 use Rattle.tl_instr.specs.declared.instr.Instr.{Instr}
 use Rattle.tl_instr.specs.declared.instr.Instr.TheVariants.{Set, Copy, Add, Subtract, Multiply, Divide, Jump, JumpIfLess, JumpIfEqual, Repeat, End, First, Child, Move, Release, Get, Put, Kids, Emit, Return}
 use Rattle.tl_instr.specs.Codes.{IsArity}
@@ -156,13 +157,13 @@ unfoldable pub get_in : List Word → Option DraftValue
 get_in words = do
   to ← token value_register words
   node ← token node_register to.1
-  field ← last (number_in 4) node.1
+  field ← last (number_in field_count) node.1
   Some (plain (Get to.0 node.0 field))
 
 unfoldable pub put_in : List Word → Option DraftValue
 put_in words = do
   node ← token node_register words
-  field ← token (number_in 4) node.1
+  field ← token (number_in field_count) node.1
   from ← last value_register field.1
   Some (plain (Put node.0 field.0 from))
 

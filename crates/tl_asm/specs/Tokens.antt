@@ -4,6 +4,7 @@ use Rattle.std.specs.List.{list_all}
 use Rattle.std.specs.Char.{is_ascii_alphabetic, is_ascii_alphanumeric}
 use Rattle.std.specs.Str.{all_ascii_digits}
 use Rattle.std.specs.Str.Parse.{digits_value}
+use Rattle.tl_instr.specs.declared.operand.TheConstants.{VALUE_REGISTERS, NODE_REGISTERS}
 use Rattle.tl_asm.specs.declared.token.TheConstants.{MAX_LABEL}
 use Rattle.tl_asm.specs.Words.{Word}
 
@@ -25,10 +26,10 @@ register_in letter limit [] = None
 register_in letter limit (b ∷ word) = if b == letter then number_in limit word else None
 
 abbrev pub value_register : Word → Option ℕ
-value_register word = register_in 118 16 word
+value_register word = register_in 118 VALUE_REGISTERS word
 
 abbrev pub node_register : Word → Option ℕ
-node_register word = register_in 110 8 word
+node_register word = register_in 110 NODE_REGISTERS word
 
 -- a number from -2147483648 to 2147483647, with a `-` before a negative one
 unfoldable pub signed_in : Word → Option ℤ

@@ -1,6 +1,7 @@
 //! The instruction that a line's words are.
 
 ghost use Rattle.std.specs.Prelude.{◌≡◌, IfSome};
+ghost use Rattle.tl_fields.specs.Fields.{field_count};
 ghost use Rattle.tl_instr.specs.Instructions.{GoesWithin, IsInstr};
 ghost use Rattle.tl_asm.specs.Words.{words_of, Finds};
 ghost use Rattle.tl_asm.specs.Tokens.{number_in, value_register, node_register, signed_in};
@@ -26,7 +27,7 @@ fn node(line: &[u8]) -> Option<(NodeRegister, &[u8])>
 }
 
 fn field(line: &[u8]) -> Option<(Field, &[u8])>
-    ensures { Finds (λ x. (x.0, words_of x.1.now)) result (token (number_in 4) (words_of line.now)) }
+    ensures { Finds (λ x. (x.0, words_of x.1.now)) result (token (number_in field_count) (words_of line.now)) }
 {
     let (word, rest) = next_word(line)?;
     Some((token::field(word)?, rest))

@@ -3,10 +3,12 @@
 ghost use Rattle.std.specs.Prelude.{◌≡◌, ◌<◌, IfSome};
 ghost use Rattle.std.specs.List.{list_all};
 ghost use Rattle.std.specs.Str.{all_ascii_digits};
+ghost use Rattle.tl_fields.specs.Fields.{field_count};
 ghost use Rattle.tl_asm.specs.Tokens.{is_number, number_in, register_in, value_register, node_register, signed_in, begins_label, continues_label, is_label};
 
 use std::str;
-use tl_instr::{Arity, Field, NodeRegister, ValueRegister};
+use tl_fields::FIELD_COUNT;
+use tl_instr::{Arity, Field, NODE_REGISTERS, NodeRegister, VALUE_REGISTERS, ValueRegister};
 
 fn all_digits(word: &[u8]) -> bool
     ensures { result ≡ all_ascii_digits word.now }
@@ -52,21 +54,21 @@ fn register_in(letter: u8, limit: u32, word: &[u8]) -> Option<u32>
 pub fn value_register(word: &[u8]) -> Option<ValueRegister>
     ensures { result ≡ value_register word.now }
 {
-    ValueRegister::new(register_in(b'v', 16, word)? as u8)
+    ValueRegister::new(register_in(b'v', VALUE_REGISTERS as u32, word)? as u8)
 }
 
 /// `n0` to `n7`.
 pub fn node_register(word: &[u8]) -> Option<NodeRegister>
     ensures { result ≡ node_register word.now }
 {
-    NodeRegister::new(register_in(b'n', 8, word)? as u8)
+    NodeRegister::new(register_in(b'n', NODE_REGISTERS as u32, word)? as u8)
 }
 
 /// `0` to `3`.
 pub fn field(word: &[u8]) -> Option<Field>
-    ensures { result ≡ number_in 4 word.now }
+    ensures { result ≡ number_in field_count word.now }
 {
-    Field::new(number_in(4, word)? as u8)
+    Field::new(number_in(FIELD_COUNT as u32, word)? as u8)
 }
 
 /// `0` to `8`.

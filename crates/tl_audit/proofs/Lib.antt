@@ -1,3 +1,4 @@
+pub mod Rows
 pub mod Cleaned
 pub mod Watching
 pub mod Seeing

@@ -59,7 +59,7 @@ fn stepped(
     for (group, some) in args.chunks(OPEN).enumerate() {
         open.clear();
         for arg in some {
-            let call = core.admit("walk", &[*arg]).ok()?;
+            let call = core.admit(alloc, "walk", &[*arg]).ok()?;
             open.push(Open {
                 call,
                 is_over: false,

@@ -1,4 +1,5 @@
 pub mod NothingFound
+pub mod Rows
 pub mod SectionCosts
 pub mod FirstFaults
 pub mod LoopWays

@@ -2,6 +2,7 @@
 use Rattle.std.specs.Prelude.{◌≡◌, ◌⊎◌, ℕ, zero, suc, ◌<◌, ◌≤◌, List, [], ◌∷◌, Some, None, take}
 use Rattle.tl_instr.specs.declared.instr.Instr.{Instr}
 use Rattle.tl_budget.specs.Loops.{Kind, Opens, Closes, Returns, Acts, kind, kind_at, loop_at}
+use Rattle.tl_budget.specs.declared.limits.TheConstants.{MAX_DEPTH}
 use Rattle.tl_budget.specs.declared.fault.NestFault.{NestFault}
 use Rattle.tl_budget.specs.declared.fault.NestFault.TheVariants as fault
 
@@ -10,7 +11,7 @@ pub data Finding : Type 0 where
   Alone : (p : ℕ) → Finding
   -- a loop turns no time
   Zero : (p : ℕ) → Finding
-  -- a loop opens in four others
+  -- a loop opens in as many others as may nest
   Deep : (p : ℕ) → Finding
   -- a loop has no end
   Unclosed : (p : ℕ) → Finding
@@ -36,7 +37,7 @@ open_at code p = open_behind (take p code) 0
 abbrev pub Arises : List Instr → Finding → Type 0
 Arises code (Alone p) = (kind_at code p ≡ Some Closes) × (open_at code p ≡ 0)
 Arises code (Zero p) = kind_at code p ≡ Some (Opens 0)
-Arises code (Deep p) = (w : ℕ) × (kind_at code p ≡ Some (Opens w)) × (4 ≤ open_at code p)
+Arises code (Deep p) = (w : ℕ) × (kind_at code p ≡ Some (Opens w)) × (MAX_DEPTH ≤ open_at code p)
 Arises code (Unclosed p) = (w : ℕ) × (kind_at code p ≡ Some (Opens w)) × (loop_at code p ≡ None)
 
 -- what is looked at first: all else before loops without an end

@@ -1,5 +1,8 @@
 // What a procedure may cost.
 
+/// How deep loops may stand in one another.
+pub const MAX_DEPTH: usize = 4;
+
 /// The most instructions that a call does.
 pub const MAX_STEPS: u32 = 1_000_000;
 

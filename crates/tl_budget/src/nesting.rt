@@ -6,13 +6,14 @@ ghost use Rattle.tl_budget.specs.Nested.{IsNested, IsNest};
 ghost use Rattle.tl_budget.specs.declared.fault.NestFault.TheVariants as fault;
 
 use crate::fault::NestFault;
+use crate::limits::MAX_DEPTH;
 use crate::nested::{Nest, Place};
 use arrayvec::ArrayVec;
 use std::alloc::Global;
 use tl_instr::{Code, Instr};
 
 // The place of a position, where loops are open that open at these positions, the outermost first.
-fn place(openings: &ArrayVec<u16, 4>) -> Place
+fn place(openings: &ArrayVec<u16, MAX_DEPTH>) -> Place
     ensures depth { result.depth ≡ length openings.now.items }
     ensures opening { result.opening ≡ slice_index openings.now.items (length openings.now.items - 1) }
     ensures close { result.close ≡ 0 }
@@ -25,11 +26,15 @@ fn place(openings: &ArrayVec<u16, 4>) -> Place
 }
 
 // A loop opens at the position.
-fn enter(openings: &mut ArrayVec<u16, 4>, position: u16, count: u16) -> Result<(), NestFault>
+fn enter(
+    openings: &mut ArrayVec<u16, MAX_DEPTH>,
+    position: u16,
+    count: u16,
+) -> Result<(), NestFault>
     ensures turns { OnOk result (0 < count) }
-    ensures room { OnOk result (length openings.old.items < 4) }
+    ensures room { OnOk result (length openings.old.items < MAX_DEPTH) }
     ensures opened { OnOk result (openings.new.items ≡ openings.old.items ++ position ∷ []) }
-    ensures fault { IfErr result (λ f. ((count ≡ 0) × (f ≡ fault.ZeroCount position)) ⊎ ((0 < count) × (4 ≤ length openings.old.items) × (f ≡ fault.TooDeep position))) }
+    ensures fault { IfErr result (λ f. ((count ≡ 0) × (f ≡ fault.ZeroCount position)) ⊎ ((0 < count) × (MAX_DEPTH ≤ length openings.old.items) × (f ≡ fault.TooDeep position))) }
 {
     if count == 0 {
         return Err(NestFault::ZeroCount(position));
@@ -41,7 +46,7 @@ fn enter(openings: &mut ArrayVec<u16, 4>, position: u16, count: u16) -> Result<(
 }
 
 // The innermost loop ends at the position: where it opens.
-fn leave(openings: &mut ArrayVec<u16, 4>, position: u16) -> Result<u16, NestFault>
+fn leave(openings: &mut ArrayVec<u16, MAX_DEPTH>, position: u16) -> Result<u16, NestFault>
     ensures closed { IfOk result (λ opening. openings.old.items ≡ openings.new.items ++ opening ∷ []) }
     ensures fault { IfErr result (λ f. (openings.old.items ≡ []) × (f ≡ fault.EndAlone position)) }
 {

@@ -7,7 +7,7 @@ ghost use Rattle.tl_budget.specs.Nested.{IsNest};
 ghost use Rattle.tl_budget.specs.Capped.{capped};
 
 use crate::fault::NestFault;
-use crate::limits::{Bounds, MAX_EMITS, MAX_LOCKS, MAX_STEPS};
+use crate::limits::{Bounds, MAX_DEPTH, MAX_EMITS, MAX_LOCKS, MAX_STEPS};
 use crate::nested::Nest;
 use tl_instr::{Code, Instr};
 
@@ -69,7 +69,7 @@ fn total(code: &Code, nest: &Nest) -> Totals
     ensures emits { result.emits ≡ capped (emit_bound code.now.instrs) }
 {
     // At each depth the product of the counts of the loops around: of at most four numbers of 16 bits.
-    let mut products = [1; 5];
+    let mut products = [1; MAX_DEPTH + 1];
     let mut totals = Totals {
         steps: 0,
         locks: 0,

@@ -23,7 +23,7 @@ pub enum CoreFault {
     #[error("too many calls")]
     TooManyCalls,
     /// 604: 64 calls are open.
-    #[error("too many calls are unfinished")]
+    #[error("too many calls are open")]
     TooManyOpen,
     /// 605: the history has no room for all that the call may do.
     #[error("the history has no room for the call")]

@@ -100,7 +100,7 @@ impl Core {
         ensures ok { IfOk result (λ core. core ≡ opened tree procedures limit) }
         ensures err { IfErr result (λ e. e ≡ fault.Memory) }
     {
-        let Ok(latest) = tree.copy() else {
+        let Ok(latest) = tree.copy(alloc) else {
             return Err(CoreFault::Memory);
         };
         let nodes = usize::from(tree.shape().node_count());
@@ -217,7 +217,7 @@ impl Core {
     /// calls were admitted; 604 where 64 are open; 605 where the history has no room for all events that the call
     /// may have. Else 690 where memory is refused. A refusal changes nothing, and from then on no step of the call takes
     /// memory.
-    pub fn admit(&mut self, name: &str, args: &[i64]) -> Result<u32, CoreFault>
+    pub fn admit(&mut self, alloc: Global, name: &str, args: &[i64]) -> Result<u32, CoreFault>
         ensures number { IfOk result (λ n. n ≡ length self.old.seen.calls) }
         ensures free { IfOk result (λ _. admission_refusal self.old.seen name.now args.now ≡ None) }
         ensures after { OnOk result (self.new.seen ≡ after_admission self.old.seen name.now args.now) }
@@ -231,7 +231,7 @@ impl Core {
         let (args, turn) = begin(proc, self.opening.shape(), args)?;
         let call = self.calls.len();
         self.calls.reserve(1)?;
-        let Ok(()) = self.history.reserve(places) else {
+        let Ok(()) = self.history.reserve(alloc, places) else {
             return Err(CoreFault::Memory);
         };
         self.history.append(Event::Admit { call: call as u32 });
@@ -344,20 +344,20 @@ impl Core {
         self.is_sound();
         let mut trace = Vec::with_capacity(alloc, moves.len())?;
         for one in moves {
-            trace.push_reserved(self.carry_out(one));
+            trace.push_reserved(self.carry_out(alloc, one));
         }
         self.is_sound();
         Ok(trace)
     }
 
     // One move.
-    fn carry_out(&mut self, one: &Move) -> Entry
+    fn carry_out(&mut self, alloc: Global, one: &Move) -> Entry
         ensures entry { IsEntry self.old.seen one.now result }
         ensures parts { (c : ℕ) → done_by self.new.seen c ≡ done_by self.old.seen c ++ part_of_run c (result ∷ []) }
         ensures after { self.new.seen ≡ after_entry self.old.seen one.now result }
     {
         match one {
-            Move::Admit { name, args } => match self.admit(name, args) {
+            Move::Admit { name, args } => match self.admit(alloc, name, args) {
                 Ok(call) => Entry::Admitted { call },
                 Err(fault) => Entry::Refused { fault },
             },

@@ -96,7 +96,7 @@ impl History {
     /// Reserves places for so many more events.
     ///
     /// 605 exactly where there is no room for them; else 690 where memory is refused. A refusal changes nothing.
-    pub fn reserve(&mut self, places: usize) -> Result<(), HistoryFault>
+    pub fn reserve(&mut self, _alloc: Global, places: usize) -> Result<(), HistoryFault>
         ensures ok { OnOk result (self.new ≡ record self.old { reserved = self.old.reserved + places }) }
         ensures fits { OnOk result (places ≤ room_of self.old) }
         ensures full { IsErrOf result HistoryFault.HistoryFull ↔ (room_of self.old < places) }

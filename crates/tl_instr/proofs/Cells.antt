@@ -4,6 +4,8 @@ use Rattle.std.specs.Prelude.{IfSome, IsSomeAnd}
 use Rattle.std.specs.Int.{w32}
 use Rattle.std.proofs.lemmas.Bool.{lt-ltb, eq-eqb, false≢true}
 use Rattle.std.proofs.lemmas.Int.{to_z-of_z}
+use Rattle.tl_fields.specs.Fields.{field_count}
+use Rattle.tl_instr.specs.declared.operand.TheConstants.{VALUE_REGISTERS, NODE_REGISTERS}
 use Rattle.tl_instr.specs.declared.cell.Cell.{Cell}
 use Rattle.tl_instr.specs.declared.instr.Instr.{Instr}
 use Rattle.tl_instr.specs.declared.instr.Instr.TheVariants.{Set, Copy, Add, Subtract, Multiply, Divide, Jump, JumpIfLess, JumpIfEqual, Repeat, End, First, Child, Move, Release, Get, Put, Kids, Emit, Return}
@@ -18,25 +20,25 @@ below_is limit n lt = rw (lt-ltb n limit lt) refl
 pub instr_in-cell_of : (count : ℕ) (i : Instr) → count < 2 ^ 16 → IsInstr count i → instr_in (cell_of i) ≡ Some i
 unfolding instr_in set_in copy_in add_in subtract_in multiply_in divide_in jump_in jump_if_less_in jump_if_equal_in repeat_in first_in child_in move_in release_in get_in put_in kids_in emit_in
 instr_in-cell_of count (Set to number) lt h =
-    rw (below_is 16 to h.in_range.0, to_z-of_z w32 number h.in_range.1) refl
-instr_in-cell_of count (Copy to from) lt h = rw (below_is 16 to h.in_range.0, below_is 16 from h.in_range.1) refl
-instr_in-cell_of count (Add to left right otherwise) lt h = rw (below_is 16 to h.in_range.0, below_is 16 left h.in_range.1, below_is 16 right h.in_range.2, below_is (2 ^ 16) otherwise (omega (arith, h.goes_within))) refl
-instr_in-cell_of count (Subtract to left right otherwise) lt h = rw (below_is 16 to h.in_range.0, below_is 16 left h.in_range.1, below_is 16 right h.in_range.2, below_is (2 ^ 16) otherwise (omega (arith, h.goes_within))) refl
-instr_in-cell_of count (Multiply to left right otherwise) lt h = rw (below_is 16 to h.in_range.0, below_is 16 left h.in_range.1, below_is 16 right h.in_range.2, below_is (2 ^ 16) otherwise (omega (arith, h.goes_within))) refl
-instr_in-cell_of count (Divide to left right otherwise) lt h = rw (below_is 16 to h.in_range.0, below_is 16 left h.in_range.1, below_is 16 right h.in_range.2, below_is (2 ^ 16) otherwise (omega (arith, h.goes_within))) refl
+    rw (below_is VALUE_REGISTERS to h.in_range.0, to_z-of_z w32 number h.in_range.1) refl
+instr_in-cell_of count (Copy to from) lt h = rw (below_is VALUE_REGISTERS to h.in_range.0, below_is VALUE_REGISTERS from h.in_range.1) refl
+instr_in-cell_of count (Add to left right otherwise) lt h = rw (below_is VALUE_REGISTERS to h.in_range.0, below_is VALUE_REGISTERS left h.in_range.1, below_is VALUE_REGISTERS right h.in_range.2, below_is (2 ^ 16) otherwise (omega (arith, h.goes_within))) refl
+instr_in-cell_of count (Subtract to left right otherwise) lt h = rw (below_is VALUE_REGISTERS to h.in_range.0, below_is VALUE_REGISTERS left h.in_range.1, below_is VALUE_REGISTERS right h.in_range.2, below_is (2 ^ 16) otherwise (omega (arith, h.goes_within))) refl
+instr_in-cell_of count (Multiply to left right otherwise) lt h = rw (below_is VALUE_REGISTERS to h.in_range.0, below_is VALUE_REGISTERS left h.in_range.1, below_is VALUE_REGISTERS right h.in_range.2, below_is (2 ^ 16) otherwise (omega (arith, h.goes_within))) refl
+instr_in-cell_of count (Divide to left right otherwise) lt h = rw (below_is VALUE_REGISTERS to h.in_range.0, below_is VALUE_REGISTERS left h.in_range.1, below_is VALUE_REGISTERS right h.in_range.2, below_is (2 ^ 16) otherwise (omega (arith, h.goes_within))) refl
 instr_in-cell_of count (Jump to) lt h = rw (below_is (2 ^ 16) to (omega (arith, h.goes_within))) refl
-instr_in-cell_of count (JumpIfLess left right to) lt h = rw (below_is 16 left h.in_range.0, below_is 16 right h.in_range.1, below_is (2 ^ 16) to (omega (arith, h.goes_within))) refl
-instr_in-cell_of count (JumpIfEqual left right to) lt h = rw (below_is 16 left h.in_range.0, below_is 16 right h.in_range.1, below_is (2 ^ 16) to (omega (arith, h.goes_within))) refl
+instr_in-cell_of count (JumpIfLess left right to) lt h = rw (below_is VALUE_REGISTERS left h.in_range.0, below_is VALUE_REGISTERS right h.in_range.1, below_is (2 ^ 16) to (omega (arith, h.goes_within))) refl
+instr_in-cell_of count (JumpIfEqual left right to) lt h = rw (below_is VALUE_REGISTERS left h.in_range.0, below_is VALUE_REGISTERS right h.in_range.1, below_is (2 ^ 16) to (omega (arith, h.goes_within))) refl
 instr_in-cell_of many (Repeat count) lt h = rw (below_is (2 ^ 16) count h.in_range) refl
 instr_in-cell_of count End lt h = refl
-instr_in-cell_of count (First to number otherwise) lt h = rw (below_is 8 to h.in_range.0, below_is 16 number h.in_range.1, below_is (2 ^ 16) otherwise (omega (arith, h.goes_within))) refl
-instr_in-cell_of count (Child to parent number otherwise) lt h = rw (below_is 8 to h.in_range.0, below_is 8 parent h.in_range.1, below_is 16 number h.in_range.2, below_is (2 ^ 16) otherwise (omega (arith, h.goes_within))) refl
-instr_in-cell_of count (Move to from) lt h = rw (below_is 8 to h.in_range.0, below_is 8 from h.in_range.1) refl
-instr_in-cell_of count (Release node) lt h = rw (below_is 8 node h.in_range) refl
-instr_in-cell_of count (Get to node field) lt h = rw (below_is 16 to h.in_range.0, below_is 8 node h.in_range.1, below_is 4 field h.in_range.2) refl
-instr_in-cell_of count (Put node field from) lt h = rw (below_is 8 node h.in_range.0, below_is 4 field h.in_range.1, below_is 16 from h.in_range.2) refl
-instr_in-cell_of count (Kids to node) lt h = rw (below_is 16 to h.in_range.0, below_is 8 node h.in_range.1) refl
-instr_in-cell_of count (Emit from) lt h = rw (below_is 16 from h.in_range) refl
+instr_in-cell_of count (First to number otherwise) lt h = rw (below_is NODE_REGISTERS to h.in_range.0, below_is VALUE_REGISTERS number h.in_range.1, below_is (2 ^ 16) otherwise (omega (arith, h.goes_within))) refl
+instr_in-cell_of count (Child to parent number otherwise) lt h = rw (below_is NODE_REGISTERS to h.in_range.0, below_is NODE_REGISTERS parent h.in_range.1, below_is VALUE_REGISTERS number h.in_range.2, below_is (2 ^ 16) otherwise (omega (arith, h.goes_within))) refl
+instr_in-cell_of count (Move to from) lt h = rw (below_is NODE_REGISTERS to h.in_range.0, below_is NODE_REGISTERS from h.in_range.1) refl
+instr_in-cell_of count (Release node) lt h = rw (below_is NODE_REGISTERS node h.in_range) refl
+instr_in-cell_of count (Get to node field) lt h = rw (below_is VALUE_REGISTERS to h.in_range.0, below_is NODE_REGISTERS node h.in_range.1, below_is field_count field h.in_range.2) refl
+instr_in-cell_of count (Put node field from) lt h = rw (below_is NODE_REGISTERS node h.in_range.0, below_is field_count field h.in_range.1, below_is VALUE_REGISTERS from h.in_range.2) refl
+instr_in-cell_of count (Kids to node) lt h = rw (below_is VALUE_REGISTERS to h.in_range.0, below_is NODE_REGISTERS node h.in_range.1) refl
+instr_in-cell_of count (Emit from) lt h = rw (below_is VALUE_REGISTERS from h.in_range) refl
 instr_in-cell_of count Return lt h = refl
 
 -- where a cell names none, none has it

@@ -1,6 +1,8 @@
 -- The instruction that a cell's opcode and the operands which that opcode uses name.
 use Rattle.std.specs.Prelude.{ℕ, ◌^◌, Option, Some, None, option_and_then, nat_lt, ◌==◌, if◌then◌else◌}
 use Rattle.std.specs.Int.{w32, cast_signed}
+use Rattle.tl_fields.specs.Fields.{field_count}
+use Rattle.tl_instr.specs.declared.operand.TheConstants.{VALUE_REGISTERS, NODE_REGISTERS}
 use Rattle.tl_instr.specs.declared.cell.Cell.{Cell}
 use Rattle.tl_instr.specs.declared.instr.Instr.{Instr}
 use Rattle.tl_instr.specs.declared.instr.Instr.TheVariants.{Set, Copy, Add, Subtract, Multiply, Divide, Jump, JumpIfLess, JumpIfEqual, Repeat, End, First, Child, Move, Release, Get, Put, Kids, Emit, Return}
@@ -13,13 +15,13 @@ abbrev pub below : ℕ → ℕ → Option ℕ
 below limit n = if nat_lt n limit then Some n else None
 
 abbrev pub value_register : ℕ → Option ℕ
-value_register n = below 16 n
+value_register n = below VALUE_REGISTERS n
 
 abbrev pub node_register : ℕ → Option ℕ
-node_register n = below 8 n
+node_register n = below NODE_REGISTERS n
 
 abbrev pub field : ℕ → Option ℕ
-field n = below 4 n
+field n = below field_count n
 
 abbrev pub position : ℕ → Option ℕ
 position n = below (2 ^ 16) n

@@ -13,4 +13,6 @@ pub use code::{Code, MAX_COUNT};
 pub use container::{decode, encode, one_spelling};
 pub use fault::CodeFault;
 pub use instr::Instr;
-pub use operand::{Arity, Field, MAX_ARGS, NodeRegister, ValueRegister};
+pub use operand::{
+    Arity, Field, MAX_ARGS, NODE_REGISTERS, NodeRegister, VALUE_REGISTERS, ValueRegister,
+};

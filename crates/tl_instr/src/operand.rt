@@ -1,8 +1,16 @@
 // The operands of instructions: numbers that can't be out of range.
 
 ghost use Rattle.std.specs.Prelude.{◌≡◌, ℕ, ◌<◌, ◌≤◌, ◌↔◌, IsSome, IfSome};
+ghost use Rattle.tl_fields.specs.Fields.{field_count};
 
 use std::marker::Model;
+use tl_fields::FIELD_COUNT;
+
+/// How many value registers a call has.
+pub const VALUE_REGISTERS: usize = 16;
+
+/// How many node registers a call has.
+pub const NODE_REGISTERS: usize = 8;
 
 /// A value register, `v0` to `v15`.
 #[derive(Clone, Copy, Debug, PartialEq, Eq)]
@@ -11,11 +19,14 @@ pub struct ValueRegister {
 }
 
 impl Model for ValueRegister {
+    ghost use Rattle.std.specs.Prelude.{ℕ, ◌<◌};
+    ghost use Rattle.tl_instr.specs.declared.operand.TheConstants.{VALUE_REGISTERS};
+
     ghost Value = { ℕ };
 
     ghost view = { λ r. r.number };
 
-    ghost invariant = { λ r. r.number < 16 };
+    ghost invariant = { λ r. r.number < VALUE_REGISTERS };
 
     ghost inverse = { λ n. record { number = n } };
 }
@@ -23,10 +34,10 @@ impl Model for ValueRegister {
 impl ValueRegister {
     /// The register of that number, where there is one.
     pub fn new(number: u8) -> Option<Self>
-        ensures valid { IsSome result ↔ (number < 16) }
+        ensures valid { IsSome result ↔ (number < VALUE_REGISTERS) }
         ensures value { IfSome result (λ r. r ≡ number) }
     {
-        if number < 16 {
+        if usize::from(number) < VALUE_REGISTERS {
             Some(ValueRegister { number })
         } else {
             None
@@ -35,7 +46,7 @@ impl ValueRegister {
 
     pub fn number(self) -> u8
         ensures same { result ≡ self }
-        ensures in_range { result < 16 }
+        ensures in_range { result < VALUE_REGISTERS }
     {
         self.number
     }
@@ -43,7 +54,7 @@ impl ValueRegister {
     /// The number, as an index into the registers.
     pub fn index(self) -> usize
         ensures same { result ≡ self }
-        ensures in_range { result < 16 }
+        ensures in_range { result < VALUE_REGISTERS }
     {
         usize::from(self.number)
     }
@@ -56,11 +67,14 @@ pub struct NodeRegister {
 }
 
 impl Model for NodeRegister {
+    ghost use Rattle.std.specs.Prelude.{ℕ, ◌<◌};
+    ghost use Rattle.tl_instr.specs.declared.operand.TheConstants.{NODE_REGISTERS};
+
     ghost Value = { ℕ };
 
     ghost view = { λ r. r.number };
 
-    ghost invariant = { λ r. r.number < 8 };
+    ghost invariant = { λ r. r.number < NODE_REGISTERS };
 
     ghost inverse = { λ n. record { number = n } };
 }
@@ -68,10 +82,10 @@ impl Model for NodeRegister {
 impl NodeRegister {
     /// The register of that number, where there is one.
     pub fn new(number: u8) -> Option<Self>
-        ensures valid { IsSome result ↔ (number < 8) }
+        ensures valid { IsSome result ↔ (number < NODE_REGISTERS) }
         ensures value { IfSome result (λ r. r ≡ number) }
     {
-        if number < 8 {
+        if usize::from(number) < NODE_REGISTERS {
             Some(NodeRegister { number })
         } else {
             None
@@ -80,7 +94,7 @@ impl NodeRegister {
 
     pub fn number(self) -> u8
         ensures same { result ≡ self }
-        ensures in_range { result < 8 }
+        ensures in_range { result < NODE_REGISTERS }
     {
         self.number
     }
@@ -88,7 +102,7 @@ impl NodeRegister {
     /// The number, as an index into the registers.
     pub fn index(self) -> usize
         ensures same { result ≡ self }
-        ensures in_range { result < 8 }
+        ensures in_range { result < NODE_REGISTERS }
     {
         usize::from(self.number)
     }
@@ -105,7 +119,7 @@ impl Model for Field {
 
     ghost view = { λ f. f.number };
 
-    ghost invariant = { λ f. f.number < 4 };
+    ghost invariant = { λ f. f.number < field_count };
 
     ghost inverse = { λ n. record { number = n } };
 }
@@ -113,10 +127,10 @@ impl Model for Field {
 impl Field {
     /// The field of that number, where there is one.
     pub fn new(number: u8) -> Option<Self>
-        ensures valid { IsSome result ↔ (number < 4) }
+        ensures valid { IsSome result ↔ (number < field_count) }
         ensures value { IfSome result (λ f. f ≡ number) }
     {
-        if number < 4 {
+        if usize::from(number) < FIELD_COUNT {
             Some(Field { number })
         } else {
             None
@@ -125,7 +139,7 @@ impl Field {
 
     pub fn number(self) -> u8
         ensures same { result ≡ self }
-        ensures in_range { result < 4 }
+        ensures in_range { result < field_count }
     {
         self.number
     }
@@ -133,7 +147,7 @@ impl Field {
     /// The number, as an index into a record.
     pub fn index(self) -> usize
         ensures same { result ≡ self }
-        ensures in_range { result < 4 }
+        ensures in_range { result < field_count }
     {
         usize::from(self.number)
     }
@@ -149,11 +163,14 @@ pub struct Arity {
 }
 
 impl Model for Arity {
+    ghost use Rattle.std.specs.Prelude.{ℕ, ◌≤◌};
+    ghost use Rattle.tl_instr.specs.declared.operand.TheConstants.{MAX_ARGS};
+
     ghost Value = { ℕ };
 
     ghost view = { λ a. a.number };
 
-    ghost invariant = { λ a. a.number ≤ 8 };
+    ghost invariant = { λ a. a.number ≤ MAX_ARGS };
 
     ghost inverse = { λ n. record { number = n } };
 }

@@ -6,7 +6,8 @@ ghost use Rattle.tl_machine.specs.Outcomes.{IsStart};
 
 use crate::call::CallState;
 use crate::fault::WrongArgs;
-use tl_budget::MAX_EMITS;
+use tl_budget::{MAX_DEPTH, MAX_EMITS};
+use tl_instr::{NODE_REGISTERS, VALUE_REGISTERS};
 use tl_tree::Shape;
 use tl_verify::Proc;
 
@@ -22,16 +23,16 @@ pub fn start(procedure: &Proc, shape: &Shape, args: &[i64]) -> Result<CallState,
     }
     // The shape is a tree's by its type: here a proof learns that.
     let _node_count = shape.node_count();
-    let mut values = [0; 16];
+    let mut values = [0; VALUE_REGISTERS];
     values[..args.len()].copy_from_slice(args);
     Ok(CallState {
         position: 0,
         is_over: false,
         emit_count: 0,
         steps: 0,
-        counters: [0; 4],
+        counters: [0; MAX_DEPTH],
         values,
-        nodes: [None; 8],
+        nodes: [None; NODE_REGISTERS],
         emitted: [0; MAX_EMITS],
     })
 }

@@ -24,7 +24,7 @@ pub fn trail_of(alloc: Global, core: &Core) -> Result<Trail, TrailFault>
     // The core's world is sound, and its calls are at most 4,096: here a proof learns that.
     core.is_sound();
     let calls = calls_of(alloc, core)?;
-    let Ok(opening) = core.opening().copy() else {
+    let Ok(opening) = core.opening().copy(alloc) else {
         return Err(TrailFault::Memory);
     };
     let procedures = core.procedures().copy(alloc)?;
@@ -88,7 +88,7 @@ fn history_of(alloc: Global, history: &History) -> Result<History, TrailFault>
 {
     let events = history.events();
     let mut copy = History::new(alloc, MAX_EVENTS);
-    let Ok(()) = copy.reserve(events.len()) else {
+    let Ok(()) = copy.reserve(alloc, events.len()) else {
         return Err(TrailFault::Memory);
     };
     for event in events {

@@ -526,6 +526,16 @@ static REFUSED: [(&str, &str, &str, &str); 30] = [
     ),
 ];
 
+// A tree is a text.
+#[test]
+fn bytes_that_are_no_text_are_no_tree(rt: HostRuntime) -> Result<(), Fail> {
+    let alloc = rt.alloc();
+    let container = container_of(alloc, LOOK)?;
+    let printed = answer(alloc, alone_cmd(alloc, b"\xFF", &container, "[0]"))?;
+    assert_eq!(rt; printed.as_str(), "[106] 1");
+    Ok(())
+}
+
 #[test]
 fn the_first_input_that_is_wrong_is_told(rt: HostRuntime) -> Result<(), Fail> {
     for row in &REFUSED {

@@ -87,7 +87,9 @@ fn a_script_leaves_a_clean_trail(rt: HostRuntime) -> Result<(), Fail> {
 const ZEROS: &str = "{\"parents\":[0,0,1],\"records\":[[0,0,0,0],[0,0,0,0],[0,0,0,0]]}";
 
 /// Each tree and moves, and the order that the auditor finds in the trail.
-const ORDERS: [(&str, &str, &str); 2] = [
+const ORDERS: [(&str, &str, &str); 3] = [
+    // No call at all.
+    (FORK, "", "{\"order\":[]}\n"),
     // Call 1 holds node 2 when call 0 asks for it.
     (
         FORK,
@@ -103,7 +105,7 @@ const ORDERS: [(&str, &str, &str); 2] = [
 ];
 
 #[test]
-fn blocked_and_following_calls_leave_clean_trails(rt: HostRuntime) -> Result<(), Fail> {
+fn calls_leave_clean_trails(rt: HostRuntime) -> Result<(), Fail> {
     let alloc = rt.alloc();
     let procedures = format!(in alloc; "{},{}", procedures(alloc)?, named(alloc, "sweep", SWEEP)?)?;
     for (tree, moves, order) in ORDERS {
@@ -181,6 +183,15 @@ const WRONG: [(&[usize], &str, &str, &str); 11] = [
     (&WHOLE, "[\"both\",[11]", "[\"both\",[12]", "[714, 0] 1"),
     (&WHOLE, "\"tree\":", "\"trees\":", "[701] 1"),
 ];
+
+// A trail is a text.
+#[test]
+fn bytes_that_are_no_text_are_no_trail(rt: HostRuntime) -> Result<(), Fail> {
+    let alloc = rt.alloc();
+    let found = answer(alloc, audit_cmd(alloc, b"\xFF", &mut Silent))?;
+    assert_eq!(rt; found.as_str(), "[701] 1");
+    Ok(())
+}
 
 #[test]
 fn what_is_told_otherwise_is_refused(rt: HostRuntime) -> Result<(), Fail> {

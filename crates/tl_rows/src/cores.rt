@@ -29,13 +29,13 @@ fn core_of(
 // Each of these asks one thing of a core. A test that asks many is then proved in small parts.
 
 fn admits(
-    rt: &impl Abort,
+    rt: &(impl Abort + AllocGlobal),
     core: &mut Core,
     name: &str,
     args: &[i64],
     answer: Result<u32, CoreFault>,
 ) -> Result<(), Fail> {
-    assert_eq!(rt; core.admit(name, args), answer, "{name}");
+    assert_eq!(rt; core.admit(rt.alloc(), name, args), answer, "{name}");
     Ok(())
 }
 

@@ -2,19 +2,22 @@
 
 use std::test::Fail;
 use tl_asm::MAX_LABEL;
-use tl_budget::{MAX_EMITS, MAX_LOCKS, MAX_STEPS};
+use tl_budget::{MAX_DEPTH, MAX_EMITS, MAX_LOCKS, MAX_STEPS};
 use tl_core::MAX_OPEN;
 use tl_history::{MAX_CALLS, MAX_EVENTS};
-use tl_instr::{MAX_ARGS, MAX_COUNT};
+use tl_instr::{MAX_ARGS, MAX_COUNT, NODE_REGISTERS, VALUE_REGISTERS};
 use tl_procedures::{MAX_NAME, MAX_PROCEDURES};
 use tl_tree::{FIELD_COUNT, MAX_NODES};
 
 /// Each limit's constant, and its number in the documents.
-const LIMITS: [(&str, usize, usize); 13] = [
+const LIMITS: [(&str, usize, usize); 16] = [
     ("nodes of a tree", MAX_NODES, 4_096),
     ("fields of a record", FIELD_COUNT, 4),
     ("instructions of a code", MAX_COUNT, 1_024),
     ("arguments of a call", MAX_ARGS, 8),
+    ("value registers", VALUE_REGISTERS, 16),
+    ("node registers", NODE_REGISTERS, 8),
+    ("loops in one another", MAX_DEPTH, 4),
     ("characters of a label", MAX_LABEL, 32),
     ("steps of a procedure", MAX_STEPS as usize, 1_000_000),
     ("locks of a procedure", MAX_LOCKS as usize, 4_096),

@@ -305,12 +305,14 @@ fn a_container_is_written(rt: HostRuntime) -> Result<(), Fail> {
 
 /// Each place of a byte in the container of `ADD`, another byte there, how many bytes are left of it, and what is wrong
 /// first, if anything.
-const CHANGED: [(usize, u8, usize, &str); 16] = [
+const CHANGED: [(usize, u8, usize, &str); 19] = [
     (0, 0x55, 64, "[201] 1"),
     (4, 8, 64, ""),
     (4, 9, 64, "[206] 1"),
     (5, 1, 64, "[206] 1"),
     (7, 0, 8, "[205] 1"),
+    (6, 4, 64, "[205] 1"),
+    (7, 6, 64, "[202] 1"),
     (7, 8, 64, "[202] 1"),
     (15, 7, 64, ""),
     (15, 8, 64, "[204, 0] 1"),
@@ -321,18 +323,23 @@ const CHANGED: [(usize, u8, usize, &str); 16] = [
     (0, 0x54, 0, "[201] 1"),
     (0, 0x54, 3, "[201] 1"),
     (0, 0x54, 7, "[202] 1"),
+    (0, 0x54, 8, "[202] 1"),
     (0, 0x54, 63, "[202] 1"),
 ];
+
+/// What is wrong first with a container, if anything.
+fn refusal(alloc: Global, bytes: &[u8]) -> Result<String, Fail> {
+    match dis_cmd(alloc, bytes) {
+        Ok(_) => Ok(String::new(alloc)),
+        Err(fault) => answer(alloc, Err(fault)),
+    }
+}
 
 /// What is wrong first with a container that was changed at a place and cut off.
 fn wrong_in(alloc: Global, place: usize, byte: u8, length: usize) -> Result<String, Fail> {
     let mut bytes = ADD_BYTES;
     *bytes.get_mut(place).ok_or("no such byte")? = byte;
-    let bytes = bytes.get(..length).ok_or("too long")?;
-    match dis_cmd(alloc, bytes) {
-        Ok(_) => Ok(String::new(alloc)),
-        Err(fault) => answer(alloc, Err(fault)),
-    }
+    refusal(alloc, bytes.get(..length).ok_or("too long")?)
 }
 
 #[test]
@@ -341,5 +348,39 @@ fn other_bytes_are_no_container(rt: HostRuntime) -> Result<(), Fail> {
         let printed = wrong_in(rt.alloc(), place, byte, length)?;
         assert_eq!(rt; printed.as_str(), told, "byte {place}, {length} bytes");
     }
+    Ok(())
+}
+
+// ---- as many instructions as a code may have, and one more
+
+/// A text of so many instructions.
+fn returns(alloc: Global, count: usize) -> Result<String, Fail> {
+    let mut text = String::from_str(alloc, "arity 0\n")?;
+    for _ in 0..count {
+        text.push_str("ret\n")?;
+    }
+    Ok(text)
+}
+
+#[test]
+fn a_text_has_at_most_1024_instructions(rt: HostRuntime) -> Result<(), Fail> {
+    for (count, told) in [(1024, "{\"count\":1024}\n"), (1025, "[254] 1")] {
+        let text = returns(rt.alloc(), count)?;
+        let printed = assembled(rt.alloc(), text.as_bytes())?;
+        assert_eq!(rt; printed.as_str(), told, "{count}");
+    }
+    Ok(())
+}
+
+// The container of 1,024 instructions, and eight bytes more: first the header counts 1,024, and then 1,025.
+#[test]
+fn a_container_has_at_most_1024_instructions(rt: HostRuntime) -> Result<(), Fail> {
+    let alloc = rt.alloc();
+    let mut bytes = container_of(alloc, &returns(alloc, 1024)?)?;
+    assert_eq!(rt; refusal(alloc, &bytes)?.as_str(), "");
+    bytes.extend_from_slice(&[0x14, 0, 0, 0, 0, 0, 0, 0])?;
+    assert_eq!(rt; refusal(alloc, &bytes)?.as_str(), "[202] 1");
+    *bytes.get_mut(7).ok_or("no such byte")? = 1;
+    assert_eq!(rt; refusal(alloc, &bytes)?.as_str(), "[205] 1");
     Ok(())
 }

@@ -38,8 +38,8 @@ fn event_of((letter, call, node): Told) -> Event {
 }
 
 /// Reserves a place, and puts the event there.
-fn put(history: &mut History, told: Told) -> Result<(), Fail> {
-    history.reserve(1)?;
+fn put(alloc: Global, history: &mut History, told: Told) -> Result<(), Fail> {
+    history.reserve(alloc, 1)?;
     history.append(event_of(told));
     Ok(())
 }
@@ -49,7 +49,7 @@ fn order(alloc: Global, parents: &[i64], events: &[Told]) -> Result<Vec<u32>, Fa
     let shape = Shape::new(alloc, parents)?;
     let mut history = History::new(alloc, 100);
     for event in events {
-        put(&mut history, *event)?;
+        put(alloc, &mut history, *event)?;
     }
     if !is_of_shape(&history, &shape) {
         return Err("an event of another node".into());
@@ -150,21 +150,22 @@ fn histories_have_their_orders(rt: HostRuntime) -> Result<(), Fail> {
 // Each call locks the root, and then each of 126 children for a moment. No event is moved for each place that is reserved.
 #[test]
 fn a_million_events_of_many_calls(rt: HostRuntime) -> Result<(), Fail> {
-    let shape = Shape::new(rt.alloc(), &[0; 127])?;
-    let mut history = History::new(rt.alloc(), MAX_EVENTS);
+    let alloc = rt.alloc();
+    let shape = Shape::new(alloc, &[0; 127])?;
+    let mut history = History::new(alloc, MAX_EVENTS);
     for call in 0..4096 {
-        put(&mut history, ('a', call, 0))?;
-        put(&mut history, ('l', call, 0))?;
+        put(alloc, &mut history, ('a', call, 0))?;
+        put(alloc, &mut history, ('l', call, 0))?;
         for node in 1..127 {
-            put(&mut history, ('l', call, node))?;
-            put(&mut history, ('f', call, node))?;
+            put(alloc, &mut history, ('l', call, node))?;
+            put(alloc, &mut history, ('f', call, node))?;
         }
-        put(&mut history, ('f', call, 0))?;
-        put(&mut history, ('d', call, 0))?;
+        put(alloc, &mut history, ('f', call, 0))?;
+        put(alloc, &mut history, ('d', call, 0))?;
     }
     assert_eq!(rt; history.room(), 0);
     assert!(rt; is_of_shape(&history, &shape));
-    let order = order_of(rt.alloc(), &history, &shape)?;
+    let order = order_of(alloc, &history, &shape)?;
     assert_eq!(rt; order.calls().len(), 4096);
     assert!(rt; order.calls().is_sorted());
     Ok(())
@@ -176,8 +177,8 @@ fn a_million_events_of_many_calls(rt: HostRuntime) -> Result<(), Fail> {
 fn driven(alloc: Global) -> Result<Core, Fail> {
     let mut core = Core::new(alloc, tree_of(alloc, ONE_NODE)?)?;
     core.add_proc(alloc, "look", procedure_of(alloc, LOOK)?)?;
-    core.admit("look", &[-1])?;
-    core.admit("look", &[0])?;
+    core.admit(alloc, "look", &[-1])?;
+    core.admit(alloc, "look", &[0])?;
     for call in [1, 1, 1, 1, 1, 0, 0] {
         core.step(call)?;
     }

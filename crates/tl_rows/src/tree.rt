@@ -16,7 +16,7 @@ fn is_fork(rt: &impl Abort, tree: &Tree) {
 fn a_tree_is_read_copied_and_written(rt: HostRuntime) -> Result<(), Fail> {
     let mut tree = read_tree(rt.alloc(), FORK)?;
     is_fork(&rt, &tree);
-    let copy = tree.copy()?;
+    let copy = tree.copy(rt.alloc())?;
     is_fork(&rt, &copy);
     assert_eq!(rt; write_tree(rt.alloc(), &copy)?.as_str(), FORK);
 

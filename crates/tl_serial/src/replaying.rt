@@ -22,7 +22,7 @@ pub fn replay(alloc: Global, order: &Order, core: &Core) -> Result<(Tree, Vec<Re
         ≡ (serial (world_of core.now.seen).meanings order.now core.now.seen.opening).replies) }
     ensures err { IfErr result (λ e. e ≡ SerialFault.Memory) }
 {
-    let Ok(mut tree) = core.opening().copy() else {
+    let Ok(mut tree) = core.opening().copy(alloc) else {
         return Err(SerialFault::Memory);
     };
     let calls = order.calls();

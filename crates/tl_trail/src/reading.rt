@@ -169,7 +169,7 @@ fn history_for(alloc: Global, events: usize) -> Result<History, TrailFault>
     ensures fault { IfErr result (λ e. e ≢ TrailFault.Memory → (e ≡ TrailFault.NotTrail) × (MAX_EVENTS < events)) }
 {
     let mut history = History::new(alloc, MAX_EVENTS);
-    match history.reserve(events) {
+    match history.reserve(alloc, events) {
         Ok(()) => Ok(history),
         Err(HistoryFault::HistoryFull) => Err(TrailFault::NotTrail),
         Err(HistoryFault::Memory) => Err(TrailFault::Memory),

@@ -4,7 +4,7 @@ use Rattle.std.proofs.lemmas.List.{map_push, map_more}
 use Rattle.serde_json.specs.Data.{Data}
 use Rattle.serde_json.specs.View.{view, items_view}
 use Rattle.serde_json.specs.declared.value.Value.{Value}
-use Rattle.tl_tree.specs.declared.record.TheConstants.{FIELD_COUNT}
+use Rattle.tl_fields.specs.Fields.{field_count}
 use Rattle.tl_tree.specs.Reading.{each_item, integer_of, if_record}
 
 -- what was read before, and then the rest
@@ -21,14 +21,14 @@ pub length-each_item : {A : Type 0} (f : Data → Option A) (vs : List Value) (x
 length-each_item f [] xs e = let same : [] ≡ xs = cc in ap length (sym same)
 length-each_item f (v ∷ vs) xs e = each_or (f (view v)) (each_item f (items_view vs)) (length vs) xs (length-each_item f vs) e
 
-no_record : (o : Option (List ℤ)) (n : ℕ) → ((xs : List ℤ) → o ≡ Some xs → length xs ≡ n) → n ≢ FIELD_COUNT → None ≡ option_and_then if_record o
+no_record : (o : Option (List ℤ)) (n : ℕ) → ((xs : List ℤ) → o ≡ Some xs → length xs ≡ n) → n ≢ field_count → None ≡ option_and_then if_record o
 no_record None n h other = refl
 no_record (Some xs) n h other =
     let size = h xs refl in
-    rw (ne_eqb (length xs) FIELD_COUNT (λ e. other (sym size ∙ e)))
+    rw (ne_eqb (length xs) field_count (λ e. other (sym size ∙ e)))
 
 -- a list of another length is no record
-pub other_width : (vs : List Value) → length vs ≢ FIELD_COUNT → None ≡ option_and_then if_record (each_item integer_of (items_view vs))
+pub other_width : (vs : List Value) → length vs ≢ field_count → None ≡ option_and_then if_record (each_item integer_of (items_view vs))
 other_width vs other = no_record (each_item integer_of (items_view vs)) (length vs) (length-each_item integer_of vs) other
 
 -- one more value is written

@@ -5,7 +5,7 @@ use Rattle.std.specs.Int.{w64}
 use Rattle.std.proofs.lemmas.List.{length-map, get_or-map}
 use Rattle.serde_json.specs.Data.{Data}
 use Rattle.serde_json.specs.View.{items_of}
-use Rattle.tl_tree.specs.declared.record.TheConstants.{FIELD_COUNT}
+use Rattle.tl_fields.specs.Fields.{field_count}
 use Rattle.tl_tree.specs.Records.{Record, Records}
 use Rattle.tl_tree.specs.Shape.{IsTree}
 use Rattle.tl_tree.specs.Trees.{TreeValue, IsRecord, IsWhole}
@@ -30,7 +30,7 @@ pub integers_back : (zs : List ℤ) → All (FitsSigned w64) zs → integers_of 
 integers_back zs h = each_back integer_of integer_data (FitsSigned w64) integer_back zs h
 
 pub record_back : (fields : Record) → IsRecord fields → record_of (integers_data fields) ≡ Some fields
-record_back fields h = rw (integers_back fields h.fit, eq-eqb (length fields) FIELD_COUNT h.width) refl
+record_back fields h = rw (integers_back fields h.fit, eq-eqb (length fields) field_count h.width) refl
 
 pub records_back : (records : Records) → All IsRecord records → records_of (records_data records) ≡ Some records
 records_back records h = each_back record_of integers_data IsRecord record_back records h

@@ -4,7 +4,7 @@ use Rattle.serde_json.specs.Data.{Data, Items, no_items, item, Members}
 use Rattle.serde_json.specs.Events.{members_len}
 use Rattle.serde_json.specs.Find.{as_number, as_i64, as_array, as_object, get_member}
 use Rattle.serde_json.specs.Read.{read}
-use Rattle.tl_tree.specs.declared.record.TheConstants.{FIELD_COUNT}
+use Rattle.tl_fields.specs.Fields.{field_count}
 use Rattle.tl_tree.specs.declared.fault.TreeFault.{TreeFault}
 use Rattle.tl_tree.specs.declared.fault.TreeFault.TheVariants.{WrongCount, NotTree}
 use Rattle.tl_tree.specs.Records.{Record, Records}
@@ -28,7 +28,7 @@ abbrev pub integers_of : Data → Option (List ℤ)
 integers_of d = option_and_then (each_item integer_of) (as_array d)
 
 abbrev pub if_record : List ℤ → Option Record
-if_record fields = if length fields == FIELD_COUNT then Some fields else None
+if_record fields = if length fields == field_count then Some fields else None
 
 -- a list of as many numbers as a record has fields
 abbrev pub record_of : Data → Option Record

@@ -1,4 +1,4 @@
--- The records of a tree: one list of numbers a node, of any width.
+-- The records of a tree: one list of numbers a node. How many numbers, `field_count` says.
 use Rattle.std.specs.Prelude.{ℕ, List, [], get_or, slice_set, ℤ}
 
 abbrev pub Record : Type 0

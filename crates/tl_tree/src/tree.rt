@@ -8,6 +8,7 @@ ghost use Rattle.tl_tree.specs.Trees.{IsWhole};
 use crate::fault::TreeFault;
 use crate::record::Record;
 use crate::shape::Shape;
+use std::alloc::Global;
 use std::marker::Model;
 use std::sync::Arc;
 
@@ -76,12 +77,12 @@ impl Tree {
     }
 
     /// A tree of its own, equal to this one. 190 where memory is refused.
-    pub fn copy(&self) -> Result<Tree, TreeFault>
+    pub fn copy(&self, alloc: Global) -> Result<Tree, TreeFault>
         ensures ok { IfOk result (λ t. t ≡ self.now) }
         ensures err { IfErr result (λ e. e ≡ TreeFault.Memory) }
     {
         let shape = Arc::try_clone(&self.shape)?;
-        let records = self.records.clone()?;
+        let records = Vec::from_slice(alloc, &self.records)?;
         Ok(Tree { shape, records })
     }
 }

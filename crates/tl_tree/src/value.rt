@@ -9,12 +9,13 @@ ghost use Rattle.tl_tree.specs.Trees.{TreeValue, IsRecord};
 ghost use Rattle.tl_tree.specs.Writing.{integer_data, integers_data, records_data, tree_data};
 
 use crate::fault::TreeFault;
-use crate::record::{FIELD_COUNT, Record};
+use crate::record::Record;
 use crate::shape::Shape;
 use crate::tree::Tree;
 use serde_json::{Value, json};
 use std::alloc::{AllocError, Global};
 use std::sync::Arc;
+use tl_fields::FIELD_COUNT;
 
 /// The numbers of a list of integers of 64 bits, or `None` for another value.
 pub fn integers_from_value(alloc: Global, value: &Value) -> Result<Option<Vec<i64>>, AllocError>

@@ -1,4 +1,5 @@
 pub mod ProcedureLemmas
+pub mod Rows
 pub mod MarksLemmas
 pub mod RegisterSetLemmas
 pub mod LoopBodies

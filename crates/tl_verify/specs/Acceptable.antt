@@ -3,7 +3,7 @@ use Rattle.std.specs.Prelude.{◌≡◌, ℕ, ◌<◌, ◌≤◌, List, true, fa
 use Rattle.tl_instr.specs.declared.instr.Instr.{Instr}
 use Rattle.tl_instr.specs.Instructions.{target}
 use Rattle.tl_budget.specs.Loops.{Loop, Matched, IsAround, around, budget, lock_bound, emit_bound}
-use Rattle.tl_budget.specs.declared.limits.TheConstants.{MAX_STEPS, MAX_LOCKS, MAX_EMITS}
+use Rattle.tl_budget.specs.declared.limits.TheConstants.{MAX_DEPTH, MAX_STEPS, MAX_LOCKS, MAX_EMITS}
 use Rattle.tl_verify.specs.declared.marks.Marks.{Marks}
 use Rattle.tl_verify.specs.Marks.{is_held, entry, source, destination, is_first, is_return, Leads}
 
@@ -35,11 +35,11 @@ pub record HasFit (code : List Instr) : Type 0 where
   pub list : List (Option Marks)
   pub fits : Fits code list
 
--- Loops match, nest at most four deep, and jumps go ahead, stay in the code and enter no loop;
+-- Loops match, don't nest too deep, and jumps go ahead, stay in the code and enter no loop;
 -- the sums of the weights are within the limits; and the registers fit.
 pub record Acceptable (code : List Instr) : Type 0 where
   pub matched : Matched code
-  pub deep : (p : ℕ) → length (around code p) ≤ 4
+  pub deep : (p : ℕ) → length (around code p) ≤ MAX_DEPTH
   pub ahead : (p l : ℕ) (i : Instr) → slice_get code p ≡ Some i → target i ≡ Some l → p < l
   pub inside : (p l : ℕ) (i : Instr) → slice_get code p ≡ Some i → target i ≡ Some l → l < length code
   pub into_none : (p l : ℕ) (i : Instr) → slice_get code p ≡ Some i → target i ≡ Some l

@@ -1,5 +1,6 @@
 -- What an instruction asks of the node registers, and what it leaves of them.
 use Rattle.std.specs.Prelude.{◌≡◌, ℕ, ◌+◌, List, [], ◌∷◌, Bool, true, false, Option, Some, None, slice_set, get_or, replicate}
+use Rattle.tl_instr.specs.declared.operand.TheConstants.{NODE_REGISTERS}
 use Rattle.tl_instr.specs.declared.instr.Instr.{Instr}
 use Rattle.tl_instr.specs.declared.instr.Instr.TheVariants.{Jump, First, Child, Move, Release, Get, Put, Kids, Return}
 use Rattle.tl_instr.specs.Instructions.{target}
@@ -19,7 +20,7 @@ all_empty (false ∷ bs) = all_empty bs
 
 -- at the start all registers are empty, and first is open
 abbrev pub entry : Marks
-entry = record { held = replicate 8 false; is_open = true }
+entry = record { held = replicate NODE_REGISTERS false; is_open = true }
 
 -- the register that has to hold a node
 abbrev pub source : Instr → Option ℕ

@@ -1,10 +1,10 @@
 use Rattle.std.proofs.Common.{◌≡◌, length, take, drop}
 use Rattle.serde_json.specs.View.{items_view}
 use Rattle.tl_tree.specs.Reading.{each_item, integer_of}
-use Rattle.tl_tree.specs.declared.record.TheConstants.{FIELD_COUNT}
+use Rattle.tl_fields.specs.Fields.{field_count}
 use Rattle.tl_tree.proofs.Items.{onto}
 use Rattle.tl_tree.proofs.value.record_from_items.Given as goal
 
 abbrev pub invariant-loop-i : goal.invariant-loop-i
 invariant-loop-i l =
-    (length l.fields ≡ FIELD_COUNT) × (onto (take l.i l.fields) (each_item integer_of (items_view (drop l.i l.items))) ≡ each_item integer_of (items_view l.items))
+    (length l.fields ≡ field_count) × (onto (take l.i l.fields) (each_item integer_of (items_view (drop l.i l.items))) ≡ each_item integer_of (items_view l.items))

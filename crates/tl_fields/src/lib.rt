@@ -1,0 +1,8 @@
+//! How many fields a record has: said once, for records and for instructions that name a field.
+#![tactic(auto)]
+
+mod count;
+
+pub use count::FIELD_COUNT;
+
+pub mod laws;
