@@ -9,7 +9,7 @@ use Rattle.std.proofs.lemmas.Bool.Decides.{Decides-eqb}
 use lib.Pointwise.{pointwise}
 use Rattle.tl_table.specs.declared.receipt.Receipt.{Receipt}
 
-both_decide : {P Q : Type 0} (a b : Bool) → Decides a P → Decides b Q → Decides (a && b) (P × Q)
+pub both_decide : {P Q : Type 0} (a b : Bool) → Decides a P → Decides b Q → Decides (a && b) (P × Q)
 both_decide a b p q = ((λ h. let parts = and_parts a b h in (p.0 parts.0, q.0 parts.1)), (λ h. (λ i. p.1 h.0 i && q.1 h.1 i)))
 
 same_parts : (a b : Receipt) → (a.session ≡ b.session) × ((a.call ≡ b.call) × ((a.procedure ≡ b.procedure) × ((a.args.items ≡ b.args.items) × (a.reply.items ≡ b.reply.items)))) → a ≡ b
