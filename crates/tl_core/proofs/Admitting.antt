@@ -26,9 +26,9 @@ use Rattle.tl_core.specs.declared.call.Call.{Call}
 use Rattle.tl_core.specs.declared.call.OpenCall.{OpenCall}
 use Rattle.tl_core.specs.declared.call.Progress.TheVariants.{Open}
 use Rattle.tl_core.specs.declared.interleaving.TheConstants.{MAX_OPEN}
-use Rattle.tl_core.specs.Stored.{Kept, seen_call, AreStored}
-use Rattle.tl_core.proofs.Storing.{more_at, seen_are, stored_more}
-use Rattle.tl_core.specs.Cores.{CoreValue, no_call, call_of, code_of, world_of, total, owed_to, places}
+use Rattle.tl_core.specs.Stored.{Kept, seen_call, seen_turn, AreStored}
+use Rattle.tl_core.proofs.Storing.{more_at, seen_are, turns_are, earlier_turn, stored_more}
+use Rattle.tl_core.specs.Cores.{CoreValue, no_call, call_of, code_of, world_of, total, open_calls, owed_to, places}
 use Rattle.std.specs.Option.{option_map_or}
 use Rattle.tl_procedures.specs.Names.{number_of}
 use Rattle.tl_core.specs.Entries.{procedure_at, with_call_of, after_admission as core_after}
@@ -229,7 +229,7 @@ one_used c history = record history { past = event.Admit c ∷ history.past; res
 module _ (v : CoreValue) (now : TreeValue) (calls : List Call) (slots : List OpenCall) (holders : List (Option ℕ)) (reserved capacity : ℕ) (w : IsWholeCore v now calls slots holders reserved capacity)
     (code : CodeValue) (parents : List ℕ) (number : ℕ) (given args : List ℤ) (turn : TurnValue) (room : ℕ) (b : Begins code parents given args turn)
     (same_shape : parents ≡ v.parents) (same_code : code ≡ (procedure_at v number).code) (known : number < length v.procedures) (arity : length given ≡ (procedure_at v number).code.arity)
-    (room_is : room ≡ places (procedure_at v number).code.instrs (length v.parents)) (few : length v.calls < 4096)
+    (room_is : room ≡ places (procedure_at v number).code.instrs (length v.parents)) (few : length v.calls < 4096) (few_open : open_calls v < MAX_OPEN)
     (s : Call) (procedure : s.procedure ≡ number) (args_are : s.args.items ≡ args) (progress : s.progress ≡ Open (length slots))
     (o : OpenCall) (o_is : o ≡ record { call = length calls; places = room - 1; turn = turn }) where
   abbrev new_call : Kept
@@ -257,6 +257,16 @@ module _ (v : CoreValue) (now : TreeValue) (calls : List Call) (slots : List Ope
       ap₂ (λ os cs. map (seen_call v.procedures os) cs) slots_are calls_are ∙ begun_seen ∙ map-append call_value w.kept (new_call ∷ [])
       ∙ ap (λ l. l ++ call_value new_call ∷ []) (sym w.core.calls)
       ∙ (λ i. v.calls ++ record { procedure = number; code = code_same i; args = args_same i; count = none_done i } ∷ [])
+
+  pub turns_begun : (calls2 : List Call) → calls2 ≡ calls ++ s ∷ [] → (slots2 : List OpenCall) → slots2 ≡ slots ++ o ∷ []
+      → (d : ℕ) → d < length v.calls → get_or (map (seen_turn slots2) calls2) d None ≡ get_or (map (seen_turn slots) calls) d None
+  turns_begun calls2 calls_are slots2 slots_are d lt =
+      let long = calls_long in
+      let sizes = w.stored.long in
+      ap₂ (λ os cs. get_or (map (seen_turn os) cs) d None) slots_are calls_are
+      ∙ ap (λ l. get_or l d None) (turns_are v.procedures (calls ++ s ∷ []) (slots ++ o ∷ []) (w.kept ++ new_call ∷ []) begun_stored)
+      ∙ earlier_turn w.kept new_call d (omega arith)
+      ∙ sym (ap (λ l. get_or l d None) (turns_are v.procedures calls slots w.kept w.stored))
 
   pub after_begun : (calls2 : List Call) → calls2 ≡ calls ++ s ∷ [] → (slots2 : List OpenCall) → slots2 ≡ slots ++ o ∷ []
       → (history2 : Stored) → history2.past ≡ event.Admit (length v.calls) ∷ v.past → history2.limit ≡ v.limit → (name : List ℕ) → number_of v.procedures name ≡ Some number
@@ -292,6 +302,7 @@ module _ (v : CoreValue) (now : TreeValue) (calls : List Call) (slots : List Ope
         core =
             subst (λ l. IsCore (record v { calls = l; past = history2.past; limit = history2.limit }) now kept2 holders (length slots2) history2.reserved)
             (sym (ap₂ (λ os cs. map (seen_call v.procedures os) cs) slots_are calls_are ∙ begun_seen)) core;
+        few_open = let same = w.core.open_are in omega arith;
         room = enough;
       }
     where

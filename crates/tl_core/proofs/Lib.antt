@@ -1,6 +1,7 @@
 pub mod Totals
 pub mod Events
 pub mod Storing
+pub mod WorldAfter
 pub mod Standing
 pub mod Permitted
 pub mod After
@@ -12,4 +13,9 @@ pub mod Opening
 pub mod Readers
 pub mod Whole
 pub mod Enabling
+pub mod RunParts
+pub mod Following
+pub mod FollowAnswers
+pub mod KeptTurns
+pub mod LedCores
 pub mod Driving

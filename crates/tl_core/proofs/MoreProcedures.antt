@@ -7,7 +7,8 @@ use Rattle.tl_core.specs.declared.call.Call.{Call}
 use Rattle.tl_core.specs.declared.call.OpenCall.{OpenCall}
 use Rattle.tl_core.specs.Stored.{Kept, seen_call, AreStored}
 use Rattle.tl_procedures.specs.Names.{Named, no_procedure}
-use Rattle.tl_core.specs.Cores.{CoreValue}
+use Rattle.tl_machine.specs.Turns.{TurnValue}
+use Rattle.tl_core.specs.Cores.{CoreValue, CoreState}
 use Rattle.tl_core.specs.Kept.{IsKept, IsCore, IsWholeCore}
 use Rattle.tl_core.proofs.Storing.{seen_are}
 
@@ -74,6 +75,7 @@ module _ (v : CoreValue) (more : List Named) (now : TreeValue) (calls : List Cal
     core =
         subst (λ l. IsCore (record v { procedures = v.procedures ++ more; calls = l }) now w.kept holders (length slots) reserved) (sym still_seen)
         (keeps_core v more now w.kept holders (length slots) reserved w.core);
+    few_open = w.few_open;
     room = w.room;
   }
 
@@ -91,3 +93,8 @@ seen_added v now calls slots holders reserved capacity w (Ok number) after one l
     ap (λ ps. record v { procedures = ps; calls = map (seen_call ps slots) calls }) last
     ∙ ap (λ l. record v { procedures = v.procedures ++ one ∷ []; calls = l }) (still_seen v (one ∷ []) now calls slots holders reserved capacity w)
 seen_added v now calls slots holders reserved capacity w (Err fault) after one last = tt
+
+-- the same with the turns
+pub state_added : (v2 v3 : CoreValue) (turns : List (Option TurnValue)) (result : Result ℕ NamingFault) → OnOk result (v2 ≡ v3) → OnOk result (◌≡◌ {A = CoreState} (record { seen = v2; turns = turns }) (record { seen = v3; turns = turns }))
+state_added v2 v3 turns (Ok number) same = λ i. record { seen = same i; turns = turns }
+state_added v2 v3 turns (Err fault) same = tt

@@ -57,5 +57,6 @@ opened_of tree whole procedures limit holders holders_are now now_is calls no_ca
       kept = [];
       stored = none_stored procedures;
       core = opened tree whole procedures limit holders holders_are;
+      few_open = omega arith;
       room = room;
     }))))

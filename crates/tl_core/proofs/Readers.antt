@@ -1,5 +1,5 @@
 -- What a core's readers answer.
-use Rattle.std.proofs.Common.{◌≡◌, ℕ, zero, suc, ◌+◌, ◌<◌, ◌≤◌, Bool, true, false, List, [], ◌∷◌, length, take, refl, sym, ap, ◌∙◌, subst, arith, Option, Some, None, slice_get, if◌then◌else◌}
+use Rattle.std.proofs.Common.{◌≡◌, ℕ, zero, suc, ◌+◌, ◌<◌, ◌≤◌, ◌↔◌, Bool, true, false, List, [], ◌∷◌, length, take, refl, sym, ap, ◌∙◌, subst, arith, Option, Some, None, slice_get, if◌then◌else◌}
 use Rattle.std.proofs.lemmas.Bool.{eqb-true}
 use Rattle.std.proofs.lemmas.List.{length-map}
 use Rattle.tl_tree.specs.Records.{record_at}
@@ -7,9 +7,12 @@ use Rattle.tl_tree.specs.Trees.{TreeValue}
 use Rattle.tl_budget.specs.Loops.{budget, lock_bound, emit_bound}
 use Rattle.tl_protocol.specs.declared.action.Action.{Action}
 use Rattle.tl_protocol.specs.declared.action.Action.TheVariants as did
-use Rattle.tl_protocol.specs.Actions.{emitted, taken, lock_count}
+use Rattle.tl_protocol.specs.Actions.{held, emitted, taken, lock_count}
+use Rattle.tl_protocol.specs.Holders.{holder_of}
+use Rattle.tl_protocol.proofs.Holders.{held-holder, holder-held}
+use Rattle.tl_protocol.proofs.NoStandstill.{sound_history}
 use Rattle.tl_protocol.specs.Alone.{all_taken}
-use Rattle.tl_protocol.specs.History.{is_done, admits, record_now}
+use Rattle.tl_protocol.specs.History.{part_of, is_done, admits, record_now}
 use Rattle.tl_protocol.specs.Obeys.{Obeys}
 use Rattle.tl_protocol.specs.World.{alone_of, reply_of}
 use Rattle.tl_protocol.proofs.Records.{record_at-records_now, length-records_now}
@@ -22,7 +25,7 @@ use Rattle.tl_core.specs.Cores.{CoreValue, call_of, code_of, world_of, done_by}
 use Rattle.tl_core.specs.Entries.{procedure_at}
 use Rattle.tl_core.specs.Kept.{IsCore, call_value}
 use Rattle.tl_machine.proofs.Along.{onto, taken-onto, length-onto}
-use Rattle.tl_core.proofs.Storing.{some_at}
+use Rattle.tl_core.proofs.Storing.{some_at, same_item}
 use Rattle.tl_core.proofs.Standing.{keep, call_is, rest, whole, ended, admitted, found_tree, found_size}
 
 length-take : (k : ℕ) (more : List Action) → length (take k more) ≤ length more
@@ -72,6 +75,13 @@ module _ (v : CoreValue) (now : TreeValue) (kept : List Kept) (holders : List (O
 
   pub record_is : (x : ℕ) → x < length v.parents → record_at now.records x ≡ record_now v.past v.opening x
   record_is x lt = let size = h.sound.size in ap (λ t. record_at t.records x) h.now_is ∙ record_at-records_now v.past v.opening x (omega arith)
+
+  -- the holder that is stored has a lock of the node and no free after it, and nobody else has
+  pub holder_holds : (x : ℕ) (o : Option ℕ) → x < length v.parents → slice_get holders x ≡ Some o → (c : ℕ) → (o ≡ Some c) ↔ (held (part_of c v.past) x ≡ true)
+  holder_holds x o inside there c =
+      let legal = sound_history (world_of v) h.sound in
+      let named : holder_of v.past x ≡ o = same_item (sym (h.holds x inside) ∙ there) in
+      (λ is. holder-held v.parents v.past legal c x (named ∙ is), λ is. sym named ∙ held-holder v.parents v.past legal c x is)
 
   module _ (c : ℕ) (k : Kept) (at : slice_get kept c ≡ Some k) where
     pub request_known : k.procedure < length v.procedures

@@ -27,6 +27,7 @@ use Rattle.tl_core.specs.Cores.{CallValue, CoreValue, no_call, call_of, world_of
 use Rattle.tl_core.specs.Entries.{one_more, stepped_by, node_of, step_answer}
 use Rattle.tl_machine.specs.Along.{with_left}
 use Rattle.tl_core.specs.Kept.{IsCore, IsKept, call_value}
+use Rattle.tl_core.proofs.WorldAfter.{after as core_after, code_after, world_is}
 use Rattle.tl_machine.proofs.Along.{onto, actions-after_done, length-onto, at-onto, has_found, length-with_left, over_none}
 
 -- ---- a call of a core
@@ -119,43 +120,11 @@ module _ (v : CoreValue) (now : TreeValue) (kept : List Kept) (holders : List (O
 
   -- ---- the world after an action
 
-  abbrev pub calls_after : List CallValue
-  calls_after = set v.calls c (one_more (call_of v c))
-
-  pub same_code : (d : ℕ) → (get_or calls_after d no_call).code ≡ (call_of v d).code
-  same_code d = elim (cases_eq c d) [
-    | inl same ↦ subst (λ z. (get_or calls_after z no_call).code ≡ (call_of v z).code) same (ap (λ z. z.code) (get_or-set_same v.calls c (one_more (call_of v c)) no_call inside))
-    | inr other ↦ ap (λ z. z.code) (get_or-set_other v.calls c d (one_more (call_of v c)) no_call (λ e. other (sym e)))
-  ]
-
-  pub same_args : (d : ℕ) → (get_or calls_after d no_call).args ≡ (call_of v d).args
-  same_args d = elim (cases_eq c d) [
-    | inl same ↦ subst (λ z. (get_or calls_after z no_call).args ≡ (call_of v z).args) same (ap (λ z. z.args) (get_or-set_same v.calls c (one_more (call_of v c)) no_call inside))
-    | inr other ↦ ap (λ z. z.args) (get_or-set_other v.calls c d (one_more (call_of v c)) no_call (λ e. other (sym e)))
-  ]
-
-  counted_on : (d : ℕ) → (get_or calls_after d no_call).count ≡ (if c == d then suc ((call_of v d).count) else (call_of v d).count)
-  counted_on d = elim (cases_eq c d) [
-    | inl same ↦
-        let q = eq-eqb c d same in
-        let one : (call_of v c).count + 1 ≡ suc ((call_of v c).count) = omega arith in
-        rw q (subst (λ z. (get_or calls_after z no_call).count ≡ suc ((call_of v z).count)) same (ap (λ z. z.count) (get_or-set_same v.calls c (one_more (call_of v c)) no_call inside) ∙ one))
-    | inr other ↦
-        let q = ne_eqb c d other in
-        rw q (ap (λ z. z.count) (get_or-set_other v.calls c d (one_more (call_of v c)) no_call (λ e. other (sym e))))
-  ]
-
   abbrev pub after : Action → CoreValue
-  after a = record v { calls = calls_after; past = past_after c (as_found (world_of v) a) v.past }
+  after a = core_after v c a
 
-  pub world_is : (a : Action) → world_of (after a) ≡ world_after (world_of v) c a
-  world_is a = λ i. record {
-    parents = v.parents;
-    opening = v.opening;
-    meanings = λ d. meaning (same_code d i).instrs v.parents (same_args d i);
-    past = past_after c (as_found (world_of v) a) v.past;
-    counts = λ d. counted_on d i;
-  }
+  pub same_code : (d : ℕ) → (call_of (core_after v c did.Plain) d).code ≡ (call_of v d).code
+  same_code d = code_after v c inside d
 
   pub sound_after : (a : Action) → MayTake (world_of v) c a → IsSound (world_of (after a))
-  sound_after a may = subst IsSound (sym (world_is a)) (sound_after_step (world_of v) c a h.sound may)
+  sound_after a may = subst IsSound (sym (world_is v c inside a)) (sound_after_step (world_of v) c a h.sound may)

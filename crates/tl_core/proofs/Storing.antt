@@ -1,5 +1,5 @@
 -- How a core's calls are stored, and stay stored.
-use Rattle.std.proofs.Common.{◌≡◌, ◌≢◌, ℕ, zero, suc, ◌+◌, ◌-◌, ◌<◌, ◌≤◌, List, [], ◌∷◌, ◌++◌, length, map, refl, sym, ap, ◌∙◌, subst, inl, inr, arith, Some, None, option_map, slice_get, get_or, set, take, ℤ, ◌⊎◌}
+use Rattle.std.proofs.Common.{◌≡◌, ◌≢◌, ℕ, zero, suc, ◌+◌, ◌-◌, ◌<◌, ◌≤◌, List, [], ◌∷◌, ◌++◌, length, map, refl, sym, ap, ◌∙◌, subst, inl, inr, arith, Option, Some, None, option_map, slice_get, get_or, set, take, ℤ, ◌⊎◌}
 use Rattle.std.specs.List.{swap_remove}
 use Rattle.std.proofs.lemmas.Bool.{cases_eq}
 use Rattle.std.proofs.lemmas.List.{length-set, length-append}
@@ -10,7 +10,7 @@ use Rattle.tl_core.specs.declared.call.Call.{Call}
 use Rattle.tl_core.specs.declared.call.OpenCall.{OpenCall}
 use Rattle.tl_core.specs.declared.call.Progress.{Progress}
 use Rattle.tl_core.specs.declared.call.Progress.TheVariants.{Open, Done}
-use Rattle.tl_core.specs.Stored.{Kept, slot_of, reply_in, steps_of, count_of, seen_call, open_call, IsStored, AreStored}
+use Rattle.tl_core.specs.Stored.{Kept, slot_of, reply_in, turn_in, steps_of, count_of, seen_call, seen_turn, open_call, IsStored, AreStored}
 use Rattle.tl_core.specs.Kept.{call_value}
 
 -- ---- lists
@@ -89,6 +89,37 @@ pub seen_are : (procedures : List Named) (calls : List Call) (slots : List OpenC
     → map (seen_call procedures slots) calls ≡ map call_value kept
 seen_are procedures calls slots kept h =
     same_maps (seen_call procedures slots) call_value calls kept h.long (λ c s k at at2. seen_is procedures slots c k s (h.each c k s at2 at))
+
+-- the turn of a call that has no reply yet
+abbrev pub unless_done : Option (List ℤ) → TurnValue → Option TurnValue
+unless_done None turn = Some turn
+unless_done (Some reply) turn = None
+
+abbrev pub open_turn : Kept → Option TurnValue
+open_turn k = unless_done k.reply k.turn
+
+turn_is : (slots : List OpenCall) (p : Progress) (k : Kept) (c : ℕ) → reply_in p ≡ k.reply → ((j : ℕ) → slot_of p ≡ Some j → slice_get slots j ≡ Some (open_call c k))
+    → turn_in slots p ≡ open_turn k
+turn_is slots (Open j) k c reply slot = ap (λ o. option_map (λ z. z.turn) o) (slot j refl) ∙ ap (λ r. unless_done r k.turn) reply
+turn_is slots (Done out n) k c reply slot = ap (λ r. unless_done r k.turn) reply
+
+pub turns_are : (procedures : List Named) (calls : List Call) (slots : List OpenCall) (kept : List Kept) → AreStored procedures calls slots kept
+    → map (seen_turn slots) calls ≡ map open_turn kept
+turns_are procedures calls slots kept h =
+    same_maps (seen_turn slots) open_turn calls kept h.long (λ c s k at at2. let its = h.each c k s at2 at in turn_is slots s.progress k c its.reply its.slot)
+
+-- with another call kept in one place, the turns of the others are the same
+pub other_turn : (kept : List Kept) (c : ℕ) (k : Kept) (d : ℕ) → d ≢ c → get_or (map open_turn (set kept c k)) d None ≡ get_or (map open_turn kept) d None
+other_turn [] c k d ne = refl
+other_turn (x ∷ kept) zero k zero ne = absurd (ne refl)
+other_turn (x ∷ kept) zero k (suc d) ne = refl
+other_turn (x ∷ kept) (suc c) k zero ne = refl
+other_turn (x ∷ kept) (suc c) k (suc d) ne = other_turn kept c k d (λ e. ne (ap suc e))
+
+pub earlier_turn : (kept : List Kept) (k : Kept) (d : ℕ) → d < length kept → get_or (map open_turn (kept ++ k ∷ [])) d None ≡ get_or (map open_turn kept) d None
+earlier_turn [] k d lt = absurd (omega arith)
+earlier_turn (x ∷ kept) k zero lt = refl
+earlier_turn (x ∷ kept) k (suc d) lt = earlier_turn kept k d (omega arith)
 
 -- the call that is stored there
 pub kept_of : (procedures : List Named) (calls : List Call) (slots : List OpenCall) (kept : List Kept) → AreStored procedures calls slots kept

@@ -1,8 +1,8 @@
 -- A call of a core that is open: where it is stored, and the core after its turn.
-use Rattle.std.proofs.Common.{◌≡◌, ℕ, ◌+◌, ◌-◌, ◌<◌, ◌≤◌, List, length, map, refl, sym, ap, ◌∙◌, subst, arith, Option, Some, None, slice_get, get_or, set, Ok, true, false, Bool, if◌then◌else◌, ℤ}
-use Rattle.std.proofs.lemmas.Bool.{lt-ltb, both_ways}
-use Rattle.std.proofs.lemmas.List.{length-map, length-set}
-use Rattle.std.proofs.lemmas.Option.{slice_get_read, slice_get_within}
+use Rattle.std.proofs.Common.{◌≡◌, ℕ, ◌+◌, ◌-◌, ◌<◌, ◌≤◌, List, length, map, refl, sym, ap, ◌∙◌, subst, inl, inr, arith, Option, Some, None, option_map, ◌≢◌, slice_get, get_or, set, Ok, true, false, Bool, if◌then◌else◌, ℤ}
+use Rattle.std.proofs.lemmas.Bool.{lt-ltb, both_ways, cases_lt}
+use Rattle.std.proofs.lemmas.List.{length-map, length-set, get_or_past}
+use Rattle.std.proofs.lemmas.Option.{slice_get-map, slice_get_read, slice_get_within, get_or_from_slice_get}
 use Rattle.tl_tree.specs.Trees.{TreeValue}
 use Rattle.tl_protocol.specs.declared.event.Event.{Event}
 use Rattle.tl_protocol.specs.History.{is_done, admits}
@@ -20,9 +20,9 @@ use Rattle.tl_protocol.specs.Actions.{emitted}
 use Rattle.tl_machine.specs.declared.want.Stop.TheVariants as stop
 use Rattle.tl_core.proofs.Readers.{kept_at, request_known, request_arity, reply_is}
 use Rattle.tl_protocol.specs.World.{IsEnabled, reply_of}
-use Rattle.tl_core.specs.Stored.{Kept, slot_of, reply_in, seen_call, open_call, IsStored, AreStored}
+use Rattle.tl_core.specs.Stored.{Kept, slot_of, reply_in, turn_in, seen_call, seen_turn, open_call, IsStored, AreStored}
 use Rattle.tl_core.specs.Kept.{IsCore, IsWholeCore, call_value}
-use Rattle.tl_core.proofs.Storing.{IsWithout, same_item, kept_of, stored_of, seen_are, no_reply, stored_turn, stored_last, stored_moved}
+use Rattle.tl_core.proofs.Storing.{IsWithout, same_item, slice_get-set_same, kept_of, stored_of, seen_are, turns_are, other_turn, no_reply, stored_turn, stored_last, stored_moved}
 
 -- call c is stored so, and its turn stands in slot j
 pub record IsAt (calls : List Call) (slots : List OpenCall) (c j : ℕ) (s : Call) (o : OpenCall) : Type 0 where
@@ -104,6 +104,36 @@ module _ (v : CoreValue) (now : TreeValue) (calls : List Call) (slots : List Ope
     pub reply_read : reply_in s.progress ≡ (if is_done c v.past then Some (reply_of (world_of v) c) else None)
     reply_read = as_stored.reply ∙ reply_is v now w.kept holders (length slots) reserved w.core c its_kept.0 its_kept.1
 
+  -- the turn that is kept of a call as it was read
+  turn_read : (c : ℕ) (s : Call) → c < length calls → s ≡ get_or calls c s → get_or (map (seen_turn slots) calls) c None ≡ seen_turn slots s
+  turn_read c s lt read =
+      let there = slice_get_read calls (length calls) c s refl lt read in
+      get_or_from_slice_get (map (seen_turn slots) calls) c (seen_turn slots s) None (slice_get-map (seen_turn slots) calls c ∙ ap (λ z. option_map (seen_turn slots) z) there)
+
+  -- none of a call without a slot
+  pub no_turn : (c : ℕ) (s : Call) → c < length calls → s ≡ get_or calls c s → slot_of s.progress ≡ None → get_or (map (seen_turn slots) calls) c None ≡ None
+  no_turn c s lt read none = turn_read c s lt read ∙ by_progress s.progress none
+    where
+      by_progress : (p : Progress) → slot_of p ≡ None → turn_in slots p ≡ None
+      by_progress (Open j) is = absurd cc
+      by_progress (Done reply n) is = refl
+
+  -- a call of which a turn is kept
+  pub turned_inside : (c : ℕ) (t : TurnValue) → get_or (map (seen_turn slots) calls) c None ≡ Some t → c < length calls
+  turned_inside c t kept = elim (cases_lt c (length calls)) [
+    | inl lt ↦ lt
+    | inr ge ↦
+        let long = length-map calls (seen_turn slots) in
+        let none : None ≡ Some t = sym (get_or_past (map (seen_turn slots) calls) c None (omega arith)) ∙ kept in
+        absurd cc
+  ]
+
+  -- has a slot
+  pub turned_open : (c : ℕ) (t : TurnValue) (s : Call) → get_or (map (seen_turn slots) calls) c None ≡ Some t → s ≡ get_or calls c s → slot_of s.progress ≡ None → ⊥
+  turned_open c t s kept read none =
+      let nothing : None ≡ Some t = sym (no_turn c s (turned_inside c t kept) read none) ∙ kept in
+      absurd cc
+
   -- the slot of a call that isn't done
   pub slot_open : (c : ℕ) → c < admits v.past → is_done c v.past ≡ false → (j : ℕ) × (o : OpenCall) × (slice_get slots j ≡ Some o) × (o.call ≡ c)
   slot_open c lt goes_on =
@@ -152,6 +182,20 @@ module _ (v : CoreValue) (now : TreeValue) (calls : List Call) (slots : List Ope
         let args = sym here.args in
         the_kept.1 ∙ ap Some (λ i. record { procedure = procedure i; args = args i; turn = (slot i).turn; reply = none i; places = (slot i).places })
 
+    -- the turn that is kept of it
+    pub turn_here : get_or (map (seen_turn slots) calls) c None ≡ Some o.turn
+    turn_here =
+        let there : slice_get (map (seen_turn slots) calls) c ≡ Some (seen_turn slots s) = slice_get-map (seen_turn slots) calls c ∙ ap (λ z. option_map (seen_turn slots) z) p.stored in
+        get_or_from_slice_get (map (seen_turn slots) calls) c (seen_turn slots s) None there ∙ in_slot s.progress p.is_open
+      where
+        in_slot : (progress : Progress) → slot_of progress ≡ Some j → turn_in slots progress ≡ Some o.turn
+        in_slot (Open i) is = ap (λ n. option_map (λ z. z.turn) (slice_get slots n)) (same_item is) ∙ ap (λ z. option_map (λ x. x.turn) z) p.slot
+        in_slot (Done reply n) is = absurd cc
+
+    -- so it's the one that was asked for
+    pub turn_same : (t : TurnValue) → get_or (map (seen_turn slots) calls) c None ≡ Some t → o.turn ≡ t
+    turn_same t kept = same_item (sym turn_here ∙ kept)
+
     -- its turn isn't over
     pub goes_on : Stops o.turn stop.Over → ⊥
     goes_on wants =
@@ -170,6 +214,24 @@ module _ (v : CoreValue) (now : TreeValue) (calls : List Call) (slots : List Ope
       stored_then =
           subst (λ n. AreStored v.procedures calls (set slots j (record { call = n; places = places2; turn = turn2 })) kept_then) number_is
           (stored_turn v.procedures calls slots w.kept w.stored c (in_place s o) s kept_here p.stored j p.is_open turn2 places2 same_code)
+
+      -- the turn then
+      pub turn_then : get_or (map (seen_turn slots_then) calls) c None ≡ Some turn2
+      turn_then =
+          let there = slice_get-map (seen_turn slots_then) calls c ∙ ap (λ z. option_map (seen_turn slots_then) z) p.stored in
+          get_or_from_slice_get (map (seen_turn slots_then) calls) c (seen_turn slots_then s) None there ∙ in_slot_then s.progress p.is_open
+        where
+          in_slot_then : (progress : Progress) → slot_of progress ≡ Some j → turn_in slots_then progress ≡ Some turn2
+          in_slot_then (Open i) is =
+              ap (λ n. option_map (λ z. z.turn) (slice_get slots_then n)) (same_item is)
+              ∙ ap (λ z. option_map (λ x. x.turn) z) (slice_get-set_same slots j (record { call = o.call; places = places2; turn = turn2 }) (slice_get_within slots j o p.slot))
+          in_slot_then (Done reply n) is = absurd cc
+
+      pub turns_then : (d : ℕ) → d ≢ c → get_or (map (seen_turn slots_then) calls) d None ≡ get_or (map (seen_turn slots) calls) d None
+      turns_then d other =
+          ap (λ l. get_or l d None) (turns_are v.procedures calls slots_then kept_then stored_then)
+          ∙ other_turn w.kept c (record { procedure = s.procedure; args = s.args.items; turn = turn2; reply = None; places = places2 }) d other
+          ∙ sym (ap (λ l. get_or l d None) (turns_are v.procedures calls slots w.kept w.stored))
 
       pub seen_then : map (seen_call v.procedures slots_then) calls ≡ map call_value kept_then
       seen_then = seen_are v.procedures calls slots_then kept_then stored_then
@@ -190,6 +252,7 @@ module _ (v : CoreValue) (now : TreeValue) (calls : List Call) (slots : List Ope
             core =
                 subst (λ l. IsCore (record v { calls = l; past = past2; limit = limit2 }) now2 kept_then holders2 (length slots_then) reserved2) (sym seen_then)
                 (subst (λ n. IsCore (record v { calls = map call_value kept_then; past = past2; limit = limit2 }) now2 kept_then holders2 n reserved2) (sym long) core);
+            few_open = let few = w.few_open in omega arith;
             room = room;
           }
 
@@ -223,6 +286,12 @@ module _ (v : CoreValue) (now : TreeValue) (calls : List Call) (slots : List Ope
           let long : length calls_over ≡ length calls = length-set calls c (record s { progress = Done reply2 steps2 }) in
           slice_get_read calls_over (length calls_over) om.call x refl (omega arith) read
 
+      pub turns_over : (calls2 : List Call) → AreStored v.procedures calls2 slots2 kept_over → (d : ℕ) → d ≢ c → get_or (map (seen_turn slots2) calls2) d None ≡ get_or (map (seen_turn slots) calls) d None
+      turns_over calls2 stored d other =
+          ap (λ l. get_or l d None) (turns_are v.procedures calls2 slots2 kept_over stored)
+          ∙ other_turn w.kept c (record { procedure = s.procedure; args = s.args.items; turn = turn2; reply = Some reply2; places = 0 }) d other
+          ∙ sym (ap (λ l. get_or l d None) (turns_are v.procedures calls slots w.kept w.stored))
+
       pub seen_over : (calls2 : List Call) → AreStored v.procedures calls2 slots2 kept_over → (past2 : List Event) (limit2 : ℕ)
           → record v { calls = map (seen_call v.procedures slots2) calls2; past = past2; limit = limit2 } ≡ record v { calls = map call_value kept_over; past = past2; limit = limit2 }
       seen_over calls2 stored past2 limit2 = ap (λ l. record v { calls = l; past = past2; limit = limit2 }) (seen_are v.procedures calls2 slots2 kept_over stored)
@@ -241,5 +310,6 @@ module _ (v : CoreValue) (now : TreeValue) (calls : List Call) (slots : List Ope
             core =
                 subst (λ l. IsCore (record v { calls = l; past = past2; limit = limit2 }) now2 kept_over holders2 (length slots2) reserved2) (sym (seen_are v.procedures calls2 slots2 kept_over stored))
                 (subst (λ n. IsCore (record v { calls = map call_value kept_over; past = past2; limit = limit2 }) now2 kept_over holders2 n reserved2) (sym long) core);
+            few_open = let few = w.few_open in omega arith;
             room = room;
           }

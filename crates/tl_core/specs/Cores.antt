@@ -1,15 +1,17 @@
 -- What callers see of a core.
-use Rattle.std.specs.Prelude.{ℕ, zero, suc, ◌+◌, ◌-◌, ◌*◌, List, [], length, get_or, if◌then◌else◌, min, take, ℤ}
+use Rattle.std.specs.Prelude.{◌≡◌, ℕ, zero, suc, ◌+◌, ◌-◌, ◌*◌, ◌<◌, true, List, [], length, get_or, if◌then◌else◌, min, Option, None, ℤ}
 use Rattle.tl_tree.specs.Records.{Records}
 use Rattle.tl_instr.specs.declared.instr.Instr.{Instr}
 use Rattle.tl_instr.specs.Codes.{CodeValue}
 use Rattle.tl_budget.specs.Loops.{budget, lock_bound}
 use Rattle.tl_protocol.specs.declared.action.Action.{Action}
 use Rattle.tl_protocol.specs.declared.event.Event.{Event}
-use Rattle.tl_protocol.specs.History.{part_of, is_done}
-use Rattle.tl_protocol.specs.World.{World, alone_of}
+use Rattle.tl_protocol.specs.History.{part_of, is_done, IsOpen}
+use Rattle.tl_protocol.specs.World.{World, done_of}
 use Rattle.tl_machine.specs.Outcomes.{meaning}
+use Rattle.tl_machine.specs.Turns.{TurnValue}
 use Rattle.tl_procedures.specs.Names.{Named}
+use Rattle.tl_tree.specs.Trees.{TreeValue}
 
 -- a call: the number of its procedure, the code that it runs, its arguments, and how many instructions it has done
 pub record CallValue : Type 0 where
@@ -27,6 +29,21 @@ pub record CoreValue : Type 0 where
   pub calls : List CallValue
   pub past : List Event
   pub limit : ℕ
+
+-- the same, with the turn that the core keeps of each call: none of a call that is done
+pub record CoreState : Type 0 where
+  pub seen : CoreValue
+  pub turns : List (Option TurnValue)
+
+abbrev pub kept_turn : CoreState → ℕ → Option TurnValue
+kept_turn s c = get_or s.turns c None
+
+-- a core of the tree with these procedures, without calls
+abbrev pub opened : TreeValue → List Named → ℕ → CoreState
+opened tree procedures limit = record {
+  seen = record { parents = tree.parents; opening = tree.records; procedures = procedures; calls = []; past = []; limit = limit };
+  turns = [];
+}
 
 abbrev pub no_call : CallValue
 no_call = record { procedure = 0; code = record { arity = 0; instrs = [] }; args = []; count = 0 }
@@ -47,15 +64,26 @@ world_of v = record {
   counts = λ c. (call_of v c).count;
 }
 
+-- the turn is that of call c, which is open
+pub record IsTurnOf (v : CoreValue) (c : ℕ) (t : TurnValue) : Type 0 where
+  pub is_open : IsOpen c v.past
+  pub code : t.code ≡ (call_of v c).code
+  pub parents : t.parents ≡ v.parents
+  pub count : t.call.steps ≡ (call_of v c).count
+
 -- what call c has done, the earliest action first
 abbrev pub done_by : CoreValue → ℕ → List Action
-done_by v c =
-    take ((call_of v c).count) (alone_of (meaning (code_of v c) v.parents (call_of v c).args) v.opening v.past c).actions
+done_by v c = done_of (world_of v) c
 
 -- the sum over the numbers below n
 abbrev pub total : (ℕ → ℕ) → ℕ → ℕ
 total f zero = 0
 total f (suc n) = total f n + f n
+
+-- c was admitted and isn't done, and each call before it is done
+pub record IsLeastUnfinished (past : List Event) (c : ℕ) : Type 0 where
+  pub is_open : IsOpen c past
+  pub least : (d : ℕ) → d < c → is_done d past ≡ true
 
 -- how many calls are open
 abbrev pub open_calls : CoreValue → ℕ

@@ -54,6 +54,11 @@ after_step v c (Ok (Blocked x d)) = v
 after_step v c (Ok Over) = v
 after_step v c (Err e) = v
 
+-- the step found the call blocked
+abbrev pub IsBlocked : Result Stepped CoreFault → Type 0
+IsBlocked (Ok (Blocked x d)) = Unit {0}
+IsBlocked answer = ⊥
+
 -- ---- admissions
 
 abbrev pub procedure_at : CoreValue → ℕ → Named
@@ -86,10 +91,11 @@ abbrev pub entry_of : ℕ → Result Stepped CoreFault → Entry
 entry_of c (Ok stepped) = entry.Stepped c stepped
 entry_of c (Err refused) = entry.Refused refused
 
--- what may come of an admission: want of memory may refuse it too
+-- what may come of an admission: want of memory may refuse it too, where nothing else does
 abbrev pub IsAdmissionEntry : CoreValue → List ℕ → List ℤ → Entry → Type 0
 IsAdmissionEntry v name args (entry.Admitted n) = (admission_refusal v name args ≡ None) × (n ≡ length v.calls)
-IsAdmissionEntry v name args (entry.Refused e) = e ≢ fault.Memory → admission_refusal v name args ≡ Some e
+IsAdmissionEntry v name args (entry.Refused e) =
+    (e ≢ fault.Memory → admission_refusal v name args ≡ Some e) × (e ≡ fault.Memory → admission_refusal v name args ≡ None)
 IsAdmissionEntry v name args (entry.Stepped c stepped) = ⊥
 
 -- what comes of a move
@@ -112,6 +118,12 @@ Traced v (m ∷ moves) (e ∷ entries) = IsEntry v m e × Traced (after_entry v 
 abbrev pub after_moves : CoreValue → List Move → List Entry → CoreValue
 after_moves v (m ∷ moves) (e ∷ entries) = after_moves (after_entry v m e) moves entries
 after_moves v moves entries = v
+
+-- what call c did in these entries, the earliest action first
+abbrev pub part_of_run : ℕ → List Entry → List Action
+part_of_run c [] = []
+part_of_run c (entry.Stepped d (Moved a) ∷ entries) = if d == c then a ∷ part_of_run c entries else part_of_run c entries
+part_of_run c (_ ∷ entries) = part_of_run c entries
 
 -- how many of the entries are instructions done
 abbrev pub moved : List Entry → ℕ

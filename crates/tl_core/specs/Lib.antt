@@ -4,3 +4,4 @@ pub mod Entries
 pub mod Begun
 pub mod Stored
 pub mod Kept
+pub mod Followed

@@ -1,5 +1,5 @@
 -- How a core stores its calls: what it keeps for ever, and the slots of those that are open.
-use Rattle.std.specs.Prelude.{◌≡◌, ℕ, List, length, map, Option, Some, None, slice_get, get_or, ℤ}
+use Rattle.std.specs.Prelude.{◌≡◌, ℕ, List, length, map, Option, Some, None, option_map, slice_get, get_or, ℤ}
 use Rattle.tl_machine.specs.Turns.{TurnValue}
 use Rattle.tl_procedures.specs.Names.{Named, no_procedure}
 use Rattle.tl_core.specs.declared.call.Call.{Call}
@@ -32,6 +32,14 @@ seen_call procedures slots s = record {
   args = s.args.items;
   count = count_of slots s.progress;
 }
+
+-- the turn that is kept of a stored call
+abbrev pub turn_in : List OpenCall → Progress → Option TurnValue
+turn_in slots (Open slot) = option_map (λ o. o.turn) (slice_get slots slot)
+turn_in slots (Done reply steps) = None
+
+abbrev pub seen_turn : List OpenCall → Call → Option TurnValue
+seen_turn slots s = turn_in slots s.progress
 
 -- A call with its turn, which is the last one where the call is done. The core stores the turn only of an open call.
 pub record Kept : Type 0 where

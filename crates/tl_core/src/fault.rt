@@ -28,6 +28,9 @@ pub enum CoreFault {
     /// 605: the history has no room for all that the call may do.
     #[error("the history has no room for the call")]
     HistoryFull,
+    /// 607: the segment doesn't begin at the turn that the call is at.
+    #[error("not from the turn that the call is at")]
+    NotFrom,
     /// 690: memory was refused.
     #[error("out of memory")]
     Memory,
@@ -48,6 +51,7 @@ impl CoreFault {
             CoreFault::TooManyCalls => 603,
             CoreFault::TooManyOpen => 604,
             CoreFault::HistoryFull => 605,
+            CoreFault::NotFrom => 607,
             CoreFault::Memory => 690,
         });
         numbers

@@ -1,29 +1,35 @@
 // Many calls on one tree.
 
-ghost use Rattle.std.specs.Prelude.{◌≡◌, ◌≢◌, ℕ, ◌+◌, ◌<◌, ◌≤◌, ◌↔◌, List, [], ◌∷◌, ◌++◌, length, true, IsTrue, IsOk, IsNone, IfOk, OnOk, OnErr, IfErr, IfSome, None, Some, option_copied, if◌then◌else◌};
+ghost use Rattle.std.specs.Prelude.{◌≡◌, ◌≢◌, ℕ, ◌+◌, ◌<◌, ◌≤◌, ◌↔◌, List, [], ◌∷◌, ◌++◌, length, true, false, IsTrue, IsOk, IsNone, IfOk, OnOk, OnErr, IfErr, IfSome, None, Some, option_copied, if◌then◌else◌};
 ghost use Rattle.std.specs.Arc.{arc_value};
 ghost use Rattle.tl_budget.specs.Loops.{budget, lock_bound, emit_bound};
-ghost use Rattle.tl_protocol.specs.Actions.{lock_count};
-ghost use Rattle.tl_protocol.specs.History.{admits, is_done, AllDone, record_now, records_now};
+ghost use Rattle.tl_protocol.specs.Actions.{held, lock_count};
+ghost use Rattle.tl_protocol.specs.History.{part_of, admits, is_done, IsOpen, AllDone, record_now, records_now};
 ghost use Rattle.tl_protocol.specs.Holders.{holder_of};
 ghost use Rattle.tl_protocol.specs.Obeys.{Obeys};
-ghost use Rattle.tl_protocol.specs.World.{Legal, IsSound, IsEnabled, reply_of};
+ghost use Rattle.tl_protocol.specs.World.{Legal, IsSound, IsStuck, IsEnabled, reply_of};
 ghost use Rattle.tl_procedures.specs.Names.{number_of, naming_refusal};
 ghost use Rattle.tl_procedures.specs.declared.fault.NamingFault.TheVariants as naming;
-ghost use Rattle.tl_core.specs.Cores.{world_of, call_of, code_of, places, room, owed, all_budgets, done_by};
-ghost use Rattle.tl_core.specs.Entries.{step_answer, after_step, admission_refusal, after_admission, procedure_at, IsEntry, after_entry, Traced, after_moves, moved};
+ghost use Rattle.tl_core.specs.Cores.{world_of, call_of, code_of, opened, kept_turn, places, room, owed, open_calls, all_budgets, done_by, IsLeastUnfinished, IsTurnOf};
+ghost use Rattle.tl_core.specs.Entries.{step_answer, after_step, admission_refusal, after_admission, procedure_at, IsEntry, after_entry, Traced, after_moves, moved, part_of_run, entry_of, IsBlocked};
 ghost use Rattle.tl_machine.specs.Runs.{emitted};
+ghost use Rattle.tl_machine.specs.Turns.{TurnValue, Stops, end_of};
+ghost use Rattle.tl_machine.specs.declared.want.Stop.{Stop};
+ghost use Rattle.tl_machine.specs.declared.want.Stop.TheVariants as stop;
+ghost use Rattle.tl_core.specs.Followed.{IsFollowed, IsUnhindered, IsFollowFault, IsInTheWay, IsLed, NextEndsStop};
 ghost use Rattle.tl_core.specs.declared.fault.CoreFault.TheVariants as fault;
 
 use crate::call::{Call, OpenCall, Progress, begin};
 use crate::fault::CoreFault;
+use crate::followed::Followed;
 use crate::moves::{Entry, Move};
 use crate::stepped::Stepped;
 use std::alloc::Global;
 use std::marker::Model;
 use std::sync::Arc;
 use tl_history::{History, MAX_CALLS, MAX_EVENTS};
-use tl_machine::{Advance, Reply, Stop, Want};
+use tl_instr::MAX_ARGS;
+use tl_machine::{Advance, Reply, Segment, Stop, Turn, Want};
 use tl_procedures::{NamingFault, Procedures};
 use tl_protocol::{Action, Event};
 use tl_tree::{Record, Tree};
@@ -54,13 +60,13 @@ pub struct Core {
 
 impl Model for Core {
     ghost use Rattle.std.specs.Prelude.{map, vec_capacity};
-    ghost use Rattle.tl_core.specs.Cores.{CoreValue};
-    ghost use Rattle.tl_core.specs.Stored.{seen_call};
+    ghost use Rattle.tl_core.specs.Cores.{CoreState};
+    ghost use Rattle.tl_core.specs.Stored.{seen_call, seen_turn};
     ghost use Rattle.tl_core.specs.Kept.{IsWholeCore};
 
-    ghost Value = { CoreValue };
+    ghost Value = { CoreState };
 
-    ghost view = { λ s. record { parents = s.opening.parents; opening = s.opening.records; procedures = s.procedures; calls = map (seen_call s.procedures s.slots.items) s.calls.items; past = s.history.past; limit = s.history.limit } };
+    ghost view = { λ s. record { seen = record { parents = s.opening.parents; opening = s.opening.records; procedures = s.procedures; calls = map (seen_call s.procedures s.slots.items) s.calls.items; past = s.history.past; limit = s.history.limit }; turns = map (seen_turn s.slots.items) s.calls.items } };
 
     ghost invariant = { λ s. IsWholeCore (record { parents = s.opening.parents; opening = s.opening.records; procedures = s.procedures; calls = map (seen_call s.procedures s.slots.items) s.calls.items; past = s.history.past; limit = s.history.limit }) s.latest s.calls.items s.slots.items s.holders.items s.history.reserved (vec_capacity s.slots) };
 }
@@ -68,7 +74,7 @@ impl Model for Core {
 impl Core {
     /// A core of the tree, without procedures and calls, for up to 1,048,576 events. 690 where memory is refused.
     pub fn new(alloc: Global, tree: Tree) -> Result<Core, CoreFault>
-        ensures ok { IfOk result (λ core. core ≡ record { parents = tree.parents; opening = tree.records; procedures = []; calls = []; past = []; limit = MAX_EVENTS }) }
+        ensures ok { IfOk result (λ core. core ≡ opened tree [] MAX_EVENTS) }
         ensures err { IfErr result (λ e. e ≡ fault.Memory) }
     {
         Core::with_limit(alloc, tree, MAX_EVENTS)
@@ -77,7 +83,7 @@ impl Core {
     /// A core of the tree, without procedures and calls, for so many events. 690 where memory is refused.
     pub fn with_limit(alloc: Global, tree: Tree, limit: usize) -> Result<Core, CoreFault>
         requires { limit ≤ MAX_EVENTS }
-        ensures ok { IfOk result (λ core. core ≡ record { parents = tree.parents; opening = tree.records; procedures = []; calls = []; past = []; limit = limit }) }
+        ensures ok { IfOk result (λ core. core ≡ opened tree [] limit) }
         ensures err { IfErr result (λ e. e ≡ fault.Memory) }
     {
         Core::with_procedures(alloc, tree, Procedures::new(alloc), limit)
@@ -91,7 +97,7 @@ impl Core {
         limit: usize,
     ) -> Result<Core, CoreFault>
         requires { limit ≤ MAX_EVENTS }
-        ensures ok { IfOk result (λ core. core ≡ record { parents = tree.parents; opening = tree.records; procedures = procedures; calls = []; past = []; limit = limit }) }
+        ensures ok { IfOk result (λ core. core ≡ opened tree procedures limit) }
         ensures err { IfErr result (λ e. e ≡ fault.Memory) }
     {
         let Ok(latest) = tree.copy() else {
@@ -120,19 +126,35 @@ impl Core {
         name: &str,
         procedure: Proc,
     ) -> Result<u32, NamingFault>
-        ensures number { IfOk result (λ n. n ≡ length self.old.procedures) }
-        ensures free { IfOk result (λ _. naming_refusal self.old.procedures name.now ≡ None) }
-        ensures last { OnOk result (self.new ≡ record self.old { procedures = self.old.procedures ++ record { name = name.now; code = procedure } ∷ [] }) }
-        ensures fault { IfErr result (λ e. e ≢ naming.Memory → naming_refusal self.old.procedures name.now ≡ Some e) }
+        ensures number { IfOk result (λ n. n ≡ length self.old.seen.procedures) }
+        ensures free { IfOk result (λ _. naming_refusal self.old.seen.procedures name.now ≡ None) }
+        ensures last { OnOk result (self.new ≡ record self.old { seen = record self.old.seen { procedures = self.old.seen.procedures ++ record { name = name.now; code = procedure } ∷ [] } }) }
+        ensures fault { IfErr result (λ e. e ≢ naming.Memory → naming_refusal self.old.seen.procedures name.now ≡ Some e) }
         ensures err { OnErr result (self.new ≡ self.old) }
     {
         self.procedures.add(alloc, name, procedure)
     }
 
     /// The next instruction of a call. 602 where no call of that number was admitted. Takes no memory.
+    #[inline]
     pub fn step(&mut self, call: u32) -> Result<Stepped, CoreFault>
-        ensures answer { result ≡ step_answer (world_of self.old) call }
-        ensures after { self.new ≡ after_step self.old call result }
+        ensures answer { result ≡ step_answer (world_of self.old.seen) call }
+        ensures after { self.new.seen ≡ after_step self.old.seen call result }
+        ensures done { (c : ℕ) → done_by self.new.seen c ≡ done_by self.old.seen c ++ part_of_run c (entry_of call result ∷ []) }
+        ensures blocked { IsBlocked result ↔ IsStuck (world_of self.old.seen) call }
+        ensures turns { (c : ℕ) → c ≢ call → kept_turn self.new c ≡ kept_turn self.old c }
+    {
+        // That its world is sound is so of every core: here a proof learns that.
+        self.is_sound();
+        self.do_next(call)
+    }
+
+    // The same, without what follows from the world being sound.
+    #[inline(always)]
+    fn do_next(&mut self, call: u32) -> Result<Stepped, CoreFault>
+        ensures answer { result ≡ step_answer (world_of self.old.seen) call }
+        ensures after { self.new.seen ≡ after_step self.old.seen call result }
+        ensures turns { (c : ℕ) → c ≢ call → kept_turn self.new c ≡ kept_turn self.old c }
     {
         let index = call as usize;
         if index >= self.calls.len() {
@@ -195,10 +217,12 @@ impl Core {
     /// may have. Else 690 where memory is refused. A refusal changes nothing, and from then on no step of the call takes
     /// memory.
     pub fn admit(&mut self, name: &str, args: &[i64]) -> Result<u32, CoreFault>
-        ensures number { IfOk result (λ n. n ≡ length self.old.calls) }
-        ensures free { IfOk result (λ _. admission_refusal self.old name.now args.now ≡ None) }
-        ensures after { OnOk result (self.new ≡ after_admission self.old name.now args.now) }
-        ensures fault { IfErr result (λ e. e ≢ fault.Memory → admission_refusal self.old name.now args.now ≡ Some e) }
+        ensures number { IfOk result (λ n. n ≡ length self.old.seen.calls) }
+        ensures free { IfOk result (λ _. admission_refusal self.old.seen name.now args.now ≡ None) }
+        ensures after { OnOk result (self.new.seen ≡ after_admission self.old.seen name.now args.now) }
+        ensures turns { (c : ℕ) → c < length self.old.seen.calls → kept_turn self.new c ≡ kept_turn self.old c }
+        ensures fault { IfErr result (λ e. e ≢ fault.Memory → admission_refusal self.old.seen name.now args.now ≡ Some e) }
+        ensures memory { IfErr result (λ e. e ≡ fault.Memory → admission_refusal self.old.seen name.now args.now ≡ None) }
         ensures err { OnErr result (self.new ≡ self.old) }
     {
         let (procedure, places) = self.place_for(name, args)?;
@@ -226,14 +250,15 @@ impl Core {
 
     // The number of the procedure, and how many events a call of it may have; else why it isn't admitted.
     fn place_for(&self, name: &str, args: &[i64]) -> Result<(u32, usize), CoreFault>
-        ensures refused { IfErr result (λ e. admission_refusal self.now name.now args.now ≡ Some e) }
-        ensures free { IfOk result (λ _. admission_refusal self.now name.now args.now ≡ None) }
-        ensures number { IfOk result (λ r. number_of self.now.procedures name.now ≡ Some r.0) }
-        ensures known { IfOk result (λ r. r.0 < length self.now.procedures) }
-        ensures arity { IfOk result (λ r. length args.now ≡ (procedure_at self.now r.0).code.arity) }
-        ensures places { IfOk result (λ r. r.1 ≡ places (procedure_at self.now r.0).code.instrs (length self.now.parents)) }
-        ensures room { IfOk result (λ r. r.1 ≤ room self.now) }
-        ensures few { IfOk result (λ _. length self.now.calls < MAX_CALLS) }
+        ensures refused { IfErr result (λ e. admission_refusal self.now.seen name.now args.now ≡ Some e) }
+        ensures free { IfOk result (λ _. admission_refusal self.now.seen name.now args.now ≡ None) }
+        ensures number { IfOk result (λ r. number_of self.now.seen.procedures name.now ≡ Some r.0) }
+        ensures known { IfOk result (λ r. r.0 < length self.now.seen.procedures) }
+        ensures arity { IfOk result (λ r. length args.now ≡ (procedure_at self.now.seen r.0).code.arity) }
+        ensures places { IfOk result (λ r. r.1 ≡ places (procedure_at self.now.seen r.0).code.instrs (length self.now.seen.parents)) }
+        ensures room { IfOk result (λ r. r.1 ≤ room self.now.seen) }
+        ensures few { IfOk result (λ _. length self.now.seen.calls < MAX_CALLS) }
+        ensures few_open { IfOk result (λ _. open_calls self.now.seen < MAX_OPEN) }
     {
         let Some(procedure) = self.procedures.number_of(name) else {
             return Err(CoreFault::NoProcedure);
@@ -259,8 +284,8 @@ impl Core {
     /// Whether the call is open and its next instruction locks no node that another call holds. 602 where no call of
     /// that number was admitted. Takes no memory.
     pub fn enabled(&self, call: u32) -> Result<bool, CoreFault>
-        ensures known { IsOk result ↔ (call < admits self.now.past) }
-        ensures enabled { IfOk result (λ b. IsTrue b ↔ IsEnabled (world_of self.now) call) }
+        ensures known { IsOk result ↔ (call < admits self.now.seen.past) }
+        ensures enabled { IfOk result (λ b. IsTrue b ↔ IsEnabled (world_of self.now.seen) call) }
         ensures fault { IfErr result (λ e. e ≡ fault.NoCall) }
     {
         let index = call as usize;
@@ -286,9 +311,9 @@ impl Core {
 
     /// The least call that is enabled. There is none exactly where no call is open. Takes no memory.
     pub fn some_enabled(&self) -> Option<u32>
-        ensures enabled { IfSome result (λ c. IsEnabled (world_of self.now) c) }
-        ensures least { IfSome result (λ c. (d : ℕ) → IsEnabled (world_of self.now) d → c ≤ d) }
-        ensures none { IsNone result ↔ AllDone self.now.past }
+        ensures enabled { IfSome result (λ c. IsEnabled (world_of self.now.seen) c) }
+        ensures least { IfSome result (λ c. (d : ℕ) → IsEnabled (world_of self.now.seen) d → c ≤ d) }
+        ensures none { IsNone result ↔ AllDone self.now.seen.past }
     {
         let mut least: Option<u32> = None;
         for current in &self.slots {
@@ -307,9 +332,10 @@ impl Core {
     /// The moves, one after another: what came of each, in their order, refusals too. 690 where there is no memory for the
     /// list; then nothing was done. Where memory is refused to an admission, that is its entry.
     pub fn drive(&mut self, alloc: Global, moves: &[Move]) -> Result<Vec<Entry>, CoreFault>
-        ensures traced { IfOk result (λ t. Traced self.old moves.now t.items) }
-        ensures after { IfOk result (λ t. self.new ≡ after_moves self.old moves.now t.items) }
-        ensures bounded { IfOk result (λ t. moved t.items ≤ all_budgets self.new) }
+        ensures traced { IfOk result (λ t. Traced self.old.seen moves.now t.items) }
+        ensures after { IfOk result (λ t. self.new.seen ≡ after_moves self.old.seen moves.now t.items) }
+        ensures parts { IfOk result (λ t. (c : ℕ) → done_by self.new.seen c ≡ done_by self.old.seen c ++ part_of_run c t.items) }
+        ensures bounded { IfOk result (λ t. moved t.items ≤ all_budgets self.new.seen) }
         ensures fault { IfErr result (λ e. e ≡ fault.Memory) }
         ensures err { OnErr result (self.new ≡ self.old) }
     {
@@ -325,8 +351,9 @@ impl Core {
 
     // One move.
     fn carry_out(&mut self, one: &Move) -> Entry
-        ensures entry { IsEntry self.old one.now result }
-        ensures after { self.new ≡ after_entry self.old one.now result }
+        ensures entry { IsEntry self.old.seen one.now result }
+        ensures parts { (c : ℕ) → done_by self.new.seen c ≡ done_by self.old.seen c ++ part_of_run c (result ∷ []) }
+        ensures after { self.new.seen ≡ after_entry self.old.seen one.now result }
     {
         match one {
             Move::Admit { name, args } => match self.admit(name, args) {
@@ -345,7 +372,7 @@ impl Core {
 
     /// The tree as it was before any call.
     pub fn opening(&self) -> &Tree
-        ensures { result.now ≡ record { parents = self.now.parents; records = self.now.opening } }
+        ensures { result.now ≡ record { parents = self.now.seen.parents; records = self.now.seen.opening } }
     {
         &self.opening
     }
@@ -353,83 +380,99 @@ impl Core {
     /// The tree as it is now: each record is the one that a call left last, or the opening one. What a call has written to
     /// a node that it holds isn't seen here before it frees the node.
     pub fn tree(&self) -> &Tree
-        ensures { result.now ≡ record { parents = self.now.parents; records = records_now self.now.past self.now.opening } }
+        ensures { result.now ≡ record { parents = self.now.seen.parents; records = records_now self.now.seen.past self.now.seen.opening } }
     {
         &self.latest
     }
 
     /// The record of a node now.
     pub fn record_at(&self, node: u16) -> Record
-        requires { node < length self.now.parents }
-        ensures { result ≡ record_now self.now.past self.now.opening node }
+        requires { node < length self.now.seen.parents }
+        ensures { result ≡ record_now self.now.seen.past self.now.seen.opening node }
     {
         self.latest.record_at(node)
     }
 
-    /// The call that holds the node.
+    /// The call that holds the node: it has locked it, and hasn't freed it since.
     pub fn holder(&self, node: u16) -> Option<u32>
-        requires { node < length self.now.parents }
-        ensures { result ≡ holder_of self.now.past node }
+        requires { node < length self.now.seen.parents }
+        ensures named { result ≡ holder_of self.now.seen.past node }
+        ensures holds { (c : ℕ) → (result ≡ Some c) ↔ (held (part_of c self.now.seen.past) node ≡ true) }
     {
         self.holders[usize::from(node)]
     }
 
     /// What the calls have done to the tree, and the places for what they may still do.
     pub fn history(&self) -> &History
-        ensures past { result.now.past ≡ self.now.past }
-        ensures limit { result.now.limit ≡ self.now.limit }
-        ensures reserved { result.now.reserved ≡ owed self.now }
+        ensures past { result.now.past ≡ self.now.seen.past }
+        ensures limit { result.now.limit ≡ self.now.seen.limit }
+        ensures reserved { result.now.reserved ≡ owed self.now.seen }
     {
         &self.history
     }
 
     /// The procedures, by number.
     pub fn procedures(&self) -> &Procedures
-        ensures { result.now ≡ self.now.procedures }
+        ensures { result.now ≡ self.now.seen.procedures }
     {
         &self.procedures
     }
 
     /// How many procedures there are. They are numbered from 0.
     pub fn procs(&self) -> usize
-        ensures { result ≡ length self.now.procedures }
+        ensures { result ≡ length self.now.seen.procedures }
     {
         self.procedures.len()
     }
 
     /// The procedure of that number.
     pub fn proc(&self, number: u32) -> &Arc<Proc>
-        requires { number < length self.now.procedures }
-        ensures { arc_value result.now ≡ (procedure_at self.now number).code }
+        requires { number < length self.now.seen.procedures }
+        ensures { arc_value result.now ≡ (procedure_at self.now.seen number).code }
     {
         self.procedures.get(number)
     }
 
     /// The name of the procedure of that number.
     pub fn name(&self, number: u32) -> &str
-        requires { number < length self.now.procedures }
-        ensures { result.now ≡ (procedure_at self.now number).name }
+        requires { number < length self.now.seen.procedures }
+        ensures { result.now ≡ (procedure_at self.now.seen number).name }
     {
         self.procedures.name(number)
     }
 
     /// How many calls were admitted. They are numbered from 0.
     pub fn calls(&self) -> usize
-        ensures count { result ≡ length self.now.calls }
-        ensures admitted { result ≡ admits self.now.past }
+        ensures count { result ≡ length self.now.seen.calls }
+        ensures admitted { result ≡ admits self.now.seen.past }
         ensures few { result ≤ MAX_CALLS }
+        ensures few_open { open_calls self.now.seen ≤ MAX_OPEN }
     {
         self.calls.len()
     }
 
+    /// The least call that isn't done.
+    pub fn least_unfinished(&self) -> Option<u32>
+        ensures some { IfSome result (λ c. IsLeastUnfinished self.now.seen.past c) }
+        ensures none { IsNone result ↔ AllDone self.now.seen.past }
+    {
+        for call in 0..self.calls() as u32 {
+            if self.reply(call).is_none() {
+                return Some(call);
+            }
+        }
+        None
+    }
+
     /// What was asked of a call: the number of its procedure, and its arguments.
     pub fn request(&self, call: u32) -> (u32, &[i64])
-        requires { call < length self.now.calls }
-        ensures procedure { result.0 ≡ (call_of self.now call).procedure }
-        ensures args { result.1.now ≡ (call_of self.now call).args }
-        ensures known { result.0 < length self.now.procedures }
-        ensures code { (procedure_at self.now result.0).code ≡ (call_of self.now call).code }
-        ensures arity { length result.1.now ≡ (call_of self.now call).code.arity }
+        requires { call < length self.now.seen.calls }
+        ensures procedure { result.0 ≡ (call_of self.now.seen call).procedure }
+        ensures args { result.1.now ≡ (call_of self.now.seen call).args }
+        ensures known { result.0 < length self.now.seen.procedures }
+        ensures code { (procedure_at self.now.seen result.0).code ≡ (call_of self.now.seen call).code }
+        ensures arity { length result.1.now ≡ (call_of self.now.seen call).code.arity }
+        ensures few { length result.1.now ≤ MAX_ARGS }
     {
         let current = &self.calls[call as usize];
         (current.procedure, &current.args)
@@ -437,23 +480,144 @@ impl Core {
 
     /// What a call answered, once it is done.
     pub fn reply(&self, call: u32) -> Option<&Reply>
-        requires { call < length self.now.calls }
-        ensures { option_copied result ≡ (if is_done call self.now.past then Some (reply_of (world_of self.now) call) else None) }
+        requires { call < length self.now.seen.calls }
+        ensures { option_copied result ≡ (if is_done call self.now.seen.past then Some (reply_of (world_of self.now.seen) call) else None) }
     {
         self.calls[call as usize].reply()
+    }
+
+    /// Whether the call is open and this is the turn that the core keeps of it. 602 where no call of that number was
+    /// admitted. Takes no memory.
+    pub fn is_at(&self, call: u32, turn: &Turn) -> Result<bool, CoreFault>
+        ensures known { IsOk result ↔ (call < admits self.now.seen.past) }
+        ensures kept { IfOk result (λ b. IsTrue b ↔ (kept_turn self.now call ≡ Some turn.now)) }
+        ensures fault { IfErr result (λ e. e ≡ fault.NoCall) }
+    {
+        let index = call as usize;
+        if index >= self.calls.len() {
+            return Err(CoreFault::NoCall);
+        }
+        let Some(slot) = self.calls[index].slot() else {
+            return Ok(false);
+        };
+        Ok(self.slots[slot].turn.is(turn))
+    }
+
+    /// The turn at which the call is; that of a call that is done wants nothing more. 602 where no call of that number was
+    /// admitted; else 690 where memory is refused.
+    pub fn turn(&self, call: u32) -> Result<Turn, CoreFault>
+        ensures known { IfOk result (λ _. call < admits self.now.seen.past) }
+        ensures kept { IfOk result (λ t. is_done call self.now.seen.past ≡ false → kept_turn self.now call ≡ Some t) }
+        ensures over { IfOk result (λ t. is_done call self.now.seen.past ≡ true → Stops t stop.Over) }
+        ensures fault { IfErr result (λ e. e ≢ fault.Memory → (e ≡ fault.NoCall) × (admits self.now.seen.past ≤ call)) }
+        ensures memory { IfErr result (λ e. e ≡ fault.Memory → call < admits self.now.seen.past) }
+    {
+        let index = call as usize;
+        if index >= self.calls.len() {
+            return Err(CoreFault::NoCall);
+        }
+        let current = &self.calls[index];
+        let Some(slot) = current.slot() else {
+            let procedure = Arc::try_clone(self.procedures.get(current.procedure))?;
+            let shape = Arc::try_clone(self.opening.shape())?;
+            return Ok(Turn::over(procedure, shape));
+        };
+        Ok(self.slots[slot].turn.try_clone()?)
+    }
+
+    /// Lets a call do the instructions of a segment, which were done elsewhere, and then the lock, free or return where the
+    /// segment stops. 602 where no call of that number was admitted; 607 where the segment doesn't begin at the call's turn.
+    /// Blocked, and nothing changed, where the stop is a lock of a node that another call holds. No local instruction is
+    /// done again. Takes no memory.
+    pub fn follow(&mut self, call: u32, segment: Segment) -> Result<Followed, CoreFault>
+        ensures from { IfOk result (λ _. kept_turn self.old call ≡ Some segment.from) }
+        ensures followed { IfOk result (λ f. IsFollowed self.old call segment f self.new) }
+        ensures unhindered { IfOk result (λ f. IsUnhindered self.old segment f) }
+        ensures turns { (c : ℕ) → c ≢ call → kept_turn self.new c ≡ kept_turn self.old c }
+        ensures fault { IfErr result (λ e. IsFollowFault self.old call segment e) }
+        ensures err { OnErr result (self.new ≡ self.old) }
+    {
+        if !self.is_at(call, segment.from())? {
+            return Err(CoreFault::NotFrom);
+        }
+        if let Some((node, holder)) = self.in_the_way(call, &segment) {
+            return Ok(Followed::Blocked { node, holder });
+        }
+        self.take_end(call, &segment);
+        // What is so of the call's turn: here a proof learns that.
+        self.is_sound();
+        self.at_stop(call);
+        // Nobody is in the way, so this is the action of the stop.
+        let _moved = self.do_next(call);
+        match self.reply(call) {
+            Some(reply) => Ok(Followed::Finished(reply.copy())),
+            None => Ok(Followed::Went(self.led(call, segment.into_turn()))),
+        }
+    }
+
+    // The node that the segment's stop locks, and the call that holds it.
+    fn in_the_way(&self, call: u32, segment: &Segment) -> Option<(u16, u32)>
+        requires { kept_turn self.now call ≡ Some segment.now.from }
+        ensures some { IfSome result (λ r. IsInTheWay self.now.seen segment.now.stop r.0 r.1) }
+        ensures none { IsNone result → (x d : ℕ) → IsInTheWay self.now.seen segment.now.stop x d → ⊥ }
+    {
+        let Stop::Lock(node) = segment.stop() else {
+            return None;
+        };
+        let holder = self.holders[usize::from(node)]?;
+        Some((node, holder))
+    }
+
+    // Puts the call's turn at the segment's end.
+    fn take_end(&mut self, call: u32, segment: &Segment)
+        requires { kept_turn self.old call ≡ Some segment.now.from }
+        ensures turn { kept_turn self.new call ≡ Some (end_of segment.now) }
+        ensures turns { (c : ℕ) → c ≢ call → kept_turn self.new c ≡ kept_turn self.old c }
+        ensures past { self.new.seen.past ≡ self.old.seen.past }
+        ensures led { IsLed self.old call segment.now self.new }
+    {
+        let Some(slot) = self.calls[call as usize].slot() else {
+            unreachable!()
+        };
+        self.slots[slot].turn.take_end(segment);
+    }
+
+    // Where a call's turn stops, its next action is that of the stop: here a proof learns that.
+    fn at_stop(&self, call: u32)
+        ensures { (t : TurnValue) (s : Stop) → kept_turn self.now call ≡ Some t → Stops t s → NextEndsStop self.now.seen call s }
+    {
+        let _ = &self.history;
+    }
+
+    // The turn of an open call, on the procedure and the shape of a turn of the same call.
+    fn led(&self, call: u32, turn: Turn) -> Turn
+        requires known { call < length self.now.seen.calls }
+        requires open { is_done call self.now.seen.past ≡ false }
+        requires code { turn.code ≡ (call_of self.now.seen call).code }
+        requires parents { turn.parents ≡ self.now.seen.parents }
+        ensures { kept_turn self.now call ≡ Some result }
+    {
+        let Some(slot) = self.calls[call as usize].slot() else {
+            unreachable!()
+        };
+        let mut turn = turn;
+        turn.follow(&self.slots[slot].turn);
+        turn
     }
 
     /// What is so of every core: its world is sound and legal, and what each call has done obeys the tree protocol and is
     /// within the bounds of its procedure.
     pub fn is_sound(&self)
-        ensures sound { IsSound (world_of self.now) }
-        ensures legal { Legal (world_of self.now) }
-        ensures counted { length self.now.calls ≡ admits self.now.past }
-        ensures obeys { (c : ℕ) → c < admits self.now.past → Obeys self.now.parents (done_by self.now c) }
-        ensures steps { (c : ℕ) → c < admits self.now.past → length (done_by self.now c) ≤ budget (code_of self.now c) }
-        ensures counts { (c : ℕ) → c < admits self.now.past → (call_of self.now c).count ≤ budget (code_of self.now c) }
-        ensures locks { (c : ℕ) → c < admits self.now.past → lock_count (done_by self.now c) ≤ lock_bound (code_of self.now c) }
-        ensures emits { (c : ℕ) → c < admits self.now.past → length (emitted (done_by self.now c)) ≤ emit_bound (code_of self.now c) }
+        ensures sound { IsSound (world_of self.now.seen) }
+        ensures legal { Legal (world_of self.now.seen) }
+        ensures counted { length self.now.seen.calls ≡ admits self.now.seen.past }
+        ensures turned { (c : ℕ) → IsOpen c self.now.seen.past → (t : TurnValue) × (kept_turn self.now c ≡ Some t) }
+        ensures turn_of { (c : ℕ) (t : TurnValue) → kept_turn self.now c ≡ Some t → IsTurnOf self.now.seen c t }
+        ensures obeys { (c : ℕ) → c < admits self.now.seen.past → Obeys self.now.seen.parents (done_by self.now.seen c) }
+        ensures steps { (c : ℕ) → c < admits self.now.seen.past → length (done_by self.now.seen c) ≤ budget (code_of self.now.seen c) }
+        ensures counts { (c : ℕ) → c < admits self.now.seen.past → (call_of self.now.seen c).count ≤ budget (code_of self.now.seen c) }
+        ensures locks { (c : ℕ) → c < admits self.now.seen.past → lock_count (done_by self.now.seen c) ≤ lock_bound (code_of self.now.seen c) }
+        ensures emits { (c : ℕ) → c < admits self.now.seen.past → length (emitted (done_by self.now.seen c)) ≤ emit_bound (code_of self.now.seen c) }
     {
         let _ = &self.history;
     }

@@ -7,11 +7,13 @@
 
 mod call;
 mod fault;
+mod followed;
 mod interleaving;
 mod moves;
 mod stepped;
 
 pub use fault::CoreFault;
+pub use followed::Followed;
 pub use interleaving::{Core, MAX_OPEN};
 pub use moves::{Entry, Move};
 pub use stepped::Stepped;

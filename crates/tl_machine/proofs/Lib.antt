@@ -23,3 +23,5 @@ pub mod IsAloneLemmas
 pub mod SameUntilFound
 pub mod StartLemmas
 pub mod Along
+pub mod SameStates
+pub mod RestOfCall

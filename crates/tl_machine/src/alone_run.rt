@@ -2,9 +2,12 @@
 
 ghost use Rattle.std.specs.Prelude.{◌≡◌, ◌≢◌, ◌↔◌, ℕ, List, length, IsErr, IsOk, IfOk, OnErr, ◌≤◌, Option};
 ghost use Rattle.std.specs.Arc.{arc_value};
-ghost use Rattle.tl_budget.specs.Loops.{budget};
+ghost use Rattle.tl_budget.specs.Loops.{budget, lock_bound, emit_bound};
+ghost use Rattle.tl_protocol.specs.Actions.{lock_count};
+ghost use Rattle.tl_protocol.specs.Alone.{all_taken};
+ghost use Rattle.tl_protocol.specs.Obeys.{Obeys};
 ghost use Rattle.tl_machine.specs.Stands.{Stands, run_left};
-ghost use Rattle.tl_machine.specs.Outcomes.{IsAnswer, outcome_of};
+ghost use Rattle.tl_machine.specs.Outcomes.{IsAnswer, outcome_of, meaning};
 ghost use Rattle.tl_machine.specs.Alone.{alone as run_alone};
 
 use crate::call::CallState;
@@ -55,14 +58,22 @@ fn run(procedure: &Proc, mut call: CallState, tree: &mut Tree) -> Answer
 
 /// Runs a procedure alone on a tree, from its start to its end. Takes no memory.
 ///
+/// What it does obeys the tree protocol, and keeps within the procedure's three bounds: instructions, locks, emitted values.
+///
 /// 501 where there are more or fewer arguments than the procedure takes; the tree then stays as it was.
 pub fn alone(procedure: &Arc<Proc>, args: &[i64], tree: &mut Tree) -> Result<Answer, WrongArgs>
     ensures wrong { IsOk result ↔ (length args.now ≡ (arc_value procedure.now).arity) }
     ensures unchanged { OnErr result (tree.new ≡ tree.old) }
     ensures answer { IfOk result (λ a. IsAnswer (outcome_of (run_alone (arc_value procedure.now).instrs tree.old.parents args.now tree.old.records)) a.reply a.steps) }
+    ensures obeys { IfOk result (λ _. Obeys tree.old.parents (meaning (arc_value procedure.now).instrs tree.old.parents args.now tree.old.records).actions) }
     ensures within { IfOk result (λ a. a.steps ≤ budget (arc_value procedure.now).instrs) }
+    ensures locks { IfOk result (λ _. lock_count (all_taken (meaning (arc_value procedure.now).instrs tree.old.parents args.now tree.old.records).actions) ≤ lock_bound (arc_value procedure.now).instrs) }
+    ensures emits { IfOk result (λ a. length a.reply ≤ emit_bound (arc_value procedure.now).instrs) }
     ensures tree { IfOk result (λ _. tree.new ≡ record tree.old { records = (outcome_of (run_alone (arc_value procedure.now).instrs tree.old.parents args.now tree.old.records)).tree }) }
 {
     let call = start(procedure, tree.shape(), args)?;
+    // The code was accepted, and the shape is a tree's: here a proof learns that.
+    let _code = procedure.code();
+    let _node_count = tree.shape().node_count();
     Ok(run(procedure, call, tree))
 }

@@ -1,14 +1,19 @@
 // What is so of every call alone.
 
-ghost use Rattle.std.specs.Prelude.{◌≡◌, ℕ, ◌≤◌, ℤ, List, [], length};
+ghost use Rattle.std.specs.Prelude.{◌≡◌, ℕ, ◌≤◌, ℤ, List, [], length, drop};
 ghost use Rattle.tl_tree.specs.Records.{Records, record_at};
 ghost use Rattle.tl_tree.specs.Shape.{IsTree};
 ghost use Rattle.tl_instr.specs.Codes.{CodeValue, IsCode};
-ghost use Rattle.tl_protocol.specs.Actions.{left_in, emitted as replies, lock_count, PermittedAfter};
+ghost use Rattle.tl_protocol.specs.declared.action.Action.{Action};
+ghost use Rattle.tl_protocol.specs.Actions.{shared_actions, with_found, left_in, emitted as replies, lock_count, PermittedAfter};
+ghost use Rattle.tl_protocol.specs.Obeys.{Obeys};
 ghost use Rattle.tl_protocol.specs.Alone.{EndsOnce, Finds, IsAlone, all_taken};
 ghost use Rattle.tl_budget.specs.Loops.{budget, lock_bound, emit_bound};
 ghost use Rattle.tl_verify.specs.Acceptable.{Acceptable};
+ghost use Rattle.tl_machine.specs.Runs.{actions};
 ghost use Rattle.tl_machine.specs.Outcomes.{meaning};
+ghost use Rattle.tl_machine.specs.Turns.{TurnValue, IsTurn, left_of};
+ghost use Rattle.tl_machine.specs.Along.{HasFound, IsAlong};
 
 /// A call alone, of an accepted code on any tree of the shape and with any arguments, obeys the tree protocol: its first
 /// lock is of any node, each later one of a node whose parent it holds, and no node is locked twice; what it reads, writes
@@ -16,6 +21,8 @@ ghost use Rattle.tl_machine.specs.Outcomes.{meaning};
 pub fn alone_obeys()
     ensures obeys { (c : CodeValue) (parents : List ℕ) (args : List ℤ) (t : Records) → IsCode c → Acceptable c.instrs → IsTree parents → length t ≡ length parents
         → PermittedAfter parents [] (meaning c.instrs parents args t).actions }
+    ensures by_places { (c : CodeValue) (parents : List ℕ) (args : List ℤ) (t : Records) → IsCode c → Acceptable c.instrs → IsTree parents → length t ≡ length parents
+        → Obeys parents (meaning c.instrs parents args t).actions }
     ensures ends { (c : CodeValue) (parents : List ℕ) (args : List ℤ) (t : Records) → IsCode c → Acceptable c.instrs → IsTree parents → length t ≡ length parents
         → EndsOnce (meaning c.instrs parents args t).actions }
 {}
@@ -52,4 +59,17 @@ pub fn alone_within_bounds()
         → lock_count (all_taken (meaning c.instrs parents args t).actions) ≤ lock_bound c.instrs }
     ensures emits { (c : CodeValue) (parents : List ℕ) (args : List ℤ) (t : Records) → IsCode c → Acceptable c.instrs → IsTree parents → length t ≡ length parents
         → length (meaning c.instrs parents args t).reply ≤ emit_bound c.instrs }
+{}
+
+/// What is left of a call is the rest of what it does alone, after the actions that it has done: on each tree that has what
+/// it found, and so on an opening tree with each record that it found put in its place.
+pub fn left_is_the_rest()
+    ensures found { (turn : TurnValue) (args : List ℤ) (done : List Action) (t : Records) → IsCode turn.code → Acceptable turn.code.instrs → IsTree turn.parents
+        → IsTurn turn.code.instrs turn.parents turn.call → IsAlong turn.code.instrs turn.parents args done turn.call
+        → length t ≡ length turn.parents → HasFound done t
+        → actions (left_of turn t) ≡ drop turn.call.steps (meaning turn.code.instrs turn.parents args t).actions }
+    ensures opening { (turn : TurnValue) (args : List ℤ) (done part : List Action) (t : Records) → IsCode turn.code → Acceptable turn.code.instrs → IsTree turn.parents
+        → IsTurn turn.code.instrs turn.parents turn.call → IsAlong turn.code.instrs turn.parents args done turn.call
+        → length t ≡ length turn.parents → part ≡ shared_actions done
+        → actions (left_of turn (with_found part t)) ≡ drop turn.call.steps (meaning turn.code.instrs turn.parents args (with_found part t)).actions }
 {}

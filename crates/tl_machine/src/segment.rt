@@ -1,57 +1,36 @@
 // What a call does by itself.
 
 ghost use Rattle.std.specs.Prelude.{◌≡◌};
-ghost use Rattle.std.specs.Arc.{arc_value};
-ghost use Rattle.tl_machine.specs.Turns.{IsSegment};
+ghost use Rattle.tl_machine.specs.Turns.{IsSegment, end_of};
 
 use crate::call::CallState;
 use crate::turn::Turn;
 use crate::want::Stop;
 use std::marker::Model;
-use std::sync::Arc;
-use tl_tree::Shape;
-use tl_verify::Proc;
 
-/// The local instructions that a call did in a row: the state from which it did them, the one to which they led, and where
-/// it stops then. By its type the second state comes from the first by local instructions. Only `local` makes one.
+/// The local instructions that a call did in a row: the turn from which it did them, the state to which they led, and where
+/// it stops then. By its type the state comes from the turn's by local instructions. Only `local` makes one.
 #[derive(Debug, Drop)]
 pub struct Segment {
-    procedure: Arc<Proc>,
-    shape: Arc<Shape>,
-    from: CallState,
+    from: Turn,
     to: CallState,
     stop: Stop,
 }
 
 impl Model for Segment {
-    ghost use Rattle.std.specs.Arc.{arc_value};
     ghost use Rattle.tl_machine.specs.Turns.{SegmentValue, IsSegment};
 
     ghost Value = { SegmentValue };
 
-    ghost view = { λ s. record { code = arc_value s.procedure; parents = arc_value s.shape; from = s.from; to = s.to; stop = s.stop } };
+    ghost view = { λ s. record { from = s.from; to = s.to; stop = s.stop } };
 
-    ghost invariant = { λ s. IsSegment (record { code = arc_value s.procedure; parents = arc_value s.shape; from = s.from; to = s.to; stop = s.stop }) };
+    ghost invariant = { λ s. IsSegment (record { from = s.from; to = s.to; stop = s.stop }) };
 }
 
 impl Segment {
-    /// The procedure that is called.
-    pub fn procedure(&self) -> &Arc<Proc>
-        ensures { arc_value result.now ≡ self.now.code }
-    {
-        &self.procedure
-    }
-
-    /// The shape of the trees that it is called on.
-    pub fn shape(&self) -> &Arc<Shape>
-        ensures { arc_value result.now ≡ self.now.parents }
-    {
-        &self.shape
-    }
-
-    /// The state at the first of the instructions.
-    pub fn from(&self) -> &CallState
-        ensures state { result.now ≡ self.now.from }
+    /// The turn at the first of the instructions.
+    pub fn from(&self) -> &Turn
+        ensures turn { result.now ≡ self.now.from }
         ensures segment { IsSegment self.now }
     {
         &self.from
@@ -72,21 +51,37 @@ impl Segment {
     {
         self.stop
     }
+
+    /// The turn behind the last of them, on the procedure and the shape of the first. Takes no memory.
+    pub fn into_turn(self) -> Turn
+        ensures turn { result ≡ end_of self }
+        ensures segment { IsSegment self }
+    {
+        let mut turn = self.from;
+        turn.put_at(&self.to);
+        turn
+    }
+}
+
+impl Turn {
+    /// Goes to the end of a segment that begins here, without doing its instructions again. Takes no memory.
+    pub fn take_end(&mut self, segment: &Segment)
+        requires { self.old ≡ segment.now.from }
+        ensures turn { self.new ≡ end_of segment.now }
+        ensures segment { IsSegment segment.now }
+    {
+        self.put_at(segment.to());
+    }
 }
 
 /// Does a call's local instructions from where it stands, up to the first that isn't local. Takes no memory.
 pub fn local(turn: Turn) -> Segment
-    ensures code { result.code ≡ turn.code }
-    ensures parents { result.parents ≡ turn.parents }
-    ensures from { result.from ≡ turn.call }
+    ensures { result.from ≡ turn }
 {
-    let (procedure, shape, from) = turn.into_parts();
-    let mut to = from;
-    let stop = to.run_local(&procedure, &shape);
+    let mut to = *turn.call();
+    let stop = to.run_local(turn.procedure(), turn.shape());
     Segment {
-        procedure,
-        shape,
-        from,
+        from: turn,
         to,
         stop,
     }

@@ -1,6 +1,6 @@
 // A call's turn.
 
-ghost use Rattle.std.specs.Prelude.{◌≡◌, ◌≢◌, ◌↔◌, ℕ, List, [], length, take, IsOk, IfOk};
+ghost use Rattle.std.specs.Prelude.{◌≡◌, ◌≢◌, ◌↔◌, ℕ, List, [], length, take, IsTrue, IsOk, IfOk};
 ghost use Rattle.std.specs.Arc.{arc_value};
 ghost use Rattle.tl_tree.specs.Records.{Records, record_at, put_record};
 ghost use Rattle.tl_protocol.specs.declared.action.Action.TheVariants as did;
@@ -17,6 +17,7 @@ use crate::fault::WrongArgs;
 use crate::reply::Reply;
 use crate::start;
 use crate::want::{Advance, Stop, Want};
+use std::alloc::AllocError;
 use std::marker::Model;
 use std::sync::Arc;
 use tl_protocol::Action;
@@ -61,6 +62,56 @@ impl Turn {
             shape,
             call,
         })
+    }
+
+    /// A call that is done. Takes no memory.
+    pub fn over(procedure: Arc<Proc>, shape: Arc<Shape>) -> Turn
+        ensures code { result.code ≡ arc_value procedure }
+        ensures parents { result.parents ≡ arc_value shape }
+        ensures over { Stops result stop.Over }
+    {
+        Turn {
+            procedure,
+            shape,
+            call: CallState::over(),
+        }
+    }
+
+    /// The same once more, on the same procedure and shape.
+    pub fn try_clone(&self) -> Result<Turn, AllocError>
+        ensures { IfOk result (λ t. t ≡ self.now) }
+    {
+        let procedure = Arc::try_clone(&self.procedure)?;
+        let shape = Arc::try_clone(&self.shape)?;
+        Ok(Turn {
+            procedure,
+            shape,
+            call: self.call,
+        })
+    }
+
+    /// Whether both are the same: one state, of calls of one code on trees of one shape. The states are looked at first,
+    /// since they tell mostly.
+    pub fn is(&self, other: &Turn) -> bool
+        ensures { IsTrue result ↔ (self.now ≡ other.now) }
+    {
+        self.call == other.call && self.is_alike(other)
+    }
+
+    // Whether both are of one code on trees of one shape.
+    fn is_alike(&self, other: &Turn) -> bool
+        ensures { IsTrue result ↔ ((self.now.code ≡ other.now.code) × (self.now.parents ≡ other.now.parents)) }
+    {
+        self.procedure.is(&other.procedure) && self.shape.is(&other.shape)
+    }
+
+    /// Goes where the other is, which is a turn of the same code on trees of the same shape. Takes no memory.
+    pub fn follow(&mut self, other: &Turn)
+        requires code { self.old.code ≡ other.now.code }
+        requires parents { self.old.parents ≡ other.now.parents }
+        ensures { self.new ≡ other.now }
+    {
+        self.call = other.call;
     }
 
     /// What the next instruction needs.
@@ -163,12 +214,11 @@ impl Turn {
         &self.call
     }
 
-    pub(crate) fn into_parts(self) -> (Arc<Proc>, Arc<Shape>, CallState)
-        ensures code { arc_value result.0 ≡ self.code }
-        ensures parents { arc_value result.1 ≡ self.parents }
-        ensures state { result.2 ≡ self.call }
-        ensures turn { IsTurn self.code.instrs self.parents self.call }
+    // Puts the call at another state of its own.
+    pub(crate) fn put_at(&mut self, state: &CallState)
+        requires { IsTurn self.old.code.instrs self.old.parents state.now }
+        ensures { self.new ≡ with_call self.old state.now }
     {
-        (self.procedure, self.shape, self.call)
+        self.call = *state;
     }
 }

@@ -13,6 +13,7 @@ pub mod NoStandstill
 pub mod ReachedWorlds
 pub mod ListPlaces
 pub mod ObeysByPlaces
+pub mod DoneSteps
 pub mod Permitted
 pub mod Apart
 pub mod Holders

@@ -188,7 +188,7 @@ obeys_places parents done h = subst (Obeys parents) (earliest_first-reverse done
 
 -- ---- lists with the earliest first
 
-taken-earliest : (k : ℕ) (actions done : List Action) → earliest_first (taken k actions done) ≡ earliest_first done ++ take k actions
+pub taken-earliest : (k : ℕ) (actions done : List Action) → earliest_first (taken k actions done) ≡ earliest_first done ++ take k actions
 taken-earliest zero actions done = sym (append-nil (earliest_first done))
 taken-earliest (suc k) [] done = sym (append-nil (earliest_first done))
 taken-earliest (suc k) (a ∷ actions) done = taken-earliest k actions (a ∷ done) ∙ append_assoc (earliest_first done) (a ∷ []) (take k actions)

@@ -63,33 +63,60 @@ done_next alone opening past more c k a h r next same over =
     }
 
 -- after a lock it does what it does on the tree that has the record found, and goes on from the same actions
-done_lock : (parents : List ℕ) (alone : Records → Outcome) → IsAlone parents alone → (opening : Records) → length opening ≡ length parents → (past : List Event) (c k x : ℕ) (r found : Record)
-    → Genuine alone opening past c k → is_done c past ≡ false → slice_get ((alone_of alone opening past c).actions) k ≡ Some (A.Lock x r) → Genuine alone opening (Lock x c found ∷ past) c (suc k)
-done_lock parents alone is_alone opening len past c k x r found h goes_on next =
-    let t = with_found (part_of c past) opening in
-    let u = set t x found in
-    let q = part_of-lock c x found past in
-    let actions = (alone t).actions in
-    let others = (alone u).actions in
-    let run2 : (alone_of alone opening (Lock x c found ∷ past) c).actions ≡ others = ap (λ p. (alone (with_found p opening)).actions) q in
-    let size : length t ≡ length parents = length-with_found (part_of c past) opening ∙ len in
-    let size2 : length u ≡ length t = length-set t x found in
-    let p : Permitted parents (taken k actions []) (A.Lock x r) = permitted_at parents k actions [] (A.Lock x r) (is_alone.obeys t size) next in
-    let agree : (y : ℕ) → locked (taken k actions []) y ≡ true → record_at t y ≡ record_at u y =
-    λ y l. let ne : y ≢ x = λ (w : y ≡ x). both_ways (locked (taken k actions []) x) p.0 (subst (λ z. locked (taken k actions []) z ≡ true) w l) in sym (get_or-set_other t x y found [] ne) in
-    let s = same_taken k actions others [] t u (is_alone.same t u size (size2 ∙ size)) (is_alone.finds t size) (is_alone.finds u (size2 ∙ size)) agree in
-    let like : Alike (Some (A.Lock x r)) (slice_get others k) = subst (λ o. Alike o (slice_get others k)) next s.1 in
-    let next2 = alike_lock x r (slice_get others k) like in
-    let finds2 = finds_at u k others x next2.0 (is_alone.finds u (size2 ∙ size)) next2.1 in
-    let self = eq-eqb x x refl in
-    let is_found : next2.0 ≡ found = finds2.1 ∙ record_at-put_record t x found x (subst (λ n. x < n) size2 finds2.0) ∙ (rw self refl) in
-    let later = ends_later k others (A.Lock x next2.0) (is_alone.ends u (size2 ∙ size)) next2.1 refl in
-    let list : A.Lock x found ∷ taken k actions [] ≡ taken (suc k) others [] = (λ i. A.Lock x (sym is_found i) ∷ s.0 i) ∙ sym (taken-next k others [] (A.Lock x next2.0) next2.1) in
-    record {
-      is_part = q ∙ ap (λ z. A.Lock x found ∷ z) h.is_part ∙ ap shared_actions list ∙ ap (λ z. shared_actions (taken (suc k) z [])) (sym run2);
-      within = subst (λ z. suc k ≤ length z) (sym run2) (omega arith);
-      ended = goes_on ∙ sym (ne_eqb (suc k) (length others) (λ w. omega arith)) ∙ ap (λ z. suc k == length z) (sym run2);
-    }
+module _ (parents : List ℕ) (alone : Records → Outcome) (is_alone : IsAlone parents alone) (opening : Records) (len : length opening ≡ length parents) (past : List Event) (c k x : ℕ) (r found : Record)
+    (next : slice_get ((alone_of alone opening past c).actions) k ≡ Some (A.Lock x r)) where
+  abbrev tree_before : Records
+  tree_before = with_found (part_of c past) opening
+
+  abbrev tree_then : Records
+  tree_then = set tree_before x found
+
+  abbrev actions_before : List Action
+  actions_before = (alone tree_before).actions
+
+  abbrev actions_then : List Action
+  actions_then = (alone tree_then).actions
+
+  size_before : length tree_before ≡ length parents
+  size_before = length-with_found (part_of c past) opening ∙ len
+
+  size_then : length tree_then ≡ length tree_before
+  size_then = length-set tree_before x found
+
+  run_then : (alone_of alone opening (Lock x c found ∷ past) c).actions ≡ actions_then
+  run_then = ap (λ p. (alone (with_found p opening)).actions) (part_of-lock c x found past)
+
+  same_so_far : (taken k actions_before [] ≡ taken k actions_then []) × Alike (slice_get actions_before k) (slice_get actions_then k)
+  same_so_far =
+      let p : Permitted parents (taken k actions_before []) (A.Lock x r) = permitted_at parents k actions_before [] (A.Lock x r) (is_alone.obeys tree_before size_before) next in
+      let agree : (y : ℕ) → locked (taken k actions_before []) y ≡ true → record_at tree_before y ≡ record_at tree_then y =
+      λ y l. let ne : y ≢ x = λ (w : y ≡ x). both_ways (locked (taken k actions_before []) x) p.0 (subst (λ z. locked (taken k actions_before []) z ≡ true) w l) in sym (get_or-set_other tree_before x y found [] ne) in
+      same_taken k actions_before actions_then [] tree_before tree_then (is_alone.same tree_before tree_then size_before (size_then ∙ size_before)) (is_alone.finds tree_before size_before) (is_alone.finds tree_then (size_then ∙ size_before)) agree
+
+  -- what it does next there is the lock that finds this record
+  next_then : (other : Record) × (slice_get actions_then k ≡ Some (A.Lock x other)) × (other ≡ found)
+  next_then =
+      let like : Alike (Some (A.Lock x r)) (slice_get actions_then k) = subst (λ o. Alike o (slice_get actions_then k)) next same_so_far.1 in
+      let other = alike_lock x r (slice_get actions_then k) like in
+      let finds = finds_at tree_then k actions_then x other.0 (is_alone.finds tree_then (size_then ∙ size_before)) other.1 in
+      let self = eq-eqb x x refl in
+      (other.0, other.1, finds.1 ∙ record_at-put_record tree_before x found x (subst (λ n. x < n) size_then finds.0) ∙ (rw self refl))
+
+  lock_taken : A.Lock x found ∷ taken k actions_before [] ≡ taken (suc k) actions_then []
+  lock_taken =
+      let other = next_then in
+      let same = same_so_far.0 in
+      (λ i. A.Lock x (sym other.2 i) ∷ same i) ∙ sym (taken-next k actions_then [] (A.Lock x other.0) other.1)
+
+  done_lock : Genuine alone opening past c k → is_done c past ≡ false → Genuine alone opening (Lock x c found ∷ past) c (suc k)
+  done_lock h goes_on =
+      let other = next_then in
+      let later = ends_later k actions_then (A.Lock x other.0) (is_alone.ends tree_then (size_then ∙ size_before)) other.1 refl in
+      record {
+        is_part = part_of-lock c x found past ∙ ap (λ z. A.Lock x found ∷ z) h.is_part ∙ ap shared_actions lock_taken ∙ ap (λ z. shared_actions (taken (suc k) z [])) (sym run_then);
+        within = subst (λ z. suc k ≤ length z) (sym run_then) (omega arith);
+        ended = goes_on ∙ sym (ne_eqb (suc k) (length actions_then) (λ w. omega arith)) ∙ ap (λ z. suc k == length z) (sym run_then);
+      }
 
 -- what isn't the end isn't the last action
 own_later : (w : World) (c : ℕ) (next : Action) → IsAlone w.parents (w.meanings c) → length w.opening ≡ length w.parents → MayTake w c next → is_end next ≡ false
@@ -101,7 +128,7 @@ own_later w c next is_alone len may n =
 -- the call itself after its next action
 own : (w : World) (c : ℕ) (next : Action) → IsAlone w.parents (w.meanings c) → length w.opening ≡ length w.parents → Genuine (w.meanings c) w.opening w.past c (w.counts c) → MayTake w c next
     → Genuine (w.meanings c) w.opening (past_after c (as_found w next) w.past) c (suc (w.counts c))
-own w c (A.Lock x r) is_alone len h may = done_lock w.parents (w.meanings c) is_alone w.opening len w.past c (w.counts c) x r (last_left w.past x (record_at w.opening x)) h may.is_open.1 may.is_next
+own w c (A.Lock x r) is_alone len h may = done_lock w.parents (w.meanings c) is_alone w.opening len w.past c (w.counts c) x r (last_left w.past x (record_at w.opening x)) may.is_next h may.is_open.1
 own w c (A.Read x f n) is_alone len h may = done_next (w.meanings c) w.opening w.past w.past c (w.counts c) (A.Read x f n) h refl may.is_next h.is_part (own_later w c (A.Read x f n) is_alone len may refl)
 own w c (A.Write x f n) is_alone len h may = done_next (w.meanings c) w.opening w.past w.past c (w.counts c) (A.Write x f n) h refl may.is_next h.is_part (own_later w c (A.Write x f n) is_alone len may refl)
 own w c (A.Free x left) is_alone len h may =
@@ -126,7 +153,7 @@ is_done-past_after c d (A.Emit n) past ne = refl
 is_done-past_after c d A.End past ne = let q = ne_eqb c d ne in rw q refl
 is_done-past_after c d A.Plain past ne = refl
 
-part_of-past_after : (c d : ℕ) (a : Action) (past : List Event) → c ≢ d → part_of d (past_after c a past) ≡ part_of d past
+pub part_of-past_after : (c d : ℕ) (a : Action) (past : List Event) → c ≢ d → part_of d (past_after c a past) ≡ part_of d past
 part_of-past_after c d (A.Lock x r) past ne = part_of-other (Lock x c r) d past ne
 part_of-past_after c d (A.Read x f n) past ne = refl
 part_of-past_after c d (A.Write x f n) past ne = refl
@@ -178,6 +205,26 @@ legal_after_step w c next legal len meanings may =
             rw q (done_other (w.meanings d) w.opening w.past (past_after c a w.past) d (w.counts d) (legal.genuine d lt2) (part_of-past_after c d a w.past other) (is_done-past_after c d a w.past other))
       ];
     }
+
+-- ---- what each call has done
+
+-- the latest first: a step puts its action before what its call has done
+pub taken_on : (w : World) (c : ℕ) (next : Action) → IsAlone w.parents (w.meanings c) → length w.opening ≡ length w.parents → MayTake w c next
+    → taken (suc (w.counts c)) (alone_of (w.meanings c) w.opening (past_after c (as_found w next) w.past) c).actions [] ≡ as_found w next ∷ taken (w.counts c) (alone_of (w.meanings c) w.opening w.past c).actions []
+taken_on w c (A.Lock x r) is_alone len may =
+    let found = last_left w.past x (record_at w.opening x) in
+    ap (λ actions. taken (suc (w.counts c)) actions []) (run_then w.parents (w.meanings c) is_alone w.opening len w.past c (w.counts c) x r found may.is_next)
+    ∙ sym (lock_taken w.parents (w.meanings c) is_alone w.opening len w.past c (w.counts c) x r found may.is_next)
+taken_on w c (A.Read x f n) is_alone len may = taken-next (w.counts c) (alone_of (w.meanings c) w.opening w.past c).actions [] (A.Read x f n) may.is_next
+taken_on w c (A.Write x f n) is_alone len may = taken-next (w.counts c) (alone_of (w.meanings c) w.opening w.past c).actions [] (A.Write x f n) may.is_next
+taken_on w c (A.Free x left) is_alone len may =
+    ap (λ p. taken (suc (w.counts c)) (w.meanings c (with_found p w.opening)).actions []) (part_of-free c x left w.past)
+    ∙ taken-next (w.counts c) (alone_of (w.meanings c) w.opening w.past c).actions [] (A.Free x left) may.is_next
+taken_on w c (A.Emit n) is_alone len may = taken-next (w.counts c) (alone_of (w.meanings c) w.opening w.past c).actions [] (A.Emit n) may.is_next
+taken_on w c A.End is_alone len may =
+    ap (λ p. taken (suc (w.counts c)) (w.meanings c (with_found p w.opening)).actions []) (part_of-done c w.past)
+    ∙ taken-next (w.counts c) (alone_of (w.meanings c) w.opening w.past c).actions [] A.End may.is_next
+taken_on w c A.Plain is_alone len may = taken-next (w.counts c) (alone_of (w.meanings c) w.opening w.past c).actions [] A.Plain may.is_next
 
 -- the nodes that a call of a sound world has locked are those of the tree
 pub part_inside : (w : World) → IsSound w → (c x : ℕ) → locked (part_of c w.past) x ≡ true → x < length w.parents

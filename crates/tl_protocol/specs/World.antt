@@ -1,5 +1,5 @@
 -- Worlds: many calls, each of which goes on as it would alone.
-use Rattle.std.specs.Prelude.{◌≡◌, ◌≢◌, ℕ, ◌<◌, ◌≤◌, true, false, List, [], ◌∷◌, ◌==◌, if◌then◌else◌, Option, Some, slice_get, length, ℤ}
+use Rattle.std.specs.Prelude.{◌≡◌, ◌≢◌, ℕ, ◌<◌, ◌≤◌, true, false, List, [], ◌∷◌, ◌==◌, if◌then◌else◌, Option, Some, slice_get, length, take, ℤ}
 use Rattle.std.proofs.Common.{suc}
 use Rattle.tl_tree.specs.Records.{Record, Records}
 use Rattle.tl_tree.specs.Shape.{IsTree}
@@ -79,6 +79,10 @@ pub record MayTake (w : World) (c : ℕ) (next : Action) : Type 0 where
   pub is_open : IsOpen c w.past
   pub is_next : next_of w c ≡ Some next
   pub is_free : IsFree w.past next
+
+-- what c has done, the earliest action first
+abbrev pub done_of : World → ℕ → List Action
+done_of w c = take (w.counts c) (alone_of (w.meanings c) w.opening w.past c).actions
 
 -- an action with the record found taken from the records now
 abbrev pub as_found : World → Action → Action

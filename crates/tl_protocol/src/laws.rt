@@ -1,6 +1,6 @@
 // The theory of the tree protocol: what is so of every history, every order and every world.
 
-ghost use Rattle.std.specs.Prelude.{◌≡◌, ◌≢◌, ◌↔◌, ℕ, ◌+◌, ◌<◌, ◌≤◌, true, List, [], ◌∷◌, length, map, reverse, take, slice_get, Contains};
+ghost use Rattle.std.specs.Prelude.{◌≡◌, ◌≢◌, ◌↔◌, ℕ, ◌+◌, ◌<◌, ◌≤◌, true, List, [], ◌∷◌, ◌++◌, length, map, reverse, take, slice_get, Contains};
 ghost use Rattle.tl_tree.specs.Records.{Record, Records};
 ghost use Rattle.tl_tree.specs.Shape.{IsTree, Above};
 ghost use Rattle.tl_protocol.specs.declared.action.Action.{Action};
@@ -11,7 +11,7 @@ ghost use Rattle.tl_protocol.specs.Obeys.{Obeys, EndsLast};
 ghost use Rattle.tl_protocol.specs.History.{past_of, part_of, IsOpen, AllDone, InTurn, Apart, FreesBetweenLocks, admits, records_now, IsLegalHistory};
 ghost use Rattle.tl_protocol.specs.Order.{placed, placed_after, Agrees};
 ghost use Rattle.tl_protocol.specs.Alone.{Outcome, IsAlone, serial};
-ghost use Rattle.tl_protocol.specs.World.{World, Genuine, Legal, IsSound, IsStuck, IsEnabled, MayTake, Reached, alone_of, next_of, reply_of, opening_world, after_admission, after_step};
+ghost use Rattle.tl_protocol.specs.World.{World, Genuine, Legal, IsSound, IsStuck, IsEnabled, MayTake, Reached, alone_of, next_of, reply_of, done_of, as_found, opening_world, after_admission, after_step};
 ghost use Rattle.tl_protocol.specs.Holders.{holder_of};
 
 // ---- the order
@@ -69,6 +69,17 @@ pub fn steps_keep_sound()
         → IsSound (after_admission w alone) }
     ensures step { (w : World) (c : ℕ) (next : Action) → IsSound w → MayTake w c next
         → IsSound (after_step w c next) }
+{}
+
+/// A step adds its action to what its call has done, and nothing to what another call has done. A call that is admitted has
+/// done nothing.
+pub fn done_grows()
+    ensures own { (w : World) (c : ℕ) (next : Action) → IsSound w → MayTake w c next
+        → done_of (after_step w c next) c ≡ done_of w c ++ as_found w next ∷ [] }
+    ensures others { (w : World) (c d : ℕ) (next : Action) → c ≢ d → done_of (after_step w c next) d ≡ done_of w d }
+    ensures admission { (w : World) (alone : Records → Outcome) (d : ℕ) → d < admits w.past
+        → done_of (after_admission w alone) d ≡ done_of w d }
+    ensures admitted { (w : World) (alone : Records → Outcome) → done_of (after_admission w alone) (admits w.past) ≡ [] }
 {}
 
 /// The holder that the history names is the one call that holds the node, and a stuck call waits for it. Only the holders

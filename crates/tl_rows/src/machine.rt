@@ -57,8 +57,31 @@ fn a_segment_is_what_a_call_does_by_itself(rt: HostRuntime) -> Result<(), Fail> 
     let shape = Arc::new(alloc, Shape::new(alloc, &[0, 0, 0])?)?;
     let turn = Turn::start(shared(alloc, LOOK)?, shape, &[-1])?;
     let segment = local(turn);
-    assert_eq!(rt; segment.from().steps, 0);
+    assert_eq!(rt; segment.from().call().steps, 0);
     assert_eq!(rt; segment.to().steps, 1);
     assert_eq!(rt; segment.stop(), Stop::Return);
+    Ok(())
+}
+
+#[test]
+fn a_kept_turn_takes_the_end_of_a_segment(rt: HostRuntime) -> Result<(), Fail> {
+    let alloc = rt.alloc();
+    let shape = Arc::new(alloc, Shape::new(alloc, &[0, 0, 0])?)?;
+    let mut kept = Turn::start(shared(alloc, LOOK)?, shape, &[-1])?;
+    let turn = kept.try_clone()?;
+    assert!(rt; turn.is(&kept));
+    let segment = local(turn);
+    assert!(rt; kept.is(segment.from()));
+    kept.take_end(&segment);
+    assert!(rt; !kept.is(segment.from()));
+    if let Want::Stop(Stop::Return) = kept.want() {
+        let reply = kept.finish();
+        assert!(rt; reply == reply.copy());
+    }
+    let mut told = segment.into_turn();
+    assert_eq!(rt; told.want(), Want::Stop(Stop::Return));
+    told.follow(&kept);
+    assert!(rt; told.is(&kept));
+    assert_eq!(rt; told.want(), Want::Stop(Stop::Over));
     Ok(())
 }

@@ -100,6 +100,13 @@ impl Shape {
         }
         step == upper
     }
+
+    /// Whether both are the shape of the same trees: the same nodes with the same parents.
+    pub fn is(&self, other: &Shape) -> bool
+        ensures { IsTrue result ↔ (self.now ≡ other.now) }
+    {
+        self.parents == other.parents
+    }
 }
 
 // The parents as node numbers, where they are a tree's.

@@ -14,3 +14,4 @@ pub mod ObjectionLemmas
 pub mod SettledFits
 pub mod LoopEnds
 pub mod RegistersLemmas
+pub mod SameInstrs

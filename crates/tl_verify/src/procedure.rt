@@ -1,6 +1,6 @@
 // Procedures: codes that were accepted.
 
-ghost use Rattle.std.specs.Prelude.{◌≡◌, ◌≢◌, IfOk, IfErr, length};
+ghost use Rattle.std.specs.Prelude.{◌≡◌, ◌≢◌, ◌↔◌, IsTrue, IfOk, IfErr, length};
 ghost use Rattle.tl_instr.specs.Codes.{CodeValue, IsCode};
 ghost use Rattle.tl_budget.specs.Nested.{IsNest};
 ghost use Rattle.tl_budget.specs.Loops.{budget, lock_bound, emit_bound};
@@ -57,6 +57,14 @@ impl Proc {
         ensures { AreBounds self.now.instrs result }
     {
         self.bounds
+    }
+
+    /// Whether both are made of the same code: as many arguments, and the same instructions. Their loops and bounds are then
+    /// the same.
+    pub fn is(&self, other: &Proc) -> bool
+        ensures { IsTrue result ↔ (self.now ≡ other.now) }
+    {
+        self.code.arity() == other.code.arity() && self.code.instrs() == other.code.instrs()
     }
 }
 

@@ -1,4 +1,4 @@
-use Rattle.tl_core.proofs.MoreProcedures.{keeps_whole, seen_added, added}
+use Rattle.tl_core.proofs.MoreProcedures.{keeps_whole, seen_added, state_added, added}
 use Rattle.tl_core.proofs.interleaving.Core.add_proc.Goals as goal
 
 pub invariant_of-self : goal.invariant_of-self
@@ -7,4 +7,4 @@ invariant_of-self c =
     rw (more.1) (keeps_whole _ more.0 _ _ _ _ _ _ c.self.invariant)
 
 pub returns-clause-last : goal.returns-clause-last
-returns-clause-last c = rw (← c.self.view_is) (seen_added _ _ _ _ _ _ _ c.self.invariant c.add.result c.add.new.self _ c.add.ensures.last)
+returns-clause-last c = rw (← c.self.view_is) (state_added _ _ _ c.add.result (seen_added _ _ _ _ _ _ _ c.self.invariant c.add.result c.add.new.self _ c.add.ensures.last))

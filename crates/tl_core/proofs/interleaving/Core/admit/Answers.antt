@@ -2,7 +2,7 @@ use Rattle.std.proofs.Common.{◌≡◌, ◌-◌, length, refl, ap, rules, arith
 use Rattle.std.proofs.lemmas.List.{length-map}
 use Rattle.tl_core.specs.declared.call.Progress.TheVariants.{Open}
 use Rattle.tl_core.specs.Stored.{seen_call}
-use Rattle.tl_core.proofs.Admitting.{admitted_begun, after_begun}
+use Rattle.tl_core.proofs.Admitting.{admitted_begun, after_begun, turns_begun}
 use Rattle.tl_core.proofs.interleaving.Core.admit.Goals as goal
 
 pub invariant_of-self-2 : goal.invariant_of-self-2
@@ -10,7 +10,7 @@ invariant_of-self-2 c =
     let long = length-map c.self.inside.calls.items (seen_call c.self.inside.procedures c.self.inside.slots.items) in
     let number : c.len-call.result ≡ length c.self.inside.calls.items = omega arith in
     let slot : c.len-slot.result ≡ length c.self.inside.slots.items = omega arith in
-    admitted_begun _ _ _ _ _ _ _ c.self.invariant _ _ c.in_ok-procedure.procedure _ _ _ c.in_ok-procedure.places c.in_ok-args.ensures.begins c.shape.ensures.shape c.get-proc.ensures (search rules) (search rules) (search rules) (search rules)
+    admitted_begun _ _ _ _ _ _ _ c.self.invariant _ _ c.in_ok-procedure.procedure _ _ _ c.in_ok-procedure.places c.in_ok-args.ensures.begins c.shape.ensures.shape c.get-proc.ensures (search rules) (search rules) (search rules) (search rules) (search rules)
     (record { procedure = c.in_ok-procedure.procedure; args = c.in_ok-args.args; progress = Open c.len-slot.result }) refl refl (ap Open slot)
     (record { call = c.len-call.result; places = c.in_ok-procedure.places - 1; turn = c.in_ok-args.turn }) (λ i. record { call = number i; places = c.in_ok-procedure.places - 1; turn = c.in_ok-args.turn })
     c.push_reserved.new.self.items (search rules) c.push_reserved-2.new.self.items (search rules) c.reserve-2.new.self c.append.new.self (search rules) (search rules)
@@ -22,7 +22,17 @@ returns-clause-after c =
     let number : c.len-call.result ≡ length c.self.inside.calls.items = omega arith in
     let slot : c.len-slot.result ≡ length c.self.inside.slots.items = omega arith in
     let found = rw (← c.self.view_is) at c.in_ok-procedure.ensures.number in
-    rw (← c.self.view_is) (after_begun _ _ _ _ _ _ _ c.self.invariant _ _ c.in_ok-procedure.procedure _ _ _ c.in_ok-procedure.places c.in_ok-args.ensures.begins c.shape.ensures.shape c.get-proc.ensures (search rules) (search rules) (search rules) (search rules)
+    rw (← c.self.view_is) (after_begun _ _ _ _ _ _ _ c.self.invariant _ _ c.in_ok-procedure.procedure _ _ _ c.in_ok-procedure.places c.in_ok-args.ensures.begins c.shape.ensures.shape c.get-proc.ensures (search rules) (search rules) (search rules) (search rules) (search rules)
     (record { procedure = c.in_ok-procedure.procedure; args = c.in_ok-args.args; progress = Open c.len-slot.result }) refl refl (ap Open slot)
     (record { call = c.len-call.result; places = c.in_ok-procedure.places - 1; turn = c.in_ok-args.turn }) (λ i. record { call = number i; places = c.in_ok-procedure.places - 1; turn = c.in_ok-args.turn })
     c.push_reserved.new.self.items (search rules) c.push_reserved-2.new.self.items (search rules) c.append.new.self (search rules) (search rules) c.args.name.now found)
+
+pub returns-clause-turns : goal.returns-clause-turns
+returns-clause-turns c =
+    let long = length-map c.self.inside.calls.items (seen_call c.self.inside.procedures c.self.inside.slots.items) in
+    let number : c.len-call.result ≡ length c.self.inside.calls.items = omega arith in
+    let slot : c.len-slot.result ≡ length c.self.inside.slots.items = omega arith in
+    rw (← c.self.view_is) (turns_begun _ _ _ _ _ _ _ c.self.invariant _ _ c.in_ok-procedure.procedure _ _ _ c.in_ok-procedure.places c.in_ok-args.ensures.begins c.shape.ensures.shape c.get-proc.ensures (search rules) (search rules) (search rules) (search rules) (search rules)
+    (record { procedure = c.in_ok-procedure.procedure; args = c.in_ok-args.args; progress = Open c.len-slot.result }) refl refl (ap Open slot)
+    (record { call = c.len-call.result; places = c.in_ok-procedure.places - 1; turn = c.in_ok-args.turn }) (λ i. record { call = number i; places = c.in_ok-procedure.places - 1; turn = c.in_ok-args.turn })
+    c.push_reserved.new.self.items (search rules) c.push_reserved-2.new.self.items (search rules))

@@ -1,5 +1,8 @@
 use Rattle.std.proofs.Common.{◌≡◌, length, take, refl, sym, ap, ◌∙◌, subst, arith, rules}
 use Rattle.std.proofs.Math.Seq.{take-length}
+use Rattle.std.proofs.lemmas.List.{append-nil}
+use Rattle.tl_core.specs.Cores.{done_by}
+use Rattle.tl_core.proofs.RunParts.{parts_more}
 use Rattle.tl_core.specs.Entries.{IsEntry, after_entry, Traced, after_moves}
 use Rattle.tl_core.proofs.Driving.{traced_more, after_more, moved_more, take_more, spent_on, counted_on, within_budgets}
 use Rattle.tl_core.proofs.interleaving.Core.drive.Goals as goal
@@ -10,6 +13,7 @@ loop-one-init c = record {
   after = refl;
   size = c.in_ok-trace.ensures.len;
   room = search rules;
+  parts = λ d. rw c.in_ok-trace.ensures.items (sym (append-nil (done_by c.args.self.now.seen d)));
   counted = c.is_sound.ensures.counted;
   few = rw c.in_ok-trace.ensures.items (omega arith);
 }
@@ -23,23 +27,24 @@ loop-one-preserved c =
     let is = subst (λ v. IsEntry v c.one-item.result c.carry_out.result) before.after c.carry_out.ensures.entry in
     let done = take_more c.args.moves.now c.loop-one.one-index c.one-item.result c.loop-one-test.true c.one-item.is in
     record {
-      traced = rw (c.push_reserved.ensures.items, done) (traced_more c.args.self.now _ _ _ _ before.traced is);
-      after = rw (c.push_reserved.ensures.items, done) (c.carry_out.ensures.after ∙ ap (λ v. after_entry v c.one-item.result c.carry_out.result) before.after ∙ sym (after_more c.args.self.now _ _ c.one-item.result c.carry_out.result before.traced));
+      traced = rw (c.push_reserved.ensures.items, done) (traced_more c.args.self.now.seen _ _ _ _ before.traced is);
+      after = rw (c.push_reserved.ensures.items, done) (c.carry_out.ensures.after ∙ ap (λ v. after_entry v c.one-item.result c.carry_out.result) before.after ∙ sym (after_more c.args.self.now.seen _ _ c.one-item.result c.carry_out.result before.traced));
       size = search rules;
       room = search rules;
-      counted = rw c.carry_out.ensures.after (counted_on c.loop-one.self c.one-item.result c.carry_out.result before.counted c.carry_out.ensures.entry);
-      few = let more = moved_more c.loop-one.trace.items c.carry_out.result in let on = spent_on c.loop-one.self c.one-item.result c.carry_out.result before.counted c.carry_out.ensures.entry in rw (c.push_reserved.ensures.items, c.carry_out.ensures.after) (omega arith);
+      parts = λ d. rw c.push_reserved.ensures.items (parts_more d _ _ _ c.loop-one.trace.items c.carry_out.result (before.parts d) (c.carry_out.ensures.parts d));
+      counted = rw c.carry_out.ensures.after (counted_on c.loop-one.self.seen c.one-item.result c.carry_out.result before.counted c.carry_out.ensures.entry);
+      few = let more = moved_more c.loop-one.trace.items c.carry_out.result in let on = spent_on c.loop-one.self.seen c.one-item.result c.carry_out.result before.counted c.carry_out.ensures.entry in rw (c.push_reserved.ensures.items, c.carry_out.ensures.after) (omega arith);
     }
 
 pub returns-clause-traced : goal.returns-clause-traced
 returns-clause-traced c =
     let full : c.loop-one.one-index ≡ length c.args.moves.now = let end = c.loop-one.auto.one-index-end in omega arith in
-    subst (λ l. Traced c.args.self.now l c.loop-one.trace.items) (ap (λ n. take n c.args.moves.now) full ∙ take-length c.args.moves.now) c.loop-one.invariant.traced
+    subst (λ l. Traced c.args.self.now.seen l c.loop-one.trace.items) (ap (λ n. take n c.args.moves.now) full ∙ take-length c.args.moves.now) c.loop-one.invariant.traced
 
 pub returns-clause-after : goal.returns-clause-after
 returns-clause-after c =
     let full : c.loop-one.one-index ≡ length c.args.moves.now = let end = c.loop-one.auto.one-index-end in omega arith in
-    c.loop-one.invariant.after ∙ ap (λ l. after_moves c.args.self.now l c.loop-one.trace.items) (ap (λ n. take n c.args.moves.now) full ∙ take-length c.args.moves.now)
+    c.loop-one.invariant.after ∙ ap (λ l. after_moves c.args.self.now.seen l c.loop-one.trace.items) (ap (λ n. take n c.args.moves.now) full ∙ take-length c.args.moves.now)
 
 pub returns-clause-bounded : goal.returns-clause-bounded
-returns-clause-bounded c = within_budgets c.loop-one.self _ c.is_sound-2.ensures.counted c.is_sound-2.ensures.counts c.loop-one.invariant.few
+returns-clause-bounded c = within_budgets c.loop-one.self.seen _ c.is_sound-2.ensures.counted c.is_sound-2.ensures.counts c.loop-one.invariant.few

@@ -14,7 +14,7 @@ loop-current-preserved c =
     let was : c.match-least.least ≡ c.loop-current.least = elim c.match-least.branch [ in-Some x ↦ x.least-is ∙ sym x.in-Some.is | in-None x ↦ x.least-is ] in
     elim c.if-is_less.branch [
       | then-is_less+then-unwrap_or w ↦
-          rw w.least-is (least_moves (world_of c.args.self.now) c.deref-current-items.result.now c.loop-current.current-index c.loop-current.least c.current-item.result at c.loop-current.invariant
+          rw w.least-is (least_moves (world_of c.args.self.now.seen) c.deref-current-items.result.now c.loop-current.current-index c.loop-current.least c.current-item.result at c.loop-current.invariant
           (is_enabled w.enabled.result w.enabled.ensures.enabled (sym w.unwrap_or.ensures ∙ w.if-unwrap_or.true))
           (λ e same. elim c.match-least.branch [
             | in-Some x ↦
@@ -24,7 +24,7 @@ loop-current-preserved c =
             | in-None x ↦ let none = sym x.in-None.is ∙ same in absurd cc
           ]))
       | else-is_less w ↦
-          rw (w.least-is ∙ was) (least_stays (world_of c.args.self.now) c.deref-current-items.result.now c.loop-current.current-index c.loop-current.least c.current-item.result at c.loop-current.invariant
+          rw (w.least-is ∙ was) (least_stays (world_of c.args.self.now.seen) c.deref-current-items.result.now c.loop-current.current-index c.loop-current.least c.current-item.result at c.loop-current.invariant
           (λ enabled. elim w.else-is_less.branch [
             | else-is_less-via-then-is_less+else-unwrap_or y ↦
                 absurd (not_enabled y.enabled.result (y.enabled.ensures.known.1 enabled.is_open.0) y.enabled.ensures.enabled (sym y.unwrap_or.ensures ∙ y.if-unwrap_or.false) enabled)

@@ -3,4 +3,4 @@ use Rattle.tl_core.proofs.Enabling.{IsLeast}
 use Rattle.tl_core.proofs.interleaving.Core.some_enabled.Given as goal
 
 abbrev pub invariant-loop-current : goal.invariant-loop-current
-invariant-loop-current l = IsLeast (world_of l.self) l.current-items l.current-index l.least
+invariant-loop-current l = IsLeast (world_of l.self.seen) l.current-items l.current-index l.least

@@ -1,0 +1,79 @@
+-- A call that follows a segment: its local actions, and the one of its stop.
+use Rattle.std.specs.Prelude.{◌≡◌, ◌≢◌, ℕ, ◌<◌, ◌≤◌, ◌⊎◌, true, List, [], ◌∷◌, ◌++◌, Some, Ok}
+use Rattle.tl_protocol.specs.declared.action.Action.{Action}
+use Rattle.tl_protocol.specs.declared.action.Action.TheVariants as did
+use Rattle.tl_protocol.specs.History.{is_done, admits, IsOpen}
+use Rattle.tl_protocol.specs.Holders.{holder_of}
+use Rattle.tl_protocol.specs.World.{next_of, reply_of}
+use Rattle.tl_machine.specs.Stands.{IsLocal}
+use Rattle.tl_machine.specs.Turns.{SegmentValue}
+use Rattle.tl_machine.specs.declared.want.Stop.{Stop}
+use Rattle.tl_machine.specs.declared.want.Stop.TheVariants as stop
+use Rattle.tl_core.specs.declared.fault.CoreFault.{CoreFault}
+use Rattle.tl_core.specs.declared.fault.CoreFault.TheVariants as fault
+use Rattle.tl_core.specs.declared.stepped.Stepped.TheVariants.{Moved}
+use Rattle.tl_core.specs.declared.followed.Followed.{Followed}
+use Rattle.tl_core.specs.declared.followed.Followed.TheVariants.{Went, Blocked, Finished}
+use Rattle.tl_core.specs.Cores.{CoreState, CoreValue, kept_turn, world_of}
+use Rattle.tl_core.specs.Entries.{step_answer, after_step}
+
+-- the call does these actions, one step after another
+abbrev pub Goes : CoreValue → ℕ → List Action → CoreValue → Type 0
+Goes v c [] w = v ≡ w
+Goes v c (a ∷ actions) w = (step_answer (world_of v) c ≡ Ok (Moved a)) × Goes (after_step v c (Ok (Moved a))) c actions w
+
+abbrev pub EachLocal : List Action → Type 0
+EachLocal [] = Unit {0}
+EachLocal (a ∷ actions) = IsLocal a × EachLocal actions
+
+-- the action is the one that a call does where it stops
+abbrev pub EndsStop : Stop → Action → Type 0
+EndsStop s (did.Lock x found) = s ≡ stop.Lock x
+EndsStop s (did.Free x left) = s ≡ stop.Free x
+EndsStop s did.End = s ≡ stop.Return
+EndsStop s a = ⊥
+
+-- the call is open, and its next action is that of the stop
+pub record NextEndsStop (v : CoreValue) (c : ℕ) (s : Stop) : Type 0 where
+  pub is_open : IsOpen c v.past
+  pub next : Action
+  pub is_next : next_of (world_of v) c ≡ Some next
+  pub ends : EndsStop s next
+
+-- the segment's end is the call's turn, and its local actions were done as steps of the call
+pub record IsLed (before : CoreState) (c : ℕ) (segment : SegmentValue) (after : CoreState) : Type 0 where
+  pub local : List Action
+  pub each_local : EachLocal local
+  pub goes : Goes before.seen c local after.seen
+
+-- the segment's local actions and the one of its stop were done as steps of the call
+pub record HasGone (before : CoreState) (c : ℕ) (segment : SegmentValue) (after : CoreState) : Type 0 where
+  pub local : List Action
+  pub each_local : EachLocal local
+  pub last : Action
+  pub is_last : EndsStop segment.stop last
+  pub goes : Goes before.seen c (local ++ last ∷ []) after.seen
+
+-- the stop is a lock of a node that a call holds
+pub record IsInTheWay (v : CoreValue) (s : Stop) (x d : ℕ) : Type 0 where
+  pub locks : s ≡ stop.Lock x
+  pub holder : holder_of v.past x ≡ Some d
+
+-- what came of it: blocked where another call is in the way, and nothing is changed; else the call went on to a turn, or
+-- is done and has answered
+abbrev pub IsFollowed : CoreState → ℕ → SegmentValue → Followed → CoreState → Type 0
+IsFollowed v c segment (Blocked x d) w = IsInTheWay v.seen segment.stop x d × (w ≡ v)
+IsFollowed v c segment (Went turn) w = HasGone v c segment w × (kept_turn w c ≡ Some turn)
+IsFollowed v c segment (Finished reply) w =
+    HasGone v c segment w × (is_done c w.seen.past ≡ true) × (reply ≡ reply_of (world_of w.seen) c)
+
+-- nobody is in the way of a call that wasn't blocked
+abbrev pub IsUnhindered : CoreState → SegmentValue → Followed → Type 0
+IsUnhindered v segment (Blocked x d) = Unit {0}
+IsUnhindered v segment followed = (x d : ℕ) → IsInTheWay v.seen segment.stop x d → ⊥
+
+-- 602 where the call wasn't admitted, 607 where the segment doesn't begin at the turn that is kept of it
+abbrev pub IsFollowFault : CoreState → ℕ → SegmentValue → CoreFault → Type 0
+IsFollowFault v c segment e =
+    ((e ≡ fault.NoCall) × (admits v.seen.past ≤ c))
+    ⊎ ((e ≡ fault.NotFrom) × (c < admits v.seen.past) × (kept_turn v c ≢ Some segment.from))
