@@ -18,7 +18,7 @@ use Rattle.tl_procedures.specs.Names.{Named, no_procedure, number_of, is_name, t
 use Rattle.tl_procedures.specs.declared.fault.NamingFault.TheVariants as naming
 use Rattle.tl_procedures.specs.declared.procedures.TheConstants.{MAX_NAME}
 use Rattle.tl_core.specs.declared.fault.CoreFault.TheVariants as core_fault
-use Rattle.tl_core.specs.Cores.{CoreValue, CallValue}
+use Rattle.tl_core.specs.Cores.{CoreState, CoreValue, CallValue}
 use Rattle.tl_core.specs.Entries.{procedure_at, refusal_of, admission_refusal, after_admission, with_call_of}
 use Rattle.tl_table.specs.Ends.{begun_by_end}
 use Rattle.tl_table.specs.Tables.{TableValue, seen}
@@ -65,14 +65,14 @@ name_short ps name i free at =
 
 pub table_more : (t : TableValue) (begun : List ℕ) (owners_room begun_room : ℕ) → IsTable t begun owners_room begun_room
     → InTurn (seen t).past → length (seen t).calls ≡ admits (seen t).past
-    → (w : CoreValue) (call : CallValue) → w.calls ≡ (seen t).calls ++ call ∷ [] → w.past ≡ Admit (length (seen t).calls) ∷ (seen t).past
+    → (w : CoreState) (call : CallValue) → w.seen.calls ≡ (seen t).calls ++ call ∷ [] → w.seen.past ≡ Admit (length (seen t).calls) ∷ (seen t).past
     → (session : ℕ) → session < t.sessions
     → (owners more : List ℕ) → owners ≡ t.owners ++ session ∷ [] → more ≡ begun ++ 0 ∷ []
     → (r s : ℕ) → r ≡ owners_room → s ≡ begun_room
     → IsTable (record { core = w; sessions = t.sessions; owners = owners }) more r s
 table_more t begun ro rb h turn counted w call calls past session given owners more owners_are more_are r s r_is s_is =
     let n = length (seen t).calls in
-    let long : length w.calls ≡ n + 1 = ap length calls ∙ length-append (seen t).calls (call ∷ []) in
+    let long : length w.seen.calls ≡ n + 1 = ap length calls ∙ length-append (seen t).calls (call ∷ []) in
     record {
       few = h.few;
       owned = (let a = ap length owners_are ∙ length-append t.owners (session ∷ []) in omega (arith, a, h.owned, long));

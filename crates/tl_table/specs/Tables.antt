@@ -2,7 +2,7 @@
 use Rattle.std.specs.Prelude.{◌≡◌, ℕ, ◌<◌, true, List, [], ◌∷◌, ◌++◌, length, get_or, Option, Some, option_map, if◌then◌else◌, nat_lt, ℤ}
 use Rattle.tl_protocol.specs.History.{is_done, AllDone}
 use Rattle.tl_protocol.specs.World.{reply_of}
-use Rattle.tl_core.specs.Cores.{CoreValue, call_of, world_of}
+use Rattle.tl_core.specs.Cores.{CoreState, CoreValue, kept_turn, call_of, world_of}
 use Rattle.tl_core.specs.Entries.{admission_refusal, after_admission}
 use Rattle.tl_table.specs.declared.fault.TableFault.{TableFault}
 use Rattle.tl_table.specs.declared.fault.TableFault.TheVariants as fault
@@ -10,13 +10,13 @@ use Rattle.tl_table.specs.declared.receipt.Receipt.{Receipt}
 
 -- a core, how many sessions were given, and of each call its session
 pub record TableValue : Type 0 where
-  pub core : CoreValue
+  pub core : CoreState
   pub sessions : ℕ
   pub owners : List ℕ
 
 -- the core as its callers see it
 abbrev pub seen : TableValue → CoreValue
-seen t = t.core
+seen t = t.core.seen
 
 abbrev pub owner_of : TableValue → ℕ → ℕ
 owner_of t c = get_or t.owners c 0
@@ -43,7 +43,9 @@ abbrev pub table_refusal : TableValue → ℕ → List ℕ → List ℤ → Opti
 table_refusal t session name args =
     if nat_lt session t.sessions then option_map fault.Core (admission_refusal (seen t) name args) else Some fault.NoSession
 
--- the table with a call of the session more
-abbrev pub with_admission : TableValue → ℕ → List ℕ → List ℤ → TableValue
-with_admission t session name args =
-    record t { core = after_admission t.core name args; owners = t.owners ++ session ∷ [] }
+-- the second table has a call of that session more
+pub record IsAdmittedTo (t : TableValue) (session : ℕ) (name : List ℕ) (args : List ℤ) (u : TableValue) : Type 0 where
+  pub core : seen u ≡ after_admission (seen t) name args
+  pub turns : (c : ℕ) → IsKnown t c → kept_turn u.core c ≡ kept_turn t.core c
+  pub owners : u.owners ≡ t.owners ++ session ∷ []
+  pub sessions : u.sessions ≡ t.sessions

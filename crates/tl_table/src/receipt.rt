@@ -5,6 +5,7 @@ ghost use Rattle.std.specs.Prelude.{◌≡◌, ◌↔◌, IsTrue};
 use arrayvec::ArrayVec;
 use tl_budget::MAX_EMITS;
 use tl_instr::MAX_ARGS;
+use tl_machine::Turn;
 
 /// What a call came to: plain data.
 #[derive(Debug, Drop, PartialEq, Eq)]
@@ -52,4 +53,15 @@ pub(crate) fn copy_of<const N: usize>(values: &ArrayVec<i64, N>) -> ArrayVec<i64
         unreachable!()
     };
     copy
+}
+
+/// What came of a segment that was submitted.
+#[derive(Debug, Drop)]
+pub enum Sent {
+    /// The segment's instructions and the lock or free behind them are done: this is the call's turn now.
+    Went(Turn),
+    /// The call is about to lock a node that another call holds. Nothing was done.
+    Blocked,
+    /// The segment's instructions are done, and the call has ended.
+    Finished(Receipt),
 }

@@ -1,6 +1,6 @@
 // A core, its sessions, and which call is whose.
 
-ghost use Rattle.std.specs.Prelude.{◌≡◌, ◌≢◌, ◌+◌, ◌<◌, ◌≤◌, ◌↔◌, [], ◌∷◌, ◌++◌, length, true, false, IsTrue, IsOk, IfOk, IfErr, OnOk, OnErr, MatchOption, Some, None};
+ghost use Rattle.std.specs.Prelude.{◌≡◌, ◌≢◌, ℕ, ◌+◌, ◌<◌, ◌≤◌, ◌↔◌, [], ◌∷◌, ◌++◌, length, true, false, IsTrue, IsOk, IfOk, IfErr, OnOk, OnErr, MatchOption, Some, None};
 ghost use Rattle.tl_instr.specs.declared.operand.TheConstants.{MAX_ARGS};
 ghost use Rattle.tl_protocol.specs.History.{is_done, IsOpen};
 ghost use Rattle.tl_protocol.specs.Holders.{holder_of};
@@ -8,18 +8,23 @@ ghost use Rattle.tl_procedures.specs.Names.{naming_refusal};
 ghost use Rattle.tl_procedures.specs.declared.fault.NamingFault.TheVariants as naming;
 ghost use Rattle.tl_procedures.specs.declared.procedures.TheConstants.{MAX_NAME};
 ghost use Rattle.tl_core.specs.declared.fault.CoreFault.TheVariants as core_fault;
-ghost use Rattle.tl_core.specs.Cores.{call_of};
+ghost use Rattle.tl_protocol.specs.World.{reply_of};
+ghost use Rattle.tl_machine.specs.Turns.{Stops};
+ghost use Rattle.tl_machine.specs.declared.want.Stop.TheVariants as stop;
+ghost use Rattle.tl_core.specs.Cores.{kept_turn, world_of};
 ghost use Rattle.tl_table.specs.declared.fault.TableFault.TheVariants as fault;
 ghost use Rattle.tl_table.specs.Ends.{EndsBefore, begun_by_end};
-ghost use Rattle.tl_table.specs.Tables.{seen, owner_of, Stands, IsAtRest, IsKnown, table_refusal, with_admission};
+ghost use Rattle.tl_table.specs.Tables.{seen, Stands, IsAtRest, IsKnown, table_refusal, IsAdmittedTo};
+ghost use Rattle.tl_table.specs.Sent.{IsSent, IsUnblocked, IsSubmitFault, IsOfCall};
 
 use crate::fault::TableFault;
-use crate::receipt::Receipt;
+use crate::receipt::{Receipt, Sent};
 use arrayvec::ArrayVec;
 use std::alloc::Global;
 use std::marker::Model;
-use tl_core::{Core, CoreFault};
+use tl_core::{Core, CoreFault, Followed};
 use tl_history::MAX_CALLS;
+use tl_machine::{Reply, Segment, Turn};
 use tl_procedures::NamingFault;
 use tl_verify::Proc;
 
@@ -54,7 +59,7 @@ impl Model for Table {
 impl Table {
     /// A table of a core that has no calls yet, without sessions. 890 where memory is refused.
     pub fn new(alloc: Global, core: Core) -> Result<Table, TableFault>
-        requires { core.calls ≡ [] }
+        requires { core.seen.calls ≡ [] }
         ensures ok { IfOk result (λ t. t ≡ record { core = core; sessions = 0; owners = [] }) }
         ensures err { IfErr result (λ e. e ≡ fault.Memory) }
     {
@@ -110,7 +115,7 @@ impl Table {
     pub fn admit(&mut self, session: u32, name: &str, args: &[i64]) -> Result<u32, TableFault>
         ensures number { IfOk result (λ n. n ≡ length (seen self.old).calls) }
         ensures free { IfOk result (λ _. table_refusal self.old session name.now args.now ≡ None) }
-        ensures after { OnOk result (self.new ≡ with_admission self.old session name.now args.now) }
+        ensures after { OnOk result (IsAdmittedTo self.old session name.now args.now self.new) }
         ensures short { OnOk result (length name.now ≤ MAX_NAME) }
         ensures few { OnOk result (length args.now ≤ MAX_ARGS) }
         ensures fault { IfErr result (λ e. e ≢ fault.Memory → table_refusal self.old session name.now args.now ≡ Some e) }
@@ -126,8 +131,7 @@ impl Table {
             Ok(call) => {
                 // At most so many calls: here a proof learns that.
                 let _calls = self.core.calls();
-                let (procedure, _args) = self.core.request(call);
-                let _arity = self.core.proc(procedure).code().arity();
+                let _request = self.core.request(call);
                 self.owners.push_reserved(session);
                 self.begun.push_reserved(0);
                 Ok(call)
@@ -154,25 +158,84 @@ impl Table {
         requires { IsKnown self.now call }
         ensures { MatchOption result (is_done call (seen self.now).past ≡ false) (λ r. (r.call ≡ call) × Stands self.now r) }
     {
-        let values = self.core.reply(call)?.values();
+        let reply = self.core.reply(call)?;
+        Some(self.told(call, reply))
+    }
+
+    // The receipt of a call that is done and has this reply.
+    fn told(&self, call: u32, answered: &Reply) -> Receipt
+        requires known { IsKnown self.now call }
+        requires done { is_done call (seen self.now).past ≡ true }
+        requires reply { answered.now ≡ reply_of (world_of (seen self.now)) call }
+        ensures { (result.call ≡ call) × Stands self.now result }
+    {
         let (procedure, given) = self.core.request(call);
-        // The code is accepted, and has at most eight arguments, by its type: here a proof learns that.
-        let _arity = self.core.proc(procedure).code().arity();
         let mut args = ArrayVec::new();
         let Ok(()) = args.try_extend_from_slice(given) else {
             unreachable!()
         };
         let mut reply = ArrayVec::new();
-        let Ok(()) = reply.try_extend_from_slice(values) else {
+        let Ok(()) = reply.try_extend_from_slice(answered.values()) else {
             unreachable!()
         };
-        Some(Receipt {
+        Receipt {
             session: self.owners[call as usize],
             call,
             procedure,
             args,
             reply,
-        })
+        }
+    }
+
+    /// The turn at which a call is; that of a call that is done wants nothing more. 602 where no call of that number was
+    /// admitted; else 890 where memory is refused.
+    pub fn state(&self, call: u32) -> Result<Turn, TableFault>
+        ensures known { IfOk result (λ _. IsKnown self.now call) }
+        ensures kept { IfOk result (λ t. is_done call (seen self.now).past ≡ false → kept_turn self.now.core call ≡ Some t) }
+        ensures over { IfOk result (λ t. is_done call (seen self.now).past ≡ true → Stops t stop.Over) }
+        ensures fault { IfErr result (λ e. e ≢ fault.Memory → (e ≡ fault.Core core_fault.NoCall) × (length (seen self.now).calls ≤ call)) }
+        ensures memory { IfErr result (λ e. e ≡ fault.Memory → IsKnown self.now call) }
+    {
+        // The calls are those that were admitted: here a proof learns that.
+        let _calls = self.core.calls();
+        match self.core.turn(call) {
+            Ok(turn) => Ok(turn),
+            Err(CoreFault::Memory) => Err(TableFault::Memory),
+            Err(fault) => Err(TableFault::Core(fault)),
+        }
+    }
+
+    /// Lets a call do the instructions of a segment, which were done elsewhere, and then the lock, free or return where the
+    /// segment stops. 602 where no call of that number was admitted; 801 where the segment doesn't begin at the turn at which
+    /// the call is, or the call is done. Blocked, and nothing changed, where the stop is a lock of a node that another call
+    /// holds. Takes no memory.
+    pub fn submit(&mut self, call: u32, segment: Segment) -> Result<Sent, TableFault>
+        ensures from { IfOk result (λ _. kept_turn self.old.core call ≡ Some segment.from) }
+        ensures sent { IfOk result (λ s. IsSent self.old call segment s self.new) }
+        ensures unhindered { IfOk result (λ s. IsUnblocked self.old segment s) }
+        ensures turns { (c : ℕ) → c ≢ call → kept_turn self.new.core c ≡ kept_turn self.old.core c }
+        ensures sessions { (self.new.sessions ≡ self.old.sessions) × (self.new.owners ≡ self.old.owners) }
+        ensures call { IfOk result (IsOfCall call) }
+        ensures fault { IfErr result (λ e. IsSubmitFault self.old call segment e) }
+        ensures err { OnErr result (self.new ≡ self.old) }
+    {
+        // What is so of the call before: here a proof learns that.
+        self.core.is_sound();
+        let _calls = self.core.calls();
+        match self.core.follow(call, segment) {
+            Ok(Followed::Went(turn)) => {
+                // And what is so of it now.
+                self.core.is_sound();
+                Ok(Sent::Went(turn))
+            }
+            Ok(Followed::Blocked { .. }) => Ok(Sent::Blocked),
+            Ok(Followed::Finished(reply)) => {
+                self.begun[call as usize] = self.core.calls() as u32;
+                Ok(Sent::Finished(self.told(call, &reply)))
+            }
+            Err(CoreFault::NotFrom) => Err(TableFault::Stale),
+            Err(fault) => Err(TableFault::Core(fault)),
+        }
     }
 
     /// Whether the call was admitted and isn't done. Takes no memory.

@@ -8,7 +8,7 @@ use Rattle.tl_table.proofs.table.Closed.ends_before.Goals as goal
 pub returns : goal.returns
 returns c =
     let v = c.args.self.now in
-    let same : c.core.result.now ≡ seen v = c.core.ensures ∙ ap seen c.self.view_is in
+    let same : c.core.result.now.seen ≡ seen v = ap (λ s. s.seen) c.core.ensures ∙ ap seen c.self.view_is in
     let counted : length (seen v).calls ≡ admits (seen v).past = subst (λ w. length w.calls ≡ admits w.past) same c.is_sound.ensures.counted in
     let turn : InTurn (seen v).past = subst (λ w. InTurn w.past) same c.is_sound.ensures.legal.in_turn in
     let first : c.args.first < admits (seen v).past = omega (arith, c.requires.0, counted) in
