@@ -1,0 +1,4 @@
+pub mod Admitted
+pub mod Ended
+pub mod Receipts
+pub mod Submitted

@@ -1,0 +1,34 @@
+-- What comes of a segment that is submitted to a table.
+use Rattle.std.specs.Prelude.{◌≡◌, ◌≢◌, ℕ, ◌≤◌, ◌⊎◌, Some, length}
+use Rattle.tl_machine.specs.Turns.{SegmentValue}
+use Rattle.tl_core.specs.declared.fault.CoreFault.TheVariants.{NoCall}
+use Rattle.tl_core.specs.Cores.{kept_turn}
+use Rattle.tl_core.specs.Followed.{HasGone, IsInTheWay}
+use Rattle.tl_table.specs.declared.fault.TableFault.{TableFault}
+use Rattle.tl_table.specs.declared.fault.TableFault.TheVariants as fault
+use Rattle.tl_table.specs.declared.receipt.Sent.{Sent}
+use Rattle.tl_table.specs.declared.receipt.Sent.TheVariants.{Went, Blocked, Finished}
+use Rattle.tl_table.specs.Tables.{TableValue, seen, IsKnown, Stands}
+
+-- blocked where another call is in the way, and nothing is changed; else the call has done the segment's local actions and
+-- that of its stop, and goes on at a turn, or is done, and this is its receipt
+abbrev pub IsSent : TableValue → ℕ → SegmentValue → Sent → TableValue → Type 0
+IsSent t c segment (Went turn) u = HasGone t.core c segment u.core × (kept_turn u.core c ≡ Some turn)
+IsSent t c segment Blocked u = ((x : ℕ) × (d : ℕ) × IsInTheWay (seen t) segment.stop x d) × (u ≡ t)
+IsSent t c segment (Finished r) u = HasGone t.core c segment u.core × (r.call ≡ c) × Stands u r
+
+-- nobody is in the way of a call that wasn't blocked
+abbrev pub IsUnblocked : TableValue → SegmentValue → Sent → Type 0
+IsUnblocked t segment Blocked = Unit {0}
+IsUnblocked t segment sent = (x d : ℕ) → IsInTheWay (seen t) segment.stop x d → ⊥
+
+-- a receipt is that of the call
+abbrev pub IsOfCall : ℕ → Sent → Type 0
+IsOfCall c (Finished r) = r.call ≡ c
+IsOfCall c sent = Unit {0}
+
+-- 602 where the call wasn't admitted, 801 where the segment doesn't begin at the turn that is kept of it
+abbrev pub IsSubmitFault : TableValue → ℕ → SegmentValue → TableFault → Type 0
+IsSubmitFault t c segment e =
+    ((e ≡ fault.Core NoCall) × (length (seen t).calls ≤ c))
+    ⊎ ((e ≡ fault.Stale) × IsKnown t c × (kept_turn t.core c ≢ Some segment.from))

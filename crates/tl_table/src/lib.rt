@@ -1,0 +1,14 @@
+//! A core with sessions.
+//!
+//! A `Table` has a core, and knows of each call whose it is: that of the session that asked for it. Whoever runs a call
+//! takes its state, lets it go on by itself, and submits what it did. Once every call is done the table can be closed, and
+//! then it says of a receipt whether it stands.
+#![tactic(auto)]
+
+mod fault;
+mod receipt;
+mod table;
+
+pub use fault::TableFault;
+pub use receipt::{Receipt, Sent};
+pub use table::{Closed, MAX_SESSIONS, Table};

@@ -1,0 +1,368 @@
+// A core, its sessions, and which call is whose.
+
+ghost use Rattle.std.specs.Prelude.{◌≡◌, ◌≢◌, ℕ, ◌+◌, ◌<◌, ◌≤◌, ◌↔◌, [], ◌∷◌, ◌++◌, length, true, false, IsTrue, IsOk, IfOk, IfErr, OnOk, OnErr, MatchOption, Some, None};
+ghost use Rattle.tl_instr.specs.declared.operand.TheConstants.{MAX_ARGS};
+ghost use Rattle.tl_protocol.specs.History.{is_done, IsOpen};
+ghost use Rattle.tl_protocol.specs.Holders.{holder_of};
+ghost use Rattle.tl_procedures.specs.Names.{naming_refusal};
+ghost use Rattle.tl_procedures.specs.declared.fault.NamingFault.TheVariants as naming;
+ghost use Rattle.tl_procedures.specs.declared.procedures.TheConstants.{MAX_NAME};
+ghost use Rattle.tl_core.specs.declared.fault.CoreFault.TheVariants as core_fault;
+ghost use Rattle.tl_protocol.specs.World.{reply_of};
+ghost use Rattle.tl_machine.specs.Turns.{Stops};
+ghost use Rattle.tl_machine.specs.declared.want.Stop.TheVariants as stop;
+ghost use Rattle.tl_core.specs.Cores.{kept_turn, world_of};
+ghost use Rattle.tl_table.specs.declared.fault.TableFault.TheVariants as fault;
+ghost use Rattle.tl_table.specs.Ends.{EndsBefore, begun_by_end};
+ghost use Rattle.tl_table.specs.Tables.{seen, Stands, IsAtRest, IsKnown, table_refusal, IsAdmittedTo};
+ghost use Rattle.tl_table.specs.Sent.{IsSent, IsUnblocked, IsSubmitFault, IsOfCall};
+
+use crate::fault::TableFault;
+use crate::receipt::{Receipt, Sent};
+use arrayvec::ArrayVec;
+use std::alloc::Global;
+use std::marker::Model;
+use tl_core::{Core, CoreFault, Followed};
+use tl_history::MAX_CALLS;
+use tl_machine::{Reply, Segment, Turn};
+use tl_procedures::NamingFault;
+use tl_verify::Proc;
+
+/// How many sessions a table gives at most.
+pub const MAX_SESSIONS: u32 = 65_535;
+
+/// A core with sessions.
+///
+/// A contract sees the core, how many sessions were given, and of each call its session.
+#[derive(Debug, Drop)]
+pub struct Table {
+    core: Core,
+    sessions: u32,
+    // By call. Here and below there is memory for 4,096 from the start.
+    owners: Vec<u32>,
+    // Of each done call how many calls had been admitted when it ended.
+    begun: Vec<u32>,
+}
+
+impl Model for Table {
+    ghost use Rattle.std.specs.Prelude.{vec_capacity};
+    ghost use Rattle.tl_table.specs.Tables.{TableValue};
+    ghost use Rattle.tl_table.specs.Stored.{IsTable};
+
+    ghost Value = { TableValue };
+
+    ghost view = { λ t. record { core = t.core; sessions = t.sessions; owners = t.owners.items } };
+
+    ghost invariant = { λ t. IsTable (record { core = t.core; sessions = t.sessions; owners = t.owners.items }) t.begun.items (vec_capacity t.owners) (vec_capacity t.begun) };
+}
+
+impl Table {
+    /// A table of a core that has no calls yet, without sessions. 890 where memory is refused.
+    pub fn new(alloc: Global, core: Core) -> Result<Table, TableFault>
+        requires { core.seen.calls ≡ [] }
+        ensures ok { IfOk result (λ t. t ≡ record { core = core; sessions = 0; owners = [] }) }
+        ensures err { IfErr result (λ e. e ≡ fault.Memory) }
+    {
+        let Ok(owners) = Vec::with_capacity(alloc, MAX_CALLS) else {
+            return Err(TableFault::Memory);
+        };
+        let Ok(begun) = Vec::with_capacity(alloc, MAX_CALLS) else {
+            return Err(TableFault::Memory);
+        };
+        Ok(Table {
+            core,
+            sessions: 0,
+            owners,
+            begun,
+        })
+    }
+
+    /// A new session's number: sessions are numbered from 0. 821 where 65,535 were given. Takes no memory.
+    pub fn session(&mut self) -> Result<u32, TableFault>
+        ensures number { IfOk result (λ n. n ≡ self.old.sessions) }
+        ensures counted { OnOk result (self.new ≡ record self.old { sessions = self.old.sessions + 1 }) }
+        ensures full { IsOk result ↔ (self.old.sessions < MAX_SESSIONS) }
+        ensures fault { IfErr result (λ e. e ≡ fault.TooManySessions) }
+        ensures err { OnErr result (self.new ≡ self.old) }
+    {
+        if self.sessions >= MAX_SESSIONS {
+            return Err(TableFault::TooManySessions);
+        }
+        let number = self.sessions;
+        self.sessions += 1;
+        Ok(number)
+    }
+
+    /// Takes up a procedure under a name, as the core does: 612, 611, 613, 690.
+    pub fn add_proc(
+        &mut self,
+        alloc: Global,
+        name: &str,
+        procedure: Proc,
+    ) -> Result<u32, NamingFault>
+        ensures number { IfOk result (λ n. n ≡ length (seen self.old).procedures) }
+        ensures free { IfOk result (λ _. naming_refusal (seen self.old).procedures name.now ≡ None) }
+        ensures last { OnOk result (seen self.new ≡ record (seen self.old) { procedures = (seen self.old).procedures ++ record { name = name.now; code = procedure } ∷ [] }) }
+        ensures same { (self.new.sessions ≡ self.old.sessions) × (self.new.owners ≡ self.old.owners) }
+        ensures fault { IfErr result (λ e. e ≢ naming.Memory → naming_refusal (seen self.old).procedures name.now ≡ Some e) }
+        ensures memory { IfErr result (λ e. e ≡ naming.Memory → naming_refusal (seen self.old).procedures name.now ≡ None) }
+        ensures err { OnErr result (self.new ≡ self.old) }
+    {
+        self.core.add_proc(alloc, name, procedure)
+    }
+
+    /// Admits a call for a session, and answers its number. 803 where no session of that number was given; then what the
+    /// core refuses, 601, 501, 603, 604, 605 in this order; else 890 where memory is refused. A refusal changes nothing.
+    pub fn admit(
+        &mut self,
+        alloc: Global,
+        session: u32,
+        name: &str,
+        args: &[i64],
+    ) -> Result<u32, TableFault>
+        ensures number { IfOk result (λ n. n ≡ length (seen self.old).calls) }
+        ensures free { IfOk result (λ _. table_refusal self.old session name.now args.now ≡ None) }
+        ensures after { OnOk result (IsAdmittedTo self.old session name.now args.now self.new) }
+        ensures short { OnOk result (length name.now ≤ MAX_NAME) }
+        ensures few { OnOk result (length args.now ≤ MAX_ARGS) }
+        ensures fault { IfErr result (λ e. e ≢ fault.Memory → table_refusal self.old session name.now args.now ≡ Some e) }
+        ensures memory { IfErr result (λ e. e ≡ fault.Memory → table_refusal self.old session name.now args.now ≡ None) }
+        ensures err { OnErr result (self.new ≡ self.old) }
+    {
+        if session >= self.sessions {
+            return Err(TableFault::NoSession);
+        }
+        // The calls are those that were admitted, and each name was free, so it is short: here a proof learns that.
+        self.core.is_sound();
+        let _count = self.core.procedures().len();
+        match self.core.admit(alloc, name, args) {
+            Ok(call) => {
+                // At most so many calls: here a proof learns that.
+                let _calls = self.core.calls();
+                let _request = self.core.request(call);
+                self.owners.push_reserved(session);
+                self.begun.push_reserved(0);
+                Ok(call)
+            }
+            Err(CoreFault::Memory) => Err(TableFault::Memory),
+            Err(fault) => Err(TableFault::Core(fault)),
+        }
+    }
+
+    /// The receipt of a call, once it is done. 602 where no call of that number was admitted. Takes no memory.
+    pub fn receipt(&self, call: u32) -> Result<Option<Receipt>, TableFault>
+        ensures known { IsOk result ↔ IsKnown self.now call }
+        ensures receipt { IfOk result (λ o. MatchOption o (is_done call (seen self.now).past ≡ false) (λ r. (r.call ≡ call) × Stands self.now r)) }
+        ensures fault { IfErr result (λ e. e ≡ fault.Core core_fault.NoCall) }
+    {
+        if call as usize >= self.core.calls() {
+            return Err(TableFault::Core(CoreFault::NoCall));
+        }
+        Ok(self.receipt_of(call))
+    }
+
+    // The receipt of a call that was admitted, once it is done.
+    fn receipt_of(&self, call: u32) -> Option<Receipt>
+        requires { IsKnown self.now call }
+        ensures { MatchOption result (is_done call (seen self.now).past ≡ false) (λ r. (r.call ≡ call) × Stands self.now r) }
+    {
+        let reply = self.core.reply(call)?;
+        Some(self.told(call, reply))
+    }
+
+    // The receipt of a call that is done and has this reply.
+    fn told(&self, call: u32, answered: &Reply) -> Receipt
+        requires known { IsKnown self.now call }
+        requires done { is_done call (seen self.now).past ≡ true }
+        requires reply { answered.now ≡ reply_of (world_of (seen self.now)) call }
+        ensures { (result.call ≡ call) × Stands self.now result }
+    {
+        let (procedure, given) = self.core.request(call);
+        let mut args = ArrayVec::new();
+        let Ok(()) = args.try_extend_from_slice(given) else {
+            unreachable!()
+        };
+        let mut reply = ArrayVec::new();
+        let Ok(()) = reply.try_extend_from_slice(answered.values()) else {
+            unreachable!()
+        };
+        Receipt {
+            session: self.owners[call as usize],
+            call,
+            procedure,
+            args,
+            reply,
+        }
+    }
+
+    /// The turn at which a call is; that of a call that is done wants nothing more. 602 where no call of that number was
+    /// admitted; else 890 where memory is refused.
+    pub fn state(&self, call: u32) -> Result<Turn, TableFault>
+        ensures known { IfOk result (λ _. IsKnown self.now call) }
+        ensures kept { IfOk result (λ t. is_done call (seen self.now).past ≡ false → kept_turn self.now.core call ≡ Some t) }
+        ensures over { IfOk result (λ t. is_done call (seen self.now).past ≡ true → Stops t stop.Over) }
+        ensures fault { IfErr result (λ e. e ≢ fault.Memory → (e ≡ fault.Core core_fault.NoCall) × (length (seen self.now).calls ≤ call)) }
+        ensures memory { IfErr result (λ e. e ≡ fault.Memory → IsKnown self.now call) }
+    {
+        // The calls are those that were admitted: here a proof learns that.
+        let _calls = self.core.calls();
+        match self.core.turn(call) {
+            Ok(turn) => Ok(turn),
+            Err(CoreFault::Memory) => Err(TableFault::Memory),
+            Err(fault) => Err(TableFault::Core(fault)),
+        }
+    }
+
+    /// Lets a call do the instructions of a segment, which were done elsewhere, and then the lock, free or return where the
+    /// segment stops. 602 where no call of that number was admitted; 801 where the segment doesn't begin at the turn at which
+    /// the call is, or the call is done. Blocked, and nothing changed, where the stop is a lock of a node that another call
+    /// holds. Takes no memory.
+    pub fn submit(&mut self, call: u32, segment: Segment) -> Result<Sent, TableFault>
+        ensures from { IfOk result (λ _. kept_turn self.old.core call ≡ Some segment.from) }
+        ensures sent { IfOk result (λ s. IsSent self.old call segment s self.new) }
+        ensures unhindered { IfOk result (λ s. IsUnblocked self.old segment s) }
+        ensures turns { (c : ℕ) → c ≢ call → kept_turn self.new.core c ≡ kept_turn self.old.core c }
+        ensures sessions { (self.new.sessions ≡ self.old.sessions) × (self.new.owners ≡ self.old.owners) }
+        ensures call { IfOk result (IsOfCall call) }
+        ensures fault { IfErr result (λ e. IsSubmitFault self.old call segment e) }
+        ensures err { OnErr result (self.new ≡ self.old) }
+    {
+        // What is so of the call before: here a proof learns that.
+        self.core.is_sound();
+        let _calls = self.core.calls();
+        match self.core.follow(call, segment) {
+            Ok(Followed::Went(turn)) => {
+                // And what is so of it now.
+                self.core.is_sound();
+                Ok(Sent::Went(turn))
+            }
+            Ok(Followed::Blocked { .. }) => Ok(Sent::Blocked),
+            Ok(Followed::Finished(reply)) => {
+                self.begun[call as usize] = self.core.calls() as u32;
+                Ok(Sent::Finished(self.told(call, &reply)))
+            }
+            Err(CoreFault::NotFrom) => Err(TableFault::Stale),
+            Err(fault) => Err(TableFault::Core(fault)),
+        }
+    }
+
+    /// Whether the call was admitted and isn't done. Takes no memory.
+    pub fn is_unfinished(&self, call: u32) -> bool
+        ensures { IsTrue result ↔ IsOpen call (seen self.now).past }
+    {
+        // The calls are those that were admitted: here a proof learns that.
+        (call as usize) < self.core.calls() && self.core.reply(call).is_none()
+    }
+
+    /// Whether a call holds the node. Takes no memory.
+    pub fn is_held(&self, node: u16) -> bool
+        ensures { node < length (seen self.now).parents → IsTrue result ↔ (holder_of (seen self.now).past node ≢ None) }
+    {
+        node < self.core.opening().shape().node_count() && self.core.holder(node).is_some()
+    }
+
+    /// The core.
+    pub fn core(&self) -> &Core
+        ensures { result.now ≡ self.now.core }
+    {
+        &self.core
+    }
+
+    // How many calls had been admitted when this one ended.
+    fn begun_by_end(&self, call: u32) -> u32
+        requires known { IsKnown self.now call }
+        requires done { is_done call (seen self.now).past ≡ true }
+        ensures number { result ≡ begun_by_end call (seen self.now).past }
+    {
+        self.begun[call as usize]
+    }
+
+    // Of each call its session.
+    fn owners(&self) -> &[u32]
+        ensures same { result.now ≡ self.now.owners }
+        ensures each { length self.now.owners ≡ length (seen self.now).calls }
+    {
+        self.owners.as_slice()
+    }
+
+    /// The table closed, where every call is done; else the same table. Takes no memory.
+    pub fn close(self) -> Result<Closed, Table>
+        ensures ok { IfOk result (λ c. (c ≡ self) × IsAtRest self) }
+        ensures err { IfErr result (λ t. (t ≡ self) × ¬ IsAtRest self) }
+    {
+        if self.core.some_enabled().is_some() {
+            return Err(self);
+        }
+        Ok(Closed { table: self })
+    }
+}
+
+/// A table whose calls are all done.
+#[derive(Debug, Drop)]
+pub struct Closed {
+    table: Table,
+}
+
+impl Model for Closed {
+    ghost use Rattle.tl_table.specs.Tables.{TableValue, IsAtRest};
+
+    ghost Value = { TableValue };
+
+    ghost view = { λ c. c.table };
+
+    ghost invariant = { λ c. IsAtRest c.table };
+}
+
+impl Closed {
+    /// Whether the call of the receipt's number is done, and has the receipt's session, procedure, arguments and reply.
+    pub fn stands(&self, receipt: &Receipt) -> bool
+        ensures { IsTrue result ↔ Stands self.now receipt.now }
+    {
+        match self.table.receipt(receipt.call) {
+            Ok(Some(own)) => own.is(receipt),
+            _ => false,
+        }
+    }
+
+    /// The core. Every call of it is done.
+    pub fn core(&self) -> &Core
+        ensures same { result.now ≡ self.now.core }
+        ensures done { IsAtRest self.now }
+    {
+        self.table.core()
+    }
+
+    /// Of each call its session.
+    pub fn owners(&self) -> &[u32]
+        ensures same { result.now ≡ self.now.owners }
+        ensures each { length self.now.owners ≡ length (seen self.now).calls }
+    {
+        self.table.owners()
+    }
+
+    /// How many calls had been admitted when this one ended.
+    pub fn begun_by_end(&self, call: u32) -> u32
+        requires { IsKnown self.now call }
+        ensures number { result ≡ begun_by_end call (seen self.now).past }
+    {
+        // The calls are those that were admitted: here a proof learns that.
+        let _calls = self.table.core().calls();
+        self.table.begun_by_end(call)
+    }
+
+    /// Whether the end of the first call stands before the admission of the second.
+    pub fn ends_before(&self, first: u32, second: u32) -> bool
+        requires { IsKnown self.now first × IsKnown self.now second }
+        ensures { IsTrue result ↔ EndsBefore (seen self.now).past first second }
+    {
+        self.table.core().is_sound();
+        self.begun_by_end(first) <= second
+    }
+
+    /// The table.
+    pub fn into_table(self) -> Table
+        ensures { result ≡ self }
+    {
+        self.table
+    }
+}

@@ -1,0 +1,3 @@
+pub mod Askings
+pub mod Calls
+pub mod Turns

@@ -1,0 +1,67 @@
+-- What a session's holder did.
+use Rattle.std.specs.Prelude.{◌≡◌, ℕ, List, [], ◌∷◌, ◌++◌, Ok, Err, Result, ℤ, string_bytes}
+use Rattle.tl_table.specs.declared.receipt.Receipt.{Receipt}
+use Rattle.tl_workers.specs.declared.asking.Asking.{Asking}
+use Rattle.tl_workers.specs.declared.asking.Request.{Request}
+use Rattle.tl_workers.specs.declared.refusal.Refusal.{Refusal}
+use Rattle.tl_workers.specs.declared.session.Did.{Did}
+use Rattle.tl_workers.specs.declared.session.Did.TheVariants.{Asked, Got}
+
+-- a session: its number, what its holder asked for and got, and for how much more there is room
+pub record SessionValue : Type 0 where
+  pub number : ℕ
+  pub kept : List Did
+  pub room : ℕ
+
+-- the same session, whose holder did this more
+pub record Gains (old new : SessionValue) (more : List Did) : Type 0 where
+  pub number : new.number ≡ old.number
+  pub kept : new.kept ≡ old.kept ++ more
+
+abbrev pub asking : ℕ → List ℕ → List ℤ → Asking
+asking call name args = record { call = call; name = name; args = record { items = args } }
+
+-- one call: asked for, then got
+abbrev pub call_of : List ℕ → List ℤ → Receipt → List Did
+call_of name args r = Asked (asking r.call name args) ∷ Got r ∷ []
+
+-- each Ok answers the request at its place
+abbrev pub AnswersEach : List Request → List (Result Receipt Refusal) → Type 0
+AnswersEach [] [] = Unit {0}
+AnswersEach [] (r ∷ rs) = ⊥
+AnswersEach (q ∷ qs) [] = ⊥
+AnswersEach (q ∷ qs) (Ok r ∷ rs) = (r.args.items ≡ q.args.items) × AnswersEach qs rs
+AnswersEach (q ∷ qs) (Err e ∷ rs) = AnswersEach qs rs
+
+-- the requests that were answered Ok, as they were asked for
+abbrev pub asked_of : List Request → List (Result Receipt Refusal) → List Did
+asked_of (q ∷ qs) (Ok r ∷ rs) = Asked (asking r.call (string_bytes q.name) q.args.items) ∷ asked_of qs rs
+asked_of (q ∷ qs) (Err e ∷ rs) = asked_of qs rs
+asked_of qs rs = []
+
+-- their receipts
+abbrev pub gots_of : List (Result Receipt Refusal) → List Did
+gots_of [] = []
+gots_of (Ok r ∷ rs) = Got r ∷ gots_of rs
+gots_of (Err e ∷ rs) = gots_of rs
+
+-- the requests as they were asked for, where they were admitted
+abbrev pub AdmittedEach : List Request → List (Result Asking Refusal) → Type 0
+AdmittedEach [] [] = Unit {0}
+AdmittedEach [] (a ∷ rest) = ⊥
+AdmittedEach (q ∷ qs) [] = ⊥
+AdmittedEach (q ∷ qs) (Ok a ∷ rest) = (a.name ≡ string_bytes q.name) × (a.args.items ≡ q.args.items) × AdmittedEach qs rest
+AdmittedEach (q ∷ qs) (Err e ∷ rest) = AdmittedEach qs rest
+
+-- a receipt for each call that was admitted
+abbrev pub ReceiptsEach : List (Result Asking Refusal) → List (Result Receipt Refusal) → Type 0
+ReceiptsEach [] [] = Unit {0}
+ReceiptsEach (Ok a ∷ rest) (Ok r ∷ rs) = (r.call ≡ a.call) × (r.args.items ≡ a.args.items) × ReceiptsEach rest rs
+ReceiptsEach (Err e ∷ rest) (Err f ∷ rs) = ReceiptsEach rest rs
+ReceiptsEach rest rs = ⊥
+
+-- the calls that were admitted
+abbrev pub askings_of : List (Result Asking Refusal) → List Did
+askings_of [] = []
+askings_of (Ok a ∷ rest) = Asked a ∷ askings_of rest
+askings_of (Err e ∷ rest) = askings_of rest

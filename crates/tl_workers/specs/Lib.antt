@@ -1,0 +1,3 @@
+pub mod Kept
+pub mod Matching
+pub mod Refusals

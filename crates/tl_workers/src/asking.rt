@@ -1,0 +1,111 @@
+// What is asked of an engine.
+
+ghost use Rattle.std.specs.Prelude.{◌≡◌, ◌≤◌, ◌↔◌, length, IsTrue};
+ghost use Rattle.tl_instr.specs.declared.operand.TheConstants.{MAX_ARGS};
+ghost use Rattle.tl_procedures.specs.declared.procedures.TheConstants.{MAX_NAME};
+ghost use Rattle.tl_workers.specs.Kept.{asking};
+
+use arrayvec::{ArrayString, ArrayVec};
+use std::marker::Model;
+use tl_instr::MAX_ARGS;
+use tl_procedures::MAX_NAME;
+
+/// A call that is asked for: of the procedure of that name, with these arguments.
+#[derive(Debug, Drop)]
+pub struct Request {
+    pub name: String,
+    pub args: Vec<i64>,
+}
+
+/// The name of a procedure: up to 32 bytes, which need no memory.
+#[derive(Debug, Drop)]
+pub struct Name {
+    text: ArrayString<MAX_NAME>,
+}
+
+impl Model for Name {
+    ghost use Rattle.std.specs.Prelude.{List, ℕ};
+
+    ghost Value = { List ℕ };
+
+    ghost view = { λ n. n.text.bytes };
+}
+
+impl Name {
+    /// The same text as a name.
+    pub fn new(text: &str) -> Name
+        requires { length text.now ≤ MAX_NAME }
+        ensures { result ≡ text.now }
+    {
+        let Ok(text) = ArrayString::from(text) else {
+            unreachable!()
+        };
+        Name { text }
+    }
+
+    /// The name as a text.
+    pub fn as_str(&self) -> &str
+        ensures same { result.now ≡ self.now }
+        ensures short { length self.now ≤ MAX_NAME }
+    {
+        self.text.as_str()
+    }
+}
+
+/// A call that was admitted, as its session's holder asked for it: plain data.
+#[derive(Debug, Drop)]
+pub struct Asking {
+    /// The number of the call.
+    pub call: u32,
+    /// The name of its procedure.
+    pub name: Name,
+    /// What it was given.
+    pub args: ArrayVec<i64, MAX_ARGS>,
+}
+
+impl Asking {
+    /// What was asked for, of an admitted call. Takes no memory.
+    pub fn new(call: u32, name: &str, args: &[i64]) -> Asking
+        requires name { length name.now ≤ MAX_NAME }
+        requires args { length args.now ≤ MAX_ARGS }
+        ensures { result ≡ asking call name.now args.now }
+    {
+        Asking {
+            call,
+            name: Name::new(name),
+            args: values_of(args),
+        }
+    }
+
+    /// Whether it is that call of a procedure of that name, with these arguments.
+    pub fn is(&self, call: u32, name: &str, args: &[i64]) -> bool
+        ensures { IsTrue result ↔ (self.now ≡ asking call name.now args.now) }
+    {
+        if self.call != call {
+            return false;
+        }
+        if self.name.as_str() != name {
+            return false;
+        }
+        self.args.as_slice() == args
+    }
+
+    /// The same again. Takes no memory.
+    pub fn copy(&self) -> Asking
+        ensures { result ≡ self.now }
+    {
+        Asking::new(self.call, self.name.as_str(), self.args.as_slice())
+    }
+}
+
+// The arguments as they are kept.
+pub(crate) fn values_of(args: &[i64]) -> ArrayVec<i64, MAX_ARGS>
+    requires { length args.now ≤ MAX_ARGS }
+    ensures { result.items ≡ args.now }
+{
+    let mut values = ArrayVec::new();
+    let Ok(()) = values.try_extend_from_slice(args) else {
+        unreachable!()
+    };
+    values
+}

@@ -1,0 +1,94 @@
+// A table that threads share.
+
+ghost use Rattle.std.specs.Prelude.{◌≡◌, [], IfOk, IfErr, All};
+ghost use Rattle.tl_workers.specs.Matching.{Matches, DoesNotClose};
+
+use crate::matching::all_match;
+use crate::refusal::Refusal;
+use crate::session::Session;
+use std::alloc::Global;
+use std::collections::VecDeque;
+use std::sync::{Condvar, Mutex, Wait};
+use tl_core::{Core, MAX_OPEN};
+use tl_procedures::NamingFault;
+use tl_table::{Closed, Table, TableFault};
+use tl_tree::Tree;
+use tl_verify::Proc;
+
+/// A table that threads share.
+///
+/// By its type the table is a core with a legal history, each call of which has a session of this engine. A function that
+/// takes the lock can say of the table no more than that.
+#[derive(Drop)]
+pub struct Engine {
+    pub(crate) table: Mutex<Table>,
+    // The calls that were admitted in batches and that nobody runs yet.
+    pub(crate) ready: Mutex<VecDeque<u32>>,
+    // Told after a node was freed, a call ended, or calls became ready.
+    pub(crate) moved: Condvar,
+}
+
+impl Engine {
+    /// An engine for calls on the tree, without procedures. 690, 890, 990 where memory is refused.
+    pub fn new(alloc: Global, tree: Tree) -> Result<Engine, Refusal> {
+        let core = match Core::new(alloc, tree) {
+            Ok(core) => core,
+            Err(fault) => return Err(Refusal::Table(TableFault::Core(fault))),
+        };
+        let table = match Table::new(alloc, core) {
+            Ok(table) => table,
+            Err(fault) => return Err(Refusal::Table(fault)),
+        };
+        let ready = VecDeque::with_capacity(alloc, MAX_OPEN)?;
+        Ok(Engine {
+            table: Mutex::new(table),
+            ready: Mutex::new(ready),
+            moved: Condvar::new(),
+        })
+    }
+
+    /// A new session, with which nothing was asked for yet. 821.
+    pub fn session(&self, rt: &impl Wait, alloc: Global) -> Result<Session, Refusal>
+        ensures { IfOk result (λ s. s.kept ≡ []) }
+    {
+        match self.table.lock(rt).session() {
+            Ok(number) => Ok(Session::new(alloc, number)),
+            Err(fault) => Err(Refusal::Table(fault)),
+        }
+    }
+
+    /// Takes up a procedure under a name, and answers its number: 612, 611, 613, 690.
+    pub fn register(
+        &self,
+        rt: &impl Wait,
+        alloc: Global,
+        name: &str,
+        procedure: Proc,
+    ) -> Result<u32, NamingFault> {
+        self.table.lock(rt).add_proc(alloc, name, procedure)
+    }
+
+    /// The closed table, where every call is done and each session's list is what the table says; else the table. The
+    /// sessions come back as they were. Takes no memory.
+    pub fn close(
+        self,
+        sessions: Vec<Session>,
+    ) -> Result<(Closed, Vec<Session>), (Table, Vec<Session>)>
+        ensures ok { IfOk result (λ r. (r.1.items ≡ sessions.items) × All (Matches r.0) r.1.items) }
+        ensures err { IfErr result (λ r. (r.1.items ≡ sessions.items) × DoesNotClose r.0 r.1.items) }
+    {
+        let Engine {
+            table,
+            ready: _,
+            moved: _,
+        } = self;
+        let closed = match table.into_inner().close() {
+            Ok(closed) => closed,
+            Err(table) => return Err((table, sessions)),
+        };
+        if !all_match(&closed, sessions.as_slice()) {
+            return Err((closed.into_table(), sessions));
+        }
+        Ok((closed, sessions))
+    }
+}

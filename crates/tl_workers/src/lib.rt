@@ -1,0 +1,20 @@
+//! Threads that run calls.
+//!
+//! An `Engine` has a table behind a lock. Whoever has a session of it asks for calls, one at a time or many at once, from any
+//! thread. A session keeps what was asked with it and what came of that; at the end the engine is closed, and then each
+//! session's list is compared with what the table says.
+#![tactic(auto)]
+
+mod asking;
+mod engine;
+mod gate;
+mod matching;
+mod refusal;
+mod session;
+
+pub use asking::{Asking, Name, Request};
+pub use engine::Engine;
+pub use gate::{Gate, NoGate};
+pub use matching::matches;
+pub use refusal::Refusal;
+pub use session::{Did, Session};
