@@ -101,7 +101,7 @@ fn the_trace_the_order_and_the_tree_are_printed(rt: HostRuntime) -> Result<(), F
 
 // 64 calls are admitted and a 65th isn't. Then there is a call 63, and no call 64.
 #[test]
-fn at_most_64_calls_are_unfinished(rt: HostRuntime) -> Result<(), Fail> {
+fn at_most_64_calls_are_open(rt: HostRuntime) -> Result<(), Fail> {
     let alloc = rt.alloc();
     let mut moves = String::new(alloc);
     let mut trace = String::new(alloc);
