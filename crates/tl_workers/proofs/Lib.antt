@@ -1,3 +1,4 @@
 pub mod Askings
+pub mod Batches
 pub mod Calls
 pub mod Turns

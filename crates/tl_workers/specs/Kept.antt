@@ -45,6 +45,11 @@ gots_of [] = []
 gots_of (Ok r ∷ rs) = Got r ∷ gots_of rs
 gots_of (Err e ∷ rs) = gots_of rs
 
+-- what was admitted is what the request asks for
+abbrev pub AsksFor : Request → Result Asking Refusal → Type 0
+AsksFor q (Ok a) = (a.name ≡ string_bytes q.name) × (a.args.items ≡ q.args.items)
+AsksFor q (Err e) = Unit {0}
+
 -- the requests as they were asked for, where they were admitted
 abbrev pub AdmittedEach : List Request → List (Result Asking Refusal) → Type 0
 AdmittedEach [] [] = Unit {0}
@@ -52,6 +57,13 @@ AdmittedEach [] (a ∷ rest) = ⊥
 AdmittedEach (q ∷ qs) [] = ⊥
 AdmittedEach (q ∷ qs) (Ok a ∷ rest) = (a.name ≡ string_bytes q.name) × (a.args.items ≡ q.args.items) × AdmittedEach qs rest
 AdmittedEach (q ∷ qs) (Err e ∷ rest) = AdmittedEach qs rest
+
+-- what was answered is the receipt of the call that was admitted
+abbrev pub Answers : Result Asking Refusal → Result Receipt Refusal → Type 0
+Answers (Ok a) (Ok r) = (r.call ≡ a.call) × (r.args.items ≡ a.args.items)
+Answers (Ok a) (Err f) = ⊥
+Answers (Err e) (Ok r) = ⊥
+Answers (Err e) (Err f) = Unit {0}
 
 -- a receipt for each call that was admitted
 abbrev pub ReceiptsEach : List (Result Asking Refusal) → List (Result Receipt Refusal) → Type 0

@@ -6,13 +6,16 @@
 #![tactic(auto)]
 
 mod asking;
+mod batch;
 mod engine;
 mod gate;
 mod matching;
 mod refusal;
+mod running;
 mod session;
 
 pub use asking::{Asking, Name, Request};
+pub use batch::{MAX_REQUESTS, MAX_WORKERS};
 pub use engine::Engine;
 pub use gate::{Gate, NoGate};
 pub use matching::matches;

@@ -14,23 +14,23 @@ begun_after-requires c =
 pub returns-in_default : goal.returns-in_default
 returns-in_default c =
     let t = c.args.closed.now in
-    let turn : InTurn (seen t).past = subst (λ w. InTurn w.past) c.core.ensures.same c.is_sound.ensures.legal.in_turn in
-    let counted : length (seen t).calls ≡ admits (seen t).past = subst (λ w. length w.calls ≡ admits w.past) c.core.ensures.same c.is_sound.ensures.counted in
+    let turn : InTurn (seen t).past = subst (λ w. InTurn w.seen.past) c.core.ensures.same c.is_sound.ensures.legal.in_turn in
+    let counted : length (seen t).calls ≡ admits (seen t).past = subst (λ w. length w.seen.calls ≡ admits w.seen.past) c.core.ensures.same c.is_sound.ensures.counted in
     let here = slice_get_read c.args.kept.now _ c.loop-did.did-index c.did-item.result refl c.loop-did-test.true c.did-item.is in
     ((λ h. absurd (let e : ⊥ = cc in e)), (λ h. absurd (turn_fails t c.args.kept.now turn counted c.requires _ _ c.did-item.result c.loop-did.invariant here (sym c.begun_after.ensures ∙ c.in_default.is) h)))
 
 pub loop-did-preserved : goal.loop-did-preserved
 loop-did-preserved c =
     let t = c.args.closed.now in
-    let turn : InTurn (seen t).past = subst (λ w. InTurn w.past) c.core.ensures.same c.is_sound.ensures.legal.in_turn in
-    let counted : length (seen t).calls ≡ admits (seen t).past = subst (λ w. length w.calls ≡ admits w.past) c.core.ensures.same c.is_sound.ensures.counted in
+    let turn : InTurn (seen t).past = subst (λ w. InTurn w.seen.past) c.core.ensures.same c.is_sound.ensures.legal.in_turn in
+    let counted : length (seen t).calls ≡ admits (seen t).past = subst (λ w. length w.seen.calls ≡ admits w.seen.past) c.core.ensures.same c.is_sound.ensures.counted in
     let here = slice_get_read c.args.kept.now _ c.loop-did.did-index c.did-item.result refl c.loop-did-test.true c.did-item.is in
     turn_more t c.args.kept.now turn counted c.requires _ _ _ c.did-item.result c.loop-did.invariant here (sym c.begun_after.ensures ∙ c.in-Some.is)
 
 pub returns : goal.returns
 returns c =
     let t = c.args.closed.now in
-    let turn : InTurn (seen t).past = subst (λ w. InTurn w.past) c.core.ensures.same c.is_sound.ensures.legal.in_turn in
-    let counted : length (seen t).calls ≡ admits (seen t).past = subst (λ w. length w.calls ≡ admits w.past) c.core.ensures.same c.is_sound.ensures.counted in
+    let turn : InTurn (seen t).past = subst (λ w. InTurn w.seen.past) c.core.ensures.same c.is_sound.ensures.legal.in_turn in
+    let counted : length (seen t).calls ≡ admits (seen t).past = subst (λ w. length w.seen.calls ≡ admits w.seen.past) c.core.ensures.same c.is_sound.ensures.counted in
     let all : c.loop-did.did-index ≡ length c.args.kept.now = omega (arith, c.loop-did-test.false, c.loop-did.auto.did-index-end) in
     ((λ h. turn_all t c.args.kept.now turn counted c.requires _ (subst (λ n. IsInTurnSoFar t c.args.kept.now n c.loop-did.begun) all c.loop-did.invariant)), (λ h. refl))

@@ -32,3 +32,10 @@ told-requires-clause-known c =
     let later : IsLater c.self.inside.core.seen c.args.call c.follow.new.self.seen = gone c.self.inside.core c.follow.new.self c.args.call c.args.segment h.0 in
     let known : c.args.call < length c.follow.new.self.seen.calls = omega (arith, is_open.0, counted, later.calls) in
     known
+
+pub index_mut-requires : goal.index_mut-requires
+index_mut-requires c =
+    let is_open = (c.is_sound.ensures.turn_of c.args.call c.args.segment.from c.in-Ok-Finished.ensures.from).is_open in
+    let calls = c.is_sound.ensures.counted in
+    let counted = c.self.invariant.counted in
+    omega (arith, is_open.0, calls, counted)
