@@ -38,7 +38,7 @@ returns-clause-known c =
 
 -- every call is done
 over : (c : goal.After-order_of) → AllDone c.args.core.now.seen.past
-over c = c.in_default.ensures.none refl
+over c = c.in_default.ensures.none.0 refl
 
 pub returns-clause-tree : goal.returns-clause-tree
 returns-clause-tree c =
