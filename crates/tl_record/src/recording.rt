@@ -55,7 +55,7 @@ fn call_of(core: &Core, call: u32) -> TrailCall
     ensures of_core { IsCoreCall core.now.seen call }
 {
     let (procedure, args) = core.request(call);
-    // The code is accepted, and has at most eight arguments, by its type: here a proof learns that.
+    // The code is accepted, by its type: here a proof learns that.
     let _arity = core.proc(procedure).code().arity();
     let mut kept = ArrayVec::new();
     let Ok(()) = kept.try_extend_from_slice(args) else {
