@@ -4,7 +4,7 @@ use Rattle.serde_json.specs.Data.{Data}
 use Rattle.serde_json.specs.Find.{as_str}
 use Rattle.tl_tree.specs.Reading.{both, integers_of}
 use Rattle.tl_forms.specs.Lists.{list_of}
-use Rattle.tl_forms.specs.declared.request.Request.{Request}
+use Rattle.tl_procedures.specs.declared.request.Request.{Request}
 
 -- the name and the arguments
 abbrev pub request_form : Request → List ℕ × List ℤ

@@ -25,4 +25,4 @@ pub use order::order_to_value;
 pub use procedure::{ProcedureText, procedures_to_value};
 pub use registering::{procedure_of_text, register, register_all};
 pub use reply::{reply_from_value, reply_to_value};
-pub use request::Request;
+pub use tl_procedures::Request;

@@ -5,14 +5,8 @@ ghost use Rattle.std.specs.Prelude.{◌≡◌};
 use crate::json::{FromValue, two_of};
 use serde_json::Value;
 use std::alloc::{AllocError, Global};
+use tl_procedures::Request;
 use tl_tree::integers_from_value;
-
-/// What is asked of a call: the name of its procedure, and its arguments.
-#[derive(Debug, Drop)]
-pub struct Request {
-    pub name: String,
-    pub args: Vec<i64>,
-}
 
 /// `[name,args]`
 impl FromValue for Request {

@@ -6,6 +6,8 @@
 
 mod fault;
 mod procedures;
+mod request;
 
 pub use fault::NamingFault;
 pub use procedures::{MAX_NAME, MAX_PROCEDURES, Procedures};
+pub use request::Request;

@@ -5,7 +5,7 @@ use Rattle.std.proofs.Math.Seq.{take-suc}
 use Rattle.std.proofs.lemmas.List.{append-nil}
 use Rattle.tl_table.specs.declared.receipt.Receipt.{Receipt}
 use Rattle.tl_workers.specs.declared.asking.Asking.{Asking}
-use Rattle.tl_workers.specs.declared.asking.Request.{Request}
+use Rattle.tl_procedures.specs.declared.request.Request.{Request}
 use Rattle.tl_workers.specs.declared.refusal.Refusal.{Refusal}
 use Rattle.tl_workers.specs.declared.session.Did.{Did}
 use Rattle.tl_workers.specs.declared.session.Did.TheVariants.{Asked}

@@ -2,7 +2,7 @@
 use Rattle.std.specs.Prelude.{◌≡◌, ℕ, List, [], ◌∷◌, ◌++◌, Ok, Err, Result, ℤ, string_bytes}
 use Rattle.tl_table.specs.declared.receipt.Receipt.{Receipt}
 use Rattle.tl_workers.specs.declared.asking.Asking.{Asking}
-use Rattle.tl_workers.specs.declared.asking.Request.{Request}
+use Rattle.tl_procedures.specs.declared.request.Request.{Request}
 use Rattle.tl_workers.specs.declared.refusal.Refusal.{Refusal}
 use Rattle.tl_workers.specs.declared.session.Did.{Did}
 use Rattle.tl_workers.specs.declared.session.Did.TheVariants.{Asked, Got}

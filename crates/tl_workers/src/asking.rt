@@ -10,13 +10,6 @@ use std::marker::Model;
 use tl_instr::MAX_ARGS;
 use tl_procedures::MAX_NAME;
 
-/// A call that is asked for: of the procedure of that name, with these arguments.
-#[derive(Debug, Drop)]
-pub struct Request {
-    pub name: String,
-    pub args: Vec<i64>,
-}
-
 /// The name of a procedure: up to 32 bytes, which need no memory.
 #[derive(Debug, Drop)]
 pub struct Name {

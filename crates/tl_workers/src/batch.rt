@@ -6,7 +6,7 @@ ghost use Rattle.tl_workers.specs.declared.batch.Handed.TheVariants.{All};
 ghost use Rattle.tl_workers.specs.declared.batch.TheConstants.{MAX_REQUESTS, MAX_WORKERS};
 ghost use Rattle.tl_workers.specs.Kept.{Gains, Answers, AnswersEach, AsksFor, AdmittedEach, ReceiptsEach, asked_of, gots_of};
 
-use crate::asking::{Asking, Request, values_of};
+use crate::asking::{Asking, values_of};
 use crate::engine::Engine;
 use crate::gate::Gate;
 use crate::refusal::Refusal;
@@ -17,6 +17,7 @@ use std::sync::{MutexGuard, Wait};
 use std::thread;
 use std::thread::Threads;
 use tl_core::{CoreFault, MAX_OPEN};
+use tl_procedures::Request;
 use tl_table::{Receipt, Table, TableFault};
 
 /// How many requests a batch has at most.

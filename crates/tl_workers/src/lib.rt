@@ -14,10 +14,11 @@ mod refusal;
 mod running;
 mod session;
 
-pub use asking::{Asking, Name, Request};
+pub use asking::{Asking, Name};
 pub use batch::{MAX_REQUESTS, MAX_WORKERS};
 pub use engine::Engine;
 pub use gate::{Gate, NoGate};
 pub use matching::matches;
 pub use refusal::Refusal;
 pub use session::{Did, Session};
+pub use tl_procedures::Request;

@@ -1,7 +1,7 @@
 use Rattle.std.proofs.Common.{◌≡◌, ◌+◌, ◌∙◌, ℕ, List, [], ◌∷◌, length, take, ap, sym, subst, arith}
 use Rattle.std.proofs.lemmas.List.{length-append}
 use Rattle.std.proofs.lemmas.Grind.{common_steps}
-use Rattle.tl_workers.specs.declared.asking.Request.{Request}
+use Rattle.tl_procedures.specs.declared.request.Request.{Request}
 use Rattle.tl_workers.specs.Kept.{AsksFor, AdmittedEach}
 use Rattle.tl_workers.proofs.Batches.{admitted-next}
 use Rattle.tl_workers.proofs.engine.Engine.admit_some.Goals as goal
