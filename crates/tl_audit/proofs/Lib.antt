@@ -1,8 +1,8 @@
 pub mod Rows
-pub mod Cleaned
-pub mod Watching
-pub mod Seeing
-pub mod Ends
-pub mod Replaying
-pub mod Fit
-pub mod Answered
+pub mod CleanTrailLemmas
+pub mod WatchLemmas
+pub mod SeenEvents
+pub mod EndRecords
+pub mod ReplayLemmas
+pub mod CallFit
+pub mod AuditAnswers

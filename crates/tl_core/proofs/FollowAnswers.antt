@@ -16,8 +16,8 @@ use Rattle.tl_core.specs.declared.stepped.Stepped.TheVariants.{Moved, Blocked, O
 use Rattle.tl_core.specs.Cores.{CoreValue, CoreState, no_call, call_of, world_of}
 use Rattle.tl_core.specs.Entries.{node_of, stepped_by, step_answer, after_step, one_more}
 use Rattle.tl_core.specs.Followed.{EndsStop, NextEndsStop, IsInTheWay, IsLed, HasGone}
-use Rattle.tl_core.proofs.Following.{goes_more}
-use Rattle.tl_core.proofs.Storing.{same_item}
+use Rattle.tl_core.proofs.FollowLemmas.{goes_more}
+use Rattle.tl_core.proofs.StoredCalls.{same_item}
 
 -- a call in nobody's way does the action of its stop
 by_action : (v : CoreValue) (s : Stop) (a : Action) → EndsStop s a → ((x d : ℕ) → IsInTheWay v s x d → ⊥)

@@ -13,15 +13,15 @@ use Rattle.tl_core.specs.Stored.{Kept, seen_turn}
 use Rattle.tl_core.specs.Cores.{CoreValue, IsTurnOf}
 use Rattle.tl_core.specs.Followed.{NextEndsStop}
 use Rattle.tl_core.specs.Kept.{IsWholeCore}
-use Rattle.tl_core.proofs.Storing.{unless_done, open_turn, turns_are, some_at}
-use Rattle.tl_core.proofs.Readers.{kept_at}
-use Rattle.tl_core.proofs.Standing.{call_is, admitted, found_tree, found_size}
+use Rattle.tl_core.proofs.StoredCalls.{unless_done, open_turn, turns_are, some_at}
+use Rattle.tl_core.proofs.ReaderLemmas.{kept_at}
+use Rattle.tl_core.proofs.CallInWorld.{call_is, admitted, found_tree, found_size}
 use Rattle.tl_machine.proofs.Along.{has_found}
 use Rattle.tl_machine.proofs.RestOfCall.{is_rest}
 use Rattle.tl_machine.specs.Runs.{actions}
 use Rattle.tl_machine.specs.Outcomes.{meaning}
 use Rattle.tl_machine.specs.BetweenSteps.{run_left}
-use Rattle.tl_core.proofs.Following.{next_at_stop}
+use Rattle.tl_core.proofs.FollowLemmas.{next_at_stop}
 use Rattle.tl_core.proofs.FollowAnswers.{none_reply}
 
 -- call c is kept so, with this turn, and isn't done

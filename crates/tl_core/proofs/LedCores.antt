@@ -11,10 +11,10 @@ use Rattle.tl_core.specs.Cores.{CoreValue}
 use Rattle.tl_core.specs.Followed.{Goes, EachLocal, IsInTheWay}
 use Rattle.tl_core.specs.Kept.{IsCore, IsWholeCore, call_value}
 use Rattle.tl_protocol.specs.Holders.{holder_of}
-use Rattle.tl_core.proofs.Storing.{same_item}
-use Rattle.tl_core.proofs.Whole.{IsAt, in_place, kept_here, turn_same, whole_then, seen_on}
+use Rattle.tl_core.proofs.StoredCalls.{same_item}
+use Rattle.tl_core.proofs.OpenCall.{IsAt, in_place, kept_here, turn_same, whole_then, seen_on}
 use Rattle.tl_core.proofs.KeptTurns.{kept_with}
-use Rattle.tl_core.proofs.Following.{led_core, led_local, led_each, led_goes, led_inside}
+use Rattle.tl_core.proofs.FollowLemmas.{led_core, led_local, led_each, led_goes, led_inside}
 
 module _ (v : CoreValue) (now : TreeValue) (calls : List Call) (slots : List OpenCall) (holders : List (Option ℕ)) (reserved capacity : ℕ) (w : IsWholeCore v now calls slots holders reserved capacity)
     (c : ℕ) (seg : SegmentValue) (kept : get_or (map (seen_turn slots) calls) c None ≡ Some seg.from) (is : IsSegment seg) where

@@ -22,8 +22,8 @@ use Rattle.tl_core.specs.Entries.{procedure_at, with_call_of, after_admission, s
 use Rattle.std.specs.Option.{option_map_or}
 use Rattle.tl_procedures.specs.Names.{number_of}
 use Rattle.tl_machine.specs.Outcomes.{meaning}
-use Rattle.tl_core.proofs.Admitting.{get_or-last}
-use Rattle.tl_core.proofs.Storing.{same_item}
+use Rattle.tl_core.proofs.AdmitLemmas.{get_or-last}
+use Rattle.tl_core.proofs.StoredCalls.{same_item}
 use Rattle.tl_core.proofs.WorldAfter.{world_is}
 
 -- ---- the parts of entries

@@ -1,7 +1,7 @@
-pub mod Forms
-pub mod Calls
-pub mod Events
-pub mod HalfRead
-pub mod Whole
+pub mod TextForms
+pub mod CallsTaken
+pub mod EventCount
+pub mod TreeOfText
+pub mod WholeTrail
 pub mod OneReading
-pub mod Written
+pub mod WrittenIsRead

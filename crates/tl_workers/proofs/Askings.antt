@@ -4,7 +4,7 @@ use Rattle.std.specs.Prelude.{ℤ, IsTrue, Some, slice_get}
 use Rattle.std.specs.Cmp.Rules.{signed_items}
 use Rattle.std.specs.Ordering.{int_eq}
 use lib.Pointwise.{pointwise}
-use Rattle.tl_core.proofs.Storing.{more_at, before_at}
+use Rattle.tl_core.proofs.StoredCalls.{more_at, before_at}
 use Rattle.tl_workers.specs.declared.asking.Asking.{Asking}
 use Rattle.tl_workers.specs.declared.session.Did.{Did}
 use Rattle.tl_workers.specs.declared.session.Did.TheVariants.{Asked}

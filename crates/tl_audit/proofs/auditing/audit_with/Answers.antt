@@ -1,4 +1,4 @@
-use Rattle.tl_audit.proofs.Answered.{verdict}
+use Rattle.tl_audit.proofs.AuditAnswers.{verdict}
 use Rattle.tl_audit.proofs.auditing.audit_with.Goals as goal
 
 pub returns : goal.returns

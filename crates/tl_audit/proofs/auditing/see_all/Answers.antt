@@ -7,7 +7,7 @@ use Rattle.tl_protocol.proofs.Pasts.{past_one_more}
 use Rattle.tl_trail.specs.Clean.{AreRight, IsRight}
 use Rattle.tl_audit.specs.Findings.{IsWrong, IsFirstEventFault}
 use Rattle.tl_audit.specs.Watching.{Shows, IsEventOf}
-use Rattle.tl_audit.proofs.Seeing.{event_at, first_wrong}
+use Rattle.tl_audit.proofs.SeenEvents.{event_at, first_wrong}
 use Rattle.tl_audit.proofs.auditing.see_all.Goals as goal
 
 pub judge-requires-clause-even : goal.judge-requires-clause-even

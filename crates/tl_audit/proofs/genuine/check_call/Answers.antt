@@ -1,7 +1,7 @@
 use Rattle.std.proofs.Common.{◌≡◌, refl, sym, ap, ◌∙◌, Some}
 use Rattle.std.proofs.lemmas.Bool.{both_ways}
 use Rattle.tl_trail.specs.Trails.{found_alone}
-use Rattle.tl_audit.proofs.Fit.{ends_once, found_size, found_outcome, found_fit, told_genuine, genuine_told}
+use Rattle.tl_audit.proofs.CallFit.{ends_once, found_size, found_outcome, found_fit, told_genuine, genuine_told}
 use Rattle.tl_audit.proofs.genuine.check_call.Goals as goal
 
 pub replay-requires-clause-ends : goal.replay-requires-clause-ends

@@ -4,7 +4,7 @@ use Rattle.tl_protocol.specs.declared.action.Action.TheVariants as did
 use Rattle.tl_protocol.specs.declared.event.Event.TheVariants.{Lock, Free}
 use Rattle.tl_protocol.specs.History.{caller}
 use Rattle.tl_audit.specs.Genuine.{actions_at, lists_of}
-use Rattle.tl_audit.proofs.Fit.{actions_at-more, list_of, lock_put, free_put}
+use Rattle.tl_audit.proofs.CallFit.{actions_at-more, list_of, lock_put, free_put}
 use Rattle.tl_audit.proofs.genuine.put_in.Goals as goal
 
 pub returns-in_ok-push-in-Lock-clause-more : goal.returns-in_ok-push-in-Lock-clause-more

@@ -4,7 +4,7 @@ use Rattle.tl_protocol.specs.declared.action.Action.TheVariants as did
 use Rattle.tl_machine.specs.BetweenSteps.{Frees}
 use Rattle.tl_machine.specs.Turns.{Stops}
 use Rattle.tl_machine.specs.declared.want.Stop.TheVariants as stop
-use Rattle.tl_audit.proofs.Replaying.{on_start, on_step, on_lock, on_free, next_lock, next_free, end_told, end_same, end_reply, not_over, one_free, slice_get-inside}
+use Rattle.tl_audit.proofs.ReplayLemmas.{on_start, on_step, on_lock, on_free, next_lock, next_free, end_told, end_same, end_reply, not_over, one_free, slice_get-inside}
 use Rattle.tl_audit.proofs.genuine.replay.Goals as goal
 
 pub loop-node-init : goal.loop-node-init

@@ -4,7 +4,7 @@ use Rattle.tl_tree.specs.Records.{Records}
 use Rattle.tl_budget.specs.Loops.{budget}
 use Rattle.tl_machine.specs.Turns.{left_of}
 use Rattle.tl_audit.specs.Genuine.{AreFit}
-use Rattle.tl_audit.proofs.Replaying.{IsOn}
+use Rattle.tl_audit.proofs.ReplayLemmas.{IsOn}
 use Rattle.tl_audit.proofs.genuine.replay.Given as goal
 
 abbrev pub invariant-loop-node : goal.invariant-loop-node

@@ -1,4 +1,4 @@
-use Rattle.tl_audit.proofs.Cleaned.{clean_sound, clean_legal, clean_obeys, clean_agrees, clean_tree, clean_replies, clean_told, clean_faultless}
+use Rattle.tl_audit.proofs.CleanTrailLemmas.{clean_sound, clean_legal, clean_obeys, clean_agrees, clean_tree, clean_replies, clean_told, clean_faultless}
 use Rattle.tl_audit.proofs.laws.clean_trails.Goals as goal
 
 pub returns-clause-sound : goal.returns-clause-sound

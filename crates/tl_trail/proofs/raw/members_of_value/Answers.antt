@@ -1,7 +1,7 @@
 use Rattle.std.proofs.Common.{sym, ◌∙◌}
 use Rattle.serde_json.specs.View.{view, members_view}
 use Rattle.serde_json.proofs.Views.{members_len-members_view}
-use Rattle.tl_trail.proofs.Forms.{parts_found, parts_other}
+use Rattle.tl_trail.proofs.TextForms.{parts_found, parts_other}
 use Rattle.tl_trail.proofs.raw.members_of_value.Goals as goal
 
 pub returns-then-count-ne5 : goal.returns-then-count-ne5

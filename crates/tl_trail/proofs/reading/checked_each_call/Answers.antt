@@ -5,7 +5,7 @@ use Rattle.std.proofs.lemmas.List.Elements.{All-push}
 use Rattle.tl_trail.specs.Trails.{IsCallOf, call_value}
 use Rattle.tl_trail.specs.Reading.{call_as, each_call}
 use Rattle.tl_trail.specs.Raw.{call_form}
-use Rattle.tl_trail.proofs.Calls.{onto_calls, call_taken}
+use Rattle.tl_trail.proofs.CallsTaken.{onto_calls, call_taken}
 use Rattle.tl_trail.proofs.reading.checked_each_call.Goals as goal
 
 pub loop-one-preserved : goal.loop-one-preserved

@@ -3,7 +3,7 @@ use Rattle.std.specs.Prelude.{All}
 use Rattle.tl_trail.specs.Trails.{IsCallOf, call_value}
 use Rattle.tl_trail.specs.Reading.{each_call}
 use Rattle.tl_trail.specs.Raw.{call_form}
-use Rattle.tl_trail.proofs.Calls.{onto_calls}
+use Rattle.tl_trail.proofs.CallsTaken.{onto_calls}
 use Rattle.tl_trail.proofs.reading.checked_each_call.Given as goal
 
 abbrev pub invariant-loop-one : goal.invariant-loop-one

@@ -2,7 +2,7 @@ use Rattle.std.proofs.Common.{rules, ◌≡◌, ◌≢◌, ◌<◌, List, Some, 
 use Rattle.tl_protocol.specs.declared.event.Event.{Event}
 use Rattle.tl_trail.specs.declared.fault.TrailFault.TheVariants.{NotTrail, Memory}
 use Rattle.tl_trail.specs.Reading.{events_as}
-use Rattle.tl_trail.proofs.Events.{length-events_as}
+use Rattle.tl_trail.proofs.EventCount.{length-events_as}
 use Rattle.tl_trail.proofs.reading.checked_history.Goals as goal
 
 pub returns-in_err-history-clause-fault : goal.returns-in_err-history-clause-fault

@@ -12,7 +12,7 @@ use Rattle.tl_forms.specs.Registering.{TakenUp, IsFirstUnfit}
 use Rattle.tl_forms.specs.Procedures.{procedure_form}
 use Rattle.tl_trail.specs.Reading.{calls_as}
 use Rattle.tl_trail.specs.Raw.{call_form, form_with, IsTrailOf, IsFaultOf}
-use Rattle.tl_trail.proofs.Whole.{procedures_fault, calls_fault, ends_fault, events_fault, trail_stands}
+use Rattle.tl_trail.proofs.WholeTrail.{procedures_fault, calls_fault, ends_fault, events_fault, trail_stands}
 use Rattle.tl_trail.proofs.reading.checked_trail.Goals as goal
 
 pub returns-in_err-procedures-clause-fault : goal.returns-in_err-procedures-clause-fault

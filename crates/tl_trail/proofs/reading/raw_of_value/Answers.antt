@@ -5,7 +5,7 @@ use Rattle.tl_tree.specs.Reading.{form_of as tree_form_of}
 use Rattle.tl_trail.specs.declared.fault.TrailFault.TheVariants.{Memory}
 use Rattle.tl_trail.specs.Reading.{parts_of, form_of_parts, TrailForm}
 use Rattle.tl_trail.specs.Raw.{form_with, IsUnread}
-use Rattle.tl_trail.proofs.HalfRead.{unread}
+use Rattle.tl_trail.proofs.TreeOfText.{unread}
 use Rattle.tl_trail.proofs.reading.raw_of_value.Goals as goal
 
 pub returns-in_err-tree-clause-fault : goal.returns-in_err-tree-clause-fault

@@ -4,7 +4,7 @@ use Rattle.tl_tree.specs.Records.{Records}
 use Rattle.tl_trail.specs.declared.fault.TrailFault.TheVariants.{Memory}
 use Rattle.tl_trail.specs.Reading.{IsTrailText, IsFirstTrailFault}
 use Rattle.tl_trail.specs.Raw.{form_with, IsTrailOf, IsFaultOf}
-use Rattle.tl_trail.proofs.Whole.{text_is, text_fault}
+use Rattle.tl_trail.proofs.WholeTrail.{text_is, text_fault}
 use Rattle.tl_trail.proofs.reading.trail_of_text.Goals as goal
 
 pub returns-clause-ok : goal.returns-clause-ok

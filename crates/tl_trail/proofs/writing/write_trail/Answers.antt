@@ -3,7 +3,7 @@ use Rattle.serde_json.specs.Data.{depth}
 use Rattle.serde_json.specs.Read.{max_depth}
 use Rattle.serde_json.specs.Written.{has_float, compact_text}
 use Rattle.serde_json.specs.View.{view}
-use Rattle.tl_trail.proofs.Written.{trail_whole, trail_shallow, written_read}
+use Rattle.tl_trail.proofs.WrittenIsRead.{trail_whole, trail_shallow, written_read}
 use Rattle.tl_trail.proofs.writing.write_trail.Goals as goal
 
 pub returns-clause-text : goal.returns-clause-text

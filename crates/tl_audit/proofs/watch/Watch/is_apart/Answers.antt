@@ -5,7 +5,7 @@ use Rattle.tl_protocol.specs.Holders.{holder_of}
 use Rattle.tl_protocol.proofs.Holders.{nobody_holds}
 use Rattle.tl_protocol.specs.Nodes.{IsOfNodes}
 use Rattle.tl_trail.specs.Clean.{IsApart}
-use Rattle.tl_audit.proofs.Watching.{right_legal, holder_apart}
+use Rattle.tl_audit.proofs.WatchLemmas.{right_legal, holder_apart}
 use Rattle.tl_audit.proofs.watch.Watch.is_apart.Goals as goal
 
 pub returns-in-Some : goal.returns-in-Some

@@ -1,6 +1,6 @@
 use Rattle.std.proofs.Common.{rules, ◌≡◌, false, None, length, refl, ap, ◌∙◌, subst, arith, replicate}
 use Rattle.tl_order.specs.Parts.{AreOfNodes}
-use Rattle.tl_audit.proofs.Watching.{nothing_seen}
+use Rattle.tl_audit.proofs.WatchLemmas.{nothing_seen}
 use Rattle.tl_audit.proofs.watch.Watch.new.Goals as goal
 
 pub returns : goal.returns

@@ -8,7 +8,7 @@ use Rattle.tl_order.specs.Part.{IsPart}
 use Rattle.tl_protocol.specs.Nodes.{IsOfNodes}
 use Rattle.tl_order.specs.Parts.{AreOfNodes, no_marks}
 use Rattle.tl_audit.specs.Watching.{IsEventOf}
-use Rattle.tl_audit.proofs.Watching.{begun-lock, begun-free, parts-lock, parts-free, nodes-set, holders-lock, holders-free}
+use Rattle.tl_audit.proofs.WatchLemmas.{begun-lock, begun-free, parts-lock, parts-free, nodes-set, holders-lock, holders-free}
 use Rattle.tl_audit.proofs.watch.Watch.note.Goals as goal
 
 pub returns-in-Lock : goal.returns-in-Lock

@@ -6,7 +6,7 @@ use Rattle.tl_protocol.specs.Actions.{held}
 use Rattle.tl_protocol.specs.History.{part_of}
 use Rattle.tl_order.specs.Part.{IsPart, node_count}
 use Rattle.tl_order.specs.Parts.{no_marks}
-use Rattle.tl_audit.proofs.Watching.{none_held}
+use Rattle.tl_audit.proofs.WatchLemmas.{none_held}
 use Rattle.tl_audit.proofs.watch.Watch.permits_end.Goals as goal
 
 pub returns : goal.returns

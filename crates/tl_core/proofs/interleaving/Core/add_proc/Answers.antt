@@ -1,4 +1,4 @@
-use Rattle.tl_core.proofs.MoreProcedures.{keeps_whole, seen_added, state_added, added}
+use Rattle.tl_core.proofs.AddProcLemmas.{keeps_whole, seen_added, state_added, added}
 use Rattle.tl_core.proofs.interleaving.Core.add_proc.Goals as goal
 
 pub invariant_of-self : goal.invariant_of-self

@@ -2,7 +2,7 @@ use Rattle.std.proofs.Common.{◌≡◌, ◌-◌, length, refl, ap, rules, arith
 use Rattle.std.proofs.lemmas.List.{length-map}
 use Rattle.tl_core.specs.declared.call.Progress.TheVariants.{Open}
 use Rattle.tl_core.specs.Stored.{seen_call}
-use Rattle.tl_core.proofs.Admitting.{admitted_begun, after_begun, turns_begun}
+use Rattle.tl_core.proofs.AdmitLemmas.{admitted_begun, after_begun, turns_begun}
 use Rattle.tl_core.proofs.interleaving.Core.admit.Goals as goal
 
 pub invariant_of-self-2 : goal.invariant_of-self-2

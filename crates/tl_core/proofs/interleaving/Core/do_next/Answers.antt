@@ -1,9 +1,9 @@
 use Rattle.std.proofs.Common.{◌-◌, refl, sym, ap, ◌∙◌, subst, arith, Some, None}
 use Rattle.std.proofs.lemmas.Option.{slice_get_read}
 use Rattle.tl_machine.specs.Turns.{Stops}
-use Rattle.tl_core.proofs.Storing.{removed, IsWithout}
-use Rattle.tl_core.proofs.Whole.{at_read, at_read_again, slot_read, kept_here, whole_then, seen_on, over_last, over_moved, moved_inside, moved_there, whole_over, seen_over, turns_then, turns_over, over_state, goes_on}
-use Rattle.tl_core.proofs.Exits.{local_answer, local_seen, local_kept, holder_slot, record_slot, has_place, has_reserved, blocked_answer, lock_answer, lock_seen, lock_kept, freed_slot, freed_record, free_place, free_reserved, free_answer, free_seen, free_kept, end_place, end_places, end_answer, end_seen, end_kept, holder_read}
+use Rattle.tl_core.proofs.StoredCalls.{removed, IsWithout}
+use Rattle.tl_core.proofs.OpenCall.{at_read, at_read_again, slot_read, kept_here, whole_then, seen_on, over_last, over_moved, moved_inside, moved_there, whole_over, seen_over, turns_then, turns_over, over_state, goes_on}
+use Rattle.tl_core.proofs.StepExits.{local_answer, local_seen, local_kept, holder_slot, record_slot, has_place, has_reserved, blocked_answer, lock_answer, lock_seen, lock_kept, freed_slot, freed_record, free_place, free_reserved, free_answer, free_seen, free_kept, end_place, end_places, end_answer, end_seen, end_kept, holder_read}
 use Rattle.tl_core.proofs.interleaving.Core.do_next.Goals as goal
 
 pub returns-in_default-clause-answer : goal.returns-in_default-clause-answer

@@ -4,7 +4,7 @@ use Rattle.std.proofs.lemmas.List.{append-nil}
 use Rattle.tl_core.specs.Cores.{done_by}
 use Rattle.tl_core.proofs.RunParts.{parts_more}
 use Rattle.tl_core.specs.Entries.{IsEntry, after_entry, Traced, after_moves}
-use Rattle.tl_core.proofs.Driving.{traced_more, after_more, moved_more, take_more, spent_on, counted_on, within_budgets}
+use Rattle.tl_core.proofs.DriveLemmas.{traced_more, after_more, moved_more, take_more, spent_on, counted_on, within_budgets}
 use Rattle.tl_core.proofs.interleaving.Core.drive.Goals as goal
 
 pub loop-one-init : goal.loop-one-init

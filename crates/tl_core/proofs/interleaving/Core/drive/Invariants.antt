@@ -1,7 +1,7 @@
 use Rattle.std.proofs.Common.{◌≡◌, ◌≤◌, ℕ, ◌++◌, length, take, vec_len, vec_capacity}
 use Rattle.tl_core.specs.Cores.{done_by}
 use Rattle.tl_core.specs.Entries.{Traced, after_moves, part_of_run, moved}
-use Rattle.tl_core.proofs.Driving.{spent, IsCounted}
+use Rattle.tl_core.proofs.DriveLemmas.{spent, IsCounted}
 use Rattle.tl_core.proofs.interleaving.Core.drive.Given as goal
 
 abbrev pub invariant-loop-one : goal.invariant-loop-one

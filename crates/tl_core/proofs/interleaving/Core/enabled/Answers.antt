@@ -2,9 +2,9 @@ use Rattle.std.proofs.Common.{refl, sym, ◌∙◌, subst, arith}
 use Rattle.tl_machine.specs.Turns.{Wants, Stops}
 use Rattle.tl_machine.specs.declared.want.Want.TheVariants as want
 use Rattle.tl_machine.specs.declared.want.Stop.TheVariants as stop
-use Rattle.tl_core.proofs.Whole.{at_read, slot_read, kept_here, done_disabled, goes_on}
-use Rattle.tl_core.proofs.Exits.{holder_slot, holder_read}
-use Rattle.tl_core.proofs.Enabling.{unlocking, lock_enabled, goes_on_enabled}
+use Rattle.tl_core.proofs.OpenCall.{at_read, slot_read, kept_here, done_disabled, goes_on}
+use Rattle.tl_core.proofs.StepExits.{holder_slot, holder_read}
+use Rattle.tl_core.proofs.EnabledLemmas.{unlocking, lock_enabled, goes_on_enabled}
 use Rattle.tl_core.proofs.interleaving.Core.enabled.Goals as goal
 
 pub returns-in_default-clause-enabled : goal.returns-in_default-clause-enabled

@@ -1,6 +1,6 @@
 use Rattle.std.proofs.Common.{refl, arith}
-use Rattle.tl_core.proofs.Exits.{holder_read}
-use Rattle.tl_core.proofs.Readers.{holder_holds}
+use Rattle.tl_core.proofs.StepExits.{holder_read}
+use Rattle.tl_core.proofs.ReaderLemmas.{holder_holds}
 use Rattle.tl_core.proofs.interleaving.Core.holder.Goals as goal
 
 pub returns-clause-holds : goal.returns-clause-holds

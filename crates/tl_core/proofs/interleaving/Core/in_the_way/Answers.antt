@@ -1,5 +1,5 @@
 use Rattle.std.proofs.Common.{sym, ◌∙◌, arith, Some, None}
-use Rattle.tl_core.proofs.Exits.{holder_read}
+use Rattle.tl_core.proofs.StepExits.{holder_read}
 use Rattle.tl_core.proofs.LedCores.{segment_slot, in_its_way, out_of_its_way}
 use Rattle.tl_core.proofs.interleaving.Core.in_the_way.Goals as goal
 

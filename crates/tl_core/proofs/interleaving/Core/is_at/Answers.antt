@@ -1,5 +1,5 @@
 use Rattle.std.proofs.Common.{sym, ap, ◌∙◌, Some, arith}
-use Rattle.tl_core.proofs.Whole.{at_read, slot_read, turn_here, turn_same}
+use Rattle.tl_core.proofs.OpenCall.{at_read, slot_read, turn_here, turn_same}
 use Rattle.tl_core.proofs.interleaving.Core.is_at.Goals as goal
 
 pub index-requires-2 : goal.index-requires-2

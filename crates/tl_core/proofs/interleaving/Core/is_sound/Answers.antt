@@ -1,4 +1,4 @@
-use Rattle.tl_core.proofs.Readers.{obeys_so_far, steps_so_far, count_so_far, locks_so_far, emits_so_far}
+use Rattle.tl_core.proofs.ReaderLemmas.{obeys_so_far, steps_so_far, count_so_far, locks_so_far, emits_so_far}
 use Rattle.tl_core.proofs.KeptTurns.{turned, turn_of}
 use Rattle.tl_core.proofs.interleaving.Core.is_sound.Goals as goal
 

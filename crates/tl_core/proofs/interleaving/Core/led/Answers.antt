@@ -1,5 +1,5 @@
 use Rattle.std.proofs.Common.{sym, ap, ◌∙◌, arith, Some}
-use Rattle.tl_core.proofs.Whole.{at_read, slot_read, turned_inside, turned_open, turn_here}
+use Rattle.tl_core.proofs.OpenCall.{at_read, slot_read, turned_inside, turned_open, turn_here}
 use Rattle.tl_core.proofs.KeptTurns.{turned, turn_of}
 use Rattle.tl_core.proofs.interleaving.Core.led.Goals as goal
 

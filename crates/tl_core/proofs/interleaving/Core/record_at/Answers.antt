@@ -1,5 +1,5 @@
 use Rattle.std.proofs.Common.{◌∙◌, arith}
-use Rattle.tl_core.proofs.Readers.{now_long, record_is}
+use Rattle.tl_core.proofs.ReaderLemmas.{now_long, record_is}
 use Rattle.tl_core.proofs.interleaving.Core.record_at.Goals as goal
 
 pub record_at-requires : goal.record_at-requires

@@ -1,5 +1,5 @@
 use Rattle.std.proofs.Common.{◌∙◌}
-use Rattle.tl_core.proofs.Whole.{reply_read}
+use Rattle.tl_core.proofs.OpenCall.{reply_read}
 use Rattle.tl_core.proofs.interleaving.Core.reply.Goals as goal
 
 pub returns : goal.returns

@@ -1,5 +1,5 @@
 use Rattle.std.proofs.Common.{length, ap, ◌∙◌}
-use Rattle.tl_core.proofs.Whole.{known_read, arity_read}
+use Rattle.tl_core.proofs.OpenCall.{known_read, arity_read}
 use Rattle.tl_core.proofs.interleaving.Core.request.Goals as goal
 
 pub returns-clause-known : goal.returns-clause-known

@@ -2,8 +2,8 @@ use Rattle.std.proofs.Common.{◌≡◌, length, refl, sym, ◌∙◌, arith}
 use Rattle.std.proofs.lemmas.Option.{slice_get_read}
 use Rattle.tl_core.specs.Cores.{world_of}
 use Rattle.std.proofs.lemmas.Bool.{ltb-true, ltb-false}
-use Rattle.tl_core.proofs.Storing.{same_item}
-use Rattle.tl_core.proofs.Enabling.{least_stays, least_moves, least_least, none_least, is_enabled, not_enabled, whole_least}
+use Rattle.tl_core.proofs.StoredCalls.{same_item}
+use Rattle.tl_core.proofs.EnabledLemmas.{least_stays, least_moves, least_least, none_least, is_enabled, not_enabled, whole_least}
 use Rattle.tl_core.proofs.interleaving.Core.some_enabled.Goals.{in-Some, in-None}
 use Rattle.tl_core.proofs.interleaving.Core.some_enabled.Goals.{then-is_less+then-unwrap_or, else-is_less, else-is_less-via-then-is_less+else-unwrap_or, else-is_less-via-else-is_less}
 use Rattle.tl_core.proofs.interleaving.Core.some_enabled.Goals as goal

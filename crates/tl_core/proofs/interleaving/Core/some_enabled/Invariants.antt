@@ -1,5 +1,5 @@
 use Rattle.tl_core.specs.Cores.{world_of}
-use Rattle.tl_core.proofs.Enabling.{IsLeast}
+use Rattle.tl_core.proofs.EnabledLemmas.{IsLeast}
 use Rattle.tl_core.proofs.interleaving.Core.some_enabled.Given as goal
 
 abbrev pub invariant-loop-current : goal.invariant-loop-current

@@ -1,5 +1,5 @@
 use Rattle.std.proofs.Common.{sym, ap, ◌∙◌, arith, Some}
-use Rattle.tl_core.proofs.Whole.{at_read, slot_read, turned_inside, turn_same, turn_then, turns_then}
+use Rattle.tl_core.proofs.OpenCall.{at_read, slot_read, turned_inside, turn_same, turn_then, turns_then}
 use Rattle.tl_core.proofs.LedCores.{same_code, whole_led, local_led, each_led, goes_led}
 use Rattle.tl_core.proofs.interleaving.Core.take_end.Goals as goal
 

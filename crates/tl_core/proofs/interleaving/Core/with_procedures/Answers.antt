@@ -1,5 +1,5 @@
 use Rattle.std.proofs.Common.{rules, arith, vec_capacity}
-use Rattle.tl_core.proofs.Opening.{opened_of}
+use Rattle.tl_core.proofs.NewCore.{opened_of}
 use Rattle.tl_core.proofs.interleaving.Core.with_procedures.Goals as goal
 
 pub invariant_of-result : goal.invariant_of-result

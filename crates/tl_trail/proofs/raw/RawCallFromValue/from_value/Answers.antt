@@ -1,7 +1,7 @@
 use Rattle.std.proofs.Common.{rules, ◌≡◌, ◌≢◌, length, Some}
 use Rattle.serde_json.specs.View.{view, items_view}
 use Rattle.serde_json.specs.Find.{as_array}
-use Rattle.tl_trail.proofs.Forms.{no_call_in}
+use Rattle.tl_trail.proofs.TextForms.{no_call_in}
 use Rattle.tl_trail.proofs.raw.RawCallFromValue.from_value.Goals as goal
 
 pub returns-in_default-three_of : goal.returns-in_default-three_of

@@ -10,7 +10,7 @@ use Rattle.tl_procedures.specs.Names.{Named, no_procedure}
 use Rattle.tl_machine.specs.Turns.{TurnValue}
 use Rattle.tl_core.specs.Cores.{CoreValue, CoreState}
 use Rattle.tl_core.specs.Kept.{IsKept, IsCore, IsWholeCore}
-use Rattle.tl_core.proofs.Storing.{seen_are}
+use Rattle.tl_core.proofs.StoredCalls.{seen_are}
 
 -- what is kept of a call names a procedure that was there before
 keeps_call : (v : CoreValue) (more : List Named) (c : ℕ) (k : Kept) → IsKept v c k → IsKept (record v { procedures = v.procedures ++ more }) c k

@@ -19,8 +19,8 @@ use Rattle.tl_core.specs.declared.moves.Entry.TheVariants as entry
 use Rattle.tl_procedures.specs.Names.{number_of}
 use Rattle.tl_core.specs.Cores.{CallValue, CoreValue, no_call, call_of, code_of, world_of, total, all_budgets}
 use Rattle.tl_core.specs.Entries.{step_answer, stepped_to, after_step, one_more, procedure_at, with_call_of, entry_of, IsEntry, after_entry, Traced, after_moves, moved}
-use Rattle.tl_core.proofs.Totals.{total-same, total-other, total-less}
-use Rattle.tl_core.proofs.Admitting.{get_or-last}
+use Rattle.tl_core.proofs.Sums.{total-same, total-other, total-less}
+use Rattle.tl_core.proofs.AdmitLemmas.{get_or-last}
 
 -- ---- one entry more
 

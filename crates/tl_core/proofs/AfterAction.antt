@@ -17,10 +17,10 @@ use Rattle.tl_core.specs.Cores.{CoreValue, call_of, world_of, total, owed_to, pl
 use Rattle.tl_core.specs.Entries.{one_more}
 use Rattle.tl_machine.specs.Along.{IsAlong}
 use Rattle.tl_core.specs.Kept.{IsCore, IsKept, call_value}
-use Rattle.tl_core.proofs.Totals.{total-other}
-use Rattle.tl_core.proofs.Storing.{slice_get-set_same, slice_get-set_other, same_item}
-use Rattle.tl_core.proofs.Events.{part_after, part_of_others, done_of_others}
-use Rattle.tl_core.proofs.Standing.{keep, call_is, inside, after, sound_after, same_code}
+use Rattle.tl_core.proofs.Sums.{total-other}
+use Rattle.tl_core.proofs.StoredCalls.{slice_get-set_same, slice_get-set_other, same_item}
+use Rattle.tl_core.proofs.ActionEvents.{part_after, part_of_others, done_of_others}
+use Rattle.tl_core.proofs.CallInWorld.{keep, call_is, inside, after, sound_after, same_code}
 
 -- 1 for a call that is open_count
 abbrev pub open_in : List Event → ℕ → ℕ

@@ -20,9 +20,9 @@ use Rattle.tl_core.specs.Cores.{CoreValue, world_of}
 use Rattle.tl_core.specs.Entries.{step_answer, after_step}
 use Rattle.tl_core.specs.Followed.{Goes, EachLocal, EndsStop, NextEndsStop}
 use Rattle.tl_core.specs.Kept.{IsCore, call_value}
-use Rattle.tl_core.proofs.Storing.{slice_get-set_same}
-use Rattle.tl_core.proofs.Standing.{rest, wants_here, next_first, open_first, over_done}
-use Rattle.tl_core.proofs.Exits.{local_answer, local_seen, local_kept, inside_tree}
+use Rattle.tl_core.proofs.StoredCalls.{slice_get-set_same}
+use Rattle.tl_core.proofs.CallInWorld.{rest, wants_here, next_first, open_first, over_done}
+use Rattle.tl_core.proofs.StepExits.{local_answer, local_seen, local_kept, inside_tree}
 
 -- ---- lists
 

@@ -25,8 +25,8 @@ use Rattle.tl_core.specs.Cores.{CoreValue, call_of, code_of, world_of, done_by}
 use Rattle.tl_core.specs.Entries.{procedure_at}
 use Rattle.tl_core.specs.Kept.{IsCore, call_value}
 use Rattle.tl_machine.proofs.Along.{onto, taken-onto, length-onto}
-use Rattle.tl_core.proofs.Storing.{some_at, same_item}
-use Rattle.tl_core.proofs.Standing.{keep, call_is, rest, whole, ended, admitted, found_tree, found_size}
+use Rattle.tl_core.proofs.StoredCalls.{some_at, same_item}
+use Rattle.tl_core.proofs.CallInWorld.{keep, call_is, rest, whole, ended, admitted, found_tree, found_size}
 
 length-take : (k : ℕ) (more : List Action) → length (take k more) ≤ length more
 length-take zero more = omega arith

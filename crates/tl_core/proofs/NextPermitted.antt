@@ -23,8 +23,8 @@ use Rattle.tl_core.specs.Stored.{Kept}
 use Rattle.tl_core.specs.Cores.{CoreValue, call_of, code_of, world_of, places}
 use Rattle.tl_core.specs.Kept.{IsCore}
 use Rattle.tl_machine.proofs.Along.{onto, taken-onto, length-onto}
-use Rattle.tl_core.proofs.Events.{length-shared, lock_count-shared, lock_count-taken}
-use Rattle.tl_core.proofs.Standing.{admitted, found_tree, found_size, rest, whole, count_is, next_first, open_first}
+use Rattle.tl_core.proofs.ActionEvents.{length-shared, lock_count-shared, lock_count-taken}
+use Rattle.tl_core.proofs.CallInWorld.{admitted, found_tree, found_size, rest, whole, count_is, next_first, open_first}
 
 -- what was freed was held, so what wasn't locked wasn't freed
 pub unlocked_unfreed : (parents : List ℕ) (done : List Action) (x : ℕ) → EachPermitted parents done → locked done x ≡ false → freed done x ≡ false

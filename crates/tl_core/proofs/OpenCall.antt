@@ -15,14 +15,14 @@ use Rattle.tl_core.specs.declared.stepped.Stepped.TheVariants.{Over}
 use Rattle.tl_core.specs.declared.interleaving.TheConstants.{MAX_OPEN}
 use Rattle.tl_core.specs.Cores.{CoreValue, call_of, world_of}
 use Rattle.tl_core.specs.Entries.{step_answer}
-use Rattle.tl_core.proofs.Standing.{admitted, over_done}
+use Rattle.tl_core.proofs.CallInWorld.{admitted, over_done}
 use Rattle.tl_protocol.specs.Actions.{emitted}
 use Rattle.tl_machine.specs.declared.want.Stop.TheVariants as stop
-use Rattle.tl_core.proofs.Readers.{kept_at, request_known, request_arity, reply_is}
+use Rattle.tl_core.proofs.ReaderLemmas.{kept_at, request_known, request_arity, reply_is}
 use Rattle.tl_protocol.specs.World.{IsEnabled, reply_of}
 use Rattle.tl_core.specs.Stored.{Kept, slot_of, reply_in, turn_in, seen_call, seen_turn, open_call, IsStored, AreStored}
 use Rattle.tl_core.specs.Kept.{IsCore, IsWholeCore, call_value}
-use Rattle.tl_core.proofs.Storing.{IsWithout, same_item, slice_get-set_same, kept_of, stored_of, seen_are, turns_are, other_turn, no_reply, stored_turn, stored_last, stored_moved}
+use Rattle.tl_core.proofs.StoredCalls.{IsWithout, same_item, slice_get-set_same, kept_of, stored_of, seen_are, turns_are, other_turn, no_reply, stored_turn, stored_last, stored_moved}
 
 -- call c is stored so, and its turn stands in slot j
 pub record IsAt (calls : List Call) (slots : List OpenCall) (c j : ℕ) (s : Call) (o : OpenCall) : Type 0 where

@@ -12,7 +12,7 @@ use Rattle.tl_trail.specs.Trails.{TrailValue, IsTrail, call_at, found_alone, mea
 use Rattle.tl_trail.specs.Clean.{Clean}
 use Rattle.tl_audit.specs.Findings.{IsFirstFault}
 use Rattle.tl_audit.specs.Verdict.{IsVerdict}
-use Rattle.tl_audit.proofs.Cleaned.{clean_faultless, clean_legal, clean_obeys, clean_agrees, clean_tree, clean_replies, clean_told}
+use Rattle.tl_audit.proofs.CleanTrailLemmas.{clean_faultless, clean_legal, clean_obeys, clean_agrees, clean_tree, clean_replies, clean_told}
 
 pub both_ok : {X E : Type 0} (r : Result X E) (P Q R : X → Type 0) → ((x : X) → P x → Q x → R x) → IfOk r P → IfOk r Q → IfOk r R
 both_ok (Ok x) P Q R f p q = f x p q

@@ -20,10 +20,10 @@ use Rattle.tl_core.specs.Cores.{CoreValue, code_of, world_of, owed_to, places}
 use Rattle.tl_core.specs.Entries.{one_more, stepped_by, node_of, step_answer, after_step}
 use Rattle.tl_machine.specs.Along.{IsAlong}
 use Rattle.tl_core.specs.Kept.{IsCore, call_value}
-use Rattle.tl_core.proofs.Totals.{part-total}
-use Rattle.tl_core.proofs.Events.{part_after, done_after}
-use Rattle.tl_core.proofs.Standing.{keep, inside, rest, open_first, answer_first, may_first}
-use Rattle.tl_core.proofs.After.{open_in, then_, did_, code_same, itself_kept, calls_are, core_after}
+use Rattle.tl_core.proofs.Sums.{part-total}
+use Rattle.tl_core.proofs.ActionEvents.{part_after, done_after}
+use Rattle.tl_core.proofs.CallInWorld.{keep, inside, rest, open_first, answer_first, may_first}
+use Rattle.tl_core.proofs.AfterAction.{open_in, then_, did_, code_same, itself_kept, calls_are, core_after}
 
 length-shared_more : (a : Action) (done : List Action) → length (shared_actions (a ∷ done)) ≡ length (shared_actions (a ∷ [])) + length (shared_actions done)
 length-shared_more did.Plain done = let e : length (shared_actions done) ≡ 0 + length (shared_actions done) = omega arith in e

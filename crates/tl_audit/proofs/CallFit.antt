@@ -23,8 +23,8 @@ use Rattle.tl_procedures.specs.Names.{no_procedure}
 use Rattle.tl_trail.specs.Trails.{TrailValue, IsTrail, IsCallOf, call_at, code_of, no_call, found_alone}
 use Rattle.tl_trail.specs.Clean.{AreRight, IsGenuine}
 use Rattle.tl_audit.specs.Genuine.{AreFit, AreParts, action_of, actions_at, lists_of}
-use Rattle.tl_audit.proofs.Watching.{right_legal, locked_inside}
-use Rattle.tl_audit.proofs.Replaying.{freed-locks_and_frees}
+use Rattle.tl_audit.proofs.WatchLemmas.{right_legal, locked_inside}
+use Rattle.tl_audit.proofs.ReplayLemmas.{freed-locks_and_frees}
 
 -- ---- a tree with what was found fits what was done
 

@@ -26,11 +26,11 @@ use Rattle.tl_machine.specs.declared.want.Stop.TheVariants as stop
 use Rattle.tl_core.specs.Stored.{Kept}
 use Rattle.tl_core.specs.Cores.{CoreValue, world_of}
 use Rattle.tl_core.specs.Kept.{IsCore, IsWholeCore}
-use Rattle.tl_core.proofs.Whole.{slot_open}
-use Rattle.tl_core.proofs.Storing.{same_item}
+use Rattle.tl_core.proofs.OpenCall.{slot_open}
+use Rattle.tl_core.proofs.StoredCalls.{same_item}
 use Rattle.tl_machine.proofs.Along.{lock_first}
-use Rattle.tl_core.proofs.Standing.{rest, wants_here, next_first, open_first, may_first}
-use Rattle.tl_core.proofs.Exits.{inside_tree}
+use Rattle.tl_core.proofs.CallInWorld.{rest, wants_here, next_first, open_first, may_first}
+use Rattle.tl_core.proofs.StepExits.{inside_tree}
 
 first_of : (r : Run) (w : Want) → want_of r ≡ w → w ≢ want.Stop stop.Over → (a : Action) × (more : Run) × (r ≡ Then a more)
 first_of (Then a more) w h goes = (a, more, refl)

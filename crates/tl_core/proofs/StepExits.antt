@@ -33,11 +33,11 @@ use Rattle.tl_core.specs.Entries.{stepped_by, step_answer, after_step}
 use Rattle.tl_machine.specs.Along.{IsAlong}
 use Rattle.tl_core.specs.Kept.{IsCore, call_value}
 use Rattle.tl_machine.proofs.Along.{lock_first, along_step, along_lock, along_free, along_end}
-use Rattle.tl_core.proofs.Standing.{keep, call_is, rest, left_tree, left_size, found_tree, found_size, wants_here, open_first, answer_first}
-use Rattle.tl_core.proofs.Permitted.{lock_inside, lock_fresh, free_inside, some_place}
-use Rattle.tl_core.proofs.Storing.{same_item}
-use Rattle.tl_core.proofs.After.{set_holder}
-use Rattle.tl_core.proofs.Stepping.{moves, moved_on, seen, some_open, places_reserved}
+use Rattle.tl_core.proofs.CallInWorld.{keep, call_is, rest, left_tree, left_size, found_tree, found_size, wants_here, open_first, answer_first}
+use Rattle.tl_core.proofs.NextPermitted.{lock_inside, lock_fresh, free_inside, some_place}
+use Rattle.tl_core.proofs.StoredCalls.{same_item}
+use Rattle.tl_core.proofs.AfterAction.{set_holder}
+use Rattle.tl_core.proofs.StepLemmas.{moves, moved_on, seen, some_open, places_reserved}
 
 -- a local action is not changed by the records, and stores nothing
 found_same : (w : World) (a : Action) → IsLocal a → as_found w a ≡ a

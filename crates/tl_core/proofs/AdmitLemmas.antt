@@ -27,7 +27,7 @@ use Rattle.tl_core.specs.declared.call.OpenCall.{OpenCall}
 use Rattle.tl_core.specs.declared.call.Progress.TheVariants.{Open}
 use Rattle.tl_core.specs.declared.interleaving.TheConstants.{MAX_OPEN}
 use Rattle.tl_core.specs.Stored.{Kept, seen_call, seen_turn, AreStored}
-use Rattle.tl_core.proofs.Storing.{more_at, seen_are, turns_are, earlier_turn, stored_more}
+use Rattle.tl_core.proofs.StoredCalls.{more_at, seen_are, turns_are, earlier_turn, stored_more}
 use Rattle.tl_core.specs.Cores.{CoreValue, no_call, call_of, code_of, world_of, total, open_calls, owed_to, places}
 use Rattle.std.specs.Option.{option_map_or}
 use Rattle.tl_procedures.specs.Names.{number_of}
@@ -35,8 +35,8 @@ use Rattle.tl_core.specs.Entries.{procedure_at, with_call_of, after_admission as
 use Rattle.tl_core.specs.Begun.{Begins}
 use Rattle.tl_core.specs.Kept.{IsCore, IsWholeCore, IsKept, call_value}
 use Rattle.tl_machine.proofs.Along.{along_start}
-use Rattle.tl_core.proofs.Totals.{total-same}
-use Rattle.tl_core.proofs.After.{open_in}
+use Rattle.tl_core.proofs.Sums.{total-same}
+use Rattle.tl_core.proofs.AfterAction.{open_in}
 
 last_of : {X : Type 0} → (xs : List X) (x other : X) → get_or (xs ++ x ∷ []) (length xs) other ≡ x
 last_of [] x other = refl
