@@ -70,6 +70,91 @@ frees_locks parents (A.Plain ∷ done) h = frees_locks parents done h.2
 pub frees_within : (parents : List ℕ) (done : List Action) → EachPermitted parents done → free_count done ≤ lock_count done
 frees_within parents done h = let f = frees_locks parents done h in omega arith
 
+-- ---- a call that frees as often as it locks holds nothing
+
+without-has : (x z : ℕ) (ys : List ℕ) → has z (without x ys) ≡ true → has z ys ≡ true
+without-has x z [] h = h
+without-has x z (y ∷ ys) h = elim (cases_Bool (y == x)) [
+  | inl same ↦ let g = rw same at h in grind (arith, g)
+  | inr other ↦ let g = rw other at h in let i = without-has x z ys in grind (arith, g, i)
+]
+
+still-locked : (done : List Action) (x : ℕ) → has x (still done) ≡ true → locked done x ≡ true
+still-locked [] x h = h
+still-locked (A.Lock y found ∷ done) x h = let i = still-locked done x in grind (arith, h, i)
+still-locked (A.Read y f n ∷ done) x h = still-locked done x h
+still-locked (A.Write y f n ∷ done) x h = still-locked done x h
+still-locked (A.Free y left ∷ done) x h = still-locked done x (without-has y x (still done) h)
+still-locked (A.Emit n ∷ done) x h = still-locked done x h
+still-locked (A.End ∷ done) x h = still-locked done x h
+still-locked (A.Plain ∷ done) x h = still-locked done x h
+
+-- no number twice
+abbrev Once : List ℕ → Type 0
+Once [] = Unit {0}
+Once (y ∷ ys) = (has y ys ≡ false) × Once ys
+
+Once-without : (x : ℕ) (ys : List ℕ) → Once ys → Once (without x ys)
+Once-without x [] h = tt
+Once-without x (y ∷ ys) h = elim (cases_Bool (y == x)) [
+  | inl same ↦ rw same h.1
+  | inr other ↦ rw other (elim (cases_Bool (has y (without x ys))) [ inl l ↦ absurd (both_ways (has y ys) h.0 (without-has x y ys l)) | inr away ↦ away ], Once-without x ys h.1)
+]
+
+without-gone : (x : ℕ) (ys : List ℕ) → Once ys → has x (without x ys) ≡ false
+without-gone x [] h = refl
+without-gone x (y ∷ ys) h = elim (cases_Bool (y == x)) [
+  | inl same ↦ rw same (subst (λ z. has z ys ≡ false) (eqb-true y x same) h.0)
+  | inr other ↦ let i = without-gone x ys h.1 in rw other (grind (arith, other, i))
+]
+
+once_still : (parents : List ℕ) (done : List Action) → EachPermitted parents done → Once (still done)
+once_still parents [] h = tt
+once_still parents (A.Lock y found ∷ done) h =
+    (elim (cases_Bool (has y (still done))) [ inl l ↦ absurd (both_ways (locked done y) h.0.0 (still-locked done y l)) | inr away ↦ away ], once_still parents done h.2)
+once_still parents (A.Read y f n ∷ done) h = once_still parents done h.2
+once_still parents (A.Write y f n ∷ done) h = once_still parents done h.2
+once_still parents (A.Free y left ∷ done) h = Once-without y (still done) (once_still parents done h.2)
+once_still parents (A.Emit n ∷ done) h = once_still parents done h.2
+once_still parents (A.End ∷ done) h = once_still parents done h.2
+once_still parents (A.Plain ∷ done) h = once_still parents done h.2
+
+still-held : (parents : List ℕ) (done : List Action) → EachPermitted parents done → (x : ℕ) → has x (still done) ≡ true → held done x ≡ true
+still-held parents [] h x l = l
+still-held parents (A.Lock y found ∷ done) h x l = let i = still-held parents done h.2 x in grind (arith, l, i)
+still-held parents (A.Read y f n ∷ done) h x l = still-held parents done h.2 x l
+still-held parents (A.Write y f n ∷ done) h x l = still-held parents done h.2 x l
+still-held parents (A.Free y left ∷ done) h x l =
+    let i = still-held parents done h.2 x (without-has y x (still done) l) in
+    elim (cases_Bool (y == x)) [
+      | inl same ↦
+          let gone = subst (λ z. has z (without y (still done)) ≡ false) (eqb-true y x same) (without-gone y (still done) (once_still parents done h.2)) in
+          absurd (both_ways (has x (without y (still done))) gone l)
+      | inr other ↦ rw other i
+    ]
+still-held parents (A.Emit n ∷ done) h x l = still-held parents done h.2 x l
+still-held parents (A.End ∷ done) h x l = still-held parents done h.2 x l
+still-held parents (A.Plain ∷ done) h x l = still-held parents done h.2 x l
+
+pub counts-none_held : (parents : List ℕ) (done : List Action) → EachPermitted parents done → lock_count done ≡ free_count done → (x : ℕ) → held done x ≡ false
+counts-none_held parents done h even x = elim (cases_Bool (held done x)) [
+  | inl l ↦
+      let f = frees_locks parents done h in
+      let one = length-without x (still done) (held-still done x l) in
+      absurd (omega (arith, f, one, even))
+  | inr free ↦ free
+]
+
+pub none_held-counts : (parents : List ℕ) (done : List Action) → EachPermitted parents done → ((x : ℕ) → held done x ≡ false) → lock_count done ≡ free_count done
+none_held-counts parents done h none =
+    let f = frees_locks parents done h in
+    let e = empty (still done) (λ x l. both_ways (held done x) (none x) (still-held parents done h x l)) in
+    omega (arith, f, e)
+  where
+    empty : (ys : List ℕ) → ((x : ℕ) → has x ys ≡ true → ⊥) → length ys ≡ 0
+    empty [] out = refl
+    empty (y ∷ ys) out = let self = eq-eqb y y refl in absurd (out y (grind (arith, self)))
+
 -- ---- a call locks each node at most once
 
 -- how many of the first n nodes were locked

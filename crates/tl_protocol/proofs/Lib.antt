@@ -20,4 +20,5 @@ pub mod Holders
 pub mod Counts
 pub mod Pasts
 pub mod Inside
+pub mod PlacingLemmas
 mod Rows

@@ -7,3 +7,4 @@ pub mod Alone
 pub mod World
 pub mod Holders
 pub mod Nodes
+pub mod Placing

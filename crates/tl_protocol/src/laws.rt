@@ -1,18 +1,19 @@
 // The theory of the tree protocol: what is so of every history, every order and every world.
 
-ghost use Rattle.std.specs.Prelude.{◌≡◌, ◌≢◌, ◌↔◌, ℕ, ◌+◌, ◌<◌, ◌≤◌, true, List, [], ◌∷◌, ◌++◌, length, map, reverse, take, slice_get, Contains};
+ghost use Rattle.std.specs.Prelude.{◌≡◌, ◌≢◌, ◌↔◌, ℕ, ◌+◌, ◌<◌, ◌≤◌, true, List, [], ◌∷◌, ◌++◌, length, map, reverse, take, slice_get, Contains, ◌&&◌, ◌==◌, if◌then◌else◌};
 ghost use Rattle.tl_tree.specs.Records.{Record, Records};
-ghost use Rattle.tl_tree.specs.Shape.{IsTree, Above};
+ghost use Rattle.tl_tree.specs.Shape.{parent, IsTree, Above};
 ghost use Rattle.tl_protocol.specs.declared.action.Action.{Action};
 ghost use Rattle.tl_protocol.specs.declared.event.Event.{Event};
 ghost use Rattle.tl_protocol.specs.Ancestors.{nodes_above};
-ghost use Rattle.tl_protocol.specs.Actions.{held, locked, locks_and_frees, lock_count, free_count, taken, EachPermitted, holds_some, may_come};
+ghost use Rattle.tl_protocol.specs.Actions.{held, locked, locked_any, locks_and_frees, lock_count, free_count, taken, Permitted, EachPermitted, holds_some, may_come};
 ghost use Rattle.tl_protocol.specs.Obeys.{Obeys, EndsLast};
 ghost use Rattle.tl_protocol.specs.History.{past_of, part_of, IsOpen, AllDone, InTurn, Apart, FreesBetweenLocks, admits, records_now, IsLegalHistory};
-ghost use Rattle.tl_protocol.specs.Order.{placed, placed_after, Agrees};
+ghost use Rattle.tl_protocol.specs.Order.{stands, IsDistinct, put_before, placed, placed_after, Agrees};
 ghost use Rattle.tl_protocol.specs.Alone.{Outcome, IsAlone, serial};
 ghost use Rattle.tl_protocol.specs.World.{World, Genuine, Legal, IsSound, IsStuck, IsEnabled, MayTake, Reached, alone_of, next_of, reply_of, done_of, as_found, opening_world, after_admission, after_step};
 ghost use Rattle.tl_protocol.specs.Holders.{holder_of};
+ghost use Rattle.tl_protocol.specs.Placing.{is_call, under_of, coming_calls, held_below, IsLegalNext};
 
 // ---- the order
 
@@ -97,6 +98,56 @@ pub fn holders()
     ensures free { (w : World) (c : ℕ) (next : Action) → IsSound w → IsOpen c w.past → next_of w c ≡ Some next
         → ((x : ℕ) (found : Record) → next ≡ Action.Lock x found → holder_of w.past x ≡ None)
         → MayTake w c next }
+{}
+
+/// Two numbers of each node, its holder and the call that was the last to lock it while it held the node's parent, tell
+/// where a call is placed at its first lock. A call that holds the parent of a node has locked the node exactly if it is
+/// that last one. A climb from a node to the root asks each node above once for its holder. It finds each call that may
+/// still come to the node once, and no other, and the first that it finds stands in the order before the others. So the
+/// climb may stop there; and it may stop where no node with a lower number is held.
+pub fn placing()
+    ensures locked { (parents : List ℕ) (past : List Event) (c x : ℕ) → IsTree parents → IsLegalHistory parents past
+        → 0 < x → holder_of past (parent parents x) ≡ Some c
+        → ((under_of parents past x ≡ Some c) ↔ (locked (part_of c past) x ≡ true)) }
+    ensures nodes { (parents : List ℕ) (past : List Event) (c x : ℕ) → IsTree parents → IsLegalHistory parents past
+        → ((may_come parents (part_of c past) x ≡ true)
+        ↔ ((y : ℕ) × Above parents y x × (0 < y) × (holder_of past (parent parents y) ≡ Some c)
+        × (under_of parents past y ≢ Some c))) }
+    ensures found { (parents : List ℕ) (past : List Event) (c x : ℕ) → IsTree parents → IsLegalHistory parents past
+        → may_come parents (part_of c past) x ≡ stands c (coming_calls parents past x) }
+    ensures once { (parents : List ℕ) (past : List Event) (x : ℕ) → IsTree parents → IsLegalHistory parents past
+        → IsDistinct (coming_calls parents past x) }
+    ensures along { (parents : List ℕ) (past : List Event) (c x : ℕ) (found : Record) (order : List ℕ) → IsTree parents
+        → IsLegalHistory parents past
+        → placed_after parents past (Event.Lock x c found) order
+        ≡ (if stands c order then order else put_before (λ d. stands d (coming_calls parents past x)) c order) }
+    ensures first { (parents : List ℕ) (past : List Event) (c x : ℕ) (found : Record) → IsTree parents
+        → IsLegalHistory parents past
+        → placed parents (Event.Lock x c found ∷ past)
+        ≡ (if stands c (placed parents past) then placed parents past
+        else put_before (is_call (slice_get (coming_calls parents past x) 0)) c (placed parents past)) }
+    ensures stop { (parents : List ℕ) (past : List Event) (x : ℕ) → IsTree parents → held_below x past ≡ 0
+        → coming_calls parents past x ≡ [] }
+{}
+
+/// The same two numbers of each node tell whether one more event keeps a history legal, and an event changes them at its
+/// own node alone.
+pub fn rules_by_holders()
+    ensures rules { (parents : List ℕ) (past : List Event) (event : Event) → IsTree parents
+        → IsLegalHistory parents past
+        → (IsLegalHistory parents (event ∷ past) ↔ IsLegalNext parents past event) }
+    ensures lock { (parents : List ℕ) (past : List Event) (c x : ℕ) (found : Record) → IsTree parents
+        → IsLegalHistory parents past
+        → (Permitted parents (part_of c past) (Action.Lock x found)
+        ↔ (locked_any (part_of c past) ≡ true
+        → (0 < x) × (holder_of past (parent parents x) ≡ Some c) × (under_of parents past x ≢ Some c))) }
+    ensures end { (parents : List ℕ) (past : List Event) (c : ℕ) → IsLegalHistory parents past
+        → (Permitted parents (part_of c past) Action.End
+        ↔ (lock_count (part_of c past) ≡ free_count (part_of c past))) }
+    ensures under { (parents : List ℕ) (past : List Event) (c x : ℕ) (found : Record) → IsTree parents
+        → IsLegalHistory parents (Event.Lock x c found ∷ past) → (y : ℕ)
+        → under_of parents (Event.Lock x c found ∷ past) y
+        ≡ (if (x == y) && locked_any (part_of c past) then Some c else under_of parents past y) }
 {}
 
 // ---- the protocol
