@@ -4,4 +4,5 @@ pub mod Coming
 pub mod Holding
 pub mod Ways
 pub mod Holders
+pub mod KeptOrders
 mod Rows

@@ -1,5 +1,7 @@
 pub mod Faults
+pub mod Kept
 pub mod Line
+pub mod Order
 pub mod Part
 pub mod Parts
 pub mod Way

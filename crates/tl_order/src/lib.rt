@@ -4,7 +4,9 @@
 //! to that node. Nothing here knows a procedure, nor who made the history.
 #![tactic(auto)]
 
+mod climb;
 mod fault;
+mod kept;
 mod line;
 mod order;
 mod part;
@@ -13,6 +15,7 @@ mod placing;
 mod way;
 
 pub use fault::SerialFault;
+pub use kept::KeptOrder;
 pub use order::Order;
 pub use part::Part;
 pub use placing::{is_of_shape, order_of};

@@ -76,7 +76,7 @@ impl Line {
 
     /// The order.
     pub fn into_order(self) -> Order
-        ensures { result ≡ self.order }
+        ensures { result.calls ≡ self.order }
     {
         Order::new(self.order)
     }

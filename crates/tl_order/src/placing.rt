@@ -31,8 +31,8 @@ use tl_tree::Shape;
 /// 690 where memory is refused.
 pub fn order_of(alloc: Global, history: &History, shape: &Shape) -> Result<Order, SerialFault>
     requires { All (IsOfNodes (length shape.now)) history.now.past }
-    ensures ok { IfOk result (λ o. o ≡ placed shape.now history.now.past) }
-    ensures agrees { IfOk result (λ o. IsLegalHistory shape.now history.now.past → Agrees o history.now.past) }
+    ensures ok { IfOk result (λ o. o.calls ≡ placed shape.now history.now.past) }
+    ensures agrees { IfOk result (λ o. IsLegalHistory shape.now history.now.past → Agrees o.calls history.now.past) }
     ensures err { IfErr result (λ e. e ≡ SerialFault.Memory) }
 {
     // The shape is a tree's: here a proof learns that.
@@ -43,7 +43,7 @@ pub fn order_of(alloc: Global, history: &History, shape: &Shape) -> Result<Order
 // The same, without what is so of it where the history keeps the rules.
 fn placed_order(alloc: Global, history: &History, shape: &Shape) -> Result<Order, SerialFault>
     requires { All (IsOfNodes (length shape.now)) history.now.past }
-    ensures ok { IfOk result (λ o. o ≡ placed shape.now history.now.past) }
+    ensures ok { IfOk result (λ o. o.calls ≡ placed shape.now history.now.past) }
     ensures err { IfErr result (λ e. e ≡ SerialFault.Memory) }
 {
     let mut line = Line::new(alloc);

@@ -9,5 +9,5 @@ pub returns-clause-agrees : goal.returns-clause-agrees
 returns-clause-agrees c =
     let shape = c.args.shape.now in
     let past = c.args.history.now.past in
-    IfOk-weaker c.placed_order.result (λ o. o ≡ placed shape past) (λ o. IsLegalHistory shape past → Agrees o past)
+    IfOk-weaker c.placed_order.result (λ o. o.calls ≡ placed shape past) (λ o. IsLegalHistory shape past → Agrees o.calls past)
     (λ o is legal. subst (λ z. Agrees z past) (sym is) (placed-agrees shape c.node_count-nodes.ensures.tree past legal)) c.placed_order.ensures.ok

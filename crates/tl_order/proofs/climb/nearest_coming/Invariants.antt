@@ -1,0 +1,14 @@
+use Rattle.std.proofs.Common.{◌≡◌, ◌<◌, List, length}
+use Rattle.tl_protocol.specs.declared.event.Event.{Event}
+use Rattle.tl_protocol.specs.Placing.{coming_calls}
+use Rattle.tl_protocol.specs.Placing.{AreHolders, AreUnder}
+use Rattle.tl_order.proofs.climb.nearest_coming.Given as goal
+
+-- the climb finds the same from here on up
+abbrev pub invariant-loop-step : goal.invariant-loop-step
+invariant-loop-step l =
+    (l.step < length l.shape)
+    × ((past : List Event) → AreHolders l.holders past → AreUnder l.shape l.under past → coming_calls l.shape past l.node ≡ coming_calls l.shape past l.step)
+
+abbrev pub decreases-loop-step : goal.decreases-loop-step
+decreases-loop-step l = l.step

@@ -1,0 +1,25 @@
+-- The order of a history that keeps the rules, and the two numbers of each node that it is kept by.
+use Rattle.std.specs.Prelude.{◌≡◌, ℕ, List, length, Option}
+use Rattle.tl_protocol.specs.declared.event.Event.{Event}
+use Rattle.tl_protocol.specs.Order.{placed}
+use Rattle.tl_protocol.specs.Placing.{AreHolders, AreUnder}
+use Rattle.tl_order.specs.Order.{OrderValue}
+
+-- the order so far, how many calls there may be, and of each node the call that holds it and the call that was the last
+-- to lock it while it held the node's parent
+pub record KeptValue : Type 0 where
+  pub order : OrderValue
+  pub calls : ℕ
+  pub holders : List (Option ℕ)
+  pub under : List (Option ℕ)
+
+-- there is an entry for each of so many nodes
+pub record IsOfSize (k : KeptValue) (nodes : ℕ) : Type 0 where
+  pub holders : length k.holders ≡ nodes
+  pub under : length k.under ≡ nodes
+
+-- the order is that of the history, and so are the two numbers of each node
+pub record IsKept (k : KeptValue) (parents : List ℕ) (past : List Event) : Type 0 where
+  pub order : k.order.calls ≡ placed parents past
+  pub holders : AreHolders k.holders past
+  pub under : AreUnder parents k.under past

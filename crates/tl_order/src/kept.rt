@@ -1,0 +1,204 @@
+// The order of a history that keeps the rules, kept up to date event by event.
+
+ghost use Rattle.std.specs.Prelude.{◌≡◌, ◌<◌, ◌≤◌, ℕ, List, [], ◌∷◌, false, length, insert, slice_get, Some, true, IfOk};
+ghost use Rattle.tl_tree.specs.Records.{Record as RecordValue};
+ghost use Rattle.tl_tree.specs.Shape.{IsTree};
+ghost use Rattle.tl_protocol.specs.declared.event.Event.{Event as EventValue};
+ghost use Rattle.tl_protocol.specs.declared.event.Event.TheVariants as event;
+ghost use Rattle.tl_protocol.specs.History.{IsLegalHistory};
+ghost use Rattle.tl_protocol.specs.Order.{stands, put_before};
+ghost use Rattle.tl_protocol.specs.Placing.{is_call, coming_calls};
+ghost use Rattle.tl_order.specs.Kept.{IsOfSize, IsKept};
+
+use crate::climb::nearest_coming;
+use crate::order::Order;
+use std::alloc::{AllocError, Global};
+use std::marker::Model;
+use tl_tree::Shape;
+
+/// The order of a history that keeps the rules, kept up to date event by event.
+///
+/// At a call's first lock the order changes at one place, and a climb from the node to the root finds it by two numbers of
+/// each node: the call that holds it, and the call that was the last to lock it while it held the node's parent. All memory
+/// is taken at the start.
+#[derive(Drop)]
+pub struct KeptOrder {
+    order: Order,
+    // Of each call whether it stands in the order. The order has memory for as many.
+    standing: Vec<bool>,
+    // Of each node the call that holds it.
+    holders: Vec<Option<u32>>,
+    // Of each node the call that was the last to lock it while it held the node's parent.
+    under: Vec<Option<u32>>,
+}
+
+impl Model for KeptOrder {
+    ghost use Rattle.std.specs.Prelude.{◌≡◌, ◌≤◌, length};
+    ghost use Rattle.tl_order.specs.Kept.{KeptValue};
+    ghost use Rattle.tl_order.specs.Line.{IsLine};
+    ghost use Rattle.tl_order.specs.Part.{trues};
+
+    ghost Value = { KeptValue };
+
+    ghost view = { λ k. record { order = k.order; calls = length k.standing.items; holders = k.holders.items; under = k.under.items } };
+
+    ghost invariant = { λ k. IsLine k.order.calls k.standing.items
+        × (length k.order.calls ≡ trues k.standing.items)
+        × (length k.standing.items ≤ k.order.capacity) };
+}
+
+impl KeptOrder {
+    /// The order of no event, for so many nodes and calls.
+    pub fn new(alloc: Global, nodes: usize, calls: usize) -> Result<KeptOrder, AllocError>
+        ensures calls { IfOk result (λ k. k.calls ≡ calls) }
+        ensures size { IfOk result (λ k. IsOfSize k nodes) }
+        ensures kept { IfOk result (λ k. (parents : List ℕ) → IsKept k parents []) }
+    {
+        let order = Order::with_capacity(alloc, calls)?;
+        let standing = vec![in alloc; false; calls]?;
+        let holders = vec![in alloc; None; nodes]?;
+        let under = vec![in alloc; None; nodes]?;
+        Ok(KeptOrder {
+            order,
+            standing,
+            holders,
+            under,
+        })
+    }
+
+    /// The order of the events so far.
+    pub fn order(&self) -> &Order
+        ensures { result.now ≡ self.now.order }
+    {
+        &self.order
+    }
+
+    /// A call locks the node.
+    pub fn lock(&mut self, shape: &Shape, call: u32, node: u16)
+        requires tree { IsTree shape.now }
+        requires size { IsOfSize self.old (length shape.now) }
+        requires call { call < self.old.calls }
+        requires node { node < length shape.now }
+        ensures calls { self.new.calls ≡ self.old.calls }
+        ensures size { IsOfSize self.new (length shape.now) }
+        ensures kept { (past : List EventValue) (found : RecordValue) → IsKept self.old shape.now past
+            → IsLegalHistory shape.now (event.Lock node call found ∷ past)
+            → IsKept self.new shape.now (event.Lock node call found ∷ past) }
+    {
+        if self.standing[call as usize] {
+            self.lock_again(call, node);
+        } else {
+            self.lock_first(shape, call, node);
+        }
+    }
+
+    // A call that stands in the order locks one more node.
+    fn lock_again(&mut self, call: u32, node: u16)
+        requires holders { node < length self.old.holders }
+        requires under { node < length self.old.under }
+        ensures calls { self.new.calls ≡ self.old.calls }
+        ensures size { (nodes : ℕ) → IsOfSize self.old nodes → IsOfSize self.new nodes }
+        ensures kept { (parents : List ℕ) (past : List EventValue) (found : RecordValue) → IsTree parents
+            → stands call self.old.order.calls ≡ true → IsKept self.old parents past
+            → IsLegalHistory parents (event.Lock node call found ∷ past)
+            → IsKept self.new parents (event.Lock node call found ∷ past) }
+    {
+        self.under[usize::from(node)] = Some(call);
+        self.holders[usize::from(node)] = Some(call);
+    }
+
+    // A call that doesn't stand in the order locks its first node.
+    fn lock_first(&mut self, shape: &Shape, call: u32, node: u16)
+        requires tree { IsTree shape.now }
+        requires size { IsOfSize self.old (length shape.now) }
+        requires call { call < self.old.calls }
+        requires node { node < length shape.now }
+        requires new { stands call self.old.order.calls ≡ false }
+        ensures calls { self.new.calls ≡ self.old.calls }
+        ensures size { IsOfSize self.new (length shape.now) }
+        ensures kept { (past : List EventValue) (found : RecordValue) → IsKept self.old shape.now past
+            → IsLegalHistory shape.now (event.Lock node call found ∷ past)
+            → IsKept self.new shape.now (event.Lock node call found ∷ past) }
+    {
+        let place = self.place_at(shape, node);
+        self.put_in(place, call);
+        self.holders[usize::from(node)] = Some(call);
+    }
+
+    // Where a call that locks the node first is put in: before the first call that may still come to the node, or at the
+    // end.
+    fn place_at(&self, shape: &Shape, node: u16) -> usize
+        requires tree { IsTree shape.now }
+        requires size { IsOfSize self.now (length shape.now) }
+        requires node { node < length shape.now }
+        ensures within { result ≤ length self.now.order.calls }
+        ensures place { (past : List EventValue) (c : ℕ) → IsKept self.now shape.now past
+            → put_before (is_call (slice_get (coming_calls shape.now past node) 0)) c self.now.order.calls
+            ≡ insert self.now.order.calls result c }
+    {
+        match nearest_coming(shape, &self.holders, &self.under, node) {
+            Some(first) => place_of(self.order.calls(), first),
+            None => self.order.calls().len(),
+        }
+    }
+
+    /// A call frees the node.
+    pub fn free(&mut self, node: u16)
+        requires { node < length self.old.holders }
+        ensures calls { self.new.calls ≡ self.old.calls }
+        ensures size { (nodes : ℕ) → IsOfSize self.old nodes → IsOfSize self.new nodes }
+        ensures kept { (parents : List ℕ) (past : List EventValue) (call : ℕ) (left : RecordValue)
+            → IsKept self.old parents past → IsKept self.new parents (event.Free node call left ∷ past) }
+    {
+        self.holders[usize::from(node)] = None;
+    }
+
+    /// A call ends: where it has locked no node, it goes to the end.
+    pub fn end(&mut self, call: u32)
+        requires { call < self.old.calls }
+        ensures calls { self.new.calls ≡ self.old.calls }
+        ensures size { (nodes : ℕ) → IsOfSize self.old nodes → IsOfSize self.new nodes }
+        ensures kept { (parents : List ℕ) (past : List EventValue)
+            → IsKept self.old parents past → IsKept self.new parents (event.Done call ∷ past) }
+    {
+        let last = self.order.calls().len();
+        if !self.standing[call as usize] {
+            self.put_in(last, call);
+        }
+    }
+
+    /// A call was admitted: that changes nothing, and here a proof learns it.
+    pub fn admitted(&self)
+        ensures { (parents : List ℕ) (past : List EventValue) (call : ℕ)
+            → IsKept self.now parents past → IsKept self.now parents (event.Admit call ∷ past) }
+    {
+        let _ = &self.order;
+    }
+
+    // Puts in a call that doesn't stand in the order.
+    fn put_in(&mut self, place: usize, call: u32)
+        requires call { call < self.old.calls }
+        requires new { stands call self.old.order.calls ≡ false }
+        requires place { place ≤ length self.old.order.calls }
+        ensures order { self.new.order.calls ≡ insert self.old.order.calls place call }
+        ensures calls { self.new.calls ≡ self.old.calls }
+        ensures holders { self.new.holders ≡ self.old.holders }
+        ensures under { self.new.under ≡ self.old.under }
+    {
+        self.order.put_in(place, call);
+        self.standing[call as usize] = true;
+    }
+}
+
+// The place of the call in the order, or its end where the call doesn't stand there.
+fn place_of(order: &[u32], call: u32) -> usize
+    ensures within { result ≤ length order.now }
+    ensures place { (c : ℕ) → put_before (is_call (Some call)) c order.now ≡ insert order.now result c }
+{
+    for (place, other) in order.iter().enumerate() {
+        if *other == call {
+            return place;
+        }
+    }
+    order.len()
+}
