@@ -5,4 +5,5 @@ pub mod Holding
 pub mod Ways
 pub mod Holders
 pub mod KeptOrders
+pub mod LegalEvents
 mod Rows

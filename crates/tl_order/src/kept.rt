@@ -1,11 +1,12 @@
 // The order of a history that keeps the rules, kept up to date event by event.
 
-ghost use Rattle.std.specs.Prelude.{◌≡◌, ◌<◌, ◌≤◌, ℕ, List, [], ◌∷◌, false, length, insert, slice_get, Some, true, IfOk};
+ghost use Rattle.std.specs.Prelude.{◌≡◌, ◌<◌, ◌≤◌, ℕ, List, [], ◌∷◌, false, length, insert, slice_get, Some, true, All, IfOk};
 ghost use Rattle.tl_tree.specs.Records.{Record as RecordValue};
 ghost use Rattle.tl_tree.specs.Shape.{IsTree};
 ghost use Rattle.tl_protocol.specs.declared.event.Event.{Event as EventValue};
 ghost use Rattle.tl_protocol.specs.declared.event.Event.TheVariants as event;
-ghost use Rattle.tl_protocol.specs.History.{IsLegalHistory};
+ghost use Rattle.tl_protocol.specs.History.{caller, past_of, admits, IsLegalHistory};
+ghost use Rattle.tl_protocol.specs.Nodes.{IsOfNodes};
 ghost use Rattle.tl_protocol.specs.Order.{stands, put_before};
 ghost use Rattle.tl_protocol.specs.Placing.{is_call, coming_calls};
 ghost use Rattle.tl_order.specs.Kept.{IsOfSize, IsKept};
@@ -14,6 +15,7 @@ use crate::climb::nearest_coming;
 use crate::order::Order;
 use std::alloc::{AllocError, Global};
 use std::marker::Model;
+use tl_protocol::Event;
 use tl_tree::Shape;
 
 /// The order of a history that keeps the rules, kept up to date event by event.
@@ -66,11 +68,58 @@ impl KeptOrder {
         })
     }
 
+    /// The order of these events, which keep the rules, for so many calls.
+    pub fn of_events(
+        alloc: Global,
+        shape: &Shape,
+        events: &[Event],
+        calls: usize,
+    ) -> Result<KeptOrder, AllocError>
+        requires legal { IsLegalHistory shape.now (past_of events.now) }
+        requires nodes { All (IsOfNodes (length shape.now)) events.now }
+        requires calls { admits (past_of events.now) ≤ calls }
+        ensures calls { IfOk result (λ k. k.calls ≡ calls) }
+        ensures size { IfOk result (λ k. IsOfSize k (length shape.now)) }
+        ensures kept { IfOk result (λ k. IsKept k shape.now (past_of events.now)) }
+    {
+        let mut kept = KeptOrder::new(alloc, usize::from(shape.node_count()), calls)?;
+        for event in events {
+            kept.note(shape, event);
+        }
+        Ok(kept)
+    }
+
     /// The order of the events so far.
     pub fn order(&self) -> &Order
         ensures { result.now ≡ self.now.order }
     {
         &self.order
+    }
+
+    /// The order of the events so far, without what it is kept by.
+    pub fn into_order(self) -> Order
+        ensures { result ≡ self.order }
+    {
+        self.order
+    }
+
+    /// Takes up one more event.
+    pub fn note(&mut self, shape: &Shape, event: &Event)
+        requires tree { IsTree shape.now }
+        requires size { IsOfSize self.old (length shape.now) }
+        requires caller { caller event.now < self.old.calls }
+        requires node { IsOfNodes (length shape.now) event.now }
+        ensures calls { self.new.calls ≡ self.old.calls }
+        ensures size { IsOfSize self.new (length shape.now) }
+        ensures kept { (past : List EventValue) → IsKept self.old shape.now past
+            → IsLegalHistory shape.now (event.now ∷ past) → IsKept self.new shape.now (event.now ∷ past) }
+    {
+        match *event {
+            Event::Admit { .. } => self.admitted(),
+            Event::Lock { call, node, .. } => self.lock(shape, call, node),
+            Event::Free { node, .. } => self.free(node),
+            Event::Done { call } => self.end(call),
+        }
     }
 
     /// A call locks the node.
@@ -167,8 +216,8 @@ impl KeptOrder {
         }
     }
 
-    /// A call was admitted: that changes nothing, and here a proof learns it.
-    pub fn admitted(&self)
+    // A call was admitted: that changes nothing, and here a proof learns it.
+    fn admitted(&self)
         ensures { (parents : List ℕ) (past : List EventValue) (call : ℕ)
             → IsKept self.now parents past → IsKept self.now parents (event.Admit call ∷ past) }
     {
