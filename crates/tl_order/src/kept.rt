@@ -216,8 +216,8 @@ impl KeptOrder {
         }
     }
 
-    // A call was admitted: that changes nothing, and here a proof learns it.
-    fn admitted(&self)
+    /// A call was admitted: that changes nothing, and here a proof learns it.
+    pub fn admitted(&self)
         ensures { (parents : List ℕ) (past : List EventValue) (call : ℕ)
             → IsKept self.now parents past → IsKept self.now parents (event.Admit call ∷ past) }
     {

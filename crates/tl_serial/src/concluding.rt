@@ -7,9 +7,10 @@ ghost use Rattle.tl_protocol.specs.Order.{placed, Agrees};
 ghost use Rattle.tl_protocol.specs.World.{reply_of};
 ghost use Rattle.tl_core.specs.Cores.{world_of, IsLeastUnfinished};
 
+use crate::running::order_of_core;
 use std::alloc::Global;
 use tl_core::Core;
-use tl_order::{Order, SerialFault, order_of};
+use tl_order::{Order, SerialFault};
 
 /// The order that the core's history gives, once every call is done. Run alone, one after another along it, the calls
 /// leave the records that there are now, and each gives the reply that it gave.
@@ -20,18 +21,19 @@ pub fn conclude(alloc: Global, core: &Core) -> Result<Order, SerialFault>
         → (c : ℕ) × (e ≡ SerialFault.Unfinished c) × IsLeastUnfinished core.now.seen.past c) }
     ensures memory { IfErr result (λ e. e ≡ SerialFault.Memory → AllDone core.now.seen.past) }
     ensures done { IfOk result (λ _. AllDone core.now.seen.past) }
-    ensures order { IfOk result (λ o. o ≡ placed core.now.seen.parents core.now.seen.past) }
-    ensures known { IfOk result (λ o. All (λ c. c < length core.now.seen.calls) o) }
-    ensures agrees { IfOk result (λ o. Agrees o core.now.seen.past) }
-    ensures tree { IfOk result (λ o. (serial (world_of core.now.seen).meanings o core.now.seen.opening).tree
+    ensures order { IfOk result (λ o. o.calls ≡ placed core.now.seen.parents core.now.seen.past) }
+    ensures known { IfOk result (λ o. All (λ c. c < length core.now.seen.calls) o.calls) }
+    ensures agrees { IfOk result (λ o. Agrees o.calls core.now.seen.past) }
+    ensures tree { IfOk result (λ o. (serial (world_of core.now.seen).meanings o.calls core.now.seen.opening).tree
         ≡ records_now core.now.seen.past core.now.seen.opening) }
-    ensures replies { IfOk result (λ o. (serial (world_of core.now.seen).meanings o core.now.seen.opening).replies
-        ≡ map (reply_of (world_of core.now.seen)) o) }
+    ensures replies { IfOk result (λ o. (serial (world_of core.now.seen).meanings o.calls core.now.seen.opening).replies
+        ≡ map (reply_of (world_of core.now.seen)) o.calls) }
 {
     if let Some(call) = core.least_unfinished() {
         return Err(SerialFault::Unfinished { call });
     }
     // What the order promises comes of the core being sound: here a proof learns that.
     core.is_sound();
-    order_of(alloc, core.history(), core.opening().shape())
+    let order = order_of_core(alloc, core)?;
+    Ok(order.into_order())
 }

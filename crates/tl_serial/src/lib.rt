@@ -6,7 +6,9 @@
 
 mod concluding;
 mod replaying;
+mod running;
 
 pub use concluding::conclude;
 pub use replaying::replay;
+pub use running::Running;
 pub use tl_order::{Order, SerialFault, is_of_shape, order_of};

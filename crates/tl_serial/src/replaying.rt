@@ -13,13 +13,13 @@ use tl_tree::Tree;
 /// The calls of the order run alone, one after another, from the opening tree: the tree that they leave, and their
 /// replies in that order. The core stays as it is. 690 where memory is refused.
 pub fn replay(alloc: Global, order: &Order, core: &Core) -> Result<(Tree, Vec<Reply>), SerialFault>
-    requires { All (λ c. c < length core.now.seen.calls) order.now }
+    requires { All (λ c. c < length core.now.seen.calls) order.now.calls }
     ensures tree { IfOk result (λ r. r.0 ≡ record {
       parents = core.now.seen.parents;
-      records = (serial (world_of core.now.seen).meanings order.now core.now.seen.opening).tree;
+      records = (serial (world_of core.now.seen).meanings order.now.calls core.now.seen.opening).tree;
     }) }
     ensures replies { IfOk result (λ r. r.1.items
-        ≡ (serial (world_of core.now.seen).meanings order.now core.now.seen.opening).replies) }
+        ≡ (serial (world_of core.now.seen).meanings order.now.calls core.now.seen.opening).replies) }
     ensures err { IfErr result (λ e. e ≡ SerialFault.Memory) }
 {
     let Ok(mut tree) = core.opening().copy(alloc) else {

@@ -1,0 +1,2 @@
+pub mod OrderOfCore
+pub mod OrderSteps

@@ -1,0 +1,106 @@
+-- The order of a core after a step of a call.
+use Rattle.std.proofs.Common.{◌≡◌, ℕ, ◌+◌, ◌<◌, ◌≤◌, List, [], ◌∷◌, ◌++◌, Some, Ok, length, refl, sym, ap, ◌∙◌, subst, arith}
+use Rattle.std.specs.Prelude.{All}
+use Rattle.tl_tree.specs.Records.{Record}
+use Rattle.tl_tree.specs.Shape.{IsTree}
+use Rattle.tl_protocol.specs.declared.action.Action.{Action}
+use Rattle.tl_protocol.specs.declared.action.Action.TheVariants as did
+use Rattle.tl_protocol.specs.declared.event.Event.{Event}
+use Rattle.tl_protocol.specs.declared.event.Event.TheVariants.{Admit, Lock, Free, Done}
+use Rattle.tl_protocol.specs.History.{admits, IsLegalHistory}
+use Rattle.tl_protocol.specs.Nodes.{IsOfNodes}
+use Rattle.tl_protocol.specs.World.{past_after}
+use Rattle.tl_machine.specs.BetweenSteps.{IsLocal}
+use Rattle.tl_machine.specs.declared.want.Stop.{Stop}
+use Rattle.tl_machine.specs.declared.want.Stop.TheVariants as stop
+use Rattle.tl_machine.specs.Turns.{SegmentValue}
+use Rattle.tl_core.specs.Cores.{CoreState, CoreValue}
+use Rattle.tl_core.specs.Entries.{after_step}
+use Rattle.tl_core.specs.Followed.{Goes, HasGone, EachLocal, EndsStop}
+use Rattle.tl_core.specs.declared.stepped.Stepped.TheVariants.{Moved}
+use Rattle.tl_order.proofs.LegalEvents.{caller_known}
+use Rattle.tl_order.specs.Kept.{KeptValue, IsOfSize}
+use Rattle.tl_serial.specs.Running.{IsStopInside, HasStopped}
+
+-- a local action is no event
+pub local_past : (c : ℕ) (a : Action) (past : List Event) → IsLocal a → past_after c a past ≡ past
+local_past c (did.Lock x found) past is = absurd is
+local_past c (did.Free x left) past is = absurd is
+local_past c did.End past is = absurd is
+local_past c (did.Read x f n) past is = refl
+local_past c (did.Write x f n) past is = refl
+local_past c (did.Emit n) past is = refl
+local_past c did.Plain past is = refl
+
+-- the call that did the action of its stop was admitted
+pub stopped_known : (parents : List ℕ) → IsTree parents → (c : ℕ) (s : Stop) (a : Action) (past : List Event) → EndsStop s a → IsLegalHistory parents (past_after c a past) → c < admits (past_after c a past)
+stopped_known parents tree c s (did.Lock x found) past ends legal = caller_known parents tree (Lock x c found) past legal
+stopped_known parents tree c s (did.Free x left) past ends legal = caller_known parents tree (Free x c left) past legal
+stopped_known parents tree c s did.End past ends legal = caller_known parents tree (Done c) past legal
+stopped_known parents tree c s (did.Read x f n) past ends legal = absurd ends
+stopped_known parents tree c s (did.Write x f n) past ends legal = absurd ends
+stopped_known parents tree c s (did.Emit n) past ends legal = absurd ends
+stopped_known parents tree c s did.Plain past ends legal = absurd ends
+
+-- and it stopped at a node of the tree
+pub stop_inside : (count c : ℕ) (s : Stop) (a : Action) (past : List Event) → EndsStop s a → All (IsOfNodes count) (past_after c a past) → IsStopInside count s
+stop_inside count c s (did.Lock x found) past ends inside = let here : x < count = inside 0 (Admit 0) (omega arith) in subst (IsStopInside count) (sym ends) here
+stop_inside count c s (did.Free x left) past ends inside = let here : x < count = inside 0 (Admit 0) (omega arith) in subst (IsStopInside count) (sym ends) here
+stop_inside count c s did.End past ends inside = subst (IsStopInside count) (sym ends) tt
+stop_inside count c s (did.Read x f n) past ends inside = absurd ends
+stop_inside count c s (did.Write x f n) past ends inside = absurd ends
+stop_inside count c s (did.Emit n) past ends inside = absurd ends
+stop_inside count c s did.Plain past ends inside = absurd ends
+
+-- a call that does local actions and then one more adds the event of the last
+pub goes_past : (v w : CoreValue) (c : ℕ) (local : List Action) (last : Action) → EachLocal local → Goes v c (local ++ last ∷ []) w → w.past ≡ past_after c last v.past
+goes_past v w c [] last each goes = sym (ap (λ u. u.past) goes.1)
+goes_past v w c (a ∷ local) last each goes =
+    goes_past (after_step v c (Ok (Moved a))) w c local last each.1 goes.1 ∙ ap (past_after c last) (local_past c a v.past each.0)
+
+pub goes_parents : (v w : CoreValue) (c : ℕ) (actions : List Action) → Goes v c actions w → w.parents ≡ v.parents
+goes_parents v w c [] goes = sym (ap (λ u. u.parents) goes)
+goes_parents v w c (a ∷ actions) goes = goes_parents (after_step v c (Ok (Moved a))) w c actions goes.1
+
+-- what is so of every lock of the node is so of what a call did that stopped there
+pub at_lock : (P : List Event → Type 0) (c x : ℕ) (s : Stop) (last : Action) (past : List Event) → s ≡ stop.Lock x → EndsStop s last
+    → ((found : Record) → P (Lock x c found ∷ past)) → P (past_after c last past)
+at_lock P c x s (did.Lock y found) past is ends each =
+    let both : stop.Lock y ≡ stop.Lock x = sym ends ∙ is in
+    let same : y ≡ x = cc in
+    subst (λ z. P (Lock z c found ∷ past)) (sym same) (each found)
+at_lock P c x s (did.Free y left) past is ends each = let both : stop.Free y ≡ stop.Lock x = sym ends ∙ is in absurd cc
+at_lock P c x s did.End past is ends each = let both : stop.Return ≡ stop.Lock x = sym ends ∙ is in absurd cc
+at_lock P c x s (did.Read y f n) past is ends each = absurd ends
+at_lock P c x s (did.Write y f n) past is ends each = absurd ends
+at_lock P c x s (did.Emit n) past is ends each = absurd ends
+at_lock P c x s did.Plain past is ends each = absurd ends
+
+-- and of every free
+pub at_free : (P : List Event → Type 0) (c x : ℕ) (s : Stop) (last : Action) (past : List Event) → s ≡ stop.Free x → EndsStop s last
+    → ((left : Record) → P (Free x c left ∷ past)) → P (past_after c last past)
+at_free P c x s (did.Free y left) past is ends each =
+    let both : stop.Free y ≡ stop.Free x = sym ends ∙ is in
+    let same : y ≡ x = cc in
+    subst (λ z. P (Free z c left ∷ past)) (sym same) (each left)
+at_free P c x s (did.Lock y found) past is ends each = let both : stop.Lock y ≡ stop.Free x = sym ends ∙ is in absurd cc
+at_free P c x s did.End past is ends each = let both : stop.Return ≡ stop.Free x = sym ends ∙ is in absurd cc
+at_free P c x s (did.Read y f n) past is ends each = absurd ends
+at_free P c x s (did.Write y f n) past is ends each = absurd ends
+at_free P c x s (did.Emit n) past is ends each = absurd ends
+at_free P c x s did.Plain past is ends each = absurd ends
+
+-- a call that has gone to the end of a segment did the action of its stop last
+pub gone_stopped : (v w : CoreState) (c : ℕ) (segment : SegmentValue) → HasGone v c segment w → HasStopped w.seen c segment.stop v.seen.past
+gone_stopped v w c segment gone = record {
+  last = gone.last;
+  ends = gone.is_last;
+  past_is = goes_past v.seen w.seen c gone.local gone.last gone.each_local gone.goes;
+}
+
+pub gone_parents : (v w : CoreState) (c : ℕ) (segment : SegmentValue) → HasGone v c segment w → w.seen.parents ≡ v.seen.parents
+gone_parents v w c segment gone = goes_parents v.seen w.seen c (gone.local ++ gone.last ∷ []) gone.goes
+
+-- and the order of the history before is of as many nodes
+pub same_size : (k : KeptValue) (parents more : List ℕ) → more ≡ parents → IsOfSize k (length parents) → IsOfSize k (length more)
+same_size k parents more same size = subst (λ shape. IsOfSize k (length shape)) (sym same) size

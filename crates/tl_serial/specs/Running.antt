@@ -1,0 +1,30 @@
+-- A core and the order of its history.
+use Rattle.std.specs.Prelude.{◌≡◌, ℕ, ◌<◌, List, length}
+use Rattle.tl_protocol.specs.declared.action.Action.{Action}
+use Rattle.tl_protocol.specs.declared.event.Event.{Event}
+use Rattle.tl_protocol.specs.World.{past_after}
+use Rattle.tl_history.specs.declared.history.TheConstants.{MAX_CALLS}
+use Rattle.tl_machine.specs.declared.want.Stop.{Stop}
+use Rattle.tl_machine.specs.declared.want.Stop.TheVariants.{Lock, Free, Return, Over}
+use Rattle.tl_core.specs.Cores.{CoreValue}
+use Rattle.tl_core.specs.Followed.{EndsStop}
+use Rattle.tl_order.specs.Kept.{KeptValue, IsOfSize, IsKept}
+
+-- what is kept is of the core's history, and there is memory for as many calls as a core may have
+pub record IsOrderOf (k : KeptValue) (v : CoreValue) : Type 0 where
+  pub kept : IsKept k v.parents v.past
+  pub size : IsOfSize k (length v.parents)
+  pub calls : k.calls ≡ MAX_CALLS
+
+-- the node of a lock or of a free is below the count
+abbrev pub IsStopInside : ℕ → Stop → Type 0
+IsStopInside count (Lock x) = x < count
+IsStopInside count (Free x) = x < count
+IsStopInside count Return = Unit {0}
+IsStopInside count Over = Unit {0}
+
+-- the call did the action of its stop last, after these events
+pub record HasStopped (v : CoreValue) (c : ℕ) (s : Stop) (past : List Event) : Type 0 where
+  pub last : Action
+  pub ends : EndsStop s last
+  pub past_is : v.past ≡ past_after c last past

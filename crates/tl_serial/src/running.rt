@@ -1,0 +1,240 @@
+// A core whose order is kept up to date.
+
+ghost use Rattle.std.specs.Prelude.{◌≡◌, ◌≢◌, ◌<◌, ◌↔◌, ℕ, List, ◌∷◌, ◌++◌, [], All, IfOk, IfErr, IfSome, IsNone, OnOk, OnErr, None, true, false, length, map};
+ghost use Rattle.tl_tree.specs.Shape.{IsTree};
+ghost use Rattle.tl_protocol.specs.declared.action.Action.{Action as ActionValue};
+ghost use Rattle.tl_protocol.specs.declared.event.Event.{Event as EventValue};
+ghost use Rattle.tl_protocol.specs.Alone.{serial};
+ghost use Rattle.tl_protocol.specs.History.{AllDone, records_now, IsLegalHistory};
+ghost use Rattle.tl_protocol.specs.Order.{placed, Agrees};
+ghost use Rattle.tl_protocol.specs.World.{IsStuck, reply_of, past_after};
+ghost use Rattle.tl_procedures.specs.Names.{naming_refusal};
+ghost use Rattle.tl_procedures.specs.declared.fault.NamingFault.TheVariants as naming;
+ghost use Rattle.tl_core.specs.Cores.{CoreState, world_of, done_by, kept_turn, IsLeastUnfinished};
+ghost use Rattle.tl_core.specs.Entries.{step_answer, after_step, admission_refusal, after_admission, part_of_run, entry_of, IsBlocked};
+ghost use Rattle.tl_core.specs.Followed.{IsFollowed, HasGone, IsUnhindered, IsFollowFault, EndsStop};
+ghost use Rattle.tl_machine.specs.Turns.{SegmentValue};
+ghost use Rattle.tl_core.specs.declared.fault.CoreFault.TheVariants as fault;
+ghost use Rattle.tl_machine.specs.BetweenSteps.{IsLocal};
+ghost use Rattle.tl_order.specs.Kept.{IsOfSize, IsKept};
+ghost use Rattle.tl_serial.specs.Running.{IsOrderOf, IsStopInside, HasStopped};
+ghost use Rattle.tl_history.specs.declared.history.TheConstants.{MAX_CALLS};
+
+use std::alloc::{AllocError, Global};
+use std::marker::Model;
+use tl_core::{Core, CoreFault, Followed, Stepped};
+use tl_history::MAX_CALLS;
+use tl_machine::{Segment, Stop};
+use tl_order::{KeptOrder, Order, SerialFault};
+use tl_procedures::NamingFault;
+use tl_protocol::Action;
+use tl_tree::Shape;
+use tl_verify::Proc;
+
+/// A core whose order is kept up to date: by its type it is the order that the core's history gives. A contract sees the
+/// core.
+#[derive(Drop)]
+pub struct Running {
+    core: Core,
+    order: KeptOrder,
+}
+
+impl Model for Running {
+    ghost use Rattle.tl_core.specs.Cores.{CoreState};
+    ghost use Rattle.tl_serial.specs.Running.{IsOrderOf};
+
+    ghost Value = { CoreState };
+
+    ghost view = { λ r. r.core };
+
+    ghost invariant = { λ r. IsOrderOf r.order r.core.seen };
+}
+
+impl Running {
+    /// The core with its order. All memory that the order ever needs is taken here: 690 where it is refused.
+    pub fn new(alloc: Global, core: Core) -> Result<Running, CoreFault>
+        ensures ok { IfOk result (λ r. r ≡ core) }
+        ensures err { IfErr result (λ e. e ≡ fault.Memory) }
+    {
+        let order = order_of_core(alloc, &core)?;
+        Ok(Running { core, order })
+    }
+
+    /// The core.
+    pub fn core(&self) -> &Core
+        ensures { result.now ≡ self.now }
+    {
+        &self.core
+    }
+
+    /// The order that the history so far gives. Takes no memory.
+    pub fn order(&self) -> &Order
+        ensures { result.now.calls ≡ placed self.now.seen.parents self.now.seen.past }
+    {
+        self.order.order()
+    }
+
+    /// Takes up a procedure under a name, as the core does: 612, 611, 613, 690.
+    pub fn add_proc(
+        &mut self,
+        alloc: Global,
+        name: &str,
+        procedure: Proc,
+    ) -> Result<u32, NamingFault>
+        ensures number { IfOk result (λ n. n ≡ length self.old.seen.procedures) }
+        ensures free { IfOk result (λ _. naming_refusal self.old.seen.procedures name.now ≡ None) }
+        ensures last { OnOk result (self.new ≡ record self.old { seen = record self.old.seen { procedures = self.old.seen.procedures ++ record { name = name.now; code = procedure } ∷ [] } }) }
+        ensures fault { IfErr result (λ e. e ≢ naming.Memory → naming_refusal self.old.seen.procedures name.now ≡ Some e) }
+        ensures memory { IfErr result (λ e. e ≡ naming.Memory → naming_refusal self.old.seen.procedures name.now ≡ None) }
+        ensures err { OnErr result (self.new ≡ self.old) }
+    {
+        self.core.add_proc(alloc, name, procedure)
+    }
+
+    /// Admits a call, as the core does: 601, 501, 603, 604, 605, 690. The order stays as it is.
+    pub fn admit(&mut self, alloc: Global, name: &str, args: &[i64]) -> Result<u32, CoreFault>
+        ensures number { IfOk result (λ n. n ≡ length self.old.seen.calls) }
+        ensures free { IfOk result (λ _. admission_refusal self.old.seen name.now args.now ≡ None) }
+        ensures after { OnOk result (self.new.seen ≡ after_admission self.old.seen name.now args.now) }
+        ensures turns { (c : ℕ) → c < length self.old.seen.calls → kept_turn self.new c ≡ kept_turn self.old c }
+        ensures fault { IfErr result (λ e. e ≢ fault.Memory → admission_refusal self.old.seen name.now args.now ≡ Some e) }
+        ensures memory { IfErr result (λ e. e ≡ fault.Memory → admission_refusal self.old.seen name.now args.now ≡ None) }
+        ensures err { OnErr result (self.new ≡ self.old) }
+    {
+        let admitted = self.core.admit(alloc, name, args);
+        self.order.admitted();
+        admitted
+    }
+
+    /// The next instruction of a call, as the core does it: 602. A first lock puts the call in order. Takes no memory.
+    #[inline]
+    pub fn step(&mut self, call: u32) -> Result<Stepped, CoreFault>
+        ensures answer { result ≡ step_answer (world_of self.old.seen) call }
+        ensures after { self.new.seen ≡ after_step self.old.seen call result }
+        ensures done { (c : ℕ) → done_by self.new.seen c ≡ done_by self.old.seen c ++ part_of_run c (entry_of call result ∷ []) }
+        ensures blocked { IsBlocked result ↔ IsStuck (world_of self.old.seen) call }
+        ensures turns { (c : ℕ) → c ≢ call → kept_turn self.new c ≡ kept_turn self.old c }
+    {
+        let stepped = self.core.step(call);
+        if let Ok(Stepped::Moved { action }) = &stepped {
+            if let Some(stop) = stop_of(action) {
+                take_up(&mut self.order, &self.core, call, stop);
+            }
+        }
+        stepped
+    }
+
+    /// Lets a call do the instructions of a segment, which were done elsewhere, as the core does: 602, 607. Takes no memory.
+    pub fn follow(&mut self, call: u32, segment: Segment) -> Result<Followed, CoreFault>
+        ensures from { IfOk result (λ _. kept_turn self.old call ≡ Some segment.from) }
+        ensures followed { IfOk result (λ f. IsFollowed self.old call segment f self.new) }
+        ensures unhindered { IfOk result (λ f. IsUnhindered self.old segment f) }
+        ensures turns { (c : ℕ) → c ≢ call → kept_turn self.new c ≡ kept_turn self.old c }
+        ensures fault { IfErr result (λ e. IsFollowFault self.old call segment e) }
+        ensures err { OnErr result (self.new ≡ self.old) }
+    {
+        let stop = segment.stop();
+        let followed = self.core.follow(call, segment);
+        if let Ok(outcome) = &followed {
+            if has_gone(outcome) {
+                take_up(&mut self.order, &self.core, call, stop);
+            }
+        }
+        followed
+    }
+
+    /// The order, once every call is done, with all that `conclude` promises of it. 651 with the least unfinished call where
+    /// there is one; else 690 where memory is refused.
+    pub fn conclude(&self, alloc: Global) -> Result<Order, SerialFault>
+        ensures unfinished { IfErr result (λ e. e ≢ SerialFault.Memory
+            → (c : ℕ) × (e ≡ SerialFault.Unfinished c) × IsLeastUnfinished self.now.seen.past c) }
+        ensures memory { IfErr result (λ e. e ≡ SerialFault.Memory → AllDone self.now.seen.past) }
+        ensures done { IfOk result (λ _. AllDone self.now.seen.past) }
+        ensures order { IfOk result (λ o. o.calls ≡ placed self.now.seen.parents self.now.seen.past) }
+        ensures known { IfOk result (λ o. All (λ c. c < length self.now.seen.calls) o.calls) }
+        ensures agrees { IfOk result (λ o. Agrees o.calls self.now.seen.past) }
+        ensures tree { IfOk result (λ o. (serial (world_of self.now.seen).meanings o.calls self.now.seen.opening).tree
+            ≡ records_now self.now.seen.past self.now.seen.opening) }
+        ensures replies { IfOk result (λ o. (serial (world_of self.now.seen).meanings o.calls self.now.seen.opening).replies
+            ≡ map (reply_of (world_of self.now.seen)) o.calls) }
+    {
+        if let Some(call) = self.core.least_unfinished() {
+            return Err(SerialFault::Unfinished { call });
+        }
+        // What the order promises comes of the core being sound: here a proof learns that.
+        self.core.is_sound();
+        Ok(self.order().copy(alloc)?)
+    }
+}
+
+/// The order that the core's history gives, with memory for as many calls as a core may have.
+pub(crate) fn order_of_core(alloc: Global, core: &Core) -> Result<KeptOrder, AllocError>
+    ensures { IfOk result (λ k. IsOrderOf k core.now.seen) }
+{
+    // The history keeps the rules, and has no more calls than that: here a proof learns it.
+    core.is_sound();
+    let _calls = core.calls();
+    let shape = core.opening().shape();
+    KeptOrder::of_events(alloc, shape, core.history().events(), MAX_CALLS)
+}
+
+// Where the call stopped that did this, if it is no local action.
+fn stop_of(action: &Action) -> Option<Stop>
+    ensures some { IfSome result (λ s. EndsStop s action.now) }
+    ensures none { IsNone result → IsLocal action.now }
+{
+    match *action {
+        Action::Lock { node, .. } => Some(Stop::Lock(node)),
+        Action::Free { node, .. } => Some(Stop::Free(node)),
+        Action::End => Some(Stop::Return),
+        _ => None,
+    }
+}
+
+// Whether the call did what the segment ends with.
+fn has_gone(outcome: &Followed) -> bool
+    ensures gone { (v w : CoreState) (c : ℕ) (segment : SegmentValue) → IsFollowed v c segment outcome.now w
+        → result ≡ true → HasGone v c segment w }
+    ensures blocked { (v w : CoreState) (c : ℕ) (segment : SegmentValue) → IsFollowed v c segment outcome.now w
+        → result ≡ false → w ≡ v }
+{
+    match outcome {
+        Followed::Went(_) => true,
+        Followed::Finished(_) => true,
+        Followed::Blocked { .. } => false,
+    }
+}
+
+// Takes up what the call did at that stop, in the order of the history before.
+fn take_up(order: &mut KeptOrder, core: &Core, call: u32, stop: Stop)
+    requires size { IsOfSize order.old (length core.now.seen.parents) }
+    requires calls { order.old.calls ≡ MAX_CALLS }
+    requires stopped { (past : List EventValue) × HasStopped core.now.seen call stop past }
+    ensures { (past : List EventValue) → HasStopped core.now.seen call stop past
+        → IsKept order.old core.now.seen.parents past → IsOrderOf order.new core.now.seen }
+{
+    // The history keeps the rules, and has no more calls than that: here a proof learns it.
+    core.is_sound();
+    let _calls = core.calls();
+    note_stop(order, core.opening().shape(), call, stop);
+}
+
+// The same, where the call and the node are known to be in range.
+fn note_stop(order: &mut KeptOrder, shape: &Shape, call: u32, stop: Stop)
+    requires tree { IsTree shape.now }
+    requires size { IsOfSize order.old (length shape.now) }
+    requires call { call < order.old.calls }
+    requires node { IsStopInside (length shape.now) stop }
+    ensures calls { order.new.calls ≡ order.old.calls }
+    ensures size { IsOfSize order.new (length shape.now) }
+    ensures kept { (past : List EventValue) (last : ActionValue) → EndsStop stop last → IsKept order.old shape.now past
+        → IsLegalHistory shape.now (past_after call last past) → IsKept order.new shape.now (past_after call last past) }
+{
+    match stop {
+        Stop::Lock(node) => order.lock(shape, call, node),
+        Stop::Free(node) => order.free(node),
+        Stop::Return => order.end(call),
+        // Where the call is over nothing was done.
+        Stop::Over => {}
+    }
+}
