@@ -23,7 +23,7 @@ use tl_tree::Shape;
 /// At a call's first lock the order changes at one place, and a climb from the node to the root finds it by two numbers of
 /// each node: the call that holds it, and the call that was the last to lock it while it held the node's parent. All memory
 /// is taken at the start.
-#[derive(Drop)]
+#[derive(Debug, Drop)]
 pub struct KeptOrder {
     order: Order,
     // Of each call whether it stands in the order. The order has memory for as many.

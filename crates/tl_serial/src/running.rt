@@ -33,7 +33,7 @@ use tl_verify::Proc;
 
 /// A core whose order is kept up to date: by its type it is the order that the core's history gives. A contract sees the
 /// core.
-#[derive(Drop)]
+#[derive(Debug, Drop)]
 pub struct Running {
     core: Core,
     order: KeptOrder,

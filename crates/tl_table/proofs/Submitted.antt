@@ -1,6 +1,6 @@
 -- A table after a segment.
-use Rattle.std.proofs.Common.{◌≡◌, ◌≢◌, ◌⊎◌, ⊎_elim, inl, inr, ℕ, zero, suc, ◌<◌, ◌≤◌, ◌+◌, Bool, true, false, List, [], ◌∷◌, ◌++◌, length, set, get_or, refl, sym, ap, ◌∙◌, subst, arith}
-use Rattle.std.specs.Prelude.{◌==◌, ◌||◌, if◌then◌else◌, slice_set, Ok}
+use Rattle.std.proofs.Common.{◌≡◌, ◌≢◌, ◌⊎◌, ⊎_elim, inl, inr, ℕ, zero, suc, ◌<◌, ◌≤◌, true, false, List, [], ◌∷◌, ◌++◌, length, set, get_or, refl, sym, ap, ◌∙◌, subst, arith}
+use Rattle.std.specs.Prelude.{◌||◌, if◌then◌else◌, slice_set, Ok}
 use Rattle.std.proofs.lemmas.Bool.{cases_eq, eq-eqb, ne_eqb}
 use Rattle.tl_history.specs.declared.history.TheConstants.{MAX_CALLS}
 use Rattle.tl_protocol.specs.declared.action.Action.{Action}
@@ -16,7 +16,7 @@ use Rattle.tl_core.specs.Cores.{CoreState, CoreValue}
 use Rattle.tl_core.specs.Entries.{after_step}
 use Rattle.tl_core.specs.Followed.{Goes, EachLocal, EndsStop, HasGone}
 use Rattle.tl_table.specs.Ends.{begun_by_end}
-use Rattle.tl_table.specs.Tables.{TableValue, seen, owner_of, IsKnown}
+use Rattle.tl_table.specs.Tables.{TableValue, seen, IsKnown}
 use Rattle.tl_table.specs.Stored.{IsTable}
 
 -- ---- what becomes of the history

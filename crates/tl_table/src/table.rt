@@ -1,8 +1,10 @@
 // A core, its sessions, and which call is whose.
 
-ghost use Rattle.std.specs.Prelude.{◌≡◌, ◌≢◌, ℕ, ◌+◌, ◌<◌, ◌≤◌, ◌↔◌, [], ◌∷◌, ◌++◌, length, true, false, IsTrue, IsOk, IfOk, IfErr, OnOk, OnErr, MatchOption, Some, None};
+ghost use Rattle.std.specs.Prelude.{◌≡◌, ◌≢◌, ℕ, ◌+◌, ◌<◌, ◌≤◌, ◌↔◌, ◌⊎◌, All, map, [], ◌∷◌, ◌++◌, length, true, false, IsTrue, IsOk, IfOk, IfErr, OnOk, OnErr, MatchOption, Some, None};
 ghost use Rattle.tl_instr.specs.declared.operand.TheConstants.{MAX_ARGS};
-ghost use Rattle.tl_protocol.specs.History.{is_done, IsOpen};
+ghost use Rattle.tl_protocol.specs.Alone.{serial};
+ghost use Rattle.tl_protocol.specs.History.{is_done, records_now, IsOpen};
+ghost use Rattle.tl_protocol.specs.Order.{placed, Agrees};
 ghost use Rattle.tl_protocol.specs.Holders.{holder_of};
 ghost use Rattle.tl_procedures.specs.Names.{naming_refusal};
 ghost use Rattle.tl_procedures.specs.declared.fault.NamingFault.TheVariants as naming;
@@ -25,7 +27,9 @@ use std::marker::Model;
 use tl_core::{Core, CoreFault, Followed};
 use tl_history::MAX_CALLS;
 use tl_machine::{Reply, Segment, Turn};
+use tl_order::Order;
 use tl_procedures::NamingFault;
+use tl_serial::Running;
 use tl_verify::Proc;
 
 /// How many sessions a table gives at most.
@@ -36,7 +40,7 @@ pub const MAX_SESSIONS: u32 = 65_535;
 /// A contract sees the core, how many sessions were given, and of each call its session.
 #[derive(Debug, Drop)]
 pub struct Table {
-    core: Core,
+    running: Running,
     sessions: u32,
     // By call. Here and below there is memory for 4,096 from the start.
     owners: Vec<u32>,
@@ -51,17 +55,17 @@ impl Model for Table {
 
     ghost Value = { TableValue };
 
-    ghost view = { λ t. record { core = t.core; sessions = t.sessions; owners = t.owners.items } };
+    ghost view = { λ t. record { core = t.running; sessions = t.sessions; owners = t.owners.items } };
 
-    ghost invariant = { λ t. IsTable (record { core = t.core; sessions = t.sessions; owners = t.owners.items }) t.begun.items (vec_capacity t.owners) (vec_capacity t.begun) };
+    ghost invariant = { λ t. IsTable (record { core = t.running; sessions = t.sessions; owners = t.owners.items }) t.begun.items (vec_capacity t.owners) (vec_capacity t.begun) };
 }
 
 impl Table {
-    /// A table of a core that has no calls yet, without sessions. 890 where memory is refused.
+    /// A table of a core that has no calls yet, without sessions. 690 or 890 where memory is refused.
     pub fn new(alloc: Global, core: Core) -> Result<Table, TableFault>
         requires { core.seen.calls ≡ [] }
         ensures ok { IfOk result (λ t. t ≡ record { core = core; sessions = 0; owners = [] }) }
-        ensures err { IfErr result (λ e. e ≡ fault.Memory) }
+        ensures err { IfErr result (λ e. (e ≡ fault.Memory) ⊎ (e ≡ fault.Core core_fault.Memory)) }
     {
         let Ok(owners) = Vec::with_capacity(alloc, MAX_CALLS) else {
             return Err(TableFault::Memory);
@@ -69,8 +73,12 @@ impl Table {
         let Ok(begun) = Vec::with_capacity(alloc, MAX_CALLS) else {
             return Err(TableFault::Memory);
         };
+        let running = match Running::new(alloc, core) {
+            Ok(running) => running,
+            Err(fault) => return Err(TableFault::Core(fault)),
+        };
         Ok(Table {
-            core,
+            running,
             sessions: 0,
             owners,
             begun,
@@ -108,7 +116,7 @@ impl Table {
         ensures memory { IfErr result (λ e. e ≡ naming.Memory → naming_refusal (seen self.old).procedures name.now ≡ None) }
         ensures err { OnErr result (self.new ≡ self.old) }
     {
-        self.core.add_proc(alloc, name, procedure)
+        self.running.add_proc(alloc, name, procedure)
     }
 
     /// Admits a call for a session, and answers its number. 803 where no session of that number was given; then what the
@@ -133,13 +141,13 @@ impl Table {
             return Err(TableFault::NoSession);
         }
         // The calls are those that were admitted, and each name was free, so it is short: here a proof learns that.
-        self.core.is_sound();
-        let _count = self.core.procedures().len();
-        match self.core.admit(alloc, name, args) {
+        self.running.core().is_sound();
+        let _count = self.running.core().procedures().len();
+        match self.running.admit(alloc, name, args) {
             Ok(call) => {
                 // At most so many calls: here a proof learns that.
-                let _calls = self.core.calls();
-                let _request = self.core.request(call);
+                let _calls = self.running.core().calls();
+                let _request = self.running.core().request(call);
                 self.owners.push_reserved(session);
                 self.begun.push_reserved(0);
                 Ok(call)
@@ -155,7 +163,7 @@ impl Table {
         ensures receipt { IfOk result (λ o. MatchOption o (is_done call (seen self.now).past ≡ false) (λ r. (r.call ≡ call) × Stands self.now r)) }
         ensures fault { IfErr result (λ e. e ≡ fault.Core core_fault.NoCall) }
     {
-        if call as usize >= self.core.calls() {
+        if call as usize >= self.running.core().calls() {
             return Err(TableFault::Core(CoreFault::NoCall));
         }
         Ok(self.receipt_of(call))
@@ -166,7 +174,7 @@ impl Table {
         requires { IsKnown self.now call }
         ensures { MatchOption result (is_done call (seen self.now).past ≡ false) (λ r. (r.call ≡ call) × Stands self.now r) }
     {
-        let reply = self.core.reply(call)?;
+        let reply = self.running.core().reply(call)?;
         Some(self.told(call, reply))
     }
 
@@ -177,7 +185,7 @@ impl Table {
         requires reply { answered.now ≡ reply_of (world_of (seen self.now)) call }
         ensures { (result.call ≡ call) × Stands self.now result }
     {
-        let (procedure, given) = self.core.request(call);
+        let (procedure, given) = self.running.core().request(call);
         let mut args = ArrayVec::new();
         let Ok(()) = args.try_extend_from_slice(given) else {
             unreachable!()
@@ -205,8 +213,8 @@ impl Table {
         ensures memory { IfErr result (λ e. e ≡ fault.Memory → IsKnown self.now call) }
     {
         // The calls are those that were admitted: here a proof learns that.
-        let _calls = self.core.calls();
-        match self.core.turn(call) {
+        let _calls = self.running.core().calls();
+        match self.running.core().turn(call) {
             Ok(turn) => Ok(turn),
             Err(CoreFault::Memory) => Err(TableFault::Memory),
             Err(fault) => Err(TableFault::Core(fault)),
@@ -228,17 +236,17 @@ impl Table {
         ensures err { OnErr result (self.new ≡ self.old) }
     {
         // What is so of the call before: here a proof learns that.
-        self.core.is_sound();
-        let _calls = self.core.calls();
-        match self.core.follow(call, segment) {
+        self.running.core().is_sound();
+        let _calls = self.running.core().calls();
+        match self.running.follow(call, segment) {
             Ok(Followed::Went(turn)) => {
                 // And what is so of it now.
-                self.core.is_sound();
+                self.running.core().is_sound();
                 Ok(Sent::Went(turn))
             }
             Ok(Followed::Blocked { .. }) => Ok(Sent::Blocked),
             Ok(Followed::Finished(reply)) => {
-                self.begun[call as usize] = self.core.calls() as u32;
+                self.begun[call as usize] = self.running.core().calls() as u32;
                 Ok(Sent::Finished(self.told(call, &reply)))
             }
             Err(CoreFault::NotFrom) => Err(TableFault::Stale),
@@ -251,21 +259,29 @@ impl Table {
         ensures { IsTrue result ↔ IsOpen call (seen self.now).past }
     {
         // The calls are those that were admitted: here a proof learns that.
-        (call as usize) < self.core.calls() && self.core.reply(call).is_none()
+        (call as usize) < self.running.core().calls() && self.running.core().reply(call).is_none()
     }
 
     /// Whether a call holds the node. Takes no memory.
     pub fn is_held(&self, node: u16) -> bool
         ensures { node < length (seen self.now).parents → IsTrue result ↔ (holder_of (seen self.now).past node ≢ None) }
     {
-        node < self.core.opening().shape().node_count() && self.core.holder(node).is_some()
+        node < self.running.core().opening().shape().node_count()
+            && self.running.core().holder(node).is_some()
     }
 
     /// The core.
     pub fn core(&self) -> &Core
         ensures { result.now ≡ self.now.core }
     {
-        &self.core
+        self.running.core()
+    }
+
+    // The order that the history so far gives.
+    fn order(&self) -> &Order
+        ensures { result.now.calls ≡ placed (seen self.now).parents (seen self.now).past }
+    {
+        self.running.order()
     }
 
     // How many calls had been admitted when this one ended.
@@ -290,7 +306,7 @@ impl Table {
         ensures ok { IfOk result (λ c. (c ≡ self) × IsAtRest self) }
         ensures err { IfErr result (λ t. (t ≡ self) × ¬ IsAtRest self) }
     {
-        if self.core.some_enabled().is_some() {
+        if self.running.core().some_enabled().is_some() {
             return Err(self);
         }
         Ok(Closed { table: self })
@@ -330,6 +346,22 @@ impl Closed {
         ensures done { IsAtRest self.now }
     {
         self.table.core()
+    }
+
+    /// The order that the history gives. Run alone, one after another along it, the calls leave the records that there are
+    /// now, and each gives the reply that it gave. Takes no memory.
+    pub fn order(&self) -> &Order
+        ensures order { result.now.calls ≡ placed (seen self.now).parents (seen self.now).past }
+        ensures known { All (λ c. c < length (seen self.now).calls) result.now.calls }
+        ensures agrees { Agrees result.now.calls (seen self.now).past }
+        ensures tree { (serial (world_of (seen self.now)).meanings result.now.calls (seen self.now).opening).tree
+            ≡ records_now (seen self.now).past (seen self.now).opening }
+        ensures replies { (serial (world_of (seen self.now)).meanings result.now.calls (seen self.now).opening).replies
+            ≡ map (reply_of (world_of (seen self.now))) result.now.calls }
+    {
+        // What the order promises comes of the core being sound: here a proof learns that.
+        self.table.core().is_sound();
+        self.table.order()
     }
 
     /// Of each call its session.

@@ -1,5 +1,4 @@
-use Rattle.std.proofs.Common.{◌≡◌, ◌<◌, length, refl, sym, ap, subst, arith}
-use Rattle.tl_protocol.specs.History.{admits}
+use Rattle.std.proofs.Common.{◌<◌, length, refl, ap, ◌∙◌, subst, arith}
 use Rattle.tl_core.specs.declared.followed.Followed.{Followed}
 use Rattle.tl_core.specs.declared.followed.Followed.TheVariants.{Went, Finished}
 use Rattle.tl_core.specs.Followed.{IsFollowed}
@@ -8,34 +7,38 @@ use Rattle.tl_table.proofs.table.Table.submit.Goals as goal
 
 pub invariant_of-self : goal.invariant_of-self
 invariant_of-self c =
-    let F : Followed → Type 0 = λ f. IsFollowed c.self.inside.core c.args.call c.args.segment f c.follow.new.self in
+    let F : Followed → Type 0 = λ f. IsFollowed c.self.inside.running c.args.call c.args.segment f c.follow.new.self in
     let h : F (Went c.in-Ok-Went.turn) = subst F c.in-Ok-Went.field-0-is c.in-Ok-Went.ensures.followed in
-    let is_open = (c.is_sound-in-Ok-Went.ensures.turn_of c.args.call c.in-Ok-Went.turn h.1).is_open in
-    table_went _ _ _ _ c.self.invariant c.follow.new.self c.args.call (gone c.self.inside.core c.follow.new.self c.args.call c.args.segment h.0) is_open.1
+    let turn_of = rw c.core-in-Ok-Went.ensures at c.is_sound-in-Ok-Went.ensures.turn_of in
+    let is_open = (turn_of c.args.call c.in-Ok-Went.turn h.1).is_open in
+    table_went _ _ _ _ c.self.invariant c.follow.new.self c.args.call (gone c.self.inside.running c.follow.new.self c.args.call c.args.segment h.0) is_open.1
 
 pub invariant_of-self-in-Ok-Finished : goal.invariant_of-self-in-Ok-Finished
 invariant_of-self-in-Ok-Finished c =
-    let F : Followed → Type 0 = λ f. IsFollowed c.self.inside.core c.args.call c.args.segment f c.follow.new.self in
+    let F : Followed → Type 0 = λ f. IsFollowed c.self.inside.running c.args.call c.args.segment f c.follow.new.self in
     let h : F (Finished c.in-Ok-Finished.reply) = subst F c.in-Ok-Finished.field-0-is c.in-Ok-Finished.ensures.followed in
-    let is_open = (c.is_sound.ensures.turn_of c.args.call c.args.segment.from c.in-Ok-Finished.ensures.from).is_open in
-    let counted = c.is_sound.ensures.counted in
-    let known : c.args.call < length c.self.inside.core.seen.calls = omega (arith, is_open.0, counted) in
-    table_finished _ _ _ _ c.self.invariant c.follow.new.self c.args.call (gone c.self.inside.core c.follow.new.self c.args.call c.args.segment h.0)
-    known counted is_open.1 h.1 c.calls.result c.calls.ensures.count _ refl _ refl
+    let turn_of = rw c.core.ensures at c.is_sound.ensures.turn_of in
+    let is_open = (turn_of c.args.call c.args.segment.from c.in-Ok-Finished.ensures.from).is_open in
+    let counted = rw c.core.ensures at c.is_sound.ensures.counted in
+    let known : c.args.call < length c.self.inside.running.seen.calls = omega (arith, is_open.0, counted) in
+    table_finished _ _ _ _ c.self.invariant c.follow.new.self c.args.call (gone c.self.inside.running c.follow.new.self c.args.call c.args.segment h.0)
+    known counted is_open.1 h.1 c.calls.result (c.calls.ensures.count ∙ ap (λ s. length s.seen.calls) c.core-in-Ok-Finished.ensures) _ refl _ refl
 
 pub told-requires-clause-known : goal.told-requires-clause-known
 told-requires-clause-known c =
-    let F : Followed → Type 0 = λ f. IsFollowed c.self.inside.core c.args.call c.args.segment f c.follow.new.self in
+    let F : Followed → Type 0 = λ f. IsFollowed c.self.inside.running c.args.call c.args.segment f c.follow.new.self in
     let h : F (Finished c.in-Ok-Finished.reply) = subst F c.in-Ok-Finished.field-0-is c.in-Ok-Finished.ensures.followed in
-    let is_open = (c.is_sound.ensures.turn_of c.args.call c.args.segment.from c.in-Ok-Finished.ensures.from).is_open in
-    let counted = c.is_sound.ensures.counted in
-    let later : IsLater c.self.inside.core.seen c.args.call c.follow.new.self.seen = gone c.self.inside.core c.follow.new.self c.args.call c.args.segment h.0 in
+    let turn_of = rw c.core.ensures at c.is_sound.ensures.turn_of in
+    let is_open = (turn_of c.args.call c.args.segment.from c.in-Ok-Finished.ensures.from).is_open in
+    let counted = rw c.core.ensures at c.is_sound.ensures.counted in
+    let later : IsLater c.self.inside.running.seen c.args.call c.follow.new.self.seen = gone c.self.inside.running c.follow.new.self c.args.call c.args.segment h.0 in
     let known : c.args.call < length c.follow.new.self.seen.calls = omega (arith, is_open.0, counted, later.calls) in
     known
 
 pub index_mut-requires : goal.index_mut-requires
 index_mut-requires c =
-    let is_open = (c.is_sound.ensures.turn_of c.args.call c.args.segment.from c.in-Ok-Finished.ensures.from).is_open in
-    let calls = c.is_sound.ensures.counted in
+    let turn_of = rw c.core.ensures at c.is_sound.ensures.turn_of in
+    let is_open = (turn_of c.args.call c.args.segment.from c.in-Ok-Finished.ensures.from).is_open in
+    let calls = rw c.core.ensures at c.is_sound.ensures.counted in
     let counted = c.self.invariant.counted in
     omega (arith, is_open.0, calls, counted)
