@@ -8,6 +8,7 @@ use Rattle.tl_protocol.specs.Alone.{serial}
 use Rattle.tl_protocol.specs.Obeys.{Obeys}
 use Rattle.tl_protocol.specs.Order.{placed, Agrees}
 use Rattle.tl_protocol.specs.World.{Legal, reply_of}
+use Rattle.tl_order.specs.Order.{OrderValue}
 use Rattle.tl_trail.specs.Trails.{TrailValue, IsTrail, call_at, found_alone, meaning_of, world_of}
 use Rattle.tl_trail.specs.Clean.{Clean}
 use Rattle.tl_audit.specs.Findings.{IsFirstFault}
@@ -35,7 +36,7 @@ only_order t (Ok x) P ok err clean = ok
 only_order t (Err f) P ok err clean = only_memory t f clean err
 
 -- an answer of a trail that is right says all that a verdict says
-pub verdict : (t : TrailValue) → IsTrail t → (r : Result (List ℕ) AuditFault) → IfOk r (λ _. Clean t) → IfOk r (λ o. o ≡ placed t.parents t.past)
+pub verdict : (t : TrailValue) → IsTrail t → (r : Result OrderValue AuditFault) → IfOk r (λ _. Clean t) → IfOk r (λ o. o.calls ≡ placed t.parents t.past)
     → IfErr r (λ f. f ≢ Memory → IsFirstFault t f) → IsVerdict t r
 verdict t trail r clean order fault = record {
   clean = clean;
@@ -44,10 +45,10 @@ verdict t trail r clean order fault = record {
   only = only_order t r _ order fault;
   legal = IfOk-weaker r _ (λ _. Legal (world_of t)) (λ o is. clean_legal t trail is) clean;
   obeys = IfOk-weaker r _ (λ _. (c : ℕ) → c < length t.calls → Obeys t.parents (found_alone t c).actions) (λ o is c lt. clean_obeys t trail is c lt) clean;
-  agrees = both_ok r _ _ (λ o. Agrees o t.past) (λ o is same. subst (λ (p : List ℕ). Agrees p t.past) (sym same) (clean_agrees t trail is)) clean order;
-  tree = both_ok r _ _ (λ o. (serial (meaning_of t) o t.opening).tree ≡ t.ends)
+  agrees = both_ok r _ _ (λ o. Agrees o.calls t.past) (λ o is same. subst (λ (p : List ℕ). Agrees p t.past) (sym same) (clean_agrees t trail is)) clean order;
+  tree = both_ok r _ _ (λ o. (serial (meaning_of t) o.calls t.opening).tree ≡ t.ends)
       (λ o is same. subst (λ (p : List ℕ). (serial (meaning_of t) p t.opening).tree ≡ t.ends) (sym same) (clean_tree t trail is)) clean order;
-  replies = both_ok r _ _ (λ o. (serial (meaning_of t) o t.opening).replies ≡ map (reply_of (world_of t)) o)
+  replies = both_ok r _ _ (λ o. (serial (meaning_of t) o.calls t.opening).replies ≡ map (reply_of (world_of t)) o.calls)
       (λ o is same. subst (λ (p : List ℕ). (serial (meaning_of t) p t.opening).replies ≡ map (reply_of (world_of t)) p) (sym same) (clean_replies t trail is)) clean order;
   told = IfOk-weaker r _ (λ _. (c : ℕ) → c < length t.calls → (call_at t c).reply ≡ Some (reply_of (world_of t) c)) (λ o is c lt. clean_told t c is lt) clean;
 }

@@ -25,6 +25,7 @@ use Rattle.tl_protocol.proofs.Records.{length-records_now, record_at-records_now
 use Rattle.tl_machine.proofs.StartLemmas.{is_alone}
 use Rattle.tl_audit.specs.declared.fault.AuditFault.{AuditFault}
 use Rattle.tl_audit.specs.declared.fault.AuditFault.TheVariants.{RuleBroken, Overlap, WrongFound, NotGenuine, Unfinished, WrongEnd, WrongReply, Memory}
+use Rattle.tl_history.specs.declared.history.TheConstants.{MAX_CALLS}
 use Rattle.tl_trail.specs.Trails.{TrailValue, IsTrail, IsCallOf, call_at, no_call, meaning_of, found_alone, world_of}
 use Rattle.tl_trail.specs.Clean.{IsRight, AreRight, Clean}
 use Rattle.tl_audit.specs.Findings.{IsFirstEventFault, IsFirstFault}
@@ -106,6 +107,12 @@ admits_within calls (Admit c ∷ past) turn callers =
 admits_within calls (Lock x c found ∷ past) turn callers = admits_within calls past turn.1 (All-tail (λ e. caller e < calls) (Lock x c found) past callers)
 admits_within calls (Free x c left ∷ past) turn callers = admits_within calls past turn.1 (All-tail (λ e. caller e < calls) (Free x c left) past callers)
 admits_within calls (Done c ∷ past) turn callers = admits_within calls past turn.1 (All-tail (λ e. caller e < calls) (Done c) past callers)
+
+pub right_admits : (t : TrailValue) → IsTrail t → AreRight t.parents t.opening t.past → admits t.past ≤ MAX_CALLS
+right_admits t trail right =
+    let few = admits_within (length t.calls) t.past (right_turn t.parents t.opening t.past right) trail.callers in
+    let most = trail.few in
+    omega (arith, few, most)
 
 -- ---- the actions of a call that has ended
 

@@ -1,9 +1,10 @@
 -- What an auditor's answer says of a trail.
-use Rattle.std.specs.Prelude.{◌≡◌, ◌≢◌, ℕ, ◌<◌, List, length, map, Some, Result, IfOk, IfErr, MatchResult}
+use Rattle.std.specs.Prelude.{◌≡◌, ◌≢◌, ℕ, ◌<◌, length, map, Some, Result, IfOk, IfErr, MatchResult}
 use Rattle.tl_protocol.specs.Alone.{serial}
 use Rattle.tl_protocol.specs.Obeys.{Obeys}
 use Rattle.tl_protocol.specs.Order.{placed, Agrees}
 use Rattle.tl_protocol.specs.World.{Legal, reply_of}
+use Rattle.tl_order.specs.Order.{OrderValue}
 use Rattle.tl_trail.specs.Trails.{TrailValue, call_at, found_alone, meaning_of, world_of}
 use Rattle.tl_trail.specs.Clean.{Clean}
 use Rattle.tl_audit.specs.Findings.{IsFirstFault}
@@ -12,14 +13,14 @@ use Rattle.tl_audit.specs.declared.fault.AuditFault.TheVariants.{Memory}
 
 -- The answer is the order that the events give, exactly where the trail is clean, and else the first thing that is wrong;
 -- want of memory may stand in the place of any answer. The last six say what a yes implies, whoever wrote the trail.
-pub record IsVerdict (t : TrailValue) (answer : Result (List ℕ) AuditFault) : Type 0 where
+pub record IsVerdict (t : TrailValue) (answer : Result OrderValue AuditFault) : Type 0 where
   pub clean : IfOk answer (λ _. Clean t)
-  pub order : IfOk answer (λ o. o ≡ placed t.parents t.past)
+  pub order : IfOk answer (λ o. o.calls ≡ placed t.parents t.past)
   pub fault : IfErr answer (λ f. f ≢ Memory → IsFirstFault t f)
-  pub only : Clean t → MatchResult answer (λ o. o ≡ placed t.parents t.past) (λ f. f ≡ Memory)
+  pub only : Clean t → MatchResult answer (λ o. o.calls ≡ placed t.parents t.past) (λ f. f ≡ Memory)
   pub legal : IfOk answer (λ _. Legal (world_of t))
   pub obeys : IfOk answer (λ _. (c : ℕ) → c < length t.calls → Obeys t.parents (found_alone t c).actions)
-  pub agrees : IfOk answer (λ o. Agrees o t.past)
-  pub tree : IfOk answer (λ o. (serial (meaning_of t) o t.opening).tree ≡ t.ends)
-  pub replies : IfOk answer (λ o. (serial (meaning_of t) o t.opening).replies ≡ map (reply_of (world_of t)) o)
+  pub agrees : IfOk answer (λ o. Agrees o.calls t.past)
+  pub tree : IfOk answer (λ o. (serial (meaning_of t) o.calls t.opening).tree ≡ t.ends)
+  pub replies : IfOk answer (λ o. (serial (meaning_of t) o.calls t.opening).replies ≡ map (reply_of (world_of t)) o.calls)
   pub told : IfOk answer (λ _. (c : ℕ) → c < length t.calls → (call_at t c).reply ≡ Some (reply_of (world_of t) c))

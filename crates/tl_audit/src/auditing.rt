@@ -13,7 +13,8 @@ use crate::genuine::check_calls;
 use crate::progress::{EVENTS_BETWEEN, Progress, Silent};
 use crate::watch::Watch;
 use std::alloc::Global;
-use tl_order::{Order, order_of};
+use tl_history::MAX_CALLS;
+use tl_order::{KeptOrder, Order};
 use tl_trail::Trail;
 use tl_tree::Record;
 
@@ -44,7 +45,7 @@ pub fn audit_with<P: Progress>(
 // Whether a trail is clean, without what follows of that.
 fn judge<P: Progress>(alloc: Global, trail: &Trail, progress: &mut P) -> Result<Order, AuditFault>
     ensures clean { IfOk result (λ _. Clean trail.now) }
-    ensures order { IfOk result (λ o. o ≡ placed trail.now.parents trail.now.past) }
+    ensures order { IfOk result (λ o. o.calls ≡ placed trail.now.parents trail.now.past) }
     ensures fault { IfErr result (λ f. f ≢ AuditFault.Memory → IsFirstFault trail.now f) }
 {
     let watch = check_events(alloc, trail, progress)?;
@@ -54,15 +55,15 @@ fn judge<P: Progress>(alloc: Global, trail: &Trail, progress: &mut P) -> Result<
     placed_order(alloc, trail)
 }
 
-// The order that the events give.
+// The order that the events give, with which nothing is wrong.
 fn placed_order(alloc: Global, trail: &Trail) -> Result<Order, AuditFault>
-    ensures order { IfOk result (λ o. o ≡ placed trail.now.parents trail.now.past) }
+    requires { AreRight trail.now.parents trail.now.opening trail.now.past }
+    ensures order { IfOk result (λ o. o.calls ≡ placed trail.now.parents trail.now.past) }
     ensures fault { IfErr result (λ f. f ≡ AuditFault.Memory) }
 {
-    match order_of(alloc, trail.history(), trail.opening().shape()) {
-        Ok(order) => Ok(order),
-        Err(_) => Err(AuditFault::Memory),
-    }
+    let events = trail.history().events();
+    let kept = KeptOrder::of_events(alloc, trail.opening().shape(), events, MAX_CALLS)?;
+    Ok(kept.into_order())
 }
 
 // Whether each event is right: 711, 712, 713 at the first that isn't. What the events came to is kept.
