@@ -1,7 +1,7 @@
 // The command line.
 
 use clap::error::ErrorKind;
-use clap::{Arg, ArgMatches, Command, Error};
+use clap::{Arg, ArgMatches, Command, Error, value_parser};
 use std::alloc::{AllocError, Global};
 
 /// What the program is asked to do.
@@ -20,6 +20,13 @@ pub enum Request<'a> {
     /// Carry out a script on a tree, and write the trail to a file where one is named.
     Drive {
         tree: &'a str,
+        script: &'a str,
+        trail: Option<&'a str>,
+    },
+    /// Run the calls of a script on a tree, on up to so many threads, and write the trail to a file where one is named.
+    Run {
+        tree: &'a str,
+        workers: usize,
         script: &'a str,
         trail: Option<&'a str>,
     },
@@ -78,6 +85,14 @@ Example: treedb drive --tree three.json moves.json
 prints {\"trace\":[..]}, what came of each move; {\"order\":[..]}, the order in which the calls would do the same alone,
 or {\"error\":[651,call]} where a call is unfinished; and then the tree as JSON. With --trail the calls, what they did and
 the records in the end are written to a file, which treedb audit checks. The other files are not changed.
+Exit status: 0 done, 1 refused, 2 a mistake on the command line, 3 a file that can't be read or written, 4 memory.";
+
+const RUN_HELP: &str = "\
+Example: treedb run --tree fork.json --workers 2 calls.json
+prints {\"batch\":[..]}, what came of each call, {\"call\":0,\"reply\":[8]} or {\"error\":[601]}; {\"order\":[..]}, the order in
+which the calls would do the same alone; and then the tree as JSON. Two runs may take the calls in another order. With
+--trail the calls, what they did and the records in the end are written to a file, which treedb audit checks. The other
+files are not changed.
 Exit status: 0 done, 1 refused, 2 a mistake on the command line, 3 a file that can't be read or written, 4 memory.";
 
 const VERIFY_HELP: &str = "\
@@ -153,18 +168,37 @@ fn audit_command<'a>(alloc: Global) -> Result<Command<'a>, AllocError> {
         .arg(file_arg(alloc, "TRAIL", "The file of the trail, as JSON"))
 }
 
-fn drive_command<'a>(alloc: Global) -> Result<Command<'a>, AllocError> {
-    let trail = Arg::new(alloc, "trail")
+fn trail_arg<'a>(alloc: Global) -> Arg<'a> {
+    Arg::new(alloc, "trail")
         .long("trail")
         .value_name("F")
-        .help("The file that the trail is written to");
+        .help("The file that the trail is written to")
+}
+
+fn drive_command<'a>(alloc: Global) -> Result<Command<'a>, AllocError> {
     Command::new(alloc, "drive")
         .about(
             "Lets calls take turns on a tree, as a script says, and prints what came of each move",
         )
         .after_help(DRIVE_HELP)
         .arg(tree_arg(alloc))?
-        .arg(trail)?
+        .arg(trail_arg(alloc))?
+        .arg(file_arg(alloc, "SCRIPT", "The file of the script, as JSON"))
+}
+
+fn run_command<'a>(alloc: Global) -> Result<Command<'a>, AllocError> {
+    let workers = Arg::new(alloc, "workers")
+        .long("workers")
+        .value_name("N")
+        .required(true)
+        .value_parser(value_parser!(usize).range(1..=16))
+        .help("How many threads run the calls, 1 to 16");
+    Command::new(alloc, "run")
+        .about("Runs the calls of a script on a tree, many at once, and prints what came of each")
+        .after_help(RUN_HELP)
+        .arg(tree_arg(alloc))?
+        .arg(workers)?
+        .arg(trail_arg(alloc))?
         .arg(file_arg(alloc, "SCRIPT", "The file of the script, as JSON"))
 }
 
@@ -176,6 +210,7 @@ fn command<'a>(alloc: Global) -> Result<Command<'a>, AllocError> {
         .arg_required_else_help(true)
         .subcommand(alone_command(alloc)?)?
         .subcommand(drive_command(alloc)?)?
+        .subcommand(run_command(alloc)?)?
         .subcommand(audit_command(alloc)?)?
         .subcommand(asm_command(alloc)?)?
         .subcommand(dis_command(alloc)?)?
@@ -202,6 +237,12 @@ fn request_of<'a>(matches: &ArgMatches<'a>) -> Option<Request<'a>> {
         }),
         "drive" => Some(Request::Drive {
             tree: words.get_str("tree")?,
+            script: words.get_str("SCRIPT")?,
+            trail: words.get_str("trail"),
+        }),
+        "run" => Some(Request::Run {
+            tree: words.get_str("tree")?,
+            workers: words.get_one("workers")?,
             script: words.get_str("SCRIPT")?,
             trail: words.get_str("trail"),
         }),

@@ -12,8 +12,12 @@ use command_line::Asked;
 use program::Program;
 use std::io::{ErrorKind, IsTerminal};
 use std::process::ExitCode;
+use std::rt::Files;
+use std::sync::Wait;
+use std::thread::Threads;
 pub use tl_commands::{
-    CliFault, alone_cmd, asm_cmd, audit_cmd, dis_cmd, drive_cmd, drive_with_trail_cmd, verify_cmd,
+    CliFault, alone_cmd, asm_cmd, audit_cmd, dis_cmd, drive_cmd, drive_with_trail_cmd, run_cmd,
+    run_with_trail_cmd, verify_cmd,
 };
 
 /// The exit status where memory is refused before a command is known. Nothing is printed then.
@@ -47,21 +51,23 @@ fn tell<R: Print + Eprint>(rt: &R, error: &Error) -> u8 {
     output::status_after(rt, printed, status)
 }
 
-// Does what the command line asks for, and answers the exit status.
-fn run(rt: &HostRuntime) -> u8 {
-    let words = match words(rt) {
-        Ok(words) => words,
-        Err(status) => return status,
-    };
-    match command_line::parse(rt.alloc(), &words) {
-        Ok(Asked::Request(request)) => {
-            Program::new(rt, rt.stderr().is_terminal()).carry_out(&request)
-        }
+// Does what the words of the command line ask for, and answers the exit status.
+fn answer<R: Files + Print + Eprint + AllocGlobal + Threads + Wait + Sync>(
+    rt: &R,
+    words: &[String],
+    is_terminal: bool,
+) -> u8 {
+    match command_line::parse(rt.alloc(), words) {
+        Ok(Asked::Request(request)) => Program::new(rt, is_terminal).carry_out(&request),
         Ok(Asked::Told(error)) => tell(rt, &error),
         Err(_) => NO_MEMORY,
     }
 }
 
 fn main(rt: HostRuntime) -> ExitCode {
-    ExitCode::from(run(&rt))
+    let status = match words(&rt) {
+        Ok(words) => answer(&rt, &words, rt.stderr().is_terminal()),
+        Err(status) => status,
+    };
+    ExitCode::from(status)
 }

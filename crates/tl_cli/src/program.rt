@@ -5,10 +5,13 @@ use crate::failure::Failure;
 use crate::progress::Shown;
 use crate::{
     CliFault, alone_cmd, asm_cmd, audit_cmd, dis_cmd, drive_cmd, drive_with_trail_cmd, output,
-    verify_cmd,
+    run_cmd, run_with_trail_cmd, verify_cmd,
 };
 use std::io::ErrorKind;
 use std::rt::Files;
+use std::sync::Wait;
+use std::thread::Threads;
+use tl_workers::{MAX_WORKERS, NoGate};
 
 /// Where commands find their files, and whether people see on a terminal how far they are.
 #[derive(Drop)]
@@ -89,6 +92,29 @@ impl<'a, R: Files + Print + Eprint + AllocGlobal> Program<'a, R> {
         shown.end();
         Ok(answer?)
     }
+}
+
+impl<'a, R: Files + Print + Eprint + AllocGlobal + Threads + Wait + Sync> Program<'a, R> {
+    // The trail is written to a file, where one is named.
+    fn run<'p>(
+        &self,
+        tree: &'p str,
+        workers: usize,
+        script: &'p str,
+        trail: Option<&'p str>,
+    ) -> Result<String, Failure<'p>> {
+        let tree = self.read_file(tree)?;
+        let script = self.read_file(script)?;
+        let alloc = self.rt.alloc();
+        // The command line takes no other numbers.
+        let workers = workers.clamp(1, MAX_WORKERS);
+        let Some(path) = trail else {
+            return Ok(run_cmd(self.rt, alloc, &tree, &script, workers, &NoGate)?);
+        };
+        let (lines, trail) = run_with_trail_cmd(self.rt, alloc, &tree, &script, workers, &NoGate)?;
+        self.write_file(path, trail.as_bytes())?;
+        Ok(lines)
+    }
 
     // What the program prints for a request.
     fn answer<'p>(&self, request: &Request<'p>) -> Result<String, Failure<'p>> {
@@ -108,6 +134,12 @@ impl<'a, R: Files + Print + Eprint + AllocGlobal> Program<'a, R> {
                 script,
                 trail,
             } => self.drive(tree, script, trail),
+            Request::Run {
+                tree,
+                workers,
+                script,
+                trail,
+            } => self.run(tree, workers, script, trail),
             Request::Verify { container } => {
                 Ok(verify_cmd(self.rt.alloc(), &self.read_file(container)?)?)
             }

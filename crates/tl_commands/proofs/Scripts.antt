@@ -1,14 +1,16 @@
--- The parts of a script.
-use Rattle.std.proofs.Common.{◌≡◌, ◌≢◌, ◌<◌, ◌+◌, ℕ, List, [], ◌∷◌, ◌++◌, map, drop, get_or, length, codes, Option, Some, None, option_map, option_and_then, refl, sym, ap, eq-eqb, ne_eqb}
-use Rattle.std.proofs.lemmas.List.{append_assoc, map_push, drop_more}
+-- The parts of a script, and what a file with a script has.
+use Rattle.std.proofs.Common.{◌≡◌, ◌≢◌, ◌≤◌, ℕ, ℤ, List, length, codes, Option, Some, None, option_map, option_and_then, IsUtf8, refl, sym, ap, ◌∙◌, eq-eqb, ne_eqb}
+use Rattle.std.specs.Prelude.{MatchOption}
+use Rattle.std.proofs.lemmas.Bool.{le-leb}
 use Rattle.serde_json.specs.Data.{Data, null, boolean, number, string, array, object, Members}
 use Rattle.serde_json.specs.Events.{members_len}
 use Rattle.serde_json.specs.Find.{as_object, get, get_member}
-use Rattle.serde_json.specs.View.{view, items_view}
-use Rattle.serde_json.specs.declared.value.Value.{Value}
-use Rattle.tl_tree.specs.Reading.{each_item}
-use Rattle.tl_tree.proofs.Items.{onto}
-use Rattle.tl_commands.specs.Script.{parts_of}
+use Rattle.serde_json.specs.Read.{read}
+use Rattle.tl_forms.specs.Requests.{request_of}
+use Rattle.tl_commands.specs.declared.script.Script.{Script}
+use Rattle.tl_commands.specs.Script.{ScriptValue, parts_of, script_of, if_few, script_of_calls, IsScript}
+
+-- ---- its parts
 
 object_is : (d : Data) (ms : Members) → as_object d ≡ Some ms → d ≡ object ms
 object_is null ms e = absurd cc
@@ -18,12 +20,44 @@ object_is (string s) ms e = absurd cc
 object_is (array ds) ms e = absurd cc
 object_is (object ns) ms e = ap object (let same : ns ≡ ms = cc in same)
 
-pub parts_found : (d : Data) (ms : Members) (a b : Data) → as_object d ≡ Some ms → members_len ms ≡ 2 → get (codes "procs") d ≡ Some a → get (codes "moves") d ≡ Some b → parts_of d ≡ Some (a, b)
-parts_found d ms a b is two first second =
+pub parts_found : (tasks : List ℕ) (d : Data) (ms : Members) (a b : Data) → as_object d ≡ Some ms → members_len ms ≡ 2 → get (codes "procs") d ≡ Some a → get tasks d ≡ Some b → parts_of tasks d ≡ Some (a, b)
+parts_found tasks d ms a b is two first second =
     let shown = object_is d ms is in
     let first_in : get_member (codes "procs") ms ≡ Some a = rw shown at first in
-    let second_in : get_member (codes "moves") ms ≡ Some b = rw shown at second in
+    let second_in : get_member tasks ms ≡ Some b = rw shown at second in
     rw (shown, eq-eqb (members_len ms) 2 two, first_in, second_in) refl
 
-pub parts_other : (d : Data) (ms : Members) → as_object d ≡ Some ms → members_len ms ≢ 2 → parts_of d ≡ None
-parts_other d ms is other = rw (object_is d ms is, ne_eqb (members_len ms) 2 other) refl
+pub parts_other : (tasks : List ℕ) (d : Data) (ms : Members) → as_object d ≡ Some ms → members_len ms ≢ 2 → parts_of tasks d ≡ None
+parts_other tasks d ms is other = rw (object_is d ms is, ne_eqb (members_len ms) 2 other) refl
+
+-- ---- a file
+
+pub file_read : {T A : Type 0} (of : Data → Option (ScriptValue A)) (f : Script T → ScriptValue A) (bytes : List ℕ) (d : Data) (found : Option (Script T))
+    → IsUtf8 bytes → read bytes ≡ Some d → option_map f found ≡ of d
+    → MatchOption found ((s : ScriptValue A) → ¬ IsScript of bytes s) (λ script. IsScript of bytes (f script))
+file_read of f bytes d None utf8 is same = λ s script.
+    let none : None ≡ Some s = same ∙ ap (option_and_then of) (sym is) ∙ script.same in absurd cc
+file_read of f bytes d (Some x) utf8 is same = record { utf8 = utf8; same = ap (option_and_then of) is ∙ sym same }
+
+pub file_other : {A : Type 0} (of : Data → Option (ScriptValue A)) (bytes : List ℕ) → (IsUtf8 bytes → read bytes ≡ None) → (s : ScriptValue A) → ¬ IsScript of bytes s
+file_other of bytes other s script =
+    let none : None ≡ Some s = ap (option_and_then of) (sym (other script.utf8)) ∙ script.same in absurd cc
+
+-- ---- the number of calls
+
+-- the script of calls, however many they are
+all_calls : Data → Option (ScriptValue (List ℕ × List ℤ))
+all_calls = script_of (codes "calls") request_of
+
+and_then_both : {A B C : Type 0} (f : A → Option B) (g : B → Option C) (o : Option A) → option_and_then (λ a. option_and_then g (f a)) o ≡ option_and_then g (option_and_then f o)
+and_then_both f g None = refl
+and_then_both f g (Some a) = refl
+
+pub few_calls : (bytes : List ℕ) (s : ScriptValue (List ℕ × List ℤ)) → IsScript (script_of (codes "calls") request_of) bytes s → 1 ≤ length s.tasks → length s.tasks ≤ 256
+    → IsScript script_of_calls bytes s
+few_calls bytes s is some few =
+    let fit : if_few s ≡ Some s = rw (le-leb 1 (length s.tasks) some, le-leb (length s.tasks) 256 few) refl in
+    record {
+      utf8 = is.utf8;
+      same = and_then_both (script_of (codes "calls") request_of) if_few (read bytes) ∙ ap (option_and_then if_few) is.same ∙ fit;
+    }

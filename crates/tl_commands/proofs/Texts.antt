@@ -1,6 +1,7 @@
--- The values of the trace and of the order.
+-- The values of the lines, and the lines one after another.
 use Rattle.std.proofs.Common.{◌≡◌, ◌+◌, ◌<◌, ℕ, List, [], ◌∷◌, ◌++◌, length, get_or, take, map, false, refl, sym, ap, ap₂, ◌∙◌, inl, inr}
-use Rattle.std.proofs.lemmas.List.{map_push, map_more}
+use Rattle.std.specs.Prelude.{Result, Ok, Err}
+use Rattle.std.proofs.lemmas.List.{append_assoc, map_push, map_more}
 use Rattle.serde_json.specs.Data.{Data}
 use Rattle.serde_json.specs.View.{view}
 use Rattle.serde_json.specs.Written.{has_float, compact_text}
@@ -18,14 +19,20 @@ use Rattle.tl_core.specs.declared.moves.Entry.{Entry}
 use Rattle.tl_core.specs.declared.moves.Entry.TheVariants as entry
 use Rattle.tl_protocol.specs.Order.{placed}
 use Rattle.tl_forms.specs.Lists.{natural}
-use Rattle.tl_commands.specs.Trace.{action_data, stepped_data, entry_data, trace_data}
+use Rattle.tl_table.specs.declared.receipt.Receipt.{Receipt}
+use Rattle.tl_workers.specs.Refusals.{numbers_of as refusal_numbers_of}
+use Rattle.tl_workers.specs.declared.refusal.Refusal.{Refusal}
+use Rattle.tl_commands.specs.Trace.{action_data, stepped_data, entry_data, trace_data, error_data}
 use Rattle.tl_forms.specs.Lists.{order_data}
-use Rattle.tl_commands.specs.Drive.{IsConclusion, lines_text}
+use Rattle.tl_commands.specs.Drive.{IsConclusion}
+use Rattle.tl_commands.specs.Run.{answer_data, batch_data}
+use Rattle.tl_commands.specs.Scripted.{lines_text}
 
--- one more value is written, after a first one
-pub views_after : {A : Type 0} (head : Data) (f : A → Data) (vs : List Value) (v : Value) (xs : List A) (i : ℕ) (d : A) → i < length xs → map view vs ≡ head ∷ map f (take i xs) → view v ≡ f (get_or xs i d)
-    → map view (vs ++ v ∷ []) ≡ head ∷ map f (take (i + 1) xs)
-views_after head f vs v xs i d inside so_far is = map_push view vs v ∙ ap₂ (λ ds e. ds ++ e ∷ []) so_far is ∙ ap (λ ds. head ∷ ds) (sym (map_more f xs i d inside))
+-- one more value is put last, behind those that were there
+pub views_after : {A : Type 0} (before : List Data) (f : A → Data) (vs : List Value) (v : Value) (xs : List A) (i : ℕ) (d : A) → i < length xs → map view vs ≡ before ++ map f (take i xs) → view v ≡ f (get_or xs i d)
+    → map view (vs ++ v ∷ []) ≡ before ++ map f (take (i + 1) xs)
+views_after before f vs v xs i d inside so_far is =
+    map_push view vs v ∙ ap₂ (λ ds e. ds ++ e ∷ []) so_far is ∙ append_assoc before (map f (take i xs)) (f (get_or xs i d) ∷ []) ∙ ap (λ ds. before ++ ds) (sym (map_more f xs i d inside))
 
 -- ---- no float
 
@@ -61,11 +68,27 @@ pub conclusion_whole : (v : CoreValue) (d : Data) → IsConclusion v d → has_f
 conclusion_whole v d (inl order) = ap has_float order.1 ∙ order_whole (placed v.parents v.past)
 conclusion_whole v d (inr unfinished) = ap has_float unfinished.2
 
+error_whole : (numbers : List ℕ) → has_float (error_data numbers) ≡ false
+error_whole numbers = rw (whole_items natural natural_whole numbers) refl
+
+answer_whole : (answer : Result Receipt Refusal) → has_float (answer_data answer) ≡ false
+answer_whole (Ok r) = rw (integers_whole r.reply.items) refl
+answer_whole (Err f) = error_whole (refusal_numbers_of f)
+
+pub batch_whole : (answers : List (Result Receipt Refusal)) → has_float (batch_data answers) ≡ false
+batch_whole answers = rw (whole_items answer_data answer_whole answers) refl
+
 -- ---- the lines, one after another
 
-pub three_lines : (entries : List Entry) (d : Data) (tree : TreeValue) (second third s0 s1 s2 s3 : List ℕ)
-    → s0 ≡ compact_text (trace_data entries) → second ≡ compact_text d → third ≡ tree_text tree
-    → s1 ≡ s0 ++ 10 ∷ second → s2 ≡ s1 ++ 10 ∷ third → s3 ≡ s2 ++ 10 ∷ []
-    → s3 ≡ lines_text entries d tree
-three_lines entries d tree second third s0 s1 s2 s3 trace_is conclusion_is tree_is e1 e2 e3 =
-    e3 ∙ ap (λ s. s ++ 10 ∷ []) (e2 ∙ ap₂ (λ a b. a ++ 10 ∷ b) (e1 ∙ ap₂ (λ a b. a ++ 10 ∷ b) trace_is conclusion_is) tree_is)
+pub lines_written : (a b : Data) (tree : TreeValue) (first second third s1 s2 s3 : List ℕ)
+    → first ≡ compact_text a → second ≡ compact_text b → third ≡ tree_text tree
+    → s1 ≡ first ++ 10 ∷ second → s2 ≡ s1 ++ 10 ∷ third → s3 ≡ s2 ++ 10 ∷ []
+    → s3 ≡ lines_text a b tree
+lines_written a b tree first second third s1 s2 s3 first_is second_is third_is e1 e2 e3 =
+    e3 ∙ ap (λ s. s ++ 10 ∷ []) (e2 ∙ ap₂ (λ x y. x ++ 10 ∷ y) (e1 ∙ ap₂ (λ x y. x ++ 10 ∷ y) first_is second_is) third_is)
+
+-- the same of values that are known, and have no float
+pub lines_of : (a a' b b' : Data) (tree tree' : TreeValue) (out : List ℕ) → a ≡ a' → b ≡ b' → tree ≡ tree' → has_float a' ≡ false → has_float b' ≡ false
+    → (has_float a ≡ false → has_float b ≡ false → out ≡ lines_text a b tree) → out ≡ lines_text a' b' tree'
+lines_of a a' b b' tree tree' out a_is b_is tree_is a_whole b_whole told =
+    told (ap has_float a_is ∙ a_whole) (ap has_float b_is ∙ b_whole) ∙ rw (a_is, b_is, tree_is) refl

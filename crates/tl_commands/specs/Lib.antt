@@ -1,7 +1,9 @@
 pub mod Faults
 pub mod Alone
 pub mod Script
+pub mod Scripted
 pub mod Trace
 pub mod Drive
+pub mod Run
 pub mod Audit
 pub mod Procedures

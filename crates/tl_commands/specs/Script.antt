@@ -1,5 +1,5 @@
--- What a script of the command `drive` is.
-use Rattle.std.specs.Prelude.{◌≡◌, ◌==◌, nat_lt, ℕ, ℤ, map, List, codes, Option, Some, None, option_map, option_and_then, string_bytes, if◌then◌else◌, IsUtf8}
+-- What the scripts of the commands `drive` and `run` are.
+use Rattle.std.specs.Prelude.{◌≡◌, ◌==◌, nat_lt, nat_le, ◌&&◌, ℕ, ℤ, map, length, List, codes, Option, Some, None, option_map, option_and_then, string_bytes, if◌then◌else◌, IsUtf8}
 use Rattle.std.specs.Option.{option_or}
 use Rattle.serde_json.specs.Data.{Data}
 use Rattle.serde_json.specs.Events.{members_len}
@@ -18,17 +18,17 @@ pub data MoveValue : Type 0 where
   Admits : List ℕ → List ℤ → MoveValue
   Steps : ℕ → MoveValue
 
--- the procedures, each with its name and its assembler text, and the moves
-pub record ScriptValue : Type 0 where
+-- the procedures, each with its name and its assembler text, and what is then to be done
+pub record ScriptValue (A : Type 0) : Type 0 where
   pub procedures : List (List ℕ × List ℕ)
-  pub moves : List MoveValue
+  pub tasks : List A
 
 abbrev pub move_view : Move → MoveValue
 move_view (a_move.Admit name args) = Admits (string_bytes name) args.items
 move_view (a_move.Step call) = Steps call
 
-abbrev pub script_view : Script → ScriptValue
-script_view s = record { procedures = map procedure_form s.procedures.items; moves = map move_view s.moves.items }
+abbrev pub script_view : {T A : Type 0} → (T → A) → Script T → ScriptValue A
+script_view f s = record { procedures = map procedure_form s.procedures.items; tasks = map f s.tasks.items }
 
 -- ---- reading
 
@@ -43,15 +43,28 @@ call_of d = option_and_then if_call (option_and_then as_u64 (as_number d))
 abbrev pub move_of : Data → Option MoveValue
 move_of d = option_or (option_map Steps (call_of d)) (option_map (λ x. Admits x.0 x.1) (request_of d))
 
--- the procedures and the moves of an object that has these two members and no others
-abbrev pub parts_of : Data → Option (Data × Data)
-parts_of d = option_and_then (λ ms. if members_len ms == 2 then both (get_member (codes "procs") ms) (get_member (codes "moves") ms) else None) (as_object d)
+-- the procedures and the tasks of an object that has these two members and no others
+abbrev pub parts_of : List ℕ → Data → Option (Data × Data)
+parts_of tasks d = option_and_then (λ ms. if members_len ms == 2 then both (get_member (codes "procs") ms) (get_member tasks ms) else None) (as_object d)
 
--- the script that a value stands for
-abbrev pub script_of : Data → Option ScriptValue
-script_of d = option_and_then (λ parts. option_map (λ x. record { procedures = x.0; moves = x.1 }) (both (each_of procedure_of parts.0) (each_of move_of parts.1))) (parts_of d)
+-- the script that a value stands for, whose tasks are the member of that name and are read so
+abbrev pub script_of : {A : Type 0} → List ℕ → (Data → Option A) → Data → Option (ScriptValue A)
+script_of tasks f d =
+    option_and_then (λ parts. option_map (λ x. record { procedures = x.0; tasks = x.1 }) (both (each_of procedure_of parts.0) (each_of f parts.1))) (parts_of tasks d)
+
+-- the script of `drive`
+abbrev pub script_of_moves : Data → Option (ScriptValue MoveValue)
+script_of_moves = script_of (codes "moves") move_of
+
+-- 1 to 256 calls
+abbrev pub if_few : ScriptValue (List ℕ × List ℤ) → Option (ScriptValue (List ℕ × List ℤ))
+if_few s = if nat_le 1 (length s.tasks) && nat_le (length s.tasks) 256 then Some s else None
+
+-- the script of `run`
+abbrev pub script_of_calls : Data → Option (ScriptValue (List ℕ × List ℤ))
+script_of_calls d = option_and_then if_few (script_of (codes "calls") request_of d)
 
 -- The bytes are UTF-8, and a text of the script.
-pub record IsScript (bytes : List ℕ) (s : ScriptValue) : Type 0 where
+pub record IsScript {A : Type 0} (script_of : Data → Option (ScriptValue A)) (bytes : List ℕ) (s : ScriptValue A) : Type 0 where
   pub utf8 : IsUtf8 bytes
   pub same : option_and_then script_of (read bytes) ≡ Some s

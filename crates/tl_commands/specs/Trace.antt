@@ -41,6 +41,10 @@ entry_data (entry.Refused fault) = lettered letter.Refused (map natural (numbers
 abbrev pub trace_data : List Entry → Data
 trace_data entries = object (member (codes "trace") (array (items_of (map entry_data entries))) no_members)
 
+-- a fault by its numbers
+abbrev pub error_data : List ℕ → Data
+error_data numbers = object (member (codes "error") (array (items_of (map natural numbers))) no_members)
+
 -- call c isn't done
 abbrev pub unfinished_data : ℕ → Data
-unfinished_data c = object (member (codes "error") (array (items_of (natural 651 ∷ natural c ∷ []))) no_members)
+unfinished_data c = error_data (651 ∷ c ∷ [])

@@ -1,27 +1,24 @@
 // The command `drive`.
 
-ghost use Rattle.std.specs.Prelude.{◌≡◌, ◌≢◌, [], ◌∷◌, ◌++◌, string_bytes, IfOk, IfErr, OnOk};
+ghost use Rattle.std.specs.Prelude.{◌≡◌, string_bytes, IfOk, IfErr};
 ghost use Rattle.serde_json.specs.Data.{Data};
 ghost use Rattle.serde_json.specs.View.{view};
 ghost use Rattle.tl_commands.specs.Faults.{status_of};
-ghost use Rattle.tl_record.specs.Recording.{trail_value};
-ghost use Rattle.tl_trail.specs.Writing.{trail_text};
-ghost use Rattle.tl_commands.specs.Drive.{IsConclusion, tree_now, lines_text, IsDriven, Drives, DrivesToTrail, IsFirstDriveFault};
+ghost use Rattle.tl_commands.specs.Scripted.{tree_now, lines_text};
+ghost use Rattle.tl_commands.specs.Trace.{trace_data};
+ghost use Rattle.tl_commands.specs.Drive.{IsConclusion, IsDriven, Drives, DrivesToTrail, IsFirstDriveFault};
 
 use crate::fault::CliFault;
-use crate::inputs::tree_of_file;
-use crate::script::read_script;
+use crate::inputs::{core_of, tree_of_file};
+use crate::outputs::{three_lines, trail_file};
+use crate::script::read_moves;
 use crate::trace::{trace_to_value, unfinished_to_value};
 use serde_json::Value;
-use std::alloc::{AllocError, Global};
+use std::alloc::Global;
 use tl_core::{Core, CoreFault, Entry};
-use tl_forms::{order_to_value, register_all};
-use tl_history::MAX_EVENTS;
+use tl_forms::order_to_value;
 use tl_order::SerialFault;
-use tl_record::trail_of;
 use tl_serial::conclude;
-use tl_trail::write_trail;
-use tl_tree::write_tree;
 
 // The value of the second line.
 fn conclusion(alloc: Global, core: &Core) -> Result<Value, CliFault>
@@ -35,30 +32,14 @@ fn conclusion(alloc: Global, core: &Core) -> Result<Value, CliFault>
     }
 }
 
-// Ends the line, and adds one that is to be ended.
-fn next_line(text: &mut String, line: &str) -> Result<(), AllocError>
-    ensures { OnOk result (string_bytes text.new ≡ string_bytes text.old ++ 10 ∷ line.now) }
-{
-    text.push_str("\n")?;
-    text.push_str(line)
-}
-
 // The three lines.
 fn lines(alloc: Global, core: &Core, trace: &[Entry]) -> Result<String, CliFault>
-    ensures ok { IfOk result (λ s. (d : Data) × IsConclusion core.now.seen d × (string_bytes s ≡ lines_text trace.now d (tree_now core.now.seen))) }
+    ensures ok { IfOk result (λ s. (d : Data) × IsConclusion core.now.seen d × (string_bytes s ≡ lines_text (trace_data trace.now) d (tree_now core.now.seen))) }
     ensures err { IfErr result (λ e. status_of e ≡ 4) }
 {
     let trace = trace_to_value(alloc, trace)?;
     let conclusion = conclusion(alloc, core)?;
-    let tree = match write_tree(alloc, core.tree()) {
-        Ok(tree) => tree,
-        Err(fault) => return Err(CliFault::Tree(fault)),
-    };
-    let mut text = trace.to_string(alloc)?;
-    next_line(&mut text, &conclusion.to_string(alloc)?)?;
-    next_line(&mut text, &tree)?;
-    text.push_str("\n")?;
-    Ok(text)
+    three_lines(alloc, &trace, &conclusion, core.tree())
 }
 
 // What came of a script: what came of each move, and the core then.
@@ -77,36 +58,12 @@ fn carry_out(alloc: Global, tree: &[u8], script: &[u8]) -> Result<Driven, CliFau
         Ok(tree) => tree,
         Err(fault) => return Err(CliFault::Tree(fault)),
     };
-    let script = read_script(alloc, script)?;
-    let procedures = match register_all(alloc, &script.procedures) {
-        Ok(procedures) => procedures,
-        Err(fault) => return Err(CliFault::Register(fault)),
-    };
-    let mut core = match Core::with_procedures(alloc, tree, procedures, MAX_EVENTS) {
-        Ok(core) => core,
-        Err(fault) => return Err(CliFault::Core(fault)),
-    };
-    match core.drive(alloc, &script.moves) {
+    let script = read_moves(alloc, script)?;
+    let mut core = core_of(alloc, tree, &script.procedures)?;
+    match core.drive(alloc, &script.tasks) {
         Ok(trace) => Ok(Driven { trace, core }),
         Err(fault) => Err(CliFault::Core(fault)),
     }
-}
-
-// The text of the core's trail, as a file.
-fn trail_file(alloc: Global, core: &Core) -> Result<String, CliFault>
-    ensures ok { IfOk result (λ s. string_bytes s ≡ trail_text (trail_value core.now.seen) ++ 10 ∷ []) }
-    ensures err { IfErr result (λ e. status_of e ≡ 4) }
-{
-    let trail = match trail_of(alloc, core) {
-        Ok(trail) => trail,
-        Err(fault) => return Err(CliFault::Trail(fault)),
-    };
-    let mut text = match write_trail(alloc, &trail) {
-        Ok(text) => text,
-        Err(fault) => return Err(CliFault::Trail(fault)),
-    };
-    text.push_str("\n")?;
-    Ok(text)
 }
 
 /// Carries out a script on a tree, and gives the lines to print: what came of each move; the order of the calls, or 651

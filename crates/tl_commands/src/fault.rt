@@ -1,7 +1,7 @@
 // What the program answers in the place of a result.
 
 ghost use Rattle.std.specs.Prelude.{◌≡◌};
-ghost use Rattle.tl_commands.specs.declared.fault.CliFault.TheVariants.{Memory};
+ghost use Rattle.tl_commands.specs.declared.fault.CliFault.TheVariants.{Memory, Engine};
 ghost use Rattle.tl_commands.specs.Faults.{numbers_of, status_of};
 
 use arrayvec::ArrayVec;
@@ -12,9 +12,11 @@ use tl_audit::AuditFault;
 use tl_core::CoreFault;
 use tl_forms::RegisterFault;
 use tl_instr::CodeFault;
+use tl_table::TableFault;
 use tl_trail::TrailFault;
 use tl_tree::TreeFault;
 use tl_verify::VerifyFault;
+use tl_workers::Refusal;
 
 /// Why the program has no result to print.
 #[derive(Clone, Copy, Debug, PartialEq, Eq, Error)]
@@ -52,6 +54,12 @@ pub enum CliFault {
     /// 711 to 717, 790: what is wrong with the trail.
     #[error("the trail: {0}")]
     Audit(AuditFault),
+    /// 821, 890, 990: the engine that runs many calls at once refuses.
+    #[error("the calls: {0}")]
+    Engine(Refusal),
+    /// 831: a call is unfinished, or the calls aren't those that were asked for.
+    #[error("the calls are not those that were asked for")]
+    NotClosed,
     /// 731: the text is no script.
     #[error("the text is not a script")]
     NotScript,
@@ -84,6 +92,8 @@ impl CliFault {
             CliFault::Core(fault) => return fault.numbers(),
             CliFault::Trail(fault) => return fault.numbers(),
             CliFault::Audit(fault) => return fault.numbers(),
+            CliFault::Engine(refusal) => return refusal.numbers(),
+            CliFault::NotClosed => numbers.push(831),
             CliFault::NotScript => numbers.push(731),
             CliFault::NotArgs => numbers.push(732),
             CliFault::WrongArgs => numbers.push(501),
@@ -106,6 +116,10 @@ impl CliFault {
             | CliFault::Core(CoreFault::Memory)
             | CliFault::Trail(TrailFault::Memory)
             | CliFault::Audit(AuditFault::Memory)
+            | CliFault::Engine(
+                Refusal::Memory
+                | Refusal::Table(TableFault::Memory | TableFault::Core(CoreFault::Memory)),
+            )
             | CliFault::Memory => 4,
             _ => 1,
         }
@@ -117,5 +131,13 @@ impl From<AllocError> for CliFault {
 
     fn from(_refused: AllocError) -> CliFault {
         CliFault::Memory
+    }
+}
+
+impl From<Refusal> for CliFault {
+    ghost from_gives = { λ r e. e ≡ Engine r };
+
+    fn from(refusal: Refusal) -> CliFault {
+        CliFault::Engine(refusal)
     }
 }

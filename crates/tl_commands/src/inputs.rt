@@ -1,10 +1,21 @@
 // What the files stand for that more than one command reads.
 
-ghost use Rattle.std.specs.Prelude.{◌≡◌, ◌≢◌, IfOk, IfErr, Ok};
+ghost use Rattle.std.specs.Prelude.{◌≡◌, ◌≢◌, [], map, IfOk, IfErr, Ok};
 ghost use Rattle.tl_tree.specs.Reading.{tree_of_text};
+ghost use Rattle.tl_procedures.specs.Names.{Named};
+ghost use Rattle.tl_forms.specs.Procedures.{procedure_form};
+ghost use Rattle.tl_forms.specs.Registering.{TakenUp, IsFirstUnfit};
+ghost use Rattle.tl_forms.specs.declared.fault.RegisterFault.{RegisterFault};
+ghost use Rattle.tl_commands.specs.declared.fault.CliFault.TheVariants.{Register};
 ghost use Rattle.tl_commands.specs.Alone.{IsTreeFault};
+ghost use Rattle.tl_commands.specs.Faults.{status_of};
+ghost use Rattle.tl_commands.specs.Scripted.{core_with};
 
+use crate::fault::CliFault;
 use std::alloc::Global;
+use tl_core::Core;
+use tl_forms::{ProcedureText, register_all};
+use tl_history::MAX_EVENTS;
 use tl_tree::{Tree, TreeFault, read_tree};
 
 /// The tree that a file has. 106 where it is no UTF-8 or has another form, then 101 to 105.
@@ -15,5 +26,22 @@ pub fn tree_of_file(alloc: Global, bytes: &[u8]) -> Result<Tree, TreeFault>
     match std::str::from_utf8(bytes) {
         Ok(text) => read_tree(alloc, text),
         Err(_) => Err(TreeFault::NotTree),
+    }
+}
+
+/// A core of the tree with a script's procedures. Else what is wrong with the first that has a fault: its text, its code or
+/// its name. 290, 490 or 690 where memory is refused.
+pub fn core_of(alloc: Global, tree: Tree, texts: &[ProcedureText]) -> Result<Core, CliFault>
+    ensures taken { IfOk result (λ core. TakenUp [] (map procedure_form texts.now) core.seen.procedures) }
+    ensures ok { IfOk result (λ core. core.seen ≡ core_with tree core.seen.procedures) }
+    ensures fault { IfErr result (λ e. status_of e ≢ 4 → (f : RegisterFault) × (e ≡ Register f) × IsFirstUnfit [] (map procedure_form texts.now) f) }
+{
+    let procedures = match register_all(alloc, texts) {
+        Ok(procedures) => procedures,
+        Err(fault) => return Err(CliFault::Register(fault)),
+    };
+    match Core::with_procedures(alloc, tree, procedures, MAX_EVENTS) {
+        Ok(core) => Ok(core),
+        Err(fault) => Err(CliFault::Core(fault)),
     }
 }

@@ -5,11 +5,14 @@
 #![tactic(auto)]
 
 mod alone;
+mod answers;
 mod auditing;
 mod driving;
 mod fault;
 mod inputs;
+mod outputs;
 mod procedures;
+mod running;
 mod script;
 mod trace;
 
@@ -18,4 +21,5 @@ pub use auditing::audit_cmd;
 pub use driving::{drive_cmd, drive_with_trail_cmd};
 pub use fault::CliFault;
 pub use procedures::{asm_cmd, dis_cmd, verify_cmd};
-pub use script::{Script, read_script};
+pub use running::{run_cmd, run_with_trail_cmd};
+pub use script::{Script, read_calls, read_moves};

@@ -1,20 +1,23 @@
-// The script of the command `drive`.
+// The scripts of the commands `drive` and `run`.
 
-ghost use Rattle.std.specs.Prelude.{◌≡◌, ◌⊎◌, option_map, IfOk, IfErr};
+ghost use Rattle.std.specs.Prelude.{◌≡◌, ◌⊎◌, ◌≤◌, codes, length, option_map, IfOk, IfErr, IfSome, MatchOption};
 ghost use Rattle.serde_json.specs.View.{view};
-ghost use Rattle.tl_commands.specs.Script.{ScriptValue, script_view, call_of, parts_of, script_of, IsScript};
+ghost use Rattle.tl_forms.specs.Requests.{request_form};
+ghost use Rattle.tl_workers.specs.declared.batch.TheConstants.{MAX_REQUESTS};
+ghost use Rattle.tl_commands.specs.Script.{ScriptValue, script_view, move_view, call_of, parts_of, script_of, script_of_moves, script_of_calls, IsScript};
 
 use crate::fault::CliFault;
 use serde_json::Value;
 use std::alloc::{AllocError, Global};
 use tl_core::Move;
 use tl_forms::{FromValue, ProcedureText, Request, each_of, parse};
+use tl_workers::MAX_REQUESTS;
 
-/// What is to be registered, and then the moves.
+/// What a script says: which procedures are registered, and what is then to be done, moves or calls.
 #[derive(Debug, Drop)]
-pub struct Script {
+pub struct Script<T> {
     pub procedures: Vec<ProcedureText>,
-    pub moves: Vec<Move>,
+    pub tasks: Vec<T>,
 }
 
 // The number of a call, 0 to 4,294,967,295.
@@ -49,46 +52,83 @@ impl FromValue for MoveForm {
     }
 }
 
-// The members of an object that has these two and no others.
-fn parts_of_value(value: &Value) -> Option<(&Value, &Value)>
-    ensures { option_map (λ parts. (view parts.0.now, view parts.1.now)) result ≡ parts_of (view value.now) }
+// The procedures and the tasks of an object that has these two members and no others.
+fn parts_of_value<'a>(value: &'a Value, tasks: &str) -> Option<(&'a Value, &'a Value)>
+    ensures { option_map (λ parts. (view parts.0.now, view parts.1.now)) result ≡ parts_of tasks.now (view value.now) }
 {
     if value.as_object()?.len() != 2 {
         return None;
     }
-    Some((value.get("procs")?, value.get("moves")?))
+    Some((value.get("procs")?, value.get(tasks)?))
 }
 
-fn script_of_value(alloc: Global, value: &Value) -> Result<Option<Script>, AllocError>
-    ensures { IfOk result (λ found. option_map script_view found ≡ script_of (view value.now)) }
+// The script that a value stands for, whose tasks are the member of that name and have that form.
+fn script_of_value<F: FromValue>(
+    alloc: Global,
+    value: &Value,
+    tasks: &str,
+) -> Result<Option<Script<F::Item>>, AllocError>
+    ensures { IfOk result (λ found. option_map (script_view F.form) found ≡ script_of tasks.now F.form_of (view value.now)) }
 {
-    let Some((procedures, moves)) = parts_of_value(value) else {
+    let Some((procedures, tasks)) = parts_of_value(value, tasks) else {
         return Ok(None);
     };
     let Some(procedures) = each_of::<ProcedureText>(alloc, procedures)? else {
         return Ok(None);
     };
-    let Some(moves) = each_of::<MoveForm>(alloc, moves)? else {
+    let Some(tasks) = each_of::<F>(alloc, tasks)? else {
         return Ok(None);
     };
-    Ok(Some(Script { procedures, moves }))
+    Ok(Some(Script { procedures, tasks }))
 }
 
-/// The script that a file has: `{"moves":[move,..],"procs":[[name,text],..]}`, an object with these two members and no
-/// others. A procedure is a list of its name and its assembler text, two strings. A move is an admission, a list of a
-/// procedure's name and a list of arguments, which fit 64 bits with their sign; or a step, the number of a call, 0 to
+// The script that a file has, whose tasks are the member of that name and have that form.
+fn script_of_file<F: FromValue>(
+    alloc: Global,
+    bytes: &[u8],
+    tasks: &str,
+) -> Result<Option<Script<F::Item>>, AllocError>
+    ensures { IfOk result (λ found. MatchOption found ((s : ScriptValue F.Form) → ¬ IsScript (script_of tasks.now F.form_of) bytes.now s)
+        (λ script. IsScript (script_of tasks.now F.form_of) bytes.now (script_view F.form script))) }
+{
+    match parse(alloc, bytes)? {
+        Some(value) => script_of_value::<F>(alloc, &value, tasks),
+        None => Ok(None),
+    }
+}
+
+/// The script of moves that a file has: `{"moves":[move,..],"procs":[[name,text],..]}`, an object with these two members
+/// and no others. A procedure is a list of its name and its assembler text, two strings. A move is an admission, a list of
+/// a procedure's name and a list of arguments, which fit 64 bits with their sign; or a step, the number of a call, 0 to
 /// 4,294,967,295.
 ///
 /// 731 for all else, also where it is no UTF-8; 990 where memory is refused.
-pub fn read_script(alloc: Global, bytes: &[u8]) -> Result<Script, CliFault>
-    ensures ok { IfOk result (λ s. IsScript bytes.now (script_view s)) }
-    ensures fault { IfErr result (λ e. (e ≡ CliFault.Memory) ⊎ (e ≡ CliFault.NotScript) × ((s : ScriptValue) → ¬ IsScript bytes.now s)) }
+pub fn read_moves(alloc: Global, bytes: &[u8]) -> Result<Script<Move>, CliFault>
+    ensures ok { IfOk result (λ s. IsScript script_of_moves bytes.now (script_view move_view s)) }
+    ensures fault { IfErr result (λ e. (e ≡ CliFault.Memory) ⊎ (e ≡ CliFault.NotScript) × ((s : ScriptValue _) → ¬ IsScript script_of_moves bytes.now s)) }
 {
-    let Some(value) = parse(alloc, bytes)? else {
-        return Err(CliFault::NotScript);
-    };
-    match script_of_value(alloc, &value)? {
+    match script_of_file::<MoveForm>(alloc, bytes, "moves")? {
         Some(script) => Ok(script),
         None => Err(CliFault::NotScript),
     }
+}
+
+/// The script of calls that a file has: `{"calls":[request,..],"procs":[[name,text],..]}`, an object with these two members
+/// and no others. There are 1 to 256 calls. A procedure is as in a script of moves, and a request is what an admission is
+/// there.
+///
+/// 731 for all else, also where it is no UTF-8; 990 where memory is refused.
+pub fn read_calls(alloc: Global, bytes: &[u8]) -> Result<Script<Request>, CliFault>
+    ensures ok { IfOk result (λ s. IsScript script_of_calls bytes.now (script_view request_form s)) }
+    ensures some { IfOk result (λ s. 1 ≤ length s.tasks.items) }
+    ensures few { IfOk result (λ s. length s.tasks.items ≤ MAX_REQUESTS) }
+    ensures fault { IfErr result (λ e. (e ≡ CliFault.Memory) ⊎ (e ≡ CliFault.NotScript) × ((s : ScriptValue _) → ¬ IsScript script_of_calls bytes.now s)) }
+{
+    let Some(script) = script_of_file::<Request>(alloc, bytes, "calls")? else {
+        return Err(CliFault::NotScript);
+    };
+    if script.tasks.is_empty() || script.tasks.len() > MAX_REQUESTS {
+        return Err(CliFault::NotScript);
+    }
+    Ok(script)
 }

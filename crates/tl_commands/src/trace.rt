@@ -1,12 +1,12 @@
 // What came of a script's moves, as values of JSON.
 
-ghost use Rattle.std.specs.Prelude.{◌≡◌, ◌∷◌, [], codes, map, IfOk};
-ghost use Rattle.serde_json.specs.Data.{array};
+ghost use Rattle.std.specs.Prelude.{◌≡◌, ◌∷◌, ◌++◌, [], codes, map, IfOk, OnOk};
+ghost use Rattle.serde_json.specs.Data.{array, object, member, no_members};
 ghost use Rattle.serde_json.specs.View.{view, items_of};
 ghost use Rattle.tl_forms.specs.Lists.{natural};
 ghost use Rattle.tl_forms.specs.Letters.{lettered};
 ghost use Rattle.tl_forms.specs.declared.letter.Letter.TheVariants as letter;
-ghost use Rattle.tl_commands.specs.Trace.{action_data, stepped_data, entry_data, trace_data, unfinished_data};
+ghost use Rattle.tl_commands.specs.Trace.{action_data, stepped_data, entry_data, trace_data, error_data, unfinished_data};
 
 use serde_json::{Value, json};
 use std::alloc::{AllocError, Global};
@@ -40,14 +40,22 @@ fn blocked_to_value(alloc: Global, call: u32, node: u16, holder: u32) -> Result<
     json!(in alloc; [Letter::Blocked.as_str(), call, node, holder])
 }
 
+// Puts numbers last.
+fn push_numbers(items: &mut Vec<Value>, numbers: &[u64]) -> Result<(), AllocError>
+    ensures { OnOk result (map view items.new.items ≡ map view items.old.items ++ map natural numbers.now) }
+{
+    for number in numbers {
+        items.push(Value::from(*number))?;
+    }
+    Ok(())
+}
+
 fn numbers_to_value(alloc: Global, letter: Letter, numbers: &[u64]) -> Result<Value, AllocError>
     ensures { IfOk result (λ v. view v ≡ lettered letter (map natural numbers.now)) }
 {
     let mut items = Vec::with_capacity(alloc, numbers.len())?;
     items.push(Value::try_from_str(alloc, letter.as_str())?)?;
-    for number in numbers {
-        items.push(Value::from(*number))?;
-    }
+    push_numbers(&mut items, numbers)?;
     Ok(Value::Array(items))
 }
 
@@ -128,9 +136,24 @@ pub fn trace_to_value(alloc: Global, entries: &[Entry]) -> Result<Value, AllocEr
     json!(in alloc; {"trace": trace})
 }
 
+fn member_to_value(alloc: Global, numbers: Value) -> Result<Value, AllocError>
+    ensures { IfOk result (λ v. view v ≡ object (member (codes "error") (view numbers) no_members)) }
+{
+    json!(in alloc; {"error": numbers})
+}
+
+/// `{"error":[number,..]}`: a fault by its numbers.
+pub fn error_to_value(alloc: Global, numbers: &[u64]) -> Result<Value, AllocError>
+    ensures { IfOk result (λ v. view v ≡ error_data numbers.now) }
+{
+    let mut items = Vec::with_capacity(alloc, numbers.len())?;
+    push_numbers(&mut items, numbers)?;
+    member_to_value(alloc, Value::Array(items))
+}
+
 /// `{"error":[651,c]}`: call c isn't done.
 pub fn unfinished_to_value(alloc: Global, call: u32) -> Result<Value, AllocError>
     ensures { IfOk result (λ v. view v ≡ unfinished_data call) }
 {
-    json!(in alloc; {"error": [651u32, call]})
+    error_to_value(alloc, &[651, u64::from(call)])
 }

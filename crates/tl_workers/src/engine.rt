@@ -1,6 +1,8 @@
 // A table that threads share.
 
-ghost use Rattle.std.specs.Prelude.{◌≡◌, [], IfOk, IfErr, All};
+ghost use Rattle.std.specs.Prelude.{◌≡◌, ◌⊎◌, [], IfOk, IfErr, All};
+ghost use Rattle.tl_table.specs.declared.fault.TableFault.TheVariants as fault;
+ghost use Rattle.tl_workers.specs.declared.refusal.Refusal.TheVariants as refusal;
 ghost use Rattle.tl_workers.specs.Matching.{Matches, DoesNotClose};
 
 use crate::matching::all_match;
@@ -31,10 +33,17 @@ pub struct Engine {
 impl Engine {
     /// An engine for calls on the tree, without procedures. 690, 890, 990 where memory is refused.
     pub fn new(alloc: Global, tree: Tree) -> Result<Engine, Refusal> {
-        let core = match Core::new(alloc, tree) {
-            Ok(core) => core,
-            Err(fault) => return Err(Refusal::Table(TableFault::Core(fault))),
-        };
+        match Core::new(alloc, tree) {
+            Ok(core) => Engine::of_core(alloc, core),
+            Err(fault) => Err(Refusal::Table(TableFault::Core(fault))),
+        }
+    }
+
+    /// An engine for calls of a core that has none yet. 890, 990 where memory is refused.
+    pub fn of_core(alloc: Global, core: Core) -> Result<Engine, Refusal>
+        requires { core.seen.calls ≡ [] }
+        ensures err { IfErr result (λ e. (e ≡ refusal.Table fault.Memory) ⊎ (e ≡ refusal.Memory)) }
+    {
         let table = match Table::new(alloc, core) {
             Ok(table) => table,
             Err(fault) => return Err(Refusal::Table(fault)),
@@ -49,7 +58,8 @@ impl Engine {
 
     /// A new session, with which nothing was asked for yet. 821.
     pub fn session(&self, rt: &impl Wait, alloc: Global) -> Result<Session, Refusal>
-        ensures { IfOk result (λ s. s.kept ≡ []) }
+        ensures ok { IfOk result (λ s. s.kept ≡ []) }
+        ensures err { IfErr result (λ e. e ≡ refusal.Table fault.TooManySessions) }
     {
         match self.table.lock(rt).session() {
             Ok(number) => Ok(Session::new(alloc, number)),

@@ -1,10 +1,11 @@
-use Rattle.std.proofs.Common.{◌≡◌, ap, ◌∙◌, string_bytes}
+use Rattle.std.proofs.Common.{◌≡◌, refl, string_bytes}
+use Rattle.std.proofs.lemmas.Result.{IfOk-weaker}
+use Rattle.serde_json.specs.Data.{Data}
 use Rattle.serde_json.specs.View.{view}
-use Rattle.serde_json.specs.Written.{compact_text, has_float}
-use Rattle.tl_tree.specs.Writing.{tree_text}
+use Rattle.tl_commands.specs.Drive.{IsConclusion}
+use Rattle.tl_commands.specs.Scripted.{lines_text, tree_now}
 use Rattle.tl_commands.specs.Trace.{trace_data}
-use Rattle.tl_commands.specs.Drive.{tree_now}
-use Rattle.tl_commands.proofs.Texts.{trace_whole, conclusion_whole, three_lines}
+use Rattle.tl_commands.proofs.Texts.{trace_whole, conclusion_whole, lines_of}
 use Rattle.tl_commands.proofs.driving.lines.Goals as goal
 
 pub returns-clause-ok : goal.returns-clause-ok
@@ -12,9 +13,10 @@ returns-clause-ok c =
     let v = c.args.core.now.seen in
     let entries = c.args.trace.now in
     let d = view c.in_ok-conclusion.conclusion in
-    let first : string_bytes c.in_ok-text.text ≡ compact_text (trace_data entries) =
-    c.in_ok-text.ensures.text (ap has_float c.in_ok-trace.ensures ∙ trace_whole entries) ∙ ap compact_text c.in_ok-trace.ensures in
-    let second : c.deref.result.now ≡ compact_text d =
-    c.deref.ensures ∙ c.in_ok-to_string.ensures.text (conclusion_whole v d c.in_ok-conclusion.ensures.ok) in
-    let third : c.deref-2.result.now ≡ tree_text (tree_now v) = c.deref-2.ensures ∙ c.in-Ok.ensures.text ∙ ap tree_text c.tree.ensures in
-    (d, c.in_ok-conclusion.ensures.ok, three_lines entries d (tree_now v) c.deref.result.now c.deref-2.result.now _ _ _ _ first second third c.in_ok-next_line.ensures c.in_ok-next_line-2.ensures c.in_ok-push_str.ensures.bytes)
+    IfOk-weaker c.three_lines.result _ (λ s. (d : Data) × IsConclusion v d × (string_bytes s ≡ lines_text (trace_data entries) d (tree_now v)))
+    (λ s told. (
+      d,
+      c.in_ok-conclusion.ensures.ok,
+      lines_of _ (trace_data entries) d d _ (tree_now v) (string_bytes s) c.in_ok-trace.ensures refl c.tree.ensures (trace_whole entries) (conclusion_whole v d c.in_ok-conclusion.ensures.ok) told,
+    ))
+    c.three_lines.ensures.ok

@@ -7,9 +7,9 @@ use Rattle.tl_commands.proofs.script.parts_of_value.Goals as goal
 pub returns-then-len-ne2 : goal.returns-then-len-ne2
 returns-then-len-ne2 c =
     let entries = c.in_ok-as_object.field-0.now.entries in
-    sym (parts_other (view c.args.value.now) (members_view entries) (sym c.in_ok-as_object.ensures) (λ two. c.if-len-ne2.true (c.len.ensures.len ∙ sym (members_len-members_view entries) ∙ two)))
+    sym (parts_other c.args.tasks.now (view c.args.value.now) (members_view entries) (sym c.in_ok-as_object.ensures) (λ two. c.if-len-ne2.true (c.len.ensures.len ∙ sym (members_len-members_view entries) ∙ two)))
 
 pub returns : goal.returns
 returns c =
     let entries = c.in_ok-as_object.field-0.now.entries in
-    sym (parts_found (view c.args.value.now) (members_view entries) _ _ (sym c.in_ok-as_object.ensures) (members_len-members_view entries ∙ sym c.len.ensures.len ∙ c.if-len-ne2.false) (sym c.in_ok-get.ensures) (sym c.in_ok-get-2.ensures))
+    sym (parts_found c.args.tasks.now (view c.args.value.now) (members_view entries) _ _ (sym c.in_ok-as_object.ensures) (members_len-members_view entries ∙ sym c.len.ensures.len ∙ c.if-len-ne2.false) (sym c.in_ok-get.ensures) (sym c.in_ok-get-2.ensures))

@@ -1,0 +1,42 @@
+-- What the commands have in common that carry out a script, `drive` and `run`.
+use Rattle.std.specs.Prelude.{◌≡◌, ◌⊎◌, ℕ, List, [], ◌∷◌, ◌++◌, Option}
+use Rattle.serde_json.specs.Data.{Data}
+use Rattle.serde_json.specs.Written.{compact_text}
+use Rattle.tl_tree.specs.Trees.{TreeValue}
+use Rattle.tl_tree.specs.Writing.{tree_text}
+use Rattle.tl_tree.specs.declared.fault.TreeFault.{TreeFault}
+use Rattle.tl_protocol.specs.History.{records_now}
+use Rattle.tl_history.specs.declared.history.TheConstants.{MAX_EVENTS}
+use Rattle.tl_procedures.specs.Names.{Named}
+use Rattle.tl_core.specs.Cores.{CoreValue}
+use Rattle.tl_forms.specs.Registering.{IsFirstUnfit}
+use Rattle.tl_forms.specs.declared.fault.RegisterFault.{RegisterFault}
+use Rattle.tl_commands.specs.declared.fault.CliFault.{CliFault}
+use Rattle.tl_commands.specs.declared.fault.CliFault.TheVariants.{Tree, Register, NotScript}
+use Rattle.tl_commands.specs.Alone.{IsTreeFile, IsTreeFault}
+use Rattle.tl_commands.specs.Script.{ScriptValue, IsScript}
+
+-- a core of the tree, with these procedures and no call
+abbrev pub core_with : TreeValue → List Named → CoreValue
+core_with tree procedures = record {
+  parents = tree.parents;
+  opening = tree.records;
+  procedures = procedures;
+  calls = [];
+  past = [];
+  limit = MAX_EVENTS;
+}
+
+abbrev pub tree_now : CoreValue → TreeValue
+tree_now v = record { parents = v.parents; records = records_now v.past v.opening }
+
+-- three lines: two values, and a tree
+abbrev pub lines_text : Data → Data → TreeValue → List ℕ
+lines_text first second tree = compact_text first ++ 10 ∷ compact_text second ++ 10 ∷ tree_text tree ++ 10 ∷ []
+
+-- what is wrong first: the tree, else the script, else the first procedure that isn't taken up
+abbrev pub IsWrong : {A : Type 0} → (Data → Option (ScriptValue A)) → List ℕ → List ℕ → CliFault → Type 0
+IsWrong {A} script_of t s e =
+    ((f : TreeFault) × (e ≡ Tree f) × IsTreeFault t f)
+    ⊎ ((e ≡ NotScript) × IsTreeFile t × ((script : ScriptValue A) → ¬ IsScript script_of s script))
+    ⊎ ((script : ScriptValue A) × (f : RegisterFault) × (e ≡ Register f) × IsTreeFile t × IsScript script_of s script × IsFirstUnfit [] script.procedures f)

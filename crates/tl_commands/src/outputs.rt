@@ -1,0 +1,63 @@
+// What more than one command prints or writes.
+
+ghost use Rattle.std.specs.Prelude.{◌≡◌, [], ◌∷◌, ◌++◌, false, string_bytes, IfOk, IfErr, OnOk};
+ghost use Rattle.serde_json.specs.View.{view};
+ghost use Rattle.serde_json.specs.Written.{has_float};
+ghost use Rattle.tl_record.specs.Recording.{trail_value};
+ghost use Rattle.tl_trail.specs.Writing.{trail_text};
+ghost use Rattle.tl_commands.specs.Faults.{status_of};
+ghost use Rattle.tl_commands.specs.Scripted.{lines_text};
+
+use crate::fault::CliFault;
+use serde_json::Value;
+use std::alloc::{AllocError, Global};
+use tl_core::Core;
+use tl_record::trail_of;
+use tl_trail::write_trail;
+use tl_tree::{Tree, write_tree};
+
+// Ends the line, and adds one that is to be ended.
+fn next_line(text: &mut String, line: &str) -> Result<(), AllocError>
+    ensures { OnOk result (string_bytes text.new ≡ string_bytes text.old ++ 10 ∷ line.now) }
+{
+    text.push_str("\n")?;
+    text.push_str(line)
+}
+
+/// Three lines: two values, and a tree.
+pub fn three_lines(
+    alloc: Global,
+    first: &Value,
+    second: &Value,
+    tree: &Tree,
+) -> Result<String, CliFault>
+    ensures ok { IfOk result (λ s. has_float (view first.now) ≡ false → has_float (view second.now) ≡ false → string_bytes s ≡ lines_text (view first.now) (view second.now) tree.now) }
+    ensures err { IfErr result (λ e. status_of e ≡ 4) }
+{
+    let tree = match write_tree(alloc, tree) {
+        Ok(tree) => tree,
+        Err(fault) => return Err(CliFault::Tree(fault)),
+    };
+    let mut text = first.to_string(alloc)?;
+    next_line(&mut text, &second.to_string(alloc)?)?;
+    next_line(&mut text, &tree)?;
+    text.push_str("\n")?;
+    Ok(text)
+}
+
+/// The text of the core's trail, as a file.
+pub fn trail_file(alloc: Global, core: &Core) -> Result<String, CliFault>
+    ensures ok { IfOk result (λ s. string_bytes s ≡ trail_text (trail_value core.now.seen) ++ 10 ∷ []) }
+    ensures err { IfErr result (λ e. status_of e ≡ 4) }
+{
+    let trail = match trail_of(alloc, core) {
+        Ok(trail) => trail,
+        Err(fault) => return Err(CliFault::Trail(fault)),
+    };
+    let mut text = match write_trail(alloc, &trail) {
+        Ok(text) => text,
+        Err(fault) => return Err(CliFault::Trail(fault)),
+    };
+    text.push_str("\n")?;
+    Ok(text)
+}
