@@ -25,7 +25,7 @@ fn trail_of_file(alloc: Global, bytes: &[u8]) -> Result<Trail, TrailFault>
 
 // The line of an order.
 fn order_line(alloc: Global, order: &Order) -> Result<String, AllocError>
-    ensures { IfOk result (λ s. string_bytes s ≡ compact_text (order_data order.now) ++ 10 ∷ []) }
+    ensures { IfOk result (λ s. string_bytes s ≡ compact_text (order_data order.now.calls) ++ 10 ∷ []) }
 {
     let order = order_to_value(alloc, order.calls())?;
     let mut line = order.to_string(alloc)?;

@@ -18,9 +18,7 @@ use crate::script::read_calls;
 use std::alloc::Global;
 use std::sync::Wait;
 use std::thread::Threads;
-use tl_core::CoreFault;
 use tl_forms::{Request, order_to_value};
-use tl_serial::conclude;
 use tl_table::{Closed, Receipt};
 use tl_workers::{Engine, Gate, MAX_WORKERS, Refusal};
 
@@ -90,11 +88,8 @@ fn lines(alloc: Global, ran: &Ran) -> Result<String, CliFault>
     let core = ran.closed.core();
     // Its history is legal: here a proof learns that.
     core.is_sound();
-    let Ok(order) = conclude(alloc, core) else {
-        return Err(CliFault::Core(CoreFault::Memory));
-    };
     let batch = batch_to_value(alloc, &ran.answers)?;
-    let order = order_to_value(alloc, order.calls())?;
+    let order = order_to_value(alloc, ran.closed.order().calls())?;
     three_lines(alloc, &batch, &order, core.tree())
 }
 

@@ -6,7 +6,7 @@ use Rattle.tl_commands.proofs.auditing.order_line.Goals as goal
 
 pub returns : goal.returns
 returns c =
-    let order = c.args.order.now in
+    let order = c.args.order.now.calls in
     let is = c.in_ok-order.ensures ∙ ap order_data c.calls.ensures.same in
     let text : string_bytes c.in_ok-line.line ≡ compact_text (order_data order) =
     c.in_ok-line.ensures.text (ap has_float is ∙ order_whole order) ∙ ap compact_text is in

@@ -1,10 +1,10 @@
-use Rattle.std.proofs.Common.{◌≡◌, ℕ, List, ap, ◌∙◌, string_bytes}
+use Rattle.std.proofs.Common.{◌≡◌, ℕ, List, ap, ◌∙◌, subst, string_bytes}
 use Rattle.std.proofs.lemmas.Result.{IfOk-weaker}
-use Rattle.tl_core.specs.Cores.{CoreState}
+use Rattle.tl_protocol.specs.World.{Legal}
+use Rattle.tl_core.specs.Cores.{CoreState, world_of}
 use Rattle.tl_forms.specs.Lists.{order_data}
 use Rattle.tl_commands.specs.Run.{IsOrder, batch_data}
 use Rattle.tl_commands.specs.Scripted.{lines_text, tree_now}
-use Rattle.tl_commands.proofs.RunLemmas.{ordered}
 use Rattle.tl_commands.proofs.Texts.{order_whole, batch_whole, lines_of}
 use Rattle.tl_commands.proofs.running.lines.Goals as goal
 
@@ -13,10 +13,16 @@ returns-clause-ok c =
     let core = c.core-core.result.now in
     let v = c.args.ran.now.closed.core.seen in
     let answers = c.args.ran.now.answers.items in
-    let order = c.in-Ok.order in
+    let order = c.order.result.now.calls in
     let same : core ≡ c.args.ran.now.closed.core = c.core-core.ensures.same in
     let is : IsOrder v order =
-    ordered core c.args.ran.now.closed.core order same c.is_sound.ensures.legal c.in-Ok.ensures.done c.in-Ok.ensures.order c.in-Ok.ensures.tree c.in-Ok.ensures.replies in
+    record {
+      legal = subst (λ (it : CoreState). Legal (world_of it.seen)) same c.is_sound.ensures.legal;
+      done = c.core-core.ensures.done;
+      same = c.order.ensures.order;
+      leaves = c.order.ensures.tree;
+      replies = c.order.ensures.replies;
+    } in
     IfOk-weaker c.three_lines.result _ (λ s. (x : List ℕ) × IsOrder v x × (string_bytes s ≡ lines_text (batch_data answers) (order_data x) (tree_now v)))
     (λ s told. (
       order,
