@@ -1,6 +1,8 @@
 // A table that threads share.
 
-ghost use Rattle.std.specs.Prelude.{◌≡◌, [], IfOk, IfErr, All};
+ghost use Rattle.std.specs.Prelude.{◌≡◌, ◌↔◌, [], false, IsTrue, IfOk, OnOk, IfErr, All};
+ghost use Rattle.tl_procedures.specs.Names.{is_name};
+ghost use Rattle.tl_procedures.specs.declared.fault.NamingFault.TheVariants.{BadName};
 ghost use Rattle.tl_workers.specs.Matching.{Matches, DoesNotClose};
 
 use crate::matching::all_match;
@@ -57,14 +59,18 @@ impl Engine {
         }
     }
 
-    /// Takes up a procedure under a name, and answers its number: 612, 611, 613, 690.
+    /// Takes up a procedure under a name, and answers its number: 612, 611, 613, 690. 612 is answered exactly where the name is
+    /// none; whether another procedure has it is hidden by the lock.
     pub fn register(
         &self,
         rt: &impl Wait,
         alloc: Global,
         name: &str,
         procedure: Proc,
-    ) -> Result<u32, NamingFault> {
+    ) -> Result<u32, NamingFault>
+        ensures named { OnOk result (IsTrue (is_name name.now)) }
+        ensures fault { IfErr result (λ e. (e ≡ BadName) ↔ (is_name name.now ≡ false)) }
+    {
         self.table.lock(rt).add_proc(alloc, name, procedure)
     }
 
