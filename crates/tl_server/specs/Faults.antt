@@ -2,6 +2,8 @@
 use Rattle.std.specs.Prelude.{ℕ, List, [], ◌∷◌}
 use Rattle.tl_server.specs.declared.fault.ServeFault.{ServeFault}
 use Rattle.tl_server.specs.declared.fault.ServeFault.TheVariants as serve
+use Rattle.tl_server.specs.declared.fault.ListenFault.{ListenFault}
+use Rattle.tl_server.specs.declared.fault.ListenFault.TheVariants as listen
 use Rattle.tl_server.specs.declared.fault.LineFault.{LineFault}
 use Rattle.tl_server.specs.declared.fault.LineFault.TheVariants.{NotRequest, TooLong, NotUtf8, Memory}
 
@@ -17,3 +19,8 @@ abbrev pub serve_numbers_of : ServeFault → List ℕ
 serve_numbers_of serve.ReadFailed = 911 ∷ []
 serve_numbers_of serve.WriteFailed = 912 ∷ []
 serve_numbers_of serve.Memory = 990 ∷ []
+
+-- why no connection is served, as numbers
+abbrev pub listen_numbers_of : ListenFault → List ℕ
+listen_numbers_of listen.NoPort = 33 ∷ []
+listen_numbers_of listen.Memory = 990 ∷ []

@@ -2,6 +2,7 @@
 
 ghost use Rattle.std.specs.Prelude.{◌≡◌};
 ghost use Rattle.tl_server.specs.declared.fault.LineFault.TheVariants.{Memory};
+ghost use Rattle.tl_server.specs.declared.fault.ListenFault.TheVariants as listening;
 
 use arrayvec::ArrayVec;
 use std::alloc::AllocError;
@@ -78,5 +79,40 @@ impl ServeFault {
             ServeFault::Memory => 990,
         });
         numbers
+    }
+}
+
+/// Why no connection is served.
+#[derive(Clone, Copy, Debug, PartialEq, Eq, Error)]
+pub enum ListenFault {
+    /// 33: the port can't be had.
+    #[error("the port can't be had")]
+    NoPort,
+    /// 990: memory was refused.
+    #[error("out of memory")]
+    Memory,
+}
+
+impl ListenFault {
+    ghost use Rattle.tl_server.specs.Faults.{listen_numbers_of};
+
+    /// The fault's number.
+    pub fn numbers(&self) -> ArrayVec<u64, 3>
+        ensures { result.items ≡ listen_numbers_of self.now }
+    {
+        let mut numbers = ArrayVec::new();
+        numbers.push(match self {
+            ListenFault::NoPort => 33,
+            ListenFault::Memory => 990,
+        });
+        numbers
+    }
+}
+
+impl From<AllocError> for ListenFault {
+    ghost from_gives = { λ _ e. e ≡ listening.Memory };
+
+    fn from(_refused: AllocError) -> ListenFault {
+        ListenFault::Memory
     }
 }

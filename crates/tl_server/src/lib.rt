@@ -9,13 +9,17 @@ mod answering;
 mod batch;
 mod device;
 mod fault;
+mod listening;
 mod outbox;
 mod reader;
 mod request;
 mod serving;
+mod socket;
 
 pub use batch::BatchRequest;
 pub use device::{Bytes, Failure, Sink, Source};
-pub use fault::{LineFault, ServeFault};
+pub use fault::{LineFault, ListenFault, ServeFault};
+pub use listening::{MAX_CONNECTIONS, listen};
 pub use request::{LineRequest, MAX_LINE, read_request};
 pub use serving::serve;
+pub use socket::{SocketSink, SocketSource};

@@ -40,6 +40,14 @@ impl Outbox {
         })
     }
 
+    /// Lets all go, for another sink.
+    pub(crate) fn renew(&mut self)
+        ensures { (self.new.kept ≡ []) × (self.new.failed ≡ false) }
+    {
+        self.text.clear();
+        self.failed = false;
+    }
+
     /// Whether a write has failed.
     pub(crate) fn has_failed(&self) -> bool
         ensures { result ≡ self.now.failed }

@@ -5,3 +5,5 @@
 mod device;
 #[cfg(test)]
 mod lines;
+#[cfg(test)]
+mod sockets;

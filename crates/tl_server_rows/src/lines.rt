@@ -21,13 +21,13 @@ const BOUNDS: &str = "{\"bounds\":{\"emits\":1,\"locks\":1,\"steps\":7}}\n";
 const ANSWERS: &str = "{\"call\":0,\"reply\":[8]}\n{\"call\":1,\"reply\":[8]}\n{\"error\":[601]}\n{\"error\":[611]}\n{\"error\":[901]}\n{\"batch\":[{\"call\":2,\"reply\":[9]},{\"error\":[501]}]}\n{\"closed\":true}\n";
 
 /// An engine on a tree of one node, whose field 0 is 5.
-fn engine(alloc: Global) -> Result<Engine, Fail> {
+pub fn engine(alloc: Global) -> Result<Engine, Fail> {
     let tree = read_tree(alloc, "{\"parents\":[0],\"records\":[[5,0,0,0]]}")?;
     Ok(Engine::new(alloc, tree)?)
 }
 
 /// A `register`, calls, what is refused, a batch, and a `close` without an LF.
-fn all_lines(alloc: Global) -> Result<Vec<u8>, Fail> {
+pub fn all_lines(alloc: Global) -> Result<Vec<u8>, Fail> {
     let mut text = Vec::new(alloc);
     text.extend_from_slice(ADD.as_bytes())?;
     text.extend_from_slice(LINES.as_bytes())?;
@@ -36,7 +36,7 @@ fn all_lines(alloc: Global) -> Result<Vec<u8>, Fail> {
     Ok(text)
 }
 
-fn all_answers(alloc: Global) -> Result<Vec<u8>, Fail> {
+pub fn all_answers(alloc: Global) -> Result<Vec<u8>, Fail> {
     let mut text = Vec::new(alloc);
     text.extend_from_slice(BOUNDS.as_bytes())?;
     text.extend_from_slice(ANSWERS.as_bytes())?;
