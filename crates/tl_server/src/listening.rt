@@ -131,8 +131,9 @@ fn serve_all<R: Threads + Wait + Sync>(
             hall.take_place(rt);
             match welcome(rt, alloc, listener, engine, &mut outbox) {
                 Some((stream, session)) => {
-                    let started =
-                        scope.spawn(move || visit(rt, alloc, engine, hall, stream, session));
+                    let started = scope.spawn(move || visit(
+                        rt, alloc, engine, hall, stream, session,
+                    ));
                     if let Err(refused) = started {
                         (refused.value)();
                     }

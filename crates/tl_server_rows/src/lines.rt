@@ -10,15 +10,19 @@ use tl_server::{Bytes, ServeFault, serve};
 use tl_tree::read_tree;
 use tl_workers::{Engine, Session};
 
-const ADD: &str = "{\"asm\":\"arity 2\\nfirst n0 v0 else L6\\nget v2 n0 0\\nadd v2 v2 v1 else L4\\nput n0 0 v2\\nL4:\\nemit v2\\nrel n0\\nL6:\\nret\",\"name\":\"add\",\"op\":\"register\"}\n";
+const ADD: &str =
+    "{\"asm\":\"arity 2\\nfirst n0 v0 else L6\\nget v2 n0 0\\nadd v2 v2 v1 else L4\\nput n0 0 v2\\nL4:\\nemit v2\\nrel n0\\nL6:\\nret\",\"name\":\"add\",\"op\":\"register\"}\n";
 
-const LINES: &str = "{\"args\":[0,3],\"op\":\"call\",\"proc\":\"add\"}\n{\"args\":[0,0],\"op\":\"call\",\"proc\":\"add\"}\n{\"args\":[0,0],\"op\":\"call\",\"proc\":\"nosuch\"}\n";
+const LINES: &str =
+    "{\"args\":[0,3],\"op\":\"call\",\"proc\":\"add\"}\n{\"args\":[0,0],\"op\":\"call\",\"proc\":\"add\"}\n{\"args\":[0,0],\"op\":\"call\",\"proc\":\"nosuch\"}\n";
 
-const MORE: &str = "hello\n{\"calls\":[[\"add\",[0,1]],[\"add\",[0]]],\"op\":\"batch\",\"workers\":1}\n{\"op\":\"close\"}";
+const MORE: &str =
+    "hello\n{\"calls\":[[\"add\",[0,1]],[\"add\",[0]]],\"op\":\"batch\",\"workers\":1}\n{\"op\":\"close\"}";
 
 const BOUNDS: &str = "{\"bounds\":{\"emits\":1,\"locks\":1,\"steps\":7}}\n";
 
-const ANSWERS: &str = "{\"call\":0,\"reply\":[8]}\n{\"call\":1,\"reply\":[8]}\n{\"error\":[601]}\n{\"error\":[611]}\n{\"error\":[901]}\n{\"batch\":[{\"call\":2,\"reply\":[9]},{\"error\":[501]}]}\n{\"closed\":true}\n";
+const ANSWERS: &str =
+    "{\"call\":0,\"reply\":[8]}\n{\"call\":1,\"reply\":[8]}\n{\"error\":[601]}\n{\"error\":[611]}\n{\"error\":[901]}\n{\"batch\":[{\"call\":2,\"reply\":[9]},{\"error\":[501]}]}\n{\"closed\":true}\n";
 
 /// An engine on a tree of one node, whose field 0 is 5.
 pub fn engine(alloc: Global) -> Result<Engine, Fail> {
@@ -101,7 +105,8 @@ fn long_lines_and_other_bytes(rt: HostRuntime) -> Result<(), Fail> {
         lines.push(b'x')?;
     }
     lines.extend_from_slice(b"\n\xff\n\n{\"op\":\"close\"}\nhello\n")?;
-    let answers = b"{\"error\":[901]}\n{\"error\":[902]}\n{\"error\":[903]}\n{\"error\":[901]}\n{\"closed\":true}\n";
+    let answers =
+        b"{\"error\":[901]}\n{\"error\":[902]}\n{\"error\":[903]}\n{\"error\":[901]}\n{\"closed\":true}\n";
     answered(&rt, alloc, lines.as_slice(), 1000, 100, answers, 5)
 }
 
