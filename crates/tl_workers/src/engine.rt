@@ -1,6 +1,9 @@
 // A table that threads share.
 
-ghost use Rattle.std.specs.Prelude.{◌≡◌, ◌⊎◌, [], IfOk, IfErr, All};
+ghost use Rattle.std.specs.Prelude.{◌≡◌, ◌↔◌, ◌⊎◌, [], false, IsTrue, IfOk, OnOk, IfErr, All};
+ghost use Rattle.tl_procedures.specs.Names.{is_name};
+ghost use Rattle.tl_procedures.specs.declared.fault.NamingFault.TheVariants.{BadName};
+ghost use Rattle.tl_core.specs.declared.fault.CoreFault.TheVariants as core_fault;
 ghost use Rattle.tl_table.specs.declared.fault.TableFault.TheVariants as fault;
 ghost use Rattle.tl_workers.specs.declared.refusal.Refusal.TheVariants as refusal;
 ghost use Rattle.tl_workers.specs.Matching.{Matches, DoesNotClose};
@@ -39,10 +42,10 @@ impl Engine {
         }
     }
 
-    /// An engine for calls of a core that has none yet. 890, 990 where memory is refused.
+    /// An engine for calls of a core that has none yet. 690, 890, 990 where memory is refused.
     pub fn of_core(alloc: Global, core: Core) -> Result<Engine, Refusal>
         requires { core.seen.calls ≡ [] }
-        ensures err { IfErr result (λ e. (e ≡ refusal.Table fault.Memory) ⊎ (e ≡ refusal.Memory)) }
+        ensures err { IfErr result (λ e. (e ≡ refusal.Table fault.Memory) ⊎ (e ≡ refusal.Table (fault.Core core_fault.Memory)) ⊎ (e ≡ refusal.Memory)) }
     {
         let table = match Table::new(alloc, core) {
             Ok(table) => table,
@@ -67,14 +70,18 @@ impl Engine {
         }
     }
 
-    /// Takes up a procedure under a name, and answers its number: 612, 611, 613, 690.
+    /// Takes up a procedure under a name, and answers its number: 612, 611, 613, 690. 612 is answered exactly where the name is
+    /// none; whether another procedure has it is hidden by the lock.
     pub fn register(
         &self,
         rt: &impl Wait,
         alloc: Global,
         name: &str,
         procedure: Proc,
-    ) -> Result<u32, NamingFault> {
+    ) -> Result<u32, NamingFault>
+        ensures named { OnOk result (IsTrue (is_name name.now)) }
+        ensures fault { IfErr result (λ e. (e ≡ BadName) ↔ (is_name name.now ≡ false)) }
+    {
         self.table.lock(rt).add_proc(alloc, name, procedure)
     }
 

@@ -1,0 +1,331 @@
+-- How a run goes on.
+use Rattle.std.proofs.Common.{◌≡◌, ◌<◌, ◌+◌, ℕ, List, [], ◌∷◌, ◌++◌, Bool, true, false, take, ap, sym, ◌∙◌, subst, append_assoc, append-nil, refl, length, length-append, arith, inl, inr}
+use Rattle.std.specs.Prelude.{Some, None, Option, IfSome, ◌==◌, if◌then◌else◌}
+use Rattle.std.proofs.lemmas.Bool.Decides.{nat_tests}
+use Rattle.std.proofs.lemmas.List.{take_all, length-take}
+use Rattle.tl_workers.specs.declared.session.Did.{Did}
+use Rattle.tl_workers.specs.Kept.{SessionValue, Gains}
+use Rattle.tl_server.specs.declared.reader.TheConstants.{HELD}
+use Rattle.tl_server.specs.declared.request.TheConstants.{MAX_LINE}
+use Rattle.tl_server.specs.declared.reader.Came.TheVariants.{Whole, Rest, End}
+use Rattle.tl_server.specs.declared.fault.LineFault.{LineFault}
+use Rattle.tl_server.specs.declared.fault.LineFault.TheVariants as fault
+use Rattle.tl_server.specs.Requests.{LineValue, Closes, IsRequest, IsLineFault}
+use Rattle.tl_server.specs.Served.{Answered, AnswersLine, ClosesLine, IsAnswer, AnsweredAll}
+use Rattle.tl_server.specs.Lines.{with_lfs, HasNoLf, NoLfs, lines_of, onto_first}
+use Rattle.tl_server.specs.Devices.{Adds, AddsPart}
+use Rattle.tl_server.specs.Sending.{Sending, Sent, SentIf, Writes}
+use Rattle.tl_server.specs.Coming.{ReaderValue, held_of, Comes, Breaks}
+use Rattle.tl_server.specs.Runs.{Moment}
+use Rattle.tl_server.proofs.Sending.{Adds-nil}
+
+pub if_some : {A : Type 0} (o : Option A) (P : A → Type 0) → ((x : A) → o ≡ Some x → P x) → IfSome o P
+if_some (Some x) P f = f x refl
+if_some None P f = tt
+
+-- ---- lines
+
+not_lf : (b : ℕ) → (b ≡ 10 → ⊥) → (b == 10) ≡ false
+not_lf b h = grind (arith, nat_tests)
+
+-- an LF ends the first line
+lines_of-line : (l : List ℕ) (more : List ℕ) → HasNoLf l → lines_of (l ++ 10 ∷ more) ≡ l ∷ lines_of more
+lines_of-line [] more h = refl
+lines_of-line (b ∷ l) more h =
+    ap (λ (t : Bool). if t then [] ∷ lines_of (l ++ 10 ∷ more) else onto_first b (lines_of (l ++ 10 ∷ more))) (not_lf b h.0) ∙ ap (onto_first b) (lines_of-line l more h.1)
+
+-- a rest is a line
+lines_of-rest : (l : List ℕ) → HasNoLf l → 0 < length l → lines_of l ≡ l ∷ []
+lines_of-rest [] h some = absurd (omega arith)
+lines_of-rest (b ∷ []) h some = ap (λ (t : Bool). if t then [] ∷ [] else onto_first b []) (not_lf b h.0)
+lines_of-rest (b ∷ c ∷ l) h some =
+    ap (λ (t : Bool). if t then [] ∷ lines_of (c ∷ l) else onto_first b (lines_of (c ∷ l))) (not_lf b h.0) ∙ ap (onto_first b) (lines_of-rest (c ∷ l) h.1 (omega arith))
+
+lines_of-whole : (ls : List (List ℕ)) (more : List ℕ) → NoLfs ls → lines_of (with_lfs ls ++ more) ≡ ls ++ lines_of more
+lines_of-whole [] more h = refl
+lines_of-whole (l ∷ ls) more h =
+    ap lines_of (append_assoc l (10 ∷ with_lfs ls) more) ∙ lines_of-line l (with_lfs ls ++ more) h.0 ∙ ap (λ xs. l ∷ xs) (lines_of-whole ls more h.1)
+
+-- one line more
+with_lfs-snoc : (ls : List (List ℕ)) (l more : List ℕ) → with_lfs ls ++ (l ++ 10 ∷ more) ≡ with_lfs (ls ++ l ∷ []) ++ more
+with_lfs-snoc [] l more = sym (append_assoc l (10 ∷ []) more)
+with_lfs-snoc (k ∷ ls) l more =
+    append_assoc k (10 ∷ with_lfs ls) (l ++ 10 ∷ more) ∙ ap (λ xs. k ++ 10 ∷ xs) (with_lfs-snoc ls l more) ∙ sym (append_assoc k (10 ∷ with_lfs (ls ++ l ∷ [])) more)
+
+NoLfs-snoc : (ls : List (List ℕ)) (l : List ℕ) → NoLfs ls → HasNoLf l → NoLfs (ls ++ l ∷ [])
+NoLfs-snoc [] l h k = (k, tt)
+NoLfs-snoc (x ∷ ls) l h k = (h.0, NoLfs-snoc ls l h.1 k)
+
+-- ---- a line of which only the beginning was kept
+
+-- it is the whole line, or too long
+kept_whole : (n : ℕ) (l : List ℕ) → length (take n l) < n → take n l ≡ l
+kept_whole n l short = take_all n l (omega (arith, length-take n l))
+
+held_request : (l : List ℕ) (r : LineValue) → IsRequest (held_of l) r → IsRequest l r
+held_request l r q =
+    let short : length (take HELD l) < HELD = omega (arith, q.short) in
+    let P : List ℕ → Type 0 = λ xs. IsRequest xs r in
+    subst P (kept_whole HELD l short) q
+
+long_line : (n m : ℕ) (l : List ℕ) → m < length (take n l) → m < length l
+long_line n m l h = omega (arith, length-take n l)
+
+held_fault : (l : List ℕ) (f : LineFault) → IsLineFault (held_of l) f → IsLineFault l f
+held_fault l fault.TooLong h = long_line HELD MAX_LINE l h
+held_fault l fault.NotUtf8 h =
+    let short : length (take HELD l) < HELD = omega (arith, h.0) in
+    let P : List ℕ → Type 0 = λ xs. IsLineFault xs fault.NotUtf8 in
+    subst P (kept_whole HELD l short) h
+held_fault l fault.NotRequest h =
+    let short : length (take HELD l) < HELD = omega (arith, h.0) in
+    let P : List ℕ → Type 0 = λ xs. IsLineFault xs fault.NotRequest in
+    subst P (kept_whole HELD l short) h
+held_fault l fault.Memory h = absurd h
+
+held_answer : (l : List ℕ) (g : List Did) (o : List ℕ) → AnswersLine (held_of l) g o → AnswersLine l g o
+held_answer l g o (inl refused) = inl refused
+held_answer l g o (inr (inl f)) = inr (inl (f.0, held_fault l f.0 f.1, f.2, f.3))
+held_answer l g o (inr (inr r)) = inr (inr (r.0, held_request l r.0 r.1, r.2))
+
+-- the answer to what was kept of a line is the line's
+pub line_answer : (l kept : List ℕ) (closes : Bool) (g : List Did) (o : List ℕ) → kept ≡ held_of l → IsAnswer kept closes g o → IsAnswer l closes g o
+line_answer l kept false g o is a = let P : List ℕ → Type 0 = λ xs. AnswersLine xs g o in held_answer l g o (subst P is a)
+line_answer l kept true g o is a = let P : List ℕ → Type 0 = λ xs. ClosesLine xs g o in let c = subst P is a in (held_request l Closes c.0, c.1, c.2)
+
+-- ---- answers
+
+Answered-snoc : (ls : List (List ℕ)) (l : List ℕ) (gained : List Did) (out : List ℕ) (g : List Did) (o : List ℕ) → Answered ls gained out → AnswersLine l g o → Answered (ls ++ l ∷ []) (gained ++ g) (out ++ o)
+Answered-snoc [] l gained out g o h a =
+    (g, [], o, [], ap (λ xs. xs ++ g) h.0 ∙ sym (append-nil g), ap (λ xs. xs ++ o) h.1 ∙ sym (append-nil o), a, (refl, refl))
+Answered-snoc (k ∷ ls) l gained out g o h a = (
+  h.0,
+  h.1 ++ g,
+  h.2,
+  h.3 ++ o,
+  ap (λ xs. xs ++ g) h.4 ∙ append_assoc h.0 h.1 g,
+  ap (λ xs. xs ++ o) h.5 ∙ append_assoc h.2 h.3 o,
+  h.6,
+  Answered-snoc ls l h.1 h.3 g o h.7 a,
+)
+
+Gains-append : (a b c : SessionValue) (xs ys : List Did) → Gains a b xs → Gains b c ys → Gains a c (xs ++ ys)
+Gains-append a b c xs ys h k = record { number = k.number ∙ h.number; kept = k.kept ∙ ap (λ zs. zs ++ ys) h.kept ∙ append_assoc a.kept xs ys }
+
+-- one line's answer
+pub record AnswersOne (old new : SessionValue) (s s' : Sending) (l : List ℕ) (closes : Bool) : Type 0 where
+  pub gained : List Did
+  pub out : List ℕ
+  pub gains : Gains old new gained
+  pub writes : Writes s s' out
+  pub answer : IsAnswer l closes gained out
+
+-- nothing is kept and no write has failed, so the sink has got all
+all_sent : (failed : Bool) (base : Option (List ℕ)) (total : List ℕ) (output : Option (List ℕ)) (kept : List ℕ) → failed ≡ false → kept ≡ [] → SentIf failed base total output kept → Adds base total output
+all_sent true base total output kept fresh none h = absurd cc
+all_sent false base total output kept fresh none h =
+    let P : List ℕ → Type 0 = λ xs. Adds base xs output in
+    subst P (sym (h.1 ∙ ap (λ xs. h.0 ++ xs) none ∙ append-nil h.0)) h.2
+
+-- a write has failed, so it has got a beginning
+part_sent : (failed : Bool) (base : Option (List ℕ)) (total : List ℕ) (output : Option (List ℕ)) (kept : List ℕ) → failed ≡ true → SentIf failed base total output kept → AddsPart base total output
+part_sent true base total output kept fails h = h
+part_sent false base total output kept fails h = absurd cc
+
+-- ---- the run
+
+-- So many lines were read whole and answered, and none closed the connection; after them come the bytes left in the piece,
+-- and those still to be read.
+pub record GoesOn (m : Moment) (input : Option (List ℕ)) (session : SessionValue) (s : Sending) (left : List ℕ) (n : ℕ) (bytes : List ℕ) : Type 0 where
+  pub ls : List (List ℕ)
+  pub unread : List ℕ
+  pub gained : List Did
+  pub out : List ℕ
+  pub input_is : input ≡ Some unread
+  pub whole : bytes ≡ with_lfs ls ++ (left ++ unread)
+  pub each : NoLfs ls
+  pub count : n ≡ length ls
+  pub gains : Gains m.session session gained
+  pub sent : Sent m.output out s
+  pub answered : Answered ls gained out
+
+-- nothing is read yet
+pub begins : (m : Moment) (left bytes : List ℕ) (s : Sending) → m.input ≡ Some bytes → left ≡ [] → s.output ≡ m.output → s.kept ≡ [] → s.failed ≡ false → GoesOn m m.input m.session s left 0 bytes
+begins m left bytes s is empty output_is none fresh =
+    let P : Option (List ℕ) → Type 0 = λ o. Adds m.output [] o in
+    let Q : Bool → Type 0 = λ b. SentIf b m.output [] s.output s.kept in
+    record {
+      ls = [];
+      unread = bytes;
+      gained = [];
+      out = [];
+      input_is = is;
+      whole = ap (λ ys. ys ++ bytes) (sym empty);
+      each = tt;
+      count = refl;
+      gains = record { number = refl; kept = sym (append-nil m.session.kept) };
+      sent = subst Q (sym fresh) ([], sym none, subst P (sym output_is) (Adds-nil m.output));
+      answered = (refl, refl);
+    }
+
+-- nothing more was handed over
+pub settles : (m : Moment) (input : Option (List ℕ)) (session : SessionValue) (s s' : Sending) (left : List ℕ) (n : ℕ) (bytes : List ℕ) → GoesOn m input session s left n bytes → Writes s s' [] → GoesOn m input session s' left n bytes
+settles m input session s s' left n bytes g w =
+    let P : List ℕ → Type 0 = λ xs. Sent m.output xs s' in
+    record {
+      ls = g.ls;
+      unread = g.unread;
+      gained = g.gained;
+      out = g.out;
+      input_is = g.input_is;
+      whole = g.whole;
+      each = g.each;
+      count = g.count;
+      gains = g.gains;
+      sent = subst P (append-nil g.out) (w.sends m.output g.out g.sent);
+      answered = g.answered;
+    }
+
+-- a line came whole, and was answered
+pub goes_on : (m : Moment) (input input' : Option (List ℕ)) (old new : SessionValue) (s s' : Sending) (left : List ℕ) (r : ReaderValue) (n : ℕ) (bytes : List ℕ) → (g : GoesOn m input old s left n bytes)
+    → Comes (left ++ g.unread) Whole r input' → AnswersOne old new s s' r.held false → (more : ℕ) → more ≡ n + 1 → GoesOn m input' new s' r.left more bytes
+goes_on m input input' old new s s' left r n bytes g w one more is =
+    record {
+      ls = g.ls ++ w.0 ∷ [];
+      unread = w.1;
+      gained = g.gained ++ one.gained;
+      out = g.out ++ one.out;
+      input_is = w.4;
+      whole = g.whole ∙ ap (λ ys. with_lfs g.ls ++ ys) w.5 ∙ with_lfs-snoc g.ls w.0 (r.left ++ w.1);
+      each = NoLfs-snoc g.ls w.0 g.each w.2;
+      count = omega (arith, g.count, length-append g.ls (w.0 ∷ []), is);
+      gains = Gains-append m.session old new g.gained one.gained g.gains one.gains;
+      sent = one.writes.sends m.output g.out g.sent;
+      answered = Answered-snoc g.ls w.0 g.gained g.out one.gained one.out g.answered (line_answer w.0 r.held false one.gained one.out w.3 one.answer);
+    }
+
+-- the lines, where this one comes next
+lines_whole : (m : Moment) (input input' : Option (List ℕ)) (old : SessionValue) (s : Sending) (left : List ℕ) (r : ReaderValue) (n : ℕ) (bytes : List ℕ) → (g : GoesOn m input old s left n bytes) → (w : Comes (left ++ g.unread) Whole r input')
+    → lines_of bytes ≡ g.ls ++ w.0 ∷ lines_of (r.left ++ w.1)
+lines_whole m input input' old s left r n bytes g w =
+    ap lines_of g.whole ∙ lines_of-whole g.ls (left ++ g.unread) g.each ∙ ap (λ ys. g.ls ++ lines_of ys) w.5 ∙ ap (λ ys. g.ls ++ ys) (lines_of-line w.0 (r.left ++ w.1) w.2)
+
+lines_rest : (m : Moment) (input input' : Option (List ℕ)) (old : SessionValue) (s : Sending) (left : List ℕ) (r : ReaderValue) (n : ℕ) (bytes : List ℕ) → (g : GoesOn m input old s left n bytes) → Comes (left ++ g.unread) Rest r input'
+    → lines_of bytes ≡ g.ls ++ (left ++ g.unread) ∷ []
+lines_rest m input input' old s left r n bytes g w =
+    ap lines_of g.whole ∙ lines_of-whole g.ls (left ++ g.unread) g.each ∙ ap (λ ys. g.ls ++ ys) (lines_of-rest (left ++ g.unread) w.0 w.1)
+
+-- the last line was answered
+finishes : (ls : List (List ℕ)) (l : List ℕ) (after : List (List ℕ)) (lines : List (List ℕ)) (closes : Bool) (n more : ℕ) (gained g : List Did) (out o : List ℕ) → lines ≡ ls ++ l ∷ after → n ≡ length ls → more ≡ n + 1
+    → Answered ls gained out → IsAnswer l closes g o → (closes ≡ false → after ≡ []) → AnsweredAll lines more (gained ++ g) (out ++ o)
+finishes ls l after lines false n more gained g out o is count counts answered a last =
+    let all : lines ≡ ls ++ l ∷ [] = is ∙ ap (λ xs. ls ++ l ∷ xs) (last refl) in
+    let P : List (List ℕ) → Type 0 = λ xs. Answered xs (gained ++ g) (out ++ o) in
+    inl (omega (arith, count, counts, ap length all, length-append ls (l ∷ [])), subst P (sym all) (Answered-snoc ls l gained out g o answered a))
+finishes ls l after lines true n more gained g out o is count counts answered a last =
+    let P : List Did → Type 0 = λ xs. Answered ls xs out in
+    inr (record {
+      before = ls;
+      last = l;
+      after = after;
+      answers = out;
+      lines_are = is;
+      count = counts ∙ ap (λ k. k + 1) count;
+      answered = subst P (sym (ap (λ xs. gained ++ xs) a.1 ∙ append-nil gained)) answered;
+      closes = a.0;
+      out_is = ap (λ xs. out ++ xs) a.2;
+    })
+
+pub one_of : (old new : SessionValue) (s s' : Sending) (line held : List ℕ) (closes closes' : Bool)
+    → ((gained : List Did) × (out : List ℕ) × Gains old new gained × Writes s s' out × IsAnswer line closes gained out) → line ≡ held → closes ≡ closes' → AnswersOne old new s s' held closes'
+one_of old new s s' line held closes closes' a is same =
+    let P : List ℕ → Type 0 = λ xs. IsAnswer xs closes a.0 a.1 in
+    let Q : Bool → Type 0 = λ b. IsAnswer held b a.0 a.1 in
+    record { gained = a.0; out = a.1; gains = a.2; writes = a.3; answer = subst Q same (subst P is a.4) }
+
+-- ---- how it ends
+
+-- a write failed before the next line
+pub stops_before : (m : Moment) (input : Option (List ℕ)) (session : SessionValue) (s : Sending) (left : List ℕ) (n : ℕ) (bytes : List ℕ) → GoesOn m input session s left n bytes → s.failed ≡ true
+    → (ls : List (List ℕ)) × (more : List (List ℕ)) × (k : ℕ) × (lines_of bytes ≡ ls ++ more)
+    × ((gained : List Did) × (out : List ℕ) × Gains m.session session gained × AddsPart m.output out s.output × AnsweredAll ls k gained out)
+stops_before m input session s left n bytes g fails = (
+  g.ls,
+  lines_of (left ++ g.unread),
+  n,
+  ap lines_of g.whole ∙ lines_of-whole g.ls (left ++ g.unread) g.each,
+  (g.gained, g.out, g.gains, part_sent s.failed m.output g.out s.output s.kept fails g.sent, inl (g.count, g.answered)),
+)
+
+-- a read failed
+pub breaks_off : (m : Moment) (input input' : Option (List ℕ)) (session : SessionValue) (s : Sending) (left : List ℕ) (n : ℕ) (bytes : List ℕ) → (g : GoesOn m input session s left n bytes) → Breaks (left ++ g.unread) input'
+    → s.failed ≡ false → s.kept ≡ []
+    → (ls : List (List ℕ)) × (rest : List ℕ) × (left' : List ℕ) × (input' ≡ Some left') × (bytes ≡ (with_lfs ls ++ rest) ++ left') × NoLfs ls × HasNoLf rest
+    × ((gained : List Did) × (out : List ℕ) × Gains m.session session gained × Adds m.output out s.output × Answered ls gained out)
+breaks_off m input input' session s left n bytes g b fresh none = (
+  g.ls,
+  b.0,
+  b.1,
+  b.3,
+  g.whole ∙ ap (λ ys. with_lfs g.ls ++ ys) b.4 ∙ sym (append_assoc (with_lfs g.ls) b.0 b.1),
+  g.each,
+  b.2,
+  (g.gained, g.out, g.gains, all_sent s.failed m.output g.out s.output s.kept fresh none g.sent, g.answered),
+)
+
+-- nothing more came
+pub ends : (m : Moment) (input input' : Option (List ℕ)) (session : SessionValue) (s : Sending) (left : List ℕ) (r : ReaderValue) (n : ℕ) (bytes : List ℕ) → (g : GoesOn m input session s left n bytes) → Comes (left ++ g.unread) End r input'
+    → s.failed ≡ false → s.kept ≡ []
+    → (gained : List Did) × (out : List ℕ) × Gains m.session session gained × Adds m.output out s.output × AnsweredAll (lines_of bytes) n gained out
+ends m input input' session s left r n bytes g w fresh none =
+    let lines : lines_of bytes ≡ g.ls = ap lines_of g.whole ∙ lines_of-whole g.ls (left ++ g.unread) g.each ∙ ap (λ ys. g.ls ++ lines_of ys) w ∙ append-nil g.ls in
+    let P : List (List ℕ) → Type 0 = λ xs. Answered xs g.gained g.out in
+    (g.gained, g.out, g.gains, all_sent s.failed m.output g.out s.output s.kept fresh none g.sent, inl (g.count ∙ ap length (sym lines), subst P (sym lines) g.answered))
+
+-- the last line was answered, and what was gathered was handed over
+pub record Finishes (m : Moment) (session : SessionValue) (s : Sending) (more : ℕ) (bytes : List ℕ) : Type 0 where
+  pub gained : List Did
+  pub out : List ℕ
+  pub gains : Gains m.session session gained
+  pub sent : Sent m.output out s
+  pub answered : AnsweredAll (lines_of bytes) more gained out
+
+finished : (m : Moment) (input : Option (List ℕ)) (old new : SessionValue) (s s' s'' : Sending) (left : List ℕ) (n : ℕ) (bytes held l : List ℕ) (after : List (List ℕ)) (closes : Bool) → (g : GoesOn m input old s left n bytes)
+    → lines_of bytes ≡ g.ls ++ l ∷ after → held ≡ held_of l → AnswersOne old new s s' held closes → (closes ≡ false → after ≡ []) → Writes s' s'' [] → (more : ℕ) → more ≡ n + 1 → Finishes m new s'' more bytes
+finished m input old new s s' s'' left n bytes held l after closes g lines is one last w more counts =
+    let P : List ℕ → Type 0 = λ xs. Sent m.output xs s'' in
+    record {
+      gained = g.gained ++ one.gained;
+      out = g.out ++ one.out;
+      gains = Gains-append m.session old new g.gained one.gained g.gains one.gains;
+      sent = subst P (append-nil (g.out ++ one.out)) (w.sends m.output (g.out ++ one.out) (one.writes.sends m.output g.out g.sent));
+      answered = finishes g.ls l after (lines_of bytes) closes n more g.gained one.gained g.out one.out lines g.count counts g.answered (line_answer l held closes one.gained one.out is one.answer) last;
+    }
+
+-- a line closed the connection
+pub closes_at : (m : Moment) (input input' : Option (List ℕ)) (old new : SessionValue) (s s' s'' : Sending) (left : List ℕ) (r : ReaderValue) (n : ℕ) (bytes : List ℕ) → (g : GoesOn m input old s left n bytes)
+    → Comes (left ++ g.unread) Whole r input' → AnswersOne old new s s' r.held true → Writes s' s'' [] → (more : ℕ) → more ≡ n + 1 → Finishes m new s'' more bytes
+closes_at m input input' old new s s' s'' left r n bytes g w one flushed more counts =
+    let last : true ≡ false → lines_of (r.left ++ w.1) ≡ [] = λ e. absurd cc in
+    finished m input old new s s' s'' left n bytes r.held w.0 (lines_of (r.left ++ w.1)) true g (lines_whole m input input' old s left r n bytes g w) w.3 one last flushed more counts
+
+-- the rest was the last line
+pub rest_last : (m : Moment) (input input' : Option (List ℕ)) (old new : SessionValue) (s s' s'' : Sending) (left : List ℕ) (r : ReaderValue) (n : ℕ) (bytes : List ℕ) (closes : Bool) → (g : GoesOn m input old s left n bytes)
+    → Comes (left ++ g.unread) Rest r input' → AnswersOne old new s s' r.held closes → Writes s' s'' [] → (more : ℕ) → more ≡ n + 1 → Finishes m new s'' more bytes
+rest_last m input input' old new s s' s'' left r n bytes closes g w one flushed more counts =
+    finished m input old new s s' s'' left n bytes r.held (left ++ g.unread) [] closes g (lines_rest m input input' old s left r n bytes g w) w.2 one (λ _. refl) flushed more counts
+
+pub finished_all : (m : Moment) (session : SessionValue) (s : Sending) (more : ℕ) (bytes : List ℕ) → Finishes m session s more bytes → s.failed ≡ false → s.kept ≡ []
+    → (gained : List Did) × (out : List ℕ) × Gains m.session session gained × Adds m.output out s.output × AnsweredAll (lines_of bytes) more gained out
+finished_all m session s more bytes f fresh none = (f.gained, f.out, f.gains, all_sent s.failed m.output f.out s.output s.kept fresh none f.sent, f.answered)
+
+pub finished_part : (m : Moment) (session : SessionValue) (s : Sending) (more : ℕ) (bytes : List ℕ) → Finishes m session s more bytes → s.failed ≡ true
+    → (ls : List (List ℕ)) × (rest : List (List ℕ)) × (k : ℕ) × (lines_of bytes ≡ ls ++ rest)
+    × ((gained : List Did) × (out : List ℕ) × Gains m.session session gained × AddsPart m.output out s.output × AnsweredAll ls k gained out)
+finished_part m session s more bytes f fails =
+    (lines_of bytes, [], more, sym (append-nil (lines_of bytes)), (f.gained, f.out, f.gains, part_sent s.failed m.output f.out s.output s.kept fails f.sent, f.answered))
+
+-- where nothing more came, the piece had no LF
+pub none_left : (left unread : List ℕ) → left ++ unread ≡ [] → HasNoLf left
+none_left [] unread e = tt
+none_left (x ∷ left) unread e = absurd cc

@@ -1,0 +1,6 @@
+pub mod Held
+pub mod Coming
+pub mod Sending
+pub mod Lists
+pub mod LineAnswers
+pub mod Goings

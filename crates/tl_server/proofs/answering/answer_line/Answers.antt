@@ -1,0 +1,28 @@
+use Rattle.std.proofs.Common.{◌∙◌, ap, refl, [], inr, string_bytes}
+use Rattle.tl_server.specs.Faults.{numbers_of}
+use Rattle.tl_server.specs.Requests.{Registers}
+use Rattle.tl_server.specs.Answers.{line_text, error_text, register_text}
+use Rattle.tl_server.proofs.Sending.{writes_same}
+use Rattle.tl_server.proofs.LineAnswers.{gains_none, faulted}
+use Rattle.tl_server.proofs.answering.answer_line.Goals as goal
+
+pub returns-in-Err : goal.returns-in-Err
+returns-in-Err g c =
+    let f = c.in-Err.fault in (
+      [],
+      line_text (error_text (numbers_of f)),
+      gains_none c.args.session.now,
+      writes_same c.put_error_line.ensures (ap (λ n. line_text (error_text n)) (c.as_slice.ensures.value ∙ c.numbers.ensures)),
+      faulted c.args.line.now f c.in-Err.ensures.fault,
+    )
+
+pub returns-in-Ok-Register : goal.returns-in-Ok-Register
+returns-in-Ok-Register g c =
+    let w = c.in-Ok-Register.written in
+    let answer = c.register-answer.result in (
+      [],
+      line_text (register_text answer),
+      gains_none c.args.session.now,
+      c.put_line.ensures,
+      inr (inr (Registers (string_bytes w.name) (string_bytes w.text), rw c.in-Ok-Register.field-0-is at c.in-Ok-Register.ensures.ok, (refl, (answer, c.register-answer.ensures, refl)))),
+    )

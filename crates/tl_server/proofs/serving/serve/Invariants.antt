@@ -1,0 +1,13 @@
+use Rattle.std.proofs.Common.{◌≡◌, ℕ, List}
+use Rattle.std.specs.Prelude.{Some}
+use Rattle.tl_server.specs.Sending.{sending, IsCounted}
+use Rattle.tl_server.proofs.Goings.{GoesOn}
+use Rattle.tl_server.proofs.serving.serve.Given as goal
+
+abbrev pub invariant-loop : goal.invariant-loop
+invariant-loop g l =
+    ((bytes : List ℕ) → g.S.Source.input l.fn.source ≡ Some bytes
+    → GoesOn (record { input = g.S.Source.input l.fn.source; session = l.fn.session; output = g.K.Sink.output l.fn.sink })
+    (g.S.Source.input l.source) l.session (sending (g.K.Sink.output l.sink) (g.K.Sink.failures l.sink) l.outbox) l.reader.left l.count bytes)
+    × (g.S.Source.failures l.source ≡ g.S.Source.failures l.fn.source)
+    × IsCounted (g.K.Sink.failures l.fn.sink) (sending (g.K.Sink.output l.sink) (g.K.Sink.failures l.sink) l.outbox)

@@ -1,0 +1,44 @@
+-- The texts of answers.
+use Rattle.std.specs.Prelude.{ℕ, ◌==◌, List, [], ◌++◌, codes, decimal, Result, Ok, Err, if◌then◌else◌}
+use Rattle.std.specs.Fmt.{signed_decimal}
+use Rattle.tl_tree.specs.Writing.{list_text}
+use Rattle.tl_table.specs.declared.receipt.Receipt.{Receipt}
+use Rattle.tl_budget.specs.declared.limits.Bounds.{Bounds}
+use Rattle.tl_forms.specs.declared.fault.RegisterFault.{RegisterFault}
+use Rattle.tl_forms.specs.Faults.{numbers_of as register_numbers_of}
+use Rattle.tl_workers.specs.declared.refusal.Refusal.{Refusal}
+use Rattle.tl_workers.specs.Refusals.{numbers_of}
+
+-- a text, and the LF
+abbrev pub line_text : List ℕ → List ℕ
+line_text text = text ++ codes "\n"
+
+-- a comma stands before each item of a list but the first
+abbrev pub comma_before : ℕ → List ℕ
+comma_before index = if index == 0 then [] else codes ","
+
+abbrev pub call_text : Receipt → List ℕ
+call_text r = codes "{\"call\":" ++ decimal r.call ++ codes ",\"reply\":" ++ list_text signed_decimal r.reply.items ++ codes "}"
+
+abbrev pub error_text : List ℕ → List ℕ
+error_text numbers = codes "{\"error\":" ++ list_text decimal numbers ++ codes "}"
+
+-- what came of one request of a batch
+abbrev pub one_text : Result Receipt Refusal → List ℕ
+one_text (Ok r) = call_text r
+one_text (Err e) = error_text (numbers_of e)
+
+abbrev pub batch_text : List (Result Receipt Refusal) → List ℕ
+batch_text answers = codes "{\"batch\":" ++ list_text one_text answers ++ codes "}"
+
+abbrev pub bounds_text : Bounds → List ℕ
+bounds_text b =
+    codes "{\"bounds\":{\"emits\":" ++ decimal b.emits ++ codes ",\"locks\":" ++ decimal b.locks ++ codes ",\"steps\":" ++ decimal b.steps ++ codes "}}"
+
+-- what came of a registration
+abbrev pub register_text : Result Bounds RegisterFault → List ℕ
+register_text (Ok b) = bounds_text b
+register_text (Err e) = error_text (register_numbers_of e)
+
+abbrev pub closed_text : List ℕ
+closed_text = codes "{\"closed\":true}"

@@ -1,0 +1,26 @@
+-- The numbers of a server's faults.
+use Rattle.std.specs.Prelude.{ℕ, List, [], ◌∷◌}
+use Rattle.tl_server.specs.declared.fault.ServeFault.{ServeFault}
+use Rattle.tl_server.specs.declared.fault.ServeFault.TheVariants as serve
+use Rattle.tl_server.specs.declared.fault.ListenFault.{ListenFault}
+use Rattle.tl_server.specs.declared.fault.ListenFault.TheVariants as listen
+use Rattle.tl_server.specs.declared.fault.LineFault.{LineFault}
+use Rattle.tl_server.specs.declared.fault.LineFault.TheVariants.{NotRequest, TooLong, NotUtf8, Memory}
+
+-- a line's fault as numbers
+abbrev pub numbers_of : LineFault → List ℕ
+numbers_of NotRequest = 901 ∷ []
+numbers_of TooLong = 902 ∷ []
+numbers_of NotUtf8 = 903 ∷ []
+numbers_of Memory = 990 ∷ []
+
+-- why a server stops, as numbers
+abbrev pub serve_numbers_of : ServeFault → List ℕ
+serve_numbers_of serve.ReadFailed = 911 ∷ []
+serve_numbers_of serve.WriteFailed = 912 ∷ []
+serve_numbers_of serve.Memory = 990 ∷ []
+
+-- why no connection is served, as numbers
+abbrev pub listen_numbers_of : ListenFault → List ℕ
+listen_numbers_of listen.NoPort = 33 ∷ []
+listen_numbers_of listen.Memory = 990 ∷ []

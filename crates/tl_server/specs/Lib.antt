@@ -1,0 +1,9 @@
+pub mod Faults
+pub mod Requests
+pub mod Lines
+pub mod Devices
+pub mod Coming
+pub mod Sending
+pub mod Answers
+pub mod Served
+pub mod Runs

@@ -1,0 +1,95 @@
+-- What a line asks for.
+use Rattle.std.specs.Prelude.{◌≡◌, ◌≤◌, ◌<◌, ◌==◌, ◌&&◌, ℕ, ℤ, pos, negsuc, List, map, length, codes, Bool, false, nat_lt, nat_le, Option, Some, None, option_map, option_and_then, string_bytes, if◌then◌else◌, unwrap_or, IsUtf8}
+use Rattle.std.specs.Str.{bytes_eq}
+use Rattle.serde_json.specs.Data.{Data}
+use Rattle.serde_json.specs.Events.{members_len}
+use Rattle.serde_json.specs.Find.{as_object, as_str, get}
+use Rattle.serde_json.specs.Read.{read}
+use Rattle.tl_tree.specs.Reading.{both, integer_of, integers_of}
+use Rattle.tl_forms.specs.Lists.{each_of}
+use Rattle.tl_forms.specs.Requests.{request_form, request_of}
+use Rattle.tl_workers.specs.declared.batch.TheConstants.{MAX_REQUESTS, MAX_WORKERS}
+use Rattle.tl_server.specs.declared.request.TheConstants.{MAX_LINE}
+use Rattle.tl_server.specs.declared.request.LineRequest.{LineRequest}
+use Rattle.tl_server.specs.declared.request.LineRequest.TheVariants.{Register, Call, Batch, Close}
+use Rattle.tl_server.specs.declared.fault.LineFault.{LineFault}
+use Rattle.tl_server.specs.declared.fault.LineFault.TheVariants as fault
+
+-- the name and the text of a procedure; the name and the arguments of a call; many calls, and on how many threads; or the end
+pub data LineValue : Type 0 where
+  Registers : List ℕ → List ℕ → LineValue
+  Calls : List ℕ → List ℤ → LineValue
+  Batches : List (List ℕ × List ℤ) → ℕ → LineValue
+  Closes : LineValue
+
+abbrev pub line_view : LineRequest → LineValue
+line_view (Register p) = Registers (string_bytes p.name) (string_bytes p.text)
+line_view (Call q) = Calls (string_bytes q.name) q.args.items
+line_view (Batch b) = Batches (map request_form b.requests.items) b.workers
+line_view Close = Closes
+
+-- ---- the four forms
+
+-- the value is an object of so many members
+abbrev pub has_members : ℕ → Data → Bool
+has_members count d = unwrap_or (option_map (λ ms. members_len ms == count) (as_object d)) false
+
+-- the text of the member of that name
+abbrev pub text_at : List ℕ → Data → Option (List ℕ)
+text_at key d = option_and_then as_str (get key d)
+
+abbrev pub register_of : Data → Option LineValue
+register_of d = if has_members 3 d
+    then option_map (λ x. Registers x.0 x.1) (both (text_at (codes "name") d) (text_at (codes "asm") d))
+    else None
+
+abbrev pub call_of : Data → Option LineValue
+call_of d = if has_members 3 d
+    then option_map (λ x. Calls x.0 x.1) (both (text_at (codes "proc") d) (option_and_then integers_of (get (codes "args") d)))
+    else None
+
+-- a number of workers, 1 to 16
+abbrev pub workers_of : ℤ → Option ℕ
+workers_of (pos n) = if nat_lt 0 n && nat_le n MAX_WORKERS then Some n else None
+workers_of (negsuc n) = None
+
+-- 1 to 256 calls
+abbrev pub calls_of : Data → Option (List (List ℕ × List ℤ))
+calls_of d = option_and_then (λ calls. if nat_lt 0 (length calls) && nat_le (length calls) MAX_REQUESTS then Some calls else None) (each_of request_of d)
+
+abbrev pub batch_of : Data → Option LineValue
+batch_of d = if has_members 3 d
+    then option_map (λ x. Batches x.0 x.1)
+    (both (option_and_then calls_of (get (codes "calls") d)) (option_and_then workers_of (option_and_then integer_of (get (codes "workers") d))))
+    else None
+
+abbrev pub close_of : Data → Option LineValue
+close_of d = if has_members 1 d then Some Closes else None
+
+-- the request of an object whose member `op` is this
+abbrev pub request_with : List ℕ → Data → Option LineValue
+request_with op d =
+    if bytes_eq op (codes "register") then register_of d
+    else if bytes_eq op (codes "call") then call_of d
+    else if bytes_eq op (codes "batch") then batch_of d
+    else if bytes_eq op (codes "close") then close_of d
+    else None
+
+-- the request that a value stands for
+abbrev pub line_request_of : Data → Option LineValue
+line_request_of d = option_and_then (λ op. request_with op d) (text_at (codes "op") d)
+
+-- ---- a line
+
+-- The line is short enough, is UTF-8, and is a text of the request.
+pub record IsRequest (line : List ℕ) (r : LineValue) : Type 0 where
+  pub short : length line ≤ MAX_LINE
+  pub utf8 : IsUtf8 line
+  pub same : option_and_then line_request_of (read line) ≡ Some r
+
+-- what is wrong with a line first
+abbrev pub IsLineFault : List ℕ → LineFault → Type 0
+IsLineFault line fault.TooLong = MAX_LINE < length line
+IsLineFault line fault.NotUtf8 = (length line ≤ MAX_LINE) × ¬ IsUtf8 line
+IsLineFault line fault.NotRequest = (length line ≤ MAX_LINE) × IsUtf8 line × (option_and_then line_request_of (read line) ≡ None)
+IsLineFault line fault.Memory = ⊥

@@ -1,0 +1,100 @@
+-- How lines are answered, and what a session gains by that.
+use Rattle.std.specs.Prelude.{◌≡◌, ◌↔◌, ◌⊎◌, ◌+◌, ℕ, ℤ, List, map, [], ◌∷◌, ◌++◌, length, Bool, true, false, Result, Ok, Err}
+use Rattle.tl_instr.specs.Codes.{CodeValue}
+use Rattle.tl_budget.specs.declared.limits.Bounds.{Bounds}
+use Rattle.tl_verify.specs.Procedure.{AreBounds}
+use Rattle.tl_procedures.specs.Names.{is_name}
+use Rattle.tl_procedures.specs.declared.fault.NamingFault.TheVariants.{BadName}
+use Rattle.tl_procedures.specs.declared.request.Request.{Request}
+use Rattle.tl_forms.specs.Faults.{is_memory}
+use Rattle.tl_forms.specs.Registering.{IsCodeText, IsTextFault}
+use Rattle.tl_forms.specs.Requests.{request_form}
+use Rattle.tl_forms.specs.declared.fault.RegisterFault.{RegisterFault}
+use Rattle.tl_forms.specs.declared.fault.RegisterFault.TheVariants.{Text, Name}
+use Rattle.tl_table.specs.declared.receipt.Receipt.{Receipt}
+use Rattle.tl_workers.specs.declared.refusal.Refusal.{Refusal}
+use Rattle.tl_workers.specs.declared.session.Did.{Did}
+use Rattle.tl_workers.specs.Kept.{call_of, AnswersEach, asked_of, gots_of}
+use Rattle.tl_server.specs.declared.fault.LineFault.{LineFault}
+use Rattle.tl_server.specs.Faults.{numbers_of}
+use Rattle.tl_server.specs.Requests.{LineValue, Registers, Calls, Batches, Closes, IsRequest, IsLineFault}
+use Rattle.tl_server.specs.Answers.{one_text, error_text, batch_text, register_text, closed_text, line_text}
+
+-- ---- a registration
+
+-- why a procedure isn't registered: its text, else its name; 612 exactly where that is none
+abbrev pub IsRegisterFault : List ℕ × List ℕ → RegisterFault → Type 0
+IsRegisterFault p (Text f) = IsTextFault p.1 f
+IsRegisterFault p (Name f) = ((code : CodeValue) × IsCodeText p.1 code) × ((f ≡ BadName) ↔ (is_name p.0 ≡ false))
+
+-- a procedure's name and text, and what came of its registration
+abbrev pub RegisterOutcome : List ℕ × List ℕ → Result Bounds RegisterFault → Type 0
+RegisterOutcome p (Ok bounds) = ((code : CodeValue) × IsCodeText p.1 code × AreBounds code.instrs bounds) × (is_name p.0 ≡ true)
+RegisterOutcome p (Err e) = is_memory e ≡ false → IsRegisterFault p e
+
+-- ---- calls
+
+-- a call's name and arguments, what the session gained, and what came of it
+abbrev pub CallOutcome : List ℕ × List ℤ → List Did → Result Receipt Refusal → Type 0
+CallOutcome q gained (Ok r) = (r.args.items ≡ q.1) × (gained ≡ call_of q.0 q.1 r)
+CallOutcome q gained (Err e) = gained ≡ []
+
+abbrev pub IsCallAnswer : List ℕ × List ℤ → List Did → List ℕ → Type 0
+IsCallAnswer q gained out = (answer : Result Receipt Refusal) × CallOutcome q gained answer × (out ≡ line_text (one_text answer))
+
+-- want of memory: nothing was done
+abbrev pub IsRefused : List Did → List ℕ → Type 0
+IsRefused gained out = (gained ≡ []) × (out ≡ line_text (error_text (990 ∷ [])))
+
+-- an answer to each request, in order; what the session gained are the calls that were admitted and then their receipts
+abbrev pub IsBatchAnswer : List Request → List Did → List ℕ → Type 0
+IsBatchAnswer requests gained out =
+    IsRefused gained out
+    ⊎ ((answers : List (Result Receipt Refusal)) × AnswersEach requests answers × (gained ≡ asked_of requests answers ++ gots_of answers) × (out ≡ line_text (batch_text answers)))
+
+-- ---- lines
+
+-- a request's answer, after which the next line is read, and what the session gained by it
+abbrev pub AnswersRequest : LineValue → List Did → List ℕ → Type 0
+AnswersRequest (Registers name text) gained out =
+    (gained ≡ []) × ((answer : Result Bounds RegisterFault) × RegisterOutcome (name, text) answer × (out ≡ line_text (register_text answer)))
+AnswersRequest (Calls name args) gained out = IsCallAnswer (name, args) gained out
+AnswersRequest (Batches calls workers) gained out = (requests : List Request) × (map request_form requests ≡ calls) × IsBatchAnswer requests gained out
+AnswersRequest Closes gained out = ⊥
+
+-- a line's answer, after which the next line is read
+abbrev pub AnswersLine : List ℕ → List Did → List ℕ → Type 0
+AnswersLine line gained out =
+    IsRefused gained out
+    ⊎ ((f : LineFault) × IsLineFault line f × (gained ≡ []) × (out ≡ line_text (error_text (numbers_of f))))
+    ⊎ ((r : LineValue) × IsRequest line r × AnswersRequest r gained out)
+
+-- a line closes the connection, and is answered so
+abbrev pub ClosesLine : List ℕ → List Did → List ℕ → Type 0
+ClosesLine line gained out = IsRequest line Closes × (gained ≡ []) × (out ≡ line_text closed_text)
+
+abbrev pub IsAnswer : List ℕ → Bool → List Did → List ℕ → Type 0
+IsAnswer line false gained out = AnswersLine line gained out
+IsAnswer line true gained out = ClosesLine line gained out
+
+-- one answer for each line, in order, and what the session gained by them
+abbrev pub Answered : List (List ℕ) → List Did → List ℕ → Type 0
+Answered [] gained out = (gained ≡ []) × (out ≡ [])
+Answered (l ∷ ls) gained out =
+    (g : List Did) × (gs : List Did) × (o : List ℕ) × (os : List ℕ) × (gained ≡ g ++ gs) × (out ≡ o ++ os) × AnswersLine l g o × Answered ls gs os
+
+-- After these lines one came that closed the connection, and nothing more was read.
+pub record ClosedAt (lines : List (List ℕ)) (n : ℕ) (gained : List Did) (out : List ℕ) : Type 0 where
+  pub before : List (List ℕ)
+  pub last : List ℕ
+  pub after : List (List ℕ)
+  pub answers : List ℕ
+  pub lines_are : lines ≡ before ++ last ∷ after
+  pub count : n ≡ length before + 1
+  pub answered : Answered before gained answers
+  pub closes : IsRequest last Closes
+  pub out_is : out ≡ answers ++ line_text closed_text
+
+-- the first n of these lines were answered: all of them, or those up to one that closed the connection
+abbrev pub AnsweredAll : List (List ℕ) → ℕ → List Did → List ℕ → Type 0
+AnsweredAll lines n gained out = ((n ≡ length lines) × Answered lines gained out) ⊎ ClosedAt lines n gained out

@@ -1,0 +1,168 @@
+// The texts of answers.
+
+ghost use Rattle.std.specs.Prelude.{◌≡◌, ◌==◌, ℕ, ℤ, List, [], ◌∷◌, ◌++◌, codes, decimal, Result, if◌then◌else◌};
+ghost use Rattle.std.specs.Fmt.{signed_decimal};
+ghost use Rattle.tl_tree.specs.Writing.{list_text};
+ghost use Rattle.tl_server.specs.Sending.{sending, Writes};
+ghost use Rattle.tl_server.specs.Answers.{comma_before, call_text, error_text, one_text, batch_text, bounds_text, closed_text, line_text};
+
+use crate::device::Sink;
+use crate::outbox::Outbox;
+use itoa::{Buffer, Integer};
+use tl_budget::Bounds;
+use tl_forms::RegisterFault;
+use tl_table::Receipt;
+use tl_workers::Refusal;
+
+/// What an answer is made of.
+pub(crate) trait Part {
+    ghost text: { Self → List ℕ };
+
+    fn put<K: Sink>(&self, outbox: &mut Outbox, sink: &mut K)
+        ensures { Writes (sending (K.output sink.old) (K.failures sink.old) outbox.old) (sending (K.output sink.new) (K.failures sink.new) outbox.new) (text self.now) };
+}
+
+impl Part for u64 {
+    ghost use Rattle.std.specs.Prelude.{decimal};
+
+    ghost text = { decimal };
+
+    fn put<K: Sink>(&self, outbox: &mut Outbox, sink: &mut K) {
+        put_number(outbox, sink, *self)
+    }
+}
+
+impl Part for i64 {
+    ghost use Rattle.std.specs.Fmt.{signed_decimal};
+
+    ghost text = { signed_decimal };
+
+    fn put<K: Sink>(&self, outbox: &mut Outbox, sink: &mut K) {
+        put_number(outbox, sink, *self)
+    }
+}
+
+impl Part for Result<Receipt, Refusal> {
+    ghost use Rattle.tl_server.specs.Answers.{one_text};
+
+    ghost text = { one_text };
+
+    fn put<K: Sink>(&self, outbox: &mut Outbox, sink: &mut K) {
+        match self {
+            Ok(receipt) => put_call(outbox, sink, receipt),
+            Err(refusal) => put_error(outbox, sink, refusal.numbers().as_slice()),
+        }
+    }
+}
+
+impl Part for Result<Bounds, RegisterFault> {
+    ghost use Rattle.tl_server.specs.Answers.{register_text};
+
+    ghost text = { register_text };
+
+    fn put<K: Sink>(&self, outbox: &mut Outbox, sink: &mut K) {
+        match self {
+            Ok(bounds) => put_bounds(outbox, sink, bounds),
+            Err(fault) => put_error(outbox, sink, fault.numbers().as_slice()),
+        }
+    }
+}
+
+fn put_number<I: Integer, K: Sink>(outbox: &mut Outbox, sink: &mut K, number: I)
+    ensures { Writes (sending (K.output sink.old) (K.failures sink.old) outbox.old) (sending (K.output sink.new) (K.failures sink.new) outbox.new) (I.text number) }
+{
+    let mut buffer = Buffer::new();
+    outbox.put(sink, buffer.format(number).as_bytes());
+}
+
+// A comma, but before the first item.
+fn put_comma<K: Sink>(outbox: &mut Outbox, sink: &mut K, index: usize)
+    ensures { Writes (sending (K.output sink.old) (K.failures sink.old) outbox.old) (sending (K.output sink.new) (K.failures sink.new) outbox.new) (comma_before index) }
+{
+    if index == 0 {
+        return;
+    }
+    outbox.put(sink, b",");
+}
+
+fn put_list<T: Part, K: Sink>(outbox: &mut Outbox, sink: &mut K, items: &[T])
+    ensures { Writes (sending (K.output sink.old) (K.failures sink.old) outbox.old) (sending (K.output sink.new) (K.failures sink.new) outbox.new) (list_text T.text items.now) }
+{
+    outbox.put(sink, b"[");
+    for (index, item) in items.iter().enumerate() {
+        put_comma(outbox, sink, index);
+        item.put(outbox, sink);
+    }
+    outbox.put(sink, b"]");
+}
+
+// `{"call":c,"reply":[..]}`
+fn put_call<K: Sink>(outbox: &mut Outbox, sink: &mut K, receipt: &Receipt)
+    ensures { Writes (sending (K.output sink.old) (K.failures sink.old) outbox.old) (sending (K.output sink.new) (K.failures sink.new) outbox.new) (call_text receipt.now) }
+{
+    outbox.put(sink, b"{\"call\":");
+    put_number(outbox, sink, receipt.call);
+    outbox.put(sink, b",\"reply\":");
+    put_list(outbox, sink, receipt.reply.as_slice());
+    outbox.put(sink, b"}");
+}
+
+// `{"error":[numbers]}`
+fn put_error<K: Sink>(outbox: &mut Outbox, sink: &mut K, numbers: &[u64])
+    ensures { Writes (sending (K.output sink.old) (K.failures sink.old) outbox.old) (sending (K.output sink.new) (K.failures sink.new) outbox.new) (error_text numbers.now) }
+{
+    outbox.put(sink, b"{\"error\":");
+    put_list(outbox, sink, numbers);
+    outbox.put(sink, b"}");
+}
+
+// `{"bounds":{"emits":e,"locks":l,"steps":s}}`
+fn put_bounds<K: Sink>(outbox: &mut Outbox, sink: &mut K, bounds: &Bounds)
+    ensures { Writes (sending (K.output sink.old) (K.failures sink.old) outbox.old) (sending (K.output sink.new) (K.failures sink.new) outbox.new) (bounds_text bounds.now) }
+{
+    outbox.put(sink, b"{\"bounds\":{\"emits\":");
+    put_number(outbox, sink, bounds.emits);
+    outbox.put(sink, b",\"locks\":");
+    put_number(outbox, sink, bounds.locks);
+    outbox.put(sink, b",\"steps\":");
+    put_number(outbox, sink, bounds.steps);
+    outbox.put(sink, b"}}");
+}
+
+/// The line of what came of a call or of a registration.
+pub(crate) fn put_line<T: Part, K: Sink>(outbox: &mut Outbox, sink: &mut K, answer: &T)
+    ensures { Writes (sending (K.output sink.old) (K.failures sink.old) outbox.old) (sending (K.output sink.new) (K.failures sink.new) outbox.new) (line_text (T.text answer.now)) }
+{
+    answer.put(outbox, sink);
+    outbox.put(sink, b"\n");
+}
+
+/// The line of a fault or a refusal.
+pub(crate) fn put_error_line<K: Sink>(outbox: &mut Outbox, sink: &mut K, numbers: &[u64])
+    ensures { Writes (sending (K.output sink.old) (K.failures sink.old) outbox.old) (sending (K.output sink.new) (K.failures sink.new) outbox.new) (line_text (error_text numbers.now)) }
+{
+    put_error(outbox, sink, numbers);
+    outbox.put(sink, b"\n");
+}
+
+/// The line of what came of a batch.
+pub(crate) fn put_batch_line<K: Sink>(
+    outbox: &mut Outbox,
+    sink: &mut K,
+    answers: &[Result<Receipt, Refusal>],
+)
+    ensures { Writes (sending (K.output sink.old) (K.failures sink.old) outbox.old) (sending (K.output sink.new) (K.failures sink.new) outbox.new) (line_text (batch_text answers.now)) }
+{
+    outbox.put(sink, b"{\"batch\":");
+    put_list(outbox, sink, answers);
+    outbox.put(sink, b"}");
+    outbox.put(sink, b"\n");
+}
+
+/// The line that ends a connection.
+pub(crate) fn put_closed_line<K: Sink>(outbox: &mut Outbox, sink: &mut K)
+    ensures { Writes (sending (K.output sink.old) (K.failures sink.old) outbox.old) (sending (K.output sink.new) (K.failures sink.new) outbox.new) (line_text closed_text) }
+{
+    outbox.put(sink, b"{\"closed\":true}");
+    outbox.put(sink, b"\n");
+}

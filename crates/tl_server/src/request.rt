@@ -1,0 +1,181 @@
+// What a line asks for.
+
+ghost use Rattle.std.specs.Prelude.{◌≡◌, ◌≢◌, ◌≤◌, option_map, option_and_then, IfOk, IfErr, IfSome};
+ghost use Rattle.tl_workers.specs.declared.batch.TheConstants.{MAX_REQUESTS, MAX_WORKERS};
+ghost use Rattle.serde_json.specs.View.{view};
+ghost use Rattle.tl_tree.specs.Reading.{integer_of, integers_of};
+ghost use Rattle.tl_server.specs.Requests.{line_view, text_at, has_members, register_of, call_of, workers_of, batch_of, request_with, line_request_of, IsRequest, IsLineFault};
+
+use crate::batch::BatchRequest;
+use crate::fault::LineFault;
+use serde_json::Value;
+use std::alloc::{AllocError, Global};
+use tl_forms::{ProcedureText, Request, each_of, parse_text};
+use tl_tree::integers_from_value;
+use tl_workers::{MAX_REQUESTS, MAX_WORKERS};
+
+/// How many bytes a line has at most, without its LF.
+pub const MAX_LINE: usize = 65_536;
+
+/// What a line asks for.
+#[derive(Debug, Drop)]
+pub enum LineRequest {
+    /// To register a procedure under its name.
+    Register(ProcedureText),
+    /// To run a call.
+    Call(Request),
+    /// To run many calls.
+    Batch(BatchRequest),
+    /// To close the connection.
+    Close,
+}
+
+// Whether the value is an object of so many members.
+fn has_members(value: &Value, count: usize) -> bool
+    ensures { result ≡ has_members count (view value.now) }
+{
+    match value.as_object() {
+        Some(members) => members.len() == count,
+        None => false,
+    }
+}
+
+// The text of a member.
+fn text_at<'v>(value: &'v Value, key: &str) -> Option<&'v str>
+    ensures { option_map (λ s. s.now) result ≡ text_at key.now (view value.now) }
+{
+    value.get(key)?.as_str()
+}
+
+// `{"asm":text,"name":name,"op":"register"}`
+fn register_of_value(alloc: Global, value: &Value) -> Result<Option<LineRequest>, AllocError>
+    ensures { IfOk result (λ found. option_map line_view found ≡ register_of (view value.now)) }
+{
+    if !has_members(value, 3) {
+        return Ok(None);
+    }
+    let Some(name) = text_at(value, "name") else {
+        return Ok(None);
+    };
+    let Some(text) = text_at(value, "asm") else {
+        return Ok(None);
+    };
+    Ok(Some(LineRequest::Register(ProcedureText {
+        name: String::from_str(alloc, name)?,
+        text: String::from_str(alloc, text)?,
+    })))
+}
+
+// `{"args":args,"op":"call","proc":name}`
+fn call_of_value(alloc: Global, value: &Value) -> Result<Option<LineRequest>, AllocError>
+    ensures { IfOk result (λ found. option_map line_view found ≡ call_of (view value.now)) }
+{
+    if !has_members(value, 3) {
+        return Ok(None);
+    }
+    let Some(name) = text_at(value, "proc") else {
+        return Ok(None);
+    };
+    let Some(args) = value.get("args") else {
+        return Ok(None);
+    };
+    let Some(args) = integers_from_value(alloc, args)? else {
+        return Ok(None);
+    };
+    let name = String::from_str(alloc, name)?;
+    Ok(Some(LineRequest::Call(Request { name, args })))
+}
+
+// A number of workers, 1 to 16.
+fn workers_of_value(value: &Value) -> Option<usize>
+    ensures value { result ≡ option_and_then workers_of (integer_of (view value.now)) }
+    ensures one { IfSome result (λ n. 1 ≤ n) }
+    ensures within { IfSome result (λ n. n ≤ MAX_WORKERS) }
+{
+    let workers = usize::try_from(value.as_i64()?).ok()?;
+    if workers == 0 || workers > MAX_WORKERS {
+        return None;
+    }
+    Some(workers)
+}
+
+// `{"calls":[request,..],"op":"batch","workers":w}`
+fn batch_of_value(alloc: Global, value: &Value) -> Result<Option<LineRequest>, AllocError>
+    ensures { IfOk result (λ found. option_map line_view found ≡ batch_of (view value.now)) }
+{
+    if !has_members(value, 3) {
+        return Ok(None);
+    }
+    let Some(calls) = value.get("calls") else {
+        return Ok(None);
+    };
+    let Some(workers) = value.get("workers") else {
+        return Ok(None);
+    };
+    let Some(requests) = each_of::<Request>(alloc, calls)? else {
+        return Ok(None);
+    };
+    if requests.is_empty() || requests.len() > MAX_REQUESTS {
+        return Ok(None);
+    }
+    match workers_of_value(workers) {
+        Some(workers) => Ok(Some(LineRequest::Batch(BatchRequest { requests, workers }))),
+        None => Ok(None),
+    }
+}
+
+// The request of an object whose `op` is this.
+fn request_with_op(
+    alloc: Global,
+    op: &str,
+    value: &Value,
+) -> Result<Option<LineRequest>, AllocError>
+    ensures { IfOk result (λ found. option_map line_view found ≡ request_with op.now (view value.now)) }
+{
+    match op {
+        "register" => register_of_value(alloc, value),
+        "call" => call_of_value(alloc, value),
+        "batch" => batch_of_value(alloc, value),
+        "close" => if has_members(value, 1) {
+            Ok(Some(LineRequest::Close))
+        } else {
+            Ok(None)
+        },
+        _ => Ok(None),
+    }
+}
+
+fn request_of_value(alloc: Global, value: &Value) -> Result<Option<LineRequest>, AllocError>
+    ensures { IfOk result (λ found. option_map line_view found ≡ line_request_of (view value.now)) }
+{
+    match text_at(value, "op") {
+        Some(op) => request_with_op(alloc, op, value),
+        None => Ok(None),
+    }
+}
+
+/// What a line, without its LF, asks for. It is an object of JSON with the members shown and no others:
+/// `{"asm":text,"name":name,"op":"register"}`, `{"args":args,"op":"call","proc":name}`,
+/// `{"calls":[[name,args],..],"op":"batch","workers":w}` with 1 to 256 calls and 1 to 16 workers, or `{"op":"close"}`. The
+/// arguments are lists of integers of 64 bits.
+///
+/// Else the first that holds: 902 where it has more than 65,536 bytes, 903 where it isn't UTF-8, 901. 990 where memory is
+/// refused.
+pub fn read_request(alloc: Global, line: &[u8]) -> Result<LineRequest, LineFault>
+    ensures ok { IfOk result (λ r. IsRequest line.now (line_view r)) }
+    ensures fault { IfErr result (λ e. e ≢ LineFault.Memory → IsLineFault line.now e) }
+{
+    if line.len() > MAX_LINE {
+        return Err(LineFault::TooLong);
+    }
+    let Ok(text) = std::str::from_utf8(line) else {
+        return Err(LineFault::NotUtf8);
+    };
+    let Some(value) = parse_text(alloc, text)? else {
+        return Err(LineFault::NotRequest);
+    };
+    match request_of_value(alloc, &value)? {
+        Some(request) => Ok(request),
+        None => Err(LineFault::NotRequest),
+    }
+}
