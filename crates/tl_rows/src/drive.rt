@@ -6,7 +6,7 @@ use std::test::Fail;
 use tl_commands::{CliFault, drive_cmd};
 
 /// A root with a child that has a child, all of zeros.
-const ZEROS: &str = "{\"parents\":[0,0,1],\"records\":[[0,0,0,0],[0,0,0,0],[0,0,0,0]]}";
+pub const ZEROS: &str = "{\"parents\":[0,0,1],\"records\":[[0,0,0,0],[0,0,0,0],[0,0,0,0]]}";
 
 /// The procedures that scripts name.
 pub fn procedures(alloc: Global) -> Result<String, Fail> {

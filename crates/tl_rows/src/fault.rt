@@ -7,11 +7,13 @@ use tl_budget::NestFault;
 use tl_commands::CliFault;
 use tl_core::CoreFault;
 use tl_instr::CodeFault;
+use tl_table::TableFault;
 use tl_tree::TreeFault;
 use tl_verify::VerifyFault;
+use tl_workers::Refusal;
 
 /// Each fault, and its numbers, exit status and text.
-const FAULTS: [(CliFault, &str); 23] = [
+const FAULTS: [(CliFault, &str); 28] = [
     (CliFault::Unreadable, "[31] 3: a file can't be read"),
     (CliFault::Unwritable, "[32] 3: a file can't be written"),
     (CliFault::NotUtf8, "[255] 1: the text is not UTF-8"),
@@ -25,6 +27,26 @@ const FAULTS: [(CliFault, &str); 23] = [
         "[501] 1: another number of arguments than the procedure takes",
     ),
     (CliFault::Memory, "[990] 4: out of memory"),
+    (
+        CliFault::NotClosed,
+        "[831] 1: the calls are not those that were asked for",
+    ),
+    (
+        CliFault::Engine(Refusal::Memory),
+        "[990] 4: the calls: out of memory",
+    ),
+    (
+        CliFault::Engine(Refusal::Table(TableFault::Memory)),
+        "[890] 4: the calls: out of memory",
+    ),
+    (
+        CliFault::Engine(Refusal::Table(TableFault::Core(CoreFault::Memory))),
+        "[690] 4: the calls: out of memory",
+    ),
+    (
+        CliFault::Engine(Refusal::Table(TableFault::TooManySessions)),
+        "[821] 1: the calls: too many sessions",
+    ),
     (
         CliFault::Tree(TreeFault::Memory),
         "[190] 4: the tree: out of memory",

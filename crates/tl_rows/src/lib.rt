@@ -2,7 +2,7 @@
 //!
 //! A test is proved with its crate, so the tests stand here together, and each crate below is proved once, without them.
 //! A row of a table costs nearly nothing, and a function does. So what a command can show is a row of its table in `alone`,
-//! `procedures`, `drive` or `audit`, from bytes to bytes. `cores`, `engines`, `machine`, `serial`, `tables` and `tree`
+//! `procedures`, `drive`, `run` or `audit`, from bytes to bytes. `cores`, `engines`, `machine`, `serial`, `tables` and `tree`
 //! have what no command shows.
 #![tactic(auto)]
 
@@ -24,6 +24,8 @@ mod limits;
 mod machine;
 #[cfg(test)]
 mod procedures;
+#[cfg(test)]
+mod run;
 #[cfg(test)]
 mod serial;
 #[cfg(test)]
