@@ -1,10 +1,10 @@
 //! Tables: calls of sessions, run by whoever takes their state and submits what they do.
 
-use crate::texts::{FORK, LOOK, STORE, procedure_of, tree_of};
 use std::alloc::Global;
 use std::process::Abort;
 use std::test::Fail;
 use tl_core::{Core, CoreFault};
+use tl_examples::{FORK, LOOK, STORE, procedure_of, tree_of};
 use tl_machine::local;
 use tl_table::{Receipt, Sent, Table, TableFault};
 
