@@ -130,6 +130,37 @@ pub fn walk(locks: u16) -> Vec<u8> {
     container(1, &code)
 }
 
+/// A lock of the argument's node, five times so many local instructions as there are turns, a lock of its first child, to whose
+/// field 0 it adds 1, and as many local instructions again.
+pub fn two_locks(turns: u16) -> Vec<u8> {
+    let mut code = vec![set(1, 1), first(0, 0, 22)];
+    local_loop(&mut code, turns);
+    code.push(child(1, 0, 2, 21));
+    code.push(release(0));
+    code.push(get(3, 1, 0));
+    code.push(arithmetic(3, 3, 3, 1, 12));
+    code.push(put(1, 0, 3));
+    local_loop(&mut code, turns);
+    code.push(release(1));
+    code.push(finish());
+    assert_eq!(code.len(), 21);
+    code.push(release(0));
+    assert_eq!(code.len(), 22);
+    code.push(finish());
+    container(1, &code)
+}
+
+/// So many turns of four instructions and the end.
+fn local_loop(code: &mut Vec<[u8; 8]>, turns: u16) {
+    code.push(repeat(turns));
+    let body = code.len();
+    code.push(arithmetic(3, 4, 4, 1, body + 1));
+    code.push(arithmetic(4, 5, 4, 1, body + 2));
+    code.push(arithmetic(3, 6, 5, 1, body + 3));
+    code.push(jump_if_less(6, 1, body + 4));
+    code.push(end());
+}
+
 /// A walk that does nothing on the way.
 pub fn bare_walk(locks: u16) -> Vec<u8> {
     let code = vec![

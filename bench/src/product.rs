@@ -1,4 +1,7 @@
-//! The product's static library.
+//! The product: its static library, and the program that runs engines, since a static library has no threads.
+
+use std::path::Path;
+use std::process::Command;
 
 use crate::measured::Measured;
 
@@ -98,4 +101,19 @@ pub fn order(text: &[u8], times: u32) -> Measured {
 
 pub fn audit(text: &[u8], times: u32) -> Measured {
     unsafe { c::treedb_audit(text.as_ptr(), text.len(), times) }
+}
+
+/// Engines made anew, each of which runs 4,096 calls in batches on so many threads: a process of its own, which measures the batches.
+/// What can't be run counts as refused.
+pub fn engines(container: &Path, nodes: u16, chain: u16, workers: usize, engines: u32) -> Measured {
+    const REFUSED: Measured = Measured { nanos: 0, count: u64::MAX, sum: 0 };
+    let program = concat!(env!("CARGO_MANIFEST_DIR"), "/../crates/tl_bench_threads/out/tl_bench_threads");
+    let numbers = [workers.to_string(), nodes.to_string(), chain.to_string(), engines.to_string()];
+    let Ok(done) = Command::new(program).arg(container).args(numbers).output() else { return REFUSED };
+    let text = String::from_utf8_lossy(&done.stdout);
+    let told: Vec<u64> = text.split_whitespace().filter_map(|word| word.parse().ok()).collect();
+    match *told {
+        [nanos, count, sum] if done.status.success() => Measured { nanos, count, sum },
+        _ => REFUSED,
+    }
 }

@@ -1,5 +1,8 @@
 //! What is measured.
 
+use std::path::Path;
+use std::{env, fs, process};
+
 use crate::codes;
 use crate::counting::most_bytes;
 use crate::measured::Measured;
@@ -131,11 +134,11 @@ fn verifier() -> Result<Part, String> {
     ))
 }
 
-/// The parents of a tree of chains below the root.
-fn chains(nodes: u16) -> Vec<u16> {
+/// The parents of a tree of chains of that length below the root.
+fn chains(nodes: u16, chain: u16) -> Vec<u16> {
     (0..nodes)
         .map(|node| {
-            if node == 0 || (node - 1) % CHAIN == 0 {
+            if node == 0 || (node - 1) % chain == 0 {
                 0
             } else {
                 node - 1
@@ -145,10 +148,10 @@ fn chains(nodes: u16) -> Vec<u16> {
 }
 
 /// Of each call the head of a chain, the chains in turn.
-fn heads(calls: u16, nodes: u16) -> Vec<i64> {
-    let count = nodes / CHAIN;
+fn heads(calls: u16, nodes: u16, chain: u16) -> Vec<i64> {
+    let count = nodes / chain;
     (0..calls)
-        .map(|call| i64::from(1 + (call % count) * CHAIN))
+        .map(|call| i64::from(1 + (call % count) * chain))
         .collect()
 }
 
@@ -184,7 +187,7 @@ fn middle_of(groups: &Groups, some: std::ops::Range<usize>) -> f64 {
 }
 
 fn core() -> Result<Part, String> {
-    let (code, parents, args) = (codes::walk(127), chains(NODES), heads(CALLS, NODES));
+    let (code, parents, args) = (codes::walk(127), chains(NODES, CHAIN), heads(CALLS, NODES, CHAIN));
     let (mut ours, mut theirs) = (Groups::new(), Groups::new());
     let took = in_turn(
         "64 calls in turn",
@@ -222,7 +225,7 @@ fn core() -> Result<Part, String> {
 
 /// The text of the trail of 4,096 walks of so many nodes.
 fn trail(locks: u16) -> Result<Vec<u8>, String> {
-    let (code, parents, args) = (codes::walk(locks), chains(NODES), heads(CALLS, NODES));
+    let (code, parents, args) = (codes::walk(locks), chains(NODES, CHAIN), heads(CALLS, NODES, CHAIN));
     let mut text = vec![0; TEXT_ROOM];
     let theirs = twin::tell(&code, &parents, &args, &mut text);
     let mut ours_text = vec![0; TEXT_ROOM];
@@ -343,7 +346,7 @@ fn versus_twin(heading: &'static str, rows: Vec<Row>) -> Part {
 
 /// The most bytes that a core of so many nodes takes for so many calls with so many locks each, on either side.
 fn bytes(nodes: u16, calls: u16, locks: u16) -> (f64, f64) {
-    let (code, parents, args) = (codes::walk(locks), chains(nodes), heads(calls, nodes));
+    let (code, parents, args) = (codes::walk(locks), chains(nodes, CHAIN), heads(calls, nodes, CHAIN));
     let ours = most_bytes(|| {
         product::interleave(&code, &parents, &args, &mut [], &mut []);
     });
@@ -389,8 +392,70 @@ fn memory() -> Part {
     }
 }
 
+/// Said of engines, where they are short.
+const TURNS: &str = "At each turn the call's state is copied, and compared with the one that the core keeps; in the twin it stays \
+with the thread. With one worker a fifth of a short call is that comparison, and a tenth is copies.";
+
+/// How many workers run the batches of an engine.
+const WORKERS: [usize; 3] = [1, 2, 4];
+
+/// Calls on threads: what they do, their code, the tree's nodes and the length of its chains, and how many engines are made.
+struct OnThreads {
+    work: &'static str,
+    code: Vec<u8>,
+    nodes: u16,
+    chain: u16,
+    engines: u32,
+}
+
+fn engine_row(it: &OnThreads, container: &Path, workers: usize) -> Result<Row, String> {
+    let (parents, args) = (chains(it.nodes, it.chain), heads(CALLS, it.nodes, it.chain));
+    let took = in_turn(
+        it.work,
+        FEW_ROUNDS,
+        || product::engines(container, it.nodes, it.chain, workers, it.engines),
+        || twin::engines(&it.code, &parents, &args, workers, it.engines),
+    )?;
+    let calls = took.last.count as f64;
+    let work = format!("{}, workers: {workers}", it.work);
+    Ok(row(work, "ns a call", took.product / calls, took.twin / calls, Goal::AsFast(0.9), TURNS))
+}
+
+fn engine_rows(it: &OnThreads) -> Result<Vec<Row>, String> {
+    let container = env::temp_dir().join(format!("treedb-bench-{}.tlp", process::id()));
+    fs::write(&container, &it.code).map_err(|error| error.to_string())?;
+    let rows = WORKERS.iter().map(|&workers| engine_row(it, &container, workers)).collect();
+    fs::remove_file(&container).map_err(|error| error.to_string())?;
+    rows
+}
+
+fn threads() -> Result<Part, String> {
+    let mut rows = Vec::new();
+    for it in [
+        OnThreads {
+            work: "two nodes of a subtree of its own, 10,000 local instructions at each",
+            code: codes::two_locks(2_000),
+            nodes: NODES,
+            chain: CHAIN,
+            engines: 1,
+        },
+        OnThreads {
+            work: "two nodes of a subtree of its own, 20 local instructions at each",
+            code: codes::two_locks(4),
+            nodes: NODES,
+            chain: CHAIN,
+            engines: 10,
+        },
+        OnThreads { work: "walks of 15 nodes on one path", code: codes::walk(15), nodes: 17, chain: 16, engines: 4 },
+    ] {
+        rows.extend(engine_rows(&it)?);
+    }
+    Ok(versus_twin("Engines: 4,096 calls each, in batches of 256", rows))
+}
+
+
 /// What can be measured, by name.
-pub const NAMES: [&str; 6] = ["calls", "verify", "core", "order", "text", "memory"];
+pub const NAMES: [&str; 7] = ["calls", "verify", "core", "threads", "order", "text", "memory"];
 
 /// What is measured under that name.
 fn parts(name: &str) -> Result<Vec<Part>, String> {
@@ -398,6 +463,7 @@ fn parts(name: &str) -> Result<Vec<Part>, String> {
         "calls" => Ok(vec![interpreter()?]),
         "verify" => Ok(vec![verifier()?]),
         "core" => Ok(vec![core()?]),
+        "threads" => Ok(vec![threads()?]),
         "order" => Ok(vec![order_and_audit()?]),
         "text" => texts(),
         "memory" => Ok(vec![memory()]),

@@ -111,19 +111,26 @@ pub struct Core {
 }
 
 /// What calls share: each node's record as it was left last and who holds it, and the history.
-struct Nodes {
-    records: Vec<Record>,
+pub struct Nodes {
+    pub records: Vec<Record>,
     holders: Vec<Option<u32>>,
-    history: Vec<Event>,
+    pub history: Vec<Event>,
+}
+
+impl Nodes {
+    pub fn new(records: Vec<Record>) -> Nodes {
+        let holders = vec![None; records.len()];
+        Nodes { records, holders, history: Vec::new() }
+    }
 }
 
 /// The nodes, as the step of one call uses them.
-struct Access<'a> {
-    call: u32,
-    nodes: &'a mut Nodes,
+pub struct Access<'a> {
+    pub call: u32,
+    pub nodes: &'a mut Nodes,
 }
 
-struct Blocked {
+pub struct Blocked {
     node: u16,
     holder: u32,
 }
@@ -153,8 +160,7 @@ impl Keeper for Access<'_> {
 
 impl Core {
     pub fn new(tree: Tree) -> Core {
-        let nodes =
-            Nodes { records: tree.records.clone(), holders: vec![None; tree.records.len()], history: Vec::new() };
+        let nodes = Nodes::new(tree.records.clone());
         Core { opening: tree, procedures: Procedures::default(), calls: Vec::new(), unfinished: 0, reserved: 0, nodes }
     }
 

@@ -3,6 +3,7 @@
 pub mod assembler;
 pub mod audit;
 pub mod core;
+pub mod engine;
 pub mod fault;
 pub mod instruction;
 pub mod json;

@@ -244,3 +244,14 @@ fn single_workloads() {
     assert_eq!(work::interleave(WALK, &[1], &[0], &mut [], &mut []).count, u64::MAX);
     assert_eq!(work::interleave(WALK, &[0], &[0; 65], &mut [], &mut []).count, 4 * 65);
 }
+
+#[test]
+fn calls_on_threads_leave_what_they_leave_alone() {
+    let parents = [0, 0, 1];
+    let alone = work::engines(&sweep(), &parents, &[1; 512], 1, 2);
+    assert_eq!(alone.count, 1_024);
+    for workers in 2..=16 {
+        let measured = work::engines(&sweep(), &parents, &[1; 512], workers, 2);
+        assert_eq!((measured.count, measured.sum), (alone.count, alone.sum));
+    }
+}

@@ -6,6 +6,7 @@ use crate::measured::Measured;
 
 use super::audit::audit as audit_trail;
 use super::core::{Core, Stepped};
+use super::engine::Engine;
 use super::fault::Fault;
 use super::instruction::decode;
 use super::json;
@@ -17,6 +18,7 @@ use super::verifier::{verify, Procedure};
 
 const REFUSED: Measured = Measured { nanos: 0, count: u64::MAX, sum: 0 };
 const GROUP: usize = 64;
+const MAX_REQUESTS: usize = 256;
 
 fn mix(sum: u64, value: u64) -> u64 {
     sum.rotate_left(5).wrapping_mul(0x9E37_79B9_7F4A_7C15) ^ value
@@ -211,6 +213,21 @@ pub fn audit(text: &[u8], times: u32) -> Measured {
     for _ in 0..times {
         let Ok(order) = timed(&mut measured.nanos, || audit_trail(&trail)) else { return REFUSED };
         measured.sum = sum_of_order(&order);
+    }
+    measured
+}
+
+/// Engines made anew, each of which runs a call for each argument in batches on so many threads.
+pub fn engines(code: &[u8], parents: &[u16], args: &[i64], workers: usize, engines: u32) -> Measured {
+    let mut measured = Measured::default();
+    for _ in 0..engines {
+        let (Ok(procedure), Ok(tree)) = (procedure_of(code), tree_of(parents.to_vec())) else { return REFUSED };
+        let engine = Engine::new(tree, procedure);
+        for batch in args.chunks(MAX_REQUESTS) {
+            timed(&mut measured.nanos, || engine.batch(batch, workers));
+        }
+        measured.count += args.len() as u64;
+        measured.sum = engine.into_records().iter().fold(measured.sum, |sum, record| mix(sum, record[0] as u64));
     }
     measured
 }

@@ -7,11 +7,10 @@ use tl_core::MAX_OPEN;
 use tl_history::{MAX_CALLS, MAX_EVENTS};
 use tl_instr::{MAX_ARGS, MAX_COUNT, NODE_REGISTERS, VALUE_REGISTERS};
 use tl_procedures::{MAX_NAME, MAX_PROCEDURES};
-use tl_table::MAX_SESSIONS;
 use tl_tree::{FIELD_COUNT, MAX_NODES};
 
 /// Each limit's constant, and its number in the documents.
-const LIMITS: [(&str, usize, usize); 17] = [
+const LIMITS: [(&str, usize, usize); 16] = [
     ("nodes of a tree", MAX_NODES, 4_096),
     ("fields of a record", FIELD_COUNT, 4),
     ("instructions of a code", MAX_COUNT, 1_024),
@@ -27,7 +26,6 @@ const LIMITS: [(&str, usize, usize); 17] = [
     ("procedures", MAX_PROCEDURES, 256),
     ("calls of a core", MAX_CALLS, 4_096),
     ("open calls of a core", MAX_OPEN, 64),
-    ("sessions of a table", MAX_SESSIONS as usize, 65_535),
     ("stored events", MAX_EVENTS, 1_048_576),
 ];
 

@@ -1,12 +1,12 @@
 //! Tables: calls of sessions, run by whoever takes their state and submits what they do.
 
-use crate::texts::{FORK, LOOK, STORE, procedure_of, tree_of};
 use std::alloc::Global;
 use std::process::Abort;
 use std::test::Fail;
 use tl_core::{Core, CoreFault};
+use tl_examples::{FORK, LOOK, STORE, procedure_of, tree_of};
 use tl_machine::local;
-use tl_table::{Receipt, Sent, Table, TableFault};
+use tl_table::{Closed, Receipt, Sent, Table, TableFault};
 
 /// A table on the fork, with two procedures and two sessions.
 fn table(alloc: Global) -> Result<Table, Fail> {
@@ -68,22 +68,31 @@ fn calls_of_two_sessions_end_with_receipts(rt: HostRuntime) -> Result<(), Fail> 
         turn(&mut table, 2),
         Err(TableFault::Core(CoreFault::NoCall))
     );
-    stands(&rt, table)
+    closes(&rt, table)
 }
 
-/// The first call's receipt stands in the closed table, and a receipt of another session doesn't.
-fn stands(rt: &impl Abort, table: Table) -> Result<(), Fail> {
+/// It is the receipt of the first call.
+fn is_of_first_call(rt: &impl Abort, receipt: &Receipt) {
+    assert_eq!(rt; receipt.session, 1);
+    assert_eq!(rt; receipt.args.as_slice(), [2, 22].as_slice());
+}
+
+/// The receipt stands in the closed table, and the same receipt of another session doesn't.
+fn stands_for_its_session(rt: &impl Abort, closed: &Closed, receipt: &Receipt) {
+    let mut other = receipt.copy();
+    other.session = 0;
+    assert!(rt; closed.stands(receipt));
+    assert!(rt; !closed.stands(&other));
+}
+
+fn closes(rt: &impl Abort, table: Table) -> Result<(), Fail> {
     let Some(receipt) = table.receipt(0)? else {
         return Err("no receipt".into());
     };
-    assert_eq!(rt; receipt.session, 1);
-    assert_eq!(rt; receipt.args.as_slice(), [2, 22].as_slice());
-    let mut other: Receipt = receipt.copy();
-    other.session = 0;
+    is_of_first_call(rt, &receipt);
     let Ok(closed) = table.close() else {
         return Err("not closed".into());
     };
-    assert!(rt; closed.stands(&receipt));
-    assert!(rt; !closed.stands(&other));
+    stands_for_its_session(rt, &closed, &receipt);
     Ok(())
 }

@@ -1,0 +1,32 @@
+// What the command line asks for.
+
+/// What is to be measured.
+#[derive(Clone, Copy, Debug)]
+pub struct Asked<'w> {
+    /// The path of the procedure's container.
+    pub container: &'w str,
+    /// How many threads run a batch.
+    pub workers: usize,
+    /// How many nodes the tree has.
+    pub nodes: u16,
+    /// How many nodes a chain has, at least 1.
+    pub chain: u16,
+    /// How many engines are made.
+    pub engines: u32,
+}
+
+impl Asked<'_> {
+    /// The words in their order; None where one is missing or not a number.
+    pub fn new(words: &[String]) -> Option<Asked<'_>> {
+        let [container, workers, nodes, chain, engines] = words else {
+            return None;
+        };
+        Some(Asked {
+            container: container.as_str(),
+            workers: workers.parse().ok()?,
+            nodes: nodes.parse().ok()?,
+            chain: chain.parse().ok()?,
+            engines: engines.parse().ok()?,
+        })
+    }
+}

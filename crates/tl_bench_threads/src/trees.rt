@@ -1,0 +1,41 @@
+// The measured trees and procedures.
+
+use std::alloc::Global;
+use std::sync::Arc;
+use tl_instr::decode;
+use tl_tree::{Record, Shape, Tree};
+use tl_verify::{Proc, verify};
+
+// The record of a node in the beginning: one to four times its number.
+fn record_of(node: u16) -> Record {
+    let number = i64::from(node);
+    [number, 2 * number, 3 * number, 4 * number]
+}
+
+// The parent of a node in chains of that length below the root.
+fn parent_of(node: u16, chain: u16) -> i64 {
+    if node == 0 || chain == 0 || (node - 1) % chain == 0 {
+        return 0;
+    }
+    i64::from(node - 1)
+}
+
+/// A tree of so many nodes in chains of that length below the root.
+pub fn chains(alloc: Global, nodes: u16, chain: u16) -> Option<Tree> {
+    let mut parents = Vec::with_capacity(alloc, usize::from(nodes)).ok()?;
+    for node in 0..nodes {
+        parents.push(parent_of(node, chain)).ok()?;
+    }
+    let shape = Shape::new(alloc, &parents).ok()?;
+    let count = shape.node_count();
+    let mut records = Vec::with_capacity(alloc, usize::from(count)).ok()?;
+    for node in 0..count {
+        records.push(record_of(node)).ok()?;
+    }
+    Tree::new(Arc::new(alloc, shape).ok()?, records).ok()
+}
+
+/// The procedure of a container, where it is accepted.
+pub fn procedure_of(alloc: Global, container: &[u8]) -> Option<Proc> {
+    verify(alloc, decode(alloc, container).ok()?).ok()
+}

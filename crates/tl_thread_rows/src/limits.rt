@@ -1,0 +1,20 @@
+//! The limits of tables and engines.
+
+use std::test::Fail;
+use tl_table::MAX_SESSIONS;
+use tl_workers::{MAX_REQUESTS, MAX_WORKERS};
+
+/// Each limit's constant, and its number in the documents.
+const LIMITS: [(&str, usize, usize); 3] = [
+    ("sessions of a table", MAX_SESSIONS as usize, 65_535),
+    ("requests of a batch", MAX_REQUESTS, 256),
+    ("workers of a batch", MAX_WORKERS, 16),
+];
+
+#[test]
+fn limits_are_as_documented(rt: HostRuntime) -> Result<(), Fail> {
+    for (limit, constant, number) in LIMITS {
+        assert_eq!(rt; constant, number, "{limit}");
+    }
+    Ok(())
+}
