@@ -1,8 +1,10 @@
-//! The tests of the server: worked examples of lines and answers, over memory.
+//! The tests of the server: worked examples of lines and answers, over memory and over sockets.
 #![tactic(auto)]
 
 #[cfg(test)]
 mod device;
+#[cfg(test)]
+mod limits;
 #[cfg(test)]
 mod lines;
 #[cfg(test)]
