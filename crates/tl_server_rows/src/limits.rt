@@ -6,7 +6,11 @@ use tl_server::{MAX_CONNECTIONS, MAX_LINE};
 /// Each limit's constant, and its number in the documents.
 const LIMITS: [(&str, usize, usize); 2] = [
     ("bytes of a server's line", MAX_LINE, 65_536),
-    ("connections of a server at once", MAX_CONNECTIONS as usize, 8),
+    (
+        "connections of a server at once",
+        MAX_CONNECTIONS as usize,
+        8,
+    ),
 ];
 
 #[test]
