@@ -30,6 +30,13 @@ pub enum Request<'a> {
         script: &'a str,
         trail: Option<&'a str>,
     },
+    /// Serve so many connections on a local port, and write the trail to a file where one is named.
+    Serve {
+        tree: &'a str,
+        port: u16,
+        connections: u16,
+        trail: Option<&'a str>,
+    },
     /// Write the container of an assembler text.
     Assemble {
         text: &'a str,
@@ -54,7 +61,8 @@ pub enum Asked<'a> {
 
 const HELP: &str = "\
 A refusal is one line on standard output, {\"error\":[number,..]}, and a message on standard error.
-Exit status: 0 done, 1 refused, 2 a mistake on the command line, 3 a file that can't be read or written, 4 memory.
+Exit status: 0 done, 1 refused, 2 a mistake on the command line, 3 a file that can't be read or written, or a port
+that can't be had, 4 memory.
 Help on a command: treedb COMMAND --help";
 
 const ALONE_HELP: &str = "\
@@ -94,6 +102,18 @@ which the calls would do the same alone; and then the tree as JSON. Two runs may
 --trail the calls, what they did and the records in the end are written to a file, which treedb audit checks. The other
 files are not changed.
 Exit status: 0 done, 1 refused, 2 a mistake on the command line, 3 a file that can't be read or written, 4 memory.";
+
+const SERVE_HELP: &str = "\
+Example: treedb serve --tree one-node.json --port 7878 --connections 1
+says on standard error that it listens on 127.0.0.1:7878. Then, from another terminal,
+    nc -N 127.0.0.1 7878 < requests.txt
+sends the lines of a file, each a request: {\"op\":\"register\",\"name\":\"add\",\"asm\":\"arity 2\\n..\"},
+{\"op\":\"call\",\"proc\":\"add\",\"args\":[0,3]}, {\"op\":\"batch\",\"calls\":[[\"add\",[0,3]],..],\"workers\":2} or {\"op\":\"close\"}. Each is
+answered by a line, in order. When all connections have ended, this prints {\"order\":[..]}, the order in which their calls
+would do the same alone, and then the tree as JSON. With --trail the calls, what they did and the records in the end are
+written to a file, which treedb audit checks. At most 8 connections are open at once.
+Exit status: 0 done, 1 refused, 2 a mistake on the command line, 3 a file that can't be read or written, or a port
+that can't be had, 4 memory.";
 
 const VERIFY_HELP: &str = "\
 Example: treedb verify walk.tlp
@@ -202,6 +222,30 @@ fn run_command<'a>(alloc: Global) -> Result<Command<'a>, AllocError> {
         .arg(file_arg(alloc, "SCRIPT", "The file of the script, as JSON"))
 }
 
+fn serve_command<'a>(alloc: Global) -> Result<Command<'a>, AllocError> {
+    let port = Arg::new(alloc, "port")
+        .long("port")
+        .value_name("P")
+        .required(true)
+        .value_parser(value_parser!(u16).range(1..))
+        .help("The port of this machine, 1 to 65535");
+    let connections = Arg::new(alloc, "connections")
+        .long("connections")
+        .value_name("C")
+        .required(true)
+        .value_parser(value_parser!(u16).range(1..))
+        .help("How many connections are served in all, 1 to 65535");
+    Command::new(alloc, "serve")
+        .about(
+            "Serves connections on a local port, a request a line, and prints the order of their calls",
+        )
+        .after_help(SERVE_HELP)
+        .arg(tree_arg(alloc))?
+        .arg(port)?
+        .arg(connections)?
+        .arg(trail_arg(alloc))
+}
+
 fn command<'a>(alloc: Global) -> Result<Command<'a>, AllocError> {
     Command::new(alloc, "treedb")
         .about("A database of trees, whose procedures are verified before they run")
@@ -211,6 +255,7 @@ fn command<'a>(alloc: Global) -> Result<Command<'a>, AllocError> {
         .subcommand(alone_command(alloc)?)?
         .subcommand(drive_command(alloc)?)?
         .subcommand(run_command(alloc)?)?
+        .subcommand(serve_command(alloc)?)?
         .subcommand(audit_command(alloc)?)?
         .subcommand(asm_command(alloc)?)?
         .subcommand(dis_command(alloc)?)?
@@ -244,6 +289,12 @@ fn request_of<'a>(matches: &ArgMatches<'a>) -> Option<Request<'a>> {
             tree: words.get_str("tree")?,
             workers: words.get_one("workers")?,
             script: words.get_str("SCRIPT")?,
+            trail: words.get_str("trail"),
+        }),
+        "serve" => Some(Request::Serve {
+            tree: words.get_str("tree")?,
+            port: words.get_one("port")?,
+            connections: words.get_one("connections")?,
             trail: words.get_str("trail"),
         }),
         "verify" => Some(Request::Verify {

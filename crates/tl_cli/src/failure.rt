@@ -3,12 +3,13 @@
 use std::{fmt, io};
 use tl_commands::CliFault;
 
-/// The fault of a command, or a file that can't be read or written, with the system's reason.
+/// The fault of a command, a file that can't be read or written, with the system's reason, or a port that can't be had.
 #[derive(Drop)]
 pub enum Failure<'a> {
     Refused(CliFault),
     Unreadable { path: &'a str, reason: io::Error },
     Unwritable { path: &'a str, reason: io::Error },
+    NoPort { port: u16 },
 }
 
 impl Failure<'_> {
@@ -18,6 +19,7 @@ impl Failure<'_> {
             Failure::Refused(fault) => *fault,
             Failure::Unreadable { .. } => CliFault::Unreadable,
             Failure::Unwritable { .. } => CliFault::Unwritable,
+            Failure::NoPort { .. } => CliFault::NoPort,
         }
     }
 }
@@ -34,6 +36,7 @@ impl fmt::Display for Failure<'_> {
             Failure::Refused(fault) => write!(f, "{fault}"),
             Failure::Unreadable { path, reason } => write!(f, "{path} can't be read: {reason}"),
             Failure::Unwritable { path, reason } => write!(f, "{path} can't be written: {reason}"),
+            Failure::NoPort { port } => write!(f, "the port {port} can't be had"),
         }
     }
 }

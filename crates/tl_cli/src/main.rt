@@ -11,13 +11,14 @@ use clap::Error;
 use command_line::Asked;
 use program::Program;
 use std::io::{ErrorKind, IsTerminal};
+use std::net::{Net, TcpListener, TcpStream};
 use std::process::ExitCode;
 use std::rt::Files;
 use std::sync::Wait;
 use std::thread::Threads;
 pub use tl_commands::{
-    CliFault, alone_cmd, asm_cmd, audit_cmd, dis_cmd, drive_cmd, drive_with_trail_cmd, run_cmd,
-    run_with_trail_cmd, verify_cmd,
+    CliFault, alone_cmd, asm_cmd, audit_cmd, conclude_engine, conclude_engine_with_trail, dis_cmd,
+    drive_cmd, drive_with_trail_cmd, open_engine, run_cmd, run_with_trail_cmd, verify_cmd,
 };
 
 /// The exit status where memory is refused before a command is known. Nothing is printed then.
@@ -52,11 +53,17 @@ fn tell<R: Print + Eprint>(rt: &R, error: &Error) -> u8 {
 }
 
 // Does what the words of the command line ask for, and answers the exit status.
-fn answer<R: Files + Print + Eprint + AllocGlobal + Threads + Wait + Sync>(
-    rt: &R,
-    words: &[String],
-    is_terminal: bool,
-) -> u8 {
+fn answer<R>(rt: &R, words: &[String], is_terminal: bool) -> u8
+where
+    R: Files
+        + Print
+        + Eprint
+        + AllocGlobal
+        + Net<Listener = TcpListener, Stream = TcpStream>
+        + Threads
+        + Wait
+        + Sync,
+{
     match command_line::parse(rt.alloc(), words) {
         Ok(Asked::Request(request)) => Program::new(rt, is_terminal).carry_out(&request),
         Ok(Asked::Told(error)) => tell(rt, &error),

@@ -4,13 +4,15 @@ use crate::command_line::Request;
 use crate::failure::Failure;
 use crate::progress::Shown;
 use crate::{
-    CliFault, alone_cmd, asm_cmd, audit_cmd, dis_cmd, drive_cmd, drive_with_trail_cmd, output,
-    run_cmd, run_with_trail_cmd, verify_cmd,
+    CliFault, alone_cmd, asm_cmd, audit_cmd, conclude_engine, conclude_engine_with_trail, dis_cmd,
+    drive_cmd, drive_with_trail_cmd, open_engine, output, run_cmd, run_with_trail_cmd, verify_cmd,
 };
 use std::io::ErrorKind;
+use std::net::{Net, TcpListener, TcpStream};
 use std::rt::Files;
 use std::sync::Wait;
 use std::thread::Threads;
+use tl_server::{ListenFault, Server};
 use tl_workers::{MAX_WORKERS, NoGate};
 
 /// Where commands find their files, and whether people see on a terminal how far they are.
@@ -115,6 +117,51 @@ impl<'a, R: Files + Print + Eprint + AllocGlobal + Threads + Wait + Sync> Progra
         self.write_file(path, trail.as_bytes())?;
         Ok(lines)
     }
+}
+
+impl<'a, R> Program<'a, R>
+where
+    R: Files
+        + Print
+        + Eprint
+        + AllocGlobal
+        + Net<Listener = TcpListener, Stream = TcpStream>
+        + Threads
+        + Wait
+        + Sync,
+{
+    // Listens on a port, and tells people so. 33 where it can't be had.
+    fn listen<'p>(&self, port: u16, connections: u16) -> Result<Server, Failure<'p>> {
+        match Server::bind(self.rt, self.rt.alloc(), port, connections) {
+            Ok(server) => {
+                let _shown = eprintln!(self.rt; "treedb: listening on 127.0.0.1:{port}");
+                Ok(server)
+            }
+            Err(ListenFault::NoPort) => Err(Failure::NoPort { port }),
+            Err(ListenFault::Memory) => Err(Failure::Refused(CliFault::Memory)),
+        }
+    }
+
+    // The trail is written to a file, where one is named, when all connections have ended.
+    fn serve<'p>(
+        &self,
+        tree: &'p str,
+        port: u16,
+        connections: u16,
+        trail: Option<&'p str>,
+    ) -> Result<String, Failure<'p>> {
+        let tree = self.read_file(tree)?;
+        let alloc = self.rt.alloc();
+        let engine = open_engine(alloc, &tree)?;
+        let server = self.listen(port, connections)?;
+        let sessions = server.serve(self.rt, alloc, &engine);
+        let Some(path) = trail else {
+            return Ok(conclude_engine(alloc, engine, sessions)?);
+        };
+        let (lines, trail) = conclude_engine_with_trail(alloc, engine, sessions)?;
+        self.write_file(path, trail.as_bytes())?;
+        Ok(lines)
+    }
 
     // What the program prints for a request.
     fn answer<'p>(&self, request: &Request<'p>) -> Result<String, Failure<'p>> {
@@ -140,6 +187,12 @@ impl<'a, R: Files + Print + Eprint + AllocGlobal + Threads + Wait + Sync> Progra
                 script,
                 trail,
             } => self.run(tree, workers, script, trail),
+            Request::Serve {
+                tree,
+                port,
+                connections,
+                trail,
+            } => self.serve(tree, port, connections, trail),
             Request::Verify { container } => {
                 Ok(verify_cmd(self.rt.alloc(), &self.read_file(container)?)?)
             }

@@ -26,7 +26,7 @@ use Rattle.tl_commands.specs.Trace.{action_data, stepped_data, entry_data, trace
 use Rattle.tl_forms.specs.Lists.{order_data}
 use Rattle.tl_commands.specs.Drive.{IsConclusion}
 use Rattle.tl_commands.specs.Run.{answer_data, batch_data}
-use Rattle.tl_commands.specs.Scripted.{lines_text}
+use Rattle.tl_commands.specs.Scripted.{lines_text, two_lines_text}
 
 -- one more value is put last, behind those that were there
 pub views_after : {A : Type 0} (before : List Data) (f : A → Data) (vs : List Value) (v : Value) (xs : List A) (i : ℕ) (d : A) → i < length xs → map view vs ≡ before ++ map f (take i xs) → view v ≡ f (get_or xs i d)
@@ -80,15 +80,20 @@ batch_whole answers = rw (whole_items answer_data answer_whole answers) refl
 
 -- ---- the lines, one after another
 
-pub lines_written : (a b : Data) (tree : TreeValue) (first second third s1 s2 s3 : List ℕ)
-    → first ≡ compact_text a → second ≡ compact_text b → third ≡ tree_text tree
-    → s1 ≡ first ++ 10 ∷ second → s2 ≡ s1 ++ 10 ∷ third → s3 ≡ s2 ++ 10 ∷ []
-    → s3 ≡ lines_text a b tree
-lines_written a b tree first second third s1 s2 s3 first_is second_is third_is e1 e2 e3 =
-    e3 ∙ ap (λ s. s ++ 10 ∷ []) (e2 ∙ ap₂ (λ x y. x ++ 10 ∷ y) (e1 ∙ ap₂ (λ x y. x ++ 10 ∷ y) first_is second_is) third_is)
+pub two_lines_written : (a : Data) (tree : TreeValue) (first second s1 s2 : List ℕ) → first ≡ compact_text a → second ≡ tree_text tree
+    → s1 ≡ first ++ 10 ∷ second → s2 ≡ s1 ++ 10 ∷ [] → s2 ≡ two_lines_text a tree
+two_lines_written a tree first second s1 s2 first_is second_is e1 e2 = e2 ∙ ap (λ s. s ++ 10 ∷ []) (e1 ∙ ap₂ (λ x y. x ++ 10 ∷ y) first_is second_is)
 
--- the same of values that are known, and have no float
+pub lines_written : (a b : Data) (tree : TreeValue) (first lines out : List ℕ) → first ≡ compact_text a → lines ≡ two_lines_text b tree
+    → out ≡ first ++ 10 ∷ lines → out ≡ lines_text a b tree
+lines_written a b tree first lines out first_is lines_are same = same ∙ ap₂ (λ x y. x ++ 10 ∷ y) first_is lines_are
+
+-- of values that are known, and have no float
 pub lines_of : (a a' b b' : Data) (tree tree' : TreeValue) (out : List ℕ) → a ≡ a' → b ≡ b' → tree ≡ tree' → has_float a' ≡ false → has_float b' ≡ false
     → (has_float a ≡ false → has_float b ≡ false → out ≡ lines_text a b tree) → out ≡ lines_text a' b' tree'
 lines_of a a' b b' tree tree' out a_is b_is tree_is a_whole b_whole told =
     told (ap has_float a_is ∙ a_whole) (ap has_float b_is ∙ b_whole) ∙ rw (a_is, b_is, tree_is) refl
+
+pub two_lines_of : (a a' : Data) (tree tree' : TreeValue) (out : List ℕ) → a ≡ a' → tree ≡ tree' → has_float a' ≡ false
+    → (has_float a ≡ false → out ≡ two_lines_text a tree) → out ≡ two_lines_text a' tree'
+two_lines_of a a' tree tree' out a_is tree_is whole told = told (ap has_float a_is ∙ whole) ∙ rw (a_is, tree_is) refl

@@ -18,7 +18,7 @@ use Rattle.tl_machine.specs.Alone.{alone}
 use Rattle.tl_protocol.specs.Alone.{Outcome}
 use Rattle.tl_machine.specs.Outcomes.{outcome_of}
 use Rattle.tl_commands.specs.declared.fault.CliFault.{CliFault}
-use Rattle.tl_commands.specs.declared.fault.CliFault.TheVariants.{Unreadable, Unwritable, NotUtf8, Asm, Tree, Code, Verify, Register, Core, Trail, Audit, Engine, NotClosed, NotScript, NotArgs, WrongArgs, Memory}
+use Rattle.tl_commands.specs.declared.fault.CliFault.TheVariants.{Unreadable, Unwritable, NoPort, NotUtf8, Asm, Tree, Code, Verify, Register, Core, Trail, Audit, Engine, NotClosed, NotScript, NotArgs, WrongArgs, Memory}
 
 -- the first line: the reply, and how many instructions were done
 abbrev pub answer_text : List ℤ → ℕ → List ℕ
@@ -67,6 +67,7 @@ IsFirstAloneFault t c a WrongArgs = (inputs : Inputs t c a) × (length inputs.ar
 IsFirstAloneFault t c a Memory = Unit {0}
 IsFirstAloneFault t c a Unreadable = ⊥
 IsFirstAloneFault t c a Unwritable = ⊥
+IsFirstAloneFault t c a NoPort = ⊥
 IsFirstAloneFault t c a NotUtf8 = ⊥
 IsFirstAloneFault t c a (Asm f) = ⊥
 IsFirstAloneFault t c a (Register f) = ⊥

@@ -19,11 +19,12 @@ use Rattle.tl_table.specs.declared.fault.TableFault.TheVariants as table
 use Rattle.tl_workers.specs.Refusals.{numbers_of as engine_numbers_of}
 use Rattle.tl_workers.specs.declared.refusal.Refusal.TheVariants as refusal
 use Rattle.tl_commands.specs.declared.fault.CliFault.{CliFault}
-use Rattle.tl_commands.specs.declared.fault.CliFault.TheVariants.{Unreadable, Unwritable, NotUtf8, Asm, Tree, Code, Verify, Register, Core, Trail, Audit, Engine, NotClosed, NotScript, NotArgs, WrongArgs, Memory}
+use Rattle.tl_commands.specs.declared.fault.CliFault.TheVariants.{Unreadable, Unwritable, NoPort, NotUtf8, Asm, Tree, Code, Verify, Register, Core, Trail, Audit, Engine, NotClosed, NotScript, NotArgs, WrongArgs, Memory}
 
 abbrev pub numbers_of : CliFault → List ℕ
 numbers_of Unreadable = 31 ∷ []
 numbers_of Unwritable = 32 ∷ []
+numbers_of NoPort = 33 ∷ []
 numbers_of NotUtf8 = 255 ∷ []
 numbers_of (Asm f) = asm_numbers_of f
 numbers_of (Tree f) = tree_numbers_of f
@@ -44,6 +45,7 @@ numbers_of Memory = 990 ∷ []
 abbrev pub status_of : CliFault → ℕ
 status_of Unreadable = 3
 status_of Unwritable = 3
+status_of NoPort = 3
 status_of (Asm asm.Memory) = 4
 status_of (Tree tree.Memory) = 4
 status_of (Code code.Memory) = 4

@@ -5,5 +5,6 @@ pub mod Scripted
 pub mod Trace
 pub mod Drive
 pub mod Run
+pub mod Serve
 pub mod Audit
 pub mod Procedures

@@ -30,9 +30,13 @@ core_with tree procedures = record {
 abbrev pub tree_now : CoreValue → TreeValue
 tree_now v = record { parents = v.parents; records = records_now v.past v.opening }
 
+-- two lines: a value, and a tree
+abbrev pub two_lines_text : Data → TreeValue → List ℕ
+two_lines_text value tree = compact_text value ++ 10 ∷ tree_text tree ++ 10 ∷ []
+
 -- three lines: two values, and a tree
 abbrev pub lines_text : Data → Data → TreeValue → List ℕ
-lines_text first second tree = compact_text first ++ 10 ∷ compact_text second ++ 10 ∷ tree_text tree ++ 10 ∷ []
+lines_text first second tree = compact_text first ++ 10 ∷ two_lines_text second tree
 
 -- what is wrong first: the tree, else the script, else the first procedure that isn't taken up
 abbrev pub IsWrong : {A : Type 0} → (Data → Option (ScriptValue A)) → List ℕ → List ℕ → CliFault → Type 0

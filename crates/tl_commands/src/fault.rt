@@ -27,6 +27,9 @@ pub enum CliFault {
     /// 32: a file can't be written.
     #[error("a file can't be written")]
     Unwritable,
+    /// 33: a port can't be had.
+    #[error("a port can't be had")]
+    NoPort,
     /// 255: the assembler text is no UTF-8.
     #[error("the text is not UTF-8")]
     NotUtf8,
@@ -83,6 +86,7 @@ impl CliFault {
         match self {
             CliFault::Unreadable => numbers.push(31),
             CliFault::Unwritable => numbers.push(32),
+            CliFault::NoPort => numbers.push(33),
             CliFault::NotUtf8 => numbers.push(255),
             CliFault::Asm(fault) => return fault.numbers(),
             CliFault::Tree(fault) => return fault.numbers(),
@@ -107,7 +111,7 @@ impl CliFault {
         ensures { result ≡ status_of self.now }
     {
         match self {
-            CliFault::Unreadable | CliFault::Unwritable => 3,
+            CliFault::Unreadable | CliFault::Unwritable | CliFault::NoPort => 3,
             CliFault::Register(fault) if fault.is_memory() => 4,
             CliFault::Tree(TreeFault::Memory)
             | CliFault::Asm(AsmFault::Memory)

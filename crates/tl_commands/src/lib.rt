@@ -7,6 +7,7 @@
 mod alone;
 mod answers;
 mod auditing;
+mod closing;
 mod driving;
 mod fault;
 mod inputs;
@@ -14,6 +15,7 @@ mod outputs;
 mod procedures;
 mod running;
 mod script;
+mod serving;
 mod trace;
 
 pub use alone::alone_cmd;
@@ -23,3 +25,4 @@ pub use fault::CliFault;
 pub use procedures::{asm_cmd, dis_cmd, verify_cmd};
 pub use running::{run_cmd, run_with_trail_cmd};
 pub use script::{Script, read_calls, read_moves};
+pub use serving::{conclude_engine, conclude_engine_with_trail, open_engine};

@@ -6,7 +6,7 @@ ghost use Rattle.serde_json.specs.Written.{has_float};
 ghost use Rattle.tl_record.specs.Recording.{trail_value};
 ghost use Rattle.tl_trail.specs.Writing.{trail_text};
 ghost use Rattle.tl_commands.specs.Faults.{status_of};
-ghost use Rattle.tl_commands.specs.Scripted.{lines_text};
+ghost use Rattle.tl_commands.specs.Scripted.{lines_text, two_lines_text};
 
 use crate::fault::CliFault;
 use serde_json::Value;
@@ -16,12 +16,27 @@ use tl_record::trail_of;
 use tl_trail::write_trail;
 use tl_tree::{Tree, write_tree};
 
-// Ends the line, and adds one that is to be ended.
-fn next_line(text: &mut String, line: &str) -> Result<(), AllocError>
-    ensures { OnOk result (string_bytes text.new ≡ string_bytes text.old ++ 10 ∷ line.now) }
+/// Ends the line, and adds others.
+pub fn next_lines(text: &mut String, lines: &str) -> Result<(), AllocError>
+    ensures { OnOk result (string_bytes text.new ≡ string_bytes text.old ++ 10 ∷ lines.now) }
 {
     text.push_str("\n")?;
-    text.push_str(line)
+    text.push_str(lines)
+}
+
+/// Two lines: a value, and a tree.
+pub fn two_lines(alloc: Global, value: &Value, tree: &Tree) -> Result<String, CliFault>
+    ensures ok { IfOk result (λ s. has_float (view value.now) ≡ false → string_bytes s ≡ two_lines_text (view value.now) tree.now) }
+    ensures err { IfErr result (λ e. status_of e ≡ 4) }
+{
+    let tree = match write_tree(alloc, tree) {
+        Ok(tree) => tree,
+        Err(fault) => return Err(CliFault::Tree(fault)),
+    };
+    let mut text = value.to_string(alloc)?;
+    next_lines(&mut text, &tree)?;
+    text.push_str("\n")?;
+    Ok(text)
 }
 
 /// Three lines: two values, and a tree.
@@ -34,14 +49,9 @@ pub fn three_lines(
     ensures ok { IfOk result (λ s. has_float (view first.now) ≡ false → has_float (view second.now) ≡ false → string_bytes s ≡ lines_text (view first.now) (view second.now) tree.now) }
     ensures err { IfErr result (λ e. status_of e ≡ 4) }
 {
-    let tree = match write_tree(alloc, tree) {
-        Ok(tree) => tree,
-        Err(fault) => return Err(CliFault::Tree(fault)),
-    };
+    let lines = two_lines(alloc, second, tree)?;
     let mut text = first.to_string(alloc)?;
-    next_line(&mut text, &second.to_string(alloc)?)?;
-    next_line(&mut text, &tree)?;
-    text.push_str("\n")?;
+    next_lines(&mut text, &lines)?;
     Ok(text)
 }
 

@@ -11,14 +11,15 @@ ghost use Rattle.tl_commands.specs.Run.{AreAnswered, IsLeftOpen, IsRun, IsOrder,
 ghost use Rattle.tl_commands.specs.Scripted.{tree_now, lines_text};
 
 use crate::answers::batch_to_value;
+use crate::closing::closing_lines;
 use crate::fault::CliFault;
 use crate::inputs::{core_of, tree_of_file};
-use crate::outputs::{three_lines, trail_file};
+use crate::outputs::{next_lines, trail_file};
 use crate::script::read_calls;
 use std::alloc::Global;
 use std::sync::Wait;
 use std::thread::Threads;
-use tl_forms::{Request, order_to_value};
+use tl_forms::Request;
 use tl_table::{Closed, Receipt};
 use tl_workers::{Engine, Gate, MAX_WORKERS, Refusal};
 
@@ -85,12 +86,10 @@ fn lines(alloc: Global, ran: &Ran) -> Result<String, CliFault>
         × (string_bytes s ≡ lines_text (batch_data ran.now.answers.items) (order_data order) (tree_now (seen ran.now.closed)))) }
     ensures err { IfErr result (λ e. status_of e ≡ 4) }
 {
-    let core = ran.closed.core();
-    // Its history is legal: here a proof learns that.
-    core.is_sound();
-    let batch = batch_to_value(alloc, &ran.answers)?;
-    let order = order_to_value(alloc, ran.closed.order().calls())?;
-    three_lines(alloc, &batch, &order, core.tree())
+    let closing = closing_lines(alloc, &ran.closed)?;
+    let mut text = batch_to_value(alloc, &ran.answers)?.to_string(alloc)?;
+    next_lines(&mut text, &closing)?;
+    Ok(text)
 }
 
 /// Runs the calls of a script on a tree, on up to so many threads, and gives the lines to print: the answer to each

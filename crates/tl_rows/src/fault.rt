@@ -13,9 +13,10 @@ use tl_verify::VerifyFault;
 use tl_workers::Refusal;
 
 /// Each fault, and its numbers, exit status and text.
-const FAULTS: [(CliFault, &str); 28] = [
+const FAULTS: [(CliFault, &str); 29] = [
     (CliFault::Unreadable, "[31] 3: a file can't be read"),
     (CliFault::Unwritable, "[32] 3: a file can't be written"),
+    (CliFault::NoPort, "[33] 3: a port can't be had"),
     (CliFault::NotUtf8, "[255] 1: the text is not UTF-8"),
     (CliFault::NotScript, "[731] 1: the text is not a script"),
     (

@@ -3,7 +3,7 @@
 //!
 //! A test is proved with its crate, so the tests stand here together, and each crate below is proved once, without them.
 //! A row of a table costs nearly nothing, and a function does. So what a command can show is a row of its table in `alone`,
-//! `procedures`, `drive`, `run` or `audit`, from bytes to bytes. `cores`, `machine`, `serial` and `tree`
+//! `procedures`, `drive`, `run` or `audit`, from bytes to bytes. `cores`, `machine`, `serial`, `serve` and `tree`
 //! have what no command shows.
 #![tactic(auto)]
 
@@ -27,6 +27,8 @@ mod procedures;
 mod run;
 #[cfg(test)]
 mod serial;
+#[cfg(test)]
+mod serve;
 #[cfg(test)]
 mod texts;
 #[cfg(test)]

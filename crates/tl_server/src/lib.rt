@@ -19,7 +19,7 @@ mod socket;
 pub use batch::BatchRequest;
 pub use device::{Bytes, Failure, Sink, Source};
 pub use fault::{LineFault, ListenFault, ServeFault};
-pub use listening::{MAX_CONNECTIONS, listen};
+pub use listening::{MAX_CONNECTIONS, Server, listen};
 pub use request::{LineRequest, MAX_LINE, read_request};
 pub use serving::serve;
 pub use socket::{SocketSink, SocketSource};

@@ -144,10 +144,64 @@ fn serve_all<R: Threads + Wait + Sync>(
     });
 }
 
-/// Listens on 127.0.0.1 and this port, serves so many connections in all, from 1 to 65,535, and answers their sessions when
-/// all have ended. Each connection has a session of its own. At most 8 are open at once, and a ninth is taken up when another
-/// ends. An attempt to take one up that fails counts as one. A connection that gets no session is answered one line,
-/// `{"error":[821]}`, and ended; one that fails is ended, and the others go on.
+/// A local port on which connections are waited for. The system lets clients connect from then on; `serve` takes them up.
+#[derive(Drop)]
+pub struct Server {
+    listener: TcpListener,
+    connections: u16,
+    // Has room for the session of each connection.
+    sessions: Vec<Session>,
+    outbox: Outbox,
+}
+
+impl Server {
+    /// Listens on 127.0.0.1 and this port, for so many connections in all, from 1 to 65,535.
+    ///
+    /// 33 where the port can't be had; 990 where memory is refused.
+    pub fn bind<R: Net<Listener = TcpListener, Stream = TcpStream>>(
+        rt: &R,
+        alloc: Global,
+        port: u16,
+        connections: u16,
+    ) -> Result<Server, ListenFault> {
+        let sessions = Vec::with_capacity(alloc, usize::from(connections))?;
+        let outbox = Outbox::new(alloc)?;
+        let address = SocketAddr::V4(SocketAddrV4::new(Ipv4Addr::LOCALHOST, port));
+        let Ok(listener) = rt.bind(address) else {
+            return Err(ListenFault::NoPort);
+        };
+        Ok(Server {
+            listener,
+            connections,
+            sessions,
+            outbox,
+        })
+    }
+
+    /// Serves its connections, and answers their sessions when all have ended. Each connection has a session of its own. At
+    /// most 8 are open at once, and a ninth is taken up when another ends. An attempt to take one up that fails counts as
+    /// one. A connection that gets no session is answered one line, `{"error":[821]}`, and ended; one that fails is ended,
+    /// and the others go on.
+    pub fn serve<R: Threads + Wait + Sync>(
+        self,
+        rt: &R,
+        alloc: Global,
+        engine: &Engine,
+    ) -> Vec<Session> {
+        let Server {
+            listener,
+            connections,
+            sessions,
+            outbox,
+        } = self;
+        let hall = Hall::new(sessions);
+        serve_all(rt, alloc, &listener, connections, engine, &hall, outbox);
+        hall.into_sessions()
+    }
+}
+
+/// Listens on 127.0.0.1 and this port, serves so many connections in all, from 1 to 65,535, as `Server::serve` does, and
+/// answers their sessions.
 ///
 /// 33 where the port can't be had; 990 where memory is refused before the first connection.
 pub fn listen<R: Net<Listener = TcpListener, Stream = TcpStream> + Threads + Wait + Sync>(
@@ -157,13 +211,5 @@ pub fn listen<R: Net<Listener = TcpListener, Stream = TcpStream> + Threads + Wai
     connections: u16,
     engine: &Engine,
 ) -> Result<Vec<Session>, ListenFault> {
-    let sessions = Vec::with_capacity(alloc, usize::from(connections))?;
-    let outbox = Outbox::new(alloc)?;
-    let address = SocketAddr::V4(SocketAddrV4::new(Ipv4Addr::LOCALHOST, port));
-    let Ok(listener) = rt.bind(address) else {
-        return Err(ListenFault::NoPort);
-    };
-    let hall = Hall::new(sessions);
-    serve_all(rt, alloc, &listener, connections, engine, &hall, outbox);
-    Ok(hall.into_sessions())
+    Ok(Server::bind(rt, alloc, port, connections)?.serve(rt, alloc, engine))
 }

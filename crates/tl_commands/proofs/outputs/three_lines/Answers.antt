@@ -5,6 +5,5 @@ use Rattle.tl_commands.proofs.outputs.three_lines.Goals as goal
 
 pub returns-clause-ok : goal.returns-clause-ok
 returns-clause-ok c = λ first_whole second_whole.
-    lines_written (view c.args.first.now) (view c.args.second.now) c.args.tree.now _ c.deref.result.now c.deref-2.result.now _ _ _
-    (c.in_ok-text.ensures.text first_whole) (c.deref.ensures ∙ c.in_ok-to_string.ensures.text second_whole) (c.deref-2.ensures ∙ c.in-Ok.ensures.text)
-    c.in_ok-next_line.ensures c.in_ok-next_line-2.ensures c.in_ok-push_str.ensures.bytes
+    lines_written (view c.args.first.now) (view c.args.second.now) c.args.tree.now _ c.deref.result.now _
+    (c.in_ok-text.ensures.text first_whole) (c.deref.ensures ∙ c.in_ok-lines.ensures.ok second_whole) c.in_ok-next_lines.ensures
