@@ -68,7 +68,7 @@ fn container(arity: u8, instructions: &[[u8; 8]]) -> Vec<u8> {
     bytes
 }
 
-/// A loop in a loop whose body is arithmetic on registers: some 990,000 steps.
+/// A loop in a loop whose body is arithmetic on registers.
 pub fn arithmetic_loop() -> Vec<u8> {
     let mut code = vec![set(0, 1), set(1, 3), set(2, 1_000), repeat(1_000), repeat(110)];
     let body = code.len();
@@ -87,7 +87,7 @@ pub fn arithmetic_loop() -> Vec<u8> {
     container(0, &code)
 }
 
-/// A loop in a loop whose body reads and writes fields of one held node: some 990,000 steps.
+/// A loop in a loop whose body reads and writes fields of one held node.
 pub fn field_loop() -> Vec<u8> {
     let mut code = vec![set(1, 1), first(0, 0, 15), repeat(1_000), repeat(123)];
     let body = code.len();
@@ -107,7 +107,13 @@ pub fn field_loop() -> Vec<u8> {
     container(0, &code)
 }
 
-/// A walk from the node of the argument down first children, so many locks, which adds 1 to field 0 of each node.
+/// A lock and a free of the argument's node.
+pub fn touch() -> Vec<u8> {
+    container(1, &[first(0, 0, 2), release(0), finish()])
+}
+
+/// A walk from the node of the argument down first children, so many locks, which adds 1 to field 0 of each node, and
+/// emits what the last one has then.
 pub fn walk(locks: u16) -> Vec<u8> {
     let code = vec![
         set(3, 1),
@@ -159,6 +165,33 @@ fn local_loop(code: &mut Vec<[u8; 8]>, turns: u16) {
     code.push(arithmetic(3, 6, 5, 1, body + 3));
     code.push(jump_if_less(6, 1, body + 4));
     code.push(end());
+}
+
+/// From the root down to the head that is the argument, on a tree of chains of that length, and on to the end of the chain, to whose
+/// field 0 it adds 1, and which it emits.
+pub fn descend(chain: u16) -> Vec<u8> {
+    let code = vec![
+        set(2, i32::from(chain)),
+        set(3, 1),
+        arithmetic(4, 4, 0, 3, 18),
+        arithmetic(6, 4, 4, 2, 18),
+        first(0, 1, 18),
+        child(1, 0, 4, 13),
+        release(0),
+        move_node(0, 1),
+        repeat(chain - 1),
+        child(1, 0, 1, 13),
+        release(0),
+        move_node(0, 1),
+        end(),
+        get(5, 0, 0),
+        arithmetic(3, 5, 5, 3, 15),
+        put(0, 0, 5),
+        emit(5),
+        release(0),
+        finish(),
+    ];
+    container(1, &code)
 }
 
 /// A walk that does nothing on the way.

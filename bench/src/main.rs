@@ -1,29 +1,44 @@
-//! The product beside a plain twin: the same work in one process, in turn, and the ratio of the times.
+//! The product beside a plain twin: the same work in turn, and the ratios of the times.
 //!
-//! `bench FILE` measures all and writes the table to the file; `bench FILE NAME..` only what has these names.
+//! `bench FILE` measures all and writes the table to the file; `bench FILE NAME..` only what has these names. With other first
+//! words it is a process of its own for one piece of that.
 
 mod codes;
 mod counting;
 mod measured;
+mod processes;
 mod product;
+mod rounds;
+mod rows;
+mod schedules;
+mod sqlite;
 mod table;
+mod trees;
 mod twin;
-mod workloads;
 
-use std::fs;
 use std::process::ExitCode;
+use std::{env, fs};
+
+use table::{Made, Table};
 
 fn main() -> ExitCode {
-    let mut words = std::env::args().skip(1);
-    let Some(path) = words.next() else {
-        eprintln!("usage: bench FILE [{}]..", workloads::NAMES.join("|"));
+    let words: Vec<String> = env::args().skip(1).collect();
+    let Some((first, rest)) = words.split_first() else {
+        eprintln!("usage: bench FILE [{}]..", rows::NAMES.join("|"));
         return ExitCode::from(2);
     };
-    let mut names: Vec<String> = words.collect();
-    if names.is_empty() {
-        names = workloads::NAMES.map(String::from).to_vec();
+    match first.as_str() {
+        processes::ENGINES => processes::run_engines(rest).unwrap_or(ExitCode::FAILURE),
+        processes::MEMORY => processes::run_for_memory(rest).unwrap_or(ExitCode::FAILURE),
+        path => write_table(path, rest),
     }
-    let written = workloads::measured(&names).and_then(|table| {
+}
+
+fn write_table(path: &str, names: &[String]) -> ExitCode {
+    let all = rows::NAMES.map(String::from);
+    let names = if names.is_empty() { &all[..] } else { names };
+    let written = rows::measured(names).and_then(|parts| {
+        let table = Table { made: made(), parts };
         print!("{table}");
         fs::write(path, table.to_string()).map_err(|error| error.to_string())
     });
@@ -34,4 +49,10 @@ fn main() -> ExitCode {
             ExitCode::FAILURE
         }
     }
+}
+
+/// What `bench/run` says of how both sides were built.
+fn made() -> Made {
+    let said = |name| env::var(name).unwrap_or_else(|_| "not said".to_string());
+    Made { date: said("BENCH_DATE"), product: said("BENCH_PRODUCT"), twin: said("BENCH_TWIN") }
 }

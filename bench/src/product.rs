@@ -1,7 +1,4 @@
-//! The product: its static library, and the program that runs engines, since a static library has no threads.
-
-use std::path::Path;
-use std::process::Command;
+//! The product's static library.
 
 use crate::measured::Measured;
 
@@ -10,7 +7,10 @@ mod c {
 
     extern "C" {
         pub fn treedb_run(code: *const u8, size: usize, nodes: u16, args: *const i64, arity: usize, times: u32) -> Measured;
+        pub fn treedb_local(code: *const u8, size: usize, args: *const i64, arity: usize, times: u32) -> Measured;
         pub fn treedb_check(code: *const u8, size: usize, times: u32) -> Measured;
+        pub fn treedb_decode(code: *const u8, size: usize, times: u32) -> Measured;
+        pub fn treedb_assemble(text: *const u8, size: usize, times: u32) -> Measured;
         #[allow(clippy::too_many_arguments)]
         pub fn treedb_interleave(
             code: *const u8,
@@ -35,20 +35,66 @@ mod c {
             text: *mut u8,
             room: usize,
         ) -> Measured;
+        pub fn treedb_admit(code: *const u8, size: usize, parents: *const u16, nodes: usize, args: *const i64, calls: usize) -> Measured;
+        pub fn treedb_keep(code: *const u8, size: usize, parents: *const u16, nodes: usize, args: *const i64, calls: usize) -> Measured;
+        pub fn treedb_replay(code: *const u8, size: usize, parents: *const u16, nodes: usize, args: *const i64, calls: usize) -> Measured;
+        pub fn treedb_block(code: *const u8, size: usize, times: u32) -> Measured;
         pub fn treedb_read(text: *const u8, size: usize, times: u32) -> Measured;
         pub fn treedb_parse(text: *const u8, size: usize, times: u32) -> Measured;
+        pub fn treedb_print(text: *const u8, size: usize, times: u32) -> Measured;
         pub fn treedb_write(text: *const u8, size: usize, times: u32) -> Measured;
         pub fn treedb_order(text: *const u8, size: usize, times: u32) -> Measured;
         pub fn treedb_audit(text: *const u8, size: usize, times: u32) -> Measured;
     }
 }
 
+/// Functions of bytes and how often the work is done.
+macro_rules! of_bytes {
+    ($($(#[$says:meta])* $name:ident is $function:ident;)*) => {
+        $($(#[$says])* pub fn $name(bytes: &[u8], times: u32) -> Measured {
+            unsafe { c::$function(bytes.as_ptr(), bytes.len(), times) }
+        })*
+    };
+}
+
+of_bytes! {
+    check is treedb_check;
+    decode is treedb_decode;
+    assemble is treedb_assemble;
+    block is treedb_block;
+    read is treedb_read;
+    /// The port of `serde_json` reads the text as a value, and lets that go.
+    parse is treedb_parse;
+    /// The port of `serde_json` writes the value of the text.
+    print is treedb_print;
+    write is treedb_write;
+    order is treedb_order;
+    audit is treedb_audit;
+}
+
+/// Functions of calls: their code, the tree's parents, and an argument for each.
+macro_rules! of_calls {
+    ($($name:ident is $function:ident;)*) => {
+        $(pub fn $name(code: &[u8], parents: &[u16], args: &[i64]) -> Measured {
+            unsafe {
+                c::$function(code.as_ptr(), code.len(), parents.as_ptr(), parents.len(), args.as_ptr(), args.len())
+            }
+        })*
+    };
+}
+
+of_calls! {
+    admit is treedb_admit;
+    keep is treedb_keep;
+    replay is treedb_replay;
+}
+
 pub fn run(code: &[u8], nodes: u16, args: &[i64], times: u32) -> Measured {
     unsafe { c::treedb_run(code.as_ptr(), code.len(), nodes, args.as_ptr(), args.len(), times) }
 }
 
-pub fn check(code: &[u8], times: u32) -> Measured {
-    unsafe { c::treedb_check(code.as_ptr(), code.len(), times) }
+pub fn local(code: &[u8], args: &[i64], times: u32) -> Measured {
+    unsafe { c::treedb_local(code.as_ptr(), code.len(), args.as_ptr(), args.len(), times) }
 }
 
 pub fn interleave(code: &[u8], parents: &[u16], args: &[i64], nanos: &mut [u64], steps: &mut [u64]) -> Measured {
@@ -80,40 +126,5 @@ pub fn tell(code: &[u8], parents: &[u16], args: &[i64], text: &mut [u8]) -> Meas
             text.as_mut_ptr(),
             text.len(),
         )
-    }
-}
-
-pub fn read(text: &[u8], times: u32) -> Measured {
-    unsafe { c::treedb_read(text.as_ptr(), text.len(), times) }
-}
-
-pub fn parse(text: &[u8], times: u32) -> Measured {
-    unsafe { c::treedb_parse(text.as_ptr(), text.len(), times) }
-}
-
-pub fn write(text: &[u8], times: u32) -> Measured {
-    unsafe { c::treedb_write(text.as_ptr(), text.len(), times) }
-}
-
-pub fn order(text: &[u8], times: u32) -> Measured {
-    unsafe { c::treedb_order(text.as_ptr(), text.len(), times) }
-}
-
-pub fn audit(text: &[u8], times: u32) -> Measured {
-    unsafe { c::treedb_audit(text.as_ptr(), text.len(), times) }
-}
-
-/// Engines made anew, each of which runs 4,096 calls in batches on so many threads: a process of its own, which measures the batches.
-/// What can't be run counts as refused.
-pub fn engines(container: &Path, nodes: u16, chain: u16, workers: usize, engines: u32) -> Measured {
-    const REFUSED: Measured = Measured { nanos: 0, count: u64::MAX, sum: 0 };
-    let program = concat!(env!("CARGO_MANIFEST_DIR"), "/../crates/tl_bench_threads/out/tl_bench_threads");
-    let numbers = [workers.to_string(), nodes.to_string(), chain.to_string(), engines.to_string()];
-    let Ok(done) = Command::new(program).arg(container).args(numbers).output() else { return REFUSED };
-    let text = String::from_utf8_lossy(&done.stdout);
-    let told: Vec<u64> = text.split_whitespace().filter_map(|word| word.parse().ok()).collect();
-    match *told {
-        [nanos, count, sum] if done.status.success() => Measured { nanos, count, sum },
-        _ => REFUSED,
     }
 }

@@ -2,90 +2,213 @@
 
 use std::fmt;
 
-const MADE: &str = "\
-Made by `bench/run`. Each time is the least of several runs, in which the two sides took turns in one process. Where a goal
-says *at least*, the ratio is the second number by the first, which is the product's speed by the twin's; else it is the first
-by the second. A row of the product alone has its own number at fewer events as the second.";
+use crate::rounds::{Spread, Times};
 
-/// A row: what was done, what each side took for one unit of it, and what was asked for.
-pub struct Row {
-    pub work: String,
-    pub unit: &'static str,
-    pub product: f64,
-    pub other: f64,
-    pub goal: Goal,
-    /// Why it is short, where it is.
-    pub reason: &'static str,
-}
+/// How near to its goal a number has to be for there to be no verdict.
+const LEVEL: f64 = 0.1;
 
 /// What is asked for.
 #[derive(Clone, Copy)]
 pub enum Goal {
-    /// The product is at least as fast as the other: the other's time by the product's is at least this.
-    AsFast(f64),
+    /// The product is at least as fast as the other: the other's number by the product's is at least this.
+    AtLeast(f64),
     /// The product takes at most so many times what the other takes.
     AtMost(f64),
-    /// Nothing: it is only told.
-    Told,
+    /// The product's own number is at most this.
+    Within(f64),
+    /// Nothing: it is only told how many times as fast the product is.
+    Speed,
+    /// Nothing: it is only told how many times what the other takes the product takes.
+    Cost,
+}
+
+impl Goal {
+    /// The same, where nothing is asked.
+    pub fn only_told(self) -> Goal {
+        match self {
+            Goal::AtLeast(_) | Goal::Speed => Goal::Speed,
+            Goal::AtMost(_) | Goal::Within(_) | Goal::Cost => Goal::Cost,
+        }
+    }
+}
+
+/// A row: what was done, what each side took for one unit of it, and what was asked for.
+pub struct Row {
+    work: String,
+    unit: &'static str,
+    product: f64,
+    /// What stands beside it, and the ratios of both by rounds.
+    beside: Option<(f64, Spread)>,
+    goal: Goal,
 }
 
 impl Row {
-    fn ratio(&self) -> f64 {
-        match self.goal {
-            Goal::AsFast(_) => self.other / self.product,
-            Goal::AtMost(_) | Goal::Told => self.product / self.other,
+    /// What the rounds of the product and of another side took a unit.
+    pub fn paired(work: impl Into<String>, unit: &'static str, product: &[f64], other: &[f64], goal: Goal) -> Row {
+        let ratio = |(ours, theirs): (&f64, &f64)| match goal {
+            Goal::AtLeast(_) | Goal::Speed => theirs / ours,
+            _ => ours / theirs,
+        };
+        let ratios = Spread::of(product.iter().zip(other).map(ratio));
+        Row { beside: Some((middle(other), ratios)), ..Row::alone(work, unit, product, goal) }
+    }
+
+    /// The same of two sides' times.
+    pub fn of_times(work: impl Into<String>, unit: &'static str, times: [&Times; 2], units: f64, goal: Goal) -> Row {
+        Row::paired(work, unit, &times[0].per(units), &times[1].per(units), goal)
+    }
+
+    /// What the product's rounds took a unit, with nothing beside it.
+    pub fn alone(work: impl Into<String>, unit: &'static str, product: &[f64], goal: Goal) -> Row {
+        Row { work: work.into(), unit, product: middle(product), beside: None, goal }
+    }
+
+    /// How far the goal was reached: 1 is just reached, and more is better.
+    fn reached(&self) -> Option<f64> {
+        match (self.goal, &self.beside) {
+            (Goal::AtLeast(least), Some((_, ratio))) => Some(ratio.middle / least),
+            (Goal::AtMost(most), Some((_, ratio))) => Some(most / ratio.middle),
+            (Goal::Within(most), _) if self.product <= 0.0 => Some(most),
+            (Goal::Within(most), _) => Some(most / self.product),
+            _ => None,
         }
     }
 
-    fn verdict(&self) -> String {
-        let ratio = self.ratio();
-        match self.goal {
-            Goal::AsFast(least) if ratio >= least => format!("at least {least:.1}: met"),
-            Goal::AsFast(least) => format!("at least {least:.1}: **short**. {}", self.reason),
-            Goal::AtMost(most) if ratio <= most => format!("at most {most:.1}: met"),
-            Goal::AtMost(most) => format!("at most {most:.1}: **short**. {}", self.reason),
-            Goal::Told => String::new(),
+    fn verdict(&self) -> &'static str {
+        match self.reached() {
+            Some(reached) if reached >= 1.0 / (1.0 - LEVEL) => "met",
+            Some(reached) if reached <= 1.0 - LEVEL => "**short**",
+            Some(_) => "level",
+            None => "",
         }
     }
 }
 
-/// A part of the table with a heading and names for its two columns of numbers.
+fn middle(numbers: &[f64]) -> f64 {
+    Spread::of(numbers.iter().copied()).middle
+}
+
+impl fmt::Display for Goal {
+    fn fmt(&self, out: &mut fmt::Formatter<'_>) -> fmt::Result {
+        match self {
+            Goal::AtLeast(least) => write!(out, "at least {least}: "),
+            Goal::AtMost(most) | Goal::Within(most) => write!(out, "at most {most}: "),
+            Goal::Speed => write!(out, "times as fast"),
+            Goal::Cost => write!(out, "times as much"),
+        }
+    }
+}
+
+impl fmt::Display for Row {
+    fn fmt(&self, out: &mut fmt::Formatter<'_>) -> fmt::Result {
+        write!(out, "| {} | {} | {:.1} | ", self.work, self.unit, self.product)?;
+        match &self.beside {
+            Some((other, Spread { low, middle, high })) => {
+                write!(out, "{other:.1} | {middle:.2} ({low:.2} to {high:.2})")?;
+            }
+            None => write!(out, " | ")?,
+        }
+        match (self.goal, &self.beside) {
+            (Goal::Speed | Goal::Cost, None) => write!(out, " |  |"),
+            (goal, _) => write!(out, " | {goal}{} |", self.verdict()),
+        }
+    }
+}
+
+/// A part of the table with a heading and a name for what stands beside the product.
 pub struct Part {
-    pub heading: &'static str,
-    pub first: &'static str,
-    pub second: &'static str,
+    pub heading: String,
+    pub beside: &'static str,
     pub rows: Vec<Row>,
+    /// What is left out, and why.
+    pub note: Option<&'static str>,
 }
 
-#[derive(Default)]
+impl Part {
+    pub fn new(heading: impl Into<String>, beside: &'static str, rows: Vec<Row>) -> Part {
+        Part { heading: heading.into(), beside, rows, note: None }
+    }
+
+    pub fn left_out(heading: impl Into<String>, note: &'static str) -> Part {
+        Part { heading: heading.into(), beside: "", rows: Vec::new(), note: Some(note) }
+    }
+}
+
+impl fmt::Display for Part {
+    fn fmt(&self, out: &mut fmt::Formatter<'_>) -> fmt::Result {
+        writeln!(out, "\n## {}\n", self.heading)?;
+        if let Some(note) = self.note {
+            writeln!(out, "{note}")?;
+        }
+        if !self.rows.is_empty() {
+            writeln!(out, "| Work | Unit | product | {} | ratio | Goal |", self.beside)?;
+            writeln!(out, "|---|---|---|---|---|---|")?;
+        }
+        self.rows.iter().try_for_each(|row| writeln!(out, "{row}"))
+    }
+}
+
+/// How the table was made.
+pub struct Made {
+    pub date: String,
+    pub product: String,
+    pub twin: String,
+}
+
 pub struct Table {
+    pub made: Made,
     pub parts: Vec<Part>,
 }
 
 impl fmt::Display for Table {
     fn fmt(&self, out: &mut fmt::Formatter<'_>) -> fmt::Result {
-        writeln!(out, "# What the proof costs at run time\n")?;
+        let Made { date, product, twin } = &self.made;
         writeln!(
             out,
-            "{MADE}"
+            "# What the proof costs at run time
+
+Made by `bench/run` on {date}. The product: {product}. The twin: {twin}.
+
+The sides take turns, {} rounds after one that only warms up. A number is the middle one of its rounds. A ratio is the middle one
+of the rounds' own ratios, and the quartiles stand behind it. Where the goal says *at least* or *times as fast*, it is the second
+number by the first, which is the product's speed by the other's; else it is the first by the second. Within a tenth of a goal the
+verdict is *level*: that is nearer than two runs are to one another.",
+            crate::rounds::ROUNDS
         )?;
-        for part in &self.parts {
-            writeln!(out, "\n## {}\n", part.heading)?;
-            writeln!(out, "| Work | Unit | {} | {} | ratio | Goal |", part.first, part.second)?;
-            writeln!(out, "|---|---|---|---|---|---|")?;
-            for row in &part.rows {
-                writeln!(
-                    out,
-                    "| {} | {} | {:.1} | {:.1} | {:.2} | {} |",
-                    row.work,
-                    row.unit,
-                    row.product,
-                    row.other,
-                    row.ratio(),
-                    row.verdict()
-                )?;
-            }
+        self.parts.iter().try_for_each(|part| write!(out, "{part}"))
+    }
+}
+
+#[cfg(test)]
+mod tests {
+    use super::*;
+
+    fn verdict(product: f64, other: f64, goal: Goal) -> &'static str {
+        Row::paired("work", "ns", &[product], &[other], goal).verdict()
+    }
+
+    #[test]
+    fn within_a_tenth_there_is_no_verdict() {
+        let cases = [
+            (10.0, 10.0, Goal::AtLeast(0.9), "met"),
+            (10.0, 9.5, Goal::AtLeast(0.9), "level"),
+            (10.0, 8.0, Goal::AtLeast(0.9), "**short**"),
+            (10.0, 10.0, Goal::AtMost(1.1), "level"),
+            (10.0, 10.0, Goal::AtMost(1.2), "met"),
+            (15.0, 10.0, Goal::AtMost(1.1), "**short**"),
+            (20.0, 1.0, Goal::Within(30.0), "met"),
+            (31.0, 1.0, Goal::Within(30.0), "level"),
+            (-1.0, 1.0, Goal::Within(10.0), "met"),
+            (1.0, 1.0, Goal::Speed, ""),
+        ];
+        for (product, other, goal, expected) in cases {
+            assert_eq!(verdict(product, other, goal), expected, "{product} {other} {goal}");
         }
-        Ok(())
+    }
+
+    #[test]
+    fn a_row_is_written() {
+        let row = Row::paired("some work", "ns a step", &[2.0, 4.0, 3.0], &[3.0, 3.0, 3.0], Goal::AtLeast(0.9));
+        assert_eq!(row.to_string(), "| some work | ns a step | 3.0 | 3.0 | 1.00 (0.75 to 1.00) | at least 0.9: met |");
     }
 }

@@ -10,6 +10,9 @@ use super::tree::FIELDS;
 
 const MAX_LABEL: usize = 32;
 
+/// One more than an instruction has, so that too many are seen.
+const MOST_WORDS: usize = 7;
+
 /// The lines so far, before targets are known.
 #[derive(Default)]
 struct Sketch<'a> {
@@ -33,17 +36,20 @@ pub fn assemble(text: &str) -> Result<Code, Fault> {
     let mut lines = 0;
     for line in text.split('\n') {
         lines += 1;
-        let words: Vec<&str> = words_of(line).collect();
-        if !words.is_empty() {
-            sketch.add(&words, lines)?;
+        let mut words = [""; MOST_WORDS];
+        let count = split(line, &mut words);
+        if count > 0 {
+            sketch.add(&words[..count], lines)?;
         }
     }
     sketch.finish(lines)
 }
 
-fn words_of(line: &str) -> impl Iterator<Item = &str> {
+/// The words of a line, as many as there is room for: how many they are.
+fn split<'a>(line: &'a str, words: &mut [&'a str; MOST_WORDS]) -> usize {
     let line = line.split_once(';').map_or(line, |(before, _)| before);
-    line.split([' ', '\t', '\r']).filter(|word| !word.is_empty())
+    let all = line.split([' ', '\t', '\r']).filter(|word| !word.is_empty());
+    words.iter_mut().zip(all).map(|(place, word)| *place = word).count()
 }
 
 impl<'a> Sketch<'a> {

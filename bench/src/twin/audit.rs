@@ -2,31 +2,32 @@
 
 use super::core::Event;
 use super::fault::Fault;
-use super::machine::{Action, Call, Keeper};
-use super::order::{order_of, Part};
+use super::machine::{Call, Keeper};
+use super::order::{Placer, NOBODY};
 use super::trail::{ToldCall, Trail};
 use super::tree::{Record, Shape};
 use super::verifier::Procedure;
 
-/// The order of a clean trail's calls, or what is wrong first.
+/// The order of a clean trail's calls, or what is wrong first. One pass along the events: their rules, the calls each
+/// along its own events, and the order.
 pub fn audit(trail: &Trail) -> Result<Vec<u32>, Fault> {
     let shape = &trail.tree.shape;
     let mut watch = Watch::new(trail);
     for (number, event) in trail.events.iter().enumerate() {
         watch.check(event).map_err(|fault| Fault::at(fault, number))?;
+        watch.follow(trail, event);
+        watch.note(event);
     }
     if let Some(call) = watch.calls.iter().position(|call| call.stage != Stage::Done) {
         return Err(Fault::at(715, call));
     }
-    let told = events_by_call(trail);
-    for (number, call) in trail.calls.iter().enumerate() {
-        let procedure = trail.procedures.get(call.procedure);
-        check_call(call, procedure, shape, &told[number]).map_err(|fault| Fault::at(fault, number))?;
+    if let Some((call, fault)) = watch.wrong {
+        return Err(Fault::at(fault, call as usize));
     }
     if let Some(node) = (0..shape.node_count()).find(|&node| watch.records[node] != trail.ends[node]) {
         return Err(Fault::at(716, node));
     }
-    Ok(order_of(&trail.events, shape))
+    Ok(watch.placer.into_order())
 }
 
 #[derive(Clone, Copy, PartialEq)]
@@ -38,7 +39,9 @@ enum Stage {
 
 struct Watched {
     stage: Stage,
-    part: Part,
+    holding: u32,
+    /// while it is open and did what it does alone
+    turn: Option<Box<Call>>,
 }
 
 /// What the events so far have come to.
@@ -46,119 +49,154 @@ struct Watch<'a> {
     shape: &'a Shape,
     calls: Vec<Watched>,
     admitted: u32,
-    holders: Vec<Option<u32>>,
+    placer: Placer,
     records: Vec<Record>,
+    /// the least call that is wrong, and the number of what is wrong with it
+    wrong: Option<(u32, u16)>,
 }
 
 impl Watch<'_> {
     fn new(trail: &Trail) -> Watch<'_> {
-        let coming = || Watched { stage: Stage::Coming, part: Part::default() };
+        let coming = || Watched { stage: Stage::Coming, holding: 0, turn: None };
         Watch {
             shape: &trail.tree.shape,
             calls: trail.calls.iter().map(|_| coming()).collect(),
             admitted: 0,
-            holders: vec![None; trail.tree.records.len()],
+            placer: Placer::new(trail.tree.records.len(), trail.calls.len()),
             records: trail.tree.records.clone(),
+            wrong: None,
         }
     }
 
-    /// Takes the next event, or answers the number of what is wrong with it.
-    fn check(&mut self, event: &Event) -> Result<(), u16> {
+    /// The number of what is wrong with the next event.
+    fn check(&self, event: &Event) -> Result<(), u16> {
         if !self.keeps_rules(event) {
             return Err(711);
         }
+        if let Event::Lock { node, record, .. } = *event {
+            if self.placer.holder(node) != NOBODY {
+                return Err(712);
+            }
+            if self.records[usize::from(node)] != record {
+                return Err(713);
+            }
+        }
+        Ok(())
+    }
+
+    fn keeps_rules(&self, event: &Event) -> bool {
+        let Watched { stage, holding, .. } = &self.calls[event.call() as usize];
+        match *event {
+            Event::Admit { call } => call == self.admitted,
+            _ if *stage != Stage::Open => false,
+            Event::Lock { call, node, .. } => {
+                !self.placer.stands(call)
+                    || (node != 0
+                        && self.placer.holder(self.shape.parent(node)) == call
+                        && self.placer.under(node) != call)
+            }
+            Event::Free { call, node, .. } => self.placer.holder(node) == call,
+            Event::Done { .. } => *holding == 0,
+        }
+    }
+
+    fn note(&mut self, event: &Event) {
+        self.placer.note(event, self.shape);
         let call = &mut self.calls[event.call() as usize];
         match *event {
             Event::Admit { .. } => {
                 call.stage = Stage::Open;
                 self.admitted += 1;
             }
-            Event::Lock { call: number, node, record } => {
-                let index = usize::from(node);
-                if self.holders[index].is_some() {
-                    return Err(712);
-                }
-                if self.records[index] != record {
-                    return Err(713);
-                }
-                self.holders[index] = Some(number);
-                call.part.lock(node, self.shape);
-            }
+            Event::Lock { .. } => call.holding += 1,
             Event::Free { node, record, .. } => {
-                self.holders[usize::from(node)] = None;
+                call.holding -= 1;
                 self.records[usize::from(node)] = record;
-                call.part.free(node);
             }
             Event::Done { .. } => call.stage = Stage::Done,
         }
-        Ok(())
     }
 
-    fn keeps_rules(&self, event: &Event) -> bool {
-        let Watched { stage, part } = &self.calls[event.call() as usize];
-        match *event {
-            Event::Admit { call } => call == self.admitted,
-            _ if *stage != Stage::Open => false,
-            Event::Lock { node, .. } => {
-                !part.locked_any() || (!part.has_locked(node) && part.holds(self.shape.parent(node)))
+    /// The event's call goes on along it.
+    fn follow(&mut self, trail: &Trail, event: &Event) {
+        let told = &trail.calls[event.call() as usize];
+        let procedure = trail.procedures.get(told.procedure);
+        let turn = &mut self.calls[event.call() as usize].turn;
+        let went = match *event {
+            Event::Admit { .. } => {
+                *turn = Call::start(procedure, &told.args).map(Box::new);
+                if turn.is_some() { Ok(()) } else { Err(714) }
             }
-            Event::Free { node, .. } => part.holds(node),
-            Event::Done { .. } => !part.holds_any(),
+            Event::Lock { .. } | Event::Free { .. } => match turn {
+                Some(turn) => lead(turn, procedure, self.shape, event),
+                None => Ok(()),
+            },
+            Event::Done { .. } => match turn.take() {
+                Some(turn) => end(turn, procedure, self.shape, told),
+                None => Ok(()),
+            },
+        };
+        if let Err(fault) = went {
+            self.calls[event.call() as usize].turn = None;
+            if self.wrong.is_none_or(|(least, _)| event.call() < least) {
+                self.wrong = Some((event.call(), fault));
+            }
         }
     }
 }
 
-/// The locks and frees of each call.
-fn events_by_call(trail: &Trail) -> Vec<Vec<&Event>> {
-    let mut told = vec![Vec::new(); trail.calls.len()];
-    for event in &trail.events {
-        if event.node().is_some() {
-            told[event.call() as usize].push(event);
-        }
-    }
-    told
+/// The one lock or free that a call has to do next.
+struct Next<'a> {
+    event: Option<&'a Event>,
 }
 
-/// The locks and frees that are told of a call, which it has to do in this order.
-struct Told<'a> {
-    events: std::slice::Iter<'a, &'a Event>,
+/// Why a call stops.
+enum Stop {
+    /// What it has to do next comes later.
+    Later,
+    /// It wants something else.
+    NotGenuine,
 }
 
-struct NotGenuine;
+impl Keeper for Next<'_> {
+    type Refusal = Stop;
 
-impl Keeper for Told<'_> {
-    type Refusal = NotGenuine;
-
-    fn lock(&mut self, wanted: u16) -> Result<Record, NotGenuine> {
-        match self.events.next() {
-            Some(&&Event::Lock { node, record, .. }) if node == wanted => Ok(record),
-            _ => Err(NotGenuine),
+    #[inline(always)]
+    fn lock(&mut self, wanted: u16) -> Result<Record, Stop> {
+        match self.event.take() {
+            Some(&Event::Lock { node, record, .. }) if node == wanted => Ok(record),
+            Some(_) => Err(Stop::NotGenuine),
+            None => Err(Stop::Later),
         }
     }
 
-    fn free(&mut self, freed: u16, left: Record) -> Result<(), NotGenuine> {
-        match self.events.next() {
-            Some(&&Event::Free { node, record, .. }) if node == freed && record == left => Ok(()),
-            _ => Err(NotGenuine),
+    #[inline(always)]
+    fn free(&mut self, freed: u16, left: Record) -> Result<(), Stop> {
+        match self.event.take() {
+            Some(&Event::Free { node, record, .. }) if node == freed && record == left => Ok(()),
+            Some(_) => Err(Stop::NotGenuine),
+            None => Err(Stop::Later),
         }
     }
 }
 
-/// Runs the call alone with the records that it found, and compares what is told of it.
-fn check_call(told: &ToldCall, procedure: &Procedure, shape: &Shape, events: &[&Event]) -> Result<(), u16> {
-    let mut call = Call::start(procedure, &told.args).ok_or(714u16)?;
-    let mut keeper = Told { events: events.iter() };
-    loop {
-        match call.step(procedure, shape, &mut keeper) {
-            Ok(Action::End) => break,
-            Ok(_) => {}
-            Err(NotGenuine) => return Err(714),
-        }
+/// Goes along the event, which has to be the call's next lock or free, and on to where it stops then.
+fn lead(call: &mut Call, procedure: &Procedure, shape: &Shape, event: &Event) -> Result<(), u16> {
+    let mut next = Next { event: Some(event) };
+    match call.run(procedure, shape, &mut next) {
+        Err(Stop::NotGenuine) => Err(714),
+        // It has come to its end before the event.
+        Ok(()) if next.event.is_some() => Err(714),
+        Ok(()) | Err(Stop::Later) => Ok(()),
     }
-    if keeper.events.next().is_some() {
+}
+
+/// Goes on to the end, and compares the reply.
+fn end(mut call: Box<Call>, procedure: &Procedure, shape: &Shape, told: &ToldCall) -> Result<(), u16> {
+    if call.run(procedure, shape, &mut Next { event: None }).is_err() {
         return Err(714);
     }
-    if told.reply != Some(call.take_reply()) {
+    if told.reply.as_deref() != Some(call.reply().values()) {
         return Err(717);
     }
     Ok(())

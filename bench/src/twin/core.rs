@@ -1,16 +1,18 @@
 //! Many calls on one tree, one step at a time.
 
 use std::collections::HashMap;
+use std::sync::Arc;
 
 use super::fault::Fault;
 use super::machine::{Action, Call, Keeper};
-use super::tree::{Record, Tree};
+use super::order::NOBODY;
+use super::tree::{Record, Shape, Tree};
 use super::verifier::Procedure;
 
 pub const MAX_CALLS: usize = 4_096;
 pub const MAX_EVENTS: usize = 1_048_576;
 
-const MAX_UNFINISHED: usize = 64;
+const MAX_OPEN: usize = 64;
 const MAX_PROCEDURES: usize = 256;
 const MAX_NAME: usize = 32;
 
@@ -41,7 +43,7 @@ impl Event {
 /// Procedures under their names.
 #[derive(Clone, Debug, Default, PartialEq)]
 pub struct Procedures {
-    entries: Vec<(String, Procedure)>,
+    entries: Vec<(String, Arc<Procedure>)>,
     numbers: HashMap<String, usize>,
 }
 
@@ -58,7 +60,7 @@ impl Procedures {
             return Err(Fault::plain(613));
         }
         self.numbers.insert(name.to_string(), self.entries.len());
-        self.entries.push((name.to_string(), procedure));
+        self.entries.push((name.to_string(), Arc::new(procedure)));
         Ok(())
     }
 
@@ -70,17 +72,18 @@ impl Procedures {
         &self.entries[number].0
     }
 
-    pub fn get(&self, number: usize) -> &Procedure {
+    pub fn get(&self, number: usize) -> &Arc<Procedure> {
         &self.entries[number].1
     }
 
-    pub fn iter(&self) -> impl Iterator<Item = &(String, Procedure)> {
+    pub fn iter(&self) -> impl Iterator<Item = &(String, Arc<Procedure>)> {
         self.entries.iter()
     }
 }
 
 enum Progress {
-    Running(Box<Call>),
+    /// its place among the open calls
+    Open(u8),
     Over(Vec<i64>),
 }
 
@@ -88,8 +91,13 @@ struct Admitted {
     procedure: usize,
     args: Vec<i64>,
     progress: Progress,
+}
+
+struct OpenCall {
+    number: u32,
     /// events that it may still have
     places: usize,
+    state: Call,
 }
 
 /// What a step came to.
@@ -100,37 +108,37 @@ pub enum Stepped {
     Over,
 }
 
+/// A call's state, with what it needs to go on by itself.
+pub struct Turn {
+    pub procedure: Arc<Procedure>,
+    pub shape: Arc<Shape>,
+    pub state: Call,
+}
+
 pub struct Core {
     opening: Tree,
     procedures: Procedures,
     calls: Vec<Admitted>,
-    unfinished: usize,
-    /// events that the unfinished calls may still have
+    open: Vec<OpenCall>,
+    /// events that the open calls may still have
     reserved: usize,
     nodes: Nodes,
 }
 
 /// What calls share: each node's record as it was left last and who holds it, and the history.
-pub struct Nodes {
-    pub records: Vec<Record>,
-    holders: Vec<Option<u32>>,
-    pub history: Vec<Event>,
-}
-
-impl Nodes {
-    pub fn new(records: Vec<Record>) -> Nodes {
-        let holders = vec![None; records.len()];
-        Nodes { records, holders, history: Vec::new() }
-    }
+struct Nodes {
+    records: Vec<Record>,
+    holders: Vec<u32>,
+    history: Vec<Event>,
 }
 
 /// The nodes, as the step of one call uses them.
-pub struct Access<'a> {
-    pub call: u32,
-    pub nodes: &'a mut Nodes,
+struct Access<'a> {
+    call: u32,
+    nodes: &'a mut Nodes,
 }
 
-pub struct Blocked {
+struct Blocked {
     node: u16,
     holder: u32,
 }
@@ -138,21 +146,24 @@ pub struct Blocked {
 impl Keeper for Access<'_> {
     type Refusal = Blocked;
 
+    #[inline(always)]
     fn lock(&mut self, node: u16) -> Result<Record, Blocked> {
         let index = usize::from(node);
-        if let Some(holder) = self.nodes.holders[index] {
+        let holder = self.nodes.holders[index];
+        if holder != NOBODY {
             return Err(Blocked { node, holder });
         }
         let record = self.nodes.records[index];
-        self.nodes.holders[index] = Some(self.call);
+        self.nodes.holders[index] = self.call;
         self.nodes.history.push(Event::Lock { call: self.call, node, record });
         Ok(record)
     }
 
+    #[inline(always)]
     fn free(&mut self, node: u16, record: Record) -> Result<(), Blocked> {
         let index = usize::from(node);
         self.nodes.records[index] = record;
-        self.nodes.holders[index] = None;
+        self.nodes.holders[index] = NOBODY;
         self.nodes.history.push(Event::Free { call: self.call, node, record });
         Ok(())
     }
@@ -160,8 +171,10 @@ impl Keeper for Access<'_> {
 
 impl Core {
     pub fn new(tree: Tree) -> Core {
-        let nodes = Nodes::new(tree.records.clone());
-        Core { opening: tree, procedures: Procedures::default(), calls: Vec::new(), unfinished: 0, reserved: 0, nodes }
+        let nodes =
+            Nodes { records: tree.records.clone(), holders: vec![NOBODY; tree.records.len()], history: Vec::new() };
+        let open = Vec::with_capacity(MAX_OPEN);
+        Core { opening: tree, procedures: Procedures::default(), calls: Vec::new(), open, reserved: 0, nodes }
     }
 
     pub fn add_procedure(&mut self, name: &str, procedure: Procedure) -> Result<(), Fault> {
@@ -169,59 +182,103 @@ impl Core {
     }
 
     pub fn admit(&mut self, name: &str, args: &[i64]) -> Result<u32, Fault> {
-        let number = self.procedures.number_of(name).ok_or(Fault::plain(601))?;
-        let procedure = self.procedures.get(number);
-        let start = Call::start(procedure, args).ok_or(Fault::plain(501))?;
+        let procedure = self.procedures.number_of(name).ok_or(Fault::plain(601))?;
+        let bounds = self.procedures.get(procedure).bounds;
+        let state = Call::start(self.procedures.get(procedure), args).ok_or(Fault::plain(501))?;
         if self.calls.len() == MAX_CALLS {
             return Err(Fault::plain(603));
         }
-        if self.unfinished == MAX_UNFINISHED {
+        if self.open.len() == MAX_OPEN {
             return Err(Fault::plain(604));
         }
-        let locks = (procedure.bounds.locks as usize).min(self.opening.shape.node_count());
-        let places = 2 * locks + 2;
+        let locks = (bounds.locks as usize).min(self.opening.shape.node_count());
+        let places = 2 * locks + 1;
         let history = &mut self.nodes.history;
-        if history.len() + self.reserved + places > MAX_EVENTS {
+        if history.len() + self.reserved + places + 1 > MAX_EVENTS {
             return Err(Fault::plain(605));
         }
-        let call = self.calls.len() as u32;
+        let number = self.calls.len() as u32;
         self.reserved += places;
-        history.reserve(self.reserved);
-        history.push(Event::Admit { call });
-        self.reserved -= 1;
-        self.unfinished += 1;
-        self.calls.push(Admitted {
-            procedure: number,
-            args: args.to_vec(),
-            progress: Progress::Running(Box::new(start)),
-            places: places - 1,
-        });
-        Ok(call)
+        history.reserve(self.reserved + 1);
+        history.push(Event::Admit { call: number });
+        let progress = Progress::Open(self.open.len() as u8);
+        self.open.push(OpenCall { number, places, state });
+        self.calls.push(Admitted { procedure, args: args.to_vec(), progress });
+        Ok(number)
     }
 
+    /// The place of a call among the open ones, where it isn't over.
+    fn place_of(&self, number: u32) -> Result<Option<usize>, Fault> {
+        match self.calls.get(number as usize).ok_or(Fault::plain(602))?.progress {
+            Progress::Open(place) => Ok(Some(usize::from(place))),
+            Progress::Over(_) => Ok(None),
+        }
+    }
+
+    #[inline]
     pub fn step(&mut self, number: u32) -> Result<Stepped, Fault> {
-        let call = self.calls.get_mut(number as usize).ok_or(Fault::plain(602))?;
-        let Progress::Running(state) = &mut call.progress else { return Ok(Stepped::Over) };
+        let Some(place) = self.place_of(number)? else { return Ok(Stepped::Over) };
+        let procedure = self.procedures.get(self.calls[number as usize].procedure);
         let mut access = Access { call: number, nodes: &mut self.nodes };
-        let procedure = self.procedures.get(call.procedure);
-        let action = match state.step(procedure, &self.opening.shape, &mut access) {
-            Ok(action) => action,
-            Err(Blocked { node, holder }) => return Ok(Stepped::Blocked { node, holder }),
-        };
+        match self.open[place].state.step(procedure, &self.opening.shape, &mut access) {
+            Ok(action) => Ok(self.settled(place, action)),
+            Err(Blocked { node, holder }) => Ok(Stepped::Blocked { node, holder }),
+        }
+    }
+
+    /// What an action of the call at that place changes in the books.
+    #[inline(always)]
+    fn settled(&mut self, place: usize, action: Action) -> Stepped {
         match action {
             Action::Lock { .. } | Action::Free { .. } => {
-                call.places -= 1;
+                self.open[place].places -= 1;
                 self.reserved -= 1;
             }
-            Action::End => {
-                call.progress = Progress::Over(state.take_reply());
-                self.nodes.history.push(Event::Done { call: number });
-                self.reserved -= call.places;
-                self.unfinished -= 1;
-            }
+            Action::End => self.end(place),
             _ => {}
         }
-        Ok(Stepped::Moved(action))
+        Stepped::Moved(action)
+    }
+
+    /// The call at that place is over.
+    fn end(&mut self, place: usize) {
+        let ended = self.open.swap_remove(place);
+        self.reserved -= ended.places;
+        self.nodes.history.push(Event::Done { call: ended.number });
+        self.calls[ended.number as usize].progress = Progress::Over(ended.state.reply().values().to_vec());
+        if let Some(moved) = self.open.get(place) {
+            self.calls[moved.number as usize].progress = Progress::Open(place as u8);
+        }
+    }
+
+    /// The state of a call that isn't over, and what it goes on with.
+    pub fn turn(&self, number: u32) -> Option<Turn> {
+        let place = self.place_of(number).ok()??;
+        let procedure = Arc::clone(self.procedures.get(self.calls[number as usize].procedure));
+        Some(Turn { procedure, shape: Arc::clone(&self.opening.shape), state: self.open[place].state })
+    }
+
+    /// Takes a call, which stands at `from`, to where it came by itself, and lets it do its lock, its free or its return. Where it
+    /// is blocked nothing changes, and else `to` is its state then.
+    pub fn lead(&mut self, number: u32, from: &Call, to: &mut Call) -> Result<Stepped, Fault> {
+        let place = self.place_of(number)?.ok_or(Fault::plain(607))?;
+        if self.open[place].state != *from {
+            return Err(Fault::plain(607));
+        }
+        let procedure = self.procedures.get(self.calls[number as usize].procedure);
+        let mut access = Access { call: number, nodes: &mut self.nodes };
+        match to.step(procedure, &self.opening.shape, &mut access) {
+            Ok(action) => {
+                self.open[place].state = *to;
+                Ok(self.settled(place, action))
+            }
+            Err(Blocked { node, holder }) => Ok(Stepped::Blocked { node, holder }),
+        }
+    }
+
+    /// Whether some call holds the node.
+    pub fn is_held(&self, node: u16) -> bool {
+        self.nodes.holders[usize::from(node)] != NOBODY
     }
 
     pub fn opening(&self) -> &Tree {
@@ -254,7 +311,7 @@ impl Core {
     /// The call's reply, once it is done.
     pub fn reply(&self, call: usize) -> Option<&[i64]> {
         match &self.calls[call].progress {
-            Progress::Running(_) => None,
+            Progress::Open(_) => None,
             Progress::Over(reply) => Some(reply),
         }
     }

@@ -1,69 +1,97 @@
-//! Calls on threads: what they share stands under one lock, and a call's own state with the thread that runs it.
+//! Calls on threads: a core and its order stand under one lock. What a call does by itself it does outside, and then the core
+//! looks whether it began where the call stands.
 
 use std::sync::{Condvar, Mutex, MutexGuard, PoisonError};
 use std::thread;
 
-use super::core::{Access, Event, Nodes};
-use super::machine::{Action, Call, Keeper};
-use super::tree::{Record, Tree};
+use super::core::{Core, Stepped, Turn};
+use super::fault::Fault;
+use super::machine::{Action, Call, Outside};
+use super::running::Running;
+use super::tree::Tree;
 use super::verifier::Procedure;
 
-/// A tree whose calls are all of one procedure.
+/// What is asked for: a procedure by its name, and the arguments.
+pub struct Request {
+    pub name: String,
+    pub args: Vec<i64>,
+}
+
+/// What a call came to.
+#[derive(Clone, Debug, PartialEq)]
+pub struct Receipt {
+    pub call: u32,
+    pub args: Vec<i64>,
+    pub reply: Vec<i64>,
+}
+
+/// What a session asked for and got.
+#[derive(Default)]
+pub struct Session {
+    done: Vec<(String, Receipt)>,
+}
+
 pub struct Engine {
-    tree: Tree,
-    procedure: Procedure,
     shared: Mutex<Shared>,
     freed: Condvar,
 }
 
 struct Shared {
-    nodes: Nodes,
-    /// By call.
-    replies: Vec<Vec<i64>>,
+    running: Running,
     /// How many requests of the batch were admitted.
     admitted: usize,
     /// How many threads wait for a node.
     waiting: usize,
 }
 
-/// What a call does by itself ends where it asks for a lock or a free.
-struct Outside;
-
-struct Asks;
-
-impl Keeper for Outside {
-    type Refusal = Asks;
-
-    fn lock(&mut self, _: u16) -> Result<Record, Asks> {
-        Err(Asks)
-    }
-
-    fn free(&mut self, _: u16, _: Record) -> Result<(), Asks> {
-        Err(Asks)
+impl Shared {
+    fn receipt(&self, call: u32) -> Receipt {
+        let core = self.running.core();
+        let (_, args) = core.request(call as usize);
+        let reply = core.reply(call as usize).unwrap_or(&[]).to_vec();
+        Receipt { call, args: args.to_vec(), reply }
     }
 }
 
+/// What a worker has run: the places of its requests in the batch, and their receipts.
+type Answers = Result<Vec<(usize, Receipt)>, Fault>;
+
 impl Engine {
-    pub fn new(tree: Tree, procedure: Procedure) -> Engine {
-        let nodes = Nodes::new(tree.records.clone());
-        let shared = Shared { nodes, replies: Vec::new(), admitted: 0, waiting: 0 };
-        Engine { tree, procedure, shared: Mutex::new(shared), freed: Condvar::new() }
+    pub fn new(tree: Tree) -> Engine {
+        let shared = Shared { running: Running::new(Core::new(tree)), admitted: 0, waiting: 0 };
+        Engine { shared: Mutex::new(shared), freed: Condvar::new() }
     }
 
-    /// Runs a call for each argument, on so many threads, of which this is one.
-    pub fn batch(&self, args: &[i64], workers: usize) {
+    pub fn register(&self, name: &str, procedure: Procedure) -> Result<(), Fault> {
+        self.lock().running.add_procedure(name, procedure)
+    }
+
+    /// Runs the requests on so many threads, of which this is one, and answers their receipts.
+    pub fn batch(&self, session: &mut Session, requests: &[Request], workers: usize) -> Result<Vec<Receipt>, Fault> {
         self.lock().admitted = 0;
-        thread::scope(|scope| {
-            for _ in 1..workers.min(args.len()) {
-                scope.spawn(|| self.work(args));
-            }
-            self.work(args);
-        });
+        let mut answers = thread::scope(|scope| {
+            let others: Vec<_> =
+                (1..workers.min(requests.len())).map(|_| scope.spawn(|| self.work(requests))).collect();
+            let own = self.work(requests);
+            others.into_iter().map(|other| other.join().expect("a worker ends")).fold(own, joined)
+        })?;
+        answers.sort_unstable_by_key(|(place, _)| *place);
+        let receipts: Vec<Receipt> = answers.into_iter().map(|(_, receipt)| receipt).collect();
+        let named = requests.iter().zip(&receipts).map(|(asked, got)| (asked.name.clone(), got.clone()));
+        session.done.extend(named);
+        Ok(receipts)
     }
 
-    /// The records that were left last.
-    pub fn into_records(self) -> Vec<Record> {
-        self.shared.into_inner().unwrap_or_else(PoisonError::into_inner).nodes.records
+    /// The core and its order, where the session's list is what they say.
+    pub fn close(self, session: &Session) -> Option<Running> {
+        let shared = self.shared.into_inner().unwrap_or_else(PoisonError::into_inner);
+        let core = shared.running.core();
+        let agrees = |(name, receipt): &(String, Receipt)| {
+            let (procedure, _) = core.request(receipt.call as usize);
+            core.procedures().name(procedure) == name && shared.receipt(receipt.call) == *receipt
+        };
+        let all_agree = session.done.len() == core.call_count() && session.done.iter().all(agrees);
+        all_agree.then_some(shared.running)
     }
 
     fn lock(&self) -> MutexGuard<'_, Shared> {
@@ -71,59 +99,65 @@ impl Engine {
     }
 
     /// Admits the next request and runs it, as long as there is one.
-    fn work(&self, args: &[i64]) {
+    fn work(&self, requests: &[Request]) -> Answers {
+        let mut answers = Vec::with_capacity(requests.len());
         let mut shared = self.lock();
-        while let Some(&arg) = args.get(shared.admitted) {
+        while let Some(request) = requests.get(shared.admitted) {
+            let place = shared.admitted;
             shared.admitted += 1;
-            let number = shared.replies.len() as u32;
-            shared.replies.push(Vec::new());
-            shared.nodes.history.push(Event::Admit { call: number });
+            let call = shared.running.admit(&request.name, &request.args)?;
+            let turn = shared.running.core().turn(call).ok_or(Fault::plain(602))?;
             drop(shared);
-            let call = Call::start(&self.procedure, &[arg]).expect("one argument");
-            shared = self.run(number, call);
+            shared = self.run(call, turn)?;
+            answers.push((place, shared.receipt(call)));
         }
+        Ok(answers)
     }
 
     /// Runs a call to its end, and has the lock then.
-    fn run(&self, number: u32, mut call: Call) -> MutexGuard<'_, Shared> {
-        while self.go_on_alone(&mut call) {
-            self.take_turn(number, &mut call);
+    fn run(&self, call: u32, turn: Turn) -> Result<MutexGuard<'_, Shared>, Fault> {
+        let Turn { procedure, shape, state: mut from } = turn;
+        let mut to = from;
+        loop {
+            // Whether it asks for a node or has come to its return: the core looks where it stands.
+            let _ = to.run(&procedure, &shape, &mut Outside);
+            if let Some(shared) = self.lead(call, &from, &mut to)? {
+                return Ok(shared);
+            }
+            from = to;
         }
+    }
+
+    /// Lets the call do what it stopped at, once nobody is in its way. Has the lock then, where the call is over.
+    fn lead(&self, call: u32, from: &Call, to: &mut Call) -> Result<Option<MutexGuard<'_, Shared>>, Fault> {
         let mut shared = self.lock();
-        shared.replies[number as usize] = call.take_reply();
-        shared.nodes.history.push(Event::Done { call: number });
+        loop {
+            match shared.running.lead(call, from, to)? {
+                Stepped::Blocked { node, .. } => shared = self.wait_for(shared, node),
+                Stepped::Moved(Action::End) | Stepped::Over => return Ok(Some(shared)),
+                Stepped::Moved(Action::Free { .. }) if shared.waiting > 0 => {
+                    drop(shared);
+                    self.freed.notify_all();
+                    return Ok(None);
+                }
+                Stepped::Moved(_) => return Ok(None),
+            }
+        }
+    }
+
+    /// Waits until nobody holds the node.
+    fn wait_for<'a>(&'a self, mut shared: MutexGuard<'a, Shared>, node: u16) -> MutexGuard<'a, Shared> {
+        while shared.running.core().is_held(node) {
+            shared.waiting += 1;
+            shared = self.freed.wait(shared).unwrap_or_else(PoisonError::into_inner);
+            shared.waiting -= 1;
+        }
         shared
     }
+}
 
-    /// Does what the call does by itself, without the lock: whether it asks for a lock or a free then.
-    fn go_on_alone(&self, call: &mut Call) -> bool {
-        loop {
-            match call.step(&self.procedure, &self.tree.shape, &mut Outside) {
-                Ok(Action::End) => return false,
-                Ok(_) => {}
-                Err(Asks) => return true,
-            }
-        }
-    }
-
-    /// Locks or frees, and waits before that until the node is free.
-    fn take_turn(&self, number: u32, call: &mut Call) {
-        let mut shared = self.lock();
-        let action = loop {
-            let mut access = Access { call: number, nodes: &mut shared.nodes };
-            match call.step(&self.procedure, &self.tree.shape, &mut access) {
-                Ok(action) => break action,
-                Err(_) => {
-                    shared.waiting += 1;
-                    shared = self.freed.wait(shared).unwrap_or_else(PoisonError::into_inner);
-                    shared.waiting -= 1;
-                }
-            }
-        };
-        let has_freed = matches!(action, Action::Free { .. }) && shared.waiting > 0;
-        drop(shared);
-        if has_freed {
-            self.freed.notify_all();
-        }
-    }
+fn joined(one: Answers, other: Answers) -> Answers {
+    let mut all = one?;
+    all.extend(other?);
+    Ok(all)
 }

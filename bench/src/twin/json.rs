@@ -253,51 +253,85 @@ impl Parser<'_> {
     }
 }
 
-pub fn write_integer(text: &mut String, number: impl Into<i64>) {
-    let number: i64 = number.into();
-    let mut digits = [0; 20];
-    let mut start = digits.len();
-    let mut rest = number.unsigned_abs();
-    loop {
-        start -= 1;
-        digits[start] = b'0' + (rest % 10) as u8;
-        rest /= 10;
-        if rest == 0 {
-            break;
-        }
-    }
-    if number < 0 {
-        text.push('-');
-    }
-    text.extend(digits[start..].iter().map(|&digit| char::from(digit)));
+// The writers append to bytes, so that what is all ASCII isn't looked at twice.
+
+/// A short text that is written from its end, so that no digit is moved.
+pub struct Tail {
+    bytes: [u8; 128],
+    start: usize,
 }
 
-pub fn write_string(text: &mut String, string: &str) {
-    text.push('"');
-    for character in string.chars() {
-        match character {
-            '"' => text.push_str("\\\""),
-            '\\' => text.push_str("\\\\"),
-            '\u{8}' => text.push_str("\\b"),
-            '\u{c}' => text.push_str("\\f"),
-            '\n' => text.push_str("\\n"),
-            '\r' => text.push_str("\\r"),
-            '\t' => text.push_str("\\t"),
-            '\0'..='\u{1f}' => text.push_str(&format!("\\u{:04x}", u32::from(character))),
-            _ => text.push(character),
+impl Tail {
+    pub fn new() -> Tail {
+        Tail { bytes: [0; 128], start: 128 }
+    }
+
+    pub fn push(&mut self, byte: u8) {
+        self.start -= 1;
+        self.bytes[self.start] = byte;
+    }
+
+    /// Puts the number before what is there.
+    pub fn integer(&mut self, number: i64) {
+        let mut rest = number.unsigned_abs();
+        loop {
+            self.push(b'0' + (rest % 10) as u8);
+            rest /= 10;
+            if rest == 0 {
+                break;
+            }
+        }
+        if number < 0 {
+            self.push(b'-');
         }
     }
-    text.push('"');
+
+    /// Puts a list of numbers before what is there.
+    pub fn integers(&mut self, numbers: &[i64]) {
+        self.push(b']');
+        for (place, &number) in numbers.iter().enumerate().rev() {
+            self.integer(number);
+            self.push(if place > 0 { b',' } else { b'[' });
+        }
+    }
+
+    pub fn text(&self) -> &[u8] {
+        &self.bytes[self.start..]
+    }
+}
+
+pub fn write_integer(text: &mut Vec<u8>, number: impl Into<i64>) {
+    let mut tail = Tail::new();
+    tail.integer(number.into());
+    text.extend_from_slice(tail.text());
+}
+
+pub fn write_string(text: &mut Vec<u8>, string: &str) {
+    text.push(b'"');
+    for &byte in string.as_bytes() {
+        match byte {
+            b'"' => text.extend_from_slice(b"\\\""),
+            b'\\' => text.extend_from_slice(b"\\\\"),
+            0x8 => text.extend_from_slice(b"\\b"),
+            0xc => text.extend_from_slice(b"\\f"),
+            b'\n' => text.extend_from_slice(b"\\n"),
+            b'\r' => text.extend_from_slice(b"\\r"),
+            b'\t' => text.extend_from_slice(b"\\t"),
+            0..=0x1f => text.extend_from_slice(format!("\\u{byte:04x}").as_bytes()),
+            _ => text.push(byte),
+        }
+    }
+    text.push(b'"');
 }
 
 /// A list of items with commas between, each written by the function.
-pub fn write_list<T>(text: &mut String, items: impl IntoIterator<Item = T>, mut write: impl FnMut(&mut String, T)) {
-    text.push('[');
+pub fn write_list<T>(text: &mut Vec<u8>, items: impl IntoIterator<Item = T>, mut write: impl FnMut(&mut Vec<u8>, T)) {
+    text.push(b'[');
     for (number, item) in items.into_iter().enumerate() {
         if number > 0 {
-            text.push(',');
+            text.push(b',');
         }
         write(text, item);
     }
-    text.push(']');
+    text.push(b']');
 }

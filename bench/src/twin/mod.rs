@@ -9,10 +9,14 @@ pub mod instruction;
 pub mod json;
 pub mod machine;
 pub mod order;
+pub mod running;
 pub mod trail;
 pub mod tree;
+pub mod turns;
 pub mod verifier;
 pub mod work;
 
+#[cfg(test)]
+mod defined;
 #[cfg(test)]
 mod tests;

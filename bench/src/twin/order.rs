@@ -1,104 +1,122 @@
-//! The serial order that a history gives.
+//! The serial order that a history gives, kept up to date event by event.
 
 use super::core::Event;
 use super::tree::Shape;
 
-/// What a call has done to a node so far.
-#[derive(Clone, Copy, Debug, PartialEq, Eq)]
-enum Mark {
-    Untouched,
-    Held,
-    Freed,
+/// Stands where there is no call.
+pub const NOBODY: u32 = u32::MAX;
+
+/// The order of a history that keeps the rules.
+pub struct Placer {
+    order: Vec<u32>,
+    /// one a call: whether it stands in the order
+    standing: Vec<bool>,
+    /// one a node: the call that holds it
+    holders: Vec<u32>,
+    /// one a node: the call that was the last to lock it while it held the parent
+    under: Vec<u32>,
 }
 
-/// What one call has locked and freed so far.
-#[derive(Clone, Debug, Default)]
-pub struct Part {
-    /// one a node, or empty while nothing was locked
-    marks: Vec<Mark>,
-    held: usize,
-}
-
-impl Part {
-    pub fn locked_any(&self) -> bool {
-        !self.marks.is_empty()
-    }
-
-    pub fn holds_any(&self) -> bool {
-        self.held > 0
-    }
-
-    pub fn has_locked(&self, node: u16) -> bool {
-        self.locked_any() && self.marks[usize::from(node)] != Mark::Untouched
-    }
-
-    pub fn holds(&self, node: u16) -> bool {
-        self.locked_any() && self.marks[usize::from(node)] == Mark::Held
-    }
-
-    pub fn lock(&mut self, node: u16, shape: &Shape) {
-        if self.marks.is_empty() {
-            self.marks = vec![Mark::Untouched; shape.node_count()];
+impl Placer {
+    pub fn new(nodes: usize, calls: usize) -> Placer {
+        Placer {
+            order: Vec::with_capacity(calls),
+            standing: vec![false; calls],
+            holders: vec![NOBODY; nodes],
+            under: vec![NOBODY; nodes],
         }
-        if !self.holds(node) {
-            self.held += 1;
+    }
+
+    pub fn stands(&self, call: u32) -> bool {
+        self.standing[call as usize]
+    }
+
+    /// The call that holds the node.
+    pub fn holder(&self, node: u16) -> u32 {
+        self.holders[usize::from(node)]
+    }
+
+    /// The call that was the last to lock the node while it held the parent.
+    pub fn under(&self, node: u16) -> u32 {
+        self.under[usize::from(node)]
+    }
+
+    /// The first in order of the calls that may still come to the node: the first that a climb to the root meets.
+    fn nearest_coming(&self, node: u16, shape: &Shape) -> u32 {
+        let mut node = node;
+        while node != 0 {
+            let above = shape.parent(node);
+            let holder = self.holder(above);
+            if holder != NOBODY && self.under(node) != holder {
+                return holder;
+            }
+            node = above;
         }
-        self.marks[usize::from(node)] = Mark::Held;
+        NOBODY
+    }
+
+    fn put(&mut self, place: usize, call: u32) {
+        self.order.insert(place, call);
+        self.standing[call as usize] = true;
+    }
+
+    /// Puts the call before the first that may still come to the node. That one came not long ago, so it is looked for from
+    /// the end.
+    fn put_at_node(&mut self, call: u32, node: u16, shape: &Shape) {
+        let place = match self.nearest_coming(node, shape) {
+            NOBODY => None,
+            first => self.order.iter().rposition(|&other| other == first),
+        };
+        self.put(place.unwrap_or(self.order.len()), call);
+    }
+
+    pub fn lock(&mut self, call: u32, node: u16, shape: &Shape) {
+        if self.stands(call) {
+            self.under[usize::from(node)] = call;
+        } else {
+            self.put_at_node(call, node, shape);
+        }
+        self.holders[usize::from(node)] = call;
     }
 
     pub fn free(&mut self, node: u16) {
-        if self.holds(node) {
-            self.held -= 1;
-            self.marks[usize::from(node)] = Mark::Freed;
+        self.holders[usize::from(node)] = NOBODY;
+    }
+
+    pub fn end(&mut self, call: u32) {
+        if !self.stands(call) {
+            self.put(self.order.len(), call);
         }
     }
 
-    /// Whether the call may still lock the node: it hasn't yet, and of the nodes above, it holds the nearest that it
-    /// locked.
-    pub fn may_come(&self, node: u16, shape: &Shape) -> bool {
-        if !self.holds_any() || self.has_locked(node) {
-            return false;
+    /// Takes the next event.
+    #[inline]
+    pub fn note(&mut self, event: &Event, shape: &Shape) {
+        match *event {
+            Event::Admit { .. } => {}
+            Event::Lock { call, node, .. } => self.lock(call, node, shape),
+            Event::Free { node, .. } => self.free(node),
+            Event::Done { call } => self.end(call),
         }
-        let mut node = node;
-        while node != 0 {
-            node = shape.parent(node);
-            match self.marks[usize::from(node)] {
-                Mark::Untouched => {}
-                mark => return mark == Mark::Held,
-            }
-        }
-        false
+    }
+
+    /// Makes room for one more call.
+    pub fn admit(&mut self) {
+        self.standing.push(false);
+    }
+
+    pub fn order(&self) -> &[u32] {
+        &self.order
+    }
+
+    pub fn into_order(self) -> Vec<u32> {
+        self.order
     }
 }
 
-/// At its first lock a call is put in just before the first call that may still come to that node, or at the end. A
-/// call that is done without a lock goes to the end.
-pub fn order_of(events: &[Event], shape: &Shape) -> Vec<u32> {
-    let mut parts: Vec<Part> = Vec::new();
-    let mut stands: Vec<bool> = Vec::new();
-    let mut order: Vec<u32> = Vec::new();
-    for event in events {
-        let call = event.call() as usize;
-        if call >= parts.len() {
-            parts.resize_with(call + 1, Part::default);
-            stands.resize(call + 1, false);
-        }
-        match *event {
-            Event::Lock { node, .. } => {
-                if !stands[call] {
-                    let place = order.iter().position(|&other| parts[other as usize].may_come(node, shape));
-                    order.insert(place.unwrap_or(order.len()), call as u32);
-                    stands[call] = true;
-                }
-                parts[call].lock(node, shape);
-            }
-            Event::Free { node, .. } => parts[call].free(node),
-            Event::Done { .. } if !stands[call] => {
-                order.push(call as u32);
-                stands[call] = true;
-            }
-            Event::Admit { .. } | Event::Done { .. } => {}
-        }
-    }
-    order
+/// The order of a history of so many calls that keeps the rules.
+pub fn order_of(events: &[Event], calls: usize, shape: &Shape) -> Vec<u32> {
+    let mut placer = Placer::new(shape.node_count(), calls);
+    events.iter().for_each(|event| placer.note(event, shape));
+    placer.into_order()
 }

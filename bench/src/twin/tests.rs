@@ -8,7 +8,7 @@ use super::machine::{run_alone, Action};
 use super::trail::{read_trail, trail_of, write_trail, Trail};
 use super::tree::Tree;
 use super::verifier::verify;
-use super::work;
+use super::{defined, order, turns as many, work};
 
 const WALK: &[u8] = include_bytes!("../../../examples/walk.tlp");
 const WALK_TEXT: &str = include_str!("../../../examples/walk.asm");
@@ -95,7 +95,8 @@ fn a_call_runs_alone() {
     let procedure = verify(decode(WALK).unwrap()).unwrap();
     let mut tree = Tree::new(vec![0, 0, 1], vec![[0; 4], [0; 4], [7, 0, 0, 0]]).unwrap();
     for (start, reply, steps) in [(0, vec![7], 15), (2, vec![7], 7), (3, vec![], 2), (-1, vec![], 2)] {
-        assert_eq!(run_alone(&procedure, &[start], &mut tree), Some((reply, steps)));
+        let (answer, done) = run_alone(&procedure, &[start], &mut tree).unwrap();
+        assert_eq!((answer.values(), done), (&reply[..], steps));
     }
     assert_eq!(run_alone(&procedure, &[], &mut tree), None);
 }
@@ -212,26 +213,47 @@ fn the_workloads_fit_together() {
     let code = sweep();
     let args: Vec<i64> = (0..100).collect();
     let (mut nanos, mut steps) = ([0; 2], [0; 2]);
-    let done = work::interleave(&code, &parents(), &args, &mut nanos, &mut steps);
+    let done = many::interleave(&code, &parents(), &args, &mut nanos, &mut steps);
     // Each call is admitted and done, and locks and frees four nodes.
     assert_eq!(done.count, 100 * 10);
     // A call alone does 27 steps and is then over.
     assert!(steps[0] > 64 * 28 && steps[1] > 36 * 28);
+    let admitted = many::admit(&code, &parents(), &args);
+    assert_eq!((admitted.count, admitted.sum), (100, done.sum));
 
-    let mut text = vec![0; 1 << 20];
-    let told = work::tell(&code, &parents(), &args, &mut text);
-    text.truncate(told.count as usize);
-    assert_eq!(work::read(&text, 1).count, done.count);
-    assert_eq!(work::audit(&text, 2).count, done.count);
-    assert_eq!(work::order(&text, 2).count, 100);
-    assert_eq!(work::write(&text, 1).count, told.count);
-    assert_eq!(work::parse(&text, 1).count, told.count);
-    let trail = std::str::from_utf8(&text).unwrap();
-    assert_eq!(write_trail(&read_trail(trail).unwrap()), trail);
+    let text = many::tell(&code, &parents(), &args).unwrap();
+    let trail = read_trail(&text).unwrap();
+    assert_eq!(write_trail(&trail), text);
+    assert_eq!(work::read(text.as_bytes(), 1).count, done.count);
+    assert_eq!(work::audit(&trail, 2).count, done.count);
+    assert_eq!(work::order(&trail, 2).count, 100);
+    assert_eq!(work::write(&trail, 1).count, text.len() as u64);
+    assert_eq!(many::keep(&code, &parents(), &args).count, done.count);
+    let kept = order::order_of(&trail.events, 100, &trail.tree.shape);
+    assert_eq!(kept, defined::order_of(&trail.events, &trail.tree.shape));
+}
 
-    let altered = trail.replacen("[\"f\",0,0,[0,", "[\"f\",0,0,[1,", 1);
-    assert_ne!(altered, trail);
-    assert_eq!(work::audit(altered.as_bytes(), 1).count, u64::MAX);
+/// The same of all events but the last shows in the sums.
+#[test]
+fn a_sum_depends_on_each_part_of_a_trail() {
+    let read = |text: &str| work::read(text.as_bytes(), 1).sum;
+    let text = write_trail(&trail_of(&turns()));
+    let parts = [
+        ("[\"f\",0,1,[11,0,0,0]]", "[\"f\",0,1,[11,0,0,1]]"),
+        ("[\"f\",0,1,[11,0,0,0]]", "[\"l\",0,1,[11,0,0,0]]"),
+        ("[\"look\",[1],[11]]", "[\"look\",[1],[12]]"),
+        ("[\"look\",[1],[11]]", "[\"look\",[0],[11]]"),
+        ("[\"look\",[1],[11]]", "[\"look\",[1],null]"),
+        ("\"end\":[[0,", "\"end\":[[1,"),
+        ("\"records\":[[0,", "\"records\":[[1,"),
+        ("\"parents\":[0,0,0]", "\"parents\":[0,0,1]"),
+        ("[\"look\",\"arity", "[\"lo_k\",\"arity"),
+    ];
+    for (old, new) in parts {
+        let altered = text.replace(old, new).replace("[\"look\",[1]", if old.contains("arity") { "[\"lo_k\",[1]" } else { "[\"look\",[1]" });
+        assert_ne!(altered, text, "{old}");
+        assert_ne!(read(&altered), read(&text), "{old}");
+    }
 }
 
 #[test]
@@ -241,17 +263,28 @@ fn single_workloads() {
     assert_eq!((walked.count, walked.sum), (3 * 54, work::run(WALK, 100, &[0], 3).sum));
     assert_eq!(work::check(WALK, 3).count, 3);
     assert_eq!(work::run(WALK, 0, &[0], 1).count, u64::MAX);
-    assert_eq!(work::interleave(WALK, &[1], &[0], &mut [], &mut []).count, u64::MAX);
-    assert_eq!(work::interleave(WALK, &[0], &[0; 65], &mut [], &mut []).count, 4 * 65);
+    assert_eq!(work::decode(WALK, 2).sum, work::assemble(WALK_TEXT, 2).sum);
+    // The first lock is the first instruction.
+    assert_eq!(work::local(WALK, &[0], 2).count, 0);
+    assert_eq!(many::interleave(WALK, &[1], &[0], &mut [], &mut []).count, u64::MAX);
+    assert_eq!(many::interleave(WALK, &[0], &[0; 65], &mut [], &mut []).count, 4 * 65);
+    assert_eq!(many::block(WALK, 7).count, 7);
+}
+
+#[test]
+fn calls_run_again_leave_what_they_left() {
+    let args = [0, 1, 2, 3, 0, 5, 1];
+    let (again, kept) = (many::replay(&sweep(), &parents(), &args), many::keep(&sweep(), &parents(), &args));
+    assert_eq!((again.count, kept.count), (7, 7 * 10));
 }
 
 #[test]
 fn calls_on_threads_leave_what_they_leave_alone() {
     let parents = [0, 0, 1];
-    let alone = work::engines(&sweep(), &parents, &[1; 512], 1, 2);
+    let alone = many::engines(&sweep(), &parents, &[1; 512], 1, 2);
     assert_eq!(alone.count, 1_024);
     for workers in 2..=16 {
-        let measured = work::engines(&sweep(), &parents, &[1; 512], workers, 2);
+        let measured = many::engines(&sweep(), &parents, &[1; 512], workers, 2);
         assert_eq!((measured.count, measured.sum), (alone.count, alone.sum));
     }
 }

@@ -2,7 +2,7 @@
 
 use super::assembler::{assemble, disassemble};
 use super::core::{Core, Event, Procedures, MAX_CALLS, MAX_EVENTS};
-use super::json::{self, write_integer, write_list, write_string, Value};
+use super::json::{self, write_integer, write_list, write_string, Tail, Value};
 use super::tree::{Record, Tree};
 use super::verifier::verify;
 
@@ -137,66 +137,70 @@ fn event_from(value: &Value) -> Option<Event> {
 
 /// The text of a trail.
 pub fn write_trail(trail: &Trail) -> String {
-    let mut text = String::new();
-    text.push_str("{\"calls\":");
+    let mut text = Vec::new();
+    text.extend_from_slice(b"{\"calls\":");
     write_list(&mut text, &trail.calls, |text, call| write_call(text, call, &trail.procedures));
-    text.push_str(",\"end\":");
+    text.extend_from_slice(b",\"end\":");
     write_list(&mut text, &trail.ends, write_record);
-    text.push_str(",\"events\":");
+    text.extend_from_slice(b",\"events\":");
     write_list(&mut text, &trail.events, write_event);
-    text.push_str(",\"procs\":");
+    text.extend_from_slice(b",\"procs\":");
     write_list(&mut text, trail.procedures.iter(), |text, (name, procedure)| {
-        text.push('[');
+        text.push(b'[');
         write_string(text, name);
-        text.push(',');
+        text.push(b',');
         write_string(text, &disassemble(&procedure.code));
-        text.push(']');
+        text.push(b']');
     });
-    text.push_str(",\"tree\":{\"parents\":");
+    text.extend_from_slice(b",\"tree\":{\"parents\":");
     write_list(&mut text, trail.tree.shape.parents(), |text, &parent| write_integer(text, parent));
-    text.push_str(",\"records\":");
+    text.extend_from_slice(b",\"records\":");
     write_list(&mut text, &trail.tree.records, write_record);
-    text.push_str("}}");
-    text
+    text.extend_from_slice(b"}}");
+    String::from_utf8(text).expect("names and texts are UTF-8")
 }
 
-fn write_record(text: &mut String, record: &Record) {
-    write_integers(text, record);
+fn write_record(text: &mut Vec<u8>, record: &Record) {
+    let mut tail = Tail::new();
+    tail.integers(record);
+    text.extend_from_slice(tail.text());
 }
 
-fn write_integers(text: &mut String, integers: &[i64]) {
+fn write_integers(text: &mut Vec<u8>, integers: &[i64]) {
     write_list(text, integers, |text, &integer| write_integer(text, integer));
 }
 
-fn write_call(text: &mut String, call: &ToldCall, procedures: &Procedures) {
-    text.push('[');
+fn write_call(text: &mut Vec<u8>, call: &ToldCall, procedures: &Procedures) {
+    text.push(b'[');
     write_string(text, procedures.name(call.procedure));
-    text.push(',');
+    text.push(b',');
     write_integers(text, &call.args);
-    text.push(',');
+    text.push(b',');
     match &call.reply {
         Some(reply) => write_integers(text, reply),
-        None => text.push_str("null"),
+        None => text.extend_from_slice(b"null"),
     }
-    text.push(']');
+    text.push(b']');
 }
 
-fn write_event(text: &mut String, event: &Event) {
+fn write_event(text: &mut Vec<u8>, event: &Event) {
     let (letter, touched) = match event {
-        Event::Admit { .. } => ('a', None),
-        Event::Lock { node, record, .. } => ('l', Some((*node, record))),
-        Event::Free { node, record, .. } => ('f', Some((*node, record))),
-        Event::Done { .. } => ('d', None),
+        Event::Admit { .. } => (b'a', None),
+        Event::Lock { node, record, .. } => (b'l', Some((*node, record))),
+        Event::Free { node, record, .. } => (b'f', Some((*node, record))),
+        Event::Done { .. } => (b'd', None),
     };
-    text.push_str("[\"");
-    text.push(letter);
-    text.push_str("\",");
-    write_integer(text, event.call());
+    let mut tail = Tail::new();
+    tail.push(b']');
     if let Some((node, record)) = touched {
-        text.push(',');
-        write_integer(text, node);
-        text.push(',');
-        write_record(text, record);
+        tail.integers(record);
+        tail.push(b',');
+        tail.integer(node.into());
+        tail.push(b',');
     }
-    text.push(']');
+    tail.integer(event.call().into());
+    for byte in [b',', b'"', letter, b'"', b'['] {
+        tail.push(byte);
+    }
+    text.extend_from_slice(tail.text());
 }

@@ -1,5 +1,7 @@
 //! Trees: a shape, and a record for each node.
 
+use std::sync::Arc;
+
 use super::fault::Fault;
 
 pub const FIELDS: usize = 4;
@@ -7,11 +9,13 @@ pub const MAX_NODES: usize = 4_096;
 
 pub type Record = [i64; FIELDS];
 
-/// The parents of a tree's nodes, and the list of each node's children.
+/// The parents of a tree's nodes, and each node's children, all in one array.
 #[derive(Clone, Debug, PartialEq)]
 pub struct Shape {
     parents: Vec<u16>,
-    children: Vec<Vec<u16>>,
+    /// one a node and one more: where its children begin
+    starts: Vec<u16>,
+    children: Vec<u16>,
 }
 
 impl Shape {
@@ -25,14 +29,11 @@ impl Shape {
         if parents[0] != 0 {
             return Err(Fault::plain(103));
         }
-        let mut children = vec![Vec::new(); parents.len()];
-        for (node, &parent) in parents.iter().enumerate().skip(1) {
-            if usize::from(parent) >= node {
-                return Err(Fault::at(104, node));
-            }
-            children[usize::from(parent)].push(node as u16);
+        if let Some((node, _)) = parents.iter().enumerate().skip(1).find(|&(node, &parent)| usize::from(parent) >= node) {
+            return Err(Fault::at(104, node));
         }
-        Ok(Shape { parents, children })
+        let (starts, children) = children_of(&parents);
+        Ok(Shape { parents, starts, children })
     }
 
     pub fn node_count(&self) -> usize {
@@ -49,20 +50,41 @@ impl Shape {
     }
 
     /// The children of a node, by rising number.
+    #[inline]
     pub fn children(&self, node: u16) -> &[u16] {
-        &self.children[usize::from(node)]
+        let node = usize::from(node);
+        &self.children[usize::from(self.starts[node])..usize::from(self.starts[node + 1])]
     }
+}
+
+/// Where each node's children begin, and the children, node by node.
+fn children_of(parents: &[u16]) -> (Vec<u16>, Vec<u16>) {
+    let mut starts = vec![0; parents.len() + 1];
+    for &parent in &parents[1..] {
+        starts[usize::from(parent) + 1] += 1;
+    }
+    for node in 0..parents.len() {
+        starts[node + 1] += starts[node];
+    }
+    let mut places = starts.clone();
+    let mut children = vec![0; parents.len() - 1];
+    for (node, &parent) in parents.iter().enumerate().skip(1) {
+        let place = &mut places[usize::from(parent)];
+        children[usize::from(*place)] = node as u16;
+        *place += 1;
+    }
+    (starts, children)
 }
 
 #[derive(Clone, Debug, PartialEq)]
 pub struct Tree {
-    pub shape: Shape,
+    pub shape: Arc<Shape>,
     pub records: Vec<Record>,
 }
 
 impl Tree {
     pub fn new(parents: Vec<u16>, records: Vec<Record>) -> Result<Tree, Fault> {
-        let shape = Shape::new(parents)?;
+        let shape = Arc::new(Shape::new(parents)?);
         if records.len() != shape.node_count() {
             return Err(Fault::plain(105));
         }

@@ -7,7 +7,7 @@ pub const MAX_DEPTH: usize = 4;
 
 const MAX_STEPS: u64 = 1_000_000;
 const MAX_LOCKS: u64 = 4_096;
-const MAX_EMITS: u64 = 32;
+pub const MAX_EMITS: usize = 32;
 
 /// The most that a call may do.
 #[derive(Clone, Copy, Debug, Default, PartialEq, Eq)]
@@ -194,7 +194,7 @@ fn bounds(instructions: &[Instruction]) -> Result<Bounds, Fault> {
     if bounds.locks > MAX_LOCKS {
         return Err(Fault::plain(306));
     }
-    if bounds.emits > MAX_EMITS {
+    if bounds.emits > MAX_EMITS as u64 {
         return Err(Fault::plain(307));
     }
     Ok(bounds)

@@ -4,5 +4,5 @@ pub mod WatchLemmas
 pub mod SeenEvents
 pub mod EndRecords
 pub mod ReplayLemmas
-pub mod CallFit
+pub mod LedCalls
 pub mod AuditAnswers

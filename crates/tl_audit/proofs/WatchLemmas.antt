@@ -1,25 +1,28 @@
 -- What the events so far came to.
-use Rattle.std.proofs.Common.{◌≡◌, ℕ, suc, ◌<◌, Bool, true, false, List, [], ◌∷◌, length, Some, None, sym, ap, ◌∙◌, subst, inl, inr, arith}
-use Rattle.std.specs.Prelude.{All, IsTrue, ◌↔◌, nat_eq, get_or, slice_set, Option, replicate}
-use Rattle.std.proofs.lemmas.Bool.{cases_Bool, cases_eq, both_ways, ne_eqb, eq-eqb}
-use Rattle.std.proofs.lemmas.List.{get_or-set_same, get_or-set_other, length-set, get_or-replicate, length-replicate}
+use Rattle.std.proofs.Common.{◌≡◌, ◌≢◌, ℕ, suc, not, ◌+◌, ◌<◌, ◌≤◌, ◌==◌, Bool, true, false, List, [], ◌∷◌, length, Some, sym, ap, ◌∙◌, subst, inl, inr, arith}
+use Rattle.std.specs.Prelude.{All, IsTrue, ◌↔◌, nat_eq, get_or, slice_set, Option}
+use Rattle.std.proofs.lemmas.Bool.{cases_Bool, cases_eq, cases_lt, both_ways, ne_eqb, eq-eqb}
+use Rattle.std.proofs.lemmas.List.{get_or-set_same, get_or-set_other}
 use Rattle.tl_tree.specs.Records.{Record, Records}
 use Rattle.tl_protocol.specs.declared.action.Action.{Action}
 use Rattle.tl_protocol.specs.declared.action.Action.TheVariants as A
 use Rattle.tl_protocol.specs.declared.event.Event.{Event}
 use Rattle.tl_protocol.specs.declared.event.Event.TheVariants.{Admit, Lock, Free, Done}
-use Rattle.tl_protocol.specs.Actions.{locked, held, locked_any, EachPermitted, Permitted}
+use Rattle.tl_protocol.specs.Actions.{locked, held, locked_any, lock_count, free_count, EachPermitted, Permitted}
 use Rattle.tl_protocol.specs.History.{caller, part_of, is_done, Apart, IsLegalHistory}
 use Rattle.tl_protocol.specs.Holders.{holder_of}
 use Rattle.tl_protocol.proofs.MayComeLemmas.{held-locked}
 use Rattle.tl_protocol.proofs.Holders.{held-holder, holder-held}
-use Rattle.tl_protocol.proofs.PartLemmas.{part_of-other, locked-lock, locked-free, locked-done, locked_any-free}
+use Rattle.tl_protocol.proofs.PartLemmas.{part_of-other, part_of-lock, locked-lock, locked-free, locked-done}
 use Rattle.tl_protocol.proofs.Permitted.{has_ended-part_of}
 use Rattle.tl_protocol.specs.Nodes.{IsOfNodes}
-use Rattle.tl_order.specs.Parts.{AreOfNodes, Show, marks_of, no_marks}
-use Rattle.tl_order.specs.Part.{Marks, IsPart, node_count}
-use Rattle.tl_audit.specs.declared.watch.Watch.{Watch}
-use Rattle.tl_audit.specs.Watching.{Shows}
+use Rattle.tl_protocol.specs.Order.{stands, placed}
+use Rattle.tl_protocol.proofs.Counts.{frees_within, counts-none_held, locks_within}
+use Rattle.tl_protocol.proofs.PlacedAgrees.{placed-agrees}
+use Rattle.tl_tree.specs.Shape.{IsTree, parent}
+use Rattle.tl_protocol.specs.Placing.{under_of}
+use Rattle.tl_protocol.proofs.PlacingLemmas.{is_call-some, some-is_call, option_eq-call, lock_permitted, permitted_lock}
+use Rattle.std.specs.Option.{option_eq}
 use Rattle.tl_trail.specs.Clean.{KeepsRules, IsApart, IsRight, AreRight}
 
 -- ---- right events are a legal history
@@ -113,110 +116,111 @@ locked_inside n (Free x d left ∷ past) all c y l =
 locked_inside n (Done d ∷ past) all c y l =
     locked_inside n past (all_later (IsOfNodes n) (Done d) past all) c y (sym (locked-done d past c y) ∙ l)
 
--- where none of them is held, none at all is
-pub none_held : (n : ℕ) (past : List Event) → All (IsOfNodes n) past → (c : ℕ) → ((y : ℕ) → y < n → held (part_of c past) y ≡ false) → (y : ℕ) → held (part_of c past) y ≡ false
-none_held n past all c none y = elim (cases_Bool (held (part_of c past) y)) [
-  | inl yes' ↦ none y (locked_inside n past all c y (held-locked (part_of c past) y yes'))
-  | inr no' ↦ no'
+-- ---- what is kept, after one more event
+
+-- no call holds more nodes than there are
+pub holding_few : (parents : List ℕ) (opening : Records) (past : List Event) → AreRight parents opening past → All (IsOfNodes (length parents)) past → (c : ℕ) → lock_count (part_of c past) ≤ length parents
+holding_few parents opening past right inside c =
+    locks_within parents (length parents) (part_of c past) ((right_legal parents opening past right).obeys c) (λ x l. locked_inside (length parents) past inside c x l)
+
+abbrev Counted : ℕ → List ℕ → List Event → Type 0
+Counted calls holding past = (k : ℕ) → k < calls → lock_count (part_of k past) ≡ free_count (part_of k past) + get_or holding k 0
+
+module _ (calls : ℕ) (past : List Event) (c x : ℕ) (r : Record) (holding : List ℕ) (inside : c < length holding) (h : Counted calls holding past) (n : ℕ) where
+  pub holding-lock : n ≡ get_or holding c 0 + 1 → Counted calls (slice_set holding c n) (Lock x c r ∷ past)
+  holding-lock is k lt = elim (cases_eq c k) [
+    | inl same ↦
+        let q = eq-eqb c k same in
+        let before = h k lt in
+        let now : get_or (slice_set holding c n) k 0 ≡ n = subst (λ i. get_or (slice_set holding c n) i 0 ≡ n) same (get_or-set_same holding c n 0 inside) in
+        let at : get_or holding c 0 ≡ get_or holding k 0 = ap (λ i. get_or holding i 0) same in
+        rw q (omega (arith, before, now, at, is))
+    | inr other ↦
+        let q = ne_eqb c k other in
+        let now = get_or-set_other holding c k n 0 (λ e. other (sym e)) in
+        let before = h k lt in
+        rw q (omega (arith, before, now))
+  ]
+
+  pub holding-free : n + 1 ≡ get_or holding c 0 → Counted calls (slice_set holding c n) (Free x c r ∷ past)
+  holding-free is k lt = elim (cases_eq c k) [
+    | inl same ↦
+        let q = eq-eqb c k same in
+        let before = h k lt in
+        let now : get_or (slice_set holding c n) k 0 ≡ n = subst (λ i. get_or (slice_set holding c n) i 0 ≡ n) same (get_or-set_same holding c n 0 inside) in
+        let at : get_or holding c 0 ≡ get_or holding k 0 = ap (λ i. get_or holding i 0) same in
+        rw q (omega (arith, before, now, at, is))
+    | inr other ↦
+        let q = ne_eqb c k other in
+        let now = get_or-set_other holding c k n 0 (λ e. other (sym e)) in
+        let before = h k lt in
+        rw q (omega (arith, before, now))
+  ]
+
+pub holding-done : (calls : ℕ) (past : List Event) (c : ℕ) (holding : List ℕ) → Counted calls holding past → Counted calls holding (Done c ∷ past)
+holding-done calls past c holding h k lt = elim (cases_Bool (c == k)) [ inl q ↦ rw q (h k lt) | inr q ↦ rw q (h k lt) ]
+
+pub done-done : (calls : ℕ) (past : List Event) (c : ℕ) (done : List Bool) → c < length done → ((k : ℕ) → k < calls → get_or done k false ≡ is_done k past)
+    → (k : ℕ) → k < calls → get_or (slice_set done c true) k false ≡ is_done k (Done c ∷ past)
+done-done calls past c done inside h k lt = elim (cases_eq c k) [
+  | inl same ↦
+      let q = eq-eqb c k same in
+      rw q (subst (λ i. get_or (slice_set done c true) i false ≡ true) same (get_or-set_same done c true false inside))
+  | inr other ↦
+      let q = ne_eqb c k other in
+      rw q (get_or-set_other done c k true false (λ e. other (sym e)) ∙ h k lt)
 ]
 
--- ---- tables after one more event
+-- a call that locks a node has locked fewer than there are
+pub lock_room : (parents : List ℕ) → IsTree parents → (opening : Records) (past : List Event) (c x : ℕ) (found : Record) → AreRight parents opening (Lock x c found ∷ past)
+    → All (IsOfNodes (length parents)) (Lock x c found ∷ past) → lock_count (part_of c past) + 1 ≤ 4096
+lock_room parents tree opening past c x found right inside =
+    let most : lock_count (part_of c (Lock x c found ∷ past)) ≤ length parents = holding_few parents opening (Lock x c found ∷ past) right inside c in
+    let few : length parents ≤ 4096 = tree.few in
+    let one : lock_count (part_of c (Lock x c found ∷ past)) ≡ lock_count (part_of c past) + 1 = ap lock_count (part_of-lock c x found past) in
+    omega (arith, most, few, one)
 
-module _ (calls : ℕ) (past : List Event) (c x : ℕ) (r : Record) where
-  pub begun-lock : (begun : List Bool) → c < length begun → ((k : ℕ) → k < calls → get_or begun k false ≡ locked_any (part_of k past))
-      → (k : ℕ) → k < calls → get_or (slice_set begun c true) k false ≡ locked_any (part_of k (Lock x c r ∷ past))
-  begun-lock begun inside h k lt = elim (cases_eq c k) [
-    | inl same ↦
-        let q = eq-eqb c k same in
-        rw q (subst (λ i. get_or (slice_set begun c true) i false ≡ true) same (get_or-set_same begun c true false inside))
-    | inr other ↦
-        let q = ne_eqb c k other in
-        rw q (get_or-set_other begun c k true false (λ e. other (sym e)) ∙ h k lt)
-  ]
+-- a call that frees a node holds one
+pub holds_one : (parents : List ℕ) (opening : Records) (past : List Event) (c x : ℕ) (left : Record) → AreRight parents opening (Free x c left ∷ past) → free_count (part_of c past) < lock_count (part_of c past)
+holds_one parents opening past c x left right =
+    let each = (right_legal parents opening past right.1).obeys c in
+    let few = frees_within parents (part_of c past) each in
+    elim (cases_lt (free_count (part_of c past)) (lock_count (part_of c past))) [
+      | inl less ↦ less
+      | inr not_so ↦ absurd (both_ways (held (part_of c past) x) (counts-none_held parents (part_of c past) each (omega (arith, few, not_so)) x) right.0.rules.permitted)
+    ]
 
-  pub begun-free : (begun : List Bool) → ((k : ℕ) → k < calls → get_or begun k false ≡ locked_any (part_of k past))
-      → (k : ℕ) → k < calls → get_or begun k false ≡ locked_any (part_of k (Free x c r ∷ past))
-  begun-free begun h k lt = h k lt ∙ sym (locked_any-free c x r past k)
+-- who stands in the order and is open has locked a node
+pub stands_begun : (parents : List ℕ) → IsTree parents → (past : List Event) → IsLegalHistory parents past → (c : ℕ) → is_done c past ≡ false → stands c (placed parents past) ≡ locked_any (part_of c past)
+stands_begun parents tree past legal c open' =
+    let m = (placed-agrees parents tree past legal).members c in
+    grind (arith, m, open')
 
-  pub parts-lock : (parts : List Marks) (new : Marks) → c < length parts → Show parts past
-      → IsPart new (A.Lock x r ∷ part_of c past) → Show (slice_set parts c new) (Lock x c r ∷ past)
-  parts-lock parts new inside h own k lt = elim (cases_eq c k) [
-    | inl same ↦
-        let q = eq-eqb c k same in
-        rw q (subst (λ i. IsPart (marks_of (slice_set parts c new) i) (A.Lock x r ∷ part_of i past)) same
-        (subst (λ m. IsPart m (A.Lock x r ∷ part_of c past)) (sym (get_or-set_same parts c new no_marks inside)) own))
-    | inr other ↦
-        let q = ne_eqb c k other in
-        let size = length-set parts c new in
-        rw q (subst (λ m. IsPart m (part_of k past)) (sym (get_or-set_other parts c k new no_marks (λ e. other (sym e)))) (h k (omega arith)))
-  ]
+-- ---- whether it is this call
 
-  pub parts-free : (parts : List Marks) (new : Marks) → c < length parts → Show parts past
-      → IsPart new (A.Free x r ∷ part_of c past) → Show (slice_set parts c new) (Free x c r ∷ past)
-  parts-free parts new inside h own k lt = elim (cases_eq c k) [
-    | inl same ↦
-        let q = eq-eqb c k same in
-        rw q (subst (λ i. IsPart (marks_of (slice_set parts c new) i) (A.Free x r ∷ part_of i past)) same
-        (subst (λ m. IsPart m (A.Free x r ∷ part_of c past)) (sym (get_or-set_same parts c new no_marks inside)) own))
-    | inr other ↦
-        let q = ne_eqb c k other in
-        let size = length-set parts c new in
-        rw q (subst (λ m. IsPart m (part_of k past)) (sym (get_or-set_other parts c k new no_marks (λ e. other (sym e)))) (h k (omega arith)))
-  ]
+pub is_this : (b : Bool) (o : Option ℕ) (c : ℕ) → b ≡ option_eq nat_eq o (Some c) → (IsTrue b → o ≡ Some c) × (o ≡ Some c → IsTrue b)
+is_this b o c is = (
+  λ t. is_call-some o c (sym (option_eq-call o c) ∙ sym is ∙ t),
+  λ some. is ∙ option_eq-call o c ∙ some-is_call o c some,
+)
 
-  pub nodes-set : (n : ℕ) (parts : List Marks) (new : Marks) → c < length parts → AreOfNodes n parts → node_count new ≡ n → AreOfNodes n (slice_set parts c new)
-  nodes-set n parts new inside h size k lt = elim (cases_eq c k) [
-    | inl same ↦ subst (λ i. node_count (marks_of (slice_set parts c new) i) ≡ n) same (ap node_count (get_or-set_same parts c new no_marks inside) ∙ size)
-    | inr other ↦
-        let long = length-set parts c new in
-        ap node_count (get_or-set_other parts c k new no_marks (λ e. other (sym e))) ∙ h k (omega arith)
-  ]
+pub is_other : (b : Bool) (o : Option ℕ) (c : ℕ) → b ≡ not (option_eq nat_eq o (Some c)) → (b ≡ true → o ≢ Some c) × (b ≡ false → o ≡ Some c)
+is_other b o c is = (
+  λ t some. let same = option_eq-call o c in let call = some-is_call o c some in absurd (grind (arith, is, t, same, call)),
+  λ f. let same = option_eq-call o c in is_call-some o c (grind (arith, is, f, same)),
+)
 
-  pub holders-lock : (n : ℕ) (holders : List (Option ℕ)) → x < length holders → ((y : ℕ) → y < n → get_or holders y None ≡ holder_of past y)
-      → (y : ℕ) → y < n → get_or (slice_set holders x (Some c)) y None ≡ holder_of (Lock x c r ∷ past) y
-  holders-lock n holders inside h y lt = elim (cases_eq x y) [
-    | inl same ↦
-        let q = eq-eqb x y same in
-        rw q (subst (λ i. get_or (slice_set holders x (Some c)) i None ≡ Some c) same (get_or-set_same holders x (Some c) None inside))
-    | inr other ↦
-        let q = ne_eqb x y other in
-        rw q (get_or-set_other holders x y (Some c) None (λ e. other (sym e)) ∙ h y lt)
-  ]
+-- ---- whether a call that has locked a node may lock this one
 
-  pub holders-free : (n : ℕ) (holders : List (Option ℕ)) → x < length holders → ((y : ℕ) → y < n → get_or holders y None ≡ holder_of past y)
-      → (y : ℕ) → y < n → get_or (slice_set holders x None) y None ≡ holder_of (Free x c r ∷ past) y
-  holders-free n holders inside h y lt = elim (cases_eq x y) [
-    | inl same ↦
-        let q = eq-eqb x y same in
-        rw q (subst (λ i. get_or (slice_set holders x None) i None ≡ None) same (get_or-set_same holders x None None inside))
-    | inr other ↦
-        let q = ne_eqb x y other in
-        rw q (get_or-set_other holders x y None None (λ e. other (sym e)) ∙ h y lt)
-  ]
+module _ (parents : List ℕ) (tree : IsTree parents) (past : List Event) (legal : IsLegalHistory parents past) (c x : ℕ) (found : Record) where
+  pub first_lock : locked_any (part_of c past) ≡ false → Permitted parents (part_of c past) (A.Lock x found)
+  first_lock none = permitted_lock parents tree past legal c x found (λ some. absurd (both_ways (locked_any (part_of c past)) none some))
 
--- tables as they are before any event
-pub nothing_seen : (parents : List ℕ) (opening : Records) (calls : ℕ) (w : Watch) → length opening ≡ length parents → w.admitted ≡ 0
-    → w.done.items ≡ replicate calls false → w.begun.items ≡ replicate calls false → length w.parts.items ≡ calls → AreOfNodes (length parents) w.parts.items
-    → Show w.parts.items [] → w.holders.items ≡ replicate (length parents) None → w.records.items ≡ opening → Shows parents opening calls w []
-nothing_seen parents opening calls w size admitted done begun parts nodes none holders records =
-    let done_long : length w.done.items ≡ calls = ap length done ∙ length-replicate calls false in
-    let begun_long : length w.begun.items ≡ calls = ap length begun ∙ length-replicate calls false in
-    let holders_long : length w.holders.items ≡ length parents = ap length holders ∙ length-replicate (length parents) None in
-    let records_long : length w.records.items ≡ length opening = ap length records in
-    record {
-      even = record {
-        begun = omega arith;
-        parts = omega arith;
-        records = omega arith;
-        nodes = subst (λ n. AreOfNodes n w.parts.items) (sym holders_long) nodes;
-      };
-      calls_are = done_long;
-      nodes_are = holders_long;
-      inside = λ k d h. absurd (omega arith);
-      admitted = admitted;
-      done = λ c lt. ap (λ l. get_or l c false) done ∙ get_or-replicate calls c false false lt;
-      begun = λ c lt. ap (λ l. get_or l c false) begun ∙ get_or-replicate calls c false false lt;
-      parts = none;
-      holds = λ x lt. ap (λ l. get_or l x None) holders ∙ get_or-replicate (length parents) x None None lt;
-      latest = records;
-    }
+  pub not_under : locked_any (part_of c past) ≡ true → ((0 < x) → holder_of past (parent parents x) ≡ Some c → ⊥) → ¬ Permitted parents (part_of c past) (A.Lock x found)
+  not_under begun other p = let h = lock_permitted parents tree past legal c x found p begun in other h.0 h.1
+
+  pub under_again : locked_any (part_of c past) ≡ true → under_of parents past x ≡ Some c → ¬ Permitted parents (part_of c past) (A.Lock x found)
+  under_again begun again p = let h = lock_permitted parents tree past legal c x found p begun in h.2 again
+
+  pub under_first : 0 < x → holder_of past (parent parents x) ≡ Some c → under_of parents past x ≢ Some c → Permitted parents (part_of c past) (A.Lock x found)
+  under_first pos holds other = permitted_lock parents tree past legal c x found (λ some. (pos, holds, other))

@@ -1,12 +1,15 @@
--- A call's locks and frees, and trees that have what it found.
-use Rattle.std.specs.Prelude.{◌≡◌, ℕ, ◌<◌, false, List, [], ◌∷◌, length, get_or, map, reverse, Vec}
-use Rattle.std.specs.declared.alloc.Global.{Global}
+-- A call's run alone, led along its own locks and frees.
+use Rattle.std.specs.Prelude.{◌≡◌, ◌<◌, false, List, [], ◌∷◌, length}
 use Rattle.tl_tree.specs.Records.{Records, record_at}
 use Rattle.tl_protocol.specs.declared.action.Action.{Action}
-use Rattle.tl_protocol.specs.declared.action.Action.TheVariants.{Lock, Free, Plain}
-use Rattle.tl_protocol.specs.declared.event.Event.{Event}
-use Rattle.tl_protocol.specs.Actions.{freed, locks_and_frees}
-use Rattle.tl_protocol.specs.History.{part_of}
+use Rattle.tl_protocol.specs.declared.action.Action.TheVariants.{Lock}
+use Rattle.tl_protocol.specs.Actions.{freed, emitted, has_ended, locks_and_frees}
+use Rattle.tl_protocol.specs.Alone.{EndsOnce}
+use Rattle.tl_machine.specs.Runs.{Run, actions}
+use Rattle.tl_machine.specs.Call.{reply_so_far}
+use Rattle.tl_machine.specs.BetweenSteps.{run_left}
+use Rattle.tl_machine.specs.Along.{after_done, with_left}
+use Rattle.tl_machine.specs.Turns.{TurnValue}
 
 -- The tree has the record that each lock found, and no node is locked once it was freed; the latest action comes first.
 abbrev pub AreFit : Records → List Action → Type 0
@@ -14,20 +17,13 @@ AreFit t [] = Unit {0}
 AreFit t (Lock x found ∷ done) = (x < length t) × (found ≡ record_at t x) × (freed done x ≡ false) × AreFit t done
 AreFit t (_ ∷ done) = AreFit t done
 
--- the lock or the free that an event is; any other event stands for nothing here
-abbrev pub action_of : Event → Action
-action_of (Event.Admit c) = Plain
-action_of (Event.Lock x c found) = Lock x found
-action_of (Event.Free x c left) = Free x left
-action_of (Event.Done c) = Plain
-
--- the actions of the events at these places
-abbrev pub actions_at : List Event → List ℕ → List Action
-actions_at events places = map (λ k. action_of (get_or events k (Event.Admit 0))) places
-
-abbrev pub lists_of : List Event → List (Vec ℕ Global) → List (List Action)
-lists_of events vectors = map (λ v. actions_at events v.items) vectors
-
--- the lists hold each call's locks and frees, the earliest first
-abbrev pub AreParts : List (List Action) → List Event → Type 0
-AreParts lists past = (c : ℕ) → c < length lists → reverse (get_or lists c []) ≡ locks_and_frees (part_of c past)
+-- The turn is where some actions lead from the start of the whole run on this tree, and these are their locks and frees,
+-- the latest first. The run ends.
+pub record IsOn (t : Records) (whole : Run) (so_far : List Action) (turn : TurnValue) : Type 0 where
+  pub size : length t ≡ length turn.parents
+  pub ends : EndsOnce (actions whole)
+  pub done : List Action
+  pub runs : whole ≡ after_done done (run_left turn.code.instrs turn.parents turn.call (with_left done t))
+  pub reply : reply_so_far turn.call ≡ emitted done
+  pub told : locks_and_frees done ≡ so_far
+  pub goes_on : has_ended done ≡ false

@@ -3,3 +3,4 @@ pub mod Findings
 pub mod Verdict
 pub mod Watching
 pub mod Genuine
+pub mod Replaying

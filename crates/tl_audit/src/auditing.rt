@@ -1,28 +1,30 @@
 // Whether a trail is clean.
 
-ghost use Rattle.std.specs.Prelude.{◌≡◌, ◌≢◌, ℕ, ◌<◌, [], length, map, Some, IfOk, IfErr, OnOk, MatchResult};
+ghost use Rattle.std.specs.Prelude.{◌≡◌, ◌≢◌, ℕ, ◌<◌, [], length, IfOk, IfErr, OnOk};
 ghost use Rattle.tl_protocol.specs.History.{records_now};
 ghost use Rattle.tl_protocol.specs.Order.{placed};
+ghost use Rattle.tl_trail.specs.Trails.{IsTrail};
 ghost use Rattle.tl_trail.specs.Clean.{Clean, AreRight, AreDone, EndsSo};
 ghost use Rattle.tl_audit.specs.Findings.{AreSo, IsFirstFault, IsFirstEventFault};
+ghost use Rattle.tl_audit.specs.Replaying.{IsFollowed};
 ghost use Rattle.tl_audit.specs.Verdict.{IsVerdict};
 ghost use Rattle.tl_audit.specs.Watching.{Shows};
 
 use crate::fault::AuditFault;
-use crate::genuine::check_calls;
 use crate::progress::{EVENTS_BETWEEN, Progress, Silent};
+use crate::replays::Replays;
 use crate::watch::Watch;
 use std::alloc::Global;
-use tl_history::MAX_CALLS;
-use tl_order::{KeptOrder, Order};
+use tl_order::Order;
 use tl_trail::Trail;
 use tl_tree::Record;
 
 /// Whether a trail is clean: the order that its events give, or the first thing that is wrong.
 ///
-/// The events are looked at first, one after another: 711, 712, 713 at the first with which something is wrong; then 715 at
-/// the least call without an end; then call by call 714 and 717; then 716 at the least node. The work grows with the
-/// events, and each call is run alone once. 790 where memory is refused.
+/// The answer is 711, 712 or 713 at the first event with which something is wrong; then 715 at the least call without an end;
+/// then call by call 714 and 717; then 716 at the least node. One pass along the events looks for all of that: each call
+/// that is open is run alone along its own events, and the least that differs is remembered until its turn comes. The work
+/// grows with the events and with the calls' steps. 790 where memory is refused.
 pub fn audit(alloc: Global, trail: &Trail) -> Result<Order, AuditFault>
     ensures { IsVerdict trail.now result }
 {
@@ -48,49 +50,29 @@ fn judge<P: Progress>(alloc: Global, trail: &Trail, progress: &mut P) -> Result<
     ensures order { IfOk result (λ o. o.calls ≡ placed trail.now.parents trail.now.past) }
     ensures fault { IfErr result (λ f. f ≢ AuditFault.Memory → IsFirstFault trail.now f) }
 {
-    let watch = check_events(alloc, trail, progress)?;
-    check_done(&watch, trail)?;
-    check_calls(alloc, trail, progress)?;
-    check_ends(trail, &watch.into_records())?;
-    placed_order(alloc, trail)
-}
-
-// The order that the events give, with which nothing is wrong.
-fn placed_order(alloc: Global, trail: &Trail) -> Result<Order, AuditFault>
-    requires { AreRight trail.now.parents trail.now.opening trail.now.past }
-    ensures order { IfOk result (λ o. o.calls ≡ placed trail.now.parents trail.now.past) }
-    ensures fault { IfErr result (λ f. f ≡ AuditFault.Memory) }
-{
-    let events = trail.history().events();
-    let kept = KeptOrder::of_events(alloc, trail.opening().shape(), events, MAX_CALLS)?;
-    Ok(kept.into_order())
-}
-
-// Whether each event is right: 711, 712, 713 at the first that isn't. What the events came to is kept.
-fn check_events<P: Progress>(
-    alloc: Global,
-    trail: &Trail,
-    progress: &mut P,
-) -> Result<Watch, AuditFault>
-    ensures shows { IfOk result (λ w. Shows trail.now.parents trail.now.opening (length trail.now.calls) w trail.now.past) }
-    ensures right { IfOk result (λ _. AreRight trail.now.parents trail.now.opening trail.now.past) }
-    ensures fault { IfErr result (λ f. f ≢ AuditFault.Memory → IsFirstFault trail.now f) }
-{
     let mut watch = Watch::new(alloc, trail.calls(), trail.opening())?;
-    see_all(&mut watch, trail, progress)?;
-    Ok(watch)
+    let mut replays = Replays::new(alloc, trail.calls())?;
+    see_all(alloc, &mut watch, &mut replays, trail, progress)?;
+    check_done(&watch, trail)?;
+    replays.check(trail)?;
+    check_ends(trail, watch.records())?;
+    Ok(watch.into_order())
 }
 
-// Watches all events, where nothing is wrong with one.
+// Goes along all events, where nothing is wrong with one.
 fn see_all<P: Progress>(
+    alloc: Global,
     watch: &mut Watch,
+    replays: &mut Replays,
     trail: &Trail,
     progress: &mut P,
 ) -> Result<(), AuditFault>
-    requires { Shows trail.now.parents trail.now.opening (length trail.now.calls) watch.old [] }
+    requires shows { Shows trail.now.parents trail.now.opening (length trail.now.calls) watch.old [] }
+    requires followed { IsFollowed trail.now [] replays.old }
     ensures shows { OnOk result (Shows trail.now.parents trail.now.opening (length trail.now.calls) watch.new trail.now.past) }
+    ensures followed { OnOk result (IsFollowed trail.now trail.now.past replays.new) }
     ensures right { OnOk result (AreRight trail.now.parents trail.now.opening trail.now.past) }
-    ensures fault { IfErr result (λ f. IsFirstEventFault trail.now f) }
+    ensures fault { IfErr result (λ f. f ≢ AuditFault.Memory → IsFirstEventFault trail.now f) }
 {
     let shape = trail.opening().shape();
     let events = trail.history().events();
@@ -99,7 +81,8 @@ fn see_all<P: Progress>(
             progress.seen(number, events.len());
         }
         watch.judge(shape, event, number as u32)?;
-        watch.note(event);
+        replays.follow(alloc, trail, event)?;
+        watch.note(shape, event);
     }
     Ok(())
 }

@@ -9,10 +9,11 @@ mod fault;
 mod genuine;
 pub mod laws;
 mod progress;
+mod replays;
 mod watch;
 
 pub use auditing::{audit, audit_with};
 pub use fault::AuditFault;
-pub use progress::{CALLS_BETWEEN, EVENTS_BETWEEN, Progress, Silent};
+pub use progress::{EVENTS_BETWEEN, Progress, Silent};
 pub use tl_record::trail_of;
 pub use tl_trail::{Trail, TrailFault, read_trail, write_trail};

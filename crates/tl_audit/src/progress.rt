@@ -4,8 +4,6 @@
 pub trait Progress {
     /// So many of all events were looked at, now and then from the first to the last.
     fn seen(&mut self, events: usize, all: usize);
-    /// So many of all calls were run alone, now and then from the first to the last.
-    fn run(&mut self, calls: usize, all: usize);
 }
 
 /// Says nothing.
@@ -14,12 +12,7 @@ pub struct Silent;
 
 impl Progress for Silent {
     fn seen(&mut self, _events: usize, _all: usize) {}
-
-    fn run(&mut self, _calls: usize, _all: usize) {}
 }
 
 /// How many events are looked at between two words of it.
 pub const EVENTS_BETWEEN: usize = 65_536;
-
-/// How many calls are run between two words of it.
-pub const CALLS_BETWEEN: usize = 256;

@@ -1,32 +1,35 @@
 // What the events so far came to.
 
-ghost use Rattle.std.specs.Prelude.{◌≡◌, ◌↔◌, ℕ, ◌<◌, List, [], ◌∷◌, length, IsTrue, IfOk, IfErr, OnOk};
+ghost use Rattle.std.specs.Prelude.{◌≡◌, ◌↔◌, ℕ, ◌<◌, List, [], ◌∷◌, false, length, IsTrue, IfOk, IfErr, OnOk};
 ghost use Rattle.tl_tree.specs.Records.{Record as RecordValue, Records};
+ghost use Rattle.tl_tree.specs.Shape.{IsTree};
 ghost use Rattle.tl_protocol.specs.declared.event.Event.{Event as EventValue};
 ghost use Rattle.tl_protocol.specs.declared.action.Action.TheVariants as did;
 ghost use Rattle.tl_protocol.specs.Actions.{Permitted};
-ghost use Rattle.tl_protocol.specs.History.{part_of, is_done, IsOpen, MayHappen, records_now};
+ghost use Rattle.tl_protocol.specs.History.{part_of, is_done, IsOpen, records_now};
+ghost use Rattle.tl_protocol.specs.Order.{placed};
 ghost use Rattle.tl_trail.specs.Clean.{KeepsRules, IsApart, FindsNow, IsRight, AreRight};
 ghost use Rattle.tl_audit.specs.Findings.{IsWrong};
-ghost use Rattle.tl_audit.specs.Watching.{IsEventOf, IsEven, Shows};
+ghost use Rattle.tl_audit.specs.Watching.{IsEventOf, IsEven, IsNext, Shows};
 
 use crate::fault::AuditFault;
 use std::alloc::{AllocError, Global};
-use tl_order::Part;
+use tl_order::{KeptOrder, Order};
 use tl_protocol::Event;
 use tl_tree::{Record, Shape, Tree};
 
 /// What the events so far came to.
 #[derive(Drop)]
 pub(crate) struct Watch {
+    // The order so far, and by what it is kept: of each node the call that holds it, and the call that was the last to lock
+    // it while it held the node's parent.
+    kept: KeptOrder,
     // How many calls were admitted.
     admitted: usize,
-    // Of each call whether it is done, whether it locked any node, and what it did to the nodes.
+    // Of each call whether it is done, and how many nodes it holds.
     done: Vec<bool>,
-    begun: Vec<bool>,
-    parts: Vec<Part>,
-    // Of each node the call that holds it, and its record now.
-    holders: Vec<Option<u32>>,
+    holding: Vec<u16>,
+    // Of each node its record now.
     records: Vec<Record>,
 }
 
@@ -36,18 +39,13 @@ impl Watch {
         ensures { IfOk result (λ w. Shows opening.now.parents opening.now.records calls w []) }
     {
         let nodes = usize::from(opening.shape().node_count());
-        let mut parts = Vec::with_capacity(alloc, calls)?;
-        for _call in 0..calls {
-            parts.push(Part::new(alloc, nodes)?)?;
-        }
         let mut records = Vec::with_capacity(alloc, nodes)?;
         records.extend_from_slice(opening.records())?;
         Ok(Watch {
+            kept: KeptOrder::new(alloc, nodes, calls)?,
             admitted: 0,
             done: vec![in alloc; false; calls]?,
-            begun: vec![in alloc; false; calls]?,
-            parts,
-            holders: vec![in alloc; None; nodes]?,
+            holding: vec![in alloc; 0; calls]?,
             records,
         })
     }
@@ -61,50 +59,53 @@ impl Watch {
         (call as usize) < self.admitted && !self.done[call as usize]
     }
 
-    // Whether the protocol permits the call to lock the node.
+    // Whether the protocol permits an open call to lock the node.
     fn permits_lock(&self, shape: &Shape, call: u32, node: u16) -> bool
-        requires even { IsEven self.now }
+        requires tree { IsTree shape.now }
+        requires even { IsEven self.now (length shape.now) }
         requires call { call < length self.now.done.items }
-        requires node { node < length self.now.holders.items }
-        requires shape { length self.now.holders.items ≡ length shape.now }
+        requires node { node < length shape.now }
         ensures { (opening : Records) (calls : ℕ) (past : List EventValue) (found : RecordValue)
-            → Shows shape.now opening calls self.now past
+            → Shows shape.now opening calls self.now past → AreRight shape.now opening past → is_done call past ≡ false
             → IsTrue result ↔ Permitted shape.now (part_of call past) (did.Lock node found) }
     {
-        let part = &self.parts[call as usize];
-        !part.has_locked(node) && (!self.begun[call as usize] || part.holds(shape.parent(node)))
+        if !self.kept.stands(call) {
+            return true;
+        }
+        if node == 0 || self.kept.holder(shape.parent(node)) != Some(call) {
+            return false;
+        }
+        self.kept.under(node) != Some(call)
     }
 
     // Whether the protocol permits the call to free the node.
     fn permits_free(&self, call: u32, node: u16) -> bool
-        requires even { IsEven self.now }
-        requires call { call < length self.now.done.items }
-        requires node { node < length self.now.holders.items }
+        requires { node < length self.now.kept.holders }
         ensures { (parents : List ℕ) (opening : Records) (calls : ℕ) (past : List EventValue) (left : RecordValue)
-            → Shows parents opening calls self.now past
+            → Shows parents opening calls self.now past → AreRight parents opening past
             → IsTrue result ↔ Permitted parents (part_of call past) (did.Free node left) }
     {
-        self.parts[call as usize].holds(node)
+        self.kept.holder(node) == Some(call)
     }
 
     // Whether the protocol permits the call to end.
     fn permits_end(&self, call: u32) -> bool
-        requires even { IsEven self.now }
-        requires call { call < length self.now.done.items }
+        requires { call < length self.now.holding.items }
         ensures { (parents : List ℕ) (opening : Records) (calls : ℕ) (past : List EventValue)
-            → Shows parents opening calls self.now past
+            → Shows parents opening calls self.now past → AreRight parents opening past → call < calls
             → IsTrue result ↔ Permitted parents (part_of call past) did.End }
     {
-        !self.parts[call as usize].holds_any()
+        self.holding[call as usize] == 0
     }
 
     // Whether the event keeps the rules.
     fn keeps_rules(&self, shape: &Shape, event: &Event) -> bool
-        requires even { IsEven self.now }
-        requires event { IsEventOf (length self.now.holders.items) (length self.now.done.items) event.now }
-        requires shape { length self.now.holders.items ≡ length shape.now }
+        requires tree { IsTree shape.now }
+        requires even { IsEven self.now (length shape.now) }
+        requires event { IsEventOf (length shape.now) (length self.now.done.items) event.now }
         ensures { (opening : Records) (calls : ℕ) (past : List EventValue)
-            → Shows shape.now opening calls self.now past → IsTrue result ↔ KeepsRules shape.now past event.now }
+            → Shows shape.now opening calls self.now past → AreRight shape.now opening past
+            → IsTrue result ↔ KeepsRules shape.now past event.now }
     {
         match *event {
             Event::Admit { call } => call as usize == self.admitted,
@@ -118,7 +119,7 @@ impl Watch {
 
     // Whether no other call holds the node that the event locks.
     fn is_apart(&self, event: &Event) -> bool
-        requires { IsEventOf (length self.now.holders.items) (length self.now.done.items) event.now }
+        requires { IsEventOf (length self.now.kept.holders) (length self.now.done.items) event.now }
         ensures { (parents : List ℕ) (opening : Records) (calls : ℕ) (past : List EventValue)
             → Shows parents opening calls self.now past → AreRight parents opening past
             → IsTrue result ↔ IsApart past event.now }
@@ -126,8 +127,7 @@ impl Watch {
         let Event::Lock { call, node, .. } = *event else {
             return true;
         };
-        let holder = self.holders[usize::from(node)];
-        match holder {
+        match self.kept.holder(node) {
             Some(holder) => holder == call,
             None => true,
         }
@@ -135,8 +135,7 @@ impl Watch {
 
     // Whether the event, where it is a lock, finds the record now.
     fn finds_now(&self, event: &Event) -> bool
-        requires even { IsEven self.now }
-        requires event { IsEventOf (length self.now.holders.items) (length self.now.done.items) event.now }
+        requires { IsEventOf (length self.now.records.items) (length self.now.done.items) event.now }
         ensures { (parents : List ℕ) (opening : Records) (calls : ℕ) (past : List EventValue)
             → Shows parents opening calls self.now past → IsTrue result ↔ FindsNow opening past event.now }
     {
@@ -148,9 +147,9 @@ impl Watch {
 
     /// What is wrong with the event first, which has this number.
     pub(crate) fn judge(&self, shape: &Shape, event: &Event, number: u32) -> Result<(), AuditFault>
-        requires even { IsEven self.now }
-        requires event { IsEventOf (length self.now.holders.items) (length self.now.done.items) event.now }
-        requires shape { length self.now.holders.items ≡ length shape.now }
+        requires tree { IsTree shape.now }
+        requires even { IsEven self.now (length shape.now) }
+        requires event { IsEventOf (length shape.now) (length self.now.done.items) event.now }
         ensures right { OnOk result ((opening : Records) (calls : ℕ) (past : List EventValue)
             → Shows shape.now opening calls self.now past → AreRight shape.now opening past
             → IsRight shape.now opening past event.now) }
@@ -170,24 +169,20 @@ impl Watch {
         Ok(())
     }
 
-    /// The event happens.
-    pub(crate) fn note(&mut self, event: &Event)
-        requires even { IsEven self.old }
-        requires event { IsEventOf (length self.old.holders.items) (length self.old.done.items) event.now }
-        ensures { (parents : List ℕ) (opening : Records) (calls : ℕ) (past : List EventValue)
-            → Shows parents opening calls self.old past → MayHappen past event.now
-            → Shows parents opening calls self.new (event.now ∷ past) }
+    /// The event happens, with which nothing is wrong.
+    pub(crate) fn note(&mut self, shape: &Shape, event: &Event)
+        requires tree { IsTree shape.now }
+        requires next { IsNext shape.now self.old event.now }
+        ensures { (opening : Records) (calls : ℕ) (past : List EventValue)
+            → Shows shape.now opening calls self.old past → AreRight shape.now opening (event.now ∷ past)
+            → Shows shape.now opening calls self.new (event.now ∷ past) }
     {
+        self.kept.note(shape, event);
         match *event {
             Event::Admit { call } => self.admitted = call as usize + 1,
-            Event::Lock { call, node, .. } => {
-                self.begun[call as usize] = true;
-                self.parts[call as usize].lock(node);
-                self.holders[usize::from(node)] = Some(call);
-            }
+            Event::Lock { call, .. } => self.holding[call as usize] += 1,
             Event::Free { call, node, left } => {
-                self.parts[call as usize].free(node);
-                self.holders[usize::from(node)] = None;
+                self.holding[call as usize] -= 1;
                 self.records[usize::from(node)] = left;
             }
             Event::Done { call } => self.done[call as usize] = true,
@@ -204,10 +199,18 @@ impl Watch {
     }
 
     /// The records now.
-    pub(crate) fn into_records(self) -> Vec<Record>
+    pub(crate) fn records(&self) -> &[Record]
         ensures { (parents : List ℕ) (opening : Records) (calls : ℕ) (past : List EventValue)
-            → Shows parents opening calls self past → result.items ≡ records_now past opening }
+            → Shows parents opening calls self.now past → result.now ≡ records_now past opening }
     {
-        self.records
+        &self.records
+    }
+
+    /// The order of the events so far.
+    pub(crate) fn into_order(self) -> Order
+        ensures { (parents : List ℕ) (opening : Records) (calls : ℕ) (past : List EventValue)
+            → Shows parents opening calls self past → result.calls ≡ placed parents past }
+    {
+        self.kept.into_order()
     }
 }

@@ -1,12 +1,16 @@
-// Codes that are verified, and calls that run alone.
+// Codes, and calls that run alone.
+
+ghost use Rattle.std.specs.Prelude.{◌≡◌};
 
 use crate::clock::now;
+use crate::digest::{mix_code, mix_records};
 use crate::measured::Measured;
 use crate::trees::{chain, procedure_of, tree_of};
 use std::alloc::Global;
 use std::sync::Arc;
+use tl_asm::assemble;
 use tl_instr::decode;
-use tl_machine::alone;
+use tl_machine::{Segment, Turn, alone, local};
 use tl_verify::verify;
 
 fn ran(alloc: Global, code: &[u8], nodes: u16, args: &[i64], times: u32) -> Option<Measured> {
@@ -18,15 +22,14 @@ fn ran(alloc: Global, code: &[u8], nodes: u16, args: &[i64], times: u32) -> Opti
         let answer = alone(&procedure, args, &mut tree).ok()?;
         measured.add_since(begin);
         measured.add_count(u64::from(answer.steps));
-        for value in answer.reply.values() {
-            measured.mix(value.cast_unsigned());
-        }
+        measured.mix_all(answer.reply.values());
     }
+    mix_records(tree.records(), &mut measured);
     Some(measured)
 }
 
 /// The container's procedure, run alone so many times on a chain of so many nodes. The time is that of the runs, the count
-/// that of all steps, and the values that were emitted are mixed.
+/// that of all steps, and the values that were emitted and the records in the end are mixed.
 #[unsafe(no_mangle)]
 pub extern "C" fn treedb_run(
     alloc: Global,
@@ -35,7 +38,40 @@ pub extern "C" fn treedb_run(
     args: &[i64],
     times: u32,
 ) -> Measured {
-    Measured::told(ran(alloc, code, nodes, args, times))
+    Measured::or_refused(ran(alloc, code, nodes, args, times))
+}
+
+// Counts the segment's steps, and mixes where the call stands and what it has.
+fn mix_segment(segment: &Segment, measured: &mut Measured) -> Option<()> {
+    let state = segment.to();
+    measured.add_count(u64::from(state.steps));
+    measured.mix(u64::from(state.position));
+    measured.mix_all(&state.values);
+    measured.mix_all(state.emitted.get(..usize::from(state.emit_count))?);
+    Some(())
+}
+
+fn went_alone(alloc: Global, code: &[u8], args: &[i64], times: u32) -> Option<Measured> {
+    let procedure = Arc::new(alloc, procedure_of(alloc, code)?).ok()?;
+    let tree = tree_of(alloc, &[0])?;
+    let mut measured = Measured::none();
+    for _time in 0..times {
+        let shared = Arc::try_clone(&procedure).ok()?;
+        let shape = Arc::try_clone(tree.shape()).ok()?;
+        let turn = Turn::start(shared, shape, args).ok()?;
+        let begin = now();
+        let segment = local(turn);
+        measured.add_since(begin);
+        mix_segment(&segment, &mut measured)?;
+    }
+    Some(measured)
+}
+
+/// A call of the container's procedure, which goes on by itself to its first lock or its return, so many times. The count is
+/// that of all steps, and where the call stands then is mixed.
+#[unsafe(no_mangle)]
+pub extern "C" fn treedb_local(alloc: Global, code: &[u8], args: &[i64], times: u32) -> Measured {
+    Measured::or_refused(went_alone(alloc, code, args, times))
 }
 
 fn checked(alloc: Global, bytes: &[u8], times: u32) -> Option<Measured> {
@@ -54,8 +90,9 @@ fn checked(alloc: Global, bytes: &[u8], times: u32) -> Option<Measured> {
                 measured.mix(u64::from(bounds.emits));
             }
             Err((_code, fault)) => {
-                let numbers = fault.numbers();
-                measured.mix(numbers[0]);
+                for number in fault.numbers().as_slice() {
+                    measured.mix(*number);
+                }
             }
         }
     }
@@ -63,8 +100,45 @@ fn checked(alloc: Global, bytes: &[u8], times: u32) -> Option<Measured> {
 }
 
 /// The container's code, verified so many times. The time is that of `verify`, the count says how often it was accepted, and
-/// the bounds or the fault's number are mixed.
+/// the bounds or the fault's numbers are mixed.
 #[unsafe(no_mangle)]
 pub extern "C" fn treedb_check(alloc: Global, code: &[u8], times: u32) -> Measured {
-    Measured::told(checked(alloc, code, times))
+    Measured::or_refused(checked(alloc, code, times))
+}
+
+fn decoded(alloc: Global, bytes: &[u8], times: u32) -> Option<Measured> {
+    let mut measured = Measured::none();
+    for _time in 0..times {
+        let begin = now();
+        let code = decode(alloc, bytes).ok()?;
+        measured.add_since(begin);
+        measured.add_count(u64::from(code.count()));
+        mix_code(alloc, &code, &mut measured)?;
+    }
+    Some(measured)
+}
+
+/// The container, decoded so many times. The count is that of all instructions, and the code's text is mixed.
+#[unsafe(no_mangle)]
+pub extern "C" fn treedb_decode(alloc: Global, code: &[u8], times: u32) -> Measured {
+    Measured::or_refused(decoded(alloc, code, times))
+}
+
+fn assembled(alloc: Global, text: &[u8], times: u32) -> Option<Measured> {
+    let text = std::str::from_utf8(text).ok()?;
+    let mut measured = Measured::none();
+    for _time in 0..times {
+        let begin = now();
+        let code = assemble(alloc, text).ok()?;
+        measured.add_since(begin);
+        measured.add_count(u64::from(code.count()));
+        mix_code(alloc, &code, &mut measured)?;
+    }
+    Some(measured)
+}
+
+/// The procedure's text, assembled so many times. The count is that of all instructions, and the code's text is mixed.
+#[unsafe(no_mangle)]
+pub extern "C" fn treedb_assemble(alloc: Global, text: &[u8], times: u32) -> Measured {
+    Measured::or_refused(assembled(alloc, text, times))
 }

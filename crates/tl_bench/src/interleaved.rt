@@ -3,15 +3,20 @@
 ghost use Rattle.std.specs.Prelude.{◌≡◌, ◌≤◌, length};
 
 use crate::clock::now;
+use crate::digest::{mix_core, mix_order, mix_records};
 use crate::measured::Measured;
 use crate::trees::{procedure_of, tree_of};
 use std::alloc::Global;
 use tl_core::{Core, Stepped};
 use tl_record::trail_of;
+use tl_serial::{Running, replay};
 use tl_trail::write_trail;
 
 // How many calls are open at a time.
 const OPEN: usize = 64;
+
+// What the procedure is called. The trail names it.
+const NAME: &str = "call";
 
 // A call that may still have a step.
 #[derive(Clone, Copy, Drop)]
@@ -20,13 +25,40 @@ struct Open {
     is_over: bool,
 }
 
+// Who admits calls and steps them.
+trait Steps {
+    fn admit_call(&mut self, alloc: Global, arg: i64) -> Option<u32>;
+
+    fn step_call(&mut self, call: u32) -> Option<Stepped>;
+}
+
+impl Steps for Core {
+    fn admit_call(&mut self, alloc: Global, arg: i64) -> Option<u32> {
+        self.admit(alloc, NAME, &[arg]).ok()
+    }
+
+    fn step_call(&mut self, call: u32) -> Option<Stepped> {
+        self.step(call).ok()
+    }
+}
+
+impl Steps for Running {
+    fn admit_call(&mut self, alloc: Global, arg: i64) -> Option<u32> {
+        self.admit(alloc, NAME, &[arg]).ok()
+    }
+
+    fn step_call(&mut self, call: u32) -> Option<Stepped> {
+        self.step(call).ok()
+    }
+}
+
 // The calls that are not over are asked for a step each, in rising order. Answers how many were asked.
-fn step_round(core: &mut Core, open: &mut [Open]) -> Option<u64> {
+fn step_round<S: Steps>(stepper: &mut S, open: &mut [Open]) -> Option<u64> {
     let mut asked = 0u64;
     for one in open.iter_mut() {
         if !one.is_over {
             asked = asked.wrapping_add(1);
-            let stepped = core.step(one.call).ok()?;
+            let stepped = stepper.step_call(one.call)?;
             one.is_over = matches!(stepped, Stepped::Over);
         }
     }
@@ -34,10 +66,10 @@ fn step_round(core: &mut Core, open: &mut [Open]) -> Option<u64> {
 }
 
 // Rounds until all calls are over. Answers how many steps were asked.
-fn step_all(core: &mut Core, open: &mut [Open]) -> Option<u64> {
+fn step_all<S: Steps>(stepper: &mut S, open: &mut [Open]) -> Option<u64> {
     let mut all = 0u64;
     for _round in 0..u64::MAX {
-        let asked = step_round(core, open)?;
+        let asked = step_round(stepper, open)?;
         if asked == 0 {
             return Some(all);
         }
@@ -46,59 +78,75 @@ fn step_all(core: &mut Core, open: &mut [Open]) -> Option<u64> {
     None
 }
 
-// Calls of the procedure, one for each argument, so many at a time.
-fn stepped(
+// How long admissions took, and steps.
+#[derive(Clone, Copy, Drop)]
+struct Took {
+    admitting: u64,
+    stepping: u64,
+}
+
+// Admits a call for each argument.
+fn admit_group<S: Steps>(
     alloc: Global,
-    core: &mut Core,
+    stepper: &mut S,
+    args: &[i64],
+    open: &mut Vec<Open>,
+) -> Option<()> {
+    for arg in args {
+        let call = stepper.admit_call(alloc, *arg)?;
+        open.push(Open {
+            call,
+            is_over: false,
+        })
+        .ok()?;
+    }
+    Some(())
+}
+
+// Calls of the procedure, one for each argument, so many at a time.
+fn run_groups<S: Steps>(
+    alloc: Global,
+    stepper: &mut S,
     args: &[i64],
     nanos: &mut [u64],
     steps: &mut [u64],
-) -> Option<Measured> {
-    let mut measured = Measured::none();
+) -> Option<Took> {
+    let mut took = Took {
+        admitting: 0,
+        stepping: 0,
+    };
     let mut open = Vec::with_capacity(alloc, OPEN).ok()?;
     for (group, some) in args.chunks(OPEN).enumerate() {
         open.clear();
-        for arg in some {
-            let call = core.admit(alloc, "walk", &[*arg]).ok()?;
-            open.push(Open {
-                call,
-                is_over: false,
-            })
-            .ok()?;
-        }
         let begin = now();
-        let asked = step_all(core, &mut open)?;
-        let passed = now().wrapping_sub(begin);
-        measured.nanos = measured.nanos.wrapping_add(passed);
+        admit_group(alloc, stepper, some, &mut open)?;
+        let between = now();
+        let asked = step_all(stepper, &mut open)?;
+        let passed = now().wrapping_sub(between);
+        took.admitting = took.admitting.wrapping_add(between.wrapping_sub(begin));
+        took.stepping = took.stepping.wrapping_add(passed);
         if group < nanos.len() && group < steps.len() {
             nanos[group] = passed;
             steps[group] = asked;
         }
     }
-    measured.add_count(core.history().len() as u64);
-    Some(measured)
-}
-
-// Mixes the replies and the records.
-fn mix_all(core: &Core, measured: &mut Measured) {
-    let count = u32::try_from(core.calls()).unwrap_or(0);
-    for call in 0..count {
-        if let Some(reply) = core.reply(call) {
-            for value in reply.values() {
-                measured.mix(value.cast_unsigned());
-            }
-        }
-    }
-    for record in core.tree().records() {
-        measured.mix(record[0].cast_unsigned());
-    }
+    Some(took)
 }
 
 fn core_of(alloc: Global, code: &[u8], parents: &[u16]) -> Option<Core> {
     let procedure = procedure_of(alloc, code)?;
     let mut core = Core::new(alloc, tree_of(alloc, parents)?).ok()?;
-    core.add_proc(alloc, "walk", procedure).ok()?;
+    core.add_proc(alloc, NAME, procedure).ok()?;
     Some(core)
+}
+
+// What took so long, so much of it, and all that came of the core.
+fn measured_of(nanos: u64, count: usize, core: &Core) -> Measured {
+    let mut measured = Measured::none();
+    measured.nanos = nanos;
+    measured.count = count as u64;
+    mix_core(core, &mut measured);
+    measured
 }
 
 fn interleaved(
@@ -110,14 +158,13 @@ fn interleaved(
     steps: &mut [u64],
 ) -> Option<Measured> {
     let mut core = core_of(alloc, code, parents)?;
-    let mut measured = stepped(alloc, &mut core, args, nanos, steps)?;
-    mix_all(&core, &mut measured);
-    Some(measured)
+    let took = run_groups(alloc, &mut core, args, nanos, steps)?;
+    Some(measured_of(took.stepping, core.history().len(), &core))
 }
 
 /// Calls of the container's procedure, one for each argument, on the tree of these parents, 64 at a time in turn. Of each 64
-/// calls the time and the number of their steps are told. The count is that of the events, and the replies and the records in
-/// the end are mixed.
+/// calls the time and the number of their steps are told. The count is that of the events, and these, the replies and the records
+/// in the end are mixed.
 #[unsafe(no_mangle)]
 pub extern "C" fn treedb_interleave(
     alloc: Global,
@@ -127,7 +174,109 @@ pub extern "C" fn treedb_interleave(
     nanos: &mut [u64],
     steps: &mut [u64],
 ) -> Measured {
-    Measured::told(interleaved(alloc, code, parents, args, nanos, steps))
+    Measured::or_refused(interleaved(alloc, code, parents, args, nanos, steps))
+}
+
+fn admitted(alloc: Global, code: &[u8], parents: &[u16], args: &[i64]) -> Option<Measured> {
+    let mut core = core_of(alloc, code, parents)?;
+    let took = run_groups(alloc, &mut core, args, &mut [], &mut [])?;
+    Some(measured_of(took.admitting, core.calls(), &core))
+}
+
+/// The same calls: the time is that of the admissions, and the count that of the calls.
+#[unsafe(no_mangle)]
+pub extern "C" fn treedb_admit(
+    alloc: Global,
+    code: &[u8],
+    parents: &[u16],
+    args: &[i64],
+) -> Measured {
+    Measured::or_refused(admitted(alloc, code, parents, args))
+}
+
+// A core whose order is kept up to date, with these calls.
+fn running_of(
+    alloc: Global,
+    code: &[u8],
+    parents: &[u16],
+    args: &[i64],
+) -> Option<(Running, Took)> {
+    let mut running = Running::new(alloc, core_of(alloc, code, parents)?).ok()?;
+    let took = run_groups(alloc, &mut running, args, &mut [], &mut [])?;
+    Some((running, took))
+}
+
+fn kept(alloc: Global, code: &[u8], parents: &[u16], args: &[i64]) -> Option<Measured> {
+    let (running, took) = running_of(alloc, code, parents, args)?;
+    let mut measured = Measured::none();
+    mix_order(running.order(), &mut measured);
+    measured.nanos = took.stepping;
+    measured.count = running.core().history().len() as u64;
+    mix_core(running.core(), &mut measured);
+    Some(measured)
+}
+
+/// The same calls, where the order is kept up to date. The count is that of the events, and the order's calls are mixed too.
+#[unsafe(no_mangle)]
+pub extern "C" fn treedb_keep(
+    alloc: Global,
+    code: &[u8],
+    parents: &[u16],
+    args: &[i64],
+) -> Measured {
+    Measured::or_refused(kept(alloc, code, parents, args))
+}
+
+fn replayed(alloc: Global, code: &[u8], parents: &[u16], args: &[i64]) -> Option<Measured> {
+    let (running, _) = running_of(alloc, code, parents, args)?;
+    let order = running.conclude(alloc).ok()?;
+    let mut measured = Measured::none();
+    measured.add_count(running.core().calls() as u64);
+    let begin = now();
+    let (tree, replies) = replay(alloc, &order, running.core()).ok()?;
+    measured.add_since(begin);
+    for reply in &replies {
+        measured.mix_all(reply.values());
+    }
+    mix_records(tree.records(), &mut measured);
+    Some(measured)
+}
+
+/// The same calls, and then again alone along their order: the time is that of these. The count is that of the calls, and the replies
+/// and the records in the end are mixed.
+#[unsafe(no_mangle)]
+pub extern "C" fn treedb_replay(
+    alloc: Global,
+    code: &[u8],
+    parents: &[u16],
+    args: &[i64],
+) -> Measured {
+    Measured::or_refused(replayed(alloc, code, parents, args))
+}
+
+fn blocked(alloc: Global, code: &[u8], times: u32) -> Option<Measured> {
+    let mut core = core_of(alloc, code, &[0])?;
+    let first = core.admit(alloc, NAME, &[0]).ok()?;
+    let second = core.admit(alloc, NAME, &[0]).ok()?;
+    core.step(first).ok()?;
+    let mut measured = Measured::none();
+    let begin = now();
+    for _time in 0..times {
+        if let Ok(Stepped::Blocked { node, holder }) = core.step(second) {
+            measured.mix(u64::from(node));
+            measured.mix(u64::from(holder));
+        }
+    }
+    measured.add_since(begin);
+    measured.add_count(u64::from(times));
+    Some(measured)
+}
+
+/// Two calls of the container's procedure, whose first instruction locks a node: the second is asked for it so many times while the
+/// first holds it. Who is in the way is mixed.
+#[unsafe(no_mangle)]
+pub extern "C" fn treedb_block(alloc: Global, code: &[u8], times: u32) -> Measured {
+    Measured::or_refused(blocked(alloc, code, times))
 }
 
 fn told(
@@ -138,12 +287,13 @@ fn told(
     text: &mut [u8],
 ) -> Option<Measured> {
     let mut core = core_of(alloc, code, parents)?;
-    let mut measured = stepped(alloc, &mut core, args, &mut [], &mut [])?;
+    run_groups(alloc, &mut core, args, &mut [], &mut [])?;
     let trail = trail_of(alloc, &core).ok()?;
     let written = write_trail(alloc, &trail).ok()?;
     let bytes = written.as_bytes();
     text.get_mut(..bytes.len())?.copy_from_slice(bytes);
-    measured.count = bytes.len() as u64;
+    let mut measured = Measured::none();
+    measured.add_count(bytes.len() as u64);
     Some(measured)
 }
 
@@ -157,5 +307,5 @@ pub extern "C" fn treedb_tell(
     args: &[i64],
     text: &mut [u8],
 ) -> Measured {
-    Measured::told(told(alloc, code, parents, args, text))
+    Measured::or_refused(told(alloc, code, parents, args, text))
 }

@@ -6,6 +6,7 @@
 
 pub mod calling;
 pub mod clock;
+pub mod digest;
 pub mod interleaved;
 pub mod measured;
 pub mod trails;

@@ -26,7 +26,7 @@ impl Measured {
     }
 
     /// What was measured, or that the work was refused.
-    pub fn told(measured: Option<Measured>) -> Measured {
+    pub fn or_refused(measured: Option<Measured>) -> Measured {
         match measured {
             Some(measured) => measured,
             None => Measured {
@@ -50,5 +50,20 @@ impl Measured {
     /// Adds to what came of it.
     pub fn mix(&mut self, number: u64) {
         self.sum = self.sum.rotate_left(5).wrapping_mul(0x9E37_79B9_7F4A_7C15) ^ number;
+    }
+
+    /// Adds how many numbers there are, and each.
+    pub fn mix_all(&mut self, numbers: &[i64]) {
+        self.mix(numbers.len() as u64);
+        for number in numbers {
+            self.mix(number.cast_unsigned());
+        }
+    }
+
+    /// Adds each byte.
+    pub fn mix_bytes(&mut self, bytes: &[u8]) {
+        for byte in bytes {
+            self.mix(u64::from(*byte));
+        }
     }
 }

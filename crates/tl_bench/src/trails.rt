@@ -1,30 +1,17 @@
 // Trails that are read, written, ordered and audited.
 
 use crate::clock::now;
+use crate::digest::{mix_order, mix_trail};
 use crate::measured::Measured;
 use serde_json::Value;
 use std::alloc::Global;
-use tl_audit::audit;
+use tl_audit::{AuditFault, audit};
 use tl_order::{Order, order_of};
-use tl_protocol::Event;
 use tl_trail::{Trail, read_trail, write_trail};
 
 fn trail_in(alloc: Global, text: &[u8]) -> Option<Trail> {
     let text = std::str::from_utf8(text).ok()?;
     read_trail(alloc, text).ok()
-}
-
-// Mixes each event's call, and its node where it has one.
-fn mix_events(events: &[Event], measured: &mut Measured) {
-    for event in events {
-        match *event {
-            Event::Admit { call } | Event::Done { call } => measured.mix(u64::from(call)),
-            Event::Lock { call, node, .. } | Event::Free { call, node, .. } => {
-                measured.mix(u64::from(call));
-                measured.mix(u64::from(node) + 1);
-            }
-        }
-    }
 }
 
 fn was_read(alloc: Global, text: &[u8], times: u32) -> Option<Measured> {
@@ -33,36 +20,66 @@ fn was_read(alloc: Global, text: &[u8], times: u32) -> Option<Measured> {
         let begin = now();
         let trail = trail_in(alloc, text)?;
         measured.add_since(begin);
-        measured.sum = 0;
         measured.count = trail.events().len() as u64;
-        mix_events(trail.events(), &mut measured);
+        mix_trail(alloc, &trail, &mut measured)?;
     }
     Some(measured)
 }
 
-/// The trail of the text, read so many times. The count is that of the events, and their calls and nodes are mixed.
+/// The trail of the text, read so many times. The count is that of the events, and all that the trail has is mixed.
 #[unsafe(no_mangle)]
 pub extern "C" fn treedb_read(alloc: Global, text: &[u8], times: u32) -> Measured {
-    Measured::told(was_read(alloc, text, times))
+    Measured::or_refused(was_read(alloc, text, times))
+}
+
+fn value_in(alloc: Global, text: &[u8]) -> Option<Value> {
+    let text = std::str::from_utf8(text).ok()?;
+    Value::from_str(alloc, text).ok()
+}
+
+// Mixes the bytes of a text that was written.
+fn mix_text(text: &str, measured: &mut Measured) {
+    measured.count = text.len() as u64;
+    measured.mix_bytes(text.as_bytes());
 }
 
 fn was_parsed(alloc: Global, text: &[u8], times: u32) -> Option<Measured> {
     let mut measured = Measured::none();
     for _time in 0..times {
         let begin = now();
-        let text = std::str::from_utf8(text).ok()?;
-        let value = Value::from_str(alloc, text).ok()?;
+        let value = value_in(alloc, text)?;
+        measured.add_since(begin);
+        mix_text(&value.to_string(alloc).ok()?, &mut measured);
+        let begin = now();
         drop(value);
         measured.add_since(begin);
-        measured.count = text.len() as u64;
     }
     Some(measured)
 }
 
-/// The text as a JSON value alone, read and let go so many times. The count is that of the bytes.
+/// The text as a JSON value alone, read and let go so many times. The count is that of the bytes that the value is written with,
+/// which are mixed.
 #[unsafe(no_mangle)]
 pub extern "C" fn treedb_parse(alloc: Global, text: &[u8], times: u32) -> Measured {
-    Measured::told(was_parsed(alloc, text, times))
+    Measured::or_refused(was_parsed(alloc, text, times))
+}
+
+fn was_printed(alloc: Global, text: &[u8], times: u32) -> Option<Measured> {
+    let value = value_in(alloc, text)?;
+    let mut measured = Measured::none();
+    for _time in 0..times {
+        let begin = now();
+        let written = value.to_string(alloc).ok()?;
+        measured.add_since(begin);
+        mix_text(&written, &mut measured);
+    }
+    Some(measured)
+}
+
+/// The text's JSON value, written so many times. The count is that of the bytes, which are mixed.
+#[unsafe(no_mangle)]
+pub extern "C" fn treedb_print(alloc: Global, text: &[u8], times: u32) -> Measured {
+    Measured::or_refused(was_printed(alloc, text, times))
 }
 
 fn was_written(alloc: Global, text: &[u8], times: u32) -> Option<Measured> {
@@ -72,11 +89,7 @@ fn was_written(alloc: Global, text: &[u8], times: u32) -> Option<Measured> {
         let begin = now();
         let written = write_trail(alloc, &trail).ok()?;
         measured.add_since(begin);
-        measured.sum = 0;
-        measured.count = written.len() as u64;
-        for byte in written.as_bytes() {
-            measured.mix(u64::from(*byte));
-        }
+        mix_text(&written, &mut measured);
     }
     Some(measured)
 }
@@ -84,15 +97,7 @@ fn was_written(alloc: Global, text: &[u8], times: u32) -> Option<Measured> {
 /// The trail of the text, written so many times. The count is that of the bytes, which are mixed.
 #[unsafe(no_mangle)]
 pub extern "C" fn treedb_write(alloc: Global, text: &[u8], times: u32) -> Measured {
-    Measured::told(was_written(alloc, text, times))
-}
-
-// What came of an order.
-fn mix_order(order: &Order, measured: &mut Measured) {
-    measured.sum = 0;
-    for call in order.calls() {
-        measured.mix(u64::from(*call));
-    }
+    Measured::or_refused(was_written(alloc, text, times))
 }
 
 fn was_ordered(alloc: Global, text: &[u8], times: u32) -> Option<Measured> {
@@ -111,7 +116,19 @@ fn was_ordered(alloc: Global, text: &[u8], times: u32) -> Option<Measured> {
 /// The order of the trail of the text, found so many times. The count is that of the calls in it, which are mixed.
 #[unsafe(no_mangle)]
 pub extern "C" fn treedb_order(alloc: Global, text: &[u8], times: u32) -> Measured {
-    Measured::told(was_ordered(alloc, text, times))
+    Measured::or_refused(was_ordered(alloc, text, times))
+}
+
+// What came of an audit.
+fn mix_verdict(audited: &Result<Order, AuditFault>, measured: &mut Measured) {
+    match audited {
+        Ok(order) => mix_order(order, measured),
+        Err(fault) => {
+            for number in fault.numbers().as_slice() {
+                measured.mix(*number);
+            }
+        }
+    }
 }
 
 fn was_audited(alloc: Global, text: &[u8], times: u32) -> Option<Measured> {
@@ -119,16 +136,17 @@ fn was_audited(alloc: Global, text: &[u8], times: u32) -> Option<Measured> {
     let mut measured = Measured::none();
     for _time in 0..times {
         let begin = now();
-        let order = audit(alloc, &trail).ok()?;
+        let audited = audit(alloc, &trail);
         measured.add_since(begin);
         measured.count = trail.events().len() as u64;
-        mix_order(&order, &mut measured);
+        mix_verdict(&audited, &mut measured);
     }
     Some(measured)
 }
 
-/// The trail of the text, audited so many times. The count is that of the events, and the order's calls are mixed.
+/// The trail of the text, audited so many times. The count is that of the events, and the order's calls are mixed,
+/// or the numbers of what is wrong first.
 #[unsafe(no_mangle)]
 pub extern "C" fn treedb_audit(alloc: Global, text: &[u8], times: u32) -> Measured {
-    Measured::told(was_audited(alloc, text, times))
+    Measured::or_refused(was_audited(alloc, text, times))
 }

@@ -11,7 +11,8 @@ use tl_core::Core;
 use tl_history::MAX_CALLS;
 use tl_workers::{Engine, MAX_REQUESTS, MAX_WORKERS, NoGate, Request, Session};
 
-/// What the batches took, how many calls were done, and a number that depends on the records in the end.
+/// What the batches took, how many calls were done, and a number that depends on the records, the replies and how many events
+/// there were.
 #[derive(Clone, Copy, Debug, Drop)]
 pub struct Measured {
     pub nanos: u64,
@@ -24,11 +25,28 @@ impl Measured {
         self.sum = self.sum.rotate_left(5).wrapping_mul(0x9E37_79B9_7F4A_7C15) ^ number;
     }
 
-    fn mix_records(&mut self, core: &Core) {
+    // All that came of the core. Which of two calls on one node comes first is chance, so the replies are added up.
+    fn mix_core(&mut self, core: &Core) {
         for record in core.tree().records() {
-            self.mix(record[0].cast_unsigned());
+            for field in record {
+                self.mix(field.cast_unsigned());
+            }
+        }
+        self.mix(sum_of_replies(core));
+        self.mix(core.history().len() as u64);
+    }
+}
+
+fn sum_of_replies(core: &Core) -> u64 {
+    let mut sum = 0u64;
+    for call in 0..core.calls() as u32 {
+        if let Some(reply) = core.reply(call) {
+            for value in reply.values() {
+                sum = sum.wrapping_add(value.cast_unsigned());
+            }
         }
     }
+    sum
 }
 
 // The first node of the chain whose turn it is.
@@ -108,7 +126,7 @@ fn close(alloc: Global, engine: Engine, session: Session, measured: &mut Measure
     sessions.push(session).ok()?;
     let (closed, _) = engine.close(sessions).ok()?;
     measured.calls = measured.calls.saturating_add(closed.core().calls() as u64);
-    measured.mix_records(closed.core());
+    measured.mix_core(closed.core());
     Some(())
 }
 

@@ -3,7 +3,7 @@
 //! `tl_bench_threads CONTAINER WORKERS NODES CHAIN ENGINES` makes so many engines, one after another, each of a tree of so many nodes
 //! in chains of that length below the root. Each runs 4,096 calls of the container's procedure in batches on so many workers. What
 //! each call is given is the first node of a chain, the chains in turn. It prints how many nanoseconds the batches took, how many
-//! calls were done, and a number that depends on the records in the end. With no words it prints how it is called.
+//! calls were done, and a number that depends on all that came of them. With no words it prints how it is called.
 #![tactic(auto)]
 
 mod asked;

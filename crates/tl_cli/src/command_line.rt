@@ -52,10 +52,11 @@ pub enum Request<'a> {
     },
 }
 
-/// What a command line comes to: a request, or a text for the one who wrote it (help among them).
+/// The parsed command line: a request, a number to explain, or a text to show (help, or a mistake).
 #[derive(Drop)]
 pub enum Asked<'a> {
     Request(Request<'a>),
+    Explanation { number: u16 },
     Told(Error),
 }
 
@@ -63,7 +64,7 @@ const HELP: &str = "\
 A refusal is one line on standard output, {\"error\":[number,..]}, and a message on standard error.
 Exit status: 0 done, 1 refused, 2 a mistake on the command line, 3 a file that can't be read or written, or a port
 that can't be had, 4 memory.
-Help on a command: treedb COMMAND --help";
+Help on a command: treedb COMMAND --help. What a number means: treedb explain NUMBER";
 
 const ALONE_HELP: &str = "\
 Example: treedb alone --tree one-node.json --proc add.tlp --args '[0,3]'
@@ -94,6 +95,12 @@ prints {\"trace\":[..]}, what came of each move; {\"order\":[..]}, the order in 
 or {\"error\":[651,call]} where a call is unfinished; and then the tree as JSON. With --trail the calls, what they did and
 the records in the end are written to a file, which treedb audit checks. The other files are not changed.
 Exit status: 0 done, 1 refused, 2 a mistake on the command line, 3 a file that can't be read or written, 4 memory.";
+
+const EXPLAIN_HELP: &str = "\
+Example: treedb explain 407
+prints when the verifier refuses a procedure with [407,position,register], and what to do then.
+Exit status: 0 done, 2 a number that no fault has, or another mistake on the command line, 3 standard output can't be
+written, 4 memory.";
 
 const RUN_HELP: &str = "\
 Example: treedb run --tree fork.json --workers 2 calls.json
@@ -246,6 +253,18 @@ fn serve_command<'a>(alloc: Global) -> Result<Command<'a>, AllocError> {
         .arg(trail_arg(alloc))
 }
 
+fn explain_command<'a>(alloc: Global) -> Result<Command<'a>, AllocError> {
+    let number = Arg::new(alloc, "NUMBER")
+        .value_name("NUMBER")
+        .required(true)
+        .value_parser(value_parser!(u16))
+        .help("The first number of a refusal");
+    Command::new(alloc, "explain")
+        .about("Says what the number of a refusal means, and what to do")
+        .after_help(EXPLAIN_HELP)
+        .arg(number)
+}
+
 fn command<'a>(alloc: Global) -> Result<Command<'a>, AllocError> {
     Command::new(alloc, "treedb")
         .about("A database of trees, whose procedures are verified before they run")
@@ -259,7 +278,8 @@ fn command<'a>(alloc: Global) -> Result<Command<'a>, AllocError> {
         .subcommand(audit_command(alloc)?)?
         .subcommand(asm_command(alloc)?)?
         .subcommand(dis_command(alloc)?)?
-        .subcommand(verify_command(alloc)?)
+        .subcommand(verify_command(alloc)?)?
+        .subcommand(explain_command(alloc)?)
 }
 
 fn request_of<'a>(matches: &ArgMatches<'a>) -> Option<Request<'a>> {
@@ -304,12 +324,22 @@ fn request_of<'a>(matches: &ArgMatches<'a>) -> Option<Request<'a>> {
     }
 }
 
+fn number_of(matches: &ArgMatches<'_>) -> Option<u16> {
+    let (name, words) = matches.subcommand()?;
+    if name == "explain" {
+        words.get_one("NUMBER")
+    } else {
+        None
+    }
+}
+
 /// Reads a command line, the program's name first.
 pub fn parse<'a>(alloc: Global, words: &'a [String]) -> Result<Asked<'a>, AllocError> {
     match command(alloc)?.try_get_matches_from(words) {
-        Ok(matches) => match request_of(&matches) {
-            Some(request) => Ok(Asked::Request(request)),
-            None => Err(AllocError),
+        Ok(matches) => match (request_of(&matches), number_of(&matches)) {
+            (Some(request), _) => Ok(Asked::Request(request)),
+            (None, Some(number)) => Ok(Asked::Explanation { number }),
+            (None, None) => Err(AllocError),
         },
         Err(error) => Ok(Asked::Told(error)),
     }

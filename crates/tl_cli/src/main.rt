@@ -2,6 +2,7 @@
 #![tactic(auto)]
 
 mod command_line;
+mod explain;
 mod failure;
 mod output;
 mod program;
@@ -65,7 +66,8 @@ where
         + Sync,
 {
     match command_line::parse(rt.alloc(), words) {
-        Ok(Asked::Request(request)) => Program::new(rt, is_terminal).carry_out(&request),
+        Ok(Asked::Request(request)) => Program::new(rt, is_terminal).execute(&request),
+        Ok(Asked::Explanation { number }) => explain::explain(rt, number),
         Ok(Asked::Told(error)) => tell(rt, &error),
         Err(_) => NO_MEMORY,
     }

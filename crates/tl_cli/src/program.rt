@@ -200,7 +200,7 @@ where
     }
 
     /// Does what a request asks for, prints what comes of it, and answers the exit status.
-    pub fn carry_out(&self, request: &Request<'_>) -> u8 {
+    pub fn execute(&self, request: &Request<'_>) -> u8 {
         match self.answer(request) {
             Ok(text) => output::status_after(self.rt, self.rt.print(text.as_str()), 0),
             Err(failure) => {

@@ -21,9 +21,9 @@ impl<'a, R: Eprint> Shown<'a, R> {
     }
 
     // Each line is written over the one before.
-    fn show(&mut self, done: usize, all: usize, what: &str) {
+    fn show(&mut self, done: usize, all: usize) {
         if self.is_terminal && done > 0 {
-            let _shown = eprint!(self.rt; "\r{done} of {all} {what}   ");
+            let _shown = eprint!(self.rt; "\r{done} of {all} events   ");
             self.has_shown = true;
         }
     }
@@ -38,10 +38,6 @@ impl<'a, R: Eprint> Shown<'a, R> {
 
 impl<R: Eprint> Progress for Shown<'_, R> {
     fn seen(&mut self, events: usize, all: usize) {
-        self.show(events, all, "events");
-    }
-
-    fn run(&mut self, calls: usize, all: usize) {
-        self.show(calls, all, "calls");
+        self.show(events, all);
     }
 }

@@ -1,7 +1,7 @@
-pub mod Line
-pub mod Scripts
-pub mod Texts
-pub mod Driven
+pub mod AloneLines
+pub mod ScriptLemmas
+pub mod LineLemmas
+pub mod DriveLemmas
 pub mod RunLemmas
-pub mod Bounded
+pub mod ProcedureLines
 mod Rows

@@ -34,7 +34,7 @@ fn procedure_of_file(alloc: Global, bytes: &[u8]) -> Result<Proc, CliFault>
     }
 }
 
-// The arguments that a text has: a JSON list of integers of 64 bits.
+// The arguments that a text has: a JSON list of signed 64-bit integers.
 fn args_of(alloc: Global, text: &str) -> Result<Vec<i64>, CliFault>
     ensures ok { IfOk result (λ v. args_of_text text.now ≡ Some v.items) }
     ensures fault { IfErr result (λ e. (e ≡ CliFault.Memory) ⊎ (e ≡ CliFault.NotArgs) × (args_of_text text.now ≡ None)) }

@@ -50,7 +50,7 @@ pub struct Driven {
 }
 
 // Carries out a script on a tree.
-fn carry_out(alloc: Global, tree: &[u8], script: &[u8]) -> Result<Driven, CliFault>
+fn drive_script(alloc: Global, tree: &[u8], script: &[u8]) -> Result<Driven, CliFault>
     ensures ok { IfOk result (λ d. IsDriven tree.now script.now d.trace.items d.core.seen) }
     ensures fault { IfErr result (λ e. IsFirstDriveFault tree.now script.now e) }
 {
@@ -76,7 +76,7 @@ pub fn drive_cmd(alloc: Global, tree: &[u8], script: &[u8]) -> Result<String, Cl
     ensures printed { IfOk result (λ s. Drives tree.now script.now (string_bytes s)) }
     ensures fault { IfErr result (λ e. IsFirstDriveFault tree.now script.now e) }
 {
-    let driven = carry_out(alloc, tree, script)?;
+    let driven = drive_script(alloc, tree, script)?;
     lines(alloc, &driven.core, &driven.trace)
 }
 
@@ -89,7 +89,7 @@ pub fn drive_with_trail_cmd(
     ensures printed { IfOk result (λ r. DrivesToTrail tree.now script.now (string_bytes r.0) (string_bytes r.1)) }
     ensures fault { IfErr result (λ e. IsFirstDriveFault tree.now script.now e) }
 {
-    let driven = carry_out(alloc, tree, script)?;
+    let driven = drive_script(alloc, tree, script)?;
     let text = lines(alloc, &driven.core, &driven.trace)?;
     let trail = trail_file(alloc, &driven.core)?;
     Ok((text, trail))

@@ -57,7 +57,7 @@ fn run_batch<R: Threads + Wait + Sync, G: Gate + Sync>(
 }
 
 // Carries out a script on a tree.
-fn carry_out<R: Threads + Wait + Sync, G: Gate + Sync>(
+fn run_script<R: Threads + Wait + Sync, G: Gate + Sync>(
     rt: &R,
     alloc: Global,
     tree: &[u8],
@@ -111,7 +111,7 @@ pub fn run_cmd<R: Threads + Wait + Sync, G: Gate + Sync>(
     ensures printed { IfOk result (λ s. Runs tree.now script.now (string_bytes s)) }
     ensures fault { IfErr result (λ e. IsFirstRunFault tree.now script.now e) }
 {
-    let ran = carry_out(rt, alloc, tree, script, workers, gate)?;
+    let ran = run_script(rt, alloc, tree, script, workers, gate)?;
     lines(alloc, &ran)
 }
 
@@ -129,7 +129,7 @@ pub fn run_with_trail_cmd<R: Threads + Wait + Sync, G: Gate + Sync>(
     ensures printed { IfOk result (λ r. RunsToTrail tree.now script.now (string_bytes r.0) (string_bytes r.1)) }
     ensures fault { IfErr result (λ e. IsFirstRunFault tree.now script.now e) }
 {
-    let ran = carry_out(rt, alloc, tree, script, workers, gate)?;
+    let ran = run_script(rt, alloc, tree, script, workers, gate)?;
     let text = lines(alloc, &ran)?;
     let trail = trail_file(alloc, ran.closed.core())?;
     Ok((text, trail))

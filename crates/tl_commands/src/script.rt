@@ -99,7 +99,7 @@ fn script_of_file<F: FromValue>(
 
 /// The script of moves that a file has: `{"moves":[move,..],"procs":[[name,text],..]}`, an object with these two members
 /// and no others. A procedure is a list of its name and its assembler text, two strings. A move is an admission, a list of
-/// a procedure's name and a list of arguments, which fit 64 bits with their sign; or a step, the number of a call, 0 to
+/// a procedure's name and a list of arguments, signed 64-bit integers; or a step, the number of a call, 0 to
 /// 4,294,967,295.
 ///
 /// 731 for all else, also where it is no UTF-8; 990 where memory is refused.

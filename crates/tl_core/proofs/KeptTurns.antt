@@ -5,7 +5,8 @@ use Rattle.std.proofs.lemmas.List.{length-map, get_or_past}
 use Rattle.std.proofs.lemmas.Option.{slice_get-map, get_or_from_slice_get}
 use Rattle.tl_tree.specs.Trees.{TreeValue}
 use Rattle.tl_protocol.specs.History.{part_of, is_done, IsOpen}
-use Rattle.tl_machine.specs.Turns.{TurnValue, Stops, left_of}
+use Rattle.tl_machine.specs.declared.call.CallState.{CallState}
+use Rattle.tl_machine.specs.Turns.{TurnValue, IsTurn, Stops, left_of, with_call}
 use Rattle.tl_machine.specs.declared.want.Stop.{Stop}
 use Rattle.tl_core.specs.declared.call.Call.{Call}
 use Rattle.tl_core.specs.declared.call.OpenCall.{OpenCall}
@@ -86,3 +87,11 @@ module _ (v : CoreValue) (now : TreeValue) (calls : List Call) (slots : List Ope
       let k = kept_with c t is in
       let its = turn_of c t is in
       next_at_stop v now w.kept holders (length slots) reserved w.core c k.call k.there its.is_open.1 s (subst (λ z. Stops z s) (sym k.turn) stops)
+
+-- A turn of the same code on trees of the same shape is the other with its state.
+pub same_turn : (t u : TurnValue) → (state : CallState) → u.code ≡ t.code → u.parents ≡ t.parents → state ≡ u.call → u ≡ with_call t state
+same_turn t u state code parents same = λ i. record { code = code i; parents = parents i; call = sym same i }
+
+pub same_kind : (t u : TurnValue) → (state : CallState) → u.code ≡ t.code → u.parents ≡ t.parents → state ≡ u.call
+    → IsTurn u.code.instrs u.parents u.call → IsTurn t.code.instrs t.parents state
+same_kind t u state code parents same turn = subst (λ z. IsTurn z.code.instrs z.parents z.call) (same_turn t u state code parents same) turn

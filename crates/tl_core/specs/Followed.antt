@@ -6,7 +6,7 @@ use Rattle.tl_protocol.specs.History.{is_done, admits, IsOpen}
 use Rattle.tl_protocol.specs.Holders.{holder_of}
 use Rattle.tl_protocol.specs.World.{next_of, reply_of}
 use Rattle.tl_machine.specs.BetweenSteps.{IsLocal}
-use Rattle.tl_machine.specs.Turns.{SegmentValue}
+use Rattle.tl_machine.specs.Turns.{TurnValue, SegmentValue}
 use Rattle.tl_machine.specs.declared.want.Stop.{Stop}
 use Rattle.tl_machine.specs.declared.want.Stop.TheVariants as stop
 use Rattle.tl_core.specs.declared.fault.CoreFault.{CoreFault}
@@ -14,6 +14,8 @@ use Rattle.tl_core.specs.declared.fault.CoreFault.TheVariants as fault
 use Rattle.tl_core.specs.declared.stepped.Stepped.TheVariants.{Moved}
 use Rattle.tl_core.specs.declared.followed.Followed.{Followed}
 use Rattle.tl_core.specs.declared.followed.Followed.TheVariants.{Went, Blocked, Finished}
+use Rattle.tl_core.specs.declared.followed.Led.{Led}
+use Rattle.tl_core.specs.declared.followed.Led.TheVariants as led
 use Rattle.tl_core.specs.Cores.{CoreState, CoreValue, kept_turn, world_of}
 use Rattle.tl_core.specs.Entries.{step_answer, after_step}
 
@@ -77,3 +79,19 @@ abbrev pub IsFollowFault : CoreState → ℕ → SegmentValue → CoreFault → 
 IsFollowFault v c segment e =
     ((e ≡ fault.NoCall) × (admits v.seen.past ≤ c))
     ⊎ ((e ≡ fault.NotFrom) × (c < admits v.seen.past) × (kept_turn v c ≢ Some segment.from))
+
+-- the same of a caller that keeps the segment: the call went on to that turn, or is done
+abbrev pub IsLedTo : CoreState → ℕ → SegmentValue → TurnValue → Led → CoreState → Type 0
+IsLedTo v c segment turn (led.Blocked x d) w = IsInTheWay v.seen segment.stop x d × (w ≡ v)
+IsLedTo v c segment turn led.Went w = HasGone v c segment w × (kept_turn w c ≡ Some turn)
+IsLedTo v c segment turn led.Finished w = HasGone v c segment w × (is_done c w.seen.past ≡ true)
+
+-- the fact, where the call has ended
+abbrev pub IfFinished : Led → Type 0 → Type 0
+IfFinished led.Finished P = P
+IfFinished led.Went P = Unit {0}
+IfFinished (led.Blocked x d) P = Unit {0}
+
+abbrev pub IsLedFreely : CoreState → SegmentValue → Led → Type 0
+IsLedFreely v segment (led.Blocked x d) = Unit {0}
+IsLedFreely v segment led = (x d : ℕ) → IsInTheWay v.seen segment.stop x d → ⊥

@@ -13,15 +13,15 @@ ghost use Rattle.tl_procedures.specs.declared.fault.NamingFault.TheVariants as n
 ghost use Rattle.tl_core.specs.Cores.{world_of, call_of, code_of, opened, kept_turn, places, room, owed, open_calls, all_budgets, done_by, IsLeastUnfinished, IsTurnOf};
 ghost use Rattle.tl_core.specs.Entries.{step_answer, after_step, admission_refusal, after_admission, procedure_at, IsEntry, after_entry, Traced, after_moves, moved, part_of_run, entry_of, IsBlocked};
 ghost use Rattle.tl_machine.specs.Runs.{emits_of};
-ghost use Rattle.tl_machine.specs.Turns.{TurnValue, Stops, end_of};
+ghost use Rattle.tl_machine.specs.Turns.{TurnValue, IsTurn, Stops, with_call, end_of};
 ghost use Rattle.tl_machine.specs.declared.want.Stop.{Stop};
 ghost use Rattle.tl_machine.specs.declared.want.Stop.TheVariants as stop;
-ghost use Rattle.tl_core.specs.Followed.{IsFollowed, IsUnhindered, IsFollowFault, IsInTheWay, IsLed, NextEndsStop};
+ghost use Rattle.tl_core.specs.Followed.{IsLedTo, IsLedFreely, IfFinished, IsFollowed, IsUnhindered, IsFollowFault, IsInTheWay, IsLed, NextEndsStop};
 ghost use Rattle.tl_core.specs.declared.fault.CoreFault.TheVariants as fault;
 
 use crate::call::{Call, OpenCall, Progress, begin};
 use crate::fault::CoreFault;
-use crate::followed::Followed;
+use crate::followed::{Followed, Led};
 use crate::moves::{Entry, Move};
 use crate::stepped::Stepped;
 use std::alloc::Global;
@@ -29,7 +29,7 @@ use std::marker::Model;
 use std::sync::Arc;
 use tl_history::{History, MAX_CALLS, MAX_EVENTS};
 use tl_instr::MAX_ARGS;
-use tl_machine::{Advance, Reply, Segment, Stop, Turn, Want};
+use tl_machine::{Advance, CallState, Reply, Segment, Stop, Turn, Want};
 use tl_procedures::{NamingFault, Procedures};
 use tl_protocol::{Action, Event};
 use tl_tree::{Record, Tree};
@@ -538,22 +538,59 @@ impl Core {
         ensures fault { IfErr result (λ e. IsFollowFault self.old call segment e) }
         ensures err { OnErr result (self.new ≡ self.old) }
     {
+        let mut state = *segment.from().call();
+        match self.lead(call, &segment, &mut state)? {
+            Led::Went => {
+                let mut turn = segment.into_turn();
+                turn.put_at(&state);
+                Ok(Followed::Went(turn))
+            }
+            Led::Blocked { node, holder } => Ok(Followed::Blocked { node, holder }),
+            Led::Finished => match self.reply(call) {
+                Some(reply) => Ok(Followed::Finished(reply.copy())),
+                // A call that has ended has replied.
+                None => unreachable!(),
+            },
+        }
+    }
+
+    /// The same for a caller that keeps the segment, and in `state` a state of the call: where the call went, this is its
+    /// state now. So a turn takes no more than a copy of the state. 602, 607. Takes no memory.
+    pub fn lead(
+        &mut self,
+        call: u32,
+        segment: &Segment,
+        state: &mut CallState,
+    ) -> Result<Led, CoreFault>
+        requires { IsTurn segment.now.from.code.instrs segment.now.from.parents state.old }
+        ensures turn { IsTurn segment.now.from.code.instrs segment.now.from.parents state.new }
+        ensures from { IfOk result (λ _. kept_turn self.old call ≡ Some segment.now.from) }
+        ensures known { IfOk result (λ l. IfFinished l (call < length self.new.seen.calls)) }
+        ensures followed { IfOk result (λ l. IsLedTo self.old call segment.now (with_call segment.now.from state.new) l self.new) }
+        ensures unhindered { IfOk result (λ l. IsLedFreely self.old segment.now l) }
+        ensures turns { (c : ℕ) → c ≢ call → kept_turn self.new c ≡ kept_turn self.old c }
+        ensures fault { IfErr result (λ e. IsFollowFault self.old call segment.now e) }
+        ensures err { OnErr result (self.new ≡ self.old) }
+    {
         if !self.is_at(call, segment.from())? {
             return Err(CoreFault::NotFrom);
         }
-        if let Some((node, holder)) = self.in_the_way(call, &segment) {
-            return Ok(Followed::Blocked { node, holder });
+        if let Some((node, holder)) = self.in_the_way(call, segment) {
+            return Ok(Led::Blocked { node, holder });
         }
-        self.take_end(call, &segment);
+        self.take_end(call, segment);
         // What is so of the call's turn: here a proof learns that.
         self.is_sound();
         self.at_stop(call);
         // Nobody is in the way, so this is the action of the stop.
         let _moved = self.do_next(call);
-        match self.reply(call) {
-            Some(reply) => Ok(Followed::Finished(reply.copy())),
-            None => Ok(Followed::Went(self.led(call, segment.into_turn()))),
+        if let Some(reply) = self.reply(call) {
+            // A call that has replied is done: here a proof learns that.
+            let _values = reply.values();
+            return Ok(Led::Finished);
         }
+        self.show(call, segment.from(), state);
+        Ok(Led::Went)
     }
 
     // The node that the segment's stop locks, and the call that holds it.
@@ -590,20 +627,19 @@ impl Core {
         let _ = &self.history;
     }
 
-    // The turn of an open call, on the procedure and the shape of a turn of the same call.
-    fn led(&self, call: u32, turn: Turn) -> Turn
+    // Copies the state of an open call, of which this was a turn.
+    fn show(&self, call: u32, turn: &Turn, state: &mut CallState)
         requires known { call < length self.now.seen.calls }
         requires open { is_done call self.now.seen.past ≡ false }
-        requires code { turn.code ≡ (call_of self.now.seen call).code }
-        requires parents { turn.parents ≡ self.now.seen.parents }
-        ensures { kept_turn self.now call ≡ Some result }
+        requires code { turn.now.code ≡ (call_of self.now.seen call).code }
+        requires parents { turn.now.parents ≡ self.now.seen.parents }
+        ensures turn { IsTurn turn.now.code.instrs turn.now.parents state.new }
+        ensures kept { kept_turn self.now call ≡ Some (with_call turn.now state.new) }
     {
         let Some(slot) = self.calls[call as usize].slot() else {
             unreachable!()
         };
-        let mut turn = turn;
-        turn.follow(&self.slots[slot].turn);
-        turn
+        *state = *self.slots[slot].turn.call();
     }
 
     /// What is so of every core: its world is sound and legal, and what each call has done obeys the tree protocol and is

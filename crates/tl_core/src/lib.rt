@@ -13,7 +13,7 @@ mod moves;
 mod stepped;
 
 pub use fault::CoreFault;
-pub use followed::Followed;
+pub use followed::{Followed, Led};
 pub use interleaving::{Core, MAX_OPEN};
 pub use moves::{Entry, Move};
 pub use stepped::Stepped;

@@ -143,7 +143,7 @@ impl History {
     /// The record that the node was last left with: of the latest `Free` of the node. Looks through the events, from the
     /// latest back.
     pub fn last_left(&self, node: u16) -> Option<Record>
-        // Whatever stands for a node that nobody has freed.
+        // `opening` stands for the node's opening record.
         ensures { (opening : RecordValue) → unwrap_or result opening ≡ last_left self.now.past node opening }
     {
         for event in self.events.iter().rev() {

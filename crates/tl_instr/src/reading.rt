@@ -242,7 +242,7 @@ pub fn is_opcode(opcode: u8) -> bool
     OPCODES.contains(&opcode)
 }
 
-/// The instruction of a code of that many that has this cell, where there is one.
+/// The instruction that this cell encodes, in a code of `count` instructions.
 pub fn instr_of(cell: Cell, count: u16) -> Option<Instr>
     ensures { MatchOption result ((i : Instr) → IsInstr count i → cell_of i ≢ cell)
         (λ i. IsInstr count i × (cell_of i ≡ cell)) }

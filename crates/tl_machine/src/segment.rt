@@ -1,7 +1,7 @@
 // What a call does by itself.
 
 ghost use Rattle.std.specs.Prelude.{◌≡◌};
-ghost use Rattle.tl_machine.specs.Turns.{IsSegment, end_of};
+ghost use Rattle.tl_machine.specs.Turns.{IsTurn, IsSegment, with_call, end_of};
 
 use crate::call::CallState;
 use crate::turn::Turn;
@@ -50,6 +50,17 @@ impl Segment {
         ensures segment { IsSegment self.now }
     {
         self.stop
+    }
+
+    /// Begins at another state of the same call, and does the local instructions from there, in place. So whoever takes turn
+    /// after turn moves no turn. Takes no memory.
+    pub fn go_on(&mut self, state: &CallState)
+        requires { IsTurn self.old.from.code.instrs self.old.from.parents state.now }
+        ensures { self.new.from ≡ with_call self.old.from state.now }
+    {
+        self.from.put_at(state);
+        self.to = *state;
+        self.stop = self.to.run_local(self.from.procedure(), self.from.shape());
     }
 
     /// The turn behind the last of them, on the procedure and the shape of the first. Takes no memory.

@@ -214,8 +214,8 @@ impl Turn {
         &self.call
     }
 
-    // Puts the call at another state of its own.
-    pub(crate) fn put_at(&mut self, state: &CallState)
+    /// Puts the call at another state of its own. Takes no memory.
+    pub fn put_at(&mut self, state: &CallState)
         requires { IsTurn self.old.code.instrs self.old.parents state.now }
         ensures { self.new ≡ with_call self.old state.now }
     {

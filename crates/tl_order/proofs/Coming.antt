@@ -22,18 +22,6 @@ none_held parents tree done none =
     let rest = ih (omega arith) in
     grind (arith, e, h, rest))
 
--- a call that locked no node of a lower number comes nowhere from there on up
-pub none_locked : (parents : List ℕ) → IsTree parents → (done : List Action) (x : ℕ) → ((y : ℕ) → y < x → locked done y ≡ false) → comes parents done x ≡ false
-none_locked parents tree done =
-    by_climbing parents tree (λ x. ((y : ℕ) → y < x → locked done y ≡ false) → comes parents done x ≡ false)
-    (λ none. comes-root parents done)
-    (λ x pos ih none.
-    let low = parent-lower parents tree x pos in
-    let e = comes-step parents tree done x pos in
-    let l = none (parent parents x) low in
-    let rest = ih (λ y h. none y (omega arith)) in
-    grind (arith, e, l, rest))
-
 pub may_come-none_held : (parents : List ℕ) → IsTree parents → (done : List Action) → ((y : ℕ) → y < length parents → held done y ≡ false)
     → (x : ℕ) → x < length parents → may_come parents done x ≡ false
 may_come-none_held parents tree done none x inside = let h = none_held parents tree done none x inside in grind (arith, h)

@@ -1,9 +1,7 @@
 pub mod Marks
 pub mod Lines
+pub mod HeldNodes
 pub mod Coming
-pub mod Holding
-pub mod Ways
-pub mod Holders
 pub mod KeptOrders
 pub mod LegalEvents
 mod Rows

@@ -1,5 +1,5 @@
 -- Where a call that is put in stands.
-use Rattle.std.proofs.Common.{◌≡◌, ℕ, zero, suc, sym, set, ◌<◌, ◌≤◌, ◌==◌, ◌||◌, Bool, true, false, List, [], ◌∷◌, ◌++◌, length, get_or, refl, inl, inr, ap, arith}
+use Rattle.std.proofs.Common.{◌≡◌, ◌≢◌, ℕ, zero, suc, sym, set, ◌<◌, ◌≤◌, ◌==◌, ◌||◌, Bool, true, false, List, [], ◌∷◌, ◌++◌, length, get_or, refl, inl, inr, ap, ◌∙◌, subst, arith}
 use Rattle.std.specs.Prelude.{insert, All}
 use Rattle.std.proofs.lemmas.Bool.{cases_lt, cases_eq, both_ways, eq-eqb, ne_eqb}
 use Rattle.std.proofs.lemmas.Bool.Decides.{nat_tests}
@@ -77,3 +77,26 @@ line_more order column place c inside out line = record {
             grind (arith, more, q, now, same)
       ];
 }
+
+-- the last place of a call is its first
+IsDistinct-once : (order : List ℕ) → IsDistinct order → (j k d : ℕ) → j < k → k < length order → get_or order j d ≢ get_or order k d
+IsDistinct-once [] once j k d lt inside same = absurd (omega arith)
+IsDistinct-once (e ∷ es) once j zero d lt inside same = absurd (omega arith)
+IsDistinct-once (e ∷ es) once zero (suc k) d lt inside same =
+    let here = stands-at es k d (omega arith) in
+    absurd (both_ways (stands e es) once.0 (subst (λ z. stands z es ≡ true) (sym same) here))
+IsDistinct-once (e ∷ es) once (suc j) (suc k) d lt inside same = IsDistinct-once es once.1 j k d (omega arith) (omega arith) same
+
+pub put_before-at : (c call : ℕ) (order : List ℕ) (place : ℕ) → IsDistinct order → place < length order → get_or order place 0 ≡ call
+    → put_before (λ d. call == d) c order ≡ insert order place c
+put_before-at c call order place once inside here =
+    put_before-insert (λ d. call == d) c order place 0 (omega arith)
+    (λ j before. ne_eqb call (get_or order j 0) (λ same. IsDistinct-once order once j place 0 before inside (sym same ∙ sym here)))
+    (λ _. eq-eqb call (get_or order place 0) (sym here))
+
+-- a call that stands nowhere is put at the end
+pub put_before-nowhere : (c call : ℕ) (order : List ℕ) → All (λ d. d ≢ call) order → put_before (λ d. call == d) c order ≡ insert order (length order) c
+put_before-nowhere c call order none =
+    put_before-insert (λ d. call == d) c order (length order) 0 (omega arith)
+    (λ j before. ne_eqb call (get_or order j 0) (λ same. none j 0 before (sym same)))
+    (λ inside. absurd (omega arith))

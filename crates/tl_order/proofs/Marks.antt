@@ -1,5 +1,5 @@
 -- The marks of a call, and how many of a list are true.
-use Rattle.std.proofs.Common.{◌≡◌, ◌≢◌, ℕ, zero, suc, ◌+◌, ◌<◌, ◌≤◌, Bool, true, false, List, [], ◌∷◌, length, map, get_or, set, replicate, sym, refl, ap, ◌∙◌, inl, inr, arith}
+use Rattle.std.proofs.Common.{◌≡◌, ℕ, zero, suc, ◌+◌, ◌<◌, ◌≤◌, Bool, true, false, List, [], ◌∷◌, length, map, get_or, set, replicate, sym, refl, ap, ◌∙◌, inl, inr, arith}
 use Rattle.std.proofs.Math.Seq.{map-set_same}
 use Rattle.std.proofs.lemmas.Bool.{cases_eq, eq-eqb, ne_eqb}
 use Rattle.std.proofs.lemmas.Grind.{get_or-set_at}
@@ -106,11 +106,6 @@ trues-none (true ∷ bs) i none = absurd (omega arith)
 trues-none (false ∷ bs) zero none = refl
 trues-none (false ∷ bs) (suc i) none = trues-none bs i none
 
-pub trues-some : (bs : List Bool) → 0 < trues bs → (y : ℕ) × (y < length bs) × (get_or bs y false ≡ true)
-trues-some [] some = absurd (omega arith)
-trues-some (true ∷ bs) some = (0, omega arith, refl)
-trues-some (false ∷ bs) some = let h = trues-some bs some in let later = h.1 in (suc h.0, omega arith, h.2)
-
 pub trues-one_more : (bs : List Bool) (i : ℕ) → i < length bs → get_or bs i false ≡ false → trues (set bs i true) ≡ trues bs + 1
 trues-one_more [] i inside h = absurd (omega arith)
 trues-one_more (true ∷ bs) zero inside h = grind arith
@@ -133,13 +128,6 @@ pub get_or-all_false : (n y : ℕ) → get_or (replicate n false) y false ≡ fa
 get_or-all_false zero y = refl
 get_or-all_false (suc n) zero = refl
 get_or-all_false (suc n) (suc y) = get_or-all_false n y
-
--- no node of a lower number than before was locked, nor of a lower one than this
-pub still_lowest : (ls : List Bool) (lowest x least : ℕ) → least ≤ lowest → least ≤ x
-    → ((y : ℕ) → y < lowest → get_or ls y false ≡ false) → (y : ℕ) → y < least → get_or (set ls x true) y false ≡ false
-still_lowest ls lowest x least below_old below_x none y low =
-    let other : y ≢ x = omega arith in
-    get_or-set_other ls x y true false other ∙ none y (omega arith)
 
 -- what is known of a call that did nothing
 pub shows_nothing : (n : ℕ) → IsPart (shown (replicate n Untouched)) []

@@ -1,5 +1,5 @@
 -- The order of a history that keeps the rules, and the two numbers of each node that it is kept by.
-use Rattle.std.specs.Prelude.{◌≡◌, ℕ, List, length, Option}
+use Rattle.std.specs.Prelude.{◌≡◌, ℕ, List, length, Option, is_some, count_by}
 use Rattle.tl_protocol.specs.declared.event.Event.{Event}
 use Rattle.tl_protocol.specs.Order.{placed}
 use Rattle.tl_protocol.specs.Placing.{AreHolders, AreUnder}
@@ -12,6 +12,10 @@ pub record KeptValue : Type 0 where
   pub calls : ℕ
   pub holders : List (Option ℕ)
   pub under : List (Option ℕ)
+
+-- how many nodes are held
+abbrev pub count_held : List (Option ℕ) → ℕ
+count_held holders = count_by is_some holders
 
 -- there is an entry for each of so many nodes
 pub record IsOfSize (k : KeptValue) (nodes : ℕ) : Type 0 where

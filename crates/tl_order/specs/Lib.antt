@@ -4,4 +4,3 @@ pub mod Line
 pub mod Order
 pub mod Part
 pub mod Parts
-pub mod Way

@@ -1,5 +1,5 @@
 -- What is kept of one call.
-use Rattle.std.specs.Prelude.{◌≡◌, ℕ, ◌+◌, ◌<◌, Bool, true, false, List, [], ◌∷◌, length, slice_index_or, Contains}
+use Rattle.std.specs.Prelude.{◌≡◌, ℕ, ◌+◌, ◌<◌, Bool, true, false, List, [], ◌∷◌, length, slice_index_or}
 use Rattle.tl_protocol.specs.declared.action.Action.{Action}
 use Rattle.tl_protocol.specs.Actions
 use Rattle.tl_order.specs.declared.part.Mark.{Mark}
@@ -30,10 +30,6 @@ abbrev pub trues : List Bool → ℕ
 trues [] = 0
 trues (true ∷ bs) = trues bs + 1
 trues (false ∷ bs) = trues bs
-
--- each node that is held is one of these
-abbrev pub HasHeld : List ℕ → List Bool → Type 0
-HasHeld nodes held = (y : ℕ) → slice_index_or held y false ≡ true → Contains nodes y
 
 -- the marks are those of a call that has done this
 pub record IsPart (m : Marks) (done : List Action) : Type 0 where

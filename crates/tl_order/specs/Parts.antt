@@ -1,8 +1,8 @@
 -- What is kept of each call, while the events go by.
-use Rattle.std.specs.Prelude.{◌≡◌, ℕ, ◌<◌, ◌≤◌, List, [], length, slice_index_or, Contains}
+use Rattle.std.specs.Prelude.{◌≡◌, ℕ, ◌<◌, ◌≤◌, List, [], length, slice_index_or}
 use Rattle.tl_protocol.specs.declared.event.Event.{Event}
 use Rattle.tl_protocol.specs.History.{part_of}
-use Rattle.tl_order.specs.Part.{Marks, IsPart, node_count, trues}
+use Rattle.tl_order.specs.Part.{Marks, IsPart, node_count}
 
 abbrev pub no_marks : Marks
 no_marks = record { locked = []; held = [] }
@@ -23,7 +23,3 @@ Show parts past = (c : ℕ) → c < length parts → IsPart (marks_of parts c) (
 pub record ShowAll (parts : List Marks) (past : List Event) : Type 0 where
   pub shows : Show parts past
   pub others : (c : ℕ) → length parts ≤ c → part_of c past ≡ []
-
--- each call that holds a node is one of these
-abbrev pub HasHolders : List ℕ → List Marks → Type 0
-HasHolders holders parts = (c : ℕ) → 0 < trues (marks_of parts c).held → Contains holders c

@@ -1,13 +1,13 @@
 // The order of a history that keeps the rules, kept up to date event by event.
 
-ghost use Rattle.std.specs.Prelude.{◌≡◌, ◌<◌, ◌≤◌, ℕ, List, [], ◌∷◌, false, length, insert, slice_get, Some, true, All, IfOk};
+ghost use Rattle.std.specs.Prelude.{◌≡◌, ◌<◌, ◌≤◌, ℕ, List, [], ◌∷◌, false, length, insert, set, slice_get, slice_index_or, Some, None, true, All, IfOk};
 ghost use Rattle.tl_tree.specs.Records.{Record as RecordValue};
 ghost use Rattle.tl_tree.specs.Shape.{IsTree};
 ghost use Rattle.tl_protocol.specs.declared.event.Event.{Event as EventValue};
 ghost use Rattle.tl_protocol.specs.declared.event.Event.TheVariants as event;
 ghost use Rattle.tl_protocol.specs.History.{caller, past_of, admits, IsLegalHistory};
 ghost use Rattle.tl_protocol.specs.Nodes.{IsOfNodes};
-ghost use Rattle.tl_protocol.specs.Order.{stands, put_before};
+ghost use Rattle.tl_protocol.specs.Order.{stands, put_before, IsDistinct};
 ghost use Rattle.tl_protocol.specs.Placing.{is_call, coming_calls};
 ghost use Rattle.tl_order.specs.Kept.{IsOfSize, IsKept};
 
@@ -21,8 +21,8 @@ use tl_tree::Shape;
 /// The order of a history that keeps the rules, kept up to date event by event.
 ///
 /// At a call's first lock the order changes at one place, and a climb from the node to the root finds it by two numbers of
-/// each node: the call that holds it, and the call that was the last to lock it while it held the node's parent. All memory
-/// is taken at the start.
+/// each node: the call that holds it, and the call that was the last to lock it while it held the node's parent. It stops where
+/// it has met all held nodes. All memory is taken at the start.
 #[derive(Debug, Drop)]
 pub struct KeptOrder {
     order: Order,
@@ -30,13 +30,15 @@ pub struct KeptOrder {
     standing: Vec<bool>,
     // Of each node the call that holds it.
     holders: Vec<Option<u32>>,
+    // How many nodes are held. A climb ends where it has met as many.
+    held_count: usize,
     // Of each node the call that was the last to lock it while it held the node's parent.
     under: Vec<Option<u32>>,
 }
 
 impl Model for KeptOrder {
     ghost use Rattle.std.specs.Prelude.{◌≡◌, ◌≤◌, length};
-    ghost use Rattle.tl_order.specs.Kept.{KeptValue};
+    ghost use Rattle.tl_order.specs.Kept.{KeptValue, count_held};
     ghost use Rattle.tl_order.specs.Line.{IsLine};
     ghost use Rattle.tl_order.specs.Part.{trues};
 
@@ -46,7 +48,8 @@ impl Model for KeptOrder {
 
     ghost invariant = { λ k. IsLine k.order.calls k.standing.items
         × (length k.order.calls ≡ trues k.standing.items)
-        × (length k.standing.items ≤ k.order.capacity) };
+        × (length k.standing.items ≤ k.order.capacity)
+        × (k.held_count ≡ count_held k.holders.items) };
 }
 
 impl KeptOrder {
@@ -64,6 +67,7 @@ impl KeptOrder {
             order,
             standing,
             holders,
+            held_count: 0,
             under,
         })
     }
@@ -103,6 +107,30 @@ impl KeptOrder {
         self.order
     }
 
+    /// Whether the call stands in the order.
+    pub fn stands(&self, call: u32) -> bool
+        requires { call < self.now.calls }
+        ensures { result ≡ stands call self.now.order.calls }
+    {
+        self.standing[call as usize]
+    }
+
+    /// The call that holds the node.
+    pub fn holder(&self, node: u16) -> Option<u32>
+        requires { node < length self.now.holders }
+        ensures { result ≡ slice_index_or self.now.holders node None }
+    {
+        self.holders[usize::from(node)]
+    }
+
+    /// The call that was the last to lock the node while it held the node's parent.
+    pub fn under(&self, node: u16) -> Option<u32>
+        requires { node < length self.now.under }
+        ensures { result ≡ slice_index_or self.now.under node None }
+    {
+        self.under[usize::from(node)]
+    }
+
     /// Takes up one more event.
     pub fn note(&mut self, shape: &Shape, event: &Event)
         requires tree { IsTree shape.now }
@@ -134,7 +162,7 @@ impl KeptOrder {
             → IsLegalHistory shape.now (event.Lock node call found ∷ past)
             → IsKept self.new shape.now (event.Lock node call found ∷ past) }
     {
-        if self.standing[call as usize] {
+        if self.stands(call) {
             self.lock_again(call, node);
         } else {
             self.lock_first(shape, call, node);
@@ -153,7 +181,17 @@ impl KeptOrder {
             → IsKept self.new parents (event.Lock node call found ∷ past) }
     {
         self.under[usize::from(node)] = Some(call);
-        self.holders[usize::from(node)] = Some(call);
+        self.hold(node, call);
+    }
+
+    // The call holds the node from now on.
+    fn hold(&mut self, node: u16, call: u32)
+        requires { node < length self.old.holders }
+        ensures { self.new ≡ record self.old { holders = set self.old.holders node (Some call) } }
+    {
+        if self.holders[usize::from(node)].replace(call).is_none() {
+            self.held_count += 1;
+        }
     }
 
     // A call that doesn't stand in the order locks its first node.
@@ -171,7 +209,7 @@ impl KeptOrder {
     {
         let place = self.place_at(shape, node);
         self.put_in(place, call);
-        self.holders[usize::from(node)] = Some(call);
+        self.hold(node, call);
     }
 
     // Where a call that locks the node first is put in: before the first call that may still come to the node, or at the
@@ -185,7 +223,7 @@ impl KeptOrder {
             → put_before (is_call (slice_get (coming_calls shape.now past node) 0)) c self.now.order.calls
             ≡ insert self.now.order.calls result c }
     {
-        match nearest_coming(shape, &self.holders, &self.under, node) {
+        match nearest_coming(shape, &self.holders, self.held_count, &self.under, node) {
             Some(first) => place_of(self.order.calls(), first),
             None => self.order.calls().len(),
         }
@@ -199,7 +237,9 @@ impl KeptOrder {
         ensures kept { (parents : List ℕ) (past : List EventValue) (call : ℕ) (left : RecordValue)
             → IsKept self.old parents past → IsKept self.new parents (event.Free node call left ∷ past) }
     {
-        self.holders[usize::from(node)] = None;
+        if self.holders[usize::from(node)].take().is_some() {
+            self.held_count -= 1;
+        }
     }
 
     /// A call ends: where it has locked no node, it goes to the end.
@@ -211,7 +251,7 @@ impl KeptOrder {
             → IsKept self.old parents past → IsKept self.new parents (event.Done call ∷ past) }
     {
         let last = self.order.calls().len();
-        if !self.standing[call as usize] {
+        if !self.stands(call) {
             self.put_in(last, call);
         }
     }
@@ -239,15 +279,15 @@ impl KeptOrder {
     }
 }
 
-// The place of the call in the order, or its end where the call doesn't stand there.
+// The place of the call in the order, or its end where the call doesn't stand there. It is looked for from the end: a new
+// call mostly goes before one of the last.
 fn place_of(order: &[u32], call: u32) -> usize
+    requires distinct { IsDistinct order.now }
     ensures within { result ≤ length order.now }
     ensures place { (c : ℕ) → put_before (is_call (Some call)) c order.now ≡ insert order.now result c }
 {
-    for (place, other) in order.iter().enumerate() {
-        if *other == call {
-            return place;
-        }
+    match order.iter().rposition(|other| *other == call) {
+        Some(place) => place,
+        None => order.len(),
     }
-    order.len()
 }

@@ -12,10 +12,8 @@ mod order;
 mod part;
 mod parts;
 mod placing;
-mod way;
 
 pub use fault::SerialFault;
 pub use kept::KeptOrder;
 pub use order::Order;
-pub use part::Part;
 pub use placing::{is_of_shape, order_of};

@@ -8,13 +8,11 @@ ghost use Rattle.tl_protocol.specs.History.{caller, part_of, past_of, IsLegalHis
 ghost use Rattle.tl_protocol.specs.Order.{put_before, placed, placed_after, Agrees};
 ghost use Rattle.tl_protocol.specs.Nodes.{IsOfNodes};
 ghost use Rattle.tl_order.specs.Parts.{AreOfNodes, Show, ShowAll};
-ghost use Rattle.tl_order.specs.Way.{IsWay};
 
 use crate::fault::SerialFault;
 use crate::line::Line;
 use crate::order::Order;
 use crate::parts::Parts;
-use crate::way::Way;
 use std::alloc::{AllocError, Global};
 use tl_history::History;
 use tl_protocol::Event;
@@ -48,15 +46,7 @@ fn placed_order(alloc: Global, history: &History, shape: &Shape) -> Result<Order
 {
     let mut line = Line::new(alloc);
     let mut parts = Parts::new(alloc);
-    let mut way = Way::new(alloc, usize::from(shape.node_count()))?;
-    place_all(
-        alloc,
-        &mut line,
-        &mut parts,
-        &mut way,
-        shape,
-        history.events(),
-    )?;
+    place_all(alloc, &mut line, &mut parts, shape, history.events())?;
     Ok(line.into_order())
 }
 
@@ -65,21 +55,19 @@ fn place_all(
     alloc: Global,
     line: &mut Line,
     parts: &mut Parts,
-    way: &mut Way,
     shape: &Shape,
     events: &[Event],
 ) -> Result<(), AllocError>
     requires line { line.old ≡ record { order = []; count = 0 } }
     requires parts { parts.old ≡ [] }
-    requires marks { length way.old ≡ length shape.now }
     requires inside { All (IsOfNodes (length shape.now)) events.now }
     ensures { OnOk result (line.new.order ≡ placed shape.now (past_of events.now)) }
 {
     let nodes = usize::from(shape.node_count());
     for event in events {
         make_room(alloc, line, parts, nodes, caller(event))?;
-        place(line, parts, way, shape, event)?;
-        parts.note(event)?;
+        place(line, parts, shape, event)?;
+        parts.note(event);
     }
     Ok(())
 }
@@ -141,20 +129,12 @@ fn caller(event: &Event) -> u32
 }
 
 // Puts the event's call in order, where it is its call's first lock, or its end without a lock.
-fn place(
-    line: &mut Line,
-    parts: &Parts,
-    way: &mut Way,
-    shape: &Shape,
-    event: &Event,
-) -> Result<(), AllocError>
+fn place(line: &mut Line, parts: &Parts, shape: &Shape, event: &Event) -> Result<(), AllocError>
     requires tree { IsTree shape.now }
     requires calls { length parts.now ≡ line.old.count }
     requires nodes { AreOfNodes (length shape.now) parts.now }
-    requires marks { length way.old ≡ length shape.now }
     requires caller { caller event.now < line.old.count }
     requires node { IsOfNodes (length shape.now) event.now }
-    ensures marks { length way.new ≡ length way.old }
     ensures count { OnOk result (line.new.count ≡ line.old.count) }
     ensures ok { OnOk result ((past : List EventValue) → Show parts.now past
         → line.new.order ≡ placed_after shape.now past event.now line.old.order) }
@@ -165,9 +145,7 @@ fn place(
     }
     match *event {
         Event::Lock { node, .. } => {
-            way.mark(shape, node);
-            let first = first_coming(line.calls(), parts, shape, node, way);
-            way.clear(shape, node);
+            let first = first_coming(line.calls(), parts, shape, node);
             line.put_in(first, call)
         }
         Event::Done { .. } => line.put_in(line.calls().len(), call),
@@ -175,25 +153,19 @@ fn place(
     }
 }
 
-// The place of the first call in order that may still come to the node, to which the way leads, or the end.
-fn first_coming(order: &[u32], parts: &Parts, shape: &Shape, node: u16, way: &Way) -> usize
+// The place of the first call in order that may still come to the node, or the end.
+fn first_coming(order: &[u32], parts: &Parts, shape: &Shape, node: u16) -> usize
     requires calls { All (λ c. c < length parts.now) order.now }
     requires tree { IsTree shape.now }
     requires nodes { AreOfNodes (length shape.now) parts.now }
     requires node { node < length shape.now }
-    requires marks { length way.now ≡ length shape.now }
-    requires way { IsWay shape.now node way.now }
     ensures within { result ≤ length order.now }
     ensures first { (past : List EventValue) (call : ℕ) → Show parts.now past
         → put_before (λ c. may_come shape.now (part_of c past) node) call order.now
         ≡ insert order.now result call }
 {
-    // Mostly none may come, and only the few calls that hold a node need be asked to see that.
-    if !parts.any_may_come(shape, node, way) {
-        return order.len();
-    }
     for (place, call) in order.iter().enumerate() {
-        if parts.may_come(*call, shape, node, way) {
+        if parts.may_come(*call, shape, node) {
             return place;
         }
     }

@@ -1,6 +1,6 @@
 //! The trail of a core.
 //!
-//! What a core's calls did is told here, and nowhere else: an auditor of trails needs nothing of a core.
+//! Only here is a core made into a trail: an auditor of trails needs nothing of a core.
 #![tactic(auto)]
 
 mod recording;

@@ -74,11 +74,11 @@ fn reply_of(core: &Core, call: u32) -> Option<ArrayVec<i64, MAX_EMITS>>
     ensures { option_map (λ r. r.items) result ≡ (told_call core.now.seen call).reply }
 {
     let reply = core.reply(call)?;
-    let mut told = ArrayVec::new();
-    let Ok(()) = told.try_extend_from_slice(reply.values()) else {
+    let mut values = ArrayVec::new();
+    let Ok(()) = values.try_extend_from_slice(reply.values()) else {
         unreachable!()
     };
-    Some(told)
+    Some(values)
 }
 
 // The same events. There is room for them, since no history has more.

@@ -539,9 +539,9 @@ fn bytes_that_are_no_text_are_no_tree(rt: HostRuntime) -> Result<(), Fail> {
 #[test]
 fn the_first_input_that_is_wrong_is_told(rt: HostRuntime) -> Result<(), Fail> {
     for row in &REFUSED {
-        let (tree, procedure, args, told) = *row;
+        let (tree, procedure, args, expected) = *row;
         let printed = answered(rt.alloc(), tree, procedure, args)?;
-        assert_eq!(rt; printed.as_str(), told, "{tree} {args}");
+        assert_eq!(rt; printed.as_str(), expected, "{tree} {args}");
     }
     Ok(())
 }

@@ -116,7 +116,7 @@ fn calls_leave_clean_trails(rt: HostRuntime) -> Result<(), Fail> {
     Ok(())
 }
 
-// Call 0 isn't done. Its reply is told as null, and the auditor says so.
+// Call 0 isn't done. Its reply is null in the trail, and the auditor says so.
 #[test]
 fn an_unfinished_call_has_no_reply(rt: HostRuntime) -> Result<(), Fail> {
     let alloc = rt.alloc();
@@ -127,9 +127,9 @@ fn an_unfinished_call_has_no_reply(rt: HostRuntime) -> Result<(), Fail> {
         printed.as_str(),
         format!(in alloc; "{trace}{FORK}\n")?.as_str()
     );
-    let told = "{\"calls\":[[\"look\",[1],null]],\"end\":[[0,0,0,0],[10,0,0,0],[20,0,0,0]]";
+    let calls = "{\"calls\":[[\"look\",[1],null]],\"end\":[[0,0,0,0],[10,0,0,0],[20,0,0,0]]";
     let events = "\"events\":[[\"a\",0],[\"l\",0,1,[10,0,0,0]]]";
-    let expected = format!(in alloc; "{told},{events},\"procs\":[{look}],\"tree\":{FORK}}}\n")?;
+    let expected = format!(in alloc; "{calls},{events},\"procs\":[{look}],\"tree\":{FORK}}}\n")?;
     assert_eq!(rt; trail.as_str(), expected.as_str());
     let found = audited(alloc, &trail)?;
     assert_eq!(rt; found.as_str(), "[715, 0] 1");
@@ -169,7 +169,7 @@ const WRONG: [(&[usize], &str, &str, &str); 11] = [
         "",
         "[715, 0] 1",
     ),
-    // What is told otherwise than it was.
+    // What stands otherwise in the trail than it was.
     (&WHOLE, "[\"l\",1,1,[11", "[\"l\",1,1,[12", "[713, 5] 1"),
     (&WHOLE, "[1],[11]]", "[1],[12]]", "[717, 1] 1"),
     (&WHOLE, "[1],[11]]", "[1],null]", "[717, 1] 1"),
@@ -196,10 +196,10 @@ fn bytes_that_are_no_text_are_no_trail(rt: HostRuntime) -> Result<(), Fail> {
 #[test]
 fn what_is_told_otherwise_is_refused(rt: HostRuntime) -> Result<(), Fail> {
     let alloc = rt.alloc();
-    for (chosen, old, new, told) in WRONG {
+    for (chosen, old, new, expected) in WRONG {
         let trail = trail_with(alloc, chosen)?;
         let found = audited(alloc, &trail.replace(alloc, old, new)?)?;
-        assert_eq!(rt; found.as_str(), told, "{chosen:?} {old}");
+        assert_eq!(rt; found.as_str(), expected, "{chosen:?} {old}");
     }
     Ok(())
 }

@@ -199,9 +199,9 @@ const SCRIPTS: [(&str, &[u8], &str); 22] = [
 #[test]
 fn what_is_wrong_first_is_told(rt: HostRuntime) -> Result<(), Fail> {
     let alloc = rt.alloc();
-    for (tree, script, told) in SCRIPTS {
+    for (tree, script, expected) in SCRIPTS {
         let printed = answer(alloc, drive_cmd(alloc, tree.as_bytes(), script))?;
-        assert_eq!(rt; printed.as_str(), told, "{script:?}");
+        assert_eq!(rt; printed.as_str(), expected, "{script:?}");
     }
     Ok(())
 }

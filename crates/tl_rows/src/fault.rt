@@ -116,12 +116,12 @@ const FAULTS: [(CliFault, &str); 29] = [
 
 #[test]
 fn a_fault_has_its_numbers_its_status_and_its_text(rt: HostRuntime) -> Result<(), Fail> {
-    for (fault, told) in FAULTS {
+    for (fault, expected) in FAULTS {
         let numbers = fault.numbers();
         let numbers = numbers.as_slice();
         let status = fault.status();
         let text = format!(in rt.alloc(); "{numbers:?} {status}: {fault}")?;
-        assert_eq!(rt; text.as_str(), told);
+        assert_eq!(rt; text.as_str(), expected);
     }
     Ok(())
 }

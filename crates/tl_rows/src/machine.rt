@@ -82,6 +82,22 @@ fn a_kept_turn_takes_the_end_of_a_segment(rt: HostRuntime) -> Result<(), Fail> {
 }
 
 #[test]
+fn a_segment_begins_again_at_a_state_of_its_call(rt: HostRuntime) -> Result<(), Fail> {
+    let alloc = rt.alloc();
+    let shape = Arc::new(alloc, Shape::new(alloc, &[0, 0, 0])?)?;
+    let mut turn = Turn::start(shared(alloc, LOOK)?, shape, &[-1])?;
+    let state = *turn.call();
+    turn.put_at(&state);
+    let mut segment = local(turn);
+    let begin = *segment.from().call();
+    segment.go_on(&begin);
+    assert_eq!(rt; segment.from().call().steps, 0);
+    assert_eq!(rt; segment.to().steps, 1);
+    assert_eq!(rt; segment.stop(), Stop::Return);
+    Ok(())
+}
+
+#[test]
 fn a_turn_that_is_over_wants_nothing(rt: HostRuntime) -> Result<(), Fail> {
     let alloc = rt.alloc();
     let shape = Arc::new(alloc, Shape::new(alloc, &[0, 0, 0])?)?;

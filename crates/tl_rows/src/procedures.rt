@@ -289,9 +289,9 @@ fn assembled(alloc: Global, text: &[u8]) -> Result<String, Fail> {
 #[test]
 fn a_text_is_refused_by_its_first_fault(rt: HostRuntime) -> Result<(), Fail> {
     for row in &NO_TEXTS {
-        let (text, told) = *row;
+        let (text, expected) = *row;
         let printed = assembled(rt.alloc(), text)?;
-        assert_eq!(rt; printed.as_str(), told, "{text:?}");
+        assert_eq!(rt; printed.as_str(), expected, "{text:?}");
     }
     Ok(())
 }
@@ -344,9 +344,9 @@ fn wrong_in(alloc: Global, place: usize, byte: u8, length: usize) -> Result<Stri
 
 #[test]
 fn other_bytes_are_no_container(rt: HostRuntime) -> Result<(), Fail> {
-    for (place, byte, length, told) in CHANGED {
+    for (place, byte, length, expected) in CHANGED {
         let printed = wrong_in(rt.alloc(), place, byte, length)?;
-        assert_eq!(rt; printed.as_str(), told, "byte {place}, {length} bytes");
+        assert_eq!(rt; printed.as_str(), expected, "byte {place}, {length} bytes");
     }
     Ok(())
 }
@@ -364,10 +364,10 @@ fn returns(alloc: Global, count: usize) -> Result<String, Fail> {
 
 #[test]
 fn a_text_has_at_most_1024_instructions(rt: HostRuntime) -> Result<(), Fail> {
-    for (count, told) in [(1024, "{\"count\":1024}\n"), (1025, "[254] 1")] {
+    for (count, expected) in [(1024, "{\"count\":1024}\n"), (1025, "[254] 1")] {
         let text = returns(rt.alloc(), count)?;
         let printed = assembled(rt.alloc(), text.as_bytes())?;
-        assert_eq!(rt; printed.as_str(), told, "{count}");
+        assert_eq!(rt; printed.as_str(), expected, "{count}");
     }
     Ok(())
 }

@@ -63,10 +63,10 @@ const CALLS: [(&str, &str); 6] = [
 #[test]
 fn each_request_is_answered(rt: HostRuntime) -> Result<(), Fail> {
     let alloc = rt.alloc();
-    for (calls, told) in CALLS {
+    for (calls, expected) in CALLS {
         let script = format!(in alloc; "{{\"calls\":[{calls}],\"procs\":[{ECHO}]}}")?;
         let printed = answer(alloc, ran(&rt, ONE_NODE, script.as_bytes()))?;
-        assert_eq!(rt; printed.as_str(), told, "{calls}");
+        assert_eq!(rt; printed.as_str(), expected, "{calls}");
     }
     Ok(())
 }
@@ -131,9 +131,9 @@ const SCRIPTS: [(&str, &[u8], &str); 8] = [
 #[test]
 fn what_is_wrong_first_is_told(rt: HostRuntime) -> Result<(), Fail> {
     let alloc = rt.alloc();
-    for (tree, script, told) in SCRIPTS {
+    for (tree, script, expected) in SCRIPTS {
         let printed = answer(alloc, ran(&rt, tree, script))?;
-        assert_eq!(rt; printed.as_str(), told, "{script:?}");
+        assert_eq!(rt; printed.as_str(), expected, "{script:?}");
     }
     Ok(())
 }

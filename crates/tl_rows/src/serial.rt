@@ -1,12 +1,13 @@
 //! Orders of calls, and calls that run again along one.
 
-use crate::texts::{LOOK, ONE_NODE, procedure_of, tree_of};
+use crate::texts::{BOTH, FORK as FORK_TREE, LOOK, ONE_NODE, STORE, procedure_of, tree_of};
 use std::alloc::Global;
 use std::test::Fail;
 use tl_core::Core;
 use tl_history::{History, MAX_EVENTS};
+use tl_order::KeptOrder;
 use tl_protocol::Event;
-use tl_serial::{conclude, is_of_shape, order_of, replay};
+use tl_serial::{Running, conclude, is_of_shape, order_of, replay};
 use tl_tree::{Shape, write_tree};
 
 // ---- histories
@@ -18,9 +19,9 @@ const FORK: [i64; 3] = [0, 0, 0];
 const CHAIN: [i64; 3] = [0, 0, 1];
 
 /// An event: its letter, call and node.
-type Told = (char, u32, u16);
+type Row = (char, u32, u16);
 
-fn event_of((letter, call, node): Told) -> Event {
+fn event_of((letter, call, node): Row) -> Event {
     match letter {
         'a' => Event::Admit { call },
         'l' => Event::Lock {
@@ -38,14 +39,14 @@ fn event_of((letter, call, node): Told) -> Event {
 }
 
 /// Reserves a place, and puts the event there.
-fn put(alloc: Global, history: &mut History, told: Told) -> Result<(), Fail> {
+fn put(alloc: Global, history: &mut History, row: Row) -> Result<(), Fail> {
     history.reserve(alloc, 1)?;
-    history.append(event_of(told));
+    history.append(event_of(row));
     Ok(())
 }
 
 /// The order that these events give on a tree with these parents.
-fn order(alloc: Global, parents: &[i64], events: &[Told]) -> Result<Vec<u32>, Fail> {
+fn order(alloc: Global, parents: &[i64], events: &[Row]) -> Result<Vec<u32>, Fail> {
     let shape = Shape::new(alloc, parents)?;
     let mut history = History::new(alloc, 100);
     for event in events {
@@ -59,7 +60,7 @@ fn order(alloc: Global, parents: &[i64], events: &[Told]) -> Result<Vec<u32>, Fa
 }
 
 /// Each parents and events, and the order.
-const ORDERS: [(&[i64], &[Told], &[u32]); 5] = [
+const ORDERS: [(&[i64], &[Row], &[u32]); 5] = [
     // Call 2 comes to node 2 before call 0, which came first of all.
     (
         &FORK,
@@ -171,7 +172,78 @@ fn a_million_events_of_many_calls(rt: HostRuntime) -> Result<(), Fail> {
     Ok(())
 }
 
+// A call that locks its first node, and then a child of that.
+#[test]
+fn an_order_is_kept_by_two_numbers_a_node(rt: HostRuntime) -> Result<(), Fail> {
+    let shape = Shape::new(rt.alloc(), &CHAIN)?;
+    if shape.node_count() < 2 {
+        return Err("too few nodes".into());
+    }
+    let mut kept = KeptOrder::new(rt.alloc(), usize::from(shape.node_count()), 2)?;
+    kept.lock(&shape, 1, 0);
+    kept.lock(&shape, 1, 1);
+    assert!(rt; kept.stands(1));
+    assert!(rt; !kept.stands(0));
+    assert_eq!(rt; kept.holder(0), Some(1));
+    assert_eq!(rt; kept.under(0), None);
+    assert_eq!(rt; kept.under(1), Some(1));
+    Ok(())
+}
+
 // ---- cores
+
+/// Whether this is the order that is kept up to date, and the plain definition gives it for the history so far.
+fn is_kept(alloc: Global, running: &Running, order: &[u32]) -> Result<bool, Fail> {
+    let history = running.core().history();
+    let shape = running.core().opening().shape();
+    if !is_of_shape(history, shape) {
+        return Err("an event of another node".into());
+    }
+    let defined = order_of(alloc, history, shape)?;
+    Ok(defined.calls() == order && running.order().calls() == order)
+}
+
+/// The call does so many steps, with this order after each.
+fn keeps(
+    alloc: Global,
+    running: &mut Running,
+    call: u32,
+    steps: u32,
+    order: &[u32],
+) -> Result<bool, Fail> {
+    for _step in 0..steps {
+        if running.step(call).is_err() || !is_kept(alloc, running, order)? {
+            return Ok(false);
+        }
+    }
+    Ok(true)
+}
+
+/// Call 2 comes to the second child before call 0 does. Whether the order is kept at each step.
+fn goes_against_the_clock(alloc: Global, running: &mut Running) -> Result<bool, Fail> {
+    running.add_proc(alloc, "both", procedure_of(alloc, BOTH)?)?;
+    running.add_proc(alloc, "look", procedure_of(alloc, LOOK)?)?;
+    running.add_proc(alloc, "store", procedure_of(alloc, STORE)?)?;
+    running.admit(alloc, "both", &[11])?;
+    let first = keeps(alloc, running, 0, 4, &[0])?;
+    running.admit(alloc, "look", &[1])?;
+    let second = keeps(alloc, running, 1, 5, &[0, 1])?;
+    running.admit(alloc, "store", &[2, 22])?;
+    let third = keeps(alloc, running, 2, 4, &[2, 0, 1])?;
+    let last = keeps(alloc, running, 0, 7, &[2, 0, 1])?;
+    Ok(first && second && third && last)
+}
+
+#[test]
+fn an_order_against_the_clock_is_kept(rt: HostRuntime) -> Result<(), Fail> {
+    let alloc = rt.alloc();
+    let mut running = Running::new(alloc, Core::new(alloc, tree_of(alloc, FORK_TREE)?)?)?;
+    let is_kept = goes_against_the_clock(alloc, &mut running);
+    let count = running.core().history().events().len();
+    assert!(rt; is_kept?);
+    assert_eq!(rt; count, 16);
+    Ok(())
+}
 
 /// A core of one node on which this procedure has looked twice: at no node, and at the node. The first is done last.
 fn driven(alloc: Global) -> Result<Core, Fail> {

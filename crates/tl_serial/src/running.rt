@@ -12,8 +12,8 @@ ghost use Rattle.tl_procedures.specs.Names.{naming_refusal};
 ghost use Rattle.tl_procedures.specs.declared.fault.NamingFault.TheVariants as naming;
 ghost use Rattle.tl_core.specs.Cores.{CoreState, world_of, done_by, kept_turn, IsLeastUnfinished};
 ghost use Rattle.tl_core.specs.Entries.{step_answer, after_step, admission_refusal, after_admission, part_of_run, entry_of, IsBlocked};
-ghost use Rattle.tl_core.specs.Followed.{IsFollowed, HasGone, IsUnhindered, IsFollowFault, EndsStop};
-ghost use Rattle.tl_machine.specs.Turns.{SegmentValue};
+ghost use Rattle.tl_core.specs.Followed.{IsLedTo, IsLedFreely, IfFinished, IsFollowed, HasGone, IsUnhindered, IsFollowFault, EndsStop};
+ghost use Rattle.tl_machine.specs.Turns.{TurnValue, SegmentValue, IsTurn, with_call};
 ghost use Rattle.tl_core.specs.declared.fault.CoreFault.TheVariants as fault;
 ghost use Rattle.tl_machine.specs.BetweenSteps.{IsLocal};
 ghost use Rattle.tl_order.specs.Kept.{IsOfSize, IsKept};
@@ -22,9 +22,9 @@ ghost use Rattle.tl_history.specs.declared.history.TheConstants.{MAX_CALLS};
 
 use std::alloc::{AllocError, Global};
 use std::marker::Model;
-use tl_core::{Core, CoreFault, Followed, Stepped};
+use tl_core::{Core, CoreFault, Followed, Led, Stepped};
 use tl_history::MAX_CALLS;
-use tl_machine::{Segment, Stop};
+use tl_machine::{CallState, Segment, Stop};
 use tl_order::{KeptOrder, Order, SerialFault};
 use tl_procedures::NamingFault;
 use tl_protocol::Action;
@@ -133,14 +133,47 @@ impl Running {
         ensures fault { IfErr result (λ e. IsFollowFault self.old call segment e) }
         ensures err { OnErr result (self.new ≡ self.old) }
     {
+        let mut state = *segment.from().call();
+        match self.lead(call, &segment, &mut state)? {
+            Led::Went => {
+                let mut turn = segment.into_turn();
+                turn.put_at(&state);
+                Ok(Followed::Went(turn))
+            }
+            Led::Blocked { node, holder } => Ok(Followed::Blocked { node, holder }),
+            Led::Finished => match self.core.reply(call) {
+                Some(reply) => Ok(Followed::Finished(reply.copy())),
+                // A call that has ended has replied.
+                None => unreachable!(),
+            },
+        }
+    }
+
+    /// The same for a caller that keeps the segment and a state of the call, as the core does: 602, 607. Takes no memory.
+    pub fn lead(
+        &mut self,
+        call: u32,
+        segment: &Segment,
+        state: &mut CallState,
+    ) -> Result<Led, CoreFault>
+        requires { IsTurn segment.now.from.code.instrs segment.now.from.parents state.old }
+        ensures turn { IsTurn segment.now.from.code.instrs segment.now.from.parents state.new }
+        ensures from { IfOk result (λ _. kept_turn self.old call ≡ Some segment.now.from) }
+        ensures known { IfOk result (λ l. IfFinished l (call < length self.new.seen.calls)) }
+        ensures followed { IfOk result (λ l. IsLedTo self.old call segment.now (with_call segment.now.from state.new) l self.new) }
+        ensures unhindered { IfOk result (λ l. IsLedFreely self.old segment.now l) }
+        ensures turns { (c : ℕ) → c ≢ call → kept_turn self.new c ≡ kept_turn self.old c }
+        ensures fault { IfErr result (λ e. IsFollowFault self.old call segment.now e) }
+        ensures err { OnErr result (self.new ≡ self.old) }
+    {
         let stop = segment.stop();
-        let followed = self.core.follow(call, segment);
-        if let Ok(outcome) = &followed {
-            if has_gone(outcome) {
+        let led = self.core.lead(call, segment, state);
+        if let Ok(outcome) = &led {
+            if has_gone(*outcome) {
                 take_up(&mut self.order, &self.core, call, stop);
             }
         }
-        followed
+        led
     }
 
     /// The order, once every call is done, with all that `conclude` promises of it. 651 with the least unfinished call where
@@ -192,16 +225,16 @@ fn stop_of(action: &Action) -> Option<Stop>
 }
 
 // Whether the call did what the segment ends with.
-fn has_gone(outcome: &Followed) -> bool
-    ensures gone { (v w : CoreState) (c : ℕ) (segment : SegmentValue) → IsFollowed v c segment outcome.now w
+fn has_gone(outcome: Led) -> bool
+    ensures gone { (v w : CoreState) (c : ℕ) (segment : SegmentValue) (turn : TurnValue) → IsLedTo v c segment turn outcome w
         → result ≡ true → HasGone v c segment w }
-    ensures blocked { (v w : CoreState) (c : ℕ) (segment : SegmentValue) → IsFollowed v c segment outcome.now w
+    ensures blocked { (v w : CoreState) (c : ℕ) (segment : SegmentValue) (turn : TurnValue) → IsLedTo v c segment turn outcome w
         → result ≡ false → w ≡ v }
 {
     match outcome {
-        Followed::Went(_) => true,
-        Followed::Finished(_) => true,
-        Followed::Blocked { .. } => false,
+        Led::Went => true,
+        Led::Finished => true,
+        Led::Blocked { .. } => false,
     }
 }
 

@@ -180,8 +180,8 @@ impl Server {
 
     /// Serves its connections, and answers their sessions when all have ended. Each connection has a session of its own. At
     /// most 8 are open at once, and a ninth is taken up when another ends. An attempt to take one up that fails counts as
-    /// one. A connection that gets no session is answered one line, `{"error":[821]}`, and ended; one that fails is ended,
-    /// and the others go on.
+    /// one. A connection that gets no session is answered one line, `{"error":[821]}` or for want of memory `{"error":[990]}`,
+    /// and ended; one that fails is ended, and the others go on.
     pub fn serve<R: Threads + Wait + Sync>(
         self,
         rt: &R,

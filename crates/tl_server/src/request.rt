@@ -157,7 +157,7 @@ fn request_of_value(alloc: Global, value: &Value) -> Result<Option<LineRequest>,
 /// What a line, without its LF, asks for. It is an object of JSON with the members shown and no others:
 /// `{"asm":text,"name":name,"op":"register"}`, `{"args":args,"op":"call","proc":name}`,
 /// `{"calls":[[name,args],..],"op":"batch","workers":w}` with 1 to 256 calls and 1 to 16 workers, or `{"op":"close"}`. The
-/// arguments are lists of integers of 64 bits.
+/// arguments are lists of signed 64-bit integers.
 ///
 /// Else the first that holds: 902 where it has more than 65,536 bytes, 903 where it isn't UTF-8, 901. 990 where memory is
 /// refused.

@@ -4,6 +4,7 @@
 #[cfg(test)]
 mod device;
 #[cfg(test)]
+mod failing;
 mod limits;
 #[cfg(test)]
 mod lines;

@@ -10,7 +10,7 @@ use tl_server::{Bytes, ServeFault, serve};
 use tl_tree::read_tree;
 use tl_workers::{Engine, Session};
 
-const ADD: &str =
+pub const ADD: &str =
     "{\"asm\":\"arity 2\\nfirst n0 v0 else L6\\nget v2 n0 0\\nadd v2 v2 v1 else L4\\nput n0 0 v2\\nL4:\\nemit v2\\nrel n0\\nL6:\\nret\",\"name\":\"add\",\"op\":\"register\"}\n";
 
 const LINES: &str =
@@ -19,15 +19,20 @@ const LINES: &str =
 const MORE: &str =
     "hello\n{\"calls\":[[\"add\",[0,1]],[\"add\",[0]]],\"op\":\"batch\",\"workers\":1}\n{\"op\":\"close\"}";
 
-const BOUNDS: &str = "{\"bounds\":{\"emits\":1,\"locks\":1,\"steps\":7}}\n";
+pub const BOUNDS: &str = "{\"bounds\":{\"emits\":1,\"locks\":1,\"steps\":7}}\n";
 
 const ANSWERS: &str =
     "{\"call\":0,\"reply\":[8]}\n{\"call\":1,\"reply\":[8]}\n{\"error\":[601]}\n{\"error\":[611]}\n{\"error\":[901]}\n{\"batch\":[{\"call\":2,\"reply\":[9]},{\"error\":[501]}]}\n{\"closed\":true}\n";
 
+/// An engine on the tree of a text.
+pub fn engine_on(alloc: Global, text: &str) -> Result<Engine, Fail> {
+    let tree = read_tree(alloc, text)?;
+    Ok(Engine::new(alloc, tree)?)
+}
+
 /// An engine on a tree of one node, whose field 0 is 5.
 pub fn engine(alloc: Global) -> Result<Engine, Fail> {
-    let tree = read_tree(alloc, "{\"parents\":[0],\"records\":[[5,0,0,0]]}")?;
-    Ok(Engine::new(alloc, tree)?)
+    engine_on(alloc, "{\"parents\":[0],\"records\":[[5,0,0,0]]}")
 }
 
 /// A `register`, calls, what is refused, a batch, and a `close` without an LF.
@@ -40,6 +45,14 @@ pub fn all_lines(alloc: Global) -> Result<Vec<u8>, Fail> {
     Ok(text)
 }
 
+/// A `register`, and a call with 0 and 3.
+pub fn first_lines(alloc: Global) -> Result<Vec<u8>, Fail> {
+    let mut text = Vec::new(alloc);
+    text.extend_from_slice(ADD.as_bytes())?;
+    text.extend_from_slice(b"{\"args\":[0,3],\"op\":\"call\",\"proc\":\"add\"}\n")?;
+    Ok(text)
+}
+
 pub fn all_answers(alloc: Global) -> Result<Vec<u8>, Fail> {
     let mut text = Vec::new(alloc);
     text.extend_from_slice(BOUNDS.as_bytes())?;
@@ -48,7 +61,7 @@ pub fn all_answers(alloc: Global) -> Result<Vec<u8>, Fail> {
 }
 
 /// The engine closes with that session alone.
-fn closes(alloc: Global, engine: Engine, session: Session) -> Result<(), Fail> {
+pub fn closes(alloc: Global, engine: Engine, session: Session) -> Result<(), Fail> {
     let mut sessions = Vec::new(alloc);
     sessions.push(session)?;
     match engine.close(sessions) {

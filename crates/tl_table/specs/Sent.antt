@@ -1,6 +1,7 @@
 -- What comes of a segment that is submitted to a table.
-use Rattle.std.specs.Prelude.{◌≡◌, ◌≢◌, ℕ, ◌≤◌, ◌⊎◌, Some, length}
-use Rattle.tl_machine.specs.Turns.{SegmentValue}
+use Rattle.std.specs.Prelude.{◌≡◌, ◌≢◌, ℕ, ◌≤◌, ◌⊎◌, Some, length, true}
+use Rattle.tl_protocol.specs.History.{is_done}
+use Rattle.tl_machine.specs.Turns.{TurnValue, SegmentValue}
 use Rattle.tl_core.specs.declared.fault.CoreFault.TheVariants.{NoCall}
 use Rattle.tl_core.specs.Cores.{kept_turn}
 use Rattle.tl_core.specs.Followed.{HasGone, IsInTheWay}
@@ -8,6 +9,8 @@ use Rattle.tl_table.specs.declared.fault.TableFault.{TableFault}
 use Rattle.tl_table.specs.declared.fault.TableFault.TheVariants as fault
 use Rattle.tl_table.specs.declared.receipt.Sent.{Sent}
 use Rattle.tl_table.specs.declared.receipt.Sent.TheVariants.{Went, Blocked, Finished}
+use Rattle.tl_table.specs.declared.receipt.Outcome.{Outcome}
+use Rattle.tl_table.specs.declared.receipt.Outcome.TheVariants as outcome
 use Rattle.tl_table.specs.Tables.{TableValue, seen, IsKnown, Stands}
 
 -- blocked where another call is in the way, and nothing is changed; else the call has done the segment's local actions and
@@ -32,3 +35,13 @@ abbrev pub IsSubmitFault : TableValue → ℕ → SegmentValue → TableFault �
 IsSubmitFault t c segment e =
     ((e ≡ fault.Core NoCall) × (length (seen t).calls ≤ c))
     ⊎ ((e ≡ fault.Stale) × IsKnown t c × (kept_turn t.core c ≢ Some segment.from))
+
+-- the same of a caller that keeps the segment: the call went on to that turn, or is done
+abbrev pub IsSentTo : TableValue → ℕ → SegmentValue → TurnValue → Outcome → TableValue → Type 0
+IsSentTo t c segment turn outcome.Went u = HasGone t.core c segment u.core × (kept_turn u.core c ≡ Some turn)
+IsSentTo t c segment turn outcome.Blocked u = ((x : ℕ) × (d : ℕ) × IsInTheWay (seen t) segment.stop x d) × (u ≡ t)
+IsSentTo t c segment turn outcome.Finished u = HasGone t.core c segment u.core × (is_done c (seen u).past ≡ true) × IsKnown u c
+
+abbrev pub IsSentFreely : TableValue → SegmentValue → Outcome → Type 0
+IsSentFreely t segment outcome.Blocked = Unit {0}
+IsSentFreely t segment _ = (x d : ℕ) → IsInTheWay (seen t) segment.stop x d → ⊥

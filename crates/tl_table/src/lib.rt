@@ -10,5 +10,5 @@ mod receipt;
 mod table;
 
 pub use fault::TableFault;
-pub use receipt::{Receipt, Sent};
+pub use receipt::{Outcome, Receipt, Sent};
 pub use table::{Closed, MAX_SESSIONS, Table};

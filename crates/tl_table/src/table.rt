@@ -11,22 +11,22 @@ ghost use Rattle.tl_procedures.specs.declared.fault.NamingFault.TheVariants as n
 ghost use Rattle.tl_procedures.specs.declared.procedures.TheConstants.{MAX_NAME};
 ghost use Rattle.tl_core.specs.declared.fault.CoreFault.TheVariants as core_fault;
 ghost use Rattle.tl_protocol.specs.World.{reply_of};
-ghost use Rattle.tl_machine.specs.Turns.{Stops};
+ghost use Rattle.tl_machine.specs.Turns.{IsTurn, Stops, with_call};
 ghost use Rattle.tl_machine.specs.declared.want.Stop.TheVariants as stop;
 ghost use Rattle.tl_core.specs.Cores.{kept_turn, world_of};
 ghost use Rattle.tl_table.specs.declared.fault.TableFault.TheVariants as fault;
 ghost use Rattle.tl_table.specs.Ends.{EndsBefore, begun_by_end};
 ghost use Rattle.tl_table.specs.Tables.{seen, Stands, IsAtRest, IsKnown, table_refusal, IsAdmittedTo};
-ghost use Rattle.tl_table.specs.Sent.{IsSent, IsUnblocked, IsSubmitFault, IsOfCall};
+ghost use Rattle.tl_table.specs.Sent.{IsSentTo, IsSentFreely, IsSent, IsUnblocked, IsSubmitFault, IsOfCall};
 
 use crate::fault::TableFault;
-use crate::receipt::{Receipt, Sent};
+use crate::receipt::{Outcome, Receipt, Sent};
 use arrayvec::ArrayVec;
 use std::alloc::Global;
 use std::marker::Model;
-use tl_core::{Core, CoreFault, Followed};
+use tl_core::{Core, CoreFault, Led};
 use tl_history::MAX_CALLS;
-use tl_machine::{Reply, Segment, Turn};
+use tl_machine::{CallState, Reply, Segment, Turn};
 use tl_order::Order;
 use tl_procedures::NamingFault;
 use tl_serial::Running;
@@ -175,11 +175,11 @@ impl Table {
         ensures { MatchOption result (is_done call (seen self.now).past ≡ false) (λ r. (r.call ≡ call) × Stands self.now r) }
     {
         let reply = self.running.core().reply(call)?;
-        Some(self.told(call, reply))
+        Some(self.receipt_with(call, reply))
     }
 
     // The receipt of a call that is done and has this reply.
-    fn told(&self, call: u32, answered: &Reply) -> Receipt
+    fn receipt_with(&self, call: u32, answered: &Reply) -> Receipt
         requires known { IsKnown self.now call }
         requires done { is_done call (seen self.now).past ≡ true }
         requires reply { answered.now ≡ reply_of (world_of (seen self.now)) call }
@@ -235,19 +235,53 @@ impl Table {
         ensures fault { IfErr result (λ e. IsSubmitFault self.old call segment e) }
         ensures err { OnErr result (self.new ≡ self.old) }
     {
+        let mut state = *segment.from().call();
+        match self.lead(call, &segment, &mut state)? {
+            Outcome::Went => {
+                let mut turn = segment.into_turn();
+                turn.put_at(&state);
+                Ok(Sent::Went(turn))
+            }
+            Outcome::Blocked => Ok(Sent::Blocked),
+            Outcome::Finished => match self.receipt_of(call) {
+                Some(receipt) => Ok(Sent::Finished(receipt)),
+                // A call that has ended has its receipt.
+                None => unreachable!(),
+            },
+        }
+    }
+
+    /// The same for a caller that keeps the segment, and in `state` a state of the call: where the call went, this is its
+    /// state now. 602, 801. Takes no memory.
+    pub fn lead(
+        &mut self,
+        call: u32,
+        segment: &Segment,
+        state: &mut CallState,
+    ) -> Result<Outcome, TableFault>
+        requires { IsTurn segment.now.from.code.instrs segment.now.from.parents state.old }
+        ensures turn { IsTurn segment.now.from.code.instrs segment.now.from.parents state.new }
+        ensures from { IfOk result (λ _. kept_turn self.old.core call ≡ Some segment.now.from) }
+        ensures sent { IfOk result (λ o. IsSentTo self.old call segment.now (with_call segment.now.from state.new) o self.new) }
+        ensures unhindered { IfOk result (λ o. IsSentFreely self.old segment.now o) }
+        ensures turns { (c : ℕ) → c ≢ call → kept_turn self.new.core c ≡ kept_turn self.old.core c }
+        ensures sessions { (self.new.sessions ≡ self.old.sessions) × (self.new.owners ≡ self.old.owners) }
+        ensures fault { IfErr result (λ e. IsSubmitFault self.old call segment.now e) }
+        ensures err { OnErr result (self.new ≡ self.old) }
+    {
         // What is so of the call before: here a proof learns that.
         self.running.core().is_sound();
         let _calls = self.running.core().calls();
-        match self.running.follow(call, segment) {
-            Ok(Followed::Went(turn)) => {
+        match self.running.lead(call, segment, state) {
+            Ok(Led::Went) => {
                 // And what is so of it now.
                 self.running.core().is_sound();
-                Ok(Sent::Went(turn))
+                Ok(Outcome::Went)
             }
-            Ok(Followed::Blocked { .. }) => Ok(Sent::Blocked),
-            Ok(Followed::Finished(reply)) => {
+            Ok(Led::Blocked { .. }) => Ok(Outcome::Blocked),
+            Ok(Led::Finished) => {
                 self.begun[call as usize] = self.running.core().calls() as u32;
-                Ok(Sent::Finished(self.told(call, &reply)))
+                Ok(Outcome::Finished)
             }
             Err(CoreFault::NotFrom) => Err(TableFault::Stale),
             Err(fault) => Err(TableFault::Core(fault)),

@@ -20,20 +20,38 @@ const RUNS: u32 = 20;
 /// How often a thread that is held looks whether it may go on.
 const LOOKS: u32 = 1_000_000;
 
-/// Holds call 1 before its first turn until call 0 has come to its second, and call 0 there until call 1 was answered.
+/// Where in its second turn call 0 is held: before it, or after its local instructions.
+#[derive(Clone, Copy, Debug, PartialEq, Eq)]
+enum Point {
+    Pass,
+    Ready,
+}
+
+/// Holds call 1 before its first turn until call 0 has come to that point of its second, and call 0 there until call 1 was
+/// answered.
 #[derive(Drop)]
 struct Crossing {
+    point: Point,
     has_come: AtomicBool,
     was_answered: AtomicBool,
     is_late: AtomicBool,
 }
 
 impl Crossing {
-    fn new() -> Crossing {
+    fn new(point: Point) -> Crossing {
         Crossing {
+            point,
             has_come: AtomicBool::new(false),
             was_answered: AtomicBool::new(false),
             is_late: AtomicBool::new(false),
+        }
+    }
+
+    // Call 0 has come to a point of its second turn.
+    fn come_to(&self, point: Point) {
+        if point == self.point {
+            self.has_come.store(true, Ordering::SeqCst);
+            self.hold_until(&self.was_answered);
         }
     }
 
@@ -52,11 +70,14 @@ impl Gate for Crossing {
     fn pass(&self, call: u32, turn: u64) {
         match (call, turn) {
             (1, 1) => self.hold_until(&self.has_come),
-            (0, 2) => {
-                self.has_come.store(true, Ordering::SeqCst);
-                self.hold_until(&self.was_answered);
-            }
+            (0, 2) => self.come_to(Point::Pass),
             _ => {}
+        }
+    }
+
+    fn ready(&self, call: u32, turn: u64) {
+        if (call, turn) == (0, 2) {
+            self.come_to(Point::Ready);
         }
     }
 
@@ -118,8 +139,9 @@ fn cross_in_a_batch<R: Threads + Wait + Abort + Sync>(
     alloc: Global,
     engine: &Engine,
     session: &mut Session,
+    point: Point,
 ) -> Result<(), Fail> {
-    let gate = Crossing::new();
+    let gate = Crossing::new(point);
     let looks = two_looks(alloc)?;
     let answers = batch(rt, alloc, engine, session, &looks, 2, &gate)?;
     assert!(rt; !gate.is_late.load(Ordering::SeqCst));
@@ -129,14 +151,31 @@ fn cross_in_a_batch<R: Threads + Wait + Abort + Sync>(
     Ok(())
 }
 
+/// Two workers of a new engine run a look each.
+fn two_workers_cross<R: Threads + Wait + Abort + Sync>(
+    rt: &R,
+    alloc: Global,
+    point: Point,
+) -> Result<(), Fail> {
+    let engine = engine_of(rt, alloc, FORK, "look", LOOK)?;
+    let mut session = engine.session(rt, alloc)?;
+    cross_in_a_batch(rt, alloc, &engine, &mut session, point)?;
+    let closed = closed_with(alloc, engine, session)?;
+    crossed(rt, alloc, closed.core())
+}
+
 #[test]
 fn a_gate_shows_two_workers(rt: HostRuntime) -> Result<(), Fail> {
     for _ in 0..RUNS {
-        let engine = engine_of(&rt, rt.alloc(), FORK, "look", LOOK)?;
-        let mut session = engine.session(&rt, rt.alloc())?;
-        cross_in_a_batch(&rt, rt.alloc(), &engine, &mut session)?;
-        let closed = closed_with(rt.alloc(), engine, session)?;
-        crossed(&rt, rt.alloc(), closed.core())?;
+        two_workers_cross(&rt, rt.alloc(), Point::Pass)?;
+    }
+    Ok(())
+}
+
+#[test]
+fn a_gate_shows_local_parts_of_two_workers(rt: HostRuntime) -> Result<(), Fail> {
+    for _ in 0..RUNS {
+        two_workers_cross(&rt, rt.alloc(), Point::Ready)?;
     }
     Ok(())
 }
@@ -163,8 +202,9 @@ fn cross_on_threads<R: Threads + Wait + Abort + Sync>(
     engine: &Engine,
     one: Session,
     other: Session,
+    point: Point,
 ) -> (Session, Session) {
-    let gate = Crossing::new();
+    let gate = Crossing::new(point);
     let sessions = thread::join(
         rt,
         || look(rt, alloc, engine, one, 1, &gate),
@@ -174,15 +214,32 @@ fn cross_on_threads<R: Threads + Wait + Abort + Sync>(
     sessions
 }
 
+/// Two threads of their own ask a new engine for a look each.
+fn two_calls_cross<R: Threads + Wait + Abort + Sync>(
+    rt: &R,
+    alloc: Global,
+    point: Point,
+) -> Result<(), Fail> {
+    let engine = engine_of(rt, alloc, FORK, "look", LOOK)?;
+    let one = engine.session(rt, alloc)?;
+    let other = engine.session(rt, alloc)?;
+    let (one, other) = cross_on_threads(rt, alloc, &engine, one, other, point);
+    let closed = closed_with_both(alloc, engine, one, other)?;
+    crossed(rt, alloc, closed.core())
+}
+
 #[test]
 fn a_gate_shows_two_calls_on_threads(rt: HostRuntime) -> Result<(), Fail> {
     for _ in 0..RUNS {
-        let engine = engine_of(&rt, rt.alloc(), FORK, "look", LOOK)?;
-        let one = engine.session(&rt, rt.alloc())?;
-        let other = engine.session(&rt, rt.alloc())?;
-        let (one, other) = cross_on_threads(&rt, rt.alloc(), &engine, one, other);
-        let closed = closed_with_both(rt.alloc(), engine, one, other)?;
-        crossed(&rt, rt.alloc(), closed.core())?;
+        two_calls_cross(&rt, rt.alloc(), Point::Pass)?;
+    }
+    Ok(())
+}
+
+#[test]
+fn a_gate_shows_local_parts_of_two_calls(rt: HostRuntime) -> Result<(), Fail> {
+    for _ in 0..RUNS {
+        two_calls_cross(&rt, rt.alloc(), Point::Ready)?;
     }
     Ok(())
 }

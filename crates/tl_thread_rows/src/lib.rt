@@ -14,6 +14,8 @@ mod engines;
 #[cfg(test)]
 mod limits;
 #[cfg(test)]
+mod ready;
+#[cfg(test)]
 mod sweeps;
 #[cfg(test)]
 mod tables;

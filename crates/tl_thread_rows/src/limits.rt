@@ -2,13 +2,14 @@
 
 use std::test::Fail;
 use tl_table::MAX_SESSIONS;
-use tl_workers::{MAX_REQUESTS, MAX_WORKERS};
+use tl_workers::{MAX_READY, MAX_REQUESTS, MAX_WORKERS};
 
 /// Each limit's constant, and its number in the documents.
-const LIMITS: [(&str, usize, usize); 3] = [
+const LIMITS: [(&str, usize, usize); 4] = [
     ("sessions of a table", MAX_SESSIONS as usize, 65_535),
     ("requests of a batch", MAX_REQUESTS, 256),
     ("workers of a batch", MAX_WORKERS, 16),
+    ("calls that stand ready", MAX_READY, 64),
 ];
 
 #[test]

@@ -231,7 +231,7 @@ fn trail_of_text(alloc: Global, text: &str) -> Result<Trail, TrailFault>
 /// its arguments and its reply, a list of at most 32 numbers or null; `end`, the records in the end; `events`, a list of
 /// `["a",call]` for an admission, `["l",call,node,record]` for a lock and the record found, `["f",call,node,record]` for a
 /// free and the record left, and `["d",call]` for an end; `procs`, a list of names and assembler texts; and `tree`, the
-/// tree before the calls. Numbers fit 64 bits with their sign.
+/// tree before the calls. Numbers are signed 64-bit integers.
 ///
 /// What is wrong first: 701 for another form; the tree's 101 to 105; of each procedure in order the assembler's 251 to
 /// 254, the verifier's 301 to 307 and 401 to 409, and 612, 611, 613 of its name; 603 for more than 4,096 calls; of each

@@ -101,7 +101,7 @@ impl Trail {
         (current.procedure, &current.args)
     }
 
-    /// What is told that a call answered, if anything.
+    /// The reply that the trail records for the call, if any.
     pub fn reply(&self, call: u32) -> Option<&[i64]>
         requires { call < length self.now.calls }
         ensures reply { option_copied result ≡ (call_at self.now call).reply }

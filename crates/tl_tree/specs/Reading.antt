@@ -19,7 +19,7 @@ abbrev pub each_item : {A : Type 0} → (Data → Option A) → Items → Option
 each_item f no_items = Some []
 each_item f (item d ds) = option_and_then (λ x. option_map (λ xs. x ∷ xs) (each_item f ds)) (f d)
 
--- a number of 64 bits with its sign
+-- a signed 64-bit integer
 abbrev pub integer_of : Data → Option ℤ
 integer_of d = option_and_then as_i64 (as_number d)
 

@@ -1,3 +1,4 @@
 pub mod Kept
+pub mod Lending
 pub mod Matching
 pub mod Refusals

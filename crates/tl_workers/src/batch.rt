@@ -16,8 +16,9 @@ use std::sync::atomic::{AtomicBool, Ordering};
 use std::sync::{MutexGuard, Wait};
 use std::thread;
 use std::thread::Threads;
-use tl_core::{CoreFault, MAX_OPEN};
+use tl_core::CoreFault;
 use tl_procedures::Request;
+use tl_ready::ReadyPass;
 use tl_table::{Receipt, Table, TableFault};
 
 /// How many requests a batch has at most.
@@ -69,10 +70,12 @@ impl Engine {
         let Ok(()) = session.reserve(2 * count) else {
             return Err(Refusal::Memory);
         };
+        let number = session.number();
         let admitted = self.run_all(
             rt,
             alloc,
-            session.number(),
+            number,
+            session.pass(),
             requests,
             admitted,
             workers,
@@ -89,6 +92,7 @@ impl Engine {
         rt: &R,
         alloc: Global,
         session: u32,
+        pass: &mut ReadyPass,
         requests: &[Request],
         admitted: Vec<Result<Asking, Refusal>>,
         workers: usize,
@@ -109,11 +113,11 @@ impl Engine {
             {
                 for _ in 0..others {
                     // A worker that can't be started is left out.
-                    let _ = scope.spawn(move || self.work(rt, is_handed_out, gate));
+                    let _ = scope.spawn(move || self.join_in(rt, is_handed_out, gate));
                 }
-                let admitted = self.hand_out(rt, alloc, session, requests, admitted, gate);
+                let admitted = self.hand_out(rt, alloc, session, pass, requests, admitted, gate);
                 self.end_handing_out(rt, is_handed_out);
-                self.work(rt, is_handed_out, gate);
+                self.work(rt, pass, is_handed_out, gate);
                 admitted
             },
         )
@@ -133,6 +137,7 @@ impl Engine {
         rt: &impl Wait,
         alloc: Global,
         session: u32,
+        pass: &mut ReadyPass,
         requests: &[Request],
         admitted: Vec<Result<Asking, Refusal>>,
         gate: &G,
@@ -143,9 +148,17 @@ impl Engine {
         let mut admitted = admitted;
         for _ in rt.forever() {
             let mut table = self.table.lock(rt);
-            let handed = self.admit_some(rt, alloc, &mut table, session, requests, &mut admitted);
+            let handed = self.admit_some(
+                rt,
+                alloc,
+                &mut table,
+                session,
+                pass,
+                requests,
+                &mut admitted,
+            );
             match handed {
-                Handed::Full => self.help(rt, table, gate),
+                Handed::Full => self.help(rt, table, pass, gate),
                 Handed::NoPlace(call) => {
                     drop(table);
                     self.moved.notify_all();
@@ -162,8 +175,14 @@ impl Engine {
     }
 
     // Runs a call that is ready; where none is, waits until something has moved.
-    fn help<G: Gate>(&self, rt: &impl Wait, table: MutexGuard<'_, Table>, gate: &G) {
-        match self.take_ready(rt) {
+    fn help<G: Gate>(
+        &self,
+        rt: &impl Wait,
+        table: MutexGuard<'_, Table>,
+        pass: &mut ReadyPass,
+        gate: &G,
+    ) {
+        match self.ready.pop(rt, pass) {
             Some(call) => {
                 drop(table);
                 self.moved.notify_all();
@@ -181,6 +200,7 @@ impl Engine {
         alloc: Global,
         table: &mut Table,
         session: u32,
+        pass: &mut ReadyPass,
         requests: &[Request],
         admitted: &mut Vec<Result<Asking, Refusal>>,
     ) -> Handed
@@ -200,7 +220,7 @@ impl Engine {
             let call = call_of(&one);
             admitted.push_reserved(one);
             if let Some(call) = call {
-                if !self.make_ready(rt, call) {
+                if self.ready.push(rt, pass, call).is_err() {
                     return Handed::NoPlace(call);
                 }
             }
@@ -208,21 +228,23 @@ impl Engine {
         Handed::All
     }
 
-    // Puts a call among those that are ready, if there is a place.
-    fn make_ready(&self, rt: &impl Wait, call: u32) -> bool {
-        let mut ready = self.ready.lock(rt);
-        ready.len() < MAX_OPEN && ready.push_back(call).is_ok()
-    }
-
-    // Takes the first call that is ready.
-    fn take_ready(&self, rt: &impl Wait) -> Option<u32> {
-        self.ready.lock(rt).pop_front()
+    // Works with a pass of its own. Who gets none is left out.
+    fn join_in<G: Gate>(&self, rt: &impl Wait, is_handed_out: &AtomicBool, gate: &G) {
+        if let Ok(mut pass) = self.ready.join() {
+            self.work(rt, &mut pass, is_handed_out, gate);
+        }
     }
 
     // Runs what is ready, until nothing is and the batch is handed out.
-    fn work<G: Gate>(&self, rt: &impl Wait, is_handed_out: &AtomicBool, gate: &G) {
+    fn work<G: Gate>(
+        &self,
+        rt: &impl Wait,
+        pass: &mut ReadyPass,
+        is_handed_out: &AtomicBool,
+        gate: &G,
+    ) {
         for _ in rt.forever() {
-            match self.next_ready(rt, is_handed_out) {
+            match self.next_ready(rt, pass, is_handed_out) {
                 Some(call) => drop(self.run(rt, call, gate)),
                 None => return,
             }
@@ -231,15 +253,20 @@ impl Engine {
     }
 
     // The next call that is ready, as soon as there is one. None once nothing is and the batch is handed out.
-    fn next_ready(&self, rt: &impl Wait, is_handed_out: &AtomicBool) -> Option<u32> {
-        let first = self.take_ready(rt);
+    fn next_ready(
+        &self,
+        rt: &impl Wait,
+        pass: &mut ReadyPass,
+        is_handed_out: &AtomicBool,
+    ) -> Option<u32> {
+        let first = self.ready.pop(rt, pass);
         if first.is_some() {
             return first;
         }
         let mut table = self.table.lock(rt);
         for _ in rt.forever() {
             let is_last = is_handed_out.load(Ordering::SeqCst);
-            let next = self.take_ready(rt);
+            let next = self.ready.pop(rt, pass);
             if is_last || next.is_some() {
                 return next;
             }

@@ -12,10 +12,10 @@ use crate::matching::all_match;
 use crate::refusal::Refusal;
 use crate::session::Session;
 use std::alloc::Global;
-use std::collections::VecDeque;
 use std::sync::{Condvar, Mutex, Wait};
-use tl_core::{Core, MAX_OPEN};
+use tl_core::Core;
 use tl_procedures::NamingFault;
+use tl_ready::Ready;
 use tl_table::{Closed, Table, TableFault};
 use tl_tree::Tree;
 use tl_verify::Proc;
@@ -28,7 +28,7 @@ use tl_verify::Proc;
 pub struct Engine {
     pub(crate) table: Mutex<Table>,
     // The calls that were admitted in batches and that nobody runs yet.
-    pub(crate) ready: Mutex<VecDeque<u32>>,
+    pub(crate) ready: Ready,
     // Told after a node was freed, a call ended, or calls became ready.
     pub(crate) moved: Condvar,
 }
@@ -51,21 +51,22 @@ impl Engine {
             Ok(table) => table,
             Err(fault) => return Err(Refusal::Table(fault)),
         };
-        let ready = VecDeque::with_capacity(alloc, MAX_OPEN)?;
+        let (ready, _first) = Ready::new(alloc)?;
         Ok(Engine {
             table: Mutex::new(table),
-            ready: Mutex::new(ready),
+            ready,
             moved: Condvar::new(),
         })
     }
 
-    /// A new session, with which nothing was asked for yet. 821.
+    /// A new session, with which nothing was asked for yet. 821; 990 where memory is refused.
     pub fn session(&self, rt: &impl Wait, alloc: Global) -> Result<Session, Refusal>
         ensures ok { IfOk result (λ s. s.kept ≡ []) }
-        ensures err { IfErr result (λ e. e ≡ refusal.Table fault.TooManySessions) }
+        ensures err { IfErr result (λ e. (e ≡ refusal.Table fault.TooManySessions) ⊎ (e ≡ refusal.Memory)) }
     {
+        let pass = self.ready.join()?;
         match self.table.lock(rt).session() {
-            Ok(number) => Ok(Session::new(alloc, number)),
+            Ok(number) => Ok(Session::new(alloc, number, pass)),
             Err(fault) => Err(Refusal::Table(fault)),
         }
     }

@@ -5,6 +5,9 @@ pub trait Gate {
     /// Before turn number `turn` of the call, from 1.
     fn pass(&self, call: u32, turn: u64);
 
+    /// After the call's local instructions of that turn, before what came of them is submitted.
+    fn ready(&self, _call: u32, _turn: u64) {}
+
     /// After the call's receipt.
     fn answered(&self, call: u32);
 }

@@ -22,3 +22,4 @@ pub use matching::matches;
 pub use refusal::Refusal;
 pub use session::{Did, Session};
 pub use tl_procedures::Request;
+pub use tl_ready::{MAX_READY, Ready, ReadyPass};

@@ -1,7 +1,7 @@
 // A call that is run to its end.
 
-ghost use Rattle.std.specs.Prelude.{◌≡◌, [], IfOk, OnErr};
-ghost use Rattle.tl_table.specs.Sent.{IsOfCall};
+ghost use Rattle.std.specs.Prelude.{◌≡◌, [], IfOk, IfSome, OnErr};
+ghost use Rattle.tl_machine.specs.Turns.{IsTurn};
 ghost use Rattle.tl_workers.specs.Kept.{Gains, call_of};
 
 use crate::asking::{Asking, values_of};
@@ -11,8 +11,9 @@ use crate::refusal::Refusal;
 use crate::session::Session;
 use std::alloc::Global;
 use std::sync::{MutexGuard, Wait};
-use tl_machine::{Segment, Stop, Turn, local};
-use tl_table::{Receipt, Sent, Table, TableFault};
+use tl_core::CoreFault;
+use tl_machine::{CallState, Segment, Stop, Turn, local};
+use tl_table::{Outcome, Receipt, Table, TableFault};
 
 impl Engine {
     /// Runs a call on this thread, to its end. 601, 501, 603, 604, 605, 890, and 990 where there is no memory for what the
@@ -39,7 +40,10 @@ impl Engine {
             Ok(call) => call,
             Err(fault) => return Err(Refusal::Table(fault)),
         };
-        let told = self.run(rt, call, gate);
+        // A call that was admitted is known.
+        let Some(told) = self.run(rt, call, gate) else {
+            return Err(Refusal::Table(TableFault::Core(CoreFault::NoCall)));
+        };
         // What comes out of the lock says nothing of what was handed in. Where the engine ran something else, the session's
         // list isn't what the table says, and `close` finds it.
         let receipt = Receipt {
@@ -50,50 +54,78 @@ impl Engine {
         Ok(receipt)
     }
 
-    // Takes the turns of a call that was admitted, to its end.
-    pub(crate) fn run<G: Gate>(&self, rt: &impl Wait, call: u32, gate: &G) -> Receipt
-        ensures { result.call ≡ call }
+    // Takes the turns of a call, to its end. None where no call of that number was admitted. Where the call is, is asked at its
+    // first turn, and anew where a segment was stale.
+    pub(crate) fn run<G: Gate>(&self, rt: &impl Wait, call: u32, gate: &G) -> Option<Receipt>
+        ensures { IfSome result (λ r. r.call ≡ call) }
     {
-        // Where the call is, where the last turn told it.
-        let mut known = None;
-        let mut turn = 0u64;
+        let mut passed = 0;
         for _ in rt.forever() {
-            turn = turn.saturating_add(1);
-            gate.pass(call, turn);
-            let Some(current) = self.current(rt, call, known) else {
-                known = None;
-                continue;
-            };
-            match self.send(rt, call, local(current)) {
-                Ok(Sent::Went(next)) => known = Some(next),
-                Ok(Sent::Blocked) => known = None,
-                Ok(Sent::Finished(receipt)) => {
-                    gate.answered(call);
-                    return receipt;
+            passed = pass(gate, call, passed);
+            let known = self.table.lock(rt).state(call);
+            match known {
+                Ok(turn) => {
+                    if let Some(receipt) = self.run_from(rt, call, turn, &mut passed, gate) {
+                        gate.answered(call);
+                        return Some(receipt);
+                    }
                 }
-                Err(_) => known = None,
+                Err(TableFault::Core(CoreFault::NoCall)) => return None,
+                Err(_) => {}
             }
         }
         unreachable!()
     }
 
-    // Where a call is. None where memory is refused.
-    fn current(&self, rt: &impl Wait, call: u32, known: Option<Turn>) -> Option<Turn> {
-        if known.is_some() {
-            return known;
+    // Takes the turns of a call from there on, where one has passed the gate. None where the call stands elsewhere.
+    fn run_from<G: Gate>(
+        &self,
+        rt: &impl Wait,
+        call: u32,
+        turn: Turn,
+        passed: &mut u64,
+        gate: &G,
+    ) -> Option<Receipt>
+        ensures { IfSome result (λ r. r.call ≡ call) }
+    {
+        let mut state = *turn.call();
+        let mut segment = local(turn);
+        for _ in rt.forever() {
+            gate.ready(call, *passed);
+            match self.send(rt, call, &segment, &mut state) {
+                Ok(Outcome::Finished) => return self.receipt(rt, call),
+                Ok(_) => {}
+                Err(_) => return None,
+            }
+            *passed = pass(gate, call, *passed);
+            segment.go_on(&state);
         }
-        self.table.lock(rt).state(call).ok()
+        unreachable!()
+    }
+
+    // The receipt of a call that has ended.
+    fn receipt(&self, rt: &impl Wait, call: u32) -> Option<Receipt>
+        ensures { IfSome result (λ r. r.call ≡ call) }
+    {
+        self.table.lock(rt).receipt(call).ok()?
     }
 
     // Submits what the call did by itself. Where it is blocked, this waits until its node is free.
-    fn send(&self, rt: &impl Wait, call: u32, segment: Segment) -> Result<Sent, TableFault>
-        ensures { IfOk result (IsOfCall call) }
+    fn send(
+        &self,
+        rt: &impl Wait,
+        call: u32,
+        segment: &Segment,
+        state: &mut CallState,
+    ) -> Result<Outcome, TableFault>
+        requires { IsTurn segment.now.from.code.instrs segment.now.from.parents state.old }
+        ensures { IsTurn segment.now.from.code.instrs segment.now.from.parents state.new }
     {
         let stop = segment.stop();
         let mut table = self.table.lock(rt);
-        let sent = table.submit(call, segment);
+        let sent = table.lead(call, segment, state);
         match (&sent, stop) {
-            (Ok(Sent::Blocked), Stop::Lock(node)) => self.wait_for(rt, table, node),
+            (Ok(Outcome::Blocked), Stop::Lock(node)) => self.wait_for(rt, table, node),
             (Ok(_), Stop::Free(_) | Stop::Return) => {
                 drop(table);
                 self.moved.notify_all();
@@ -114,4 +146,11 @@ impl Engine {
         }
         unreachable!()
     }
+}
+
+// Passes the gate once more, and answers how often that was.
+fn pass<G: Gate>(gate: &G, call: u32, passed: u64) -> u64 {
+    let turn = passed.saturating_add(1);
+    gate.pass(call, turn);
+    turn
 }

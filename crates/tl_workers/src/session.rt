@@ -1,6 +1,8 @@
 // A session, and what its holder did with it.
 
 ghost use Rattle.std.specs.Prelude.{◌≡◌, ◌+◌, ◌*◌, ◌≤◌, ◌<◌, [], ◌∷◌, ◌++◌, length, OnOk};
+ghost use Rattle.std.specs.Borrow.{sem};
+ghost use Rattle.tl_workers.specs.Lending.{LendsPass};
 ghost use Rattle.tl_workers.specs.declared.session.Did.TheVariants.{Asked, Got};
 ghost use Rattle.tl_workers.specs.Kept.{Gains, askings_of, gots_of};
 
@@ -8,6 +10,7 @@ use crate::asking::Asking;
 use crate::refusal::Refusal;
 use std::alloc::{AllocError, Global};
 use std::marker::Model;
+use tl_ready::ReadyPass;
 use tl_table::Receipt;
 
 /// What a session's holder did.
@@ -23,10 +26,12 @@ pub enum Did {
 ///
 /// A contract sees its number, what its holder asked for and got, in the order in which that was done, and for how much more
 /// there is room.
-#[derive(Debug, Drop)]
+#[derive(Drop)]
 pub struct Session {
     number: u32,
     kept: Vec<Did>,
+    // With which its holder's batches make calls ready and take them up.
+    pass: ReadyPass,
 }
 
 impl Model for Session {
@@ -39,12 +44,13 @@ impl Model for Session {
 }
 
 impl Session {
-    pub(crate) fn new(alloc: Global, number: u32) -> Session
+    pub(crate) fn new(alloc: Global, number: u32, pass: ReadyPass) -> Session
         ensures { (result.number ≡ number) × (result.kept ≡ []) }
     {
         Session {
             number,
             kept: Vec::new(alloc),
+            pass,
         }
     }
 
@@ -60,6 +66,13 @@ impl Session {
         ensures { result.now ≡ self.now.kept }
     {
         self.kept.as_slice()
+    }
+
+    // Its pass of the queue of ready calls.
+    pub(crate) fn pass(&mut self) -> &mut ReadyPass
+        ensures* { sem 𝓛 (LendsPass self.entry result) }
+    {
+        &mut self.pass
     }
 
     // Makes room for that many entries.

@@ -1,7 +1,7 @@
 use Rattle.std.proofs.Common.{◌≡◌, ap, ap₂, rules, ◌∙◌, sym, refl, length, string_bytes}
 use Rattle.tl_machine.specs.Alone.{alone}
 use Rattle.tl_machine.specs.Outcomes.{outcome_of}
-use Rattle.tl_commands.proofs.Line.{printed_from}
+use Rattle.tl_commands.proofs.AloneLines.{printed_from}
 use Rattle.std.specs.Arc.{arc_value}
 use Rattle.tl_commands.specs.Alone.{Inputs, printed, IsTreeFile}
 use Rattle.tl_commands.proofs.alone.alone_cmd.Goals as goal

@@ -3,7 +3,7 @@ use Rattle.serde_json.specs.Data.{object, member, no_members}
 use Rattle.serde_json.specs.Written.{compact_text, has_float}
 use Rattle.serde_json.specs.View.{view}
 use Rattle.tl_tree.specs.Writing.{integers_data}
-use Rattle.tl_commands.proofs.Line.{answer_data, answer_whole, answer_written}
+use Rattle.tl_commands.proofs.AloneLines.{answer_data, answer_whole, answer_written}
 use Rattle.tl_commands.proofs.alone.answer_line.Goals as goal
 
 pub returns : goal.returns

@@ -5,7 +5,7 @@ use Rattle.tl_core.specs.Cores.{CoreState, world_of}
 use Rattle.tl_forms.specs.Lists.{order_data}
 use Rattle.tl_commands.specs.Run.{IsOrder}
 use Rattle.tl_commands.specs.Scripted.{two_lines_text, tree_now}
-use Rattle.tl_commands.proofs.Texts.{order_whole, two_lines_of}
+use Rattle.tl_commands.proofs.LineLemmas.{order_whole, two_lines_of}
 use Rattle.tl_commands.proofs.closing.closing_lines.Goals as goal
 
 pub returns-clause-ok : goal.returns-clause-ok

@@ -1,7 +1,7 @@
 use Rattle.std.proofs.Common.{string_bytes}
 use Rattle.std.proofs.lemmas.Result.{IfOk-weaker}
 use Rattle.tl_commands.specs.Drive.{Drives}
-use Rattle.tl_commands.proofs.Driven.{printed}
+use Rattle.tl_commands.proofs.DriveLemmas.{printed}
 use Rattle.tl_commands.proofs.driving.drive_cmd.Goals as goal
 
 pub returns-clause-printed : goal.returns-clause-printed

@@ -1,5 +1,5 @@
 use Rattle.std.proofs.Common.{string_bytes}
-use Rattle.tl_commands.proofs.Driven.{printed}
+use Rattle.tl_commands.proofs.DriveLemmas.{printed}
 use Rattle.tl_commands.proofs.driving.drive_with_trail_cmd.Goals as goal
 
 pub returns-clause-printed : goal.returns-clause-printed

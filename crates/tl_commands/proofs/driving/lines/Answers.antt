@@ -5,7 +5,7 @@ use Rattle.serde_json.specs.View.{view}
 use Rattle.tl_commands.specs.Drive.{IsConclusion}
 use Rattle.tl_commands.specs.Scripted.{lines_text, tree_now}
 use Rattle.tl_commands.specs.Trace.{trace_data}
-use Rattle.tl_commands.proofs.Texts.{trace_whole, conclusion_whole, lines_of}
+use Rattle.tl_commands.proofs.LineLemmas.{trace_whole, conclusion_whole, lines_of}
 use Rattle.tl_commands.proofs.driving.lines.Goals as goal
 
 pub returns-clause-ok : goal.returns-clause-ok

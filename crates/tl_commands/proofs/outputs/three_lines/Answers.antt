@@ -1,6 +1,6 @@
 use Rattle.std.proofs.Common.{◌∙◌}
 use Rattle.serde_json.specs.View.{view}
-use Rattle.tl_commands.proofs.Texts.{lines_written}
+use Rattle.tl_commands.proofs.LineLemmas.{lines_written}
 use Rattle.tl_commands.proofs.outputs.three_lines.Goals as goal
 
 pub returns-clause-ok : goal.returns-clause-ok

@@ -5,7 +5,7 @@ use Rattle.serde_json.specs.View.{view}
 use Rattle.serde_json.specs.Written.{has_float, compact_text}
 use Rattle.tl_tree.specs.Writing.{integer_data}
 use Rattle.tl_commands.specs.Procedures.{count_text}
-use Rattle.tl_commands.proofs.Bounded.{count_data, count_whole, count_written}
+use Rattle.tl_commands.proofs.ProcedureLines.{count_data, count_whole, count_written}
 use Rattle.tl_commands.proofs.procedures.count_line.Goals as goal
 
 pub returns : goal.returns

@@ -4,7 +4,7 @@ use Rattle.tl_forms.specs.Lists.{order_data}
 use Rattle.tl_table.specs.Tables.{seen}
 use Rattle.tl_commands.specs.Run.{batch_data}
 use Rattle.tl_commands.specs.Scripted.{tree_now}
-use Rattle.tl_commands.proofs.Texts.{batch_whole, lines_written}
+use Rattle.tl_commands.proofs.LineLemmas.{batch_whole, lines_written}
 use Rattle.tl_commands.proofs.running.lines.Goals as goal
 
 pub returns-clause-ok : goal.returns-clause-ok

@@ -1,7 +1,7 @@
 use Rattle.std.proofs.Common.{sym, ◌∙◌}
 use Rattle.serde_json.specs.View.{view, members_view}
 use Rattle.serde_json.proofs.Views.{members_len-members_view}
-use Rattle.tl_commands.proofs.Scripts.{parts_found, parts_other}
+use Rattle.tl_commands.proofs.ScriptLemmas.{parts_found, parts_other}
 use Rattle.tl_commands.proofs.script.parts_of_value.Goals as goal
 
 pub returns-then-len-ne2 : goal.returns-then-len-ne2

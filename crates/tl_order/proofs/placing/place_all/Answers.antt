@@ -19,10 +19,9 @@ loop-event-preserved c =
     subst (λ n. AreOfNodes n c.loop-event.parts → AreOfNodes n c.make_room.new.parts) nodes c.in_ok-make_room.ensures.nodes now.1 in
     let shown : ShowAll c.make_room.new.parts past = c.in_ok-make_room.ensures.more past now.2 in
     let order : c.place.new.line.order ≡ placed shape (event ∷ past) =
-    c.in_ok-place.ensures.ok past shown.shows ∙ ap (placed_after shape past event) (c.in_ok-make_room.ensures.order ∙ now.4) in (
-      c.in_ok-note.ensures.calls ∙ c.in_ok-make_room.ensures.calls ∙ sym c.in_ok-place.ensures.count,
-      c.in_ok-note.ensures.nodes (length shape) known,
-      subst (ShowAll c.note.new.self) one_more (c.in_ok-note.ensures.more past shown),
-      c.place.ensures.marks ∙ now.3,
+    c.in_ok-place.ensures.ok past shown.shows ∙ ap (placed_after shape past event) (c.in_ok-make_room.ensures.order ∙ now.3) in (
+      c.note.ensures.calls ∙ c.in_ok-make_room.ensures.calls ∙ sym c.in_ok-place.ensures.count,
+      c.note.ensures.nodes (length shape) known,
+      subst (ShowAll c.note.new.self) one_more (c.note.ensures.more past shown),
       subst (λ p. c.place.new.line.order ≡ placed shape p) one_more order,
     )

@@ -9,5 +9,4 @@ invariant-loop-event l =
     (length l.parts ≡ l.line.count)
     × AreOfNodes (length l.shape) l.parts
     × ShowAll l.parts (reverse (take l.event-index l.events))
-    × (length l.way ≡ length l.shape)
     × (l.line.order ≡ placed l.shape (reverse (take l.event-index l.events)))

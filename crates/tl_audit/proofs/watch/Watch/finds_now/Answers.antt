@@ -13,8 +13,7 @@ pub returns-in-Lock : goal.returns-in-Lock
 returns-in-Lock c parents opening calls past shows =
     let records = c.args.self.now.records.items in
     let node = c.in-Lock.node in
-    let size = c.requires.even.records in
-    let event = subst (IsEventOf (length c.args.self.now.holders.items) (length c.args.self.now.done.items)) c.in-Lock.is c.requires.event in
+    let event = subst (IsEventOf (length records) (length c.args.self.now.done.items)) c.in-Lock.is c.requires in
     let inside' = event.node in
     let from = c.from.ensures in
     let here : c.from.result < length records = omega arith in

@@ -1,28 +1,20 @@
-use Rattle.std.proofs.Common.{◌≡◌, ◌<◌, length, refl, sym, ap, ◌∙◌, subst, inl, inr, arith}
-use Rattle.std.proofs.lemmas.Bool.{cases_Bool, both_ways}
+use Rattle.std.proofs.Common.{◌≡◌, ◌+◌, sym, ap, ◌∙◌, arith}
+use Rattle.std.proofs.lemmas.Bool.{eq-eqb, eqb-true}
 use Rattle.std.proofs.lemmas.List.{get_or_read}
-use Rattle.std.proofs.lemmas.Grind.{common_steps}
-use Rattle.tl_protocol.specs.Actions.{held}
+use Rattle.tl_protocol.specs.Actions.{lock_count, free_count}
 use Rattle.tl_protocol.specs.History.{part_of}
-use Rattle.tl_order.specs.Part.{IsPart, node_count}
-use Rattle.tl_order.specs.Parts.{no_marks}
-use Rattle.tl_audit.proofs.WatchLemmas.{none_held}
+use Rattle.tl_protocol.proofs.Counts.{counts-none_held, none_held-counts}
+use Rattle.tl_audit.proofs.WatchLemmas.{right_legal}
 use Rattle.tl_audit.proofs.watch.Watch.permits_end.Goals as goal
 
 pub returns : goal.returns
-returns c parents opening calls past shows =
-    let parts = c.args.self.now.parts.items in
+returns c parents opening calls past shows right known =
     let call = c.args.call in
-    let size = c.requires.even.parts in
-    let given = c.requires.call in
-    let here : call < length parts = omega arith in
-    let read = get_or_read parts call c.index.result.now here c.index.ensures no_marks in
-    let part : IsPart c.index.result.now (part_of call past) = subst (λ m. IsPart m (part_of call past)) (sym read) (shows.parts call here) in
-    let count : node_count c.index.result.now ≡ length parents = ap node_count read ∙ c.requires.even.nodes call here ∙ shows.nodes_are in
-    elim (cases_Bool c.holds_any.result) [
-      | inl some ↦
-          let one = c.holds_any.ensures.some (part_of call past) part some in
-          (λ t. absurd (grind (arith, common_steps, t, some)), λ none. absurd (both_ways (held (part_of call past) one.0) (none one.0) one.2))
-      | inr none ↦
-          (λ t. none_held (length parents) past shows.inside call (λ y lt. c.holds_any.ensures.none (part_of call past) y part (omega arith) none), λ all. rw none refl)
-    ]
+    let each = (right_legal parents opening past right).obeys call in
+    let items = c.args.self.now.holding.items in
+    let read = get_or_read items call c.index.result.now c.requires c.index.ensures 0 in
+    let count : lock_count (part_of call past) ≡ free_count (part_of call past) + c.index.result.now =
+    shows.holding call known ∙ ap (λ n. free_count (part_of call past) + n) (sym read) in (
+      λ t. let none = eqb-true c.index.result.now 0 t in counts-none_held parents (part_of call past) each (omega (arith, count, none)),
+      λ none. let even = none_held-counts parents (part_of call past) each none in eq-eqb c.index.result.now 0 (omega (arith, count, even)),
+    )

@@ -8,4 +8,4 @@ returns-clause-kept c parents past found tree there kept legal =
     let k : KeptValue = record { order = c.self.inside.order; calls = length c.self.inside.standing.items; holders = c.self.inside.holders.items; under = c.self.inside.under.items } in
     let stays = rw (sym c.self.view_is) at there in
     let before = rw (sym c.self.view_is) at kept in
-    rw (c.from.ensures, c.from-2.ensures) (kept_again parents tree k past c.args.call c.args.node found stays before legal)
+    rw (c.hold.ensures, c.from.ensures) (kept_again parents tree k past c.args.call c.args.node found stays before legal)

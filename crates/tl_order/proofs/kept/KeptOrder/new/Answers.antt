@@ -1,6 +1,8 @@
 use Rattle.std.proofs.Common.{rules, ◌≡◌, ◌<◌, ℕ, List, Option, None, false, length, get_or, replicate, sym, ap, ◌∙◌, arith}
 use Rattle.std.proofs.lemmas.List.{get_or-replicate, length-replicate}
 use Rattle.tl_order.proofs.Marks.{trues-false, get_or-all_false}
+use Rattle.tl_order.specs.Kept.{count_held}
+use Rattle.tl_order.proofs.HeldNodes.{count_held-none}
 use Rattle.tl_order.proofs.kept.KeptOrder.new.Goals as goal
 
 -- each entry of a list of Nones is None
@@ -14,10 +16,12 @@ invariant_of-result c =
     let column = c.in_ok-standing.ensures.items_if_clones_equal (λ _ e. e) in
     let none = c.in_ok-order.ensures.none in
     let size = length-replicate c.args.calls false in
+    let holders : c.in_ok-holders.holders.items ≡ replicate c.args.nodes None = search rules in
     rw (none, column) (
       record { distinct = tt; standing = λ d. sym (get_or-all_false c.args.calls d) },
       sym (trues-false c.args.calls),
       omega (arith, size, c.in_ok-order.ensures.capacity),
+      sym (ap count_held holders ∙ count_held-none c.args.nodes),
     )
 
 pub returns-clause-kept : goal.returns-clause-kept

@@ -26,4 +26,5 @@ invariant_of-self c =
       rw c.put_in.ensures.calls (line_more order column c.args.place c.args.call requires.call requires.new c.self.invariant.0),
       omega (arith, more, longer, now, c.self.invariant.1),
       omega (arith, size, c.put_in.ensures.capacity, c.self.invariant.2),
+      c.self.invariant.3,
     )

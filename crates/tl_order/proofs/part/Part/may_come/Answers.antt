@@ -1,11 +1,10 @@
-use Rattle.std.proofs.Common.{◌≡◌, ℕ, ◌<◌, true, false, length, map, get_or, sym, ap, ◌∙◌, subst, arith}
+use Rattle.std.proofs.Common.{◌≡◌, ◌<◌, false, length, map, sym, ap, ◌∙◌, subst, arith}
 use Rattle.std.proofs.lemmas.List.{length-map}
 use Rattle.tl_protocol.specs.Actions.{locked}
 use Rattle.tl_order.specs.Part.{IsPart, was_locked, is_held}
-use Rattle.tl_order.specs.Way.{is_open}
 use Rattle.tl_order.proofs.Marks.{marks, read_at}
-use Rattle.tl_order.proofs.Coming.{may_come-no_marks, may_come-locked, may_come-comes, comes_up-locked, comes_up-not_locked, none_locked}
-use Rattle.tl_order.proofs.Ways.{comes-shut}
+use Rattle.tl_order.proofs.Coming.{may_come-no_marks, may_come-locked, may_come-comes, comes_up-locked, comes_up-not_locked}
+use Rattle.tl_protocol.proofs.MayComeLemmas.{comes, comes-root}
 use Rattle.tl_order.proofs.part.Part.may_come.Goals as goal
 use Rattle.tl_order.proofs.part.Part.may_come.Goals.{then-self-eq0-via-then-self-eq0, then-self-eq0-via-else-self-eq0+then-was_locked}
 
@@ -20,31 +19,12 @@ returns-then-self-eq0 c done part =
     let size : length ls ≡ length shape = ap (λ m. length m.locked) c.self.view_is ∙ c.requires.nodes in
     elim c.then-self-eq0.branch [
       | then-self-eq0-via-then-self-eq0 w ↦
-          sym (may_come-no_marks shape c.requires.tree ls hs size (omega (arith, c.self.invariant.0, w.if-self-eq0.true)) done own c.args.node c.requires.node)
+          sym (may_come-no_marks shape c.requires.tree ls hs size (omega (arith, c.self.invariant, w.if-self-eq0.true)) done own c.args.node c.requires.node)
       | then-self-eq0-via-else-self-eq0+then-was_locked w ↦
           let inside : c.args.node < length ls = omega (arith, c.requires.node) in
           let marked = read_at was_locked ms c.args.node w.from.result w.index.result.now w.was_locked.result w.from.ensures (omega (arith, all, inside)) w.index.ensures w.was_locked.ensures in
           sym (may_come-locked shape done c.args.node (sym (own.locks c.args.node inside) ∙ sym marked ∙ w.if-was_locked.true))
     ]
-
--- no held node of the way is open
-pub returns-then-not-may_hold_open : goal.returns-then-not-may_hold_open
-returns-then-not-may_hold_open c done part =
-    let shape = c.args.shape.now in
-    let ms = c.self.inside.marks.items in
-    let ls = map was_locked ms in
-    let hs = map is_held ms in
-    let all = length-map ms was_locked in
-    let next = c.args.way.now in
-    let own : IsPart (marks ls hs) done = subst (λ m. IsPart m done) (sym c.self.view_is) part in
-    let size : length ls ≡ length shape = ap (λ m. length m.locked) c.self.view_is ∙ c.requires.nodes in
-    let node_inside : c.args.node < length ls = omega (arith, c.requires.node) in
-    let here = read_at was_locked ms c.args.node c.from.result c.index.result.now c.was_locked.result c.from.ensures (omega (arith, all, node_inside)) c.index.ensures c.was_locked.ensures in
-    let free : locked done c.args.node ≡ false = sym (own.locks c.args.node node_inside) ∙ sym here ∙ c.if-was_locked.false in
-    let shut : (y : ℕ) → get_or hs y false ≡ true → is_open (marks ls hs) next y ≡ false =
-    subst (λ m. (y : ℕ) → get_or m.held y false ≡ true → is_open m next y ≡ false) (sym c.self.view_is) (c.may_hold_open.ensures c.if-not-may_hold_open.true) in
-    sym (may_come-comes shape done c.args.node free
-    ∙ comes-shut shape c.requires.tree ls hs size done own next shut c.args.node c.requires.node free c.requires.way)
 
 pub loop-step-preserved : goal.loop-step-preserved
 loop-step-preserved c =
@@ -95,10 +75,8 @@ returns c done part =
     let all = length-map ms was_locked in
     let own : IsPart (marks ls hs) done = subst (λ m. IsPart m done) (sym c.self.view_is) part in
     let size : length ls ≡ length shape = ap (λ m. length m.locked) c.self.view_is ∙ c.requires.nodes in
-    let node_inside : c.args.node < length ls = omega (arith, c.requires.node) in
+    let node_inside : c.args.node < length ls = omega (arith, size, c.requires.node) in
     let here = read_at was_locked ms c.args.node c.from.result c.index.result.now c.was_locked.result c.from.ensures (omega (arith, all, node_inside)) c.index.ensures c.was_locked.ensures in
     let free : locked done c.args.node ≡ false = sym (own.locks c.args.node node_inside) ∙ sym here ∙ c.if-was_locked.false in
-    let none = none_locked shape c.requires.tree done c.loop-step.step (λ y low.
-    let inside : y < length ls = omega (arith, c.loop-step.invariant.0) in
-    sym (own.locks y inside) ∙ c.self.invariant.1 y (omega (arith, c.loop-step-test.false))) in
-    sym (may_come-comes shape done c.args.node free ∙ c.loop-step.invariant.1 done part ∙ none)
+    let root : c.loop-step.step ≡ 0 = omega (arith, c.loop-step-test.false) in
+    sym (may_come-comes shape done c.args.node free ∙ c.loop-step.invariant.1 done part ∙ ap (comes shape done) root ∙ comes-root shape done)

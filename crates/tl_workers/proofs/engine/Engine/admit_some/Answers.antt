@@ -1,4 +1,4 @@
-use Rattle.std.proofs.Common.{◌≡◌, ◌+◌, ◌∙◌, ℕ, List, [], ◌∷◌, length, take, ap, sym, subst, arith}
+use Rattle.std.proofs.Common.{◌≡◌, ◌+◌, ◌∙◌, ℕ, [], ◌∷◌, length, take, ap, sym, subst, arith}
 use Rattle.std.proofs.lemmas.List.{length-append}
 use Rattle.std.proofs.lemmas.Grind.{common_steps}
 use Rattle.tl_procedures.specs.declared.request.Request.{Request}
@@ -6,8 +6,8 @@ use Rattle.tl_workers.specs.Kept.{AsksFor, AdmittedEach}
 use Rattle.tl_workers.proofs.Batches.{admitted-next}
 use Rattle.tl_workers.proofs.engine.Engine.admit_some.Goals as goal
 
-pub returns-then-not-make_ready-clause-each : goal.returns-then-not-make_ready-clause-each
-returns-then-not-make_ready-clause-each g c =
+pub returns-then-is_err-clause-each : goal.returns-then-is_err-clause-each
+returns-then-is_err-clause-each g c =
     let F : Request → Type 0 = λ q. AsksFor q c.admit_one-one.result in
     let next = admitted-next c.args.requests.now c.loop-i.i c.loop-i.admitted.items c.push_reserved.new.self.items c.index-requests-i.result c.admit_one-one.result c.loop-i-test.true c.loop-i.invariant.0
     (subst F c.index-requests-i.is c.admit_one-one.ensures) c.push_reserved.ensures.items in

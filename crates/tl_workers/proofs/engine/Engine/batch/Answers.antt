@@ -1,8 +1,7 @@
-use Rattle.std.proofs.Common.{◌≡◌, ◌∙◌, ◌++◌, ℕ, List, length, ap, sym, subst, arith}
+use Rattle.std.proofs.Common.{◌≡◌, ◌∙◌, ◌++◌, List, length, ap, subst, arith}
 use Rattle.std.specs.Prelude.{Result}
 use Rattle.tl_workers.specs.declared.asking.Asking.{Asking}
 use Rattle.tl_workers.specs.declared.refusal.Refusal.{Refusal}
-use Rattle.tl_workers.specs.declared.session.Did.{Did}
 use Rattle.tl_workers.specs.Kept.{ReceiptsEach, askings_of, asked_of, gots_of}
 use Rattle.tl_workers.proofs.Batches.{admitted_long, receipts_long, answers_each, asked_are, gains_then}
 use Rattle.tl_workers.proofs.engine.Engine.batch.Goals as goal

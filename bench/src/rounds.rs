@@ -1,0 +1,121 @@
+//! Rounds in which several sides do their work in turn, and what their times come to.
+
+use crate::measured::Measured;
+
+/// How many rounds are counted. One more before them only warms up.
+pub const ROUNDS: usize = 15;
+
+/// The middle of some numbers, and the quartiles around it.
+#[derive(Clone, Copy, Debug, PartialEq)]
+pub struct Spread {
+    pub low: f64,
+    pub middle: f64,
+    pub high: f64,
+}
+
+impl Spread {
+    pub fn of(numbers: impl IntoIterator<Item = f64>) -> Spread {
+        let mut sorted: Vec<f64> = numbers.into_iter().collect();
+        sorted.sort_by(f64::total_cmp);
+        let at = |quarter: usize| sorted[(sorted.len() - 1) * quarter / 4];
+        Spread { low: at(1), middle: at(2), high: at(3) }
+    }
+}
+
+/// A side of a comparison.
+pub type Side<'a> = &'a mut dyn FnMut() -> Measured;
+
+/// What a side's rounds took, in nanoseconds, and what came of each.
+#[derive(Clone, Debug, Default)]
+pub struct Times {
+    pub nanos: Vec<f64>,
+    pub came_to: Measured,
+}
+
+impl Times {
+    /// Each round's time by so many units.
+    pub fn per(&self, units: f64) -> Vec<f64> {
+        self.nanos.iter().map(|nanos| nanos / units).collect()
+    }
+
+    fn take(&mut self, name: &str, round: usize, measured: Measured) -> Result<(), String> {
+        if measured.count == u64::MAX {
+            return Err(format!("{name}: refused"));
+        }
+        if round == 0 {
+            self.came_to = measured;
+            return Ok(());
+        }
+        if !self.came_to.is_like(&measured) {
+            return Err(format!("{name}: {:?}, and then {measured:?}", self.came_to));
+        }
+        self.nanos.push(measured.nanos as f64);
+        Ok(())
+    }
+}
+
+/// All sides do their work in turn, and in each round another one begins. A side has to come to the same each time.
+pub fn in_turn<const N: usize>(name: &str, sides: [Side; N]) -> Result<[Times; N], String> {
+    let mut times = [(); N].map(|()| Times::default());
+    for round in 0..=ROUNDS {
+        for turn in 0..N {
+            let place = (round + turn) % N;
+            times[place].take(name, round, sides[place]())?;
+        }
+    }
+    Ok(times)
+}
+
+/// Both sides do the same work in turn, and have to come to the same.
+pub fn both(name: &str, product: Side, twin: Side) -> Result<[Times; 2], String> {
+    let times = in_turn(name, [product, twin])?;
+    are_alike(name, &times[0], &times[1])?;
+    Ok(times)
+}
+
+/// Whether the same came of two sides' work.
+pub fn are_alike(name: &str, ours: &Times, theirs: &Times) -> Result<(), String> {
+    if ours.came_to.is_like(&theirs.came_to) {
+        Ok(())
+    } else {
+        Err(format!("{name}: {:?} and {:?}", ours.came_to, theirs.came_to))
+    }
+}
+
+#[cfg(test)]
+mod tests {
+    use super::*;
+
+    #[test]
+    fn the_middle_and_the_quartiles() {
+        let numbers = [15, 3, 1, 2, 9, 8, 4, 7, 6, 5, 10, 14, 13, 12, 11].map(f64::from);
+        assert_eq!(Spread::of(numbers), Spread { low: 4.0, middle: 8.0, high: 11.0 });
+        assert_eq!(Spread::of([2.0]), Spread { low: 2.0, middle: 2.0, high: 2.0 });
+    }
+
+    #[test]
+    fn sides_that_differ_make_no_table() {
+        let one = || Measured { nanos: 1, count: 1, sum: 5 };
+        let other = || Measured { nanos: 1, count: 1, sum: 6 };
+        assert!(both("alike", &mut one.clone(), &mut one.clone()).is_ok());
+        assert!(both("not alike", &mut one.clone(), &mut other.clone()).is_err());
+        let mut count = 0;
+        let mut unsteady = || {
+            count += 1;
+            Measured { nanos: 1, count, sum: 0 }
+        };
+        assert!(in_turn("unsteady", [&mut unsteady]).is_err());
+    }
+
+    #[test]
+    fn each_side_begins_in_turn() {
+        let order = std::cell::RefCell::new(Vec::new());
+        let side = |number| {
+            order.borrow_mut().push(number);
+            Measured::default()
+        };
+        let times = in_turn("order", [&mut || side(0), &mut || side(1)]).unwrap();
+        assert_eq!(order.borrow()[..4], [0, 1, 1, 0]);
+        assert_eq!(times[0].nanos.len(), ROUNDS);
+    }
+}

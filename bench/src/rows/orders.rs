@@ -1,0 +1,134 @@
+//! Orders and audits of trails.
+
+use super::{grouped, walks, TWIN};
+use crate::measured::Measured;
+use crate::product;
+use crate::rounds::{both, Times};
+use crate::schedules;
+use crate::table::{Goal, Part, Row};
+use crate::trees::CALLS;
+use crate::twin::trail::{read_trail, Trail};
+use crate::twin::work as twin;
+
+/// How many nodes each walk locks, in trails from 131,072 to 1,048,576 events.
+const LOCKS: [u16; 4] = [15, 31, 63, 127];
+
+/// What is asked of `order_of` and `audit` beside the twin.
+const LEAST: Goal = Goal::AtLeast(0.8);
+
+const UNIT: &str = "ns an event";
+
+/// A trail as both sides get it.
+struct Told {
+    text: String,
+    trail: Trail,
+}
+
+impl Told {
+    fn new(text: String) -> Result<Told, String> {
+        let trail = read_trail(&text).map_err(|()| "a trail that the twin can't read")?;
+        Ok(Told { text, trail })
+    }
+
+    fn events(&self) -> f64 {
+        self.trail.events.len() as f64
+    }
+
+    fn both(
+        &self,
+        name: &str,
+        times: u32,
+        product: fn(&[u8], u32) -> Measured,
+        twin: fn(&Trail, u32) -> Measured,
+    ) -> Result<[Times; 2], String> {
+        both(name, &mut || product(self.text.as_bytes(), times), &mut || twin(&self.trail, times))
+    }
+
+    fn orders(&self, times: u32) -> Result<[Times; 2], String> {
+        self.both("order_of", times, product::order, twin::order)
+    }
+
+    fn audits(&self, times: u32) -> Result<[Times; 2], String> {
+        self.both("audit", times, product::audit, twin::audit)
+    }
+}
+
+/// The rounds of one trail, of so many events.
+struct AtSize {
+    events: f64,
+    times: [Times; 2],
+}
+
+impl AtSize {
+    fn row(&self, name: &str) -> Row {
+        let work = format!("`{name}`, {} events", grouped(self.events as u64));
+        Row::of_times(work, UNIT, [&self.times[0], &self.times[1]], self.events, LEAST)
+    }
+
+    fn alone(&self, name: &str, most: f64) -> Row {
+        let work = format!("product alone: `{name}`, {} events", grouped(self.events as u64));
+        Row::alone(work, UNIT, &self.times[0].per(self.events), Goal::Within(most))
+    }
+}
+
+/// What each event more costs the product from one size to the next: by rounds.
+fn added(less: &AtSize, more: &AtSize) -> Vec<f64> {
+    let [before, after] = [&less.times[0], &more.times[0]];
+    let events = more.events - less.events;
+    after.nanos.iter().zip(&before.nanos).map(|(after, before)| (after - before) / events).collect()
+}
+
+fn growth(name: &str, sizes: &[AtSize; LOCKS.len()]) -> Row {
+    let [first, second, third, fourth] = sizes;
+    let work = format!(
+        "product alone: `{name}`, what an event more costs from {} to {} events, and from {} to {}",
+        grouped(third.events as u64),
+        grouped(fourth.events as u64),
+        grouped(first.events as u64),
+        grouped(second.events as u64)
+    );
+    Row::paired(work, "ns an event more", &added(third, fourth), &added(first, second), Goal::AtMost(1.2))
+}
+
+pub fn sizes() -> Result<Part, String> {
+    let (mut orders, mut audits) = (Vec::new(), Vec::new());
+    for locks in LOCKS {
+        let told = Told::new(walks(locks)?)?;
+        orders.push(AtSize { events: told.events(), times: told.orders(1)? });
+        audits.push(AtSize { events: told.events(), times: told.audits(1)? });
+    }
+    let mut rows: Vec<Row> = orders.iter().map(|size| size.row("order_of")).collect();
+    rows.extend(audits.iter().map(|size| size.row("audit")));
+    rows.push(audits[0].alone("audit", 30.0));
+    rows.push(audits[LOCKS.len() - 1].alone("audit", 30.0));
+    for (name, sizes) in [("order_of", orders), ("audit", audits)] {
+        let sizes: [AtSize; LOCKS.len()] = sizes.try_into().map_err(|_| "as many sizes as there are")?;
+        rows.push(growth(name, &sizes));
+    }
+    rows.push(broken()?);
+    Ok(Part::new(format!("The order and the audit of {} walks", grouped(CALLS.into())), TWIN, rows))
+}
+
+/// The longest trail, and the same with its last event changed.
+fn broken() -> Result<Row, String> {
+    let clean = walks(LOCKS[LOCKS.len() - 1])?;
+    let broken = Told::new(schedules::broken(&clean).ok_or("a trail that breaks a rule")?)?;
+    let [ours, theirs] = broken.audits(1)?;
+    let work = "`audit`, 1,048,576 events of which the last breaks a rule";
+    Ok(Row::of_times(work, UNIT, [&ours, &theirs], broken.events(), LEAST))
+}
+
+/// Trails with deep chains, many calls open at once, and calls in each other's way.
+pub fn schedules() -> Result<Part, String> {
+    let times = 4;
+    let mut rows = Vec::new();
+    for (name, text) in schedules::all().ok_or("schedules")? {
+        let told = Told::new(text)?;
+        let events = told.events() * f64::from(times);
+        let [ours, theirs] = told.orders(times)?;
+        rows.push(Row::of_times(format!("`order_of`: {name}"), UNIT, [&ours, &theirs], events, LEAST));
+        let [ours, theirs] = told.audits(times)?;
+        rows.push(Row::of_times(format!("`audit`: {name}"), UNIT, [&ours, &theirs], events, LEAST));
+    }
+    Ok(Part::new("The order and the audit where first locks are deep and in each other's way, 16,384 events", TWIN, rows))
+}

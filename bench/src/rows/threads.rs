@@ -1,0 +1,164 @@
+//! Engines, whose calls run on threads, and SQLite beside them.
+
+use std::path::PathBuf;
+use std::{env, fs, process, thread};
+
+use super::TWIN;
+use crate::codes;
+use crate::measured::Measured;
+use crate::processes::Engines;
+use crate::rounds::{are_alike, in_turn, Side, Times};
+use crate::sqlite;
+use crate::table::{Goal, Part, Row};
+use crate::trees::{chains, heads, CALLS, CHAIN, NODES};
+
+/// How many workers run the batches of an engine.
+const WORKERS: [usize; 3] = [1, 2, 4];
+
+/// Calls on threads: what they do, their code, the tree's nodes and the length of its chains, and how many engines are made.
+struct OnThreads {
+    work: &'static str,
+    code: Vec<u8>,
+    nodes: u16,
+    chain: u16,
+    engines: u32,
+    /// How many turns a call takes: its locks, its frees and its return.
+    turns: f64,
+    /// What is asked of 2 workers against 1, and of 4 against 1.
+    speedups: [Goal; 2],
+}
+
+fn workloads() -> [OnThreads; 3] {
+    [
+        OnThreads {
+            work: "two nodes of a subtree of its own, 10,000 local instructions at each",
+            code: codes::two_locks(2_000),
+            nodes: NODES,
+            chain: CHAIN,
+            engines: 1,
+            turns: 5.0,
+            speedups: [Goal::AtLeast(1.8), Goal::AtLeast(3.4)],
+        },
+        OnThreads {
+            work: "two nodes of a subtree of its own, 20 local instructions at each",
+            code: codes::two_locks(4),
+            nodes: NODES,
+            chain: CHAIN,
+            engines: 10,
+            turns: 5.0,
+            speedups: [Goal::Speed, Goal::AtLeast(0.6)],
+        },
+        OnThreads {
+            work: "walks of 127 nodes on one path",
+            code: codes::walk(127),
+            nodes: CHAIN + 1,
+            chain: CHAIN,
+            engines: 1,
+            turns: 255.0,
+            speedups: [Goal::Speed, Goal::AtLeast(0.4)],
+        },
+    ]
+}
+
+/// A container in a file, which is gone when this is dropped.
+struct Container(PathBuf);
+
+impl Container {
+    fn new(code: &[u8]) -> Result<Container, String> {
+        let path = env::temp_dir().join(format!("treedb-bench-{}.tlp", process::id()));
+        fs::write(&path, code).map_err(|error| error.to_string())?;
+        Ok(Container(path))
+    }
+}
+
+impl Drop for Container {
+    fn drop(&mut self) {
+        let _ = fs::remove_file(&self.0);
+    }
+}
+
+/// Both sides' times, by the numbers of workers.
+fn times_of(it: &OnThreads) -> Result<[[Times; 2]; WORKERS.len()], String> {
+    let container = Container::new(&it.code)?;
+    let engines = WORKERS.map(|workers| Engines {
+        container: &container.0,
+        workers,
+        nodes: it.nodes,
+        chain: it.chain,
+        engines: it.engines,
+    });
+    let [one, two, four] = engines;
+    let sides: [Side; 6] = [
+        &mut || one.of_product(),
+        &mut || one.of_twin(),
+        &mut || two.of_product(),
+        &mut || two.of_twin(),
+        &mut || four.of_product(),
+        &mut || four.of_twin(),
+    ];
+    let [a, b, c, d, e, f] = in_turn(it.work, sides)?;
+    [&b, &c, &d, &e, &f].into_iter().try_for_each(|other| are_alike(it.work, &a, other))?;
+    Ok([[a, b], [c, d], [e, f]])
+}
+
+/// The same goal, where there are as many processors as workers.
+fn if_they_fit(workers: usize, goal: Goal) -> Goal {
+    match thread::available_parallelism() {
+        Ok(processors) if processors.get() >= workers => goal,
+        _ => goal.only_told(),
+    }
+}
+
+fn rows_of(it: &OnThreads) -> Result<Vec<Row>, String> {
+    let times = times_of(it)?;
+    let calls = times[0][0].came_to.count as f64;
+    let mut rows = Vec::new();
+    for ([ours, theirs], workers) in times.iter().zip(WORKERS) {
+        let goal = if_they_fit(workers, Goal::AtLeast(0.9));
+        let work = format!("{}, workers: {workers}", it.work);
+        rows.push(Row::of_times(work, "ns a call", [ours, theirs], calls, goal));
+    }
+    let [one, ..] = &times;
+    let turn = format!("a turn with one worker: {}", it.work);
+    rows.push(Row::of_times(turn, "ns a turn", [&one[0], &one[1]], calls * it.turns, Goal::AtLeast(0.9)));
+    for place in [1, 2] {
+        let workers = WORKERS[place];
+        let goal = if_they_fit(workers, it.speedups[place - 1]);
+        let work = format!("product alone: {workers} workers, and 1");
+        rows.push(Row::of_times(work, "ns a call", [&times[place][0], &one[0]], calls, goal));
+    }
+    Ok(rows)
+}
+
+pub fn threads() -> Result<Vec<Part>, String> {
+    let of_workload = |it: OnThreads| {
+        let heading = format!("Engines, 4,096 calls each in batches of 256: {}", it.work);
+        Ok(Part::new(heading, TWIN, rows_of(&it)?))
+    };
+    workloads().into_iter().map(of_workload).collect()
+}
+
+const SQLITE: &str = "A procedure a transaction, beside SQLite in memory";
+
+/// How many nodes a call locks below the root.
+const WAY: u16 = 5;
+
+pub fn sqlite() -> Result<Part, String> {
+    let (parents, args) = (chains(NODES, WAY), heads(CALLS, NODES, WAY));
+    if sqlite::descend(&parents, &args, WAY).is_none() {
+        return Ok(Part::left_out(SQLITE, "Left out: SQLite isn't installed, or is too old (3.35 is needed)."));
+    }
+    let container = Container::new(&codes::descend(WAY))?;
+    let engine = Engines { container: &container.0, workers: 1, nodes: NODES, chain: WAY, engines: 1 };
+    let [ours, theirs] = in_turn(
+        SQLITE,
+        [
+            &mut || engine.of_product(),
+            &mut || sqlite::descend(&parents, &args, WAY).unwrap_or(Measured::REFUSED),
+        ],
+    )?;
+    are_alike(SQLITE, &ours, &theirs)?;
+    let work = "the way down to a leaf of 4,096 nodes, five below the root; add to it, and answer";
+    let row = Row::of_times(work, "ns a call", [&ours, &theirs], f64::from(CALLS), Goal::AtLeast(10.0));
+    Ok(Part::new(SQLITE, "SQLite", vec![row]))
+}

@@ -1,0 +1,6 @@
+-- As many calls, none with a turn.
+use Rattle.std.proofs.Common.{◌≡◌, None, replicate}
+use Rattle.tl_audit.proofs.replays.Replays.new.Given as goal
+
+abbrev pub invariant-loop-call : goal.invariant-loop-call
+invariant-loop-call l = l.turns.items ≡ replicate l._call None

@@ -1,0 +1,97 @@
+// What is concluded of calls, each asked once more where memory is refused.
+
+ghost use Rattle.std.specs.Prelude.{◌<◌, All, IfOk, length};
+
+use crate::halt::Halt;
+use std::alloc::Global;
+use tl_audit::{AuditFault, audit};
+use tl_core::Core;
+use tl_machine::Reply;
+use tl_record::trail_of;
+use tl_serial::{Order, Running, SerialFault, replay};
+use tl_trail::Trail;
+use tl_tree::{Record, Tree};
+
+/// Prints the order of the running calls, what they leave and what they reply when they run again along it; or which call is unfinished.
+pub fn conclude(rt: &impl Print, alloc: Global, running: &Running) -> Result<(), Halt> {
+    match concluded(alloc, running) {
+        Ok(order) => {
+            print_order(rt, "concluded", order.calls())?;
+            let (tree, replies) = replayed(alloc, &order, running.core())?;
+            print_records(rt, tree.records())?;
+            print_replies(rt, order.calls(), &replies)
+        }
+        Err(SerialFault::Unfinished { call }) => {
+            println!(rt; "call {call} isn't done")?;
+            Ok(())
+        }
+        Err(SerialFault::Memory) => Err(Halt::Refused),
+    }
+}
+
+fn concluded(alloc: Global, running: &Running) -> Result<Order, SerialFault>
+    ensures { IfOk result (λ o. All (λ c. c < length running.now.seen.calls) o.calls) }
+{
+    match running.conclude(alloc) {
+        Err(SerialFault::Memory) => running.conclude(alloc),
+        answer => answer,
+    }
+}
+
+fn replayed(alloc: Global, order: &Order, core: &Core) -> Result<(Tree, Vec<Reply>), Halt>
+    requires { All (λ c. c < length core.now.seen.calls) order.now.calls }
+{
+    if let Ok(replayed) = replay(alloc, order, core) {
+        return Ok(replayed);
+    }
+    replay(alloc, order, core).map_err(|_| Halt::Refused)
+}
+
+/// Prints what an audit of the core's trail says.
+pub fn judge(rt: &impl Print, alloc: Global, core: &Core) -> Result<(), Halt> {
+    let trail = trail(alloc, core)?;
+    match audited(alloc, &trail) {
+        Ok(order) => print_order(rt, "audited", order.calls()),
+        Err(AuditFault::Memory) => Err(Halt::Refused),
+        Err(fault) => {
+            println!(rt; "audited: {fault}")?;
+            Ok(())
+        }
+    }
+}
+
+fn trail(alloc: Global, core: &Core) -> Result<Trail, Halt> {
+    if let Ok(trail) = trail_of(alloc, core) {
+        return Ok(trail);
+    }
+    trail_of(alloc, core).map_err(|_| Halt::Refused)
+}
+
+fn audited(alloc: Global, trail: &Trail) -> Result<Order, AuditFault> {
+    match audit(alloc, trail) {
+        Err(AuditFault::Memory) => audit(alloc, trail),
+        answer => answer,
+    }
+}
+
+/// Prints an order.
+pub fn print_order(rt: &impl Print, whose: &str, calls: &[u32]) -> Result<(), Halt> {
+    println!(rt; "{whose}: {calls:?}")?;
+    Ok(())
+}
+
+/// Prints the records of a tree.
+pub fn print_records(rt: &impl Print, records: &[Record]) -> Result<(), Halt> {
+    for record in records {
+        println!(rt; "record {record:?}")?;
+    }
+    Ok(())
+}
+
+fn print_replies(rt: &impl Print, calls: &[u32], replies: &[Reply]) -> Result<(), Halt> {
+    for (call, reply) in calls.iter().zip(replies) {
+        let values = reply.values();
+        println!(rt; "call {call} replies {values:?}")?;
+    }
+    Ok(())
+}

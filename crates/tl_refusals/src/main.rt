@@ -1,0 +1,37 @@
+//! Asks for all that takes memory, one call after another, and asks once more where it is refused.
+//!
+//! It prints a line for each answer that depends on what the calls before have left. So a run to which memory is refused once, wherever
+//! that is, prints the same as a run with ample memory. Its exit status is 0 then. It is 4 where a call was refused twice, 3 where standard
+//! output can't be written, and 1 where a refusal has changed something. `tests/refusals` runs it.
+#![tactic(auto)]
+
+mod engines;
+mod halt;
+mod judging;
+mod making;
+mod seen;
+mod tables;
+mod turns;
+
+use halt::Halt;
+use std::process::ExitCode;
+use std::sync::Wait;
+use std::thread::Threads;
+
+fn run<R: Print + AllocGlobal + Threads + Wait + Sync>(rt: &R) -> Result<(), Halt> {
+    rt.println("a core")?;
+    turns::run(rt, rt.alloc())?;
+    rt.println("a table")?;
+    tables::run(rt, rt.alloc())?;
+    rt.println("an engine")?;
+    engines::run(rt, rt.alloc())?;
+    rt.println("all is done")?;
+    Ok(())
+}
+
+fn main(rt: HostRuntime) -> ExitCode {
+    match run(&rt) {
+        Ok(()) => ExitCode::SUCCESS,
+        Err(halt) => ExitCode::from(halt.status()),
+    }
+}

@@ -1,0 +1,38 @@
+"""Moves stock over a server: python3 examples/stock/client.py PORT, from the top of the repository."""
+
+import pathlib
+import sys
+
+HERE = pathlib.Path(__file__).resolve().parent
+sys.path.insert(0, str(HERE.parent.parent / "clients/python"))
+
+from treedb import Client, Refused
+
+with Client(int(sys.argv[1])) as db:
+    for name in ("transfer", "shift", "visit", "stock"):
+        bounds = db.register_file(name, HERE / f"{name}.asm")
+        print(f"{name} locks at most {bounds.locks} nodes")
+
+    # Eight calls at once, on four threads.
+    answers = db.batch(
+        [
+            ("transfer", 5, 0, 0, 0, 1, 0, 0),
+            ("transfer", 3, 2, 1, 0, 0, 0, 1),
+            ("shift", 10, 5, 0, 1),
+            ("shift", 2, 12, 2, 0),
+            ("transfer", 1000, 1, 0, 0, 2, 2, 2),
+            ("transfer", 8, 1, 2, 2, 2, 2, 1),
+            ("shift", 1, 10, 0, 2),
+            ("shift", 4, 8, 0, 1),
+        ],
+        workers=4,
+    )
+    print("moved", [answer.reply[0] for answer in answers])
+
+    total = sum(db.call("stock", warehouse).reply[0] for warehouse in (1, 2, 3))
+    print("in stock", total)
+
+    try:
+        db.call("stock", 1, 2)
+    except Refused as refusal:
+        print("refused:", refusal)

@@ -1,0 +1,69 @@
+"""Runs of a program in which allocations are refused.
+
+A refusal is made by a small C library in the place of `malloc`, which is compiled by `cc`, or by the command that CC names.
+"""
+
+import os
+import shutil
+import subprocess
+
+# Refuses the allocation whose number REFUSE gives, counted from 1, and each one behind it where REFUSE_ALL is set. It tells
+# on the file descriptor 99 whether it came to that.
+SOURCE = r"""
+#define _GNU_SOURCE
+#include <dlfcn.h>
+#include <errno.h>
+#include <stdlib.h>
+#include <unistd.h>
+
+static long asked, from, all;
+
+__attribute__((constructor)) static void begin(void) {
+    const char *number = getenv("REFUSE");
+    from = number ? atol(number) : 0;
+    all = getenv("REFUSE_ALL") != 0;
+    asked = 0;
+}
+
+static int refused(void) {
+    asked++;
+    if (from == 0 || asked < from || (asked > from && !all)) return 0;
+    if (asked == from && write(99, "r", 1) < 0) _exit(70);
+    errno = ENOMEM;
+    return 1;
+}
+
+#define REAL(name) (__typeof__(&name)) dlsym(RTLD_NEXT, #name)
+
+void *malloc(size_t size) { return refused() ? 0 : (REAL(malloc))(size); }
+void *calloc(size_t count, size_t size) { return refused() ? 0 : (REAL(calloc))(count, size); }
+void *realloc(void *old, size_t size) { return refused() ? 0 : (REAL(realloc))(old, size); }
+void *aligned_alloc(size_t align, size_t size) { return refused() ? 0 : (REAL(aligned_alloc))(align, size); }
+int posix_memalign(void **to, size_t align, size_t size) {
+    return refused() ? ENOMEM : (REAL(posix_memalign))(to, align, size);
+}
+"""
+
+
+def library(folder):
+    """The C library that refuses allocations, or None where there is no compiler."""
+    compiler = os.environ.get("CC", "cc")
+    if shutil.which(compiler) is None:
+        return None
+    source, built = folder / "refusing.c", folder / "refusing.so"
+    source.write_text(SOURCE)
+    subprocess.run([compiler, "-shared", "-fPIC", "-O1", "-o", built, source, "-ldl"], check=True)
+    return built
+
+
+def refused(built, number, all_from, run):
+    """What `run(env=.., pass_fds=..)` comes to where the allocation of that number is refused, or each from it on; and whether
+    it came to that."""
+    env = {"LD_PRELOAD": str(built), "REFUSE": str(number)} | ({"REFUSE_ALL": "1"} if all_from else {})
+    told, teller = os.pipe()
+    os.dup2(teller, 99)
+    os.close(teller)
+    done = run(env=env, pass_fds=(99,))
+    os.close(99)
+    with os.fdopen(told, "rb") as pipe:
+        return done, pipe.read() != b""
