@@ -8,6 +8,7 @@ mod counting;
 mod measured;
 mod processes;
 mod product;
+mod reasons;
 mod rounds;
 mod rows;
 mod schedules;

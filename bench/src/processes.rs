@@ -19,7 +19,8 @@ const PRODUCT_ENGINES: &str = concat!(env!("CARGO_MANIFEST_DIR"), "/../crates/tl
 /// The program `treedb`.
 pub const TREEDB: &str = concat!(env!("CARGO_MANIFEST_DIR"), "/../crates/tl_cli/out/tl_cli");
 
-/// Engines made anew, each of which runs 4,096 calls in batches of 256.
+/// Engines made anew, each of which runs 4,096 calls in batches of 256. The product's program takes 0 workers too: then a core with
+/// its order is driven by one thread, one call after another.
 #[derive(Clone, Copy)]
 pub struct Engines<'a> {
     pub container: &'a Path,

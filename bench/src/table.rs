@@ -2,10 +2,14 @@
 
 use std::fmt;
 
+use crate::reasons;
 use crate::rounds::{Spread, Times};
 
 /// How near to its goal a number has to be for there to be no verdict.
 const LEVEL: f64 = 0.1;
+
+/// The verdict of a row that is further than that from its goal.
+const SHORT: &str = "**short**";
 
 /// What is asked for.
 #[derive(Clone, Copy)]
@@ -67,6 +71,8 @@ impl Row {
     fn reached(&self) -> Option<f64> {
         match (self.goal, &self.beside) {
             (Goal::AtLeast(least), Some((_, ratio))) => Some(ratio.middle / least),
+            // A difference below nothing is noise, and says nothing.
+            (Goal::AtMost(_), Some((_, ratio))) if ratio.middle <= 0.0 => Some(1.0),
             (Goal::AtMost(most), Some((_, ratio))) => Some(most / ratio.middle),
             (Goal::Within(most), _) if self.product <= 0.0 => Some(most),
             (Goal::Within(most), _) => Some(most / self.product),
@@ -77,7 +83,7 @@ impl Row {
     fn verdict(&self) -> &'static str {
         match self.reached() {
             Some(reached) if reached >= 1.0 / (1.0 - LEVEL) => "met",
-            Some(reached) if reached <= 1.0 - LEVEL => "**short**",
+            Some(reached) if reached <= 1.0 - LEVEL => SHORT,
             Some(_) => "level",
             None => "",
         }
@@ -148,6 +154,33 @@ impl fmt::Display for Part {
     }
 }
 
+/// Why rows of these parts are short: each reason once, and the rows for which there is none.
+struct Why<'a>(&'a [Part]);
+
+impl fmt::Display for Why<'_> {
+    fn fmt(&self, out: &mut fmt::Formatter<'_>) -> fmt::Result {
+        let rows_of = |part: &'_ Part| part.rows.iter().filter(|row| row.verdict() == SHORT).map(|row| row.work.clone()).collect::<Vec<_>>();
+        let short: Vec<(&str, String)> =
+            self.0.iter().flat_map(|part| rows_of(part).into_iter().map(|work| (part.heading.as_str(), work))).collect();
+        if short.is_empty() {
+            return Ok(());
+        }
+        writeln!(out, "\n## Why rows are short\n")?;
+        let mut told = Vec::new();
+        for (heading, work) in short {
+            let text = match reasons::of(heading, &work) {
+                Some(reason) => reason.text.to_string(),
+                None => format!("**{heading}: {work}.** Not found out yet."),
+            };
+            if !told.contains(&text) {
+                writeln!(out, "- {text}")?;
+                told.push(text);
+            }
+        }
+        Ok(())
+    }
+}
+
 /// How the table was made.
 pub struct Made {
     pub date: String,
@@ -175,7 +208,8 @@ number by the first, which is the product's speed by the other's; else it is the
 verdict is *level*: that is nearer than two runs are to one another.",
             crate::rounds::ROUNDS
         )?;
-        self.parts.iter().try_for_each(|part| write!(out, "{part}"))
+        self.parts.iter().try_for_each(|part| write!(out, "{part}"))?;
+        write!(out, "{}", Why(&self.parts))
     }
 }
 
@@ -196,6 +230,7 @@ mod tests {
             (10.0, 10.0, Goal::AtMost(1.1), "level"),
             (10.0, 10.0, Goal::AtMost(1.2), "met"),
             (15.0, 10.0, Goal::AtMost(1.1), "**short**"),
+            (15.0, -10.0, Goal::AtMost(1.1), "level"),
             (20.0, 1.0, Goal::Within(30.0), "met"),
             (31.0, 1.0, Goal::Within(30.0), "level"),
             (-1.0, 1.0, Goal::Within(10.0), "met"),
@@ -204,6 +239,15 @@ mod tests {
         for (product, other, goal, expected) in cases {
             assert_eq!(verdict(product, other, goal), expected, "{product} {other} {goal}");
         }
+    }
+
+    #[test]
+    fn a_reason_is_told_once() {
+        let row = |work| Row::paired(work, "ns", &[10.0], &[1.0], Goal::AtLeast(0.9));
+        let part = |heading: &str| Part::new(heading, "twin", vec![row("a"), row("b")]);
+        let why = Why(&[part("A core"), part("Nothing else")]).to_string();
+        assert_eq!(why.matches("\n- ").count(), 3, "{why}");
+        assert!(why.contains("**Nothing else: b.** Not found out yet."), "{why}");
     }
 
     #[test]

@@ -149,16 +149,31 @@ pub fn sqlite() -> Result<Part, String> {
         return Ok(Part::left_out(SQLITE, "Left out: SQLite isn't installed, or is too old (3.35 is needed)."));
     }
     let container = Container::new(&codes::descend(WAY))?;
-    let engine = Engines { container: &container.0, workers: 1, nodes: NODES, chain: WAY, engines: 1 };
-    let [ours, theirs] = in_turn(
+    // Without a worker a core is driven by one thread, one call after another.
+    let [engine, core] = [1, 0].map(|workers| Engines {
+        container: &container.0,
+        workers,
+        nodes: NODES,
+        chain: WAY,
+        engines: 1,
+    });
+    let [core, engine, theirs] = in_turn(
         SQLITE,
         [
+            &mut || core.of_product(),
             &mut || engine.of_product(),
             &mut || sqlite::descend(&parents, &args, WAY).unwrap_or(Measured::REFUSED),
         ],
     )?;
-    are_alike(SQLITE, &ours, &theirs)?;
     let work = "the way down to a leaf of 4,096 nodes, five below the root; add to it, and answer";
-    let row = Row::of_times(work, "ns a call", [&ours, &theirs], f64::from(CALLS), Goal::AtLeast(10.0));
-    Ok(Part::new(SQLITE, "SQLite", vec![row]))
+    let row_of = |how: &str, ours: &Times| -> Result<Row, String> {
+        are_alike(SQLITE, ours, &theirs)?;
+        let work = format!("{work}: {how}");
+        Ok(Row::of_times(work, "ns a call", [ours, &theirs], f64::from(CALLS), Goal::AtLeast(10.0)))
+    };
+    let rows = vec![
+        row_of("a core whose order is kept, one thread", &core)?,
+        row_of("an engine with one worker, in batches of 256", &engine)?,
+    ];
+    Ok(Part::new(SQLITE, "SQLite", rows))
 }

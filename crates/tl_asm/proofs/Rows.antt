@@ -7,7 +7,7 @@ use Rattle.tl_instr.specs.declared.instr.Instr.TheVariants.{Set, Add, Jump, Put,
 use Rattle.tl_asm.specs.declared.fault.AsmFault.TheVariants.{NoLabel, TooLong}
 use Rattle.tl_asm.specs.Words.{lines_of, words_of}
 use Rattle.tl_asm.specs.Tokens.{number_in, register_in, signed_in, is_label}
-use Rattle.tl_asm.specs.Statements.{Blank, Takes, Names, Does, plain, going, otherwise_in, alone_in, set_in, arithmetic_in, add_in, put_in, draft_in, said_in, says}
+use Rattle.tl_asm.specs.Statements.{Blank, Takes, Names, Does, plain, going, otherwise_in, bare_in, set_in, arithmetic_in, add_in, put_in, draft_in, said_in, says}
 use Rattle.tl_asm.specs.Texts.{statements, labels_in, drafts_in, aimed}
 use Rattle.tl_asm.specs.Faults.{numbers_of}
 use Rattle.tl_asm.specs.Listing.{listing}
@@ -71,15 +71,15 @@ unfolding words_of said_in draft_in put_in register_in number_in
 field = refl
 
 too_many_words : says (codes "ret ret") ≡ None
-unfolding words_of said_in draft_in alone_in
+unfolding words_of said_in draft_in bare_in
 too_many_words = refl
 
 label_at_the_end : labels_in 0 (statements (codes "arity 0\nret\nend_:")) ≡ (codes "end_", 1) ∷ []
-unfolding words_of said_in draft_in alone_in number_in is_label
+unfolding words_of said_in draft_in bare_in number_in is_label
 label_at_the_end = refl
 
 second_line : drafts_in 1 (statements (codes "arity 0\nret")) ≡ (2, plain Return) ∷ []
-unfolding words_of said_in draft_in alone_in number_in
+unfolding words_of said_in draft_in bare_in number_in
 second_line = refl
 
 known : aimed ((codes "a", 0) ∷ (codes "b", 7) ∷ []) (Jump 0) (Some (codes "b")) ≡ Some (Jump 7)

@@ -16,7 +16,7 @@ use Rattle.tl_instr.specs.Instructions.{InRange, GoesWithin, target}
 use Rattle.tl_fields.specs.Fields.{field_count}
 use Rattle.tl_instr.specs.declared.operand.TheConstants.{VALUE_REGISTERS, NODE_REGISTERS}
 use Rattle.tl_asm.specs.Tokens.{is_number, number_in, register_in, signed_in, continues_label, is_label}
-use Rattle.tl_asm.specs.Statements.{DraftValue, Takes, Names, Does, otherwise_in, alone_in, set_in, copy_in, arithmetic_in, add_in, subtract_in, multiply_in, divide_in, jump_in, comparison_in, jump_if_less_in, jump_if_equal_in, repeat_in, first_in, child_in, move_in, release_in, get_in, put_in, kids_in, emit_in, draft_in, said_in}
+use Rattle.tl_asm.specs.Statements.{DraftValue, Takes, Names, Does, otherwise_in, bare_in, set_in, copy_in, arithmetic_in, add_in, subtract_in, multiply_in, divide_in, jump_in, comparison_in, jump_if_less_in, jump_if_equal_in, repeat_in, first_in, child_in, move_in, release_in, get_in, put_in, kids_in, emit_in, draft_in, said_in}
 use Rattle.tl_asm.specs.Texts.{with_target}
 use Rattle.tl_asm.specs.Listing.{label_word, instr_words}
 use lib.Chars.{codes}
@@ -91,7 +91,7 @@ abbrev pub drafted : Instr → DraftValue
 drafted i = record { instr = with_target 0 i; label = option_map label_word (target i) }
 
 pub instr_again : (i : Instr) → InRange i → GoesWithin 1024 i → said_in (instr_words i) ≡ Some (Does (drafted i))
-unfolding otherwise_in alone_in set_in copy_in arithmetic_in add_in subtract_in multiply_in divide_in jump_in comparison_in jump_if_less_in jump_if_equal_in repeat_in first_in child_in move_in release_in get_in put_in kids_in emit_in draft_in said_in
+unfolding otherwise_in bare_in set_in copy_in arithmetic_in add_in subtract_in multiply_in divide_in jump_in comparison_in jump_if_less_in jump_if_equal_in repeat_in first_in child_in move_in release_in get_in put_in kids_in emit_in draft_in said_in
 instr_again (Set to number) h t = rw (value_again to h.0, signed_again number h.1) refl
 instr_again (Copy to from) h t = rw (value_again to h.0, value_again from h.1) refl
 instr_again (Add to left right otherwise) h t = rw (value_again to h.0, value_again left h.1, value_again right h.2, label_again otherwise t) refl

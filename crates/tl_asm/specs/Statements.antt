@@ -54,9 +54,9 @@ otherwise_in words = do
   last label_in literal.1
 
 -- no word
-unfoldable pub alone_in : Instr → List Word → Option DraftValue
-alone_in i [] = Some (plain i)
-alone_in i (word ∷ words) = None
+unfoldable pub bare_in : Instr → List Word → Option DraftValue
+bare_in i [] = Some (plain i)
+bare_in i (word ∷ words) = None
 
 unfoldable pub set_in : List Word → Option DraftValue
 set_in words = do
@@ -191,7 +191,7 @@ draft_in name words =
     else (if bytes_eq name (codes "jlt") then jump_if_less_in words
     else (if bytes_eq name (codes "jeq") then jump_if_equal_in words
     else (if bytes_eq name (codes "rep") then repeat_in words
-    else (if bytes_eq name (codes "end") then alone_in End words
+    else (if bytes_eq name (codes "end") then bare_in End words
     else (if bytes_eq name (codes "first") then first_in words
     else (if bytes_eq name (codes "child") then child_in words
     else (if bytes_eq name (codes "move") then move_in words
@@ -200,7 +200,7 @@ draft_in name words =
     else (if bytes_eq name (codes "put") then put_in words
     else (if bytes_eq name (codes "kids") then kids_in words
     else (if bytes_eq name (codes "emit") then emit_in words
-    else (if bytes_eq name (codes "ret") then alone_in Return words
+    else (if bytes_eq name (codes "ret") then bare_in Return words
     else None)))))))))))))))))))
 
 pub data Said : Type 0 where

@@ -5,7 +5,7 @@ ghost use Rattle.tl_fields.specs.Fields.{field_count};
 ghost use Rattle.tl_instr.specs.Instructions.{GoesWithin, IsInstr};
 ghost use Rattle.tl_asm.specs.Words.{words_of, Finds};
 ghost use Rattle.tl_asm.specs.Tokens.{number_in, value_register, node_register, signed_in};
-ghost use Rattle.tl_asm.specs.Statements.{view, token, only_of, last, label_in, else_in, otherwise_in, alone_in, set_in, copy_in, arithmetic_in, add_in, subtract_in, multiply_in, divide_in, jump_in, comparison_in, jump_if_less_in, jump_if_equal_in, repeat_in, first_in, child_in, move_in, release_in, get_in, put_in, kids_in, emit_in, draft_in};
+ghost use Rattle.tl_asm.specs.Statements.{view, token, only_of, last, label_in, else_in, otherwise_in, bare_in, set_in, copy_in, arithmetic_in, add_in, subtract_in, multiply_in, divide_in, jump_in, comparison_in, jump_if_less_in, jump_if_equal_in, repeat_in, first_in, child_in, move_in, release_in, get_in, put_in, kids_in, emit_in, draft_in};
 
 use crate::draft::Draft;
 use crate::token;
@@ -69,10 +69,10 @@ fn otherwise(line: &[u8]) -> Option<&[u8]>
 }
 
 /// An instruction without operands.
-#[tactic(auto, unfolding(crate::specs::Statements::alone_in))]
-fn alone(instr: Instr, line: &[u8]) -> Option<Draft<'_>>
+#[tactic(auto, unfolding(crate::specs::Statements::bare_in))]
+fn bare(instr: Instr, line: &[u8]) -> Option<Draft<'_>>
     requires { GoesWithin 0 instr }
-    ensures found { Finds view result (alone_in instr (words_of line.now)) }
+    ensures found { Finds view result (bare_in instr (words_of line.now)) }
     ensures in_range { IfSome result (λ d. IsInstr 0 d.instr) }
 {
     if next_word(line).is_some() {
@@ -445,7 +445,7 @@ pub fn draft<'a>(name: &[u8], line: &'a [u8]) -> Option<Draft<'a>>
     } else if name == b"rep".as_slice() {
         repeat(line)
     } else if name == b"end".as_slice() {
-        alone(Instr::End, line)
+        bare(Instr::End, line)
     } else if name == b"first".as_slice() {
         first(line)
     } else if name == b"child".as_slice() {
@@ -463,7 +463,7 @@ pub fn draft<'a>(name: &[u8], line: &'a [u8]) -> Option<Draft<'a>>
     } else if name == b"emit".as_slice() {
         emit(line)
     } else if name == b"ret".as_slice() {
-        alone(Instr::Return, line)
+        bare(Instr::Return, line)
     } else {
         None
     }

@@ -5,13 +5,13 @@
 pub struct Asked<'w> {
     /// The path of the procedure's container.
     pub container: &'w str,
-    /// How many threads run a batch.
+    /// How many threads run a batch; 0 where a core is driven with no engine.
     pub workers: usize,
     /// How many nodes the tree has.
     pub nodes: u16,
     /// How many nodes a chain has, at least 1.
     pub chain: u16,
-    /// How many engines are made.
+    /// How many engines or cores are made.
     pub engines: u32,
 }
 

@@ -1,5 +1,6 @@
 // The measured trees and procedures.
 
+use crate::asked::Asked;
 use std::alloc::Global;
 use std::sync::Arc;
 use tl_instr::decode;
@@ -33,6 +34,14 @@ pub fn chains(alloc: Global, nodes: u16, chain: u16) -> Option<Tree> {
         records.push(record_of(node)).ok()?;
     }
     Tree::new(Arc::new(alloc, shape).ok()?, records).ok()
+}
+
+/// The first node of the chain whose turn it is.
+pub fn head(call: usize, asked: &Asked) -> Option<i64> {
+    let count = asked.nodes.checked_div(asked.chain)?;
+    let chain = call.checked_rem(usize::from(count))?;
+    let node = chain.checked_mul(usize::from(asked.chain))?.checked_add(1)?;
+    i64::try_from(node).ok()
 }
 
 /// The procedure of a container, where it is accepted.

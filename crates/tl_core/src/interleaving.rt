@@ -1,6 +1,6 @@
 // Many calls on one tree.
 
-ghost use Rattle.std.specs.Prelude.{◌≡◌, ◌≢◌, ℕ, ◌+◌, ◌<◌, ◌≤◌, ◌↔◌, List, [], ◌∷◌, ◌++◌, length, true, false, IsTrue, IsOk, IsNone, IfOk, OnOk, OnErr, IfErr, IfSome, None, Some, option_copied, if◌then◌else◌};
+ghost use Rattle.std.specs.Prelude.{◌≡◌, ◌≢◌, ℕ, ◌+◌, ◌<◌, ◌≤◌, ◌↔◌, List, [], ◌∷◌, ◌++◌, length, true, false, IsTrue, IsOk, IsNone, IfOk, OnOk, OnErr, IfErr, IfSome, None, Some, Ok, option_copied, if◌then◌else◌};
 ghost use Rattle.std.specs.Arc.{arc_value};
 ghost use Rattle.tl_budget.specs.Loops.{budget, lock_bound, emit_bound};
 ghost use Rattle.tl_protocol.specs.Actions.{held, lock_count};
@@ -164,51 +164,88 @@ impl Core {
         let Some(slot) = self.calls[index].slot() else {
             return Ok(Stepped::Over);
         };
-        let current = &mut self.slots[slot];
-        match current.turn.advance() {
+        match self.slots[slot].turn.advance() {
             Advance::Did(action) => Ok(Stepped::Moved { action }),
             // A call that is over is done, and has no slot.
             Advance::Stopped(Stop::Over) => unreachable!(),
-            Advance::Stopped(Stop::Lock(node)) => {
-                let held_by = self.holders[usize::from(node)];
-                if let Some(holder) = held_by {
-                    return Ok(Stepped::Blocked { node, holder });
-                }
-                let found = self.latest.record_at(node);
-                current.turn.lock_node(node, found);
-                current.places -= 1;
-                self.holders[usize::from(node)] = Some(call);
-                self.history.append(Event::Lock { call, node, found });
-                Ok(Stepped::Moved {
-                    action: Action::Lock { node, found },
-                })
-            }
-            Advance::Stopped(Stop::Free(node)) => {
-                let left = current.turn.free();
-                current.places -= 1;
-                self.latest.put_at(node, left);
-                self.holders[usize::from(node)] = None;
-                self.history.append(Event::Free { call, node, left });
-                Ok(Stepped::Moved {
-                    action: Action::Free { node, left },
-                })
-            }
-            Advance::Stopped(Stop::Return) => {
-                let reply = current.turn.finish();
-                let steps = current.turn.call().steps;
-                self.history.append(Event::Done { call });
-                self.history.give_back(current.places - 1);
-                self.calls[index].progress = Progress::Done { reply, steps };
-                self.slots.swap_remove(slot);
-                // The last of the open calls stands in the slot now, if the slot wasn't the last itself.
-                if slot < self.slots.len() {
-                    let moved = self.slots[slot].call as usize;
-                    self.calls[moved].progress = Progress::Open { slot };
-                }
-                Ok(Stepped::Moved {
-                    action: Action::End,
-                })
-            }
+            Advance::Stopped(Stop::Lock(node)) => Ok(self.lock_or_block(call, node)),
+            Advance::Stopped(Stop::Free(node)) => Ok(self.free(call, node)),
+            Advance::Stopped(Stop::Return) => Ok(self.end(call)),
+        }
+    }
+
+    // Locks the node at which the open call stops, where no other call holds it. This and the next two are functions of their
+    // own, since a function clears the memory for all its values first: a local instruction would pay for what a return needs.
+    fn lock_or_block(&mut self, call: u32, node: u16) -> Stepped
+        requires { (t : TurnValue) × (kept_turn self.old call ≡ Some t) × Stops t (stop.Lock node) }
+        ensures answer { Ok result ≡ step_answer (world_of self.old.seen) call }
+        ensures after { self.new.seen ≡ after_step self.old.seen call (Ok result) }
+        ensures turns { (c : ℕ) → c ≢ call → kept_turn self.new c ≡ kept_turn self.old c }
+    {
+        let Some(slot) = self.calls[call as usize].slot() else {
+            unreachable!()
+        };
+        let held_by = self.holders[usize::from(node)];
+        if let Some(holder) = held_by {
+            return Stepped::Blocked { node, holder };
+        }
+        let current = &mut self.slots[slot];
+        let found = self.latest.record_at(node);
+        current.turn.lock_node(node, found);
+        current.places -= 1;
+        self.holders[usize::from(node)] = Some(call);
+        self.history.append(Event::Lock { call, node, found });
+        Stepped::Moved {
+            action: Action::Lock { node, found },
+        }
+    }
+
+    // Frees the node at which the open call stops.
+    fn free(&mut self, call: u32, node: u16) -> Stepped
+        requires { (t : TurnValue) × (kept_turn self.old call ≡ Some t) × Stops t (stop.Free node) }
+        ensures answer { Ok result ≡ step_answer (world_of self.old.seen) call }
+        ensures after { self.new.seen ≡ after_step self.old.seen call (Ok result) }
+        ensures turns { (c : ℕ) → c ≢ call → kept_turn self.new c ≡ kept_turn self.old c }
+    {
+        let Some(slot) = self.calls[call as usize].slot() else {
+            unreachable!()
+        };
+        let current = &mut self.slots[slot];
+        let left = current.turn.free();
+        current.places -= 1;
+        self.latest.put_at(node, left);
+        self.holders[usize::from(node)] = None;
+        self.history.append(Event::Free { call, node, left });
+        Stepped::Moved {
+            action: Action::Free { node, left },
+        }
+    }
+
+    // Ends the open call, which stops at its return.
+    fn end(&mut self, call: u32) -> Stepped
+        requires { (t : TurnValue) × (kept_turn self.old call ≡ Some t) × Stops t stop.Return }
+        ensures answer { Ok result ≡ step_answer (world_of self.old.seen) call }
+        ensures after { self.new.seen ≡ after_step self.old.seen call (Ok result) }
+        ensures turns { (c : ℕ) → c ≢ call → kept_turn self.new c ≡ kept_turn self.old c }
+    {
+        let index = call as usize;
+        let Some(slot) = self.calls[index].slot() else {
+            unreachable!()
+        };
+        let current = &mut self.slots[slot];
+        let reply = current.turn.finish();
+        let steps = current.turn.call().steps;
+        self.history.append(Event::Done { call });
+        self.history.give_back(current.places - 1);
+        self.calls[index].progress = Progress::Done { reply, steps };
+        self.slots.swap_remove(slot);
+        // The last of the open calls stands in the slot now, if the slot wasn't the last itself.
+        if slot < self.slots.len() {
+            let moved = self.slots[slot].call as usize;
+            self.calls[moved].progress = Progress::Open { slot };
+        }
+        Stepped::Moved {
+            action: Action::End,
         }
     }
 
@@ -344,14 +381,14 @@ impl Core {
         self.is_sound();
         let mut trace = Vec::with_capacity(alloc, moves.len())?;
         for one in moves {
-            trace.push_reserved(self.carry_out(alloc, one));
+            trace.push_reserved(self.make_move(alloc, one));
         }
         self.is_sound();
         Ok(trace)
     }
 
-    // One move.
-    fn carry_out(&mut self, alloc: Global, one: &Move) -> Entry
+    // Makes one move.
+    fn make_move(&mut self, alloc: Global, one: &Move) -> Entry
         ensures entry { IsEntry self.old.seen one.now result }
         ensures parts { (c : ℕ) → done_by self.new.seen c ≡ done_by self.old.seen c ++ part_of_run c (result ∷ []) }
         ensures after { self.new.seen ≡ after_entry self.old.seen one.now result }

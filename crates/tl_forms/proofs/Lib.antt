@@ -1,3 +1,4 @@
 pub mod Items
+pub mod Texts
 pub mod Taking
 pub mod Registered

@@ -1,15 +1,18 @@
 // Events.
 
-ghost use Rattle.std.specs.Prelude.{◌≡◌, ◌∷◌, [], option_map, IfOk, OnOk};
+ghost use Rattle.std.specs.Prelude.{◌≡◌, ◌∷◌, [], ◌++◌, option_map, string_bytes, IfOk, OnOk};
+ghost use Rattle.serde_json.specs.Data.{string};
 ghost use Rattle.serde_json.specs.View.{view};
+ghost use Rattle.serde_json.specs.Written.{compact_text};
 ghost use Rattle.tl_tree.specs.Trees.{IsRecord};
 ghost use Rattle.tl_tree.specs.Writing.{integers_data};
 ghost use Rattle.tl_forms.specs.Lists.{each_of, natural};
-ghost use Rattle.tl_forms.specs.Letters.{lettered};
+ghost use Rattle.tl_forms.specs.Letters.{text_of, lettered};
 ghost use Rattle.tl_forms.specs.Events.{short_event, long_event, event_of};
 
-use crate::json::{FromValue, ToValue, each_of, four_of, two_of};
+use crate::json::{FromValue, each_of, four_of, two_of};
 use crate::letter::Letter;
+use crate::text::{PushText, push_number};
 use serde_json::{Value, json};
 use std::alloc::{AllocError, Global};
 use tl_protocol::Event;
@@ -118,23 +121,62 @@ pub fn node_to_value(
     json!(in alloc; [letter.as_str(), call, node, fields])
 }
 
-impl ToValue for Event {
+// `["letter",`
+fn push_letter(text: &mut String, letter: Letter) -> Result<(), AllocError>
+    ensures { OnOk result (string_bytes text.new ≡ string_bytes text.old ++ 91 ∷ (compact_text (string (text_of letter)) ++ 44 ∷ [])) }
+{
+    text.push_str("[\"")?;
+    text.push_str(letter.as_str())?;
+    text.push_str("\",")
+}
+
+// `["letter",call]`
+fn push_call(text: &mut String, letter: Letter, call: u32) -> Result<(), AllocError>
+    ensures { OnOk result (string_bytes text.new ≡ string_bytes text.old ++ compact_text (lettered letter (natural call ∷ []))) }
+{
+    push_letter(text, letter)?;
+    push_number(text, call)?;
+    text.push_str("]")
+}
+
+// `["letter",call,node,record]`
+fn push_node(
+    text: &mut String,
+    letter: Letter,
+    call: u32,
+    node: u16,
+    fields: &Record,
+) -> Result<(), AllocError>
+    ensures text { OnOk result (string_bytes text.new ≡ string_bytes text.old
+        ++ compact_text (lettered letter (natural call ∷ natural node ∷ integers_data fields.now ∷ []))) }
+    ensures fields { OnOk result (IsRecord fields.now) }
+{
+    push_letter(text, letter)?;
+    push_number(text, call)?;
+    text.push_str(",")?;
+    push_number(text, node)?;
+    text.push_str(",")?;
+    fields.push_text(text)?;
+    text.push_str("]")
+}
+
+impl PushText for Event {
     ghost use Rattle.tl_forms.specs.Events.{event_data, HasRecord};
 
     ghost data = { event_data };
 
     ghost IsFit = { HasRecord };
 
-    fn to_value(&self, alloc: Global) -> Result<Value, AllocError> {
+    fn push_text(&self, text: &mut String) -> Result<(), AllocError> {
         match self {
-            Event::Admit { call } => call_to_value(alloc, Letter::Admitted, *call),
+            Event::Admit { call } => push_call(text, Letter::Admitted, *call),
             Event::Lock { call, node, found } => {
-                node_to_value(alloc, Letter::Locked, *call, *node, found)
+                push_node(text, Letter::Locked, *call, *node, found)
             }
             Event::Free { call, node, left } => {
-                node_to_value(alloc, Letter::Freed, *call, *node, left)
+                push_node(text, Letter::Freed, *call, *node, left)
             }
-            Event::Done { call } => call_to_value(alloc, Letter::Done, *call),
+            Event::Done { call } => push_call(text, Letter::Done, *call),
         }
     }
 }

@@ -1,11 +1,11 @@
 // JSON values: texts, lists, and what an item stands for.
 
-ghost use Rattle.std.specs.Prelude.{◌≡◌, ◌≢◌, ◌∷◌, [], Option, Some, None, length, map, option_map, All, IfOk, OnOk, IfSome, IsUtf8, MatchOption};
+ghost use Rattle.std.specs.Prelude.{◌≡◌, ◌≢◌, ◌∷◌, [], Option, Some, None, length, map, option_map, IfOk, IfSome, IsUtf8, MatchOption};
 ghost use Rattle.serde_json.specs.Data.{Data};
 ghost use Rattle.serde_json.specs.Read.{read};
 ghost use Rattle.serde_json.specs.View.{view, items_view};
 ghost use Rattle.tl_tree.specs.Reading.{each_item};
-ghost use Rattle.tl_forms.specs.Lists.{each_of, list_data};
+ghost use Rattle.tl_forms.specs.Lists.{each_of};
 
 use serde_json::Value;
 use std::alloc::{AllocError, Global};
@@ -112,31 +112,4 @@ pub fn four_of(items: &[Value]) -> Option<(&Value, &Value, &Value, &Value)>
         return None;
     }
     Some((&items[0], &items[1], &items[2], &items[3]))
-}
-
-// ---- writing
-
-/// What is written as a JSON value.
-pub trait ToValue {
-    ghost data: { Self → Data };
-
-    // What is so of whatever was written.
-    ghost IsFit: { Self → Type 0 };
-
-    /// The value that stands for it.
-    fn to_value(&self, alloc: Global) -> Result<Value, AllocError>
-        ensures value { IfOk result (λ v. view v ≡ Self.data self.now) }
-        ensures fit { OnOk result (Self.IsFit self.now) };
-}
-
-/// The list of the values that stand for these.
-pub fn list_to_value<T: ToValue>(alloc: Global, items: &[T]) -> Result<Value, AllocError>
-    ensures value { IfOk result (λ v. view v ≡ list_data (map T.data items.now)) }
-    ensures fit { OnOk result (All T.IsFit items.now) }
-{
-    let mut values = Vec::with_capacity(alloc, items.len())?;
-    for item in items {
-        values.push(item.to_value(alloc)?)?;
-    }
-    Ok(Value::Array(values))
 }

@@ -14,15 +14,15 @@ mod procedure;
 mod registering;
 mod reply;
 mod request;
+mod text;
 
 pub use event::{RawEvent, call_to_value, events_from_value, node_to_value};
 pub use fault::{ProcedureFault, RegisterFault};
-pub use json::{
-    FromValue, ToValue, each_of, four_of, list_to_value, parse, parse_text, three_of, two_of,
-};
+pub use json::{FromValue, each_of, four_of, parse, parse_text, three_of, two_of};
 pub use letter::Letter;
 pub use order::order_to_value;
 pub use procedure::{ProcedureText, procedures_to_value};
 pub use registering::{procedure_of_text, register, register_all};
 pub use reply::{reply_from_value, reply_to_value};
+pub use text::{PushText, push_list};
 pub use tl_procedures::Request;

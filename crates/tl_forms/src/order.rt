@@ -1,25 +1,21 @@
 // Numbers of calls, and orders of them.
 
-ghost use Rattle.std.specs.Prelude.{◌≡◌, codes, IfOk};
+ghost use Rattle.std.specs.Prelude.{◌≡◌, codes, map, IfOk};
 ghost use Rattle.serde_json.specs.Data.{object, member, no_members};
 ghost use Rattle.serde_json.specs.View.{view};
-ghost use Rattle.tl_forms.specs.Lists.{order_data};
+ghost use Rattle.tl_forms.specs.Lists.{list_data, natural, order_data};
 
-use crate::json::{ToValue, list_to_value};
 use serde_json::{Value, json};
 use std::alloc::{AllocError, Global};
 
-impl ToValue for u32 {
-    ghost use Rattle.std.specs.Prelude.{⊤};
-    ghost use Rattle.tl_forms.specs.Lists.{natural};
-
-    ghost data = { natural };
-
-    ghost IsFit = { λ _. ⊤ };
-
-    fn to_value(&self, _alloc: Global) -> Result<Value, AllocError> {
-        Ok(Value::from(*self))
+fn calls_to_value(alloc: Global, calls: &[u32]) -> Result<Value, AllocError>
+    ensures { IfOk result (λ v. view v ≡ list_data (map natural calls.now)) }
+{
+    let mut items = Vec::with_capacity(alloc, calls.len())?;
+    for call in calls {
+        items.push(Value::from(*call))?;
     }
+    Ok(Value::Array(items))
 }
 
 fn member_to_value(alloc: Global, order: Value) -> Result<Value, AllocError>
@@ -32,6 +28,6 @@ fn member_to_value(alloc: Global, order: Value) -> Result<Value, AllocError>
 pub fn order_to_value(alloc: Global, calls: &[u32]) -> Result<Value, AllocError>
     ensures { IfOk result (λ v. view v ≡ order_data calls.now) }
 {
-    let order = list_to_value(alloc, calls)?;
+    let order = calls_to_value(alloc, calls)?;
     member_to_value(alloc, order)
 }

@@ -136,6 +136,34 @@ fn an_unfinished_call_has_no_reply(rt: HostRuntime) -> Result<(), Fail> {
     Ok(())
 }
 
+/// A record of the least number, the numbers about 0 and the greatest number.
+const WIDE: &str = "[-9223372036854775808,-1,0,9223372036854775807]";
+
+// Without a call there is no event, and a record's numbers stand as they are.
+#[test]
+fn the_widest_numbers_stand_in_a_trail(rt: HostRuntime) -> Result<(), Fail> {
+    let alloc = rt.alloc();
+    let look = named(alloc, "look", LOOK)?;
+    let records = format!(in alloc; "[[0,0,0,0],{WIDE}]")?;
+    let tree = format!(in alloc; "{{\"parents\":[0,0],\"records\":{records}}}")?;
+    let (_, trail) = driven(alloc, &tree, "", "")?;
+    let nothing = format!(in alloc; "{{\"calls\":[],\"end\":{records},\"events\":[],\"procs\":[]")?;
+    let expected = format!(in alloc; "{nothing},\"tree\":{tree}}}\n")?;
+    assert_eq!(rt; trail.as_str(), expected.as_str());
+    let (_, trail) = driven(alloc, &tree, &look, "[\"look\",[1]],0,0,0,0,0")?;
+    let calls = format!(in alloc; "{{\"calls\":[[\"look\",[1],[-9223372036854775808]]]")?;
+    let events = format!(in alloc;
+        "\"events\":[[\"a\",0],[\"l\",0,1,{WIDE}],[\"f\",0,1,{WIDE}],[\"d\",0]]"
+    )?;
+    let expected = format!(in alloc;
+        "{calls},\"end\":{records},{events},\"procs\":[{look}],\"tree\":{tree}}}\n"
+    )?;
+    assert_eq!(rt; trail.as_str(), expected.as_str());
+    let order = audited(alloc, &trail)?;
+    assert_eq!(rt; order.as_str(), "{\"order\":[0]}\n");
+    Ok(())
+}
+
 /// Each choice of the events, a text of the trail and what is put there, and what is wrong first.
 const WRONG: [(&[usize], &str, &str, &str); 11] = [
     // Events that could not be.

@@ -4,4 +4,6 @@ pub mod EventCount
 pub mod TreeOfText
 pub mod WholeTrail
 pub mod OneReading
+pub mod TextParts
+pub mod ReadsBack
 pub mod WrittenIsRead

@@ -1,21 +1,21 @@
 -- What is written of a trail is read as that trail.
-use Rattle.std.proofs.Common.{◌≡◌, ℕ, zero, suc, nat_lt, inl, inr, ◌+◌, ◌<◌, ◌≤◌, ◌^◌, ℤ, pos, List, [], ◌∷◌, ◌++◌, length, get_or, map, reverse, position, bytes_eq, Bool, true, false, Option, Some, None, option_and_then, Ok, Err, refl, sym, ap, ◌∙◌, subst, arith, if◌then◌else◌}
+use Rattle.std.proofs.Common.{◌≡◌, ℕ, zero, suc, nat_lt, inl, inr, ◌+◌, ◌<◌, ◌≤◌, ◌^◌, ℤ, pos, List, [], ◌∷◌, ◌++◌, codes, length, get_or, map, reverse, position, bytes_eq, Bool, true, false, Option, Some, None, option_and_then, Ok, Err, refl, sym, ap, ◌∙◌, subst, arith, if◌then◌else◌}
 use Rattle.std.specs.Prelude.{All, FitsSigned, IfSome}
 use Rattle.std.specs.Int.{w64}
 use Rattle.std.proofs.lemmas.Bool.{eq-eqb, lt-ltb, le-leb, cases_Bool}
 use Rattle.std.proofs.lemmas.List.{append-nil, append_assoc, length-append, length-map, length-reverse, reverse-reverse}
 use Rattle.std.proofs.lemmas.Option.{none-some}
 use Rattle.std.specs.List.{position_or_len}
-use Rattle.serde_json.specs.Data.{Data, depth}
+use Rattle.serde_json.specs.Data.{Data, string, object, member, no_members, depth}
 use Rattle.serde_json.specs.Read.{max_depth, read}
 use Rattle.serde_json.specs.View.{items_of}
 use Rattle.serde_json.specs.Written.{has_float}
 use Rattle.tl_tree.specs.Records.{Records}
-use Rattle.tl_tree.specs.Trees.{TreeValue}
+use Rattle.tl_tree.specs.Trees.{TreeValue, IsRecord}
 use Rattle.tl_tree.specs.Reading.{each_item, integer_of, tree_from, form_of as tree_form_of}
-use Rattle.tl_tree.specs.Writing.{integers_data, tree_data}
-use Rattle.tl_tree.proofs.RoundTrip.{integer_back, integers_back, record_back, records_back}
-use Rattle.tl_tree.proofs.Texts.{integers_whole, whole_items, tree_whole, integers_shallow, shallow_items}
+use Rattle.tl_tree.specs.Writing.{integers_data, records_data, tree_data}
+use Rattle.tl_tree.proofs.RoundTrip.{integer_back, integers_back as integers_same, record_back, records_back as records_same}
+use Rattle.tl_tree.proofs.Texts.{integers_whole, whole_items, integers_shallow, shallow_items}
 use Rattle.tl_asm.specs.Listing.{listing}
 use Rattle.tl_protocol.specs.declared.event.Event.{Event}
 use Rattle.tl_protocol.specs.declared.event.Event.TheVariants.{Admit, Lock, Free, Done}
@@ -35,9 +35,11 @@ use Rattle.tl_trail.specs.Reading.{CallForm, TrailForm, call_of, form_in, form_o
 use Rattle.tl_forms.specs.Events.{event_of}
 use Rattle.tl_forms.specs.Procedures.{procedure_of}
 use Rattle.tl_forms.specs.Replies.{reply_of}
-use Rattle.tl_forms.specs.Lists.{natural}
+use Rattle.tl_forms.specs.Lists.{list_data, natural}
 use Rattle.tl_forms.specs.Replies.{reply_data}
-use Rattle.tl_trail.specs.Writing.{call_data, trail_data, FitsText, IsWritable}
+use Rattle.tl_trail.specs.Writing.{call_data, trail_data, trail_text, FitsText, IsWritable}
+use Rattle.tl_trail.specs.ReadsBack.{IsReadBack}
+use Rattle.tl_trail.proofs.ReadsBack.{text_read, natural_back, string_back, no_items_back, item_back, array_back, list_back, integers_back}
 use Rattle.tl_forms.specs.Events.{event_data, HasRecord}
 use Rattle.tl_forms.specs.Procedures.{procedure_data, AreAccepted}
 
@@ -50,19 +52,11 @@ reply_whole (Some values) = integers_whole values
 call_whole : (procedures : List Named) (k : CallValue) → has_float (call_data procedures k) ≡ false
 call_whole procedures k = rw (integers_whole k.args, reply_whole k.reply) refl
 
-event_whole : (e : Event) → has_float (event_data e) ≡ false
-event_whole (Admit c) = refl
-event_whole (Lock x c found) = rw (integers_whole found) refl
-event_whole (Free x c left) = rw (integers_whole left) refl
-event_whole (Done c) = refl
+pub calls_whole : (procedures : List Named) (calls : List CallValue) → has_float (list_data (map (call_data procedures) calls)) ≡ false
+calls_whole procedures calls = whole_items (call_data procedures) (call_whole procedures) calls
 
-pub trail_whole : (t : TrailValue) → has_float (trail_data t) ≡ false
-trail_whole t =
-    let calls = whole_items (call_data t.procedures) (call_whole t.procedures) t.calls in
-    let ends = whole_items integers_data integers_whole t.ends in
-    let events = whole_items event_data event_whole (reverse t.past) in
-    let procedures = whole_items procedure_data (λ p. refl) t.procedures in
-    rw (calls, ends, events, procedures, tree_whole (record { parents = t.parents; records = t.opening })) refl
+pub procedures_whole : (procedures : List Named) → has_float (list_data (map procedure_data procedures)) ≡ false
+procedures_whole procedures = whole_items procedure_data (λ p. refl) procedures
 
 reply_shallow : (reply : Option (List ℤ)) → depth (reply_data reply) ≤ 1
 reply_shallow None = omega arith
@@ -83,14 +77,20 @@ procedure_shallow p = omega arith
 tree_flat : (tree : TreeValue) → depth (tree_data tree) ≤ 3
 tree_flat tree = omega (arith, integers_shallow (map pos tree.parents), shallow_items integers_data 1 integers_shallow tree.records)
 
-pub trail_shallow : (t : TrailValue) → depth (trail_data t) ≤ max_depth
+pub calls_shallow : (procedures : List Named) (calls : List CallValue) → depth (list_data (map (call_data procedures) calls)) ≤ 3
+calls_shallow procedures calls = omega (arith, shallow_items (call_data procedures) 2 (call_shallow procedures) calls)
+
+pub procedures_shallow : (procedures : List Named) → depth (list_data (map procedure_data procedures)) ≤ 3
+procedures_shallow procedures = omega (arith, shallow_items procedure_data 2 procedure_shallow procedures)
+
+trail_shallow : (t : TrailValue) → depth (trail_data t) ≤ max_depth
 trail_shallow t =
     omega (
       arith,
-      shallow_items (call_data t.procedures) 2 (call_shallow t.procedures) t.calls,
+      calls_shallow t.procedures t.calls,
       shallow_items integers_data 1 integers_shallow t.ends,
       shallow_items event_data 2 event_shallow (reverse t.past),
-      shallow_items procedure_data 2 procedure_shallow t.procedures,
+      procedures_shallow t.procedures,
       tree_flat (record { parents = t.parents; records = t.opening }),
     )
 
@@ -122,10 +122,10 @@ natural_read n less = let fits : n < 2 ^ 63 = omega arith in integer_back (pos n
 
 reply_read : (reply : Option (List ℤ)) → IfSome reply (λ values. All (FitsSigned w64) values) → IfSome reply (λ values. length values ≤ 32) → reply_of (reply_data reply) ≡ Some reply
 reply_read None fit few = refl
-reply_read (Some values) fit few = rw (integers_back values fit, le-leb (length values) 32 few) refl
+reply_read (Some values) fit few = rw (integers_same values fit, le-leb (length values) 32 few) refl
 
 call_read : (procedures : List Named) (k : CallValue) → FitsText k → call_of (call_data procedures k) ≡ Some (call_form procedures k)
-call_read procedures k told = rw (integers_back k.args told.args, reply_read k.reply told.reply told.few) refl
+call_read procedures k told = rw (integers_same k.args told.args, reply_read k.reply told.reply told.few) refl
 
 -- an event of one of so many calls and nodes
 record IsInside (calls nodes : ℕ) (e : Event) : Type 0 where
@@ -244,7 +244,7 @@ module _ (t : TrailValue) (w : IsWritable t) where
   form_read : (tree : List ℤ × Records) → tree_form_of (tree_data tree_of_trail) ≡ Some tree → (text : List ℕ) → read text ≡ Some (trail_data t) → form_in text ≡ Some (form_with tree)
   form_read tree is text h =
       let calls = each_read call_of (call_data t.procedures) (call_form t.procedures) FitsText (call_read t.procedures) t.calls w.calls in
-      let ends = records_back t.ends w.ends in
+      let ends = records_same t.ends w.ends in
       let events = each_read event_of event_data event_form (IsInside (length t.calls) (length t.parents)) (event_read (length t.calls) (length t.parents) w.trail.few w.trail.tree.few) (reverse t.past) inside in
       let procedures = each_read procedure_of procedure_data procedure_form (λ p. Unit {0}) (λ p h. refl) t.procedures (λ k d less. tt) in
       ap (λ d. option_and_then (λ e. option_and_then form_of_parts (parts_of e)) d) h ∙ rw (calls, ends, events, procedures, is) refl
@@ -263,8 +263,8 @@ module _ (t : TrailValue) (w : IsWritable t) where
       ∙ rw (eq-eqb (length t.ends) (length t.parents) w.trail.end_size, le-leb (length (reverse t.past)) 1048576 short)
       (ap (λ past. Ok (record t { past = past })) (reverse-reverse t.past))
 
-  pub written_read : (text : List ℕ) → read text ≡ Some (trail_data t) → IsTrailText text t
-  written_read text h =
+  written_form : (text : List ℕ) → read text ≡ Some (trail_data t) → IsTrailText text t
+  written_form text h =
       let found = tree_form (tree_form_of (tree_data tree_of_trail)) tree_of_trail w.tree in
       record {
         form = form_with found.0;
@@ -274,3 +274,39 @@ module _ (t : TrailValue) (w : IsWritable t) where
         taken_up = taken_again [] t.procedures w.free w.accepted;
         same = same_trail found.0;
       }
+
+-- ---- the text is read back
+
+small_back : (n : ℕ) → n < 4096 → IsReadBack (natural n)
+small_back n less = natural_back n (omega arith)
+
+module _ (calls nodes : ℕ) (few : calls ≤ 4096) (small : nodes ≤ 4096) where
+  short_back : (letter : List ℕ) (c : ℕ) → c < calls → IsReadBack (list_data (string letter ∷ natural c ∷ []))
+  short_back letter c less = array_back _ (item_back _ _ (string_back letter) (item_back _ _ (small_back c (omega arith)) no_items_back))
+
+  long_back : (letter : List ℕ) (c x : ℕ) (r : List ℤ) → c < calls → x < nodes → IsRecord r → IsReadBack (list_data (string letter ∷ natural c ∷ natural x ∷ integers_data r ∷ []))
+  long_back letter c x r called placed own =
+      array_back _
+      (item_back _ _ (string_back letter) (item_back _ _ (small_back c (omega arith)) (item_back _ _ (small_back x (omega arith)) (item_back _ _ (integers_back r own.fit) no_items_back))))
+
+  event_back : (e : Event) → IsInside calls nodes e → IsReadBack (event_data e)
+  event_back (Admit c) h = short_back _ c h.call
+  event_back (Lock x c found) h = long_back _ c x found h.call h.node h.own
+  event_back (Free x c left) h = long_back _ c x left h.call h.node h.own
+  event_back (Done c) h = short_back _ c h.call
+
+records_back : (records : Records) → All IsRecord records → IsReadBack (records_data records)
+records_back records each = list_back integers_data IsRecord (λ r own. integers_back r own.fit) records each
+
+five_back : (calls ends events procedures tree : Data) → IsReadBack calls → IsReadBack ends → IsReadBack events → IsReadBack procedures → IsReadBack tree
+    → IsReadBack (object (member (codes "calls") calls (member (codes "end") ends (member (codes "events") events (member (codes "procs") procedures (member (codes "tree") tree no_members))))))
+five_back calls ends events procedures tree a b c d e =
+    record { numbers = (a.numbers, (b.numbers, (c.numbers, (d.numbers, (e.numbers, tt))))); same = rw (a.same, b.same, c.same, d.same, e.same) refl }
+
+trail_back : (t : TrailValue) → IsWritable t → IsReadBack (trail_data t)
+trail_back t w =
+    let events = list_back event_data (IsInside (length t.calls) (length t.parents)) (event_back (length t.calls) (length t.parents) w.trail.few w.trail.tree.few) (reverse t.past) (inside t w) in
+    five_back _ _ _ _ _ w.calls_back (records_back t.ends w.ends) events w.procedures_back w.tree_back
+
+pub written_read : (t : TrailValue) → IsWritable t → IsTrailText (trail_text t) t
+written_read t w = written_form t w (trail_text t) (text_read (trail_data t) (trail_back t w) (trail_shallow t))

@@ -3,4 +3,5 @@ pub mod Faults
 pub mod Clean
 pub mod Reading
 pub mod Raw
+pub mod ReadsBack
 pub mod Writing

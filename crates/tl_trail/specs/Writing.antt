@@ -1,23 +1,18 @@
 -- The value and the text that stand for a trail.
-use Rattle.std.specs.Prelude.{ℕ, ℤ, List, [], ◌∷◌, map, reverse, codes, get_or, length, ◌≤◌, ◌≡◌, Ok, Option, Some, None, All, FitsSigned, IfSome}
-use Rattle.serde_json.specs.Data.{Data, null, unsigned, number, string, array, object, member, no_members}
-use Rattle.serde_json.specs.View.{items_of}
+use Rattle.std.specs.Prelude.{ℕ, List, [], ◌∷◌, map, reverse, codes, get_or, length, ◌≤◌, ◌≡◌, Ok, All, FitsSigned, IfSome}
+use Rattle.serde_json.specs.Data.{Data, string, object, member, no_members}
 use Rattle.serde_json.specs.Written.{compact_text}
 use Rattle.std.specs.Int.{w64}
 use Rattle.tl_history.specs.declared.history.TheConstants.{MAX_EVENTS}
 use Rattle.tl_tree.specs.Trees.{IsRecord}
-use Rattle.tl_instr.specs.Codes.{IsCode}
-use Rattle.tl_verify.specs.Acceptable.{Acceptable}
 use Rattle.tl_tree.specs.Reading.{tree_of}
 use Rattle.tl_tree.specs.Writing.{integers_data, records_data, tree_data}
-use Rattle.tl_asm.specs.Listing.{listing}
-use Rattle.tl_protocol.specs.declared.event.Event.{Event}
-use Rattle.tl_protocol.specs.declared.event.Event.TheVariants.{Admit, Lock, Free, Done}
 use Rattle.tl_forms.specs.Lists.{list_data}
 use Rattle.tl_forms.specs.Procedures.{procedure_data, AreAccepted}
 use Rattle.tl_forms.specs.Replies.{reply_data}
 use Rattle.tl_forms.specs.Events.{event_data, HasRecord}
 use Rattle.tl_procedures.specs.Names.{Named, no_procedure, AreFreeAfter}
+use Rattle.tl_trail.specs.ReadsBack.{IsReadBack}
 use Rattle.tl_trail.specs.Trails.{CallValue, TrailValue, IsTrail}
 
 -- the name of the procedure, the arguments, the reply
@@ -56,3 +51,7 @@ pub record IsWritable (t : TrailValue) : Type 0 where
   pub few : length t.past ≤ MAX_EVENTS
   pub ends : All IsRecord t.ends
   pub tree : tree_of (tree_data (record { parents = t.parents; records = t.opening })) ≡ Ok (record { parents = t.parents; records = t.opening })
+  -- what is made a value first is read back as its text has it
+  pub calls_back : IsReadBack (list_data (map (call_data t.procedures) t.calls))
+  pub procedures_back : IsReadBack (list_data (map procedure_data t.procedures))
+  pub tree_back : IsReadBack (tree_data (record { parents = t.parents; records = t.opening }))

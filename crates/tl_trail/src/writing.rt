@@ -1,19 +1,27 @@
 // The text of a trail.
 
-ghost use Rattle.std.specs.Prelude.{◌≡◌, ◌<◌, map, length, codes, string_bytes, All, IfOk, OnOk, IfErr};
-ghost use Rattle.serde_json.specs.Data.{object, member, no_members};
+ghost use Rattle.std.specs.Prelude.{◌≡◌, ◌<◌, ◌≤◌, ◌++◌, [], false, map, length, string_bytes, All, Ok, IfOk, OnOk, IfErr};
+ghost use Rattle.serde_json.specs.Data.{depth};
+ghost use Rattle.serde_json.specs.Read.{max_depth};
 ghost use Rattle.serde_json.specs.View.{view};
-ghost use Rattle.tl_trail.specs.Trails.{call_at};
-ghost use Rattle.tl_trail.specs.Reading.{IsTrailText};
+ghost use Rattle.serde_json.specs.Written.{has_float};
+ghost use Rattle.tl_tree.specs.Reading.{tree_of};
+ghost use Rattle.tl_tree.specs.Writing.{tree_data};
+ghost use Rattle.tl_procedures.specs.Names.{AreFreeAfter};
 ghost use Rattle.tl_forms.specs.Lists.{list_data};
-ghost use Rattle.tl_trail.specs.Writing.{call_data, trail_data, trail_text, FitsText, IsWritable};
+ghost use Rattle.tl_forms.specs.Procedures.{procedure_data, AreAccepted};
+ghost use Rattle.tl_trail.specs.Trails.{call_at};
+ghost use Rattle.tl_trail.specs.ReadsBack.{Adds};
+ghost use Rattle.tl_trail.specs.Reading.{IsTrailText};
+ghost use Rattle.tl_trail.specs.Writing.{call_data, trail_text, FitsText, IsWritable};
 
 use crate::fault::TrailFault;
 use crate::trail::Trail;
 use serde_json::{Value, json};
 use std::alloc::{AllocError, Global};
-use tl_forms::{list_to_value, procedures_to_value, reply_to_value};
-use tl_tree::{integers_to_value, records_to_value, tree_to_value};
+use tl_forms::{procedures_to_value, push_list, reply_to_value};
+use tl_procedures::Procedures;
+use tl_tree::{Tree, integers_to_value, tree_to_value};
 
 fn call_to_value(alloc: Global, trail: &Trail, call: u32) -> Result<Value, AllocError>
     requires { call < length trail.now.calls }
@@ -38,42 +46,65 @@ fn calls_to_value(alloc: Global, trail: &Trail) -> Result<Value, AllocError>
     Ok(Value::Array(items))
 }
 
-fn members_to_value(
-    alloc: Global,
-    calls: Value,
-    ends: Value,
-    events: Value,
-    procedures: Value,
-    tree: Value,
-) -> Result<Value, AllocError>
-    ensures { IfOk result (λ v. view v ≡ object
-        (member (codes "calls") (view calls) (member (codes "end") (view ends) (member (codes "events") (view events)
-        (member (codes "procs") (view procedures) (member (codes "tree") (view tree) no_members)))))) }
+fn push_value(alloc: Global, text: &mut String, value: &Value) -> Result<(), AllocError>
+    ensures { OnOk result (has_float (view value.now) ≡ false → depth (view value.now) ≤ max_depth
+        → Adds (string_bytes text.old) (string_bytes text.new) (view value.now)) }
 {
-    json!(in alloc; {
-        "calls": calls,
-        "end": ends,
-        "events": events,
-        "procs": procedures,
-        "tree": tree,
-    })
+    let written = value.to_string(alloc)?;
+    text.push_str(&written)
 }
 
-fn trail_to_value(alloc: Global, trail: &Trail) -> Result<Value, TrailFault>
-    ensures value { IfOk result (λ v. view v ≡ trail_data trail.now) }
+fn push_calls(alloc: Global, text: &mut String, trail: &Trail) -> Result<(), AllocError>
+    ensures added { OnOk result (Adds (string_bytes text.old) (string_bytes text.new)
+        (list_data (map (call_data trail.now.procedures) trail.now.calls))) }
+    ensures told { OnOk result (All FitsText trail.now.calls) }
+{
+    let calls = calls_to_value(alloc, trail)?;
+    push_value(alloc, text, &calls)
+}
+
+fn push_procedures(
+    alloc: Global,
+    text: &mut String,
+    procedures: &Procedures,
+) -> Result<(), AllocError>
+    ensures added { OnOk result (Adds (string_bytes text.old) (string_bytes text.new)
+        (list_data (map procedure_data procedures.now))) }
+    ensures accepted { OnOk result (AreAccepted procedures.now) }
+    ensures free { OnOk result (AreFreeAfter [] procedures.now) }
+{
+    let value = procedures_to_value(alloc, procedures)?;
+    push_value(alloc, text, &value)
+}
+
+fn push_tree(alloc: Global, text: &mut String, tree: &Tree) -> Result<(), AllocError>
+    ensures added { OnOk result (Adds (string_bytes text.old) (string_bytes text.new) (tree_data tree.now)) }
+    ensures reads_back { OnOk result (tree_of (tree_data tree.now) ≡ Ok tree.now) }
+{
+    let Ok(value) = tree_to_value(alloc, tree) else {
+        return Err(AllocError);
+    };
+    push_value(alloc, text, &value)
+}
+
+// The events are the most of a trail, and go into the text one after another.
+fn push_trail(alloc: Global, text: &mut String, trail: &Trail) -> Result<(), AllocError>
+    ensures text { OnOk result (string_bytes text.new ≡ string_bytes text.old ++ trail_text trail.now) }
     ensures writable { OnOk result (IsWritable trail.now) }
-    ensures err { IfErr result (λ e. e ≡ TrailFault.Memory) }
 {
     // That there are at most 1,048,576 events is so of every history: here a proof learns that.
     let _count = trail.history().len();
-    let Ok(tree) = tree_to_value(alloc, trail.opening()) else {
-        return Err(TrailFault::Memory);
-    };
-    let procedures = procedures_to_value(alloc, trail.procedures())?;
-    let calls = calls_to_value(alloc, trail)?;
-    let events = list_to_value(alloc, trail.events())?;
-    let ends = records_to_value(alloc, trail.ends())?;
-    Ok(members_to_value(alloc, calls, ends, events, procedures, tree)?)
+    text.push_str("{\"calls\":")?;
+    push_calls(alloc, text, trail)?;
+    text.push_str(",\"end\":")?;
+    push_list(text, trail.ends())?;
+    text.push_str(",\"events\":")?;
+    push_list(text, trail.events())?;
+    text.push_str(",\"procs\":")?;
+    push_procedures(alloc, text, trail.procedures())?;
+    text.push_str(",\"tree\":")?;
+    push_tree(alloc, text, trail.opening())?;
+    text.push_str("}")
 }
 
 /// The text of a trail, with no space: an object with the members `calls`, `end`, `events`, `procs` and `tree`, in this
@@ -83,6 +114,7 @@ pub fn write_trail(alloc: Global, trail: &Trail) -> Result<String, TrailFault>
     ensures reads_back { IfOk result (λ s. IsTrailText (string_bytes s) trail.now) }
     ensures err { IfErr result (λ e. e ≡ TrailFault.Memory) }
 {
-    let value = trail_to_value(alloc, trail)?;
-    Ok(value.to_string(alloc)?)
+    let mut text = String::new(alloc);
+    push_trail(alloc, &mut text, trail)?;
+    Ok(text)
 }

@@ -15,4 +15,3 @@ pub mod ObjectionLemmas
 pub mod SettledFits
 pub mod LoopEnds
 pub mod RegistersLemmas
-pub mod SameInstrs

@@ -245,7 +245,7 @@ impl Engine {
     ) {
         for _ in rt.forever() {
             match self.next_ready(rt, pass, is_handed_out) {
-                Some(call) => drop(self.run(rt, call, gate)),
+                Some(call) => self.run(rt, call, gate),
                 None => return,
             }
         }

@@ -40,8 +40,9 @@ impl Engine {
             Ok(call) => call,
             Err(fault) => return Err(Refusal::Table(fault)),
         };
-        // A call that was admitted is known.
-        let Some(told) = self.run(rt, call, gate) else {
+        self.run(rt, call, gate);
+        // A call that was admitted is known, and has ended.
+        let Some(told) = self.receipt(rt, call) else {
             return Err(Refusal::Table(TableFault::Core(CoreFault::NoCall)));
         };
         // What comes out of the lock says nothing of what was handed in. Where the engine ran something else, the session's
@@ -54,30 +55,28 @@ impl Engine {
         Ok(receipt)
     }
 
-    // Takes the turns of a call, to its end. None where no call of that number was admitted. Where the call is, is asked at its
+    // Takes the turns of a call, to its end; none where no call of that number was admitted. Where the call is, is asked at its
     // first turn, and anew where a segment was stale.
-    pub(crate) fn run<G: Gate>(&self, rt: &impl Wait, call: u32, gate: &G) -> Option<Receipt>
-        ensures { IfSome result (λ r. r.call ≡ call) }
-    {
+    pub(crate) fn run<G: Gate>(&self, rt: &impl Wait, call: u32, gate: &G) {
         let mut passed = 0;
         for _ in rt.forever() {
             passed = pass(gate, call, passed);
             let known = self.table.lock(rt).state(call);
             match known {
                 Ok(turn) => {
-                    if let Some(receipt) = self.run_from(rt, call, turn, &mut passed, gate) {
+                    if self.run_from(rt, call, turn, &mut passed, gate) {
                         gate.answered(call);
-                        return Some(receipt);
+                        return;
                     }
                 }
-                Err(TableFault::Core(CoreFault::NoCall)) => return None,
+                Err(TableFault::Core(CoreFault::NoCall)) => return,
                 Err(_) => {}
             }
         }
         unreachable!()
     }
 
-    // Takes the turns of a call from there on, where one has passed the gate. None where the call stands elsewhere.
+    // Takes the turns of a call from there on to its end, where one has passed the gate. False where the call stands elsewhere.
     fn run_from<G: Gate>(
         &self,
         rt: &impl Wait,
@@ -85,17 +84,15 @@ impl Engine {
         turn: Turn,
         passed: &mut u64,
         gate: &G,
-    ) -> Option<Receipt>
-        ensures { IfSome result (λ r. r.call ≡ call) }
-    {
+    ) -> bool {
         let mut state = *turn.call();
         let mut segment = local(turn);
         for _ in rt.forever() {
             gate.ready(call, *passed);
             match self.send(rt, call, &segment, &mut state) {
-                Ok(Outcome::Finished) => return self.receipt(rt, call),
+                Ok(Outcome::Finished) => return true,
                 Ok(_) => {}
-                Err(_) => return None,
+                Err(_) => return false,
             }
             *passed = pass(gate, call, *passed);
             segment.go_on(&state);

@@ -24,16 +24,16 @@ push_reserved-requires c = let size = c.loop-one.invariant.size in let room = c.
 pub loop-one-preserved : goal.loop-one-preserved
 loop-one-preserved c =
     let before = c.loop-one.invariant in
-    let is = subst (λ v. IsEntry v c.one-item.result c.carry_out.result) before.after c.carry_out.ensures.entry in
+    let is = subst (λ v. IsEntry v c.one-item.result c.make_move.result) before.after c.make_move.ensures.entry in
     let done = take_more c.args.moves.now c.loop-one.one-index c.one-item.result c.loop-one-test.true c.one-item.is in
     record {
       traced = rw (c.push_reserved.ensures.items, done) (traced_more c.args.self.now.seen _ _ _ _ before.traced is);
-      after = rw (c.push_reserved.ensures.items, done) (c.carry_out.ensures.after ∙ ap (λ v. after_entry v c.one-item.result c.carry_out.result) before.after ∙ sym (after_more c.args.self.now.seen _ _ c.one-item.result c.carry_out.result before.traced));
+      after = rw (c.push_reserved.ensures.items, done) (c.make_move.ensures.after ∙ ap (λ v. after_entry v c.one-item.result c.make_move.result) before.after ∙ sym (after_more c.args.self.now.seen _ _ c.one-item.result c.make_move.result before.traced));
       size = search rules;
       room = search rules;
-      parts = λ d. rw c.push_reserved.ensures.items (parts_more d _ _ _ c.loop-one.trace.items c.carry_out.result (before.parts d) (c.carry_out.ensures.parts d));
-      counted = rw c.carry_out.ensures.after (counted_on c.loop-one.self.seen c.one-item.result c.carry_out.result before.counted c.carry_out.ensures.entry);
-      few = let more = moved_more c.loop-one.trace.items c.carry_out.result in let on = spent_on c.loop-one.self.seen c.one-item.result c.carry_out.result before.counted c.carry_out.ensures.entry in rw (c.push_reserved.ensures.items, c.carry_out.ensures.after) (omega arith);
+      parts = λ d. rw c.push_reserved.ensures.items (parts_more d _ _ _ c.loop-one.trace.items c.make_move.result (before.parts d) (c.make_move.ensures.parts d));
+      counted = rw c.make_move.ensures.after (counted_on c.loop-one.self.seen c.one-item.result c.make_move.result before.counted c.make_move.ensures.entry);
+      few = let more = moved_more c.loop-one.trace.items c.make_move.result in let on = spent_on c.loop-one.self.seen c.one-item.result c.make_move.result before.counted c.make_move.ensures.entry in rw (c.push_reserved.ensures.items, c.make_move.ensures.after) (omega arith);
     }
 
 pub returns-clause-traced : goal.returns-clause-traced

@@ -1,0 +1,69 @@
+//! Why some rows are short.
+
+/// Why the rows of a part are short.
+pub struct Reason {
+    /// What the part's heading begins with.
+    heading: &'static str,
+    /// Words that such a row has.
+    words: &'static str,
+    /// What the limit is, and how it was found.
+    pub text: &'static str,
+}
+
+const fn reason(heading: &'static str, words: &'static str, text: &'static str) -> Reason {
+    Reason { heading, words, text }
+}
+
+/// The first that fits a row is its reason.
+const REASONS: [Reason; 12] = [
+    reason("A call alone", "", INTERPRETER),
+    reason("A core", "", CORE),
+    reason("`Running`", "product alone", ORDER_OF_RUNNING),
+    reason("`Running`", "", CORE),
+    reason("The order and the audit", "product alone: `audit`, what an event more", GROWTH),
+    reason("The order and the audit", "product alone: `audit`", AUDIT_NANOSECONDS),
+    reason("The order and the audit", "`order_of`", ORDER_OF),
+    reason("Engines", "product alone", WORKERS),
+    reason("Engines", "", TURN),
+    reason("A trail's text", "", TEXT),
+    reason("A procedure a transaction", "", TRANSACTION),
+    reason("Memory of `treedb audit`", "", VALUE),
+];
+
+const INTERPRETER: &str = "**The interpreter.** Each instruction goes through one jump that all share, on which a quarter of the time \
+goes by `perf annotate`, and loads the code's address again behind the shared pointer to the procedure. The rest are the same loads and stores as the twin's.";
+
+const CORE: &str = "**A step of a core.** The answer of a step is written twice, once by the instruction and once by the core, and a function \
+clears the memory of its values first: by `perf annotate` these two take over a third of a step. The state of a call stands behind two \
+indices, the call's and its slot's, as in the twin.";
+
+const ORDER_OF_RUNNING: &str = "**What the order adds to a core** is some 20 ns a step on a machine on which a step of the twin's core takes 30 to 50; \
+the goal of 10 is for one at full speed. The row beside the twin's order says what it costs here.";
+
+const GROWTH: &str = "**An event more of a long trail** costs more than one of a short trail, since a trail of 1,048,576 events takes 40 megabytes and \
+no longer stands in a cache.";
+
+const AUDIT_NANOSECONDS: &str = "**30 ns an event** are for a machine at full speed: where this table was made the twin takes more than twice as much.";
+
+const ORDER_OF: &str = "**`order_of`** is the function of the plain definition, for every history. What keeps the rules is placed by `KeptOrder`, \
+which is what `Running`, an engine and the audit use.";
+
+const WORKERS: &str = "**More workers.** The twin gains as little by them, as the quotients of its own rows say: so it is what the machine gives, \
+whose processors are threads of fewer cores. On one path, and with 20 instructions between two turns, the lock goes from processor to processor.";
+
+const TURN: &str = "**A turn of an engine.** Under the lock the segment's turn is compared with the kept one by value: the parents of 4,096 nodes take some \
+250 ns of it, those of 128 some 10 (by `perf`, and by the same calls on both trees). A call's state of 800 bytes is copied four times in a turn, \
+a fifth of a walk's. Besides, a short call pays some 1,500 ns for its admission, its receipt and the session's list.";
+
+const TEXT: &str = "**A trail's text.** Reading makes the port's value of the whole text first, and then what it stands for.";
+
+const TRANSACTION: &str = "**A procedure a transaction.** A call has thirteen locks, frees and returns. Nearly half of its time in a core goes \
+into its admission (the row of `admit`). Through an engine each turn is compared as above, goes through the lock, and is copied.";
+
+const VALUE: &str = "**Memory of an audit.** An event of some 35 bytes of text is, as the port's value, two lists, a text and six numbers: by the sizes of \
+these some 330 of the 420 bytes that it takes at most. Reading event by event would need a reader of JSON that is proved to find the same.";
+
+/// Why such a row is short, where that is known.
+pub fn of(heading: &str, work: &str) -> Option<&'static Reason> {
+    REASONS.iter().find(|it| heading.starts_with(it.heading) && work.contains(it.words))
+}
