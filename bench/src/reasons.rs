@@ -30,8 +30,8 @@ const REASONS: [Reason; 12] = [
     reason("Memory of `treedb audit`", "", VALUE),
 ];
 
-const INTERPRETER: &str = "**The interpreter.** Each instruction goes through one jump that all share, on which a quarter of the time \
-goes by `perf annotate`, and loads the code's address again behind the shared pointer to the procedure. The rest are the same loads and stores as the twin's.";
+const INTERPRETER: &str = "**The interpreter.** Each instruction goes through one jump that all share: a seventh of the time by \
+`perf annotate`. The rest are the same loads, sums and stores as the twin's.";
 
 const CORE: &str = "**A step of a core.** The answer of a step is written twice, once by the instruction and once by the core, and a function \
 clears the memory of its values first: by `perf annotate` these two take over a third of a step. The state of a call stands behind two \

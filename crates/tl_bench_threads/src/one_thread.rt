@@ -36,8 +36,8 @@ fn args(alloc: Global, asked: &Asked) -> Option<Vec<i64>> {
 // Runs a call to its end. None where it was refused.
 fn run_call(alloc: Global, running: &mut Running, arg: i64) -> Option<()> {
     let call = running.admit(alloc, NAME, &[arg]).ok()?;
-    for _step in 0..u64::MAX {
-        match running.step(call).ok()? {
+    for _part in 0..u64::MAX {
+        match running.proceed(call).ok()? {
             Stepped::Moved {
                 action: Action::End,
             }

@@ -9,7 +9,9 @@ use Rattle.tl_protocol.specs.History.{admits}
 use Rattle.tl_protocol.specs.Holders.{holder_of}
 use Rattle.tl_protocol.specs.World.{as_found}
 use Rattle.tl_machine.specs.Turns.{SegmentValue}
+use Rattle.tl_machine.specs.BetweenSteps.{IsLocal}
 use Rattle.tl_machine.specs.declared.want.Stop.{Stop}
+use Rattle.tl_machine.specs.declared.want.Stop.TheVariants as stop
 use Rattle.tl_core.specs.declared.fault.CoreFault.{CoreFault}
 use Rattle.tl_core.specs.declared.stepped.Stepped.{Stepped}
 use Rattle.tl_core.specs.declared.stepped.Stepped.TheVariants.{Moved, Blocked, Over}
@@ -55,6 +57,25 @@ has_gone v w u c segment led next free r answer after =
       is_last = b.2;
       goes = goes_more v.seen w.seen u.seen c led.local b.0 led.goes b.1 (ap (after_step w.seen c) (sym b.1 ∙ sym answer) ∙ sym after);
     }
+
+-- what a call does at a stop isn't local, and at none is it over
+pub no_local_ends : (s : Stop) (a : Action) → EndsStop s a → IsLocal a → ⊥
+no_local_ends s (did.Lock x found) ends is = is
+no_local_ends s (did.Free x left) ends is = is
+no_local_ends s did.End ends is = is
+no_local_ends s did.Plain ends is = ends
+no_local_ends s (did.Read x f n) ends is = ends
+no_local_ends s (did.Write x f n) ends is = ends
+no_local_ends s (did.Emit n) ends is = ends
+
+pub none_ends_over : (a : Action) → EndsStop stop.Over a → ⊥
+none_ends_over (did.Lock x found) e = absurd cc
+none_ends_over (did.Free x left) e = absurd cc
+none_ends_over did.End e = absurd cc
+none_ends_over did.Plain ends = ends
+none_ends_over (did.Read x f n) ends = ends
+none_ends_over (did.Write x f n) ends = ends
+none_ends_over (did.Emit n) ends = ends
 
 -- the call has the same code then
 pub code_then : (v : CoreValue) (c : ℕ) (r : Result Stepped CoreFault) → (call_of (after_step v c r) c).code ≡ (call_of v c).code

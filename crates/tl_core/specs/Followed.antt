@@ -6,12 +6,14 @@ use Rattle.tl_protocol.specs.History.{is_done, admits, IsOpen}
 use Rattle.tl_protocol.specs.Holders.{holder_of}
 use Rattle.tl_protocol.specs.World.{next_of, reply_of}
 use Rattle.tl_machine.specs.BetweenSteps.{IsLocal}
-use Rattle.tl_machine.specs.Turns.{TurnValue, SegmentValue}
+use Rattle.tl_machine.specs.Turns.{TurnValue, SegmentValue, Stops}
 use Rattle.tl_machine.specs.declared.want.Stop.{Stop}
 use Rattle.tl_machine.specs.declared.want.Stop.TheVariants as stop
 use Rattle.tl_core.specs.declared.fault.CoreFault.{CoreFault}
 use Rattle.tl_core.specs.declared.fault.CoreFault.TheVariants as fault
+use Rattle.tl_core.specs.declared.stepped.Stepped.{Stepped}
 use Rattle.tl_core.specs.declared.stepped.Stepped.TheVariants.{Moved}
+use Rattle.tl_core.specs.declared.stepped.Stepped.TheVariants as stepped
 use Rattle.tl_core.specs.declared.followed.Followed.{Followed}
 use Rattle.tl_core.specs.declared.followed.Followed.TheVariants.{Went, Blocked, Finished}
 use Rattle.tl_core.specs.declared.followed.Led.{Led}
@@ -60,6 +62,31 @@ pub record HasGone (before : CoreState) (c : ℕ) (segment : SegmentValue) (afte
 pub record IsInTheWay (v : CoreValue) (s : Stop) (x d : ℕ) : Type 0 where
   pub locks : s ≡ stop.Lock x
   pub holder : holder_of v.past x ≡ Some d
+
+-- the call's local actions up to that stop were done as steps, and its turn stands there
+pub record ReachesStop (before : CoreState) (c : ℕ) (s : Stop) (after : CoreState) : Type 0 where
+  pub local : List Action
+  pub each_local : EachLocal local
+  pub goes : Goes before.seen c local after.seen
+  pub turn : TurnValue
+  pub kept : kept_turn after c ≡ Some turn
+  pub stops : Stops turn s
+
+-- a step that isn't local: a lock, a free or an end, or nothing, where another call is in the way or this one is done
+abbrev pub IsNoLocal : Stepped → Type 0
+IsNoLocal (Moved a) = IsLocal a → ⊥
+IsNoLocal (stepped.Blocked x d) = Unit {0}
+IsNoLocal stepped.Over = Unit {0}
+
+-- the call did local steps, as many as there were, and then one that isn't local, with that answer
+pub record Proceeds (before : CoreValue) (c : ℕ) (last : Stepped) (after : CoreValue) : Type 0 where
+  pub local : List Action
+  pub each_local : EachLocal local
+  pub there : CoreValue
+  pub goes : Goes before c local there
+  pub is_last : IsNoLocal last
+  pub answer : step_answer (world_of there) c ≡ Ok last
+  pub then : after ≡ after_step there c (Ok last)
 
 -- what came of it: blocked where another call is in the way, and nothing is changed; else the call went on to a turn, or
 -- is done and has answered

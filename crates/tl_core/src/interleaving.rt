@@ -16,7 +16,8 @@ ghost use Rattle.tl_machine.specs.Runs.{emits_of};
 ghost use Rattle.tl_machine.specs.Turns.{TurnValue, IsTurn, Stops, with_call, end_of};
 ghost use Rattle.tl_machine.specs.declared.want.Stop.{Stop};
 ghost use Rattle.tl_machine.specs.declared.want.Stop.TheVariants as stop;
-ghost use Rattle.tl_core.specs.Followed.{IsLedTo, IsLedFreely, IfFinished, IsFollowed, IsUnhindered, IsFollowFault, IsInTheWay, IsLed, NextEndsStop};
+ghost use Rattle.tl_core.specs.Followed.{IsLedTo, IsLedFreely, IfFinished, IsFollowed, IsUnhindered, IsFollowFault, IsInTheWay, IsLed, NextEndsStop, ReachesStop, Proceeds, IsNoLocal};
+ghost use Rattle.tl_core.specs.declared.stepped.Stepped.TheVariants as stepped;
 ghost use Rattle.tl_core.specs.declared.fault.CoreFault.TheVariants as fault;
 
 use crate::call::{Call, OpenCall, Progress, begin};
@@ -166,11 +167,58 @@ impl Core {
         };
         match self.slots[slot].turn.advance() {
             Advance::Did(action) => Ok(Stepped::Moved { action }),
-            // A call that is over is done, and has no slot.
-            Advance::Stopped(Stop::Over) => unreachable!(),
-            Advance::Stopped(Stop::Lock(node)) => Ok(self.lock_or_block(call, node)),
-            Advance::Stopped(Stop::Free(node)) => Ok(self.free(call, node)),
-            Advance::Stopped(Stop::Return) => Ok(self.end(call)),
+            Advance::Stopped(stop) => Ok(self.pass_stop(call, stop)),
+        }
+    }
+
+    /// Steps of a call up to the first that isn't local, which is done too, and whose answer this is: a lock, a free or the
+    /// end; or blocked; or over, where the call is done. 602 where no call of that number was admitted. Takes no memory.
+    pub fn proceed(&mut self, call: u32) -> Result<Stepped, CoreFault>
+        ensures known { IsOk result ↔ (call < admits self.old.seen.past) }
+        ensures proceeds { IfOk result (λ s. Proceeds self.old.seen call s self.new.seen) }
+        ensures turns { (c : ℕ) → c ≢ call → kept_turn self.new c ≡ kept_turn self.old c }
+        ensures fault { IfErr result (λ e. e ≡ fault.NoCall) }
+        ensures err { OnErr result (self.new ≡ self.old) }
+    {
+        if call as usize >= self.calls.len() {
+            return Err(CoreFault::NoCall);
+        }
+        let Some(stop) = self.run_local(call) else {
+            return Ok(Stepped::Over);
+        };
+        Ok(self.pass_stop(call, stop))
+    }
+
+    // Does the local instructions of a call, and answers where it stops then. None where it is done.
+    fn run_local(&mut self, call: u32) -> Option<Stop>
+        requires { call < length self.old.seen.calls }
+        ensures some { IfSome result (λ s. ReachesStop self.old call s self.new) }
+        ensures none { IsNone result → (step_answer (world_of self.old.seen) call ≡ Ok stepped.Over) × (self.new ≡ self.old) }
+        ensures turns { (c : ℕ) → c ≢ call → kept_turn self.new c ≡ kept_turn self.old c }
+    {
+        let Some(slot) = self.calls[call as usize].slot() else {
+            return None;
+        };
+        Some(self.slots[slot].turn.run_local())
+    }
+
+    // Does what an open call stops at.
+    #[inline(always)]
+    fn pass_stop(&mut self, call: u32, stop: Stop) -> Stepped
+        requires { (t : TurnValue) × (kept_turn self.old call ≡ Some t) × Stops t stop }
+        ensures answer { Ok result ≡ step_answer (world_of self.old.seen) call }
+        ensures last { IsNoLocal result }
+        ensures after { self.new.seen ≡ after_step self.old.seen call (Ok result) }
+        ensures turns { (c : ℕ) → c ≢ call → kept_turn self.new c ≡ kept_turn self.old c }
+    {
+        // What the call's next action is: here a proof learns that.
+        self.at_stop(call);
+        match stop {
+            Stop::Lock(node) => self.lock_or_block(call, node),
+            Stop::Free(node) => self.free(call, node),
+            Stop::Return => self.end(call),
+            // An open call isn't over.
+            Stop::Over => unreachable!(),
         }
     }
 
@@ -179,6 +227,7 @@ impl Core {
     fn lock_or_block(&mut self, call: u32, node: u16) -> Stepped
         requires { (t : TurnValue) × (kept_turn self.old call ≡ Some t) × Stops t (stop.Lock node) }
         ensures answer { Ok result ≡ step_answer (world_of self.old.seen) call }
+        ensures last { IsNoLocal result }
         ensures after { self.new.seen ≡ after_step self.old.seen call (Ok result) }
         ensures turns { (c : ℕ) → c ≢ call → kept_turn self.new c ≡ kept_turn self.old c }
     {
@@ -204,6 +253,7 @@ impl Core {
     fn free(&mut self, call: u32, node: u16) -> Stepped
         requires { (t : TurnValue) × (kept_turn self.old call ≡ Some t) × Stops t (stop.Free node) }
         ensures answer { Ok result ≡ step_answer (world_of self.old.seen) call }
+        ensures last { IsNoLocal result }
         ensures after { self.new.seen ≡ after_step self.old.seen call (Ok result) }
         ensures turns { (c : ℕ) → c ≢ call → kept_turn self.new c ≡ kept_turn self.old c }
     {
@@ -225,6 +275,7 @@ impl Core {
     fn end(&mut self, call: u32) -> Stepped
         requires { (t : TurnValue) × (kept_turn self.old call ≡ Some t) × Stops t stop.Return }
         ensures answer { Ok result ≡ step_answer (world_of self.old.seen) call }
+        ensures last { IsNoLocal result }
         ensures after { self.new.seen ≡ after_step self.old.seen call (Ok result) }
         ensures turns { (c : ℕ) → c ≢ call → kept_turn self.new c ≡ kept_turn self.old c }
     {
@@ -620,7 +671,7 @@ impl Core {
         self.is_sound();
         self.at_stop(call);
         // Nobody is in the way, so this is the action of the stop.
-        let _moved = self.do_next(call);
+        let _moved = self.pass_stop(call, segment.stop());
         if let Some(reply) = self.reply(call) {
             // A call that has replied is done: here a proof learns that.
             let _values = reply.values();

@@ -5,19 +5,26 @@ ghost use Rattle.tl_instr.specs.declared.instr.Instr.TheVariants as instr;
 ghost use Rattle.tl_tree.specs.Records.{Records};
 ghost use Rattle.tl_machine.specs.Alone.{effect};
 ghost use Rattle.tl_machine.specs.declared.call.HeldNode.{HeldNode as HeldNode'};
-ghost use Rattle.tl_machine.specs.Call.{in_tree, held_view, Distinct, AreIn, IsHeld, Takes, MayGoOn};
+ghost use Rattle.tl_machine.specs.Call.{in_tree, held_view, Distinct, AreIn, IsHeld, Takes, MayGoOn, with_control};
 
-use crate::call::CallState;
+use crate::call::{CallState, Control};
 use tl_instr::{Field, NodeRegister, ValueRegister};
 use tl_protocol::Action;
 use tl_tree::Shape;
 
 /// `get`
-pub fn get(call: &mut CallState, to: ValueRegister, node: NodeRegister, field: Field) -> Action
+#[inline(always)]
+pub fn get(
+    call: &mut CallState,
+    at: &mut Control,
+    to: ValueRegister,
+    node: NodeRegister,
+    field: Field,
+) -> Action
     requires node { (h : HeldNode') × IsHeld call.old.nodes node h }
     requires distinct { Distinct (held_view call.old.nodes) }
-    requires on { MayGoOn call.old }
-    ensures { (parents : List ℕ) (t : Records) → AreIn (length t) (held_view call.old.nodes) → Takes (effect parents (instr.Get to node field) call.old.position (in_tree call.old t)) call.old result call.new t }
+    requires on { MayGoOn (with_control call.old at.old) }
+    ensures { (parents : List ℕ) (t : Records) → AreIn (length t) (held_view call.old.nodes) → Takes (effect parents (instr.Get to node field) at.old.position (in_tree call.old t)) (with_control call.old at.old) result (with_control call.new at.new) t }
 {
     let Some(held) = &call.nodes[node.index()] else {
         unreachable!()
@@ -25,7 +32,7 @@ pub fn get(call: &mut CallState, to: ValueRegister, node: NodeRegister, field: F
     let number = held.node;
     let value = held.record[field.index()];
     call.values[to.index()] = value;
-    call.go_to(call.position + 1);
+    at.go_to(at.position + 1);
     Action::Read {
         node: number,
         field: field.number(),
@@ -34,11 +41,18 @@ pub fn get(call: &mut CallState, to: ValueRegister, node: NodeRegister, field: F
 }
 
 /// `put`
-pub fn put(call: &mut CallState, node: NodeRegister, field: Field, from: ValueRegister) -> Action
+#[inline(always)]
+pub fn put(
+    call: &mut CallState,
+    at: &mut Control,
+    node: NodeRegister,
+    field: Field,
+    from: ValueRegister,
+) -> Action
     requires node { (h : HeldNode') × IsHeld call.old.nodes node h }
     requires distinct { Distinct (held_view call.old.nodes) }
-    requires on { MayGoOn call.old }
-    ensures { (parents : List ℕ) (t : Records) → AreIn (length t) (held_view call.old.nodes) → Takes (effect parents (instr.Put node field from) call.old.position (in_tree call.old t)) call.old result call.new t }
+    requires on { MayGoOn (with_control call.old at.old) }
+    ensures { (parents : List ℕ) (t : Records) → AreIn (length t) (held_view call.old.nodes) → Takes (effect parents (instr.Put node field from) at.old.position (in_tree call.old t)) (with_control call.old at.old) result (with_control call.new at.new) t }
 {
     let value = call.values[from.index()];
     let Some(held) = &mut call.nodes[node.index()] else {
@@ -46,7 +60,7 @@ pub fn put(call: &mut CallState, node: NodeRegister, field: Field, from: ValueRe
     };
     let number = held.node;
     held.record[field.index()] = value;
-    call.go_to(call.position + 1);
+    at.go_to(at.position + 1);
     Action::Write {
         node: number,
         field: field.number(),
@@ -55,31 +69,44 @@ pub fn put(call: &mut CallState, node: NodeRegister, field: Field, from: ValueRe
 }
 
 /// `kids`
-pub fn kids(call: &mut CallState, shape: &Shape, to: ValueRegister, node: NodeRegister) -> Action
+#[inline(always)]
+pub fn kids(
+    call: &mut CallState,
+    at: &mut Control,
+    shape: &Shape,
+    to: ValueRegister,
+    node: NodeRegister,
+) -> Action
     requires node { (h : HeldNode') × IsHeld call.old.nodes node h }
     requires inside { AreIn (length shape.now) (held_view call.old.nodes) }
-    requires on { MayGoOn call.old }
-    ensures { (t : Records) → Takes (effect shape.now (instr.Kids to node) call.old.position (in_tree call.old t)) call.old result call.new t }
+    requires on { MayGoOn (with_control call.old at.old) }
+    ensures { (t : Records) → Takes (effect shape.now (instr.Kids to node) at.old.position (in_tree call.old t)) (with_control call.old at.old) result (with_control call.new at.new) t }
 {
     let Some(held) = &call.nodes[node.index()] else {
         unreachable!()
     };
     call.values[to.index()] = i64::from(shape.kids(held.node));
-    call.go_to(call.position + 1);
+    at.go_to(at.position + 1);
     Action::Plain
 }
 
 /// `move`
-pub fn move_node(call: &mut CallState, to: NodeRegister, from: NodeRegister) -> Action
+#[inline(always)]
+pub fn move_node(
+    call: &mut CallState,
+    at: &mut Control,
+    to: NodeRegister,
+    from: NodeRegister,
+) -> Action
     requires node { (h : HeldNode') × IsHeld call.old.nodes from h }
     requires empty { get_or call.old.nodes to None ≡ None }
     requires distinct { Distinct (held_view call.old.nodes) }
-    requires on { MayGoOn call.old }
-    ensures { (parents : List ℕ) (t : Records) → Takes (effect parents (instr.Move to from) call.old.position (in_tree call.old t)) call.old result call.new t }
+    requires on { MayGoOn (with_control call.old at.old) }
+    ensures { (parents : List ℕ) (t : Records) → Takes (effect parents (instr.Move to from) at.old.position (in_tree call.old t)) (with_control call.old at.old) result (with_control call.new at.new) t }
 {
     let held = call.nodes[from.index()];
     call.nodes[from.index()] = None;
     call.nodes[to.index()] = held;
-    call.go_to(call.position + 1);
+    at.go_to(at.position + 1);
     Action::Plain
 }

@@ -8,7 +8,7 @@ ghost use Rattle.tl_machine.specs.Runs.{Then, Ended};
 ghost use Rattle.tl_machine.specs.Alone.{alone as run_alone};
 ghost use Rattle.tl_machine.specs.Call.{in_tree, reply_so_far};
 ghost use Rattle.tl_machine.specs.BetweenSteps.{Steps, Locks, Frees, Ends};
-ghost use Rattle.tl_machine.specs.Turns.{IsTurn, Wants, Stops, IfDid, IfStopped, left_of, with_call};
+ghost use Rattle.tl_machine.specs.Turns.{IsTurn, IsSegment, Wants, Stops, IfDid, IfStopped, left_of, with_call};
 ghost use Rattle.tl_machine.specs.declared.want.Want.TheVariants as want;
 ghost use Rattle.tl_machine.specs.declared.want.Stop.TheVariants as stop;
 
@@ -145,6 +145,15 @@ impl Turn {
             Advance::Did(action) => action,
             Advance::Stopped(_) => unreachable!(),
         }
+    }
+
+    /// Does the call's local instructions in place, up to the first that isn't local, and answers where the call stops then.
+    /// Takes no memory.
+    pub fn run_local(&mut self) -> Stop
+        ensures same { self.new ≡ with_call self.old self.new.call }
+        ensures segment { IsSegment (record { from = self.old; to = self.new.call; stop = result }) }
+    {
+        self.call.run_local(&self.procedure, &self.shape)
     }
 
     /// Locks the node that the next instruction locks, which has this record.

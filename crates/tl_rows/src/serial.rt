@@ -3,10 +3,10 @@
 use crate::texts::{BOTH, FORK as FORK_TREE, LOOK, ONE_NODE, STORE, procedure_of, tree_of};
 use std::alloc::Global;
 use std::test::Fail;
-use tl_core::Core;
+use tl_core::{Core, CoreFault, Stepped};
 use tl_history::{History, MAX_EVENTS};
 use tl_order::KeptOrder;
-use tl_protocol::Event;
+use tl_protocol::{Action, Event};
 use tl_serial::{Running, conclude, is_of_shape, order_of, replay};
 use tl_tree::{Shape, write_tree};
 
@@ -242,6 +242,54 @@ fn an_order_against_the_clock_is_kept(rt: HostRuntime) -> Result<(), Fail> {
     let count = running.core().history().events().len();
     assert!(rt; is_kept?);
     assert_eq!(rt; count, 16);
+    Ok(())
+}
+
+/// Whether the parts of a call come to this, one after another.
+fn proceeds(running: &mut Running, call: u32, answers: &[Stepped]) -> bool {
+    for answer in answers {
+        if running.proceed(call) != Ok(*answer) {
+            return false;
+        }
+    }
+    true
+}
+
+/// Two calls look at one node, the second while the first holds it. Whether each goes from its lock to its free and to its end, and the order is kept.
+fn goes_from_stop_to_stop(alloc: Global, running: &mut Running) -> Result<bool, Fail> {
+    running.add_proc(alloc, "look", procedure_of(alloc, LOOK)?)?;
+    running.admit(alloc, "look", &[0])?;
+    running.admit(alloc, "look", &[0])?;
+    let locks = Stepped::Moved {
+        action: Action::Lock {
+            node: 0,
+            found: [5, 0, 0, 0],
+        },
+    };
+    let frees = Stepped::Moved {
+        action: Action::Free {
+            node: 0,
+            left: [5, 0, 0, 0],
+        },
+    };
+    let ends = Stepped::Moved {
+        action: Action::End,
+    };
+    let waits = Stepped::Blocked { node: 0, holder: 0 };
+    let first = proceeds(running, 0, &[locks]) && proceeds(running, 1, &[waits, waits]);
+    let second = proceeds(running, 0, &[frees, ends, Stepped::Over]);
+    let last = proceeds(running, 1, &[locks, frees, ends]);
+    Ok(first && second && last && is_kept(alloc, running, &[0, 1])?)
+}
+
+#[test]
+fn a_call_proceeds_from_stop_to_stop(rt: HostRuntime) -> Result<(), Fail> {
+    let alloc = rt.alloc();
+    let mut running = Running::new(alloc, Core::new(alloc, tree_of(alloc, ONE_NODE)?)?)?;
+    let is_so = goes_from_stop_to_stop(alloc, &mut running);
+    let unknown = running.proceed(2);
+    assert!(rt; is_so?);
+    assert_eq!(rt; unknown, Err(CoreFault::NoCall));
     Ok(())
 }
 

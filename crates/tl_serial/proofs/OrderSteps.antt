@@ -1,6 +1,6 @@
 -- The order of a core after a step of a call.
 use Rattle.std.proofs.Common.{◌≡◌, ℕ, ◌+◌, ◌<◌, ◌≤◌, List, [], ◌∷◌, ◌++◌, Some, Ok, length, refl, sym, ap, ◌∙◌, subst, arith}
-use Rattle.std.specs.Prelude.{All}
+use Rattle.std.specs.Prelude.{All, Result, Err, IfOk, OnErr}
 use Rattle.tl_tree.specs.Records.{Record}
 use Rattle.tl_tree.specs.Shape.{IsTree}
 use Rattle.tl_protocol.specs.declared.action.Action.{Action}
@@ -16,8 +16,10 @@ use Rattle.tl_machine.specs.declared.want.Stop.TheVariants as stop
 use Rattle.tl_machine.specs.Turns.{SegmentValue}
 use Rattle.tl_core.specs.Cores.{CoreState, CoreValue}
 use Rattle.tl_core.specs.Entries.{after_step}
-use Rattle.tl_core.specs.Followed.{Goes, HasGone, EachLocal, EndsStop}
-use Rattle.tl_core.specs.declared.stepped.Stepped.TheVariants.{Moved}
+use Rattle.tl_core.specs.Followed.{Goes, HasGone, EachLocal, EndsStop, Proceeds}
+use Rattle.tl_core.specs.declared.fault.CoreFault.{CoreFault}
+use Rattle.tl_core.specs.declared.stepped.Stepped.{Stepped}
+use Rattle.tl_core.specs.declared.stepped.Stepped.TheVariants.{Moved, Blocked, Over}
 use Rattle.tl_order.proofs.LegalEvents.{caller_known}
 use Rattle.tl_order.specs.Kept.{KeptValue, IsOfSize}
 use Rattle.tl_serial.specs.Running.{IsStopInside, HasStopped}
@@ -61,6 +63,28 @@ goes_past v w c (a ∷ local) last each goes =
 pub goes_parents : (v w : CoreValue) (c : ℕ) (actions : List Action) → Goes v c actions w → w.parents ≡ v.parents
 goes_parents v w c [] goes = sym (ap (λ u. u.parents) goes)
 goes_parents v w c (a ∷ actions) goes = goes_parents (after_step v c (Ok (Moved a))) w c actions goes.1
+
+local_goes_past : (v w : CoreValue) (c : ℕ) (local : List Action) → EachLocal local → Goes v c local w → w.past ≡ v.past
+local_goes_past v w c [] each goes = sym (ap (λ u. u.past) goes)
+local_goes_past v w c (a ∷ local) each goes = local_goes_past (after_step v c (Ok (Moved a))) w c local each.1 goes.1 ∙ local_past c a v.past each.0
+
+-- a call that proceeds adds the event of its last step
+pub proceeds_past : (v w : CoreValue) (c : ℕ) (a : Action) → Proceeds v c (Moved a) w → w.past ≡ past_after c a v.past
+proceeds_past v w c a p = ap (λ u. u.past) p.then ∙ ap (past_after c a) (local_goes_past v p.there c p.local p.each_local p.goes)
+
+pub proceeds_parents : (v w : CoreValue) (c : ℕ) (a : Action) → Proceeds v c (Moved a) w → w.parents ≡ v.parents
+proceeds_parents v w c a p = ap (λ u. u.parents) p.then ∙ goes_parents v p.there c p.local p.goes
+
+-- and none where that is no lock, free or end
+pub proceeds_still : (v w : CoreState) (c : ℕ) (r : Result Stepped CoreFault) → IfOk r (λ s. Proceeds v.seen c s w.seen) → OnErr r (w ≡ v)
+    → ((a : Action) → r ≡ Ok (Moved a) → IsLocal a) → (w.seen.past ≡ v.seen.past) × (w.seen.parents ≡ v.seen.parents)
+proceeds_still v w c (Ok (Moved a)) p same local = absurd (p.is_last (local a refl))
+proceeds_still v w c (Ok (Blocked x d)) p same local = (ap (λ u. u.past) p.then ∙ local_goes_past v.seen p.there c p.local p.each_local p.goes, ap (λ u. u.parents) p.then ∙ goes_parents v.seen p.there c p.local p.goes)
+proceeds_still v w c (Ok Over) p same local = (ap (λ u. u.past) p.then ∙ local_goes_past v.seen p.there c p.local p.each_local p.goes, ap (λ u. u.parents) p.then ∙ goes_parents v.seen p.there c p.local p.goes)
+proceeds_still v w c (Err e) p same local = (ap (λ u. u.seen.past) same, ap (λ u. u.seen.parents) same)
+
+pub proceeds_stopped : (v w : CoreState) (c : ℕ) (s : Stop) (a : Action) → EndsStop s a → Proceeds v.seen c (Moved a) w.seen → HasStopped w.seen c s v.seen.past
+proceeds_stopped v w c s a ends p = record { last = a; ends = ends; past_is = proceeds_past v.seen w.seen c a p }
 
 -- what is so of every lock of the node is so of what a call did that stopped there
 pub at_lock : (P : List Event → Type 0) (c x : ℕ) (s : Stop) (last : Action) (past : List Event) → s ≡ stop.Lock x → EndsStop s last

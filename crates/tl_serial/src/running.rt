@@ -1,18 +1,19 @@
 // A core whose order is kept up to date.
 
-ghost use Rattle.std.specs.Prelude.{◌≡◌, ◌≢◌, ◌<◌, ◌↔◌, ℕ, List, ◌∷◌, ◌++◌, [], All, IfOk, IfErr, IfSome, IsNone, OnOk, OnErr, None, true, false, length, map};
+ghost use Rattle.std.specs.Prelude.{◌≡◌, ◌≢◌, ◌<◌, ◌↔◌, ℕ, List, ◌∷◌, ◌++◌, [], All, IsOk, IfOk, IfErr, IfSome, IsNone, OnOk, OnErr, None, true, false, length, map, Ok};
 ghost use Rattle.tl_tree.specs.Shape.{IsTree};
 ghost use Rattle.tl_protocol.specs.declared.action.Action.{Action as ActionValue};
 ghost use Rattle.tl_protocol.specs.declared.event.Event.{Event as EventValue};
 ghost use Rattle.tl_protocol.specs.Alone.{serial};
-ghost use Rattle.tl_protocol.specs.History.{AllDone, records_now, IsLegalHistory};
+ghost use Rattle.tl_protocol.specs.History.{AllDone, admits, records_now, IsLegalHistory};
 ghost use Rattle.tl_protocol.specs.Order.{placed, Agrees};
 ghost use Rattle.tl_protocol.specs.World.{IsStuck, reply_of, past_after};
 ghost use Rattle.tl_procedures.specs.Names.{naming_refusal};
 ghost use Rattle.tl_procedures.specs.declared.fault.NamingFault.TheVariants as naming;
 ghost use Rattle.tl_core.specs.Cores.{CoreState, world_of, done_by, kept_turn, IsLeastUnfinished};
 ghost use Rattle.tl_core.specs.Entries.{step_answer, after_step, admission_refusal, after_admission, part_of_run, entry_of, IsBlocked};
-ghost use Rattle.tl_core.specs.Followed.{IsLedTo, IsLedFreely, IfFinished, IsFollowed, HasGone, IsUnhindered, IsFollowFault, EndsStop};
+ghost use Rattle.tl_core.specs.Followed.{IsLedTo, IsLedFreely, IfFinished, IsFollowed, HasGone, IsUnhindered, IsFollowFault, EndsStop, Proceeds};
+ghost use Rattle.tl_core.specs.declared.stepped.Stepped.TheVariants.{Moved};
 ghost use Rattle.tl_machine.specs.Turns.{TurnValue, SegmentValue, IsTurn, with_call};
 ghost use Rattle.tl_core.specs.declared.fault.CoreFault.TheVariants as fault;
 ghost use Rattle.tl_machine.specs.BetweenSteps.{IsLocal};
@@ -124,6 +125,22 @@ impl Running {
         stepped
     }
 
+    /// Steps of a call up to the first that isn't local, which is done too, as the core does them: 602. Takes no memory. So a
+    /// caller with one thread runs a call without asking at each instruction.
+    pub fn proceed(&mut self, call: u32) -> Result<Stepped, CoreFault>
+        ensures known { IsOk result ↔ (call < admits self.old.seen.past) }
+        ensures proceeds { IfOk result (λ s. Proceeds self.old.seen call s self.new.seen) }
+        ensures turns { (c : ℕ) → c ≢ call → kept_turn self.new c ≡ kept_turn self.old c }
+        ensures fault { IfErr result (λ e. e ≡ fault.NoCall) }
+        ensures err { OnErr result (self.new ≡ self.old) }
+    {
+        let stepped = self.core.proceed(call);
+        if let Some(stop) = stop_passed(&stepped) {
+            take_up(&mut self.order, &self.core, call, stop);
+        }
+        stepped
+    }
+
     /// Lets a call do the instructions of a segment, which were done elsewhere, as the core does: 602, 607. Takes no memory.
     pub fn follow(&mut self, call: u32, segment: Segment) -> Result<Followed, CoreFault>
         ensures from { IfOk result (λ _. kept_turn self.old call ≡ Some segment.from) }
@@ -220,6 +237,17 @@ fn stop_of(action: &Action) -> Option<Stop>
         Action::Lock { node, .. } => Some(Stop::Lock(node)),
         Action::Free { node, .. } => Some(Stop::Free(node)),
         Action::End => Some(Stop::Return),
+        _ => None,
+    }
+}
+
+// Where the call stopped whose step this is, if it went on there.
+fn stop_passed(stepped: &Result<Stepped, CoreFault>) -> Option<Stop>
+    ensures some { IfSome result (λ s. (last : ActionValue) × (stepped.now ≡ Ok (Moved last)) × EndsStop s last) }
+    ensures none { IsNone result → (last : ActionValue) → stepped.now ≡ Ok (Moved last) → IsLocal last }
+{
+    match stepped {
+        Ok(Stepped::Moved { action }) => stop_of(action),
         _ => None,
     }
 }

@@ -11,6 +11,6 @@ pub returns : goal.returns
 returns c t =
     let old = c.args.call.now in
     let at = rw c.index.ensures.same at c.in-Some.is in
-    let e = kids_is c.args.shape.now old t old.position c.args.node c.in-Some.held at c.args.to in
+    let e = kids_is c.args.shape.now old t c.args.at.now.position c.args.node c.in-Some.held at c.args.to in
     rw (e, c.go_to.ensures, c.index-2.ensures.same)
     (record { act = refl; to = refl; state = search rules; counters = refl; goes_on = refl; steps = refl; emits = omega arith; reply = search rules })

@@ -6,6 +6,6 @@ pub returns : goal.returns
 returns c parents t =
     let old = c.args.call.now in
     let h = c.requires.node in
-    let e = move_is parents old t old.position c.args.from h.0 h.1 c.requires.distinct c.args.to c.requires.empty (search rules) in
+    let e = move_is parents old t c.args.at.now.position c.args.from h.0 h.1 c.requires.distinct c.args.to c.requires.empty (search rules) in
     rw (e, c.go_to.ensures, c.index.ensures.same, c.index-2.ensures.same, c.index-3.ensures.same, h.1)
     (record { act = refl; to = refl; state = refl; counters = refl; goes_on = refl; steps = refl; emits = omega arith; reply = sym (append-nil _) })

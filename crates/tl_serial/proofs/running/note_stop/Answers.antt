@@ -1,4 +1,4 @@
-use Rattle.std.proofs.Common.{List, ◌≡◌}
+use Rattle.std.proofs.Common.{List}
 use Rattle.tl_protocol.specs.declared.event.Event.{Event}
 use Rattle.tl_protocol.specs.History.{IsLegalHistory}
 use Rattle.tl_order.specs.Kept.{IsKept}

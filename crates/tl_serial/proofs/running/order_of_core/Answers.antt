@@ -1,6 +1,6 @@
 use Rattle.std.proofs.Common.{◌≡◌, length, sym, ap, ◌∙◌, subst}
 use Rattle.std.specs.Prelude.{All}
-use Rattle.tl_protocol.specs.History.{past_of, IsLegalHistory}
+use Rattle.tl_protocol.specs.History.{past_of}
 use Rattle.tl_protocol.specs.Nodes.{IsOfNodes}
 use Rattle.tl_protocol.proofs.Inside.{sound_inside}
 use Rattle.tl_protocol.proofs.NoStandstill.{sound_history}

@@ -1,4 +1,4 @@
-use Rattle.std.proofs.Common.{◌≡◌, ◌<◌, ◌≤◌, List, length, sym, ap, ◌∙◌, subst, arith}
+use Rattle.std.proofs.Common.{◌≡◌, length, sym, ap, ◌∙◌, subst, arith}
 use Rattle.std.specs.Prelude.{All}
 use Rattle.tl_protocol.specs.History.{admits, IsLegalHistory}
 use Rattle.tl_protocol.specs.Nodes.{IsOfNodes}
@@ -7,7 +7,6 @@ use Rattle.tl_protocol.proofs.Inside.{sound_inside}
 use Rattle.tl_protocol.proofs.NoStandstill.{sound_history}
 use Rattle.tl_core.specs.Cores.{world_of}
 use Rattle.tl_order.specs.Kept.{IsKept, IsOfSize}
-use Rattle.tl_serial.specs.Running.{IsStopInside}
 use Rattle.tl_serial.proofs.OrderSteps.{stopped_known, stop_inside}
 use Rattle.tl_serial.proofs.running.take_up.Goals as goal
 

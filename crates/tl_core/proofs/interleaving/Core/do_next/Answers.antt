@@ -1,7 +1,6 @@
 use Rattle.std.proofs.Common.{sym, ap, ◌∙◌, subst, arith}
 use Rattle.tl_machine.specs.Turns.{Stops}
-use Rattle.tl_machine.specs.declared.want.Stop.TheVariants as stop
-use Rattle.tl_core.proofs.OpenCall.{at_read, slot_read, kept_here, whole_then, seen_on, turn_then, turns_then, over_state, goes_on}
+use Rattle.tl_core.proofs.OpenCall.{at_read, slot_read, kept_here, whole_then, seen_on, turn_then, turns_then, over_state}
 use Rattle.tl_core.proofs.StepExits.{local_answer, local_seen, local_kept}
 use Rattle.tl_core.proofs.interleaving.Core.do_next.Goals as goal
 
@@ -20,39 +19,13 @@ invariant_of-self c =
     let k = kept_here _ _ _ _ _ _ _ c.self.invariant c.args.call c.in-Some.slot c.index.result.now c.index_mut.result.now p in
     whole_then _ _ _ _ _ _ _ c.self.invariant c.args.call c.in-Some.slot c.index.result.now c.index_mut.result.now p c.advance.new.self c.index_mut.result.now.places (ap (λ t. t.code) c.in-Did.ensures.same) c.self.inside.history.past c.self.inside.history.limit _ _ c.self.inside.history.reserved (local_kept _ _ _ _ _ _ c.self.invariant.core c.args.call _ k c.in-Did.action c.advance.new.self c.in-Did.ensures.same c.in-Did.ensures.steps) _ c.self.invariant.room
 
-pub unreachable-requires : goal.unreachable-requires
-unreachable-requires c =
+pub pass_stop-requires : goal.pass_stop-requires
+pass_stop-requires c =
     let p = at_read _ _ _ _ _ _ _ c.self.invariant c.args.call c.in-Some.slot c.index.result.now c.index_mut.result.now (omega arith) c.index.ensures (sym c.slot.ensures ∙ c.in-Some.is) c.index_mut.ensures.value in
-    goes_on _ _ _ _ _ _ _ c.self.invariant c.args.call c.in-Some.slot c.index.result.now c.index_mut.result.now p (subst (Stops c.index_mut.result.now.turn) c.in-Stopped-Over.field-0-is c.in-Stopped-Over.ensures.stops)
-
-pub lock_or_block-requires : goal.lock_or_block-requires
-lock_or_block-requires c =
-    let p = at_read _ _ _ _ _ _ _ c.self.invariant c.args.call c.in-Some.slot c.index.result.now c.index_mut.result.now (omega arith) c.index.ensures (sym c.slot.ensures ∙ c.in-Some.is) c.index_mut.ensures.value in
-    let unchanged = c.in-Stopped-Lock.ensures.unchanged in
-    let stops = subst (Stops c.index_mut.result.now.turn) c.in-Stopped-Lock.field-0-is c.in-Stopped-Lock.ensures.stops in (
+    let unchanged = c.in-Stopped.ensures.unchanged in (
       c.advance.new.self,
       turn_then _ _ _ _ _ _ _ c.self.invariant c.args.call c.in-Some.slot c.index.result.now c.index_mut.result.now p c.advance.new.self c.index_mut.result.now.places (ap (λ t. t.code) unchanged),
-      subst (λ t. Stops t (stop.Lock c.in-Stopped-Lock.node)) (sym unchanged) stops,
-    )
-
-pub free-requires : goal.free-requires
-free-requires c =
-    let p = at_read _ _ _ _ _ _ _ c.self.invariant c.args.call c.in-Some.slot c.index.result.now c.index_mut.result.now (omega arith) c.index.ensures (sym c.slot.ensures ∙ c.in-Some.is) c.index_mut.ensures.value in
-    let unchanged = c.in-Stopped-Free.ensures.unchanged in
-    let stops = subst (Stops c.index_mut.result.now.turn) c.in-Stopped-Free.field-0-is c.in-Stopped-Free.ensures.stops in (
-      c.advance.new.self,
-      turn_then _ _ _ _ _ _ _ c.self.invariant c.args.call c.in-Some.slot c.index.result.now c.index_mut.result.now p c.advance.new.self c.index_mut.result.now.places (ap (λ t. t.code) unchanged),
-      subst (λ t. Stops t (stop.Free c.in-Stopped-Free.node)) (sym unchanged) stops,
-    )
-
-pub end-requires : goal.end-requires
-end-requires c =
-    let p = at_read _ _ _ _ _ _ _ c.self.invariant c.args.call c.in-Some.slot c.index.result.now c.index_mut.result.now (omega arith) c.index.ensures (sym c.slot.ensures ∙ c.in-Some.is) c.index_mut.ensures.value in
-    let unchanged = c.in-Stopped-Return.ensures.unchanged in
-    let stops = subst (Stops c.index_mut.result.now.turn) c.in-Stopped-Return.field-0-is c.in-Stopped-Return.ensures.stops in (
-      c.advance.new.self,
-      turn_then _ _ _ _ _ _ _ c.self.invariant c.args.call c.in-Some.slot c.index.result.now c.index_mut.result.now p c.advance.new.self c.index_mut.result.now.places (ap (λ t. t.code) unchanged),
-      subst (λ t. Stops t stop.Return) (sym unchanged) stops,
+      subst (λ t. Stops t c.in-Stopped.stop) (sym unchanged) c.in-Stopped.ensures.stops,
     )
 
 pub returns-in-Did-clause-answer : goal.returns-in-Did-clause-answer

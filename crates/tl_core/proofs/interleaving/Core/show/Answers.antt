@@ -1,5 +1,4 @@
-use Rattle.std.proofs.Common.{sym, ap, ◌∙◌, subst, arith, Some}
-use Rattle.tl_machine.specs.Turns.{IsTurn}
+use Rattle.std.proofs.Common.{sym, ap, ◌∙◌, arith, Some}
 use Rattle.tl_core.proofs.OpenCall.{at_read, slot_read, turned_inside, turned_open, turn_here}
 use Rattle.tl_core.proofs.KeptTurns.{turned, turn_of, same_turn, same_kind}
 use Rattle.tl_core.proofs.interleaving.Core.show.Goals as goal
