@@ -215,7 +215,7 @@ impl Core {
         }
     }
 
-    #[inline]
+    #[inline(always)]
     pub fn step(&mut self, number: u32) -> Result<Stepped, Fault> {
         let Some(place) = self.place_of(number)? else { return Ok(Stepped::Over) };
         let procedure = self.procedures.get(self.calls[number as usize].procedure);

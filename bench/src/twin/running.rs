@@ -36,7 +36,7 @@ impl Running {
         Ok(call)
     }
 
-    #[inline]
+    #[inline(always)]
     pub fn step(&mut self, call: u32) -> Result<Stepped, Fault> {
         let stepped = self.core.step(call)?;
         self.note(call, &stepped);

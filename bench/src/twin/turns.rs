@@ -26,6 +26,7 @@ impl Steps for Core {
         self.admit("call", &[arg])
     }
 
+    #[inline(always)]
     fn step_call(&mut self, call: u32) -> Result<Stepped, Fault> {
         self.step(call)
     }
@@ -36,6 +37,7 @@ impl Steps for Running {
         self.admit("call", &[arg])
     }
 
+    #[inline(always)]
     fn step_call(&mut self, call: u32) -> Result<Stepped, Fault> {
         self.step(call)
     }

@@ -37,6 +37,7 @@ impl Steps for Core {
         self.admit(alloc, NAME, &[arg]).ok()
     }
 
+    #[inline(always)]
     fn step_call(&mut self, call: u32) -> Option<Stepped> {
         self.step(call).ok()
     }
@@ -47,6 +48,7 @@ impl Steps for Running {
         self.admit(alloc, NAME, &[arg]).ok()
     }
 
+    #[inline(always)]
     fn step_call(&mut self, call: u32) -> Option<Stepped> {
         self.step(call).ok()
     }

@@ -138,7 +138,7 @@ impl Core {
     }
 
     /// The next instruction of a call. 602 where no call of that number was admitted. Takes no memory.
-    #[inline]
+    #[inline(always)]
     pub fn step(&mut self, call: u32) -> Result<Stepped, CoreFault>
         ensures answer { result ≡ step_answer (world_of self.old.seen) call }
         ensures after { self.new.seen ≡ after_step self.old.seen call result }
@@ -173,6 +173,7 @@ impl Core {
 
     /// Steps of a call up to the first that isn't local, which is done too, and whose answer this is: a lock, a free or the
     /// end; or blocked; or over, where the call is done. 602 where no call of that number was admitted. Takes no memory.
+    #[inline(always)]
     pub fn proceed(&mut self, call: u32) -> Result<Stepped, CoreFault>
         ensures known { IsOk result ↔ (call < admits self.old.seen.past) }
         ensures proceeds { IfOk result (λ s. Proceeds self.old.seen call s self.new.seen) }
@@ -190,6 +191,7 @@ impl Core {
     }
 
     // Does the local instructions of a call, and answers where it stops then. None where it is done.
+    #[inline(always)]
     fn run_local(&mut self, call: u32) -> Option<Stop>
         requires { call < length self.old.seen.calls }
         ensures some { IfSome result (λ s. ReachesStop self.old call s self.new) }
@@ -222,8 +224,8 @@ impl Core {
         }
     }
 
-    // Locks the node at which the open call stops, where no other call holds it. This and the next two are functions of their
-    // own, since a function clears the memory for all its values first: a local instruction would pay for what a return needs.
+    // Locks the node at which the open call stops, where no other call holds it.
+    #[inline(always)]
     fn lock_or_block(&mut self, call: u32, node: u16) -> Stepped
         requires { (t : TurnValue) × (kept_turn self.old call ≡ Some t) × Stops t (stop.Lock node) }
         ensures answer { Ok result ≡ step_answer (world_of self.old.seen) call }
@@ -250,6 +252,7 @@ impl Core {
     }
 
     // Frees the node at which the open call stops.
+    #[inline(always)]
     fn free(&mut self, call: u32, node: u16) -> Stepped
         requires { (t : TurnValue) × (kept_turn self.old call ≡ Some t) × Stops t (stop.Free node) }
         ensures answer { Ok result ≡ step_answer (world_of self.old.seen) call }
@@ -271,7 +274,8 @@ impl Core {
         }
     }
 
-    // Ends the open call, which stops at its return.
+    // Ends the open call, which stops at its return. A function of its own, since a function clears the memory for all its values
+    // first: each lock and each free would pay for what a return needs.
     fn end(&mut self, call: u32) -> Stepped
         requires { (t : TurnValue) × (kept_turn self.old call ≡ Some t) × Stops t stop.Return }
         ensures answer { Ok result ≡ step_answer (world_of self.old.seen) call }

@@ -1,12 +1,14 @@
 // What a call does by itself.
 
 ghost use Rattle.std.specs.Prelude.{◌≡◌};
-ghost use Rattle.tl_machine.specs.Turns.{IsTurn, IsSegment, with_call, end_of};
+ghost use Rattle.tl_machine.specs.Turns.{IsTurn, IsSegment, Stops, ComesByLocal, with_call, end_of};
 
 use crate::call::CallState;
 use crate::turn::Turn;
 use crate::want::Stop;
 use std::marker::Model;
+use tl_tree::Shape;
+use tl_verify::Proc;
 
 /// The local instructions that a call did in a row: the turn from which it did them, the state to which they led, and where
 /// it stops then. By its type the state comes from the turn's by local instructions. Only `local` makes one.
@@ -60,7 +62,7 @@ impl Segment {
     {
         self.from.put_at(state);
         self.to = *state;
-        self.stop = self.to.run_local(self.from.procedure(), self.from.shape());
+        self.stop = run_on(&mut self.to, self.from.procedure(), self.from.shape());
     }
 
     /// The turn behind the last of them, on the procedure and the shape of the first. Takes no memory.
@@ -90,10 +92,22 @@ pub fn local(turn: Turn) -> Segment
     ensures { result.from ≡ turn }
 {
     let mut to = *turn.call();
-    let stop = to.run_local(turn.procedure(), turn.shape());
+    let stop = run_on(&mut to, turn.procedure(), turn.shape());
     Segment {
         from: turn,
         to,
         stop,
     }
+}
+
+// Does the local instructions of a state, and says where the call stops then. This loop is a function of its own: in a caller that
+// copies whole states its position and its count didn't stay in registers.
+#[inline(never)]
+fn run_on(state: &mut CallState, procedure: &Proc, shape: &Shape) -> Stop
+    requires { IsTurn procedure.now.instrs shape.now state.old }
+    ensures turn { IsTurn procedure.now.instrs shape.now state.new }
+    ensures follows { ComesByLocal procedure.now.instrs shape.now state.old state.new }
+    ensures stop { Stops (record { code = procedure.now; parents = shape.now; call = state.new }) result }
+{
+    state.run_local(procedure, shape)
 }

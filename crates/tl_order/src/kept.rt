@@ -151,6 +151,7 @@ impl KeptOrder {
     }
 
     /// A call locks the node.
+    #[inline(always)]
     pub fn lock(&mut self, shape: &Shape, call: u32, node: u16)
         requires tree { IsTree shape.now }
         requires size { IsOfSize self.old (length shape.now) }
@@ -170,6 +171,7 @@ impl KeptOrder {
     }
 
     // A call that stands in the order locks one more node.
+    #[inline(always)]
     fn lock_again(&mut self, call: u32, node: u16)
         requires holders { node < length self.old.holders }
         requires under { node < length self.old.under }
@@ -185,6 +187,7 @@ impl KeptOrder {
     }
 
     // The call holds the node from now on.
+    #[inline(always)]
     fn hold(&mut self, node: u16, call: u32)
         requires { node < length self.old.holders }
         ensures { self.new ≡ record self.old { holders = set self.old.holders node (Some call) } }
@@ -230,6 +233,7 @@ impl KeptOrder {
     }
 
     /// A call frees the node.
+    #[inline(always)]
     pub fn free(&mut self, node: u16)
         requires { node < length self.old.holders }
         ensures calls { self.new.calls ≡ self.old.calls }

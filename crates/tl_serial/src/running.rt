@@ -108,7 +108,7 @@ impl Running {
     }
 
     /// The next instruction of a call, as the core does it: 602. A first lock puts the call in order. Takes no memory.
-    #[inline]
+    #[inline(always)]
     pub fn step(&mut self, call: u32) -> Result<Stepped, CoreFault>
         ensures answer { result ≡ step_answer (world_of self.old.seen) call }
         ensures after { self.new.seen ≡ after_step self.old.seen call result }
@@ -127,6 +127,7 @@ impl Running {
 
     /// Steps of a call up to the first that isn't local, which is done too, as the core does them: 602. Takes no memory. So a
     /// caller with one thread runs a call without asking at each instruction.
+    #[inline(always)]
     pub fn proceed(&mut self, call: u32) -> Result<Stepped, CoreFault>
         ensures known { IsOk result ↔ (call < admits self.old.seen.past) }
         ensures proceeds { IfOk result (λ s. Proceeds self.old.seen call s self.new.seen) }
@@ -229,6 +230,7 @@ pub(crate) fn order_of_core(alloc: Global, core: &Core) -> Result<KeptOrder, All
 }
 
 // Where the call stopped that did this, if it is no local action.
+#[inline(always)]
 fn stop_of(action: &Action) -> Option<Stop>
     ensures some { IfSome result (λ s. EndsStop s action.now) }
     ensures none { IsNone result → IsLocal action.now }
@@ -242,6 +244,7 @@ fn stop_of(action: &Action) -> Option<Stop>
 }
 
 // Where the call stopped whose step this is, if it went on there.
+#[inline(always)]
 fn stop_passed(stepped: &Result<Stepped, CoreFault>) -> Option<Stop>
     ensures some { IfSome result (λ s. (last : ActionValue) × (stepped.now ≡ Ok (Moved last)) × EndsStop s last) }
     ensures none { IsNone result → (last : ActionValue) → stepped.now ≡ Ok (Moved last) → IsLocal last }
@@ -267,6 +270,7 @@ fn has_gone(outcome: Led) -> bool
 }
 
 // Takes up what the call did at that stop, in the order of the history before.
+#[inline(always)]
 fn take_up(order: &mut KeptOrder, core: &Core, call: u32, stop: Stop)
     requires size { IsOfSize order.old (length core.now.seen.parents) }
     requires calls { order.old.calls ≡ MAX_CALLS }
@@ -281,6 +285,7 @@ fn take_up(order: &mut KeptOrder, core: &Core, call: u32, stop: Stop)
 }
 
 // The same, where the call and the node are known to be in range.
+#[inline(always)]
 fn note_stop(order: &mut KeptOrder, shape: &Shape, call: u32, stop: Stop)
     requires tree { IsTree shape.now }
     requires size { IsOfSize order.old (length shape.now) }
