@@ -45,8 +45,8 @@ no longer stands in a cache.";
 
 const AUDIT_NANOSECONDS: &str = "**30 ns an event** are for a machine at full speed: where this table was made the twin takes more than twice as much.";
 
-const ORDER_OF: &str = "**`order_of`** is the function of the plain definition, for every history. What keeps the rules is placed by `KeptOrder`, \
-which is what `Running`, an engine and the audit use.";
+const ORDER_OF: &str = "**`order_of`** is for every history, so it checks each event before it places it, as the audit does. Where the history breaks a rule \
+the plain definition places it, from the first event on. `Running` and an engine keep the rules, and check nothing.";
 
 const WORKERS: &str = "**More workers.** The twin gains as little by them, as the quotients of its own rows say: so it is what the machine gives, \
 whose processors are threads of fewer cores. On one path, and with 20 instructions between two turns, the lock goes from processor to processor.";

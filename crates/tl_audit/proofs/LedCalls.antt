@@ -32,7 +32,8 @@ use Rattle.tl_audit.specs.declared.replays.Replays.{Replays}
 use Rattle.tl_audit.specs.Genuine.{AreFit, IsOn}
 use Rattle.tl_audit.specs.Findings.{AreSo, IsFirstFault}
 use Rattle.tl_audit.specs.Replaying.{AllRight, Differs, IsAt, IsAtMost, IsFollowed, IsLed, IsOther, IsSettled, IsTaken, fault_of, found_run, found_tree}
-use Rattle.tl_audit.proofs.WatchLemmas.{right_legal, locked_inside}
+use Rattle.tl_protocol.proofs.RulesLemmas.{locked_inside}
+use Rattle.tl_audit.proofs.RightEvents.{right_legal}
 use Rattle.tl_audit.proofs.ReplayLemmas.{freed-locks_and_frees, locks_and_frees-append, on_start}
 
 -- ---- a tree with what was found fits what was done

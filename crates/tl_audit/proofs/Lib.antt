@@ -1,6 +1,6 @@
 pub mod Rows
 pub mod CleanTrailLemmas
-pub mod WatchLemmas
+pub mod RightEvents
 pub mod SeenEvents
 pub mod EndRecords
 pub mod ReplayLemmas

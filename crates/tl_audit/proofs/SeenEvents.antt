@@ -7,11 +7,11 @@ use Rattle.tl_protocol.specs.declared.event.Event.TheVariants.{Admit}
 use Rattle.tl_protocol.specs.History.{caller, past_of}
 use Rattle.tl_protocol.specs.Nodes.{IsOfNodes}
 use Rattle.tl_protocol.proofs.Pasts.{past_one_more, All-unreverse}
+use Rattle.tl_order.specs.Checked.{IsEventOf}
 use Rattle.tl_trail.specs.Trails.{TrailValue, IsTrail}
 use Rattle.tl_trail.specs.Clean.{AreRight}
 use Rattle.tl_audit.specs.Findings.{IsWrong, IsFirstEventFault}
 use Rattle.tl_audit.specs.declared.fault.AuditFault.{AuditFault}
-use Rattle.tl_audit.specs.Watching.{IsEventOf}
 
 -- each is of a call of the trail and of a node
 pub event_at : (t : TrailValue) → IsTrail t → (events : List Event) → past_of events ≡ t.past → (i : ℕ) → i < length events

@@ -3,8 +3,9 @@ use Rattle.std.specs.Prelude.{◌≡◌, ℕ, ◌<◌, true, false, List, ◌∷
 use Rattle.tl_tree.specs.Records.{Records}
 use Rattle.tl_protocol.specs.declared.event.Event.{Event}
 use Rattle.tl_protocol.specs.History.{is_done}
+use Rattle.tl_protocol.specs.Rules.{KeepsRules, IsApart}
 use Rattle.tl_trail.specs.Trails.{TrailValue}
-use Rattle.tl_trail.specs.Clean.{KeepsRules, IsApart, FindsNow, AreRight, AreDone, IsGenuine, RepliesSo, EndsSo}
+use Rattle.tl_trail.specs.Clean.{FindsNow, AreRight, AreDone, IsGenuine, RepliesSo, EndsSo}
 use Rattle.tl_audit.specs.declared.fault.AuditFault.{AuditFault}
 use Rattle.tl_audit.specs.declared.fault.AuditFault.TheVariants.{RuleBroken, Overlap, WrongFound, NotGenuine, Unfinished, WrongEnd, WrongReply, Memory}
 

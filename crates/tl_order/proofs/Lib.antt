@@ -4,4 +4,5 @@ pub mod HeldNodes
 pub mod Coming
 pub mod KeptOrders
 pub mod LegalEvents
+pub mod CheckedLemmas
 mod Rows

@@ -4,7 +4,9 @@
 //! to that node. Nothing here knows a procedure, nor who made the history.
 #![tactic(auto)]
 
+mod checked;
 mod climb;
+mod event;
 mod fault;
 mod kept;
 mod line;
@@ -13,6 +15,7 @@ mod part;
 mod parts;
 mod placing;
 
+pub use checked::CheckedOrder;
 pub use fault::SerialFault;
 pub use kept::KeptOrder;
 pub use order::Order;

@@ -1,6 +1,6 @@
 // The order that a history gives.
 
-ghost use Rattle.std.specs.Prelude.{◌≡◌, ℕ, ◌^◌, ◌<◌, ◌≤◌, List, [], ◌∷◌, length, insert, All, IsTrue, ◌↔◌, IfOk, IfErr, OnOk};
+ghost use Rattle.std.specs.Prelude.{◌≡◌, ℕ, ◌^◌, ◌<◌, ◌≤◌, List, [], ◌∷◌, length, insert, All, IsTrue, ◌↔◌, IfOk, IfErr, IfSome, OnOk};
 ghost use Rattle.tl_tree.specs.Shape.{IsTree};
 ghost use Rattle.tl_protocol.specs.declared.event.Event.{Event as EventValue};
 ghost use Rattle.tl_protocol.specs.Actions.{may_come};
@@ -9,12 +9,14 @@ ghost use Rattle.tl_protocol.specs.Order.{put_before, placed, placed_after, Agre
 ghost use Rattle.tl_protocol.specs.Nodes.{IsOfNodes};
 ghost use Rattle.tl_order.specs.Parts.{AreOfNodes, Show, ShowAll};
 
+use crate::checked::CheckedOrder;
+use crate::event::{caller, is_of_nodes};
 use crate::fault::SerialFault;
 use crate::line::Line;
 use crate::order::Order;
 use crate::parts::Parts;
 use std::alloc::{AllocError, Global};
-use tl_history::History;
+use tl_history::{History, MAX_CALLS};
 use tl_protocol::Event;
 use tl_tree::Shape;
 
@@ -26,7 +28,8 @@ use tl_tree::Shape;
 /// history that keeps them: its members are the calls that locked a node or are done, and those that locked a node stand in
 /// the order in which they locked it.
 ///
-/// 690 where memory is refused.
+/// A history that keeps the rules is placed as its events are checked. One that breaks a rule takes longer: at each first lock
+/// the calls in line are asked, one after another. 690 where memory is refused.
 pub fn order_of(alloc: Global, history: &History, shape: &Shape) -> Result<Order, SerialFault>
     requires { All (IsOfNodes (length shape.now)) history.now.past }
     ensures ok { IfOk result (λ o. o.calls ≡ placed shape.now history.now.past) }
@@ -35,10 +38,27 @@ pub fn order_of(alloc: Global, history: &History, shape: &Shape) -> Result<Order
 {
     // The shape is a tree's: here a proof learns that.
     let _nodes = shape.node_count();
+    if let Some(order) = kept_order(alloc, history, shape)? {
+        return Ok(order);
+    }
     placed_order(alloc, history, shape)
 }
 
-// The same, without what is so of it where the history keeps the rules.
+// The same order where every event keeps the rules, and none at the first that doesn't.
+fn kept_order(alloc: Global, history: &History, shape: &Shape) -> Result<Option<Order>, AllocError>
+    ensures { IfOk result (λ o. IfSome o (λ o. o.calls ≡ placed shape.now history.now.past)) }
+{
+    let nodes = usize::from(shape.node_count());
+    let mut order = CheckedOrder::new(alloc, nodes, history.len().min(MAX_CALLS))?;
+    for event in history.events() {
+        if !order.take(shape, event) {
+            return Ok(None);
+        }
+    }
+    Ok(Some(order.into_order()))
+}
+
+// The same order for every history, by the plain definition.
 fn placed_order(alloc: Global, history: &History, shape: &Shape) -> Result<Order, SerialFault>
     requires { All (IsOfNodes (length shape.now)) history.now.past }
     ensures ok { IfOk result (λ o. o.calls ≡ placed shape.now history.now.past) }
@@ -104,28 +124,6 @@ pub fn is_of_shape(history: &History, shape: &Shape) -> bool
         }
     }
     true
-}
-
-// Whether the node of the event, where it has one, is one of the first so many.
-fn is_of_nodes(event: &Event, nodes: u16) -> bool
-    ensures { IsTrue result ↔ IsOfNodes nodes event.now }
-{
-    match *event {
-        Event::Lock { node, .. } | Event::Free { node, .. } => node < nodes,
-        Event::Admit { .. } | Event::Done { .. } => true,
-    }
-}
-
-// The call whose event it is.
-fn caller(event: &Event) -> u32
-    ensures { result ≡ caller event.now }
-{
-    match *event {
-        Event::Admit { call }
-        | Event::Lock { call, .. }
-        | Event::Free { call, .. }
-        | Event::Done { call } => call,
-    }
 }
 
 // Puts the event's call in order, where it is its call's first lock, or its end without a lock.

@@ -21,4 +21,5 @@ pub mod Counts
 pub mod Pasts
 pub mod Inside
 pub mod PlacingLemmas
+pub mod RulesLemmas
 mod Rows

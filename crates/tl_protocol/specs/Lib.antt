@@ -8,3 +8,4 @@ pub mod World
 pub mod Holders
 pub mod Nodes
 pub mod Placing
+pub mod Rules

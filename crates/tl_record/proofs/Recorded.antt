@@ -11,6 +11,7 @@ use Rattle.tl_protocol.specs.declared.event.Event.TheVariants.{Admit, Lock, Free
 use Rattle.tl_protocol.specs.Actions.{with_found, locks_and_frees, taken, EachPermitted}
 use Rattle.tl_protocol.specs.Alone.{all_taken}
 use Rattle.tl_protocol.specs.History.{caller, part_of, is_done, admits, AllDone, InTurn, Follows, IsLegalHistory}
+use Rattle.tl_protocol.specs.Rules.{IsPermitted}
 use Rattle.tl_protocol.specs.World.{IsSound, alone_of}
 use Rattle.tl_protocol.proofs.PartLemmas.{part_of-lock, part_of-free, part_of-done, legal_before}
 use Rattle.tl_protocol.proofs.Records.{length-records_now, record_at-records_now}
@@ -20,7 +21,7 @@ use Rattle.tl_machine.specs.Outcomes.{meaning}
 use Rattle.tl_protocol.proofs.Inside.{sound_inside}
 use Rattle.tl_core.specs.Cores.{CoreValue, call_of, world_of}
 use Rattle.tl_trail.specs.Trails.{IsTrail, IsCallOf, call_at, no_call, code_of, found_alone}
-use Rattle.tl_trail.specs.Clean.{IsPermitted, AreRight, Clean}
+use Rattle.tl_trail.specs.Clean.{AreRight, Clean}
 use Rattle.tl_record.specs.Recording.{told_call, trail_value, IsCoreCall}
 
 -- ---- a legal history whose locks find the records left last

@@ -1,33 +1,15 @@
 -- What it is for a trail to have nothing wrong.
-use Rattle.std.specs.Prelude.{◌≡◌, ◌≢◌, ℕ, ◌<◌, true, false, List, [], ◌∷◌, ◌++◌, length, Some}
+use Rattle.std.specs.Prelude.{◌≡◌, ℕ, ◌<◌, true, List, [], ◌∷◌, length, Some}
 use Rattle.tl_tree.specs.Records.{Records, record_at}
-use Rattle.tl_protocol.specs.declared.action.Action.TheVariants as A
 use Rattle.tl_protocol.specs.declared.event.Event.{Event}
-use Rattle.tl_protocol.specs.declared.event.Event.TheVariants.{Admit, Lock, Free, Done}
-use Rattle.tl_protocol.specs.Actions.{held, locks_and_frees, Permitted}
+use Rattle.tl_protocol.specs.declared.event.Event.TheVariants.{Lock}
+use Rattle.tl_protocol.specs.Actions.{locks_and_frees}
 use Rattle.tl_protocol.specs.Alone.{all_taken}
-use Rattle.tl_protocol.specs.History.{part_of, is_done, MayHappen, record_now}
+use Rattle.tl_protocol.specs.History.{part_of, is_done, record_now}
+use Rattle.tl_protocol.specs.Rules.{KeepsRules, IsApart}
 use Rattle.tl_trail.specs.Trails.{TrailValue, call_at, found_alone}
 
 -- ---- one event, after those before it
-
--- the protocol permits what the event's call does
-abbrev pub IsPermitted : List ℕ → List Event → Event → Type 0
-IsPermitted parents past (Admit c) = Unit {0}
-IsPermitted parents past (Lock x c found) = Permitted parents (part_of c past) (A.Lock x found)
-IsPermitted parents past (Free x c left) = Permitted parents (part_of c past) (A.Free x left)
-IsPermitted parents past (Done c) = Permitted parents (part_of c past) A.End
-
--- An admission has the next number, and all else is of a call that is open. A lock is its call's first or comes under a
--- held parent, and is of a node that the call hasn't locked; a free is of a node that it holds; at its end it holds none.
-pub record KeepsRules (parents : List ℕ) (past : List Event) (e : Event) : Type 0 where
-  pub may_happen : MayHappen past e
-  pub permitted : IsPermitted parents past e
-
--- a lock is of a node that no other call holds
-abbrev pub IsApart : List Event → Event → Type 0
-IsApart past (Lock x c found) = (d : ℕ) → d ≢ c → held (part_of d past) x ≡ false
-IsApart past _ = Unit {0}
 
 -- a lock finds the record that was left last
 abbrev pub FindsNow : Records → List Event → Event → Type 0

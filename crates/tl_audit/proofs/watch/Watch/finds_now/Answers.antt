@@ -5,15 +5,15 @@ use Rattle.std.proofs.lemmas.List.{get_or_read}
 use Rattle.tl_tree.specs.Records.{record_at}
 use Rattle.tl_protocol.specs.History.{record_now}
 use Rattle.tl_protocol.proofs.Records.{record_at-records_now, length-records_now}
+use Rattle.tl_order.specs.Checked.{calls_of, IsEventOf}
 use Rattle.tl_trail.specs.Clean.{FindsNow}
-use Rattle.tl_audit.specs.Watching.{IsEventOf}
 use Rattle.tl_audit.proofs.watch.Watch.finds_now.Goals as goal
 
 pub returns-in-Lock : goal.returns-in-Lock
 returns-in-Lock c parents opening calls past shows =
     let records = c.args.self.now.records.items in
     let node = c.in-Lock.node in
-    let event = subst (IsEventOf (length records) (length c.args.self.now.done.items)) c.in-Lock.is c.requires in
+    let event = subst (IsEventOf (length records) (calls_of c.args.self.now.order)) c.in-Lock.is c.requires in
     let inside' = event.node in
     let from = c.from.ensures in
     let here : c.from.result < length records = omega arith in

@@ -1,14 +1,14 @@
 use Rattle.std.proofs.Common.{◌≡◌, sym, ◌∙◌}
 use Rattle.tl_protocol.specs.Holders.{holder_of}
 use Rattle.tl_protocol.proofs.Holders.{held-holder, holder-held}
-use Rattle.tl_audit.proofs.WatchLemmas.{right_legal, is_this}
-use Rattle.tl_audit.proofs.watch.Watch.permits_free.Goals as goal
+use Rattle.tl_order.proofs.CheckedLemmas.{is_this}
+use Rattle.tl_order.proofs.checked.CheckedOrder.permits_free.Goals as goal
 
 pub returns : goal.returns
-returns c parents opening calls past left shows right =
-    let legal = right_legal parents opening past right in
+returns c parents past left checked =
+    let legal = checked.legal in
     let call = c.args.call in
     let node = c.args.node in
-    let is : c.holder.result ≡ holder_of past node = c.holder.ensures ∙ shows.kept.holders node c.requires in
+    let is : c.holder.result ≡ holder_of past node = c.holder.ensures ∙ checked.kept.holders node c.requires in
     let test = is_this c.eq.result c.holder.result call c.eq.ensures in
     (λ t. holder-held parents past legal call node (sym is ∙ test.0 t), λ h. test.1 (is ∙ held-holder parents past legal call node h))
