@@ -1,5 +1,5 @@
 -- The events so far of a history that keeps the rules.
-use Rattle.std.proofs.Common.{◌≡◌, ℕ, zero, suc, ◌+◌, ◌<◌, ◌≤◌, List, ◌∷◌, length, get_or, take, reverse, subst, arith}
+use Rattle.std.proofs.Common.{◌≡◌, ℕ, zero, suc, ◌+◌, ◌<◌, ◌≤◌, List, [], ◌∷◌, length, get_or, take, reverse, subst, arith}
 use Rattle.std.specs.Prelude.{◌-◌}
 use Rattle.std.proofs.lemmas.List.{take_all}
 use Rattle.tl_protocol.specs.declared.event.Event.{Event}
@@ -15,6 +15,14 @@ admits_grow (Admit c) past = omega arith
 admits_grow (Lock x c found) past = omega arith
 admits_grow (Free x c left) past = omega arith
 admits_grow (Done c) past = omega arith
+
+-- no more calls are admitted than there are events
+pub admits_few : (past : List Event) → admits past ≤ length past
+admits_few [] = omega arith
+admits_few (Admit c ∷ past) = omega (arith, admits_few past)
+admits_few (Lock x c found ∷ past) = omega (arith, admits_few past)
+admits_few (Free x c left ∷ past) = omega (arith, admits_few past)
+admits_few (Done c ∷ past) = omega (arith, admits_few past)
 
 -- the event's call was admitted
 pub caller_known : (parents : List ℕ) → IsTree parents → (e : Event) (past : List Event) → IsLegalHistory parents (e ∷ past) → caller e < admits (e ∷ past)

@@ -1,10 +1,10 @@
 // The order that a history gives.
 
-ghost use Rattle.std.specs.Prelude.{◌≡◌, ℕ, ◌^◌, ◌<◌, ◌≤◌, List, [], ◌∷◌, length, insert, All, IsTrue, ◌↔◌, IfOk, IfErr, IfSome, OnOk};
+ghost use Rattle.std.specs.Prelude.{◌≡◌, ℕ, ◌^◌, ◌<◌, ◌≤◌, List, [], ◌∷◌, length, insert, All, IsTrue, ◌↔◌, IfOk, IfErr, IfSome, IsSome, OnOk};
 ghost use Rattle.tl_tree.specs.Shape.{IsTree};
 ghost use Rattle.tl_protocol.specs.declared.event.Event.{Event as EventValue};
 ghost use Rattle.tl_protocol.specs.Actions.{may_come};
-ghost use Rattle.tl_protocol.specs.History.{caller, part_of, past_of, IsLegalHistory};
+ghost use Rattle.tl_protocol.specs.History.{caller, part_of, past_of, admits, IsLegalHistory};
 ghost use Rattle.tl_protocol.specs.Order.{put_before, placed, placed_after, Agrees};
 ghost use Rattle.tl_protocol.specs.Nodes.{IsOfNodes};
 ghost use Rattle.tl_order.specs.Parts.{AreOfNodes, Show, ShowAll};
@@ -44,12 +44,16 @@ pub fn order_of(alloc: Global, history: &History, shape: &Shape) -> Result<Order
     placed_order(alloc, history, shape)
 }
 
-// The same order where every event keeps the rules, and none at the first that doesn't.
+// The same order where the history keeps the rules, and has no more calls than it may.
 fn kept_order(alloc: Global, history: &History, shape: &Shape) -> Result<Option<Order>, AllocError>
-    ensures { IfOk result (λ o. IfSome o (λ o. o.calls ≡ placed shape.now history.now.past)) }
+    requires { All (IsOfNodes (length shape.now)) history.now.past }
+    ensures kept { IfOk result (λ o. IfSome o (λ o. o.calls ≡ placed shape.now history.now.past)) }
+    ensures some { IfOk result (λ o. IsLegalHistory shape.now history.now.past
+        → admits history.now.past ≤ MAX_CALLS → IsSome o) }
 {
     let nodes = usize::from(shape.node_count());
-    let mut order = CheckedOrder::new(alloc, nodes, history.len().min(MAX_CALLS))?;
+    let calls = history.len().min(MAX_CALLS);
+    let mut order = CheckedOrder::new(alloc, nodes, calls)?;
     for event in history.events() {
         if !order.take(shape, event) {
             return Ok(None);

@@ -11,10 +11,10 @@ use Rattle.tl_protocol.specs.Actions.{locked, held, EachPermitted, Permitted}
 use Rattle.tl_protocol.specs.History.{caller, part_of, is_done, Apart, IsLegalHistory}
 use Rattle.tl_protocol.specs.Holders.{holder_of}
 use Rattle.tl_protocol.specs.Nodes.{IsOfNodes}
-use Rattle.tl_protocol.specs.Rules.{KeepsRules, IsApart}
+use Rattle.tl_protocol.specs.Rules.{IsPermitted, KeepsRules, IsApart}
 use Rattle.tl_protocol.proofs.Holders.{held-holder, holder-held}
 use Rattle.tl_protocol.proofs.MayComeLemmas.{held-locked}
-use Rattle.tl_protocol.proofs.PartLemmas.{part_of-other, locked-lock, locked-free, locked-done}
+use Rattle.tl_protocol.proofs.PartLemmas.{part_of-other, part_of-lock, part_of-free, part_of-done, locked-lock, locked-free, locked-done}
 use Rattle.tl_protocol.proofs.Permitted.{has_ended-part_of}
 
 -- ---- one more event
@@ -65,6 +65,25 @@ legal_next parents e past rules apart before = record {
   apart = apart_more parents e past rules apart before.apart;
   in_turn = (rules.may_happen, before.in_turn);
 }
+
+-- the last event of a legal history keeps the rules, and is of a node that no other call held
+pub event_permitted : (parents : List ℕ) (e : Event) (past : List Event) → IsLegalHistory parents (e ∷ past) → IsPermitted parents past e
+event_permitted parents (Admit c) past legal = tt
+event_permitted parents (Lock x c found) past legal =
+    let each : EachPermitted parents (A.Lock x found ∷ part_of c past) = subst (EachPermitted parents) (part_of-lock c x found past) (legal.obeys c) in each.0
+event_permitted parents (Free x c left) past legal =
+    let each : EachPermitted parents (A.Free x left ∷ part_of c past) = subst (EachPermitted parents) (part_of-free c x left past) (legal.obeys c) in each.0
+event_permitted parents (Done c) past legal =
+    let each : EachPermitted parents (A.End ∷ part_of c past) = subst (EachPermitted parents) (part_of-done c past) (legal.obeys c) in each.0
+
+pub legal_last : (parents : List ℕ) (e : Event) (past : List Event) → IsLegalHistory parents (e ∷ past) → KeepsRules parents past e × IsApart past e
+legal_last parents (Admit c) past legal = (record { may_happen = legal.in_turn.0; permitted = tt }, tt)
+legal_last parents (Lock x c found) past legal = (
+  record { may_happen = legal.in_turn.0; permitted = event_permitted parents (Lock x c found) past legal },
+  λ d ne. legal.apart.0 d,
+)
+legal_last parents (Free x c left) past legal = (record { may_happen = legal.in_turn.0; permitted = event_permitted parents (Free x c left) past legal }, tt)
+legal_last parents (Done c) past legal = (record { may_happen = legal.in_turn.0; permitted = event_permitted parents (Done c) past legal }, tt)
 
 -- ---- who holds a node
 

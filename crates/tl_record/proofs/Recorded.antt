@@ -5,15 +5,14 @@ use Rattle.std.proofs.lemmas.Bool.{eqb-true}
 use Rattle.std.proofs.lemmas.List.Elements.{All-nil, All-cons, All-from_get_or}
 use Rattle.std.proofs.lemmas.List.FromFn.{length-map-range_with_len, get_or-map-range_with_len}
 use Rattle.tl_tree.specs.Records.{Records}
-use Rattle.tl_protocol.specs.declared.action.Action.TheVariants as A
 use Rattle.tl_protocol.specs.declared.event.Event.{Event}
 use Rattle.tl_protocol.specs.declared.event.Event.TheVariants.{Admit, Lock, Free, Done}
-use Rattle.tl_protocol.specs.Actions.{with_found, locks_and_frees, taken, EachPermitted}
+use Rattle.tl_protocol.specs.Actions.{with_found, locks_and_frees, taken}
 use Rattle.tl_protocol.specs.Alone.{all_taken}
 use Rattle.tl_protocol.specs.History.{caller, part_of, is_done, admits, AllDone, InTurn, Follows, IsLegalHistory}
-use Rattle.tl_protocol.specs.Rules.{IsPermitted}
 use Rattle.tl_protocol.specs.World.{IsSound, alone_of}
-use Rattle.tl_protocol.proofs.PartLemmas.{part_of-lock, part_of-free, part_of-done, legal_before}
+use Rattle.tl_protocol.proofs.PartLemmas.{legal_before}
+use Rattle.tl_protocol.proofs.RulesLemmas.{event_permitted}
 use Rattle.tl_protocol.proofs.Records.{length-records_now, record_at-records_now}
 use Rattle.tl_protocol.proofs.SharedActions.{locks_and_frees-shared_actions}
 use Rattle.tl_protocol.proofs.NoStandstill.{sound_history}
@@ -25,15 +24,6 @@ use Rattle.tl_trail.specs.Clean.{AreRight, Clean}
 use Rattle.tl_record.specs.Recording.{told_call, trail_value, IsCoreCall}
 
 -- ---- a legal history whose locks find the records left last
-
-event_permitted : (parents : List ℕ) (e : Event) (past : List Event) → IsLegalHistory parents (e ∷ past) → IsPermitted parents past e
-event_permitted parents (Admit c) past legal = tt
-event_permitted parents (Lock x c found) past legal =
-    let each : EachPermitted parents (A.Lock x found ∷ part_of c past) = subst (EachPermitted parents) (part_of-lock c x found past) (legal.obeys c) in each.0
-event_permitted parents (Free x c left) past legal =
-    let each : EachPermitted parents (A.Free x left ∷ part_of c past) = subst (EachPermitted parents) (part_of-free c x left past) (legal.obeys c) in each.0
-event_permitted parents (Done c) past legal =
-    let each : EachPermitted parents (A.End ∷ part_of c past) = subst (EachPermitted parents) (part_of-done c past) (legal.obeys c) in each.0
 
 -- nothing is wrong with any of its events
 legal_right : (parents : List ℕ) (opening : Records) (past : List Event) → IsLegalHistory parents past → Follows opening past → AreRight parents opening past

@@ -14,8 +14,8 @@ returns-clause-checked c parents nodes_are =
     let calls = c.args.calls in
     let done : c.in_ok-vec.field-0.items ≡ replicate calls false = c.in_ok-vec.ensures.items_if_clones_equal (λ _ e. e) in
     let holding : c.in_ok-vec-2.field-0.items ≡ replicate calls 0 = c.in_ok-vec-2.ensures.items_if_clones_equal (λ _ e. e) in
-    let done_count = ap length done ∙ length-replicate calls false in
-    let holding_count = ap length holding ∙ length-replicate calls 0 in
+    let done_count : length c.in_ok-vec.field-0.items ≡ calls = ap length done ∙ length-replicate calls false in
+    let holding_count : length c.in_ok-vec-2.field-0.items ≡ calls = ap length holding ∙ length-replicate calls 0 in
     record {
       even = record {
         holding = holding_count ∙ sym done_count;
@@ -27,5 +27,5 @@ returns-clause-checked c parents nodes_are =
       kept = c.in_ok-new.ensures.kept parents;
       admitted = refl;
       done = λ k lt. ap (λ l. get_or l k false) done ∙ get_or-replicate calls k false false (omega (arith, lt, done_count));
-      holding = λ k lt. let none = ap (λ l. get_or l k 0) holding ∙ get_or-replicate calls k 0 0 (omega (arith, lt, done_count)) in omega (arith, none);
+      holding = λ k lt. let none : get_or c.in_ok-vec-2.field-0.items k 0 ≡ 0 = ap (λ l. get_or l k 0) holding ∙ get_or-replicate calls k 0 0 (omega (arith, lt, done_count)) in omega (arith, none);
     }
