@@ -30,8 +30,9 @@ const REASONS: [Reason; 12] = [
     reason("Memory of `treedb audit`", "", VALUE),
 ];
 
-const INTERPRETER: &str = "**The interpreter.** Each instruction goes through one jump that all share: a seventh of the time by \
-`perf annotate`. The rest are the same loads, sums and stores as the twin's.";
+const INTERPRETER: &str = "**The interpreter.** By `perf annotate` each instruction goes through one jump that all share, a seventh of the time; an addition \
+finds out by two comparisons that it overflows, where the twin's asks the processor's flag; and a register that holds a node by the verifier's \
+proof is asked once more whether it does. The rest are the same loads, sums and stores as the twin's.";
 
 const CORE: &str = "**A step of a core.** The answer of a step is written twice, once by the instruction and once by the core, and a function \
 clears the memory of its values first: by `perf annotate` these two take over a third of a step. The state of a call stands behind two \
@@ -52,13 +53,16 @@ const WORKERS: &str = "**More workers.** The twin gains as little by them, as th
 whose processors are threads of fewer cores. On one path, and with 20 instructions between two turns, the lock goes from processor to processor.";
 
 const TURN: &str = "**A turn of an engine.** Under the lock the segment's turn is compared with the kept one by value: the parents of 4,096 nodes take some \
-250 ns of it, those of 128 some 10 (by `perf`, and by the same calls on both trees). A call's state of 800 bytes is copied four times in a turn, \
-a fifth of a walk's. Besides, a short call pays some 1,500 ns for its admission, its receipt and the session's list.";
+250 ns of it, a third of a short call, those of 128 some 10 (by `perf`, and by the same calls on both trees). A call's state of 800 bytes is \
+copied four times in a turn, and the twin's twice: a tenth of a short call, and a quarter of a walk. Besides, a short call pays some 1,500 ns for \
+its admission, its receipt and the session's list.";
 
 const TEXT: &str = "**A trail's text.** Reading makes the port's value of the whole text first, and then what it stands for.";
 
-const TRANSACTION: &str = "**A procedure a transaction.** A call has thirteen locks, frees and returns. Nearly half of its time in a core goes \
-into its admission (the row of `admit`). Through an engine each turn is compared as above, goes through the lock, and is copied.";
+const TRANSACTION: &str = "**A procedure a transaction.** A call has thirteen locks, frees and returns. In a core over a third of its time is the kernel's, \
+which hands out memory for the history and the calls page by page (by `perf`); with pages of two megabytes \
+(`GLIBC_TUNABLES=glibc.malloc.hugetlb=1`) a call takes a third less. Through an engine each turn is compared as above, goes through the lock, \
+and is copied.";
 
 const VALUE: &str = "**Memory of an audit.** An event of some 35 bytes of text is, as the port's value, two lists, a text and six numbers: by the sizes of \
 these some 330 of the 420 bytes that it takes at most. Reading event by event would need a reader of JSON that is proved to find the same.";

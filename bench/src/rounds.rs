@@ -2,8 +2,12 @@
 
 use crate::measured::Measured;
 
-/// How many rounds are counted. One more before them only warms up.
-pub const ROUNDS: usize = 15;
+/// How many rounds of a pass are counted. One more before them only warms up.
+pub const ROUNDS: usize = 5;
+
+/// How often everything is measured, from the first row to the last. So the rounds of a row stand minutes apart, and what disturbs the
+/// machine for a while disturbs few of them.
+pub const PASSES: usize = 3;
 
 /// The middle of some numbers, and the quartiles around it.
 #[derive(Clone, Copy, Debug, PartialEq)]

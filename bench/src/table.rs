@@ -3,7 +3,7 @@
 use std::fmt;
 
 use crate::reasons;
-use crate::rounds::{Spread, Times};
+use crate::rounds::{self, Spread, Times};
 
 /// How near to its goal a number has to be for there to be no verdict.
 const LEVEL: f64 = 0.1;
@@ -36,14 +36,25 @@ impl Goal {
     }
 }
 
-/// A row: what was done, what each side took for one unit of it, and what was asked for.
+/// A row: what was done, what each side took for one unit of it by rounds, and what was asked for.
 pub struct Row {
     work: String,
     unit: &'static str,
-    product: f64,
-    /// What stands beside it, and the ratios of both by rounds.
-    beside: Option<(f64, Spread)>,
+    product: Vec<f64>,
+    beside: Option<Beside>,
     goal: Goal,
+}
+
+/// What stands beside the product, and the ratios of both by rounds.
+struct Beside {
+    rounds: Vec<f64>,
+    ratios: Vec<f64>,
+}
+
+impl Beside {
+    fn ratio(&self) -> Spread {
+        Spread::of(self.ratios.iter().copied())
+    }
 }
 
 impl Row {
@@ -53,8 +64,8 @@ impl Row {
             Goal::AtLeast(_) | Goal::Speed => theirs / ours,
             _ => ours / theirs,
         };
-        let ratios = Spread::of(product.iter().zip(other).map(ratio));
-        Row { beside: Some((middle(other), ratios)), ..Row::alone(work, unit, product, goal) }
+        let ratios = product.iter().zip(other).map(ratio).collect();
+        Row { beside: Some(Beside { rounds: other.to_vec(), ratios }), ..Row::alone(work, unit, product, goal) }
     }
 
     /// The same of two sides' times.
@@ -64,18 +75,32 @@ impl Row {
 
     /// What the product's rounds took a unit, with nothing beside it.
     pub fn alone(work: impl Into<String>, unit: &'static str, product: &[f64], goal: Goal) -> Row {
-        Row { work: work.into(), unit, product: middle(product), beside: None, goal }
+        Row { work: work.into(), unit, product: product.to_vec(), beside: None, goal }
+    }
+
+    /// The rounds of a later pass stand behind those so far. Whether that is the same row.
+    fn extend(&mut self, later: Row) -> bool {
+        self.product.extend(later.product);
+        match (&mut self.beside, later.beside) {
+            (Some(beside), Some(more)) => {
+                beside.rounds.extend(more.rounds);
+                beside.ratios.extend(more.ratios);
+            }
+            (None, None) => {}
+            _ => return false,
+        }
+        self.work == later.work
     }
 
     /// How far the goal was reached: 1 is just reached, and more is better.
     fn reached(&self) -> Option<f64> {
         match (self.goal, &self.beside) {
-            (Goal::AtLeast(least), Some((_, ratio))) => Some(ratio.middle / least),
+            (Goal::AtLeast(least), Some(beside)) => Some(beside.ratio().middle / least),
             // A difference below nothing is noise, and says nothing.
-            (Goal::AtMost(_), Some((_, ratio))) if ratio.middle <= 0.0 => Some(1.0),
-            (Goal::AtMost(most), Some((_, ratio))) => Some(most / ratio.middle),
-            (Goal::Within(most), _) if self.product <= 0.0 => Some(most),
-            (Goal::Within(most), _) => Some(most / self.product),
+            (Goal::AtMost(_), Some(beside)) if beside.ratio().middle <= 0.0 => Some(1.0),
+            (Goal::AtMost(most), Some(beside)) => Some(most / beside.ratio().middle),
+            (Goal::Within(most), _) if middle(&self.product) <= 0.0 => Some(most),
+            (Goal::Within(most), _) => Some(most / middle(&self.product)),
             _ => None,
         }
     }
@@ -107,10 +132,11 @@ impl fmt::Display for Goal {
 
 impl fmt::Display for Row {
     fn fmt(&self, out: &mut fmt::Formatter<'_>) -> fmt::Result {
-        write!(out, "| {} | {} | {:.1} | ", self.work, self.unit, self.product)?;
+        write!(out, "| {} | {} | {:.1} | ", self.work, self.unit, middle(&self.product))?;
         match &self.beside {
-            Some((other, Spread { low, middle, high })) => {
-                write!(out, "{other:.1} | {middle:.2} ({low:.2} to {high:.2})")?;
+            Some(beside) => {
+                let Spread { low, middle: ratio, high } = beside.ratio();
+                write!(out, "{:.1} | {ratio:.2} ({low:.2} to {high:.2})", middle(&beside.rounds))?;
             }
             None => write!(out, " | ")?,
         }
@@ -137,6 +163,12 @@ impl Part {
 
     pub fn left_out(heading: impl Into<String>, note: &'static str) -> Part {
         Part { heading: heading.into(), beside: "", rows: Vec::new(), note: Some(note) }
+    }
+
+    /// The rows of a later pass are taken into those so far. Whether they are the same rows.
+    fn extend(&mut self, later: Part) -> bool {
+        let as_many = self.rows.len() == later.rows.len();
+        as_many && self.heading == later.heading && self.rows.iter_mut().zip(later.rows).all(|(row, more)| row.extend(more))
     }
 }
 
@@ -181,6 +213,19 @@ impl fmt::Display for Why<'_> {
     }
 }
 
+/// The parts of all passes, each with the rounds of all.
+pub fn together(passes: Vec<Vec<Part>>) -> Result<Vec<Part>, String> {
+    let mut passes = passes.into_iter();
+    let mut all = passes.next().unwrap_or_default();
+    for later in passes {
+        let as_many = all.len() == later.len();
+        if !as_many || !all.iter_mut().zip(later).all(|(part, more)| part.extend(more)) {
+            return Err("two passes have other rows".to_string());
+        }
+    }
+    Ok(all)
+}
+
 /// How the table was made.
 pub struct Made {
     pub date: String,
@@ -202,11 +247,12 @@ impl fmt::Display for Table {
 
 Made by `bench/run` on {date}. The product: {product}. The twin: {twin}.
 
-The sides take turns, {} rounds after one that only warms up. A number is the middle one of its rounds. A ratio is the middle one
-of the rounds' own ratios, and the quartiles stand behind it. Where the goal says *at least* or *times as fast*, it is the second
-number by the first, which is the product's speed by the other's; else it is the first by the second. Within a tenth of a goal the
-verdict is *level*: that is nearer than two runs are to one another.",
-            crate::rounds::ROUNDS
+All is measured {} times, from the first row to the last. Each time the sides take turns, {} rounds after one that only warms up. A
+number is the middle one of all its rounds. A ratio is the middle one of the rounds' own ratios, and the quartiles stand behind it.
+Where the goal says *at least* or *times as fast*, it is the second number by the first, which is the product's speed by the other's;
+else it is the first by the second. Within a tenth of a goal the verdict is *level*: that is nearer than two runs are to one another.",
+            rounds::PASSES,
+            rounds::ROUNDS
         )?;
         self.parts.iter().try_for_each(|part| write!(out, "{part}"))?;
         write!(out, "{}", Why(&self.parts))
@@ -239,6 +285,16 @@ mod tests {
         for (product, other, goal, expected) in cases {
             assert_eq!(verdict(product, other, goal), expected, "{product} {other} {goal}");
         }
+    }
+
+    #[test]
+    fn passes_are_taken_together() {
+        let pass = |heading: &str, ours: f64| {
+            vec![Part::new(heading, "twin", vec![Row::paired("work", "ns", &[ours], &[6.0], Goal::Speed)])]
+        };
+        let all = together(vec![pass("part", 1.0), pass("part", 2.0), pass("part", 3.0)]).unwrap();
+        assert_eq!(all[0].rows[0].to_string(), "| work | ns | 2.0 | 6.0 | 3.00 (2.00 to 3.00) | times as fast |");
+        assert!(together(vec![pass("part", 1.0), pass("other", 2.0)]).is_err());
     }
 
     #[test]

@@ -3,7 +3,7 @@
 use super::{grouped, walks, TWIN};
 use crate::measured::Measured;
 use crate::product;
-use crate::rounds::{both, Times};
+use crate::rounds::{are_alike, both, in_turn, Side, Times};
 use crate::schedules;
 use crate::table::{Goal, Part, Row};
 use crate::trees::CALLS;
@@ -12,6 +12,9 @@ use crate::twin::work as twin;
 
 /// How many nodes each walk locks, in trails from 131,072 to 1,048,576 events.
 const LOCKS: [u16; 4] = [15, 31, 63, 127];
+
+/// How often each of these trails is run in a round.
+const RUNS: [u32; LOCKS.len()] = [8, 4, 2, 1];
 
 /// What is asked of `order_of` and `audit` beside the twin.
 const LEAST: Goal = Goal::AtLeast(0.8);
@@ -53,29 +56,34 @@ impl Told {
     }
 }
 
-/// The rounds of one trail, of so many events.
+/// The rounds of one trail, with so many events in all its runs of a round.
 struct AtSize {
     events: f64,
+    runs: u32,
     times: [Times; 2],
 }
 
 impl AtSize {
+    fn units(&self) -> f64 {
+        self.events * f64::from(self.runs)
+    }
+
     fn row(&self, name: &str) -> Row {
         let work = format!("`{name}`, {} events", grouped(self.events as u64));
-        Row::of_times(work, UNIT, [&self.times[0], &self.times[1]], self.events, LEAST)
+        Row::of_times(work, UNIT, [&self.times[0], &self.times[1]], self.units(), LEAST)
     }
 
     fn alone(&self, name: &str, most: f64) -> Row {
         let work = format!("product alone: `{name}`, {} events", grouped(self.events as u64));
-        Row::alone(work, UNIT, &self.times[0].per(self.events), Goal::Within(most))
+        Row::alone(work, UNIT, &self.times[0].per(self.units()), Goal::Within(most))
     }
 }
 
 /// What each event more costs the product from one size to the next: by rounds.
 fn added(less: &AtSize, more: &AtSize) -> Vec<f64> {
-    let [before, after] = [&less.times[0], &more.times[0]];
+    let run = |size: &AtSize| size.times[0].per(size.runs.into());
     let events = more.events - less.events;
-    after.nanos.iter().zip(&before.nanos).map(|(after, before)| (after - before) / events).collect()
+    run(more).iter().zip(run(less)).map(|(after, before)| (after - before) / events).collect()
 }
 
 fn growth(name: &str, sizes: &[AtSize; LOCKS.len()]) -> Row {
@@ -90,21 +98,39 @@ fn growth(name: &str, sizes: &[AtSize; LOCKS.len()]) -> Row {
     Row::paired(work, "ns an event more", &added(third, fourth), &added(first, second), Goal::AtMost(1.2))
 }
 
-pub fn sizes() -> Result<Part, String> {
-    let (mut orders, mut audits) = (Vec::new(), Vec::new());
-    for locks in LOCKS {
-        let told = Told::new(walks(locks)?)?;
-        orders.push(AtSize { events: told.events(), times: told.orders(1)? });
-        audits.push(AtSize { events: told.events(), times: told.audits(1)? });
+/// All sizes in the same rounds, since what an event more costs is their difference. A short trail runs more often in a round, so that
+/// each takes as long.
+fn all_sizes(
+    name: &str,
+    told: &[Told; LOCKS.len()],
+    product: fn(&[u8], u32) -> Measured,
+    twin: fn(&Trail, u32) -> Measured,
+) -> Result<[AtSize; LOCKS.len()], String> {
+    let [mut a, mut b, mut c, mut d] = [0, 1, 2, 3].map(|size| {
+        let (told, runs) = (&told[size], RUNS[size]);
+        (move || product(told.text.as_bytes(), runs), move || twin(&told.trail, runs))
+    });
+    let sides: [Side; 2 * LOCKS.len()] = [&mut a.0, &mut a.1, &mut b.0, &mut b.1, &mut c.0, &mut c.1, &mut d.0, &mut d.1];
+    let times = in_turn(name, sides)?;
+    let mut sizes = Vec::new();
+    for (size, pair) in times.chunks(2).enumerate() {
+        are_alike(name, &pair[0], &pair[1])?;
+        sizes.push(AtSize { events: told[size].events(), runs: RUNS[size], times: [pair[0].clone(), pair[1].clone()] });
     }
+    sizes.try_into().map_err(|_| "as many sizes as there are".to_string())
+}
+
+pub fn sizes() -> Result<Part, String> {
+    let told: Vec<Told> = LOCKS.into_iter().map(|locks| Told::new(walks(locks)?)).collect::<Result<_, String>>()?;
+    let told: [Told; LOCKS.len()] = told.try_into().map_err(|_| "as many trails as sizes")?;
+    let orders = all_sizes("order_of", &told, product::order, twin::order)?;
+    let audits = all_sizes("audit", &told, product::audit, twin::audit)?;
     let mut rows: Vec<Row> = orders.iter().map(|size| size.row("order_of")).collect();
     rows.extend(audits.iter().map(|size| size.row("audit")));
     rows.push(audits[0].alone("audit", 30.0));
     rows.push(audits[LOCKS.len() - 1].alone("audit", 30.0));
-    for (name, sizes) in [("order_of", orders), ("audit", audits)] {
-        let sizes: [AtSize; LOCKS.len()] = sizes.try_into().map_err(|_| "as many sizes as there are")?;
-        rows.push(growth(name, &sizes));
-    }
+    rows.push(growth("order_of", &orders));
+    rows.push(growth("audit", &audits));
     rows.push(broken()?);
     Ok(Part::new(format!("The order and the audit of {} walks", grouped(CALLS.into())), TWIN, rows))
 }
