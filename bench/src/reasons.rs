@@ -35,12 +35,12 @@ const INTERPRETER: &str = "**The interpreter.** By `perf annotate` each instruct
 finds out by two comparisons that it overflows, where the twin's asks the processor's flag; and a register that holds a node by the verifier's \
 proof is asked once more whether it does. The rest are the same loads, sums and stores as the twin's.";
 
-const VERIFIER: &str = "**`verify`** came to 0.91, 0.87 and 0.80 of the twin's speed in three tables of one day and one build, on a machine that changes its \
-speed by two. What the product does more than the twin wasn't found.";
+const VERIFIER: &str = "**`verify`** came to 0.91, 0.87, 0.81 and 0.80 of the twin's speed in four tables of one day, on a machine that changes its speed by \
+two. What the product does more than the twin wasn't found.";
 
-const CORE: &str = "**A step of a core** came to 0.94, 0.93 and 0.80 of the twin's speed in three tables of one day and one build, and `Running` on nodes of eight \
-children to 0.96, 0.96 and 0.69, on a machine that changes its speed by two. What the product does more than the twin wasn't found: an answer \
-goes from one function to the next without a call on both sides, and the state of a call stands behind two indices on both.";
+const CORE: &str = "**A step of a core** comes to 0.93 or to 0.80 of the twin's speed, and `Running` on nodes of eight children to 0.96 or to 0.69, by how \
+the twin is built: its step takes 12 to 18 ns in builds of the same source, and the product's 16 to 19. What the product does more than the \
+faster twin wasn't found: an answer goes to the caller without a call on both sides, and the state of a call stands behind two indices on both.";
 
 const ORDER_OF_RUNNING: &str = "**What the order adds to a core** is some 20 ns a step on a machine on which a step of the twin's core takes 30 to 50; \
 the goal of 10 is for one at full speed. The row beside the twin's order says what it costs here.";
