@@ -42,13 +42,13 @@ const CORE: &str = "**A step of a core** comes to 0.93 or to 0.80 of the twin's 
 the twin is built: its step takes 12 to 18 ns in builds of the same source, and the product's 16 to 19. What the product does more than the \
 faster twin wasn't found: an answer goes to the caller without a call on both sides, and the state of a call stands behind two indices on both.";
 
-const ORDER_OF_RUNNING: &str = "**What the order adds to a core** is some 20 ns a step on a machine on which a step of the twin's core takes 30 to 50; \
-the goal of 10 is for one at full speed. The row beside the twin's order says what it costs here.";
+const ORDER_OF_RUNNING: &str = "**What the order adds to a core** is the difference of two times of 60 to 150 ns an event, and came to 3 to 15 ns in tables of one \
+day. The row beside the twin's order says what it costs here.";
 
 const GROWTH: &str = "**An event more of a long trail** costs more than one of a short trail, since a trail of 1,048,576 events takes 40 megabytes and \
 no longer stands in a cache.";
 
-const AUDIT_NANOSECONDS: &str = "**30 ns an event** are for a machine at full speed: where this table was made the twin takes more than twice as much.";
+const AUDIT_NANOSECONDS: &str = "**30 ns an event** are for a machine at full speed: where this table was made the twin takes longer than that, too.";
 
 const ORDER_OF: &str = "**`order_of`** is for every history, so it checks each event before it places it, as the audit does. Where the history breaks a rule \
 the plain definition places it, from the first event on. `Running` and an engine keep the rules, and check nothing.";

@@ -56,7 +56,7 @@ impl Told {
     }
 }
 
-/// The rounds of one trail, with so many events in all its runs of a round.
+/// The rounds of one trail of so many events, which is run so often in each.
 struct AtSize {
     events: f64,
     runs: u32,
