@@ -10,14 +10,14 @@ use Rattle.tl_protocol.specs.declared.action.Action.TheVariants as A
 use Rattle.tl_protocol.specs.declared.event.Event.{Event}
 use Rattle.tl_protocol.specs.declared.event.Event.TheVariants.{Lock, Free, Done}
 use Rattle.tl_protocol.specs.Actions.{held, locked_any, lock_count, free_count, Permitted}
-use Rattle.tl_protocol.specs.History.{part_of, is_done, IsLegalHistory}
+use Rattle.tl_protocol.specs.History.{caller, part_of, is_done, IsLegalHistory}
 use Rattle.tl_protocol.specs.Holders.{holder_of}
 use Rattle.tl_protocol.specs.Nodes.{IsOfNodes}
 use Rattle.tl_protocol.specs.Order.{stands, placed}
 use Rattle.tl_protocol.specs.Placing.{under_of}
 use Rattle.tl_protocol.specs.Rules.{KeepsRules}
 use Rattle.tl_protocol.proofs.Counts.{frees_within, counts-none_held, locks_within}
-use Rattle.tl_protocol.proofs.PartLemmas.{part_of-lock}
+use Rattle.tl_protocol.proofs.PartLemmas.{part_of-lock, part_of-free, part_of-other}
 use Rattle.tl_protocol.proofs.PlacedAgrees.{placed-agrees}
 use Rattle.tl_protocol.proofs.PlacingLemmas.{is_call-some, some-is_call, option_eq-call, lock_permitted, permitted_lock}
 use Rattle.tl_protocol.proofs.RulesLemmas.{locked_inside}
@@ -32,36 +32,34 @@ holding_few parents past legal inside c =
 abbrev Counted : ℕ → List ℕ → List Event → Type 0
 Counted calls holding past = (k : ℕ) → k < calls → lock_count (part_of k past) ≡ free_count (part_of k past) + get_or holding k 0
 
+-- what a call holds after an event of its own is what was set there
+counted-set : (calls : ℕ) (past : List Event) (e : Event) (holding : List ℕ) → caller e < length holding → Counted calls holding past → (n : ℕ)
+    → (caller e < calls → lock_count (part_of (caller e) (e ∷ past)) ≡ free_count (part_of (caller e) (e ∷ past)) + n)
+    → Counted calls (slice_set holding (caller e) n) (e ∷ past)
+counted-set calls past e holding inside h n own k lt = elim (cases_eq (caller e) k) [
+  | inl same ↦
+      subst (λ i. i < calls → lock_count (part_of i (e ∷ past)) ≡ free_count (part_of i (e ∷ past)) + get_or (slice_set holding (caller e) n) i 0) same
+      (λ l. own l ∙ ap (λ v. free_count (part_of (caller e) (e ∷ past)) + v) (sym (get_or-set_same holding (caller e) n 0 inside)))
+      lt
+  | inr other ↦
+      let q = part_of-other e k past other in
+      let now = get_or-set_other holding (caller e) k n 0 (λ s. other (sym s)) in
+      let before = h k lt in
+      rw q (omega (arith, before, now))
+]
+
 module _ (calls : ℕ) (past : List Event) (c x : ℕ) (r : Record) (holding : List ℕ) (inside : c < length holding) (h : Counted calls holding past) (n : ℕ) where
   pub holding-lock : n ≡ get_or holding c 0 + 1 → Counted calls (slice_set holding c n) (Lock x c r ∷ past)
-  holding-lock is k lt = elim (cases_eq c k) [
-    | inl same ↦
-        let q = eq-eqb c k same in
-        let before = h k lt in
-        let now : get_or (slice_set holding c n) k 0 ≡ n = subst (λ i. get_or (slice_set holding c n) i 0 ≡ n) same (get_or-set_same holding c n 0 inside) in
-        let at : get_or holding c 0 ≡ get_or holding k 0 = ap (λ i. get_or holding i 0) same in
-        rw q (omega (arith, before, now, at, is))
-    | inr other ↦
-        let q = ne_eqb c k other in
-        let now = get_or-set_other holding c k n 0 (λ e. other (sym e)) in
-        let before = h k lt in
-        rw q (omega (arith, before, now))
-  ]
+  holding-lock is =
+      let locks : lock_count (part_of c (Lock x c r ∷ past)) ≡ lock_count (part_of c past) + 1 = ap lock_count (part_of-lock c x r past) in
+      let frees : free_count (part_of c (Lock x c r ∷ past)) ≡ free_count (part_of c past) = ap free_count (part_of-lock c x r past) in
+      counted-set calls past (Lock x c r) holding inside h n (λ lt. let before = h c lt in omega (arith, before, locks, frees, is))
 
   pub holding-free : n + 1 ≡ get_or holding c 0 → Counted calls (slice_set holding c n) (Free x c r ∷ past)
-  holding-free is k lt = elim (cases_eq c k) [
-    | inl same ↦
-        let q = eq-eqb c k same in
-        let before = h k lt in
-        let now : get_or (slice_set holding c n) k 0 ≡ n = subst (λ i. get_or (slice_set holding c n) i 0 ≡ n) same (get_or-set_same holding c n 0 inside) in
-        let at : get_or holding c 0 ≡ get_or holding k 0 = ap (λ i. get_or holding i 0) same in
-        rw q (omega (arith, before, now, at, is))
-    | inr other ↦
-        let q = ne_eqb c k other in
-        let now = get_or-set_other holding c k n 0 (λ e. other (sym e)) in
-        let before = h k lt in
-        rw q (omega (arith, before, now))
-  ]
+  holding-free is =
+      let locks : lock_count (part_of c (Free x c r ∷ past)) ≡ lock_count (part_of c past) = ap lock_count (part_of-free c x r past) in
+      let frees : free_count (part_of c (Free x c r ∷ past)) ≡ free_count (part_of c past) + 1 = ap free_count (part_of-free c x r past) in
+      counted-set calls past (Free x c r) holding inside h n (λ lt. let before = h c lt in omega (arith, before, locks, frees, is))
 
 pub holding-done : (calls : ℕ) (past : List Event) (c : ℕ) (holding : List ℕ) → Counted calls holding past → Counted calls holding (Done c ∷ past)
 holding-done calls past c holding h k lt = elim (cases_Bool (c == k)) [ inl q ↦ rw q (h k lt) | inr q ↦ rw q (h k lt) ]

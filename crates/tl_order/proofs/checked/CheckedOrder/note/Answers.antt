@@ -20,6 +20,15 @@ legal_now parents o e next = legal_next parents e next.past next.legal.rules nex
 inside : (parents : List ℕ) (o : CheckedOrder) (e : Event) → IsNext parents o e → (past : List Event) → All (IsOfNodes (length parents)) past → All (IsOfNodes (length parents)) (e ∷ past)
 inside parents o e next past all = All-cons (IsOfNodes (length parents)) e past next.legal.event.node all
 
+-- the number of nodes that the event's call holds, as it is read
+read_count : (parents : List ℕ) (o : CheckedOrder) (e : Event) → IsNext parents o e → (call n : ℕ) → caller e ≡ call → n ≡ get_or o.holding.items call n
+    → (call < length o.holding.items) × (n ≡ get_or o.holding.items call 0)
+read_count parents o e next call n own value =
+    let here : call < calls_of o = subst (λ k. k < calls_of o) own next.legal.event.call in
+    let size = next.checked.even.holding in
+    let there : call < length o.holding.items = omega (arith, here, size) in
+    (there, get_or_read o.holding.items call n there value 0)
+
 pub overflow_add-index_mut : goal.overflow_add-index_mut
 overflow_add-index_mut c =
     let n = c.requires.next in
@@ -28,8 +37,7 @@ overflow_add-index_mut c =
     let call = c.in-Lock.call in
     let is = c.in-Lock.is in
     let here : call < calls_of o = subst (λ e. caller e < calls_of o) is n.legal.event.call in
-    let size = n.checked.even.holding in
-    let read = get_or_read o.holding.items call c.index_mut.result.now (omega (arith, here, size)) c.index_mut.ensures.value 0 in
+    let read = (read_count parents o c.args.event.now n call c.index_mut.result.now (ap caller is) c.index_mut.ensures.value).1 in
     let count = n.checked.holding call here in
     let room = lock_room parents c.requires.tree n.past call c.in-Lock.node c.in-Lock.found
     (subst (λ e. IsLegalHistory parents (e ∷ n.past)) is (legal_now parents o c.args.event.now n))
@@ -44,8 +52,7 @@ overflow_sub-index_mut c =
     let call = c.in-Free.call in
     let is = c.in-Free.is in
     let here : call < calls_of o = subst (λ e. caller e < calls_of o) is n.legal.event.call in
-    let size = n.checked.even.holding in
-    let read = get_or_read o.holding.items call c.index_mut-in-Free.result.now (omega (arith, here, size)) c.index_mut-in-Free.ensures.value 0 in
+    let read = (read_count parents o c.args.event.now n call c.index_mut-in-Free.result.now (ap caller is) c.index_mut-in-Free.ensures.value).1 in
     let count = n.checked.holding call here in
     let one = holds_one parents n.past call c.in-Free.node c.in-Free.left n.checked.legal (subst (KeepsRules parents n.past) is n.legal.rules) in
     omega (arith, read, count, one)
@@ -80,18 +87,16 @@ returns-in-Lock-clause-checked c past checked rules apart =
     let legal = legal_next parents c.args.event.now past rules apart checked.legal in
     let kept = c.note.ensures.kept past checked.kept legal in
     let all = inside parents o c.args.event.now c.requires.next past checked.inside in
-    let here : call < calls_of o = subst (λ e. caller e < calls_of o) is c.requires.next.legal.event.call in
-    let size = even.holding in
-    let there : call < length holding = omega (arith, here, size) in
-    let read = get_or_read holding call c.index_mut.result.now there c.index_mut.ensures.value 0 in
+    let read = read_count parents o c.args.event.now c.requires.next call c.index_mut.result.now (ap caller is) c.index_mut.ensures.value in
+    let count = read.1 in
     rw is (record {
-      even = record { holding = length-set holding call (c.index_mut.result.now + 1) ∙ size; calls = c.note.ensures.calls ∙ even.calls; size = c.note.ensures.size };
+      even = record { holding = length-set holding call (c.index_mut.result.now + 1) ∙ even.holding; calls = c.note.ensures.calls ∙ even.calls; size = c.note.ensures.size };
       inside = rw (sym is) all;
       legal = rw (sym is) legal;
       kept = rw (sym is) kept;
       admitted = checked.admitted;
       done = checked.done;
-      holding = holding-lock (calls_of o) past call c.in-Lock.node c.in-Lock.found holding there checked.holding (c.index_mut.result.now + 1) (ap (λ k. k + 1) read);
+      holding = holding-lock (calls_of o) past call c.in-Lock.node c.in-Lock.found holding read.0 checked.holding (c.index_mut.result.now + 1) (ap (λ k. k + 1) count);
     })
 
 pub returns-in-Free-clause-checked : goal.returns-in-Free-clause-checked
@@ -108,20 +113,19 @@ returns-in-Free-clause-checked c past checked rules apart =
     let kept = c.note.ensures.kept past checked.kept legal in
     let all = inside parents o c.args.event.now c.requires.next past checked.inside in
     let here : call < calls_of o = subst (λ e. caller e < calls_of o) is c.requires.next.legal.event.call in
-    let size = even.holding in
-    let there : call < length holding = omega (arith, here, size) in
-    let read = get_or_read holding call c.index_mut-in-Free.result.now there c.index_mut-in-Free.ensures.value 0 in
+    let read = read_count parents o c.args.event.now c.requires.next call c.index_mut-in-Free.result.now (ap caller is) c.index_mut-in-Free.ensures.value in
+    let value = read.1 in
     let count = checked.holding call here in
     let one = holds_one parents past call node left checked.legal (subst (KeepsRules parents past) is rules) in
-    let fewer : c.index_mut-in-Free.result.now - 1 + 1 ≡ get_or holding call 0 = omega (arith, read, count, one) in
+    let fewer : c.index_mut-in-Free.result.now - 1 + 1 ≡ get_or holding call 0 = omega (arith, value, count, one) in
     rw is (record {
-      even = record { holding = length-set holding call (c.index_mut-in-Free.result.now - 1) ∙ size; calls = c.note.ensures.calls ∙ even.calls; size = c.note.ensures.size };
+      even = record { holding = length-set holding call (c.index_mut-in-Free.result.now - 1) ∙ even.holding; calls = c.note.ensures.calls ∙ even.calls; size = c.note.ensures.size };
       inside = rw (sym is) all;
       legal = rw (sym is) legal;
       kept = rw (sym is) kept;
       admitted = checked.admitted;
       done = checked.done;
-      holding = holding-free (calls_of o) past call node left holding there checked.holding (c.index_mut-in-Free.result.now - 1) fewer;
+      holding = holding-free (calls_of o) past call node left holding read.0 checked.holding (c.index_mut-in-Free.result.now - 1) fewer;
     })
 
 pub returns-in-Done-clause-checked : goal.returns-in-Done-clause-checked
