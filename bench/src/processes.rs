@@ -96,7 +96,7 @@ pub fn memory_of_treedb(words: &[&str]) -> Option<u64> {
 /// Runs a program, and prints the most bytes that it had in use at once.
 pub fn run_for_memory(words: &[String]) -> Option<ExitCode> {
     let (program, words) = words.split_first()?;
-    let child = Command::new(program).args(words).stdout(io::stderr()).spawn().ok()?;
+    let child = Command::new(program).args(words).env_remove("GLIBC_TUNABLES").stdout(io::stderr()).spawn().ok()?;
     let (mut status, mut usage) = (0, Usage { user_and_system: [0; 4], most: 0, others: [0; 13] });
     let ended = unsafe { wait4(i32::try_from(child.id()).ok()?, &mut status, 0, &mut usage) };
     if ended < 0 || status != 0 {

@@ -15,7 +15,7 @@ const fn reason(heading: &'static str, words: &'static str, text: &'static str) 
 }
 
 /// The first that fits a row is its reason.
-const REASONS: [Reason; 13] = [
+const REASONS: [Reason; 11] = [
     reason("A call alone", "", INTERPRETER),
     reason("Codes", "`verify`", VERIFIER),
     reason("A core", "", CORE),
@@ -26,9 +26,7 @@ const REASONS: [Reason; 13] = [
     reason("The order and the audit", "`order_of`", ORDER_OF),
     reason("Engines", "product alone", WORKERS),
     reason("Engines", "", TURN),
-    reason("A trail's text", "", TEXT),
     reason("A procedure a transaction", "", TRANSACTION),
-    reason("Memory of `treedb audit`", "", VALUE),
 ];
 
 const INTERPRETER: &str = "**The interpreter.** By `perf annotate` each instruction goes through one jump that all share, a seventh of the time; an addition \
@@ -61,15 +59,10 @@ const TURN: &str = "**A turn of an engine.** Under the lock the segment's turn i
 copied four times in a turn, and the twin's twice: a tenth of a short call, and a quarter of a walk. Besides, a short call pays some 1,500 ns for \
 its admission, its receipt and the session's list.";
 
-const TEXT: &str = "**A trail's text.** Reading makes the port's value of the whole text first, and then what it stands for.";
-
 const TRANSACTION: &str = "**A procedure a transaction.** A call has thirteen locks, frees and returns. In a core over a third of its time is the kernel's, \
 which hands out memory for the history and the calls page by page (by `perf`); with pages of two megabytes \
 (`GLIBC_TUNABLES=glibc.malloc.hugetlb=1`) a call takes a third less. Through an engine each turn is compared as above, goes through the lock, \
 and is copied.";
-
-const VALUE: &str = "**Memory of an audit.** An event of some 35 bytes of text is, as the port's value, two lists, a text and six numbers: by the sizes of \
-these some 330 of the 420 bytes that it takes at most. Reading event by event would need a reader of JSON that is proved to find the same.";
 
 /// Why such a row is short, where that is known.
 pub fn of(heading: &str, work: &str) -> Option<&'static Reason> {

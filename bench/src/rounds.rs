@@ -1,5 +1,7 @@
 //! Rounds in which several sides do their work in turn, and what their times come to.
 
+use std::time::{Duration, Instant};
+
 use crate::measured::Measured;
 
 /// How many rounds of a pass are counted. One more before them only warms up.
@@ -8,6 +10,13 @@ pub const ROUNDS: usize = 5;
 /// How often everything is measured, from the first row to the last. So the rounds of a row stand minutes apart, and what disturbs the
 /// machine for a while disturbs few of them.
 pub const PASSES: usize = 3;
+
+/// How long a round of short work takes: as often as fits, all sides do their work in turn, and each side's round is the sum. So what
+/// disturbs the machine for some milliseconds disturbs all sides.
+const ROUND: Duration = Duration::from_millis(100);
+
+/// How often a side does its work in a round at most.
+const MOST: u32 = 50;
 
 /// The middle of some numbers, and the quartiles around it.
 #[derive(Clone, Copy, Debug, PartialEq)]
@@ -42,32 +51,58 @@ impl Times {
         self.nanos.iter().map(|nanos| nanos / units).collect()
     }
 
-    fn take(&mut self, name: &str, round: usize, measured: Measured) -> Result<(), String> {
+    /// Adds to the latest round.
+    fn add(&mut self, name: &str, measured: Measured) -> Result<(), String> {
         if measured.count == u64::MAX {
             return Err(format!("{name}: refused"));
         }
-        if round == 0 {
+        if self.nanos.is_empty() {
             self.came_to = measured;
-            return Ok(());
-        }
-        if !self.came_to.is_like(&measured) {
+        } else if !self.came_to.is_like(&measured) {
             return Err(format!("{name}: {:?}, and then {measured:?}", self.came_to));
         }
-        self.nanos.push(measured.nanos as f64);
+        if let Some(round) = self.nanos.last_mut() {
+            *round += measured.nanos as f64;
+        }
         Ok(())
+    }
+
+    /// The latest round is over, in which the work was done so often.
+    fn end_round(&mut self, runs: u32) {
+        if let Some(round) = self.nanos.last_mut() {
+            *round /= f64::from(runs);
+        }
     }
 }
 
-/// All sides do their work in turn, and in each round another one begins. A side has to come to the same each time.
-pub fn in_turn<const N: usize>(name: &str, sides: [Side; N]) -> Result<[Times; N], String> {
+/// All sides do their work in turn, each time beginning with another one. A side has to come to the same each time.
+pub fn in_turn<const N: usize>(name: &str, mut sides: [Side; N]) -> Result<[Times; N], String> {
     let mut times = [(); N].map(|()| Times::default());
-    for round in 0..=ROUNDS {
-        for turn in 0..N {
-            let place = (round + turn) % N;
-            times[place].take(name, round, sides[place]())?;
+    let start = Instant::now();
+    one_turn(name, &mut sides, &mut times, 0)?;
+    let runs = runs_in(start.elapsed());
+    for round in 0..ROUNDS {
+        times.iter_mut().for_each(|side| side.nanos.push(0.0));
+        for run in 0..runs as usize {
+            one_turn(name, &mut sides, &mut times, round + run)?;
         }
+        times.iter_mut().for_each(|side| side.end_round(runs));
     }
     Ok(times)
+}
+
+/// Each side does its work once; the first is the one at that place.
+fn one_turn(name: &str, sides: &mut [Side], times: &mut [Times], first: usize) -> Result<(), String> {
+    for turn in 0..sides.len() {
+        let place = (first + turn) % sides.len();
+        times[place].add(name, sides[place]())?;
+    }
+    Ok(())
+}
+
+/// How often the sides do their work in a round, where once took so long.
+fn runs_in(once: Duration) -> u32 {
+    (ROUND.as_nanos() / once.as_nanos().max(1)).clamp(1, MOST.into()) as u32
 }
 
 /// Both sides do the same work in turn, and have to come to the same.
@@ -116,10 +151,16 @@ mod tests {
         let order = std::cell::RefCell::new(Vec::new());
         let side = |number| {
             order.borrow_mut().push(number);
-            Measured::default()
+            Measured { nanos: 6, ..Measured::default() }
         };
         let times = in_turn("order", [&mut || side(0), &mut || side(1)]).unwrap();
-        assert_eq!(order.borrow()[..4], [0, 1, 1, 0]);
-        assert_eq!(times[0].nanos.len(), ROUNDS);
+        assert_eq!(order.borrow()[2..8], [0, 1, 1, 0, 0, 1]);
+        assert_eq!(times[0].nanos, [6.0; ROUNDS]);
+    }
+
+    #[test]
+    fn short_work_is_done_more_often_in_a_round() {
+        let runs = [0, 1, 30, 70, 2_000].map(|millis| runs_in(Duration::from_millis(millis)));
+        assert_eq!(runs, [MOST, MOST, 3, 1, 1]);
     }
 }

@@ -135,14 +135,27 @@ fn filled(parents: &[u16]) -> Option<Database> {
 }
 
 /// For each call a transaction with prepared statements: from the root down to the head that is its argument and on to the end of that
-/// chain, where it adds 1 to the first field, which it answers. None where the library isn't installed.
-pub fn descend(parents: &[u16], args: &[i64], chain: u16) -> Option<Measured> {
-    let database = filled(parents)?;
+/// chain, where it adds 1 to the first field, which it answers. The same in so many databases, one after another. None where the library
+/// isn't installed.
+pub fn descend(parents: &[u16], args: &[i64], chain: u16, databases: u32) -> Option<Measured> {
+    let mut measured = Measured::default();
+    for _ in 0..databases {
+        let database = filled(parents)?;
+        let replies = run_all(&database, args, chain, &mut measured)?;
+        mix_nodes(&database, parents.len(), &mut measured)?;
+        measured.mix(replies);
+        // As many events as an engine has: of each call an admission and an end, and two of each node from the root on.
+        measured.mix(args.len() as u64 * (2 * (u64::from(chain) + 1) + 2));
+    }
+    Some(measured)
+}
+
+/// The sum of what the calls answer.
+fn run_all(database: &Database, args: &[i64], chain: u16, measured: &mut Measured) -> Option<u64> {
     let begin = database.prepare("BEGIN IMMEDIATE")?;
     let child = database.prepare("SELECT id FROM nodes WHERE parent = ?1 AND number = ?2")?;
     let add = database.prepare("UPDATE nodes SET a = a + 1 WHERE id = ?1 RETURNING a")?;
     let commit = database.prepare("COMMIT")?;
-    let mut measured = Measured { count: args.len() as u64, ..Measured::default() };
     let mut replies = 0u64;
     let start = Instant::now();
     for &head in args {
@@ -154,12 +167,9 @@ pub fn descend(parents: &[u16], args: &[i64], chain: u16) -> Option<Measured> {
         replies = replies.wrapping_add(add.run(&[node])?? as u64);
         commit.run(&[])?;
     }
-    measured.nanos = start.elapsed().as_nanos() as u64;
-    mix_nodes(&database, parents.len(), &mut measured)?;
-    measured.mix(replies);
-    // As many events as an engine has: of each call an admission and an end, and two of each node from the root on.
-    measured.mix(measured.count * (2 * (u64::from(chain) + 1) + 2));
-    Some(measured)
+    measured.nanos += start.elapsed().as_nanos() as u64;
+    measured.count += args.len() as u64;
+    Some(replies)
 }
 
 fn mix_nodes(database: &Database, nodes: usize, measured: &mut Measured) -> Option<()> {

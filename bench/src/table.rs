@@ -41,20 +41,17 @@ pub struct Row {
     work: String,
     unit: &'static str,
     product: Vec<f64>,
-    beside: Option<Beside>,
+    beside: Beside,
     goal: Goal,
 }
 
-/// What stands beside the product, and the ratios of both by rounds.
-struct Beside {
-    rounds: Vec<f64>,
-    ratios: Vec<f64>,
-}
-
-impl Beside {
-    fn ratio(&self) -> Spread {
-        Spread::of(self.ratios.iter().copied())
-    }
+/// What stands beside the product's rounds.
+enum Beside {
+    Nothing,
+    /// The rounds of another side, and the ratios of both by rounds.
+    Other { rounds: Vec<f64>, ratios: Vec<f64> },
+    /// The product's rounds of less work, which are taken off.
+    Less(Vec<f64>),
 }
 
 impl Row {
@@ -65,7 +62,7 @@ impl Row {
             _ => ours / theirs,
         };
         let ratios = product.iter().zip(other).map(ratio).collect();
-        Row { beside: Some(Beside { rounds: other.to_vec(), ratios }), ..Row::alone(work, unit, product, goal) }
+        Row { beside: Beside::Other { rounds: other.to_vec(), ratios }, ..Row::alone(work, unit, product, goal) }
     }
 
     /// The same of two sides' times.
@@ -75,32 +72,55 @@ impl Row {
 
     /// What the product's rounds took a unit, with nothing beside it.
     pub fn alone(work: impl Into<String>, unit: &'static str, product: &[f64], goal: Goal) -> Row {
-        Row { work: work.into(), unit, product: product.to_vec(), beside: None, goal }
+        Row { work: work.into(), unit, product: product.to_vec(), beside: Beside::Nothing, goal }
+    }
+
+    /// How much more the product's rounds took a unit than its rounds of less work.
+    pub fn more(work: impl Into<String>, unit: &'static str, more: &[f64], less: &[f64], goal: Goal) -> Row {
+        Row { beside: Beside::Less(less.to_vec()), ..Row::alone(work, unit, more, goal) }
     }
 
     /// The rounds of a later pass stand behind those so far. Whether that is the same row.
     fn extend(&mut self, later: Row) -> bool {
         self.product.extend(later.product);
         match (&mut self.beside, later.beside) {
-            (Some(beside), Some(more)) => {
-                beside.rounds.extend(more.rounds);
-                beside.ratios.extend(more.ratios);
+            (Beside::Other { rounds, ratios }, Beside::Other { rounds: more, ratios: more_ratios }) => {
+                rounds.extend(more);
+                ratios.extend(more_ratios);
             }
-            (None, None) => {}
+            (Beside::Less(less), Beside::Less(more)) => less.extend(more),
+            (Beside::Nothing, Beside::Nothing) => {}
             _ => return false,
         }
         self.work == later.work
     }
 
+    /// The product's number: the middle round where it stands beside another's, and else the fastest.
+    fn number(&self) -> f64 {
+        match &self.beside {
+            Beside::Other { .. } => Spread::of(self.product.iter().copied()).middle,
+            Beside::Less(less) => fastest(&self.product) - fastest(less),
+            Beside::Nothing => fastest(&self.product),
+        }
+    }
+
+    fn ratio(&self) -> Option<Spread> {
+        match &self.beside {
+            Beside::Other { ratios, .. } => Some(Spread::of(ratios.iter().copied())),
+            _ => None,
+        }
+    }
+
     /// How far the goal was reached: 1 is just reached, and more is better.
     fn reached(&self) -> Option<f64> {
-        match (self.goal, &self.beside) {
-            (Goal::AtLeast(least), Some(beside)) => Some(beside.ratio().middle / least),
+        let ratio = self.ratio().map(|ratio| ratio.middle);
+        match (self.goal, ratio) {
+            (Goal::AtLeast(least), Some(ratio)) => Some(ratio / least),
             // A difference below nothing is noise, and says nothing.
-            (Goal::AtMost(_), Some(beside)) if beside.ratio().middle <= 0.0 => Some(1.0),
-            (Goal::AtMost(most), Some(beside)) => Some(most / beside.ratio().middle),
-            (Goal::Within(most), _) if middle(&self.product) <= 0.0 => Some(most),
-            (Goal::Within(most), _) => Some(most / middle(&self.product)),
+            (Goal::AtMost(_), Some(ratio)) if ratio <= 0.0 => Some(1.0),
+            (Goal::AtMost(most), Some(ratio)) => Some(most / ratio),
+            (Goal::Within(most), _) if self.number() <= 0.0 => Some(most),
+            (Goal::Within(most), _) => Some(most / self.number()),
             _ => None,
         }
     }
@@ -115,8 +135,8 @@ impl Row {
     }
 }
 
-fn middle(numbers: &[f64]) -> f64 {
-    Spread::of(numbers.iter().copied()).middle
+fn fastest(rounds: &[f64]) -> f64 {
+    rounds.iter().copied().fold(f64::INFINITY, f64::min)
 }
 
 impl fmt::Display for Goal {
@@ -132,16 +152,16 @@ impl fmt::Display for Goal {
 
 impl fmt::Display for Row {
     fn fmt(&self, out: &mut fmt::Formatter<'_>) -> fmt::Result {
-        write!(out, "| {} | {} | {:.1} | ", self.work, self.unit, middle(&self.product))?;
+        write!(out, "| {} | {} | {:.1} | ", self.work, self.unit, self.number())?;
         match &self.beside {
-            Some(beside) => {
-                let Spread { low, middle: ratio, high } = beside.ratio();
-                write!(out, "{:.1} | {ratio:.2} ({low:.2} to {high:.2})", middle(&beside.rounds))?;
+            Beside::Other { rounds, ratios } => {
+                let [other, ratio] = [rounds, ratios].map(|numbers| Spread::of(numbers.iter().copied()));
+                write!(out, "{:.1} | {:.2} ({:.2} to {:.2})", other.middle, ratio.middle, ratio.low, ratio.high)?;
             }
-            None => write!(out, " | ")?,
+            Beside::Nothing | Beside::Less(_) => write!(out, " | ")?,
         }
         match (self.goal, &self.beside) {
-            (Goal::Speed | Goal::Cost, None) => write!(out, " |  |"),
+            (Goal::Speed | Goal::Cost, Beside::Nothing | Beside::Less(_)) => write!(out, " |  |"),
             (goal, _) => write!(out, " | {goal}{} |", self.verdict()),
         }
     }
@@ -248,9 +268,9 @@ impl fmt::Display for Table {
 Made by `bench/run` on {date}. The product: {product}. The twin: {twin}.
 
 All is measured {} times, from the first row to the last. Each time the sides take turns, {} rounds after one that only warms up. A
-number is the middle one of all its rounds. A ratio is the middle one of the rounds' own ratios, and the quartiles stand behind it.
-Where the goal says *at least* or *times as fast*, it is the second number by the first, which is the product's speed by the other's;
-else it is the first by the second. Within a tenth of a goal the verdict is *level*: that is nearer than two runs are to one another.",
+number is the middle one of all its rounds, or the fastest where nothing stands beside it. A ratio is the middle one of the rounds' own
+ratios, and the quartiles stand behind it. Where the goal says *at least* or *times as fast*, it is the second number by the first, which
+is the product's speed by the other's; else it is the first by the second. Within a tenth of a goal the verdict is *level*.",
             rounds::PASSES,
             rounds::ROUNDS
         )?;
@@ -308,7 +328,12 @@ mod tests {
 
     #[test]
     fn a_row_is_written() {
-        let row = Row::paired("some work", "ns a step", &[2.0, 4.0, 3.0], &[3.0, 3.0, 3.0], Goal::AtLeast(0.9));
+        let rounds = [2.0, 4.0, 3.0];
+        let row = Row::paired("some work", "ns a step", &rounds, &[3.0, 3.0, 3.0], Goal::AtLeast(0.9));
         assert_eq!(row.to_string(), "| some work | ns a step | 3.0 | 3.0 | 1.00 (0.75 to 1.00) | at least 0.9: met |");
+        let row = Row::alone("some work", "ns a step", &rounds, Goal::Within(1.0));
+        assert_eq!(row.to_string(), "| some work | ns a step | 2.0 |  |  | at most 1: **short** |");
+        let row = Row::more("some work", "ns a step more", &rounds, &[2.0, 1.5, 3.0], Goal::Cost);
+        assert_eq!(row.to_string(), "| some work | ns a step more | 0.5 |  |  |  |");
     }
 }

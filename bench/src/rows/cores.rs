@@ -103,11 +103,10 @@ fn kept_rows(Work { name, code, parents, args }: &Work, more: Goal) -> Result<[R
     )?;
     are_alike(name, &ours, &theirs)?;
     let events = ours.came_to.count as f64;
-    let added: Vec<f64> =
-        ours.nanos.iter().zip(&core.nanos).map(|(kept, plain)| (kept - plain) / events).collect();
+    let beyond = format!("product alone, beyond a core: {name}");
     Ok([
         Row::of_times(*name, "ns an event", [&ours, &theirs], events, Goal::AtLeast(0.8)),
-        Row::alone(format!("product alone, beyond a core: {name}"), "ns an event more", &added, more),
+        Row::more(beyond, "ns an event more", &ours.per(events), &core.per(events), more),
     ])
 }
 

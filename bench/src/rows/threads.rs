@@ -143,9 +143,12 @@ const SQLITE: &str = "A procedure a transaction, beside SQLite in memory";
 /// How many nodes a call locks below the root.
 const WAY: u16 = 5;
 
+/// How many cores, engines or databases run the calls in a round.
+const ANEW: u32 = 4;
+
 pub fn sqlite() -> Result<Part, String> {
     let (parents, args) = (chains(NODES, WAY), heads(CALLS, NODES, WAY));
-    if sqlite::descend(&parents, &args, WAY).is_none() {
+    if sqlite::descend(&parents, &args, WAY, 1).is_none() {
         return Ok(Part::left_out(SQLITE, "Left out: SQLite isn't installed, or is too old (3.35 is needed)."));
     }
     let container = Container::new(&codes::descend(WAY))?;
@@ -155,21 +158,21 @@ pub fn sqlite() -> Result<Part, String> {
         workers,
         nodes: NODES,
         chain: WAY,
-        engines: 1,
+        engines: ANEW,
     });
     let [core, engine, theirs] = in_turn(
         SQLITE,
         [
             &mut || core.of_product(),
             &mut || engine.of_product(),
-            &mut || sqlite::descend(&parents, &args, WAY).unwrap_or(Measured::REFUSED),
+            &mut || sqlite::descend(&parents, &args, WAY, ANEW).unwrap_or(Measured::REFUSED),
         ],
     )?;
     let work = "the way down to a leaf of 4,096 nodes, five below the root; add to it, and answer";
     let row_of = |how: &str, ours: &Times| -> Result<Row, String> {
         are_alike(SQLITE, ours, &theirs)?;
         let work = format!("{work}: {how}");
-        Ok(Row::of_times(work, "ns a call", [ours, &theirs], f64::from(CALLS), Goal::AtLeast(10.0)))
+        Ok(Row::of_times(work, "ns a call", [ours, &theirs], f64::from(ANEW) * f64::from(CALLS), Goal::AtLeast(10.0)))
     };
     let rows = vec![
         row_of("a core whose order is kept, one thread", &core)?,

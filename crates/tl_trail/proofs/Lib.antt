@@ -1,7 +1,9 @@
 pub mod TextForms
+pub mod TokenLemmas
 pub mod CallsTaken
 pub mod EventCount
 pub mod TreeOfText
+pub mod TrailTokenLemmas
 pub mod WholeTrail
 pub mod OneReading
 pub mod TextParts

@@ -1,5 +1,5 @@
 -- A text is that of one trail, or has a fault.
-use Rattle.std.proofs.Common.{◌≡◌, ◌≢◌, ℕ, List, [], ◌∷◌, Result, Ok, Err, Some, IfOk, IfErr, MatchResult, refl, sym, ap, ◌∙◌, subst, inl, inr}
+use Rattle.std.proofs.Common.{◌≡◌, ◌≢◌, ℕ, List, [], Result, Ok, Err, Some, IfOk, IfErr, MatchResult, refl, sym, ap, ◌∙◌, subst, inl, inr}
 use Rattle.tl_tree.specs.Trees.{TreeValue}
 use Rattle.tl_tree.specs.Reading.{tree_from}
 use Rattle.tl_procedures.specs.Names.{Named}

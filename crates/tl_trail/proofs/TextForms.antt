@@ -1,17 +1,12 @@
 -- The parts of a text's form.
-use Rattle.std.proofs.Common.{◌≡◌, ◌≢◌, ◌<◌, ◌+◌, ℕ, List, [], ◌∷◌, ◌++◌, map, drop, get_or, length, codes, Option, Some, None, option_map, option_and_then, refl, sym, ap, eq-eqb, ne_eqb}
-use Rattle.std.proofs.lemmas.List.{append_assoc, map_push, drop_more}
+use Rattle.std.proofs.Common.{◌≡◌, ◌≢◌, List, [], ◌∷◌, length, codes, Some, None, refl, sym, ap, eq-eqb, ne_eqb}
 use Rattle.serde_json.specs.Data.{Data, null, boolean, number, string, array, object, Members}
 use Rattle.serde_json.specs.Events.{members_len}
 use Rattle.serde_json.specs.Find.{as_array, as_object, get, get_member}
-use Rattle.serde_json.specs.View.{view, items_view}
+use Rattle.serde_json.specs.View.{items_view}
 use Rattle.serde_json.specs.declared.value.Value.{Value}
-use Rattle.tl_tree.specs.Reading.{each_item}
-use Rattle.tl_tree.proofs.Items.{onto}
 use Rattle.tl_trail.specs.Reading.{Parts, parts_of, call_in, call_of}
 use Rattle.tl_forms.specs.Lists.{items_of_list}
-use Rattle.tl_forms.specs.Procedures.{procedure_in, procedure_of}
-use Rattle.tl_forms.specs.Events.{event_in, event_of}
 
 -- ---- the members
 

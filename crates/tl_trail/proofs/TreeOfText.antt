@@ -9,7 +9,7 @@ use Rattle.tl_tree.specs.declared.fault.TreeFault.TheVariants.{Empty, TooMany, B
 use Rattle.tl_tree.specs.declared.fault.TreeFault.TheVariants as tree
 use Rattle.tl_trail.specs.declared.raw.RawTrail.{RawTrail}
 use Rattle.tl_trail.specs.declared.fault.TrailFault.{TrailFault}
-use Rattle.tl_trail.specs.declared.fault.TrailFault.TheVariants.{NotTrail, Tree, Memory}
+use Rattle.tl_trail.specs.declared.fault.TrailFault.TheVariants.{Tree, Memory}
 use Rattle.tl_trail.specs.Faults.{of_tree}
 use Rattle.tl_trail.specs.Raw.{form_with, IsHalfRead, IsUnread}
 

@@ -2,6 +2,8 @@ pub mod Trails
 pub mod Faults
 pub mod Clean
 pub mod Reading
+pub mod Tokens
 pub mod Raw
+pub mod TrailTokens
 pub mod ReadsBack
 pub mod Writing

@@ -1,15 +1,13 @@
 -- What a text of a trail is, and what is wrong with it first.
-use Rattle.std.specs.Prelude.{◌≡◌, ◌⊎◌, ℕ, ◌==◌, nat_lt, nat_le, ℤ, pos, negsuc, List, [], ◌∷◌, ◌++◌, length, get_or, codes, Option, Some, None, option_map, option_and_then, Result, Ok, Err, if◌then◌else◌, is_some, ◌&&◌}
-use Rattle.std.specs.Str.{bytes_eq}
-use Rattle.std.specs.Option.{option_or}
-use Rattle.serde_json.specs.Data.{Data, Items, no_items, item}
+use Rattle.std.specs.Prelude.{◌≡◌, ◌⊎◌, ℕ, ◌==◌, nat_lt, nat_le, ℤ, pos, negsuc, List, [], ◌∷◌, length, get_or, codes, Option, Some, None, option_map, option_and_then, Result, Ok, Err, if◌then◌else◌, ◌&&◌}
+use Rattle.serde_json.specs.Data.{Data}
 use Rattle.serde_json.specs.Events.{members_len}
-use Rattle.serde_json.specs.Find.{as_null, as_str, as_array, as_object, get_member}
+use Rattle.serde_json.specs.Find.{as_str, as_object, get_member}
 use Rattle.serde_json.specs.Read.{read}
 use Rattle.tl_history.specs.declared.history.TheConstants.{MAX_CALLS, MAX_EVENTS}
-use Rattle.tl_tree.specs.Records.{Record, Records}
+use Rattle.tl_tree.specs.Records.{Records}
 use Rattle.tl_tree.specs.Trees.{TreeValue}
-use Rattle.tl_tree.specs.Reading.{both, each_item, integer_of, integers_of, record_of, records_of, tree_from, form_of as tree_form_of}
+use Rattle.tl_tree.specs.Reading.{both, integers_of, records_of, tree_from, form_of as tree_form_of}
 use Rattle.tl_tree.specs.declared.fault.TreeFault.{TreeFault}
 use Rattle.tl_protocol.specs.declared.event.Event.{Event}
 use Rattle.tl_protocol.specs.declared.event.Event.TheVariants as event

@@ -8,6 +8,7 @@
 mod fault;
 mod raw;
 mod reading;
+mod tokens;
 mod trail;
 mod writing;
 

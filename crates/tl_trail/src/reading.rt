@@ -12,6 +12,7 @@ ghost use Rattle.tl_trail.specs.Raw.{call_form, form_with, IsHalfRead, IsUnread,
 
 use crate::fault::TrailFault;
 use crate::raw::{RawCall, RawTrail, members_of_value, raw_of_members};
+use crate::tokens::raw_of_tokens;
 use crate::trail::{Trail, TrailCall};
 use arrayvec::ArrayVec;
 use serde_json::Value;
@@ -43,6 +44,9 @@ fn raw_of_text(alloc: Global, text: &str) -> Result<(Tree, RawTrail), TrailFault
     ensures ok { IfOk result (λ found. IsHalfRead (form_in text.now) found.0 found.1) }
     ensures fault { IfErr result (λ e. e ≢ TrailFault.Memory → IsUnread (form_in text.now) e) }
 {
+    if let Some(found) = raw_of_tokens(alloc, text)? {
+        return Ok(found);
+    }
     match parse_text(alloc, text)? {
         Some(value) => raw_of_value(alloc, &value),
         None => Err(TrailFault::NotTrail),

@@ -1,0 +1,32 @@
+use Rattle.std.proofs.Common.{◌≡◌, codes, map, Some, None, option_map, sym, ap, ◌∙◌, subst}
+use Rattle.json.specs.Json.{read_key}
+use Rattle.serde_json.specs.View.{view}
+use Rattle.tl_tree.specs.Reading.{records_of}
+use Rattle.tl_forms.specs.Lists.{each_of}
+use Rattle.tl_forms.specs.Procedures.{procedure_form, procedure_of}
+use Rattle.tl_forms.specs.Events.{event_of}
+use Rattle.tl_trail.specs.Raw.{call_form}
+use Rattle.tl_trail.specs.Reading.{call_of}
+use Rattle.tl_trail.specs.Tokens.{BeginsWithMember}
+use Rattle.tl_trail.proofs.TrailTokenLemmas.{member_stands, own_events, trail_of_members}
+use Rattle.tl_trail.proofs.tokens.trail_members.Goals as goal
+
+pub returns : goal.returns
+returns c =
+    let ts = c.args.reader.now in
+    let t1 = c.list_member.new.reader in
+    let t2 = c.member.new.reader in
+    let t3 = c.list_member-2.new.reader in
+    let t4 = c.list_member-3.new.reader in
+    let t5 = c.member-2.new.reader in
+    let calls : BeginsWithMember (codes "calls") (each_of call_of) ts (map call_form c.in-Some.calls.items) t1 = rw c.in-Some.is at c.in_ok-calls.ensures in
+    let ends_value : BeginsWithMember (codes "end") Some t1 (view c.in-Some-2.ends) t2 = rw c.in-Some-2.is at c.in_ok-ends.ensures in
+    let ends_are : records_of (view c.in-Some-2.ends) ≡ Some c.in-Some-3.ends.items = sym c.in_ok-ends-2.ensures ∙ ap (option_map (λ v. v.items)) c.in-Some-3.is in
+    let ends = member_stands (codes "end") records_of t1 t2 (view c.in-Some-2.ends) c.in-Some-3.ends.items ends_value ends_are in
+    let events_are : BeginsWithMember (codes "events") (each_of event_of) t2 (map (λ e. e) c.in-Some-4.events.items) t3 = rw c.in-Some-4.is at c.in_ok-events.ensures in
+    let events = subst (λ es. BeginsWithMember (codes "events") (each_of event_of) t2 es t3) (own_events c.in-Some-4.events.items) events_are in
+    let procedures : BeginsWithMember (codes "procs") (each_of procedure_of) t3 (map procedure_form c.in-Some-5.procedures.items) t4 = rw c.in-Some-5.is at c.in_ok-procedures.ensures in
+    let tree_value : BeginsWithMember (codes "tree") Some t4 (view c.in-Some-6.tree) t5 = rw c.in-Some-6.is at c.in_ok-tree.ensures in
+    let end : read_key t5 ≡ Some (None, c.next_key.new.self) = rw c.in-Ok-None.field-0-is at c.in-Ok-None.ensures.value in
+    trail_of_members ts t1 t2 t3 t4 t5 c.next_key.new.self (record { procedures = c.in-Some-5.procedures; calls = c.in-Some.calls; events = c.in-Some-4.events; ends = c.in-Some-3.ends }) c.in-Ok.tree
+    (view c.in-Some-6.tree) calls ends events procedures tree_value c.in-Ok.ensures.ok end

@@ -1,0 +1,34 @@
+-- What the tokens of a text begin with.
+use Rattle.std.specs.Prelude.{◌≡◌, ◌<◌, ℕ, List, length, Option, Some}
+use Rattle.json.specs.Token.{Token}
+use Rattle.json.specs.Json.{items, read_key, value}
+use Rattle.serde_json.specs.Data.{Data, Items}
+use Rattle.serde_json.specs.Read.{of_json, of_items, converted}
+use Rattle.tl_tree.specs.Reading.{each_item}
+
+-- how deep a member of a text nests at most, and an item of it, as a text nests at most 127 deep
+abbrev pub member_depth : ℕ
+member_depth = 126
+
+abbrev pub item_depth : ℕ
+item_depth = 125
+
+-- first comes a value nested at most so deep, which stands for this under f; the rest follows
+pub record BeginsWith {A : Type 0} (f : Data → Option A) (depth : ℕ) (ts : List Token) (a : A) (rest : List Token) : Type 0 where
+  pub found : Data
+  pub is_value : converted of_json (value depth ts) ≡ Some (found, rest)
+  pub stands : f found ≡ Some a
+  pub shorter : length rest < length ts
+
+-- first come items up to the end of their list, which stand for these under f
+pub record BeginsWithItems {A : Type 0} (f : Data → Option A) (ts : List Token) (each : List A) (rest : List Token) : Type 0 where
+  pub found : Items
+  pub are_items : converted of_items (items (value item_depth) (length ts) ts) ≡ Some (found, rest)
+  pub stand : each_item f found ≡ Some each
+  pub shorter : length rest < length ts
+
+-- first come a name and a value that stands for this under f
+pub record BeginsWithMember {A : Type 0} (name : List ℕ) (f : Data → Option A) (ts : List Token) (a : A) (rest : List Token) : Type 0 where
+  pub behind : List Token
+  pub named : read_key ts ≡ Some (Some name, behind)
+  pub member : BeginsWith f member_depth behind a rest
