@@ -107,6 +107,11 @@ pub fn field_loop() -> Vec<u8> {
     container(0, &code)
 }
 
+/// Loops in one another with nothing in the innermost.
+pub fn bare_loops() -> Vec<u8> {
+    container(0, &[repeat(1_000), repeat(100), repeat(7), end(), end(), end(), finish()])
+}
+
 /// A lock and a free of the argument's node.
 pub fn touch() -> Vec<u8> {
     container(1, &[first(0, 0, 2), release(0), finish()])

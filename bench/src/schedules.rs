@@ -4,7 +4,8 @@ use crate::codes;
 use crate::trees::{chain, wide, NODES, OPEN};
 use crate::twin::core::{Event, Procedures};
 use crate::twin::instruction::decode;
-use crate::twin::trail::{read_trail, write_trail, ToldCall, Trail};
+use crate::twin::reader::read_trail;
+use crate::twin::trail::{write_trail, ToldCall, Trail};
 use crate::twin::tree::Tree;
 use crate::twin::verifier::verify;
 

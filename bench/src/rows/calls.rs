@@ -37,6 +37,7 @@ pub fn alone() -> Result<Part, String> {
     let rows = vec![
         run_row("a loop of arithmetic", &codes::arithmetic_loop(), 1, &[], 4)?,
         run_row("a loop of `get` and `put`", &codes::field_loop(), 1, &[], 4)?,
+        run_row("loops of `rep` and `end` alone", &codes::bare_loops(), 1, &[], 4)?,
         run_row("a walk down a chain of 4,096 nodes", &codes::bare_walk(NODES), NODES, &[0], 60)?,
         local_row()?,
     ];

@@ -7,7 +7,8 @@ use crate::rounds::{are_alike, both, in_turn, Side, Times};
 use crate::schedules;
 use crate::table::{Goal, Part, Row};
 use crate::trees::CALLS;
-use crate::twin::trail::{read_trail, Trail};
+use crate::twin::reader::read_trail;
+use crate::twin::trail::Trail;
 use crate::twin::work as twin;
 
 /// How many nodes each walk locks, in trails from 131,072 to 1,048,576 events.

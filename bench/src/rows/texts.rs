@@ -4,7 +4,7 @@ use super::{walks, TWIN};
 use crate::product;
 use crate::rounds::{are_alike, in_turn};
 use crate::table::{Goal, Part, Row};
-use crate::twin::trail::read_trail;
+use crate::twin::reader::read_trail;
 use crate::twin::work as twin;
 
 const UNIT: &str = "ns an event";
@@ -37,7 +37,7 @@ pub fn texts() -> Result<Vec<Part>, String> {
             ],
         ),
         Part::new(
-            "The same beside the twin, which reads through a value of its own and writes digits as they come",
+            "The same beside the twin, which reads item by item and writes digits as they come",
             TWIN,
             vec![
                 row("reading the trail", [&read, &read_by_twin], Goal::Speed),

@@ -52,18 +52,93 @@ const MAX_DEPTH: usize = 127;
 
 /// The value of a text; nothing else may stand in it.
 pub fn parse(text: &str) -> Option<Value> {
-    let mut parser = Parser { text, position: 0 };
+    let mut parser = Parser::new(text);
     let value = parser.value(0)?;
-    parser.skip_space();
-    (parser.position == text.len()).then_some(value)
+    parser.is_over().then_some(value)
 }
 
-struct Parser<'a> {
+/// A text, and how far it is read.
+pub struct Parser<'a> {
     text: &'a str,
     position: usize,
 }
 
-impl Parser<'_> {
+impl<'a> Parser<'a> {
+    pub fn new(text: &'a str) -> Parser<'a> {
+        Parser { text, position: 0 }
+    }
+
+    /// Whether only space is left.
+    pub fn is_over(&mut self) -> bool {
+        self.skip_space();
+        self.position == self.text.len()
+    }
+
+    /// Takes the byte that has to come next behind space.
+    pub fn expect(&mut self, byte: u8) -> Option<()> {
+        self.take(byte).then_some(())
+    }
+
+    /// Takes `null`, where it comes next.
+    pub fn null(&mut self) -> bool {
+        self.skip_space();
+        let is_next = self.text.as_bytes()[self.position..].starts_with(b"null");
+        if is_next {
+            self.position += 4;
+        }
+        is_next
+    }
+
+    /// The items of the list that is next, each read by the function.
+    pub fn list<T>(&mut self, mut item: impl FnMut(&mut Self) -> Option<T>) -> Option<Vec<T>> {
+        self.expect(b'[')?;
+        let mut items = Vec::new();
+        if self.take(b']') {
+            return Some(items);
+        }
+        loop {
+            items.push(item(self)?);
+            if self.take(b']') {
+                return Some(items);
+            }
+            self.expect(b',')?;
+        }
+    }
+
+    /// The integer that is next. There is none where it doesn't fit, for `-0`, and for a number that may be a fraction.
+    pub fn integer(&mut self) -> Option<i64> {
+        self.skip_space();
+        let is_negative = self.peek() == Some(b'-');
+        self.position += usize::from(is_negative);
+        let start = self.position;
+        let mut size = 0u64;
+        while let Some(digit @ b'0'..=b'9') = self.peek() {
+            size = size.checked_mul(10)?.checked_add(u64::from(digit - b'0'))?;
+            self.position += 1;
+        }
+        let starts_with_zero = self.text.as_bytes().get(start) == Some(&b'0');
+        let is_whole = match self.position - start {
+            0 => false,
+            1 => !(is_negative && starts_with_zero),
+            _ => !starts_with_zero,
+        };
+        if !is_whole || matches!(self.peek(), Some(b'.' | b'e' | b'E')) {
+            return None;
+        }
+        if is_negative { 0i64.checked_sub_unsigned(size) } else { i64::try_from(size).ok() }
+    }
+
+    /// The string that is next, where nothing in it is escaped.
+    pub fn plain_string(&mut self) -> Option<&'a str> {
+        self.expect(b'"')?;
+        let start = self.position;
+        while !matches!(self.peek()?, b'"' | b'\\' | 0..=0x1f) {
+            self.position += 1;
+        }
+        let string = &self.text[start..self.position];
+        (self.next()? == b'"').then_some(string)
+    }
+
     fn peek(&self) -> Option<u8> {
         self.text.as_bytes().get(self.position).copied()
     }
@@ -134,7 +209,6 @@ impl Parser<'_> {
             return Some(Value::Object(members));
         }
         loop {
-            self.skip_space();
             let name = self.string()?;
             if !self.take(b':') {
                 return None;
@@ -194,10 +268,8 @@ impl Parser<'_> {
         number.is_finite().then_some(Value::Float(number))
     }
 
-    fn string(&mut self) -> Option<String> {
-        if self.next()? != b'"' {
-            return None;
-        }
+    pub fn string(&mut self) -> Option<String> {
+        self.expect(b'"')?;
         let mut string = String::new();
         loop {
             let start = self.position;

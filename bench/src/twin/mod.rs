@@ -9,6 +9,7 @@ pub mod instruction;
 pub mod json;
 pub mod machine;
 pub mod order;
+pub mod reader;
 pub mod running;
 pub mod trail;
 pub mod tree;

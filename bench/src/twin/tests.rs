@@ -5,7 +5,8 @@ use super::fault::Fault;
 use super::instruction::decode;
 use super::json::{self, Value};
 use super::machine::{run_alone, Action};
-use super::trail::{read_trail, trail_of, write_trail, Trail};
+use super::reader::read_trail;
+use super::trail::{trail_of, write_trail, Trail};
 use super::tree::Tree;
 use super::verifier::verify;
 use super::{defined, order, turns as many, work};
@@ -177,6 +178,40 @@ fn an_altered_trail_is_refused() {
         let mut trail = trail_of(&turns());
         alter(&mut trail);
         assert_eq!(audit_trail(&trail), Err(fault));
+    }
+}
+
+/// As it is written, with space between, with members in another order or twice, and with an escape in each place for one.
+#[test]
+fn a_trail_of_another_form_is_the_same() {
+    let trail = trail_of(&turns());
+    let text = write_trail(&trail);
+    let (calls, rest) = text[1..].split_once(",\"end\"").unwrap();
+    let others = [
+        text.replace("],", "] ,\n").replace("\":", "\"\t: "),
+        format!("{{\"end\"{},{calls}}}", rest.strip_suffix('}').unwrap()),
+        format!("{{{calls},{}", &text[1..]),
+        text.replace("\"events\"", "\"\\u0065vents\""),
+        text.replace("\"l\"", "\"\\u006c\""),
+        text.replace("\"both\"", "\"\\u0062oth\""),
+    ];
+    for other in others {
+        assert_eq!(read_trail(&other).as_ref(), Ok(&trail), "{other}");
+    }
+    for (place, _) in text.char_indices() {
+        assert_eq!(read_trail(&text[..place]), Err(()));
+    }
+    for wrong in ["-0", "01", "1.0", "1e0", "4294967296", "null"] {
+        assert_eq!(read_trail(&text.replacen("[\"a\",0]", &format!("[\"a\",{wrong}]"), 1)), Err(()), "{wrong}");
+    }
+}
+
+#[test]
+fn integers_are_those_of_values() {
+    let least = i64::MIN.to_string();
+    for text in ["0", "-1", " 12", "9223372036854775807", &least, "9223372036854775808", "-9223372036854775809", "-0", "00", "-", "", "1.5", "1e2"] {
+        let of_value = json::parse(text).and_then(|value| value.as_integer());
+        assert_eq!(json::Parser::new(text).integer(), of_value, "{text}");
     }
 }
 

@@ -11,7 +11,8 @@ use super::fault::Fault;
 use super::instruction::{decode as decode_bytes, Code};
 use super::machine::{run_alone, Call, Outside};
 use super::order::order_of;
-use super::trail::{read_trail, write_trail, Trail};
+use super::reader::read_trail;
+use super::trail::{write_trail, Trail};
 use super::tree::{Record, Tree};
 use super::verifier::{verify, Procedure};
 
