@@ -48,8 +48,10 @@ no longer stands in a cache.";
 
 const AUDIT_NANOSECONDS: &str = "**30 ns an event** are for a machine at full speed: where this table was made the twin takes longer than that, too.";
 
-const ORDER_OF: &str = "**`order_of`** is for every history, so it checks each event before it places it, as the audit does. Where the history breaks a rule \
-the plain definition places it, from the first event on. `Running` and an engine keep the rules, and check nothing.";
+const ORDER_OF: &str = "**`order_of`** is for every history, so it checks each event before it places it, as the audit does. Where the \
+history breaks a rule the plain definition places it, from the first event on. `Running` and an engine keep the rules, and check nothing. \
+The twin's order of 5.4 ns an event took 9.2 with the same checks, and 8.2 where an event is looked at in one match and a node's calls \
+take half the bytes: 0.66 of its speed without them.";
 
 const WORKERS: &str = "**More workers.** The twin gains as little by them, as the quotients of its own rows say: so it is what the machine gives, \
 whose processors are threads of fewer cores. On one path, and with 20 instructions between two turns, the lock goes from processor to processor.";
@@ -59,10 +61,8 @@ const TURN: &str = "**A turn of an engine.** Under the lock the segment's turn i
 copied four times in a turn, and the twin's twice: a tenth of a short call, and a quarter of a walk. Besides, a short call pays some 1,500 ns for \
 its admission, its receipt and the session's list.";
 
-const TRANSACTION: &str = "**A procedure a transaction.** A call has thirteen locks, frees and returns. In a core over a third of its time is the kernel's, \
-which hands out memory for the history and the calls page by page (by `perf`); with pages of two megabytes \
-(`GLIBC_TUNABLES=glibc.malloc.hugetlb=1`) a call takes a third less. Through an engine each turn is compared as above, goes through the lock, \
-and is copied.";
+const TRANSACTION: &str = "**A procedure a transaction through an engine.** A call has thirteen locks, frees and returns. Each is a turn \
+that is compared as above, goes through the lock, and is copied. In a core the same call takes a tenth of the time.";
 
 /// Why such a row is short, where that is known.
 pub fn of(heading: &str, work: &str) -> Option<&'static Reason> {
