@@ -35,6 +35,10 @@ impl Spread {
     }
 }
 
+pub fn fastest(rounds: &[f64]) -> f64 {
+    rounds.iter().copied().fold(f64::INFINITY, f64::min)
+}
+
 /// A side of a comparison.
 pub type Side<'a> = &'a mut dyn FnMut() -> Measured;
 

@@ -3,7 +3,7 @@
 use std::fmt;
 
 use crate::reasons;
-use crate::rounds::{self, Spread, Times};
+use crate::rounds::{self, fastest, Spread, Times};
 
 /// How near to its goal a number has to be for there to be no verdict.
 const LEVEL: f64 = 0.1;
@@ -18,6 +18,8 @@ pub enum Goal {
     AtLeast(f64),
     /// The product takes at most so many times what the other takes.
     AtMost(f64),
+    /// The product takes at most so much more than the other.
+    AtMostMore(f64),
     /// The product's own number is at most this.
     Within(f64),
     /// Nothing: it is only told how many times as fast the product is.
@@ -31,7 +33,7 @@ impl Goal {
     pub fn only_told(self) -> Goal {
         match self {
             Goal::AtLeast(_) | Goal::Speed => Goal::Speed,
-            Goal::AtMost(_) | Goal::Within(_) | Goal::Cost => Goal::Cost,
+            Goal::AtMost(_) | Goal::AtMostMore(_) | Goal::Within(_) | Goal::Cost => Goal::Cost,
         }
     }
 }
@@ -50,8 +52,6 @@ enum Beside {
     Nothing,
     /// The rounds of another side, and the ratios of both by rounds.
     Other { rounds: Vec<f64>, ratios: Vec<f64> },
-    /// The product's rounds of less work, which are taken off.
-    Less(Vec<f64>),
 }
 
 impl Row {
@@ -75,11 +75,6 @@ impl Row {
         Row { work: work.into(), unit, product: product.to_vec(), beside: Beside::Nothing, goal }
     }
 
-    /// How much more the product's rounds took a unit than its rounds of less work.
-    pub fn more(work: impl Into<String>, unit: &'static str, more: &[f64], less: &[f64], goal: Goal) -> Row {
-        Row { beside: Beside::Less(less.to_vec()), ..Row::alone(work, unit, more, goal) }
-    }
-
     /// The rounds of a later pass stand behind those so far. Whether that is the same row.
     fn extend(&mut self, later: Row) -> bool {
         self.product.extend(later.product);
@@ -88,7 +83,6 @@ impl Row {
                 rounds.extend(more);
                 ratios.extend(more_ratios);
             }
-            (Beside::Less(less), Beside::Less(more)) => less.extend(more),
             (Beside::Nothing, Beside::Nothing) => {}
             _ => return false,
         }
@@ -99,7 +93,6 @@ impl Row {
     fn number(&self) -> f64 {
         match &self.beside {
             Beside::Other { .. } => Spread::of(self.product.iter().copied()).middle,
-            Beside::Less(less) => fastest(&self.product) - fastest(less),
             Beside::Nothing => fastest(&self.product),
         }
     }
@@ -111,17 +104,25 @@ impl Row {
         }
     }
 
+    /// How much more the product takes than the other, by the fastest rounds of both.
+    fn more(&self) -> Option<f64> {
+        match &self.beside {
+            Beside::Other { rounds, .. } => Some(fastest(&self.product) - fastest(rounds)),
+            Beside::Nothing => None,
+        }
+    }
+
     /// How far the goal was reached: 1 is just reached, and more is better.
     fn reached(&self) -> Option<f64> {
         let ratio = self.ratio().map(|ratio| ratio.middle);
-        match (self.goal, ratio) {
-            (Goal::AtLeast(least), Some(ratio)) => Some(ratio / least),
+        match self.goal {
+            Goal::AtLeast(least) => Some(ratio? / least),
             // A difference below nothing is noise, and says nothing.
-            (Goal::AtMost(_), Some(ratio)) if ratio <= 0.0 => Some(1.0),
-            (Goal::AtMost(most), Some(ratio)) => Some(most / ratio),
-            (Goal::Within(most), _) if self.number() <= 0.0 => Some(most),
-            (Goal::Within(most), _) => Some(most / self.number()),
-            _ => None,
+            Goal::AtMost(_) if ratio? <= 0.0 => Some(1.0),
+            Goal::AtMost(most) => Some(most / ratio?),
+            Goal::AtMostMore(most) => Some(most / self.more()?.max(f64::MIN_POSITIVE)),
+            Goal::Within(most) => Some(most / self.number()),
+            Goal::Speed | Goal::Cost => None,
         }
     }
 
@@ -135,15 +136,12 @@ impl Row {
     }
 }
 
-fn fastest(rounds: &[f64]) -> f64 {
-    rounds.iter().copied().fold(f64::INFINITY, f64::min)
-}
-
 impl fmt::Display for Goal {
     fn fmt(&self, out: &mut fmt::Formatter<'_>) -> fmt::Result {
         match self {
             Goal::AtLeast(least) => write!(out, "at least {least}: "),
             Goal::AtMost(most) | Goal::Within(most) => write!(out, "at most {most}: "),
+            Goal::AtMostMore(most) => write!(out, "at most {most} more: "),
             Goal::Speed => write!(out, "times as fast"),
             Goal::Cost => write!(out, "times as much"),
         }
@@ -158,10 +156,10 @@ impl fmt::Display for Row {
                 let [other, ratio] = [rounds, ratios].map(|numbers| Spread::of(numbers.iter().copied()));
                 write!(out, "{:.1} | {:.2} ({:.2} to {:.2})", other.middle, ratio.middle, ratio.low, ratio.high)?;
             }
-            Beside::Nothing | Beside::Less(_) => write!(out, " | ")?,
+            Beside::Nothing => write!(out, " | ")?,
         }
         match (self.goal, &self.beside) {
-            (Goal::Speed | Goal::Cost, Beside::Nothing | Beside::Less(_)) => write!(out, " |  |"),
+            (Goal::Speed | Goal::Cost, Beside::Nothing) => write!(out, " |  |"),
             (goal, _) => write!(out, " | {goal}{} |", self.verdict()),
         }
     }
@@ -299,7 +297,9 @@ mod tests {
             (15.0, -10.0, Goal::AtMost(1.1), "level"),
             (20.0, 1.0, Goal::Within(30.0), "met"),
             (31.0, 1.0, Goal::Within(30.0), "level"),
-            (-1.0, 1.0, Goal::Within(10.0), "met"),
+            (15.0, 10.0, Goal::AtMostMore(8.0), "met"),
+            (15.0, 10.0, Goal::AtMostMore(4.0), "**short**"),
+            (9.0, 10.0, Goal::AtMostMore(4.0), "met"),
             (1.0, 1.0, Goal::Speed, ""),
         ];
         for (product, other, goal, expected) in cases {
@@ -333,7 +333,7 @@ mod tests {
         assert_eq!(row.to_string(), "| some work | ns a step | 3.0 | 3.0 | 1.00 (0.75 to 1.00) | at least 0.9: met |");
         let row = Row::alone("some work", "ns a step", &rounds, Goal::Within(1.0));
         assert_eq!(row.to_string(), "| some work | ns a step | 2.0 |  |  | at most 1: **short** |");
-        let row = Row::more("some work", "ns a step more", &rounds, &[2.0, 1.5, 3.0], Goal::Cost);
-        assert_eq!(row.to_string(), "| some work | ns a step more | 0.5 |  |  |  |");
+        let row = Row::paired("some work", "ns a step", &rounds, &[2.0, 2.0, 2.0], Goal::AtMostMore(1.0));
+        assert_eq!(row.to_string(), "| some work | ns a step | 3.0 | 2.0 | 1.50 (1.00 to 1.50) | at most 1 more: met |");
     }
 }

@@ -3,7 +3,7 @@
 use super::{grouped, walks, TWIN};
 use crate::measured::Measured;
 use crate::product;
-use crate::rounds::{are_alike, both, in_turn, Side, Times};
+use crate::rounds::{are_alike, both, fastest, in_turn, Side, Times};
 use crate::schedules;
 use crate::table::{Goal, Part, Row};
 use crate::trees::CALLS;
@@ -80,11 +80,11 @@ impl AtSize {
     }
 }
 
-/// What each event more costs the product from one size to the next: by rounds.
-fn added(less: &AtSize, more: &AtSize) -> Vec<f64> {
-    let run = |size: &AtSize| size.times[0].per(size.runs.into());
-    let events = more.events - less.events;
-    run(more).iter().zip(run(less)).map(|(after, before)| (after - before) / events).collect()
+/// What each event more costs the product from one size to the next: by the fastest rounds of both, since a difference of two
+/// rounds would have what disturbed either.
+fn added(less: &AtSize, more: &AtSize) -> [f64; 1] {
+    let run = |size: &AtSize| fastest(&size.times[0].per(size.runs.into()));
+    [(run(more) - run(less)) / (more.events - less.events)]
 }
 
 fn growth(name: &str, sizes: &[AtSize; LOCKS.len()]) -> Row {
