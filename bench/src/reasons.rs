@@ -15,11 +15,12 @@ const fn reason(heading: &'static str, words: &'static str, text: &'static str) 
 }
 
 /// The first that fits a row is its reason.
-const REASONS: [Reason; 11] = [
+const REASONS: [Reason; 12] = [
     reason("A call alone", "", INTERPRETER),
     reason("Codes", "`verify`", VERIFIER),
     reason("A core", "", CORE),
     reason("`Running`", "product alone", ORDER_OF_RUNNING),
+    reason("`Running`", "nodes of eight children", END_OF_A_CALL),
     reason("`Running`", "", CORE),
     reason("The order and the audit", "product alone: `audit`, what an event more", GROWTH),
     reason("The order and the audit", "product alone: `audit`", AUDIT_NANOSECONDS),
@@ -29,16 +30,20 @@ const REASONS: [Reason; 11] = [
     reason("A procedure a transaction", "", TRANSACTION),
 ];
 
-const INTERPRETER: &str = "**The interpreter.** By `perf annotate` each instruction goes through one jump that all share, a seventh of the time; an addition \
-finds out by two comparisons that it overflows, where the twin's asks the processor's flag; and a register that holds a node by the verifier's \
+const INTERPRETER: &str = "**The interpreter.** An addition finds out by two comparisons that it overflows, where the twin's asks the processor's flag: \
+the twin with the same comparisons took 3.6 ns a step of the loop of arithmetic, and 3.2 without. A register that holds a node by the verifier's \
 proof is asked once more whether it does. The rest are the same loads, sums and stores as the twin's.";
 
 const VERIFIER: &str = "**`verify`** came to 0.91, 0.87, 0.81 and 0.80 of the twin's speed in four tables of one day, on a machine that changes its speed by \
 two. What the product does more than the twin wasn't found.";
 
-const CORE: &str = "**A step of a core** comes to 0.93 or to 0.80 of the twin's speed, and `Running` on nodes of eight children to 0.96 or to 0.69, by how \
-the twin is built: its step takes 12 to 18 ns in builds of the same source, and the product's 16 to 19. What the product does more than the \
-faster twin wasn't found: an answer goes to the caller without a call on both sides, and the state of a call stands behind two indices on both.";
+const CORE: &str = "**A step of a core** came to 0.82 of the twin's speed here, and to 1.05 in a smaller harness of the same sources: so builds of one \
+source differ by a quarter. What the product does more than the faster twin wasn't found: an answer goes to the caller without a call on both \
+sides, and the state of a call stands behind two indices on both.";
+
+const END_OF_A_CALL: &str = "**Nodes of eight children.** A call has a lock, a free and its end there, and the end is half of the time by `perf`. It takes no \
+memory: so the reply, with room for 32 values, is copied twice. And it gives back two shared pointers by atomic instructions. The twin takes \
+memory for the values that there are, and shares nothing with a call.";
 
 const ORDER_OF_RUNNING: &str = "**What the order adds to a core** is the difference of two times of 60 to 150 ns an event, and came to 3 to 15 ns in tables of one \
 day. The row beside the twin's order says what it costs here.";

@@ -80,11 +80,16 @@ impl Times {
 }
 
 /// All sides do their work in turn, each time beginning with another one. A side has to come to the same each time.
-pub fn in_turn<const N: usize>(name: &str, mut sides: [Side; N]) -> Result<[Times; N], String> {
+pub fn in_turn<const N: usize>(name: &str, sides: [Side; N]) -> Result<[Times; N], String> {
+    in_turn_often(name, 1, sides)
+}
+
+/// The same, where a round has at least so many runs. Threads need that: on which processors they run differs from run to run.
+pub fn in_turn_often<const N: usize>(name: &str, least: u32, mut sides: [Side; N]) -> Result<[Times; N], String> {
     let mut times = [(); N].map(|()| Times::default());
     let start = Instant::now();
     one_turn(name, &mut sides, &mut times, 0)?;
-    let runs = runs_in(start.elapsed());
+    let runs = runs_in(start.elapsed()).max(least);
     for round in 0..ROUNDS {
         times.iter_mut().for_each(|side| side.nanos.push(0.0));
         for run in 0..runs as usize {
