@@ -32,10 +32,10 @@ const REASONS: [Reason; 12] = [
 
 const INTERPRETER: &str = "**The interpreter.** An addition finds out by two comparisons that it overflows, where the twin's asks the processor's flag: \
 the twin with the same comparisons took 3.6 ns a step of the loop of arithmetic, and 3.2 without. A register that holds a node by the verifier's \
-proof is asked once more whether it does. The rest are the same loads, sums and stores as the twin's.";
+proof is asked once more whether it does. Loops of `rep` and `end` came to 0.77, 0.82, 0.96, 0.98 and 1.33 in five tables of one day.";
 
-const VERIFIER: &str = "**`verify`** came to 0.91, 0.87, 0.81 and 0.80 of the twin's speed in four tables of one day, on a machine that changes its speed by \
-two. What the product does more than the twin wasn't found.";
+const VERIFIER: &str = "**`verify`** also writes the code's container, by which an engine compares two procedures at each turn; the twin's procedure has \
+none. By `perf` that is a fifth of the time: without it the product would take 13.4 ns an instruction where it takes 16.9, and the twin 14.7.";
 
 const CORE: &str = "**A step of a core** came to 0.82 of the twin's speed here, and to 1.05 in a smaller harness of the same sources: so builds of one \
 source differ by a quarter. What the product does more than the faster twin wasn't found: an answer goes to the caller without a call on both \
