@@ -41,9 +41,10 @@ const CORE: &str = "**A step of a core** came to 0.82 of the twin's speed here, 
 source differ by a quarter. What the product does more than the faster twin wasn't found: an answer goes to the caller without a call on both \
 sides, and the state of a call stands behind two indices on both.";
 
-const END_OF_A_CALL: &str = "**Nodes of eight children.** A call has a lock, a free and its end there, and the end is half of the time by `perf`. It takes no \
-memory: so the reply, with room for 32 values, is copied twice. And it gives back two shared pointers by atomic instructions. The twin takes \
-memory for the values that there are, and shares nothing with a call.";
+const END_OF_A_CALL: &str = "**Nodes of eight children.** A call has a lock, a free and its end there, and the end is half of the time by \
+`perf`. It takes no memory: so the reply, with room for 32 values, is copied twice. And it gives back two shared pointers by atomic \
+instructions. The twin takes memory for the values that there are, and shares nothing with a call. But how the twin is built counts as \
+much: without the order it took 18 ns an event in one small harness and 30 in another, and the product 25 and 28.";
 
 const ORDER_OF_RUNNING: &str = "**What the order adds to a core** is the difference of two times of 60 to 150 ns an event, and came to 3 to 15 ns in tables of one \
 day. The row beside the twin's order says what it costs here.";
@@ -58,8 +59,9 @@ history breaks a rule the plain definition places it, from the first event on. `
 The twin's order of 5.4 ns an event took 9.2 with the same checks, and 8.2 where an event is looked at in one match and a node's calls \
 take half the bytes: 0.66 of its speed without them.";
 
-const WORKERS: &str = "**More workers.** The twin gains as little by them, as the quotients of its own rows say: so it is what the machine gives, \
-whose processors are threads of fewer cores. On one path, and with 20 instructions between two turns, the lock goes from processor to processor.";
+const WORKERS: &str = "**More workers.** The machine's processors are threads of fewer cores. With 10,000 instructions between two turns \
+the twin went 3.1 and 3.4 times as fast on four workers as on one in two tables, and the product 2.7 and 2.8 times. On one path, and with \
+20 instructions between two turns, the twin loses more by them than the product: the lock goes from processor to processor.";
 
 const TURN: &str = "**A turn of an engine.** Under the lock the segment's turn is compared with the kept one by value: the parents of 4,096 nodes take some \
 250 ns of it, a third of a short call, those of 128 some 10 (by `perf`, and by the same calls on both trees). A call's state of 800 bytes is \
@@ -67,7 +69,7 @@ copied four times in a turn, and the twin's twice: a tenth of a short call, and 
 its admission, its receipt and the session's list.";
 
 const TRANSACTION: &str = "**A procedure a transaction through an engine.** A call has thirteen locks, frees and returns. Each is a turn \
-that is compared as above, goes through the lock, and is copied. In a core the same call takes a tenth of the time.";
+that is compared as above, goes through the lock, and is copied. In a core the same call takes an eighth of the time.";
 
 /// Why such a row is short, where that is known.
 pub fn of(heading: &str, work: &str) -> Option<&'static Reason> {
