@@ -13,7 +13,7 @@ use crate::fault::AsmFault;
 use crate::resolving::resolved;
 use crate::sketch::sketch_of;
 use std::alloc::Global;
-use tl_instr::Code;
+use tl_instr::{Code, CodeFault};
 
 fn lines_of(alloc: Global, text: &str) -> Result<Vec<&str>, AsmFault>
     ensures lines { IfOk result (λ v. map (λ line. line.now) v.items ≡ lines_of text.now) }
@@ -36,7 +36,14 @@ fn code_of(alloc: Global, text: &str) -> Result<Code, AsmFault>
         return Err(AsmFault::BadLine(lines.len() as u64));
     }
     let instrs = resolved(alloc, &sketch.instrs, &sketch.origins, &sketch.labels)?;
-    Ok(Code::new(arity, instrs).unwrap())
+    match Code::new(alloc, arity, instrs) {
+        Ok(code) => Ok(code),
+        Err(fault) => match fault {
+            CodeFault::Memory => Err(AsmFault::Memory),
+            // What the lines say is a code.
+            _ => unreachable!(),
+        },
+    }
 }
 
 /// The code that the text stands for.

@@ -1,13 +1,16 @@
 //! A code: an arity and instructions, valid by its type.
 
-ghost use Rattle.std.specs.Prelude.{◌≡◌, ◌↔◌, length, slice_get, IsOk, IfOk, IfErr, IfSome};
+ghost use Rattle.std.specs.Prelude.{◌≡◌, ◌≢◌, ◌↔◌, length, slice_get, IsTrue, IfOk, IfErr, IfSome};
 ghost use Rattle.tl_instr.specs.Codes.{CodeValue, IsCode};
 ghost use Rattle.tl_instr.specs.Faults.{IsFaultOf};
 ghost use Rattle.tl_instr.specs.Instructions.{IsInstr};
+ghost use Rattle.tl_instr.specs.Spelling.{Spelled};
 
+use crate::container::{one_spelling, spell};
 use crate::fault::CodeFault;
 use crate::instr::Instr;
 use crate::operand::Arity;
+use std::alloc::Global;
 use std::marker::Model;
 
 /// The most instructions that a code has.
@@ -19,6 +22,8 @@ pub const MAX_COUNT: usize = 1024;
 pub struct Code {
     arity: Arity,
     instrs: Vec<Instr>,
+    // The one container of the code. Two codes are the same where these bytes are, and bytes are compared fast.
+    container: Vec<u8>,
 }
 
 impl Model for Code {
@@ -26,18 +31,19 @@ impl Model for Code {
 
     ghost view = { λ c. record { arity = c.arity; instrs = c.instrs.items } };
 
-    ghost invariant = { λ c. IsCode (record { arity = c.arity; instrs = c.instrs.items }) };
+    ghost invariant = { λ c. Spelled c.container.items (record { arity = c.arity; instrs = c.instrs.items }) };
 }
 
 impl Code {
-    /// The code of these instructions. Takes no memory.
+    /// The code of these instructions. Takes memory for its container.
     ///
     /// 206 where the arity is above 8; else 205 where there are not 1 to 1,024 instructions; else 204 at the first
-    /// instruction whose target is above their count.
-    pub fn new(arity: u8, instrs: Vec<Instr>) -> Result<Code, CodeFault>
+    /// instruction whose target is above their count. 290 where memory is refused.
+    pub fn new(alloc: Global, arity: u8, instrs: Vec<Instr>) -> Result<Code, CodeFault>
         ensures value { IfOk result (λ c. c ≡ record { arity = arity; instrs = instrs.items }) }
-        ensures valid { IsOk result ↔ IsCode (record { arity = arity; instrs = instrs.items }) }
-        ensures fault { IfErr result (IsFaultOf (record { arity = arity; instrs = instrs.items })) }
+        ensures valid { IfOk result (λ _. IsCode (record { arity = arity; instrs = instrs.items })) }
+        ensures accepts { IsCode (record { arity = arity; instrs = instrs.items }) → IfErr result (λ f. f ≡ CodeFault.Memory) }
+        ensures fault { IfErr result (λ f. f ≢ CodeFault.Memory → IsFaultOf (record { arity = arity; instrs = instrs.items }) f) }
     {
         let arity = Arity::new(arity).ok_or(CodeFault::BadArity)?;
         if instrs.is_empty() || instrs.len() > MAX_COUNT {
@@ -52,14 +58,23 @@ impl Code {
                 return Err(CodeFault::BadOperand(position));
             }
         }
-        Ok(Code { arity, instrs })
+        let container = spell(alloc, arity, &instrs)?;
+        Ok(Code {
+            arity,
+            instrs,
+            container,
+        })
     }
 
-    pub(crate) fn from_parts(arity: Arity, instrs: Vec<Instr>) -> Code
-        requires { IsCode (record { arity = arity; instrs = instrs.items }) }
+    pub(crate) fn from_parts(arity: Arity, instrs: Vec<Instr>, container: Vec<u8>) -> Code
+        requires { Spelled container.items (record { arity = arity; instrs = instrs.items }) }
         ensures { result ≡ record { arity = arity; instrs = instrs.items } }
     {
-        Code { arity, instrs }
+        Code {
+            arity,
+            instrs,
+            container,
+        }
     }
 
     /// How many arguments a call gives, 0 to 8.
@@ -92,5 +107,21 @@ impl Code {
         ensures valid { IsCode self.now }
     {
         self.instrs.get(usize::from(position)).copied()
+    }
+
+    /// The code's one container, from its first byte to its last.
+    pub fn container(&self) -> &[u8]
+        ensures { Spelled result.now self.now }
+    {
+        self.container.as_slice()
+    }
+
+    /// Whether both are the same code: as many arguments, and the same instructions.
+    pub fn is(&self, other: &Code) -> bool
+        ensures { IsTrue result ↔ (self.now ≡ other.now) }
+    {
+        // Each code has one container, and no container is that of two codes: here a proof learns that.
+        one_spelling();
+        self.container == other.container
     }
 }

@@ -107,7 +107,25 @@ pub fn decode(alloc: Global, bytes: &[u8]) -> Result<Code, CodeFault>
 {
     let Header { arity, count } = header_of(bytes)?;
     let instrs = instrs_of(alloc, bytes, count)?;
-    Ok(Code::from_parts(arity, instrs))
+    Ok(Code::from_parts(arity, instrs, bytes.to_vec(alloc)?))
+}
+
+/// The container of a code of these parts.
+pub(crate) fn spell(alloc: Global, arity: Arity, instrs: &[Instr]) -> Result<Vec<u8>, CodeFault>
+    requires { length instrs.now ≤ MAX_COUNT }
+    ensures spelled { IfOk result (λ bytes. bytes.items ≡ spelling (record { arity = arity; instrs = instrs.now })) }
+    ensures memory { IfErr result (λ f. f ≡ CodeFault.Memory) }
+{
+    let count = instrs.len() as u16;
+    let size = HEADER_SIZE + Cell::SIZE * usize::from(count);
+    let mut bytes = Vec::with_capacity(alloc, size)?;
+    bytes.extend_from_slice(&MAGIC)?;
+    bytes.extend_from_slice(&[arity.number(), 0])?;
+    bytes.extend_from_slice(&count.to_be_bytes())?;
+    for instr in instrs {
+        bytes.extend_from_slice(&instr.cell().to_bytes())?;
+    }
+    Ok(bytes)
 }
 
 /// The one spelling of the code.
@@ -117,16 +135,7 @@ pub fn encode(alloc: Global, code: &Code) -> Result<Vec<u8>, CodeFault>
     ensures spelled { IfOk result (λ bytes. Spelled bytes.items code.now) }
     ensures memory { IfErr result (λ f. f ≡ CodeFault.Memory) }
 {
-    let count = code.count();
-    let size = HEADER_SIZE + Cell::SIZE * usize::from(count);
-    let mut bytes = Vec::with_capacity(alloc, size)?;
-    bytes.extend_from_slice(&MAGIC)?;
-    bytes.extend_from_slice(&[code.arity().number(), 0])?;
-    bytes.extend_from_slice(&count.to_be_bytes())?;
-    for instr in code.instrs() {
-        bytes.extend_from_slice(&instr.cell().to_bytes())?;
-    }
-    Ok(bytes)
+    Ok(code.container().to_vec(alloc)?)
 }
 
 /// The laws of spellings: each code has one, and no bytes are the spelling of two codes. Bytes have a first fault only

@@ -1,16 +1,14 @@
 -- The members of a trail, as tokens.
-use Rattle.std.specs.Prelude.{◌≡◌, List, length, Some}
+use Rattle.std.specs.Prelude.{◌≡◌, List, length, Some, option_and_then}
 use Rattle.json.specs.Token.{Token}
 use Rattle.json.specs.Json.{members, value}
-use Rattle.serde_json.specs.Data.{object, no_members}
+use Rattle.serde_json.specs.Data.{Members, object, no_members}
 use Rattle.serde_json.specs.Read.{of_members, converted}
 use Rattle.tl_tree.specs.Trees.{TreeValue}
 use Rattle.tl_trail.specs.declared.raw.RawTrail.{RawTrail}
 use Rattle.tl_trail.specs.Raw.{IsHalfRead}
 use Rattle.tl_trail.specs.Reading.{parts_of, form_of_parts}
 use Rattle.tl_trail.specs.Tokens.{member_depth}
-use Rattle.serde_json.specs.Data.{Members}
-use Rattle.std.specs.Prelude.{option_and_then}
 
 -- first come the members of an object that is a trail with this tree
 pub record AreOfTrail (ts : List Token) (tree : TreeValue) (raw : RawTrail) (rest : List Token) : Type 0 where

@@ -2,7 +2,6 @@
 use Rattle.std.specs.Prelude.{◌≡◌, ℕ, List}
 use Rattle.tl_instr.specs.declared.instr.Instr.{Instr}
 use Rattle.tl_instr.specs.Codes.{CodeValue, IsCode}
-use Rattle.tl_instr.specs.Spelling.{Spelled}
 use Rattle.tl_budget.specs.declared.limits.Bounds.{Bounds}
 use Rattle.tl_budget.specs.declared.nested.Place.{Place}
 use Rattle.tl_budget.specs.Nested.{IsNest}
@@ -15,9 +14,8 @@ pub record AreBounds (code : List Instr) (b : Bounds) : Type 0 where
   pub locks : b.locks ≡ lock_bound code
   pub emits : b.emits ≡ emit_bound code
 
-pub record IsProc (code : CodeValue) (places : List Place) (b : Bounds) (container : List ℕ) : Type 0 where
+pub record IsProc (code : CodeValue) (places : List Place) (b : Bounds) : Type 0 where
   pub valid : IsCode code
   pub accepted : Acceptable code.instrs
   pub nest : IsNest code.instrs places
   pub bounds : AreBounds code.instrs b
-  pub spelled : Spelled container code

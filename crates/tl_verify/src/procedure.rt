@@ -2,7 +2,6 @@
 
 ghost use Rattle.std.specs.Prelude.{◌≡◌, ◌≢◌, ◌↔◌, IsTrue, IfOk, IfErr, length};
 ghost use Rattle.tl_instr.specs.Codes.{CodeValue, IsCode};
-ghost use Rattle.tl_instr.specs.Spelling.{Spelled};
 ghost use Rattle.tl_budget.specs.Nested.{IsNest};
 ghost use Rattle.tl_budget.specs.Loops.{budget, lock_bound, emit_bound};
 ghost use Rattle.tl_verify.specs.Acceptable.{Acceptable};
@@ -16,7 +15,7 @@ use crate::registers::registers;
 use std::alloc::Global;
 use std::marker::Model;
 use tl_budget::{Bounds, Nest, bounds, nest};
-use tl_instr::{Code, encode, one_spelling};
+use tl_instr::Code;
 
 /// A code that was accepted, with its loops and its bounds. Only `verify` makes one.
 #[derive(Debug, Drop)]
@@ -24,8 +23,6 @@ pub struct Proc {
     code: Code,
     nest: Nest,
     bounds: Bounds,
-    // The code as a container. Two codes are the same where these bytes are, and bytes are compared fast.
-    container: Vec<u8>,
 }
 
 impl Model for Proc {
@@ -36,7 +33,7 @@ impl Model for Proc {
 
     ghost view = { λ p. p.code };
 
-    ghost invariant = { λ p. IsProc p.code p.nest p.bounds p.container.items };
+    ghost invariant = { λ p. IsProc p.code p.nest p.bounds };
 }
 
 impl Proc {
@@ -67,18 +64,15 @@ impl Proc {
     pub fn is(&self, other: &Proc) -> bool
         ensures { IsTrue result ↔ (self.now ≡ other.now) }
     {
-        // Each code has one container, and no container is that of two codes: here a proof learns that.
-        one_spelling();
-        self.container == other.container
+        self.code.is(&other.code)
     }
 }
 
-// The loops and the bounds of an accepted code, and its container; or its first fault.
-fn examine(alloc: Global, code: &Code) -> Result<(Nest, Bounds, Vec<u8>), VerifyFault>
+// The loops and the bounds of an accepted code, or its first fault.
+fn examine(alloc: Global, code: &Code) -> Result<(Nest, Bounds), VerifyFault>
     ensures accepted { IfOk result (λ _. Acceptable code.now.instrs) }
     ensures nest { IfOk result (λ r. IsNest code.now.instrs r.0) }
     ensures bounds { IfOk result (λ r. AreBounds code.now.instrs r.1) }
-    ensures container { IfOk result (λ r. Spelled r.2.items code.now) }
     ensures fault { IfErr result (λ f. f ≢ fault.Memory → IsFirstFault code.now.instrs f) }
 {
     let loops = nest(alloc, code)?;
@@ -89,10 +83,7 @@ fn examine(alloc: Global, code: &Code) -> Result<(Nest, Bounds, Vec<u8>), Verify
         return Err(fault);
     }
     let sums = bounds(code, &loops)?;
-    let Ok(container) = encode(alloc, code) else {
-        return Err(VerifyFault::Memory);
-    };
-    Ok((loops, sums, container))
+    Ok((loops, sums))
 }
 
 /// Admits a code: from then on it can't fail, whatever its arguments and the tree.
@@ -115,12 +106,7 @@ pub fn verify(alloc: Global, code: Code) -> Result<Proc, (Code, VerifyFault)>
     ensures fault { IfErr result (λ e. e.1 ≢ fault.Memory → IsFirstFault code.instrs e.1) }
 {
     match examine(alloc, &code) {
-        Ok((nest, bounds, container)) => Ok(Proc {
-            code,
-            nest,
-            bounds,
-            container,
-        }),
+        Ok((nest, bounds)) => Ok(Proc { code, nest, bounds }),
         Err(fault) => Err((code, fault)),
     }
 }

@@ -1,7 +1,5 @@
-use Rattle.std.proofs.Common.{rules, ◌≡◌, ◌∙◌, ◌<◌, List, ℕ, Option, Some, Ok, sym, ap, subst, arith, map, length}
-use Rattle.std.specs.Prelude.{IfOk}
+use Rattle.std.proofs.Common.{rules, ◌≡◌, ◌∙◌, ◌<◌, List, ℕ, Option, Some, sym, ap, subst, arith, map, length}
 use Rattle.std.proofs.lemmas.Bool.Decides.{nat_tests}
-use Rattle.tl_instr.specs.declared.fault.CodeFault.{CodeFault}
 use Rattle.std.proofs.lemmas.List.{length-map}
 use Rattle.std.proofs.lemmas.Result.{err_from_is_err_and}
 use Rattle.tl_instr.specs.declared.instr.Instr.{Instr}
@@ -50,19 +48,19 @@ returns-in_err-instrs-clause-fault c =
     subst (λ (f : AsmFault). IsFirstFaultIn (statements c.args.text.now) f) (sym x.1) (subst (λ (ss : List (Option Said)). IsFirstFaultIn ss (NoLabel x.0)) same
     (no_label (said_by c.deref.result.now) s.arity (known s.labels.entries) s.instrs.items (traced s.origins.items) c.in_ok-sketch.ensures.found c.in-Some.arity x.0 c.in-Some.is some astray)))
 
-pub unwrap-requires : goal.unwrap-requires
-unwrap-requires c =
+pub unreachable-requires : goal.unreachable-requires
+unreachable-requires c =
     let s = c.in_ok-sketch.sketch in
     let some : 0 < length s.instrs.items = grind (arith, nat_tests, c.is_empty.ensures, c.if-is_empty.false) in
     let found : map (λ d. aimed (known s.labels.entries) d.1.instr d.1.label) (drafts_of s.instrs.items (traced s.origins.items)) ≡ map Some c.in_ok-instrs.instrs.items = subst (λ (os : List Origin). map (λ d. aimed (known s.labels.entries) d.1.instr d.1.label) (drafts_of s.instrs.items (traced os)) ≡ map Some c.in_ok-instrs.instrs.items) c.deref-3.ensures.value (subst (λ (is : List Instr). map (λ d. aimed (known s.labels.entries) d.1.instr d.1.label) (drafts_of is (traced c.deref-3.result.now)) ≡ map Some c.in_ok-instrs.instrs.items) c.deref-2.ensures.value c.in_ok-instrs.ensures.found) in
-    c.new.ensures.valid.1 (is_code (said_by c.deref.result.now) s.arity (known s.labels.entries) s.instrs.items (traced s.origins.items) c.in_ok-sketch.ensures.found c.in-Some.arity c.in_ok-instrs.instrs.items c.in-Some.is some found)
+    let accepts = c.new.ensures.accepts (is_code (said_by c.deref.result.now) s.arity (known s.labels.entries) s.instrs.items (traced s.origins.items) c.in_ok-sketch.ensures.found c.in-Some.arity c.in_ok-instrs.instrs.items c.in-Some.is some found) in
+    c.in_default-fault.not-Memory (rw c.in-Err.is at accepts)
 
-pub returns-clause-found : goal.returns-clause-found
-returns-clause-found c =
+pub returns-in-Ok-clause-found : goal.returns-in-Ok-clause-found
+returns-in-Ok-clause-found c =
     let s = c.in_ok-sketch.sketch in
     let same : said_by c.deref.result.now ≡ statements c.args.text.now = same_statements c.args.text.now c.deref.result.now (ap (map (λ line. line.now)) c.deref.ensures.value ∙ c.in_ok-lines.ensures.lines) in
     let some : 0 < length s.instrs.items = grind (arith, nat_tests, c.is_empty.ensures, c.if-is_empty.false) in
     let found : map (λ d. aimed (known s.labels.entries) d.1.instr d.1.label) (drafts_of s.instrs.items (traced s.origins.items)) ≡ map Some c.in_ok-instrs.instrs.items = subst (λ (os : List Origin). map (λ d. aimed (known s.labels.entries) d.1.instr d.1.label) (drafts_of s.instrs.items (traced os)) ≡ map Some c.in_ok-instrs.instrs.items) c.deref-3.ensures.value (subst (λ (is : List Instr). map (λ d. aimed (known s.labels.entries) d.1.instr d.1.label) (drafts_of is (traced c.deref-3.result.now)) ≡ map Some c.in_ok-instrs.instrs.items) c.deref-2.ensures.value c.in_ok-instrs.ensures.found) in
-    let value : IfOk {E = CodeFault} (Ok c.unwrap.result) (λ code. code ≡ record { arity = c.in-Some.arity; instrs = c.in_ok-instrs.instrs.items }) = subst (λ r. IfOk {E = CodeFault} r (λ code. code ≡ record { arity = c.in-Some.arity; instrs = c.in_ok-instrs.instrs.items })) c.unwrap.ensures c.new.ensures.value in
     let sk : Sketched (said_by c.deref.result.now) (Some c.in-Some.arity) (known s.labels.entries) s.instrs.items (traced s.origins.items) = subst (λ (o : Option ℕ). Sketched (said_by c.deref.result.now) o (known s.labels.entries) s.instrs.items (traced s.origins.items)) c.in-Some.is c.in_ok-sketch.ensures.found in
-    subst (Written c.args.text.now) (sym value) (written c.args.text.now (said_by c.deref.result.now) (known s.labels.entries) s.instrs.items (traced s.origins.items) c.in-Some.arity c.in_ok-instrs.instrs.items same sk some found)
+    subst (Written c.args.text.now) (sym c.in-Ok.ensures.value) (written c.args.text.now (said_by c.deref.result.now) (known s.labels.entries) s.instrs.items (traced s.origins.items) c.in-Some.arity c.in_ok-instrs.instrs.items same sk some found)

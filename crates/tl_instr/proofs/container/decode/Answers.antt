@@ -14,6 +14,11 @@ returns-in_err-instrs-clause-only c = λ code spelled.
     let p = err_from_is_err_and c.from_residual-in_err-instrs.result c.from_residual-in_err-instrs.ensures.1 in
     rw (p.1, p.2) (memory_alone c.args.bytes.now code c.in_err-instrs.field-0.0 spelled c.in_err-instrs.ensures.fault)
 
+pub from_parts-requires : goal.from_parts-requires
+from_parts-requires c =
+    let framed = c.in_ok-arity.ensures in
+    rw (c.in_ok-to_vec.ensures.items_if_clones_equal (λ _ _ e. e)) (is_spelled c.args.bytes.now c.in_ok-arity.field-0.arity c.in_ok-arity.field-0.count c.in_ok-instrs.instrs.items (λ i. omega (arith, c.type_inv.bytes i)) framed.0 framed.1 framed.2 c.in_ok-instrs.ensures.valid.0 c.in_ok-instrs.ensures.valid.1 c.in_ok-instrs.ensures.spelled)
+
 pub returns-clause-found : goal.returns-clause-found
 returns-clause-found c =
     let framed = c.in_ok-arity.ensures in

@@ -1,4 +1,4 @@
-use Rattle.std.proofs.Common.{rules, refl}
+use Rattle.std.proofs.Common.{rules, sym}
 use Rattle.tl_instr.specs.Instructions.{GoesWithin}
 use Rattle.tl_instr.proofs.Codes.{one_more, is_code}
 use Rattle.tl_instr.proofs.code.Code.new.Goals as goal
@@ -9,8 +9,10 @@ loop-position-preserved c =
     one_more c.len-2.result c.args.instrs.items c.loop-position.position c.index.result.now (search rules) (search rules) c.loop-position.invariant c.cell-cell.ensures.in_range within
 
 pub invariant_of-result : goal.invariant_of-result
-invariant_of-result c = is_code c.in_ok-arity.arity c.len-2.result c.loop-position.position c.args.instrs.items (search rules) (search rules) c.loop-position-test.false (search rules) (search rules) c.loop-position.invariant
+invariant_of-result c = record {
+  valid = is_code c.in_ok-arity.arity c.len-2.result c.loop-position.position c.args.instrs.items (search rules) (search rules) c.loop-position-test.false (search rules) (search rules) c.loop-position.invariant;
+  same = rw (sym c.deref.ensures.value) c.in_ok-container.ensures.spelled;
+}
 
 pub returns-clause-valid : goal.returns-clause-valid
-returns-clause-valid c =
-    (λ _. is_code c.args.arity c.len-2.result c.loop-position.position c.args.instrs.items (search rules) (search rules) c.loop-position-test.false (search rules) (search rules) c.loop-position.invariant, λ _. refl)
+returns-clause-valid c = is_code c.args.arity c.len-2.result c.loop-position.position c.args.instrs.items (search rules) (search rules) c.loop-position-test.false (search rules) (search rules) c.loop-position.invariant

@@ -1,15 +1,13 @@
-use Rattle.std.proofs.Common.{◌∙◌, ap}
-use Rattle.tl_instr.specs.Codes.{CodeValue}
 use Rattle.tl_machine.proofs.LockFreeEnd.{frees}
-use Rattle.tl_machine.proofs.BetweenStepsLemmas.{at_read, steps_short}
+use Rattle.tl_machine.proofs.BetweenStepsLemmas.{at_lent, steps_short}
 use Rattle.tl_machine.proofs.call.CallState.free.Goals as goal
 
 pub go_to-requires : goal.go_to-requires
-go_to-requires c = steps_short _ _ _ c.code.ensures.valid c.code.ensures.accepted c.requires.stands _ (at_read _ _ _ _ _ (c.instrs.ensures.value ∙ ap (λ (x : CodeValue). x.instrs) c.code.ensures.value) c.requires.stands.inside c.in-Release.is)
+go_to-requires c = steps_short _ _ _ c.code.ensures.valid c.code.ensures.accepted c.requires.stands _ (at_lent _ _ _ _ _ _ c.instrs.ensures.value c.code.ensures.value c.requires.stands.inside c.in-Release.is)
 
 pub returns : goal.returns
 returns c =
-    let at = at_read _ _ _ _ _ (c.instrs.ensures.value ∙ ap (λ (x : CodeValue). x.instrs) c.code.ensures.value) c.requires.stands.inside c.in-Release.is in
+    let at = at_lent _ _ _ _ _ _ c.instrs.ensures.value c.code.ensures.value c.requires.stands.inside c.in-Release.is in
     let holds = rw c.index.ensures.same at c.in-Some.is in
     let new = rw c.index-2.ensures.same at c.go_to.ensures in (
       c.in-Some.held,

@@ -1,8 +1,8 @@
 use Rattle.std.proofs.Common.{◌≡◌, ◌++◌, length, take}
 use Rattle.std.specs.List.{flat_map}
 use Rattle.tl_instr.specs.Spelling.{header, instr_bytes}
-use Rattle.tl_instr.proofs.container.encode.Given as goal
+use Rattle.tl_instr.proofs.container.spell.Given as goal
 
 abbrev pub invariant-loop-instr : goal.invariant-loop-instr
 invariant-loop-instr l =
-    l.bytes.items ≡ header l.code.arity (length l.code.instrs) ++ flat_map instr_bytes (take l.instr-index l.instr-items)
+    l.bytes.items ≡ header l.fn.arity (length l.instrs) ++ flat_map instr_bytes (take l.instr-index l.instrs)
