@@ -11,12 +11,12 @@ pub const ROUNDS: usize = 5;
 /// machine for a while disturbs few of them.
 pub const PASSES: usize = 3;
 
-/// How long a round of short work takes: as often as fits, all sides do their work in turn, and each side's round is the sum. So what
-/// disturbs the machine for some milliseconds disturbs all sides.
-const ROUND: Duration = Duration::from_millis(100);
+/// How long a round of short work takes: as often as fits, all sides do their work in turn, and a side's round is the fastest of its
+/// runs. So what disturbs the machine for some milliseconds is left out on each side.
+const ROUND: Duration = Duration::from_millis(200);
 
 /// How often a side does its work in a round at most.
-const MOST: u32 = 50;
+const MOST: u32 = 100;
 
 /// The middle of some numbers, and the quartiles around it.
 #[derive(Clone, Copy, Debug, PartialEq)]
@@ -55,7 +55,7 @@ impl Times {
         self.nanos.iter().map(|nanos| nanos / units).collect()
     }
 
-    /// Adds to the latest round.
+    /// Another run of the latest round.
     fn add(&mut self, name: &str, measured: Measured) -> Result<(), String> {
         if measured.count == u64::MAX {
             return Err(format!("{name}: refused"));
@@ -66,16 +66,9 @@ impl Times {
             return Err(format!("{name}: {:?}, and then {measured:?}", self.came_to));
         }
         if let Some(round) = self.nanos.last_mut() {
-            *round += measured.nanos as f64;
+            *round = round.min(measured.nanos as f64);
         }
         Ok(())
-    }
-
-    /// The latest round is over, in which the work was done so often.
-    fn end_round(&mut self, runs: u32) {
-        if let Some(round) = self.nanos.last_mut() {
-            *round /= f64::from(runs);
-        }
     }
 }
 
@@ -91,11 +84,10 @@ pub fn in_turn_often<const N: usize>(name: &str, least: u32, mut sides: [Side; N
     one_turn(name, &mut sides, &mut times, 0)?;
     let runs = runs_in(start.elapsed()).max(least);
     for round in 0..ROUNDS {
-        times.iter_mut().for_each(|side| side.nanos.push(0.0));
+        times.iter_mut().for_each(|side| side.nanos.push(f64::INFINITY));
         for run in 0..runs as usize {
             one_turn(name, &mut sides, &mut times, round + run)?;
         }
-        times.iter_mut().for_each(|side| side.end_round(runs));
     }
     Ok(times)
 }
@@ -168,8 +160,19 @@ mod tests {
     }
 
     #[test]
+    fn a_round_is_the_fastest_of_its_runs() {
+        let mut runs = 0;
+        let mut side = || {
+            runs += 1;
+            Measured { nanos: if runs % 2 == 0 { 6 } else { 9 }, ..Measured::default() }
+        };
+        let [times] = in_turn("runs", [&mut side]).unwrap();
+        assert_eq!(times.nanos, [6.0; ROUNDS]);
+    }
+
+    #[test]
     fn short_work_is_done_more_often_in_a_round() {
         let runs = [0, 1, 30, 70, 2_000].map(|millis| runs_in(Duration::from_millis(millis)));
-        assert_eq!(runs, [MOST, MOST, 3, 1, 1]);
+        assert_eq!(runs, [MOST, MOST, 6, 2, 1]);
     }
 }

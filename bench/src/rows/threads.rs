@@ -16,7 +16,7 @@ use crate::trees::{chains, heads, CALLS, CHAIN, NODES};
 const WORKERS: [usize; 3] = [1, 2, 4];
 
 /// How many processes of each side a round has at least.
-const RUNS: u32 = 2;
+const RUNS: u32 = 3;
 
 /// Calls on threads: what they do, their code, the tree's nodes and the length of its chains, and how many engines are made.
 struct OnThreads {
