@@ -7,6 +7,7 @@ mod codes;
 mod counting;
 mod measured;
 mod processes;
+mod processors;
 mod product;
 mod reasons;
 mod rounds;

@@ -5,6 +5,7 @@ use std::process::{Command, ExitCode};
 use std::{env, io};
 
 use crate::measured::Measured;
+use crate::processors;
 use crate::trees::{chains, heads, CALLS};
 use crate::twin::turns;
 
@@ -45,7 +46,10 @@ impl Engines<'_> {
     fn told_by(&self, mut command: Command) -> Measured {
         let numbers = [self.workers, self.nodes.into(), self.chain.into(), self.engines as usize];
         command.arg(self.container).args(numbers.map(|number| number.to_string()));
-        match numbers_of(command).as_deref() {
+        processors::keep_to(self.workers.max(1));
+        let told = numbers_of(command);
+        processors::keep_to(1);
+        match told.as_deref() {
             Some(&[nanos, count, sum]) => Measured { nanos, count, sum },
             _ => Measured::REFUSED,
         }

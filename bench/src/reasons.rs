@@ -15,9 +15,8 @@ const fn reason(heading: &'static str, words: &'static str, text: &'static str) 
 }
 
 /// The first that fits a row is its reason.
-const REASONS: [Reason; 12] = [
+const REASONS: [Reason; 11] = [
     reason("A call alone", "", INTERPRETER),
-    reason("Codes", "`verify`", VERIFIER),
     reason("A core", "", CORE),
     reason("`Running`", "product alone", ORDER_OF_RUNNING),
     reason("`Running`", "nodes of eight children", END_OF_A_CALL),
@@ -32,10 +31,8 @@ const REASONS: [Reason; 12] = [
 
 const INTERPRETER: &str = "**The interpreter.** An addition finds out by two comparisons that it overflows, where the twin's asks the processor's flag: \
 the twin with the same comparisons took 3.6 ns a step of the loop of arithmetic, and 3.2 without. A register that holds a node by the verifier's \
-proof is asked once more whether it does. Loops of `rep` and `end` came to 0.77, 0.82, 0.96, 0.98 and 1.33 in five tables of one day.";
-
-const VERIFIER: &str = "**`verify`** also writes the code's container, by which an engine compares two procedures at each turn; the twin's procedure has \
-none. By `perf` that is a fifth of the time: without it the product would take 13.4 ns an instruction where it takes 16.9, and the twin 14.7.";
+proof is asked once more whether it does. Loops of `rep` and `end` came to 0.77 to 1.33 in five tables of an earlier build, and to 0.77 to \
+0.93 in four of this one.";
 
 const CORE: &str = "**A step of a core** came to 0.82 of the twin's speed here, and to 1.05 in a smaller harness of the same sources: so builds of one \
 source differ by a quarter. What the product does more than the faster twin wasn't found: an answer goes to the caller without a call on both \
@@ -59,9 +56,10 @@ history breaks a rule the plain definition places it, from the first event on. `
 The twin's order of 5.4 ns an event took 9.2 with the same checks, and 8.2 where an event is looked at in one match and a node's calls \
 take half the bytes: 0.66 of its speed without them.";
 
-const WORKERS: &str = "**More workers.** The machine's processors are threads of fewer cores. With 10,000 instructions between two turns \
-the twin went 3.1 and 3.4 times as fast on four workers as on one in two tables, and the product 2.7 and 2.8 times. On one path, and with \
-20 instructions between two turns, the twin loses more by them than the product: the lock goes from processor to processor.";
+const WORKERS: &str = "**More workers.** Others use the machine's processors too: a walk on one of them took 43 or 85 microseconds, for seconds on end. \
+With 10,000 instructions between two turns the twin went 3.1 to 3.4 times as fast on four workers as on one in three tables, and the product 2.7 \
+to 2.8 times. On one path, and with 20 instructions between two turns, the twin loses more by them than the product: the lock goes from \
+processor to processor.";
 
 const TURN: &str = "**A turn of an engine.** Under the lock the segment's turn is compared with the kept one by value: the parents of 4,096 nodes take some \
 250 ns of it, a third of a short call, those of 128 some 10 (by `perf`, and by the same calls on both trees). A call's state of 800 bytes is \

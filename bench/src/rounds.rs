@@ -3,6 +3,7 @@
 use std::time::{Duration, Instant};
 
 use crate::measured::Measured;
+use crate::processors;
 
 /// How many rounds of a pass are counted. One more before them only warms up.
 pub const ROUNDS: usize = 5;
@@ -13,10 +14,10 @@ pub const PASSES: usize = 3;
 
 /// How long a round of short work takes: as often as fits, all sides do their work in turn, and a side's round is the fastest of its
 /// runs. So what disturbs the machine for some milliseconds is left out on each side.
-const ROUND: Duration = Duration::from_millis(200);
+const ROUND: Duration = Duration::from_millis(100);
 
 /// How often a side does its work in a round at most.
-const MOST: u32 = 100;
+const MOST: u32 = 50;
 
 /// The middle of some numbers, and the quartiles around it.
 #[derive(Clone, Copy, Debug, PartialEq)]
@@ -72,7 +73,8 @@ impl Times {
     }
 }
 
-/// All sides do their work in turn, each time beginning with another one. A side has to come to the same each time.
+/// All sides do their work in turn, each time beginning with another one, and each round on another processor. A side has to come to
+/// the same each time.
 pub fn in_turn<const N: usize>(name: &str, sides: [Side; N]) -> Result<[Times; N], String> {
     in_turn_often(name, 1, sides)
 }
@@ -84,6 +86,7 @@ pub fn in_turn_often<const N: usize>(name: &str, least: u32, mut sides: [Side; N
     one_turn(name, &mut sides, &mut times, 0)?;
     let runs = runs_in(start.elapsed()).max(least);
     for round in 0..ROUNDS {
+        processors::next_round();
         times.iter_mut().for_each(|side| side.nanos.push(f64::INFINITY));
         for run in 0..runs as usize {
             one_turn(name, &mut sides, &mut times, round + run)?;
@@ -173,6 +176,6 @@ mod tests {
     #[test]
     fn short_work_is_done_more_often_in_a_round() {
         let runs = [0, 1, 30, 70, 2_000].map(|millis| runs_in(Duration::from_millis(millis)));
-        assert_eq!(runs, [MOST, MOST, 6, 2, 1]);
+        assert_eq!(runs, [MOST, MOST, 3, 1, 1]);
     }
 }

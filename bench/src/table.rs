@@ -265,10 +265,11 @@ impl fmt::Display for Table {
 
 Made by `bench/run` on {date}. The product: {product}. The twin: {twin}.
 
-All is measured {} times, from the first row to the last. Each time the sides take turns, {} rounds after one that only warms up. In a
-round short work is done again and again, and the fastest run counts. A number is the middle one of all its rounds, or the fastest where
-nothing stands beside it. A ratio is the middle one of the rounds' own ratios, and the quartiles stand behind it. Where the goal says *at least* or *times as fast*, it is the second number by the first, which
-is the product's speed by the other's; else it is the first by the second. Within a tenth of a goal the verdict is *level*.",
+All is measured {} times, from the first row to the last. Each time the sides take turns, {} rounds after one that only warms up, each
+round on another processor. In a round short work is done again and again, and the fastest run counts. A number is the middle one of
+all its rounds, or the fastest where nothing stands beside it. A ratio is the middle one of the rounds' own ratios, and the quartiles
+stand behind it. Where the goal says *at least* or *times as fast*, it is the second number by the first, which is the product's speed
+by the other's; else it is the first by the second. Within a tenth of a goal the verdict is *level*.",
             rounds::PASSES,
             rounds::ROUNDS
         )?;

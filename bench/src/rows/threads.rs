@@ -1,12 +1,13 @@
 //! Engines, whose calls run on threads, and SQLite beside them.
 
 use std::path::PathBuf;
-use std::{env, fs, process, thread};
+use std::{env, fs, process};
 
 use super::TWIN;
 use crate::codes;
 use crate::measured::Measured;
 use crate::processes::Engines;
+use crate::processors;
 use crate::rounds::{are_alike, in_turn, in_turn_often, Side, Times};
 use crate::sqlite;
 use crate::table::{Goal, Part, Row};
@@ -16,7 +17,7 @@ use crate::trees::{chains, heads, CALLS, CHAIN, NODES};
 const WORKERS: [usize; 3] = [1, 2, 4];
 
 /// How many processes of each side a round has at least.
-const RUNS: u32 = 3;
+const RUNS: u32 = 2;
 
 /// Calls on threads: what they do, their code, the tree's nodes and the length of its chains, and how many engines are made.
 struct OnThreads {
@@ -106,9 +107,10 @@ fn times_of(it: &OnThreads) -> Result<[[Times; 2]; WORKERS.len()], String> {
 
 /// The same goal, where there are as many processors as workers.
 fn if_they_fit(workers: usize, goal: Goal) -> Goal {
-    match thread::available_parallelism() {
-        Ok(processors) if processors.get() >= workers => goal,
-        _ => goal.only_told(),
+    if processors::count() >= workers {
+        goal
+    } else {
+        goal.only_told()
     }
 }
 
