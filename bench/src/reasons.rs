@@ -57,7 +57,7 @@ The twin's order of 5.4 ns an event took 9.2 with the same checks, and 8.2 where
 take half the bytes: 0.66 of its speed without them.";
 
 const WORKERS: &str = "**More workers.** Others use the machine's processors too: a walk on one of them took 43 or 85 microseconds, for seconds on end. \
-With 10,000 instructions between two turns the twin went 3.1 to 3.4 times as fast on four workers as on one in three tables, and the product 2.7 \
+With 10,000 instructions between two turns the twin went 2.5 to 3.4 times as fast on four workers as on one in six tables, and the product 2.4 \
 to 2.8 times. On one path, and with 20 instructions between two turns, the twin loses more by them than the product: the lock goes from \
 processor to processor.";
 
