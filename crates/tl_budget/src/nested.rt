@@ -6,10 +6,11 @@ ghost use Rattle.tl_budget.specs.Nested.{place_at};
 use std::marker::Model;
 
 /// What is kept of a position: how many loops have it in their body, and where the innermost of them opens. Of a position
-/// that opens a loop also where its end stands. What isn't there is 0.
+/// that opens a loop also where its end stands. What isn't there is 0. It has eight bytes: by how many a processor multiplies an index
+/// as it reads.
 #[derive(Clone, Copy, Debug, PartialEq, Eq)]
 pub struct Place {
-    pub depth: u8,
+    pub depth: u32,
     pub opening: u16,
     pub close: u16,
 }
@@ -33,7 +34,7 @@ impl Model for Nest {
 
 impl Nest {
     /// How many loops have the position in their body, 0 to 4.
-    pub fn depth_at(&self, position: u16) -> u8
+    pub fn depth_at(&self, position: u16) -> u32
         requires { position < length self.now }
         ensures { result ≡ (place_at self.now position).depth }
     {

@@ -19,7 +19,7 @@ fn place(openings: &ArrayVec<u16, MAX_DEPTH>) -> Place
     ensures close { result.close ≡ 0 }
 {
     Place {
-        depth: openings.len() as u8,
+        depth: openings.len() as u32,
         opening: openings.last().copied().unwrap_or(0),
         close: 0,
     }

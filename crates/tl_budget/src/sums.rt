@@ -77,7 +77,7 @@ fn total(code: &Code, nest: &Nest) -> Totals
     };
     for position in 0..code.count() {
         let instr = &code.instrs()[usize::from(position)];
-        let depth = usize::from(nest.depth_at(position));
+        let depth = nest.depth_at(position) as usize;
         let weight = products[depth];
         totals = totals.with(instr, weight);
         if let Some(turns) = turns_of(instr) {
