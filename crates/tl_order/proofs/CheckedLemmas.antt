@@ -10,13 +10,16 @@ use Rattle.tl_protocol.specs.declared.action.Action.TheVariants as A
 use Rattle.tl_protocol.specs.declared.event.Event.{Event}
 use Rattle.tl_protocol.specs.declared.event.Event.TheVariants.{Lock, Free, Done}
 use Rattle.tl_protocol.specs.Actions.{held, locked_any, lock_count, free_count, Permitted}
-use Rattle.tl_protocol.specs.History.{caller, part_of, is_done, IsLegalHistory}
+use Rattle.tl_protocol.specs.History.{caller, part_of, is_done, IsOpen, IsLegalHistory}
 use Rattle.tl_protocol.specs.Holders.{holder_of}
 use Rattle.tl_protocol.specs.Nodes.{IsOfNodes}
 use Rattle.tl_protocol.specs.Order.{stands, placed}
 use Rattle.tl_protocol.specs.Placing.{under_of}
 use Rattle.tl_protocol.specs.Rules.{KeepsRules}
 use Rattle.tl_protocol.proofs.Counts.{frees_within, counts-none_held, locks_within}
+use Rattle.tl_protocol.proofs.Holders.{holder-held}
+use Rattle.tl_protocol.proofs.MayComeLemmas.{locked-any, held-locked}
+use Rattle.tl_protocol.proofs.NoStandstill.{done_free, any_admitted}
 use Rattle.tl_protocol.proofs.PartLemmas.{part_of-lock, part_of-free, part_of-other}
 use Rattle.tl_protocol.proofs.PlacedAgrees.{placed-agrees}
 use Rattle.tl_protocol.proofs.PlacingLemmas.{is_call-some, some-is_call, option_eq-call, lock_permitted, permitted_lock}
@@ -99,6 +102,15 @@ pub stands_begun : (parents : List ℕ) → IsTree parents → (past : List Even
 stands_begun parents tree past legal c open' =
     let m = (placed-agrees parents tree past legal).members c in
     grind (arith, m, open')
+
+-- who holds a node is open
+pub holder_open : (parents : List ℕ) (past : List Event) → IsLegalHistory parents past → (c x : ℕ) → holder_of past x ≡ Some c → IsOpen c past
+holder_open parents past legal c x holds =
+    let own = holder-held parents past legal c x holds in
+    let done = part_of c past in (
+      any_admitted parents past legal c (locked-any done x (held-locked done x own)),
+      elim (cases_Bool (is_done c past)) [ inl over ↦ absurd (both_ways (held done x) (done_free parents past legal c x over) own) | inr still ↦ still ],
+    )
 
 -- ---- whether it is this call
 

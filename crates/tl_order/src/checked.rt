@@ -4,6 +4,7 @@ ghost use Rattle.std.specs.Prelude.{◌≡◌, ◌↔◌, ℕ, ◌<◌, List, []
 ghost use Rattle.tl_tree.specs.Records.{Record as RecordValue};
 ghost use Rattle.tl_tree.specs.Shape.{IsTree};
 ghost use Rattle.tl_protocol.specs.declared.event.Event.{Event as EventValue};
+ghost use Rattle.tl_protocol.specs.declared.event.Event.TheVariants as event;
 ghost use Rattle.tl_protocol.specs.declared.action.Action.TheVariants as did;
 ghost use Rattle.tl_protocol.specs.Actions.{Permitted};
 ghost use Rattle.tl_protocol.specs.History.{part_of, is_done, IsOpen};
@@ -57,18 +58,18 @@ impl CheckedOrder {
         (call as usize) < self.admitted && !self.done[call as usize]
     }
 
-    // Whether the protocol permits an open call to lock the node.
-    fn permits_lock(&self, shape: &Shape, call: u32, node: u16) -> bool
+    // Whether the call is open and the protocol permits it to lock the node. A call that holds the node's parent is open, so that is
+    // asked at a first lock alone.
+    fn may_lock(&self, shape: &Shape, call: u32, node: u16) -> bool
         requires tree { IsTree shape.now }
         requires even { IsEven self.now (length shape.now) }
         requires call { call < calls_of self.now }
         requires node { node < length shape.now }
-        ensures { (past : List EventValue) (found : RecordValue)
-            → IsChecked shape.now self.now past → is_done call past ≡ false
-            → IsTrue result ↔ Permitted shape.now (part_of call past) (did.Lock node found) }
+        ensures { (past : List EventValue) (found : RecordValue) → IsChecked shape.now self.now past
+            → IsTrue result ↔ KeepsRules shape.now past (event.Lock node call found) }
     {
         if !self.kept.stands(call) {
-            return true;
+            return self.is_open(call);
         }
         if node == 0 || self.kept.holder(shape.parent(node)) != Some(call) {
             return false;
@@ -76,11 +77,11 @@ impl CheckedOrder {
         self.kept.under(node) != Some(call)
     }
 
-    // Whether the protocol permits the call to free the node.
-    fn permits_free(&self, call: u32, node: u16) -> bool
+    // Whether the call is open and the protocol permits it to free the node: whether it holds the node.
+    fn may_free(&self, call: u32, node: u16) -> bool
         requires { node < length self.now.kept.holders }
         ensures { (parents : List ℕ) (past : List EventValue) (left : RecordValue) → IsChecked parents self.now past
-            → IsTrue result ↔ Permitted parents (part_of call past) (did.Free node left) }
+            → IsTrue result ↔ KeepsRules parents past (event.Free node call left) }
     {
         self.kept.holder(node) == Some(call)
     }
@@ -106,10 +107,8 @@ impl CheckedOrder {
     {
         match *event {
             Event::Admit { call } => call as usize == self.admitted,
-            Event::Lock { call, node, .. } => {
-                self.is_open(call) && self.permits_lock(shape, call, node)
-            }
-            Event::Free { call, node, .. } => self.is_open(call) && self.permits_free(call, node),
+            Event::Lock { call, node, .. } => self.may_lock(shape, call, node),
+            Event::Free { call, node, .. } => self.may_free(call, node),
             Event::Done { call } => self.is_open(call) && self.permits_end(call),
         }
     }

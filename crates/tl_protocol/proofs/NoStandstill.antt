@@ -19,7 +19,7 @@ use Rattle.tl_protocol.proofs.Alone.{permitted_at}
 use Rattle.tl_protocol.proofs.WorldSteps.{legal_history}
 
 -- a call that is done holds nothing
-done_free : (parents : List ℕ) (past : List Event) → IsLegalHistory parents past → (d x : ℕ) → is_done d past ≡ true → held (part_of d past) x ≡ false
+pub done_free : (parents : List ℕ) (past : List Event) → IsLegalHistory parents past → (d x : ℕ) → is_done d past ≡ true → held (part_of d past) x ≡ false
 done_free parents [] legal d x h = refl
 done_free parents (Admit e ∷ past) legal d x h = done_free parents past (legal_before parents (Admit e) past legal) d x h
 done_free parents (Lock y e found ∷ past) legal d x h =
@@ -41,7 +41,7 @@ done_free parents (Done e ∷ past) legal d x h = elim (cases_eq e d) [
 ]
 
 -- a call that has locked something was admitted
-any_admitted : (parents : List ℕ) (past : List Event) → IsLegalHistory parents past → (c : ℕ) → locked_any (part_of c past) ≡ true → c < admits past
+pub any_admitted : (parents : List ℕ) (past : List Event) → IsLegalHistory parents past → (c : ℕ) → locked_any (part_of c past) ≡ true → c < admits past
 any_admitted parents [] legal c h = absurd (both_ways false refl h)
 any_admitted parents (Admit e ∷ past) legal c h = let ih = any_admitted parents past (legal_before parents (Admit e) past legal) c h in omega arith
 any_admitted parents (Lock y e found ∷ past) legal c h = elim (cases_eq e c) [
