@@ -5,19 +5,25 @@ use std::time::{Duration, Instant};
 use crate::measured::Measured;
 use crate::processors;
 
-/// How many rounds of a pass are counted. One more before them only warms up.
-pub const ROUNDS: usize = 5;
+/// How many rounds of a pass are counted. One turn before them only warms up.
+pub const ROUNDS: usize = 3;
 
 /// How often everything is measured, from the first row to the last. So the rounds of a row stand minutes apart, and what disturbs the
 /// machine for a while disturbs few of them.
-pub const PASSES: usize = 3;
+pub const PASSES: usize = 5;
 
-/// How long a round of short work takes: as often as fits, all sides do their work in turn, and a side's round is the fastest of its
-/// runs. So what disturbs the machine for some milliseconds is left out on each side.
-const ROUND: Duration = Duration::from_millis(100);
+/// How long a round takes at least, if its work is short: then the sides take turns in it on one processor after another.
+const ROUND: Duration = Duration::from_millis(240);
 
-/// How often a side does its work in a round at most.
-const MOST: u32 = 50;
+/// How long a side works in a turn at least, if its work is short: then it is done again and again, and the fastest run counts. So the
+/// caches are warm, and what disturbs the machine for some milliseconds is left out on each side.
+const TURN: Duration = Duration::from_millis(12);
+
+/// How many times as long a turn may take with what isn't timed, as texts that are read first.
+const MAKING_READY: u32 = 4;
+
+/// How often a side does its work in a turn at most, and how many turns a round has at most.
+const MOST: u128 = 50;
 
 /// The middle of some numbers, and the quartiles around it.
 #[derive(Clone, Copy, Debug, PartialEq)]
@@ -73,40 +79,55 @@ impl Times {
     }
 }
 
-/// All sides do their work in turn, each time beginning with another one, and each round on another processor. A side has to come to
-/// the same each time.
+/// All sides do their work in turn, each turn on another processor and beginning with another side. A side has to come to the same each
+/// time.
 pub fn in_turn<const N: usize>(name: &str, sides: [Side; N]) -> Result<[Times; N], String> {
     in_turn_often(name, 1, sides)
 }
 
-/// The same, where a round has at least so many runs. Threads need that: on which processors they run differs from run to run.
-pub fn in_turn_often<const N: usize>(name: &str, least: u32, mut sides: [Side; N]) -> Result<[Times; N], String> {
+/// The same, where a round has at least so many turns. Threads need that: how fast they are differs by the processors that they get.
+pub fn in_turn_often<const N: usize>(name: &str, least: usize, mut sides: [Side; N]) -> Result<[Times; N], String> {
     let mut times = [(); N].map(|()| Times::default());
-    let start = Instant::now();
-    one_turn(name, &mut sides, &mut times, 0)?;
-    let runs = runs_in(start.elapsed()).max(least);
+    let runs = warm_up(name, &mut sides, &mut times)?;
+    let turns = runs.in_a_round.max(least);
     for round in 0..ROUNDS {
-        processors::next_round();
         times.iter_mut().for_each(|side| side.nanos.push(f64::INFINITY));
-        for run in 0..runs as usize {
-            one_turn(name, &mut sides, &mut times, round + run)?;
+        for turn in 0..turns {
+            processors::next_turn();
+            for place in (0..N).map(|place| (round * turns + turn + place) % N) {
+                for _ in 0..runs.in_a_turn[place] {
+                    times[place].add(name, sides[place]())?;
+                }
+            }
         }
     }
     Ok(times)
 }
 
-/// Each side does its work once; the first is the one at that place.
-fn one_turn(name: &str, sides: &mut [Side], times: &mut [Times], first: usize) -> Result<(), String> {
-    for turn in 0..sides.len() {
-        let place = (first + turn) % sides.len();
-        times[place].add(name, sides[place]())?;
-    }
-    Ok(())
+/// How often each side does its work in a turn, and how many turns a round has.
+struct Runs<const N: usize> {
+    in_a_turn: [usize; N],
+    in_a_round: usize,
 }
 
-/// How often the sides do their work in a round, where once took so long.
-fn runs_in(once: Duration) -> u32 {
-    (ROUND.as_nanos() / once.as_nanos().max(1)).clamp(1, MOST.into()) as u32
+/// Each side does its work once, which shows how long it takes.
+fn warm_up<const N: usize>(name: &str, sides: &mut [Side; N], times: &mut [Times; N]) -> Result<Runs<N>, String> {
+    let mut in_a_turn = [1; N];
+    let mut turn = Duration::ZERO;
+    for place in 0..N {
+        let start = Instant::now();
+        let measured = sides[place]();
+        let once = start.elapsed();
+        times[place].add(name, measured)?;
+        in_a_turn[place] = times_in(TURN, Duration::from_nanos(measured.nanos)).min(times_in(MAKING_READY * TURN, once));
+        turn += once * in_a_turn[place] as u32;
+    }
+    Ok(Runs { in_a_turn, in_a_round: times_in(ROUND, turn) })
+}
+
+/// How often what takes so long fits into that time: at least once.
+fn times_in(time: Duration, once: Duration) -> usize {
+    (time.as_nanos() / once.as_nanos().max(1)).clamp(1, MOST) as usize
 }
 
 /// Both sides do the same work in turn, and have to come to the same.
@@ -150,12 +171,18 @@ mod tests {
         assert!(in_turn("unsteady", [&mut unsteady]).is_err());
     }
 
+    /// What takes so long each time.
+    fn slow(nanos: u64) -> Measured {
+        std::thread::sleep(MAKING_READY * TURN);
+        Measured { nanos, ..Measured::default() }
+    }
+
     #[test]
     fn each_side_begins_in_turn() {
         let order = std::cell::RefCell::new(Vec::new());
         let side = |number| {
             order.borrow_mut().push(number);
-            Measured { nanos: 6, ..Measured::default() }
+            slow(6)
         };
         let times = in_turn("order", [&mut || side(0), &mut || side(1)]).unwrap();
         assert_eq!(order.borrow()[2..8], [0, 1, 1, 0, 0, 1]);
@@ -167,15 +194,26 @@ mod tests {
         let mut runs = 0;
         let mut side = || {
             runs += 1;
-            Measured { nanos: if runs % 2 == 0 { 6 } else { 9 }, ..Measured::default() }
+            slow(if runs % 2 == 0 { 6 } else { 9 })
         };
         let [times] = in_turn("runs", [&mut side]).unwrap();
         assert_eq!(times.nanos, [6.0; ROUNDS]);
     }
 
     #[test]
-    fn short_work_is_done_more_often_in_a_round() {
-        let runs = [0, 1, 30, 70, 2_000].map(|millis| runs_in(Duration::from_millis(millis)));
-        assert_eq!(runs, [MOST, MOST, 3, 1, 1]);
+    fn short_work_is_done_more_often() {
+        let (mut short, mut long) = (0, 0);
+        let mut quick = || {
+            short += 1;
+            Measured::default()
+        };
+        let mut slow = || {
+            long += 1;
+            slow(0)
+        };
+        in_turn("short and long", [&mut quick, &mut slow]).unwrap();
+        assert_eq!(short - 1, (long - 1) * MOST as usize);
+        let fits = [0, 1, 30, 70, 2_000].map(|millis| times_in(Duration::from_millis(100), Duration::from_millis(millis)));
+        assert_eq!(fits, [MOST as usize, MOST as usize, 3, 1, 1]);
     }
 }

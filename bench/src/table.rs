@@ -38,31 +38,55 @@ impl Goal {
     }
 }
 
-/// A row: what was done, what each side took for one unit of it by rounds, and what was asked for.
+/// What a side took for a unit of the work.
+#[derive(Clone)]
+pub enum Took {
+    /// In each round.
+    Rounds(Vec<f64>),
+    /// For each unit that longer work has more than shorter work: the rounds of both, and how many units.
+    More { longer: Vec<f64>, shorter: Vec<f64>, units: f64 },
+}
+
+impl Took {
+    /// In the fastest round: what disturbs the machine makes no round faster.
+    fn fastest(&self) -> f64 {
+        match self {
+            Took::Rounds(rounds) => fastest(rounds),
+            Took::More { longer, shorter, units } => (fastest(longer) - fastest(shorter)) / units,
+        }
+    }
+
+    /// The rounds of a later pass stand behind those so far. Whether both are of one kind.
+    fn extend(&mut self, later: Took) -> bool {
+        match (self, later) {
+            (Took::Rounds(rounds), Took::Rounds(more)) => rounds.extend(more),
+            (Took::More { longer, shorter, .. }, Took::More { longer: more, shorter: fewer, .. }) => {
+                longer.extend(more);
+                shorter.extend(fewer);
+            }
+            _ => return false,
+        }
+        true
+    }
+}
+
+/// A row: what was done, what the product took for one unit of it, what another side took, and what was asked for.
 pub struct Row {
     work: String,
     unit: &'static str,
-    product: Vec<f64>,
-    beside: Beside,
+    product: Took,
+    other: Option<Took>,
     goal: Goal,
 }
 
-/// What stands beside the product's rounds.
-enum Beside {
-    Nothing,
-    /// The rounds of another side, and the ratios of both by rounds.
-    Other { rounds: Vec<f64>, ratios: Vec<f64> },
-}
-
 impl Row {
+    pub fn new(work: impl Into<String>, unit: &'static str, product: Took, other: Option<Took>, goal: Goal) -> Row {
+        Row { work: work.into(), unit, product, other, goal }
+    }
+
     /// What the rounds of the product and of another side took a unit.
     pub fn paired(work: impl Into<String>, unit: &'static str, product: &[f64], other: &[f64], goal: Goal) -> Row {
-        let ratio = |(ours, theirs): (&f64, &f64)| match goal {
-            Goal::AtLeast(_) | Goal::Speed => theirs / ours,
-            _ => ours / theirs,
-        };
-        let ratios = product.iter().zip(other).map(ratio).collect();
-        Row { beside: Beside::Other { rounds: other.to_vec(), ratios }, ..Row::alone(work, unit, product, goal) }
+        Row::new(work, unit, Took::Rounds(product.to_vec()), Some(Took::Rounds(other.to_vec())), goal)
     }
 
     /// The same of two sides' times.
@@ -72,56 +96,52 @@ impl Row {
 
     /// What the product's rounds took a unit, with nothing beside it.
     pub fn alone(work: impl Into<String>, unit: &'static str, product: &[f64], goal: Goal) -> Row {
-        Row { work: work.into(), unit, product: product.to_vec(), beside: Beside::Nothing, goal }
+        Row::new(work, unit, Took::Rounds(product.to_vec()), None, goal)
     }
 
     /// The rounds of a later pass stand behind those so far. Whether that is the same row.
     fn extend(&mut self, later: Row) -> bool {
-        self.product.extend(later.product);
-        match (&mut self.beside, later.beside) {
-            (Beside::Other { rounds, ratios }, Beside::Other { rounds: more, ratios: more_ratios }) => {
-                rounds.extend(more);
-                ratios.extend(more_ratios);
+        let alike = match (&mut self.other, later.other) {
+            (Some(rounds), Some(more)) => rounds.extend(more),
+            (None, None) => true,
+            _ => false,
+        };
+        alike && self.product.extend(later.product) && self.work == later.work
+    }
+
+    /// The product's number by the other's, or the other way round, as the goal asks.
+    fn by(&self, ours: f64, theirs: f64) -> f64 {
+        match self.goal {
+            Goal::AtLeast(_) | Goal::Speed => theirs / ours,
+            _ => ours / theirs,
+        }
+    }
+
+    /// The ratio of the fastest rounds.
+    fn ratio(&self) -> Option<f64> {
+        self.other.as_ref().map(|other| self.by(self.product.fastest(), other.fastest()))
+    }
+
+    /// The ratios of the rounds, each by itself.
+    fn ratios(&self) -> Option<Spread> {
+        match (&self.product, &self.other) {
+            (Took::Rounds(ours), Some(Took::Rounds(theirs))) => {
+                Some(Spread::of(ours.iter().zip(theirs).map(|(&ours, &theirs)| self.by(ours, theirs))))
             }
-            (Beside::Nothing, Beside::Nothing) => {}
-            _ => return false,
-        }
-        self.work == later.work
-    }
-
-    /// The product's number: the middle round where it stands beside another's, and else the fastest.
-    fn number(&self) -> f64 {
-        match &self.beside {
-            Beside::Other { .. } => Spread::of(self.product.iter().copied()).middle,
-            Beside::Nothing => fastest(&self.product),
-        }
-    }
-
-    fn ratio(&self) -> Option<Spread> {
-        match &self.beside {
-            Beside::Other { ratios, .. } => Some(Spread::of(ratios.iter().copied())),
             _ => None,
-        }
-    }
-
-    /// How much more the product takes than the other, by the fastest rounds of both.
-    fn more(&self) -> Option<f64> {
-        match &self.beside {
-            Beside::Other { rounds, .. } => Some(fastest(&self.product) - fastest(rounds)),
-            Beside::Nothing => None,
         }
     }
 
     /// How far the goal was reached: 1 is just reached, and more is better.
     fn reached(&self) -> Option<f64> {
-        let ratio = self.ratio().map(|ratio| ratio.middle);
+        let more = || Some(self.product.fastest() - self.other.as_ref()?.fastest());
         match self.goal {
-            Goal::AtLeast(least) => Some(ratio? / least),
+            Goal::AtLeast(least) => Some(self.ratio()? / least),
             // A difference below nothing is noise, and says nothing.
-            Goal::AtMost(_) if ratio? <= 0.0 => Some(1.0),
-            Goal::AtMost(most) => Some(most / ratio?),
-            Goal::AtMostMore(most) => Some(most / self.more()?.max(f64::MIN_POSITIVE)),
-            Goal::Within(most) => Some(most / self.number()),
+            Goal::AtMost(_) if self.ratio()? <= 0.0 => Some(1.0),
+            Goal::AtMost(most) => Some(most / self.ratio()?),
+            Goal::AtMostMore(most) => Some(most / more()?.max(f64::MIN_POSITIVE)),
+            Goal::Within(most) => Some(most / self.product.fastest()),
             Goal::Speed | Goal::Cost => None,
         }
     }
@@ -150,16 +170,16 @@ impl fmt::Display for Goal {
 
 impl fmt::Display for Row {
     fn fmt(&self, out: &mut fmt::Formatter<'_>) -> fmt::Result {
-        write!(out, "| {} | {} | {:.1} | ", self.work, self.unit, self.number())?;
-        match &self.beside {
-            Beside::Other { rounds, ratios } => {
-                let [other, ratio] = [rounds, ratios].map(|numbers| Spread::of(numbers.iter().copied()));
-                write!(out, "{:.1} | {:.2} ({:.2} to {:.2})", other.middle, ratio.middle, ratio.low, ratio.high)?;
-            }
-            Beside::Nothing => write!(out, " | ")?,
+        write!(out, "| {} | {} | {:.1} | ", self.work, self.unit, self.product.fastest())?;
+        match (&self.other, self.ratio()) {
+            (Some(other), Some(ratio)) => write!(out, "{:.1} | {ratio:.2} | ", other.fastest())?,
+            _ => write!(out, " |  | ")?,
         }
-        match (self.goal, &self.beside) {
-            (Goal::Speed | Goal::Cost, Beside::Nothing) => write!(out, " |  |"),
+        if let Some(Spread { low, middle, high }) = self.ratios() {
+            write!(out, "{middle:.2} ({low:.2} to {high:.2})")?;
+        }
+        match (self.goal, &self.other) {
+            (Goal::Speed | Goal::Cost, None) => write!(out, " |  |"),
             (goal, _) => write!(out, " | {goal}{} |", self.verdict()),
         }
     }
@@ -197,8 +217,8 @@ impl fmt::Display for Part {
             writeln!(out, "{note}")?;
         }
         if !self.rows.is_empty() {
-            writeln!(out, "| Work | Unit | product | {} | ratio | Goal |", self.beside)?;
-            writeln!(out, "|---|---|---|---|---|---|")?;
+            writeln!(out, "| Work | Unit | product | {} | ratio | rounds' ratios | Goal |", self.beside)?;
+            writeln!(out, "|---|---|---|---|---|---|---|")?;
         }
         self.rows.iter().try_for_each(|row| writeln!(out, "{row}"))
     }
@@ -265,10 +285,11 @@ impl fmt::Display for Table {
 
 Made by `bench/run` on {date}. The product: {product}. The twin: {twin}.
 
-All is measured {} times, from the first row to the last. Each time the sides take turns, {} rounds after one that only warms up, each
-round on another processor. In a round short work is done again and again, and the fastest run counts. A number is the middle one of
-all its rounds, or the fastest where nothing stands beside it. A ratio is the middle one of the rounds' own ratios, and the quartiles
-stand behind it. Where the goal says *at least* or *times as fast*, it is the second number by the first, which is the product's speed
+All is measured {} times, from the first row to the last. Each time there are {} rounds. In a round the sides take turns, each turn on
+another processor and beginning with another side; short work is done again and again in a turn, and takes more turns. A side's round is
+its fastest run. A number is a side's fastest round: what else a machine does makes no round faster. The ratio is that of these two
+numbers. Behind it stand the ratios of the rounds, each by itself: the middle one and the quartiles, which say how much the machine was
+disturbed. Where the goal says *at least* or *times as fast*, a ratio is the second number by the first, which is the product's speed
 by the other's; else it is the first by the second. Within a tenth of a goal the verdict is *level*.",
             rounds::PASSES,
             rounds::ROUNDS
@@ -314,7 +335,7 @@ mod tests {
             vec![Part::new(heading, "twin", vec![Row::paired("work", "ns", &[ours], &[6.0], Goal::Speed)])]
         };
         let all = together(vec![pass("part", 1.0), pass("part", 2.0), pass("part", 3.0)]).unwrap();
-        assert_eq!(all[0].rows[0].to_string(), "| work | ns | 2.0 | 6.0 | 3.00 (2.00 to 3.00) | times as fast |");
+        assert_eq!(all[0].rows[0].to_string(), "| work | ns | 1.0 | 6.0 | 6.00 | 3.00 (2.00 to 3.00) | times as fast |");
         assert!(together(vec![pass("part", 1.0), pass("other", 2.0)]).is_err());
     }
 
@@ -331,10 +352,17 @@ mod tests {
     fn a_row_is_written() {
         let rounds = [2.0, 4.0, 3.0];
         let row = Row::paired("some work", "ns a step", &rounds, &[3.0, 3.0, 3.0], Goal::AtLeast(0.9));
-        assert_eq!(row.to_string(), "| some work | ns a step | 3.0 | 3.0 | 1.00 (0.75 to 1.00) | at least 0.9: met |");
+        assert_eq!(row.to_string(), "| some work | ns a step | 2.0 | 3.0 | 1.50 | 1.00 (0.75 to 1.00) | at least 0.9: met |");
         let row = Row::alone("some work", "ns a step", &rounds, Goal::Within(1.0));
-        assert_eq!(row.to_string(), "| some work | ns a step | 2.0 |  |  | at most 1: **short** |");
+        assert_eq!(row.to_string(), "| some work | ns a step | 2.0 |  |  |  | at most 1: **short** |");
         let row = Row::paired("some work", "ns a step", &rounds, &[2.0, 2.0, 2.0], Goal::AtMostMore(1.0));
-        assert_eq!(row.to_string(), "| some work | ns a step | 3.0 | 2.0 | 1.50 (1.00 to 1.50) | at most 1 more: met |");
+        assert_eq!(row.to_string(), "| some work | ns a step | 2.0 | 2.0 | 1.00 | 1.50 (1.00 to 1.50) | at most 1 more: met |");
+    }
+
+    #[test]
+    fn what_longer_work_takes_more_goes_by_the_fastest_rounds() {
+        let more = |longer: [f64; 2]| Took::More { longer: longer.to_vec(), shorter: vec![40.0, 10.0], units: 10.0 };
+        let row = Row::new("growth", "ns", more([70.0, 50.0]), Some(more([50.0, 90.0])), Goal::AtMost(1.2));
+        assert_eq!(row.to_string(), "| growth | ns | 4.0 | 4.0 | 1.00 |  | at most 1.2: met |");
     }
 }

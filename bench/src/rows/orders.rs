@@ -3,9 +3,9 @@
 use super::{grouped, walks, TWIN};
 use crate::measured::Measured;
 use crate::product;
-use crate::rounds::{are_alike, both, fastest, in_turn, Side, Times};
+use crate::rounds::{are_alike, both, in_turn, Side, Times};
 use crate::schedules;
-use crate::table::{Goal, Part, Row};
+use crate::table::{Goal, Part, Row, Took};
 use crate::trees::CALLS;
 use crate::twin::reader::read_trail;
 use crate::twin::trail::Trail;
@@ -15,7 +15,10 @@ use crate::twin::work as twin;
 const LOCKS: [u16; 4] = [15, 31, 63, 127];
 
 /// How often each of these trails is run in a round.
-const RUNS: [u32; LOCKS.len()] = [8, 4, 2, 1];
+const RUNS: [u32; LOCKS.len()] = [16, 8, 4, 2];
+
+/// What the twin does that looks at no rule.
+const TRUSTING: &str = "the twin takes it that the rules are kept";
 
 /// What is asked of `order_of` and `audit` beside the twin.
 const LEAST: Goal = Goal::AtLeast(0.8);
@@ -52,6 +55,10 @@ impl Told {
         self.both("order_of", times, product::order, twin::order)
     }
 
+    fn trusting_orders(&self, times: u32) -> Result<[Times; 2], String> {
+        self.both("order_of", times, product::order, twin::trusting_order)
+    }
+
     fn audits(&self, times: u32) -> Result<[Times; 2], String> {
         self.both("audit", times, product::audit, twin::audit)
     }
@@ -69,8 +76,8 @@ impl AtSize {
         self.events * f64::from(self.runs)
     }
 
-    fn row(&self, name: &str) -> Row {
-        let work = format!("`{name}`, {} events", grouped(self.events as u64));
+    fn row(&self, name: &str, how: &str) -> Row {
+        let work = format!("`{name}`, {} events{how}", grouped(self.events as u64));
         Row::of_times(work, UNIT, [&self.times[0], &self.times[1]], self.units(), LEAST)
     }
 
@@ -80,11 +87,10 @@ impl AtSize {
     }
 }
 
-/// What each event more costs the product from one size to the next: by the fastest rounds of both, since a difference of two
-/// rounds would have what disturbed either.
-fn added(less: &AtSize, more: &AtSize) -> [f64; 1] {
-    let run = |size: &AtSize| fastest(&size.times[0].per(size.runs.into()));
-    [(run(more) - run(less)) / (more.events - less.events)]
+/// What each event more costs the product from one size to the next.
+fn added(shorter: &AtSize, longer: &AtSize) -> Took {
+    let rounds = |size: &AtSize| size.times[0].per(size.runs.into());
+    Took::More { longer: rounds(longer), shorter: rounds(shorter), units: longer.events - shorter.events }
 }
 
 fn growth(name: &str, sizes: &[AtSize; LOCKS.len()]) -> Row {
@@ -96,7 +102,7 @@ fn growth(name: &str, sizes: &[AtSize; LOCKS.len()]) -> Row {
         grouped(first.events as u64),
         grouped(second.events as u64)
     );
-    Row::paired(work, "ns an event more", &added(third, fourth), &added(first, second), Goal::AtMost(1.2))
+    Row::new(work, "ns an event more", added(third, fourth), Some(added(first, second)), Goal::AtMost(1.2))
 }
 
 /// All sizes in the same rounds, since what an event more costs is their difference. A short trail runs more often in a round, so that
@@ -125,9 +131,11 @@ pub fn sizes() -> Result<Part, String> {
     let told: Vec<Told> = LOCKS.into_iter().map(|locks| Told::new(walks(locks)?)).collect::<Result<_, String>>()?;
     let told: [Told; LOCKS.len()] = told.try_into().map_err(|_| "as many trails as sizes")?;
     let orders = all_sizes("order_of", &told, product::order, twin::order)?;
+    let trusting = all_sizes("order_of", &told, product::order, twin::trusting_order)?;
     let audits = all_sizes("audit", &told, product::audit, twin::audit)?;
-    let mut rows: Vec<Row> = orders.iter().map(|size| size.row("order_of")).collect();
-    rows.extend(audits.iter().map(|size| size.row("audit")));
+    let mut rows: Vec<Row> = orders.iter().map(|size| size.row("order_of", "")).collect();
+    rows.extend(trusting.iter().map(|size| size.row("order_of", &format!("; {TRUSTING}"))));
+    rows.extend(audits.iter().map(|size| size.row("audit", "")));
     rows.push(audits[0].alone("audit", 30.0));
     rows.push(audits[LOCKS.len() - 1].alone("audit", 30.0));
     rows.push(growth("order_of", &orders));
@@ -154,6 +162,8 @@ pub fn schedules() -> Result<Part, String> {
         let events = told.events() * f64::from(times);
         let [ours, theirs] = told.orders(times)?;
         rows.push(Row::of_times(format!("`order_of`: {name}"), UNIT, [&ours, &theirs], events, LEAST));
+        let [ours, theirs] = told.trusting_orders(times)?;
+        rows.push(Row::of_times(format!("`order_of`: {name}; {TRUSTING}"), UNIT, [&ours, &theirs], events, LEAST));
         let [ours, theirs] = told.audits(times)?;
         rows.push(Row::of_times(format!("`audit`: {name}"), UNIT, [&ours, &theirs], events, LEAST));
     }

@@ -16,8 +16,8 @@ use crate::trees::{chains, heads, CALLS, CHAIN, NODES};
 /// How many workers run the batches of an engine.
 const WORKERS: [usize; 3] = [1, 2, 4];
 
-/// How many processes of each side a round has at least.
-const RUNS: u32 = 2;
+/// How many turns a round has at least, and so processes of each side.
+const RUNS: usize = 2;
 
 /// Calls on threads: what they do, their code, the tree's nodes and the length of its chains, and how many engines are made.
 struct OnThreads {

@@ -1,4 +1,4 @@
-//! The order by its definition, for any history: tests compare with it.
+//! The order by its definition, for any history.
 
 use super::core::Event;
 use super::tree::Shape;

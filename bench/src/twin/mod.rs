@@ -2,7 +2,9 @@
 
 pub mod assembler;
 pub mod audit;
+mod checked;
 pub mod core;
+mod defined;
 pub mod engine;
 pub mod fault;
 pub mod instruction;
@@ -17,7 +19,5 @@ pub mod turns;
 pub mod verifier;
 pub mod work;
 
-#[cfg(test)]
-mod defined;
 #[cfg(test)]
 mod tests;

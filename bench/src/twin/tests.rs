@@ -9,7 +9,7 @@ use super::reader::read_trail;
 use super::trail::{trail_of, write_trail, Trail};
 use super::tree::Tree;
 use super::verifier::verify;
-use super::{defined, order, turns as many, work};
+use super::{checked, defined, order, turns as many, work};
 
 const WALK: &[u8] = include_bytes!("../../../examples/walk.tlp");
 const WALK_TEXT: &str = include_str!("../../../examples/walk.asm");
@@ -266,6 +266,30 @@ fn the_workloads_fit_together() {
     assert_eq!(many::keep(&code, &parents(), &args).count, done.count);
     let kept = order::order_of(&trail.events, 100, &trail.tree.shape);
     assert_eq!(kept, defined::order_of(&trail.events, &trail.tree.shape));
+    assert!(work::order(&trail, 2).is_like(&work::trusting_order(&trail, 2)));
+}
+
+/// The order of any history is the one by its definition, whatever event is left out, told twice or told of another call.
+#[test]
+fn any_history_has_its_order() {
+    let trail = trail_of(&turns());
+    let shape = &trail.tree.shape;
+    for place in 0..trail.events.len() {
+        let mut left_out = trail.events.clone();
+        let event = left_out.remove(place);
+        let mut told_twice = trail.events.clone();
+        told_twice.insert(place, event);
+        let mut of_another = trail.events.clone();
+        of_another[place] = match event {
+            Event::Admit { call } => Event::Admit { call: 2 - call },
+            Event::Lock { call, node, record } => Event::Lock { call: 2 - call, node, record },
+            Event::Free { call, node, record } => Event::Free { call: 2 - call, node, record },
+            Event::Done { call } => Event::Done { call: 2 - call },
+        };
+        for events in [left_out, told_twice, of_another] {
+            assert_eq!(checked::order_of(&events, 3, shape), defined::order_of(&events, shape), "{place}");
+        }
+    }
 }
 
 /// The same of all events but the last shows in the sums.

@@ -10,11 +10,11 @@ use super::core::Event;
 use super::fault::Fault;
 use super::instruction::{decode as decode_bytes, Code};
 use super::machine::{run_alone, Call, Outside};
-use super::order::order_of;
 use super::reader::read_trail;
 use super::trail::{write_trail, Trail};
-use super::tree::{Record, Tree};
+use super::tree::{Record, Shape, Tree};
 use super::verifier::{verify, Procedure};
+use super::{checked, order as placing};
 
 /// Does some work, and adds its time. What it answers is dropped by the caller, outside of that time.
 pub fn timed<T>(nanos: &mut u64, work: impl FnOnce() -> T) -> T {
@@ -176,16 +176,25 @@ pub fn write(trail: &Trail, times: u32) -> Measured {
     measured
 }
 
-/// Finds the order of the trail's calls again and again.
-pub fn order(trail: &Trail, times: u32) -> Measured {
+/// Finds the order of the trail's calls again and again, by that function.
+fn ordered(trail: &Trail, times: u32, order_of: fn(&[Event], usize, &Shape) -> Vec<u32>) -> Measured {
     let mut measured = Measured::default();
     for _ in 0..times {
-        let order =
-            timed(&mut measured.nanos, || order_of(&trail.events, trail.calls.len(), &trail.tree.shape));
+        let order = timed(&mut measured.nanos, || order_of(&trail.events, trail.calls.len(), &trail.tree.shape));
         measured.count = order.len() as u64;
         mix_order(&mut measured, &order);
     }
     measured
+}
+
+/// The order of any history, as the product's.
+pub fn order(trail: &Trail, times: u32) -> Measured {
+    ordered(trail, times, checked::order_of)
+}
+
+/// The order of a history that keeps the rules: whether it does isn't asked.
+pub fn trusting_order(trail: &Trail, times: u32) -> Measured {
+    ordered(trail, times, placing::order_of)
 }
 
 /// Audits the trail again and again: the order, or the numbers of what is wrong first.
