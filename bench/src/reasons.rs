@@ -15,9 +15,10 @@ const fn reason(heading: &'static str, words: &'static str, text: &'static str) 
 }
 
 /// The first that fits a row is its reason.
-const REASONS: [Reason; 13] = [
+const REASONS: [Reason; 14] = [
     reason("A call alone", "", INTERPRETER),
     reason("A core", "", CORE),
+    reason("What else a core does", "`admit`", ADMISSION),
     reason("`Running`", "product alone", ORDER_OF_RUNNING),
     reason("`Running`", "nodes of eight children", END_OF_A_CALL),
     reason("`Running`", "", CORE),
@@ -38,6 +39,9 @@ holds a node by the verifier's proof is asked once more whether it does.";
 
 const CORE: &str = "**A step of a core** comes to 0.8 to 1.05 of the twin's speed by how both are built, from the same sources. What the product does more \
 than the faster twin wasn't found: an answer goes to the caller without a call on both sides, and the state of a call stands behind two indices on both.";
+
+const ADMISSION: &str = "**`admit`** takes memory for calls and events. Where the process has that from work before, an admission takes 80 to 300 ns, and \
+where the kernel has to give it, 500 to 1,900, on both sides. So the fastest rounds compare who got it in which of them, and the rounds' own ratios tell more.";
 
 const END_OF_A_CALL: &str = "**Nodes of eight children.** A call has a lock, a free and its end there, and the end is half of the time by \
 `perf`. It takes no memory: so the reply, with room for 32 values, is copied twice. And it gives back two shared pointers by atomic \
