@@ -78,9 +78,7 @@ pub(crate) fn begin(
     let _arity = proc.code().arity();
     let proc = Arc::try_clone(proc)?;
     let shape = Arc::try_clone(shape)?;
-    let Ok(turn) = Turn::start(proc, shape, args) else {
-        unreachable!()
-    };
+    let turn = Turn::at_start(proc, shape, args);
     let _call = turn.call();
     let mut kept = ArrayVec::new();
     let Ok(()) = kept.try_extend_from_slice(args) else {

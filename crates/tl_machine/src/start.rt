@@ -1,6 +1,6 @@
 // Where a call begins.
 
-ghost use Rattle.std.specs.Prelude.{◌≡◌, ◌↔◌, length, IsOk, IfOk};
+ghost use Rattle.std.specs.Prelude.{◌≡◌, ◌↔◌, length, IsTrue, IsOk, IfOk};
 ghost use Rattle.tl_machine.specs.BetweenSteps.{IsBetweenSteps};
 ghost use Rattle.tl_machine.specs.Outcomes.{IsStart};
 
@@ -11,21 +11,25 @@ use tl_instr::{NODE_REGISTERS, VALUE_REGISTERS};
 use tl_tree::Shape;
 use tl_verify::Proc;
 
-/// The state of a call at its start: the arguments stand in the first registers, and all else is 0 or empty.
-pub fn start(procedure: &Proc, shape: &Shape, args: &[i64]) -> Result<CallState, WrongArgs>
-    ensures wrong { IsOk result ↔ (length args.now ≡ procedure.now.arity) }
-    ensures start { IfOk result (IsStart args.now) }
-    ensures stands { IfOk result (IsBetweenSteps procedure.now.instrs shape.now) }
+/// Whether there are as many arguments as the procedure takes.
+pub fn takes(procedure: &Proc, args: &[i64]) -> bool
+    ensures { IsTrue result ↔ (length args.now ≡ procedure.now.arity) }
 {
-    let arity = usize::from(procedure.code().arity().number());
-    if args.len() != arity {
-        return Err(WrongArgs);
-    }
-    // The shape is a tree's by its type: here a proof learns that.
+    args.len() == usize::from(procedure.code().arity().number())
+}
+
+/// The state of a call at its start: the arguments stand in the first registers, and all else is 0 or empty.
+pub fn at_start(procedure: &Proc, shape: &Shape, args: &[i64]) -> CallState
+    requires { length args.now ≡ procedure.now.arity }
+    ensures start { IsStart args.now result }
+    ensures stands { IsBetweenSteps procedure.now.instrs shape.now result }
+{
+    // The code was accepted, and the shape is a tree's by its type: here a proof learns that.
+    let _code = procedure.code();
     let _node_count = shape.node_count();
     let mut values = [0; VALUE_REGISTERS];
     values[..args.len()].copy_from_slice(args);
-    Ok(CallState {
+    CallState {
         position: 0,
         is_over: false,
         emit_count: 0,
@@ -34,5 +38,17 @@ pub fn start(procedure: &Proc, shape: &Shape, args: &[i64]) -> Result<CallState,
         values,
         nodes: [None; NODE_REGISTERS],
         emitted: [0; MAX_EMITS],
-    })
+    }
+}
+
+/// The same for any arguments; 501 where there are more or fewer than the procedure takes.
+pub fn start(procedure: &Proc, shape: &Shape, args: &[i64]) -> Result<CallState, WrongArgs>
+    ensures wrong { IsOk result ↔ (length args.now ≡ procedure.now.arity) }
+    ensures start { IfOk result (IsStart args.now) }
+    ensures stands { IfOk result (IsBetweenSteps procedure.now.instrs shape.now) }
+{
+    if !takes(procedure, args) {
+        return Err(WrongArgs);
+    }
+    Ok(at_start(procedure, shape, args))
 }

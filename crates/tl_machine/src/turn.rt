@@ -56,12 +56,27 @@ impl Turn {
         ensures steps { IfOk result (λ t. t.call.steps ≡ 0) }
         ensures reply { IfOk result (λ t. reply_so_far t.call ≡ []) }
     {
-        let call = start::start(&procedure, &shape, args)?;
-        Ok(Turn {
+        if !start::takes(&procedure, args) {
+            return Err(WrongArgs);
+        }
+        Ok(Turn::at_start(procedure, shape, args))
+    }
+
+    /// The same for a caller that knows how many arguments the procedure takes.
+    pub fn at_start(procedure: Arc<Proc>, shape: Arc<Shape>, args: &[i64]) -> Turn
+        requires { length args.now ≡ (arc_value procedure).arity }
+        ensures code { result.code ≡ arc_value procedure }
+        ensures parents { result.parents ≡ arc_value shape }
+        ensures left { (records : Records) → left_of result records ≡ run_alone (arc_value procedure).instrs (arc_value shape) args.now records }
+        ensures steps { result.call.steps ≡ 0 }
+        ensures reply { reply_so_far result.call ≡ [] }
+    {
+        let call = start::at_start(&procedure, &shape, args);
+        Turn {
             procedure,
             shape,
             call,
-        })
+        }
     }
 
     /// A call that is done. Takes no memory.

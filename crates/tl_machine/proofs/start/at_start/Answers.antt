@@ -1,7 +1,7 @@
 use Rattle.std.proofs.Common.{refl, ◌∙◌, ap, length, ◌++◌, drop}
 use Rattle.std.specs.Prelude.{pos, replicate}
 use Rattle.tl_machine.proofs.RunFromStart.{drop-replicate, start_stands}
-use Rattle.tl_machine.proofs.start.start.Goals as goal
+use Rattle.tl_machine.proofs.start.at_start.Goals as goal
 
 pub returns-clause-start : goal.returns-clause-start
 returns-clause-start c = record {
@@ -15,4 +15,4 @@ returns-clause-start c = record {
 }
 
 pub returns-clause-stands : goal.returns-clause-stands
-returns-clause-stands c = start_stands _ _ c.code.ensures.accepted c.args.args.now _ (returns-clause-start c) c.node_count-node_count.ensures.tree c.code.ensures.valid.count.0
+returns-clause-stands c = start_stands _ _ c.code-code.ensures.accepted c.args.args.now _ (returns-clause-start c) c.node_count-node_count.ensures.tree c.code-code.ensures.valid.count.0
