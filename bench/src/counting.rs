@@ -113,6 +113,15 @@ unsafe extern "C" fn rattle_dealloc(block: *mut u8) {
     drop_block(block)
 }
 
+/// More than any work takes at once.
+const AT_FIRST: usize = 3 << 30;
+
+/// Takes memory from the system and gives it back to the process's own store, where it stays (`GLIBC_TUNABLES` in `bench/run`). So no side
+/// has to wait for the system to clear pages, and which of them comes first doesn't matter.
+pub fn take_at_first() {
+    std::hint::black_box(vec![1_u8; AT_FIRST]);
+}
+
 /// The most bytes that were in use at once while the work was done, beyond those before it.
 pub fn most_bytes(work: impl FnOnce()) -> usize {
     IN_USE.store(0, Relaxed);

@@ -39,6 +39,7 @@ fn main() -> ExitCode {
 fn write_table(path: &str, names: &[String]) -> ExitCode {
     let all = rows::NAMES.map(String::from);
     let names = if names.is_empty() { &all[..] } else { names };
+    counting::take_at_first();
     let passes = (0..rounds::PASSES).map(|_| rows::measured(names)).collect::<Result<_, _>>();
     let written = passes.and_then(table::together).and_then(|parts| {
         let table = Table { made: made(), parts };

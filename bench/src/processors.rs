@@ -11,8 +11,8 @@ extern "C" {
     fn sched_setaffinity(process: i32, size: usize, mask: *const Mask) -> i32;
 }
 
-/// How many turns have begun.
-static TURN: AtomicUsize = AtomicUsize::new(0);
+/// How many rounds have begun.
+static ROUND: AtomicUsize = AtomicUsize::new(0);
 
 /// The processors that this process was given, by number.
 fn given() -> &'static [usize] {
@@ -31,18 +31,18 @@ pub fn count() -> usize {
     given().len().max(1)
 }
 
-/// A turn begins: its work runs on the next processor.
-pub fn next_turn() {
-    TURN.fetch_add(1, Ordering::Relaxed);
+/// A round begins: its work runs on the next processor.
+pub fn next_round() {
+    ROUND.fetch_add(1, Ordering::Relaxed);
     keep_to(1);
 }
 
-/// From here on this thread, and what it starts, runs on so many processors, of which the turn's own is the first. Where the system
+/// From here on this thread, and what it starts, runs on so many processors, of which the round's own is the first. Where the system
 /// refuses that, it runs where it did.
 pub fn keep_to(processors: usize) {
     let mut mask: Mask = [0; 16];
-    let turn = TURN.load(Ordering::Relaxed);
-    for &processor in given().iter().cycle().skip(turn % count()).take(processors.min(count())) {
+    let round = ROUND.load(Ordering::Relaxed);
+    for &processor in given().iter().cycle().skip(round % count()).take(processors.min(count())) {
         mask[processor / 64] |= 1 << (processor % 64);
     }
     let _ = unsafe { sched_setaffinity(0, size_of::<Mask>(), &mask) };

@@ -5,24 +5,24 @@ use std::time::{Duration, Instant};
 use crate::measured::Measured;
 use crate::processors;
 
-/// How many rounds of a pass are counted. One turn before them only warms up.
-pub const ROUNDS: usize = 3;
+/// How many rounds a pass has at least. One round before them only warms up.
+pub const ROUNDS: usize = 6;
 
 /// How often everything is measured, from the first row to the last. So the rounds of a row stand minutes apart, and what disturbs the
 /// machine for a while disturbs few of them.
-pub const PASSES: usize = 5;
+pub const PASSES: usize = 3;
 
-/// How long a round takes at least, if its work is short: then the sides take turns in it on one processor after another.
-const ROUND: Duration = Duration::from_millis(240);
+/// How long the rounds of a pass take at least, if the work is short: then there are more of them.
+const PASS: Duration = Duration::from_millis(900);
 
-/// How long a side works in a turn at least, if its work is short: then it is done again and again, and the fastest run counts. So the
-/// caches are warm, and what disturbs the machine for some milliseconds is left out on each side.
-const TURN: Duration = Duration::from_millis(12);
+/// How long a side works in a round at least, if its work is short: then it is done again and again, and the fastest run counts. So the
+/// caches are warm, and what disturbs the machine for less than a millisecond is left out on each side.
+const ROUND: Duration = Duration::from_millis(12);
 
-/// How many times as long a turn may take with what isn't timed, as texts that are read first.
+/// How many times as long a side's round may take with what isn't timed, as texts that are read first.
 const MAKING_READY: u32 = 4;
 
-/// How often a side does its work in a turn at most, and how many turns a round has at most.
+/// How often a side does its work in a round at most.
 const MOST: u128 = 50;
 
 /// The middle of some numbers, and the quartiles around it.
@@ -42,8 +42,8 @@ impl Spread {
     }
 }
 
-pub fn fastest(rounds: &[f64]) -> f64 {
-    rounds.iter().copied().fold(f64::INFINITY, f64::min)
+pub fn middle(numbers: &[f64]) -> f64 {
+    Spread::of(numbers.iter().copied()).middle
 }
 
 /// A side of a comparison.
@@ -79,50 +79,49 @@ impl Times {
     }
 }
 
-/// All sides do their work in turn, each turn on another processor and beginning with another side. A side has to come to the same each
+/// All sides do their work in turn, each round on another processor and beginning with another side. A side has to come to the same each
 /// time.
-pub fn in_turn<const N: usize>(name: &str, sides: [Side; N]) -> Result<[Times; N], String> {
-    in_turn_often(name, 1, sides)
+pub fn in_turn<const N: usize>(name: &str, mut sides: [Side; N]) -> Result<[Times; N], String> {
+    all_in_turn(name, &mut sides)?.try_into().map_err(|_| format!("{name}: as many times as sides"))
 }
 
-/// The same, where a round has at least so many turns. Threads need that: how fast they are differs by the processors that they get.
-pub fn in_turn_often<const N: usize>(name: &str, least: usize, mut sides: [Side; N]) -> Result<[Times; N], String> {
-    let mut times = [(); N].map(|()| Times::default());
-    let runs = warm_up(name, &mut sides, &mut times)?;
-    let turns = runs.in_a_round.max(least);
-    for round in 0..ROUNDS {
+/// The same of any number of sides.
+pub fn all_in_turn(name: &str, sides: &mut [Side]) -> Result<Vec<Times>, String> {
+    let count = sides.len();
+    let mut times = vec![Times::default(); count];
+    let runs = warm_up(name, sides, &mut times)?;
+    for round in 0..runs.rounds.max(ROUNDS) {
+        processors::next_round();
         times.iter_mut().for_each(|side| side.nanos.push(f64::INFINITY));
-        for turn in 0..turns {
-            processors::next_turn();
-            for place in (0..N).map(|place| (round * turns + turn + place) % N) {
-                for _ in 0..runs.in_a_turn[place] {
-                    times[place].add(name, sides[place]())?;
-                }
+        for place in (0..count).map(|place| (round + place) % count) {
+            for _ in 0..runs.in_a_round[place] {
+                times[place].add(name, sides[place]())?;
             }
         }
     }
     Ok(times)
 }
 
-/// How often each side does its work in a turn, and how many turns a round has.
-struct Runs<const N: usize> {
-    in_a_turn: [usize; N],
-    in_a_round: usize,
+/// How often each side does its work in a round, and how many rounds take as long as a pass.
+struct Runs {
+    in_a_round: Vec<usize>,
+    rounds: usize,
 }
 
 /// Each side does its work once, which shows how long it takes.
-fn warm_up<const N: usize>(name: &str, sides: &mut [Side; N], times: &mut [Times; N]) -> Result<Runs<N>, String> {
-    let mut in_a_turn = [1; N];
-    let mut turn = Duration::ZERO;
-    for place in 0..N {
+fn warm_up(name: &str, sides: &mut [Side], times: &mut [Times]) -> Result<Runs, String> {
+    let mut in_a_round = Vec::new();
+    let mut round = Duration::ZERO;
+    for (side, times) in sides.iter_mut().zip(times) {
         let start = Instant::now();
-        let measured = sides[place]();
+        let measured = side();
         let once = start.elapsed();
-        times[place].add(name, measured)?;
-        in_a_turn[place] = times_in(TURN, Duration::from_nanos(measured.nanos)).min(times_in(MAKING_READY * TURN, once));
-        turn += once * in_a_turn[place] as u32;
+        times.add(name, measured)?;
+        let runs = times_in(ROUND, Duration::from_nanos(measured.nanos)).min(times_in(MAKING_READY * ROUND, once));
+        in_a_round.push(runs);
+        round += once * runs as u32;
     }
-    Ok(Runs { in_a_turn, in_a_round: times_in(ROUND, turn) })
+    Ok(Runs { in_a_round, rounds: times_in(PASS, round) })
 }
 
 /// How often what takes so long fits into that time: at least once.
@@ -171,9 +170,9 @@ mod tests {
         assert!(in_turn("unsteady", [&mut unsteady]).is_err());
     }
 
-    /// What takes so long each time.
+    /// What takes so long that there are as few rounds as can be.
     fn slow(nanos: u64) -> Measured {
-        std::thread::sleep(MAKING_READY * TURN);
+        std::thread::sleep(PASS / ROUNDS as u32);
         Measured { nanos, ..Measured::default() }
     }
 
@@ -194,10 +193,11 @@ mod tests {
         let mut runs = 0;
         let mut side = || {
             runs += 1;
-            slow(if runs % 2 == 0 { 6 } else { 9 })
+            std::thread::sleep(MAKING_READY * ROUND * 2 / 5);
+            Measured { nanos: if runs % 2 == 0 { 6 } else { 9 }, ..Measured::default() }
         };
         let [times] = in_turn("runs", [&mut side]).unwrap();
-        assert_eq!(times.nanos, [6.0; ROUNDS]);
+        assert!(times.nanos.len() > ROUNDS && times.nanos.iter().all(|&nanos| nanos == 6.0), "{times:?}");
     }
 
     #[test]

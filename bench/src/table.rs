@@ -3,7 +3,7 @@
 use std::fmt;
 
 use crate::reasons;
-use crate::rounds::{self, fastest, Spread, Times};
+use crate::rounds::{self, middle, Spread, Times};
 
 /// How near to its goal a number has to be for there to be no verdict.
 const LEVEL: f64 = 0.1;
@@ -38,55 +38,19 @@ impl Goal {
     }
 }
 
-/// What a side took for a unit of the work.
-#[derive(Clone)]
-pub enum Took {
-    /// In each round.
-    Rounds(Vec<f64>),
-    /// For each unit that longer work has more than shorter work: the rounds of both, and how many units.
-    More { longer: Vec<f64>, shorter: Vec<f64>, units: f64 },
-}
-
-impl Took {
-    /// In the fastest round: what disturbs the machine makes no round faster.
-    fn fastest(&self) -> f64 {
-        match self {
-            Took::Rounds(rounds) => fastest(rounds),
-            Took::More { longer, shorter, units } => (fastest(longer) - fastest(shorter)) / units,
-        }
-    }
-
-    /// The rounds of a later pass stand behind those so far. Whether both are of one kind.
-    fn extend(&mut self, later: Took) -> bool {
-        match (self, later) {
-            (Took::Rounds(rounds), Took::Rounds(more)) => rounds.extend(more),
-            (Took::More { longer, shorter, .. }, Took::More { longer: more, shorter: fewer, .. }) => {
-                longer.extend(more);
-                shorter.extend(fewer);
-            }
-            _ => return false,
-        }
-        true
-    }
-}
-
-/// A row: what was done, what the product took for one unit of it, what another side took, and what was asked for.
+/// A row: what was done, what the product took for one unit of it in each round, what another side took, and what was asked for.
 pub struct Row {
     work: String,
     unit: &'static str,
-    product: Took,
-    other: Option<Took>,
+    product: Vec<f64>,
+    other: Option<Vec<f64>>,
     goal: Goal,
 }
 
 impl Row {
-    pub fn new(work: impl Into<String>, unit: &'static str, product: Took, other: Option<Took>, goal: Goal) -> Row {
-        Row { work: work.into(), unit, product, other, goal }
-    }
-
     /// What the rounds of the product and of another side took a unit.
     pub fn paired(work: impl Into<String>, unit: &'static str, product: &[f64], other: &[f64], goal: Goal) -> Row {
-        Row::new(work, unit, Took::Rounds(product.to_vec()), Some(Took::Rounds(other.to_vec())), goal)
+        Row { work: work.into(), unit, product: product.to_vec(), other: Some(other.to_vec()), goal }
     }
 
     /// The same of two sides' times.
@@ -96,52 +60,58 @@ impl Row {
 
     /// What the product's rounds took a unit, with nothing beside it.
     pub fn alone(work: impl Into<String>, unit: &'static str, product: &[f64], goal: Goal) -> Row {
-        Row::new(work, unit, Took::Rounds(product.to_vec()), None, goal)
+        Row { work: work.into(), unit, product: product.to_vec(), other: None, goal }
     }
 
     /// The rounds of a later pass stand behind those so far. Whether that is the same row.
     fn extend(&mut self, later: Row) -> bool {
         let alike = match (&mut self.other, later.other) {
-            (Some(rounds), Some(more)) => rounds.extend(more),
+            (Some(rounds), Some(more)) => {
+                rounds.extend(more);
+                true
+            }
             (None, None) => true,
             _ => false,
         };
-        alike && self.product.extend(later.product) && self.work == later.work
+        self.product.extend(later.product);
+        alike && self.work == later.work
     }
 
-    /// The product's number by the other's, or the other way round, as the goal asks.
-    fn by(&self, ours: f64, theirs: f64) -> f64 {
-        match self.goal {
-            Goal::AtLeast(_) | Goal::Speed => theirs / ours,
-            _ => ours / theirs,
-        }
+    /// The product's middle round.
+    fn ours(&self) -> f64 {
+        middle(&self.product)
     }
 
-    /// The ratio of the fastest rounds.
-    fn ratio(&self) -> Option<f64> {
-        self.other.as_ref().map(|other| self.by(self.product.fastest(), other.fastest()))
+    /// The other's middle round.
+    fn theirs(&self) -> Option<f64> {
+        self.other.as_deref().map(middle)
     }
 
-    /// The ratios of the rounds, each by itself.
+    /// Of each round, what comes of the product's number and the other's.
+    fn pairs(&self, of: impl Fn(f64, f64) -> f64) -> Option<Spread> {
+        let theirs = self.other.as_ref()?;
+        Some(Spread::of(self.product.iter().zip(theirs).map(|(&ours, &theirs)| of(ours, theirs))))
+    }
+
+    /// The rounds' ratios: the product's number by the other's, or the other way round, as the goal asks.
     fn ratios(&self) -> Option<Spread> {
-        match (&self.product, &self.other) {
-            (Took::Rounds(ours), Some(Took::Rounds(theirs))) => {
-                Some(Spread::of(ours.iter().zip(theirs).map(|(&ours, &theirs)| self.by(ours, theirs))))
-            }
-            _ => None,
+        match self.goal {
+            Goal::AtLeast(_) | Goal::Speed => self.pairs(|ours, theirs| theirs / ours),
+            _ => self.pairs(|ours, theirs| ours / theirs),
         }
     }
 
     /// How far the goal was reached: 1 is just reached, and more is better.
     fn reached(&self) -> Option<f64> {
-        let more = || Some(self.product.fastest() - self.other.as_ref()?.fastest());
+        let ratio = || Some(self.ratios()?.middle);
+        let more = || Some(self.pairs(|ours, theirs| ours - theirs)?.middle);
         match self.goal {
-            Goal::AtLeast(least) => Some(self.ratio()? / least),
+            Goal::AtLeast(least) => Some(ratio()? / least),
             // A difference below nothing is noise, and says nothing.
-            Goal::AtMost(_) if self.ratio()? <= 0.0 => Some(1.0),
-            Goal::AtMost(most) => Some(most / self.ratio()?),
+            Goal::AtMost(_) if ratio()? <= 0.0 => Some(1.0),
+            Goal::AtMost(most) => Some(most / ratio()?),
             Goal::AtMostMore(most) => Some(most / more()?.max(f64::MIN_POSITIVE)),
-            Goal::Within(most) => Some(most / self.product.fastest()),
+            Goal::Within(most) => Some(most / self.ours()),
             Goal::Speed | Goal::Cost => None,
         }
     }
@@ -170,17 +140,14 @@ impl fmt::Display for Goal {
 
 impl fmt::Display for Row {
     fn fmt(&self, out: &mut fmt::Formatter<'_>) -> fmt::Result {
-        write!(out, "| {} | {} | {:.1} | ", self.work, self.unit, self.product.fastest())?;
-        match (&self.other, self.ratio()) {
-            (Some(other), Some(ratio)) => write!(out, "{:.1} | {ratio:.2} | ", other.fastest())?,
-            _ => write!(out, " |  | ")?,
-        }
-        if let Some(Spread { low, middle, high }) = self.ratios() {
-            write!(out, "{middle:.2} ({low:.2} to {high:.2})")?;
+        write!(out, "| {} | {} | {:.1} | ", self.work, self.unit, self.ours())?;
+        match (self.theirs(), self.ratios()) {
+            (Some(theirs), Some(Spread { low, middle, high })) => write!(out, "{theirs:.1} | {middle:.2} | {low:.2} to {high:.2} | ")?,
+            _ => write!(out, " |  |  | ")?,
         }
         match (self.goal, &self.other) {
-            (Goal::Speed | Goal::Cost, None) => write!(out, " |  |"),
-            (goal, _) => write!(out, " | {goal}{} |", self.verdict()),
+            (Goal::Speed | Goal::Cost, None) => write!(out, " |"),
+            (goal, _) => write!(out, "{goal}{} |", self.verdict()),
         }
     }
 }
@@ -217,7 +184,7 @@ impl fmt::Display for Part {
             writeln!(out, "{note}")?;
         }
         if !self.rows.is_empty() {
-            writeln!(out, "| Work | Unit | product | {} | ratio | rounds' ratios | Goal |", self.beside)?;
+            writeln!(out, "| Work | Unit | product | {} | ratio | quartiles | Goal |", self.beside)?;
             writeln!(out, "|---|---|---|---|---|---|---|")?;
         }
         self.rows.iter().try_for_each(|row| writeln!(out, "{row}"))
@@ -285,12 +252,13 @@ impl fmt::Display for Table {
 
 Made by `bench/run` on {date}. The product: {product}. The twin: {twin}.
 
-All is measured {} times, from the first row to the last. Each time there are {} rounds. In a round the sides take turns, each turn on
-another processor and beginning with another side; short work is done again and again in a turn, and takes more turns. A side's round is
-its fastest run. A number is a side's fastest round: what else a machine does makes no round faster. The ratio is that of these two
-numbers. Behind it stand the ratios of the rounds, each by itself: the middle one and the quartiles, which say how much the machine was
-disturbed. Where the goal says *at least* or *times as fast*, a ratio is the second number by the first, which is the product's speed
-by the other's; else it is the first by the second. Within a tenth of a goal the verdict is *level*.",
+All is measured {} times, from the first row to the last, each time in at least {} rounds. In a round the sides do the same work in turn on
+one processor, the next round on the next one and beginning with another side; short work is done again and again, and the fastest run is
+a side's round. Where it takes little time there are more rounds. A number is the middle of a side's rounds. A ratio is the middle of the
+rounds' ratios, each of one round's two numbers, and not the ratio of the two numbers before it: what else a machine does disturbs both
+sides of a round. The quartiles of these ratios stand behind it. Where the goal says *at least* or *times as fast*, a ratio is the second
+number by the first, which is the product's speed by the other's; else it is the first by the second. Within a tenth of a goal the
+verdict is *level*.",
             rounds::PASSES,
             rounds::ROUNDS
         )?;
@@ -335,7 +303,7 @@ mod tests {
             vec![Part::new(heading, "twin", vec![Row::paired("work", "ns", &[ours], &[6.0], Goal::Speed)])]
         };
         let all = together(vec![pass("part", 1.0), pass("part", 2.0), pass("part", 3.0)]).unwrap();
-        assert_eq!(all[0].rows[0].to_string(), "| work | ns | 1.0 | 6.0 | 6.00 | 3.00 (2.00 to 3.00) | times as fast |");
+        assert_eq!(all[0].rows[0].to_string(), "| work | ns | 2.0 | 6.0 | 3.00 | 2.00 to 3.00 | times as fast |");
         assert!(together(vec![pass("part", 1.0), pass("other", 2.0)]).is_err());
     }
 
@@ -351,18 +319,11 @@ mod tests {
     #[test]
     fn a_row_is_written() {
         let rounds = [2.0, 4.0, 3.0];
-        let row = Row::paired("some work", "ns a step", &rounds, &[3.0, 3.0, 3.0], Goal::AtLeast(0.9));
-        assert_eq!(row.to_string(), "| some work | ns a step | 2.0 | 3.0 | 1.50 | 1.00 (0.75 to 1.00) | at least 0.9: met |");
-        let row = Row::alone("some work", "ns a step", &rounds, Goal::Within(1.0));
-        assert_eq!(row.to_string(), "| some work | ns a step | 2.0 |  |  |  | at most 1: **short** |");
-        let row = Row::paired("some work", "ns a step", &rounds, &[2.0, 2.0, 2.0], Goal::AtMostMore(1.0));
-        assert_eq!(row.to_string(), "| some work | ns a step | 2.0 | 2.0 | 1.00 | 1.50 (1.00 to 1.50) | at most 1 more: met |");
-    }
-
-    #[test]
-    fn what_longer_work_takes_more_goes_by_the_fastest_rounds() {
-        let more = |longer: [f64; 2]| Took::More { longer: longer.to_vec(), shorter: vec![40.0, 10.0], units: 10.0 };
-        let row = Row::new("growth", "ns", more([70.0, 50.0]), Some(more([50.0, 90.0])), Goal::AtMost(1.2));
-        assert_eq!(row.to_string(), "| growth | ns | 4.0 | 4.0 | 1.00 |  | at most 1.2: met |");
+        let row = Row::paired("some work", "ns a step", &rounds, &[3.0, 3.0, 4.5], Goal::AtLeast(0.9));
+        assert_eq!(row.to_string(), "| some work | ns a step | 3.0 | 3.0 | 1.50 | 0.75 to 1.50 | at least 0.9: met |");
+        let row = Row::alone("some work", "ns a step", &rounds, Goal::Within(2.0));
+        assert_eq!(row.to_string(), "| some work | ns a step | 3.0 |  |  |  | at most 2: **short** |");
+        let row = Row::paired("some work", "ns a step", &rounds, &[1.5, 2.0, 2.0], Goal::AtMostMore(1.2));
+        assert_eq!(row.to_string(), "| some work | ns a step | 3.0 | 2.0 | 1.50 | 1.33 to 1.50 | at most 1.2 more: met |");
     }
 }

@@ -136,13 +136,14 @@ fn counted_row(
 pub fn others() -> Result<Part, String> {
     let Work { code, parents, args, .. } = walks();
     let (touch, asked) = (codes::touch(), 200_000);
+    let nodes: Vec<i64> = (0..i64::from(CALLS)).collect();
     let rows = vec![
         counted_row(
-            "`admit`: 4,096 calls",
+            "`admit`: 4,096 calls that lock a node each",
             "ns a call",
             Goal::AtLeast(0.9),
-            || product::admit(&code, &parents, &args),
-            || twin::admit(&code, &parents, &args),
+            || product::admit(&touch, &parents, &nodes),
+            || twin::admit(&touch, &parents, &nodes),
         )?,
         counted_row(
             "`replay`: 4,096 walks of 127 nodes",

@@ -3,9 +3,9 @@
 use super::{grouped, walks, TWIN};
 use crate::measured::Measured;
 use crate::product;
-use crate::rounds::{are_alike, both, in_turn, Side, Times};
+use crate::rounds::{all_in_turn, are_alike, Side, Times};
 use crate::schedules;
-use crate::table::{Goal, Part, Row, Took};
+use crate::table::{Goal, Part, Row};
 use crate::trees::CALLS;
 use crate::twin::reader::read_trail;
 use crate::twin::trail::Trail;
@@ -40,61 +40,86 @@ impl Told {
     fn events(&self) -> f64 {
         self.trail.events.len() as f64
     }
-
-    fn both(
-        &self,
-        name: &str,
-        times: u32,
-        product: fn(&[u8], u32) -> Measured,
-        twin: fn(&Trail, u32) -> Measured,
-    ) -> Result<[Times; 2], String> {
-        both(name, &mut || product(self.text.as_bytes(), times), &mut || twin(&self.trail, times))
-    }
-
-    fn orders(&self, times: u32) -> Result<[Times; 2], String> {
-        self.both("order_of", times, product::order, twin::order)
-    }
-
-    fn trusting_orders(&self, times: u32) -> Result<[Times; 2], String> {
-        self.both("order_of", times, product::order, twin::trusting_order)
-    }
-
-    fn audits(&self, times: u32) -> Result<[Times; 2], String> {
-        self.both("audit", times, product::audit, twin::audit)
-    }
 }
 
-/// The rounds of one trail of so many events, which is run so often in each.
-struct AtSize {
+/// The rounds of one trail of so many events, which is run so often in each: the product's, and those of what stands beside it.
+struct OfOne {
     events: f64,
     runs: u32,
-    times: [Times; 2],
+    product: Times,
+    others: Vec<Times>,
 }
 
-impl AtSize {
+impl OfOne {
     fn units(&self) -> f64 {
         self.events * f64::from(self.runs)
     }
 
-    fn row(&self, name: &str, how: &str) -> Row {
-        let work = format!("`{name}`, {} events{how}", grouped(self.events as u64));
-        Row::of_times(work, UNIT, [&self.times[0], &self.times[1]], self.units(), LEAST)
+    /// The product beside one of the others.
+    fn row(&self, work: String, other: usize) -> Row {
+        Row::of_times(work, UNIT, [&self.product, &self.others[other]], self.units(), LEAST)
     }
 
-    fn alone(&self, name: &str, most: f64) -> Row {
-        let work = format!("product alone: `{name}`, {} events", grouped(self.events as u64));
-        Row::alone(work, UNIT, &self.times[0].per(self.units()), Goal::Within(most))
+    /// The order beside the twin that checks the rules, and beside the one that doesn't.
+    fn order_rows(&self, what: &str) -> [Row; 2] {
+        [self.row(format!("`order_of`{what}"), 0), self.row(format!("`order_of`{what}; {TRUSTING}"), 1)]
+    }
+
+    fn audit_row(&self, what: &str) -> Row {
+        self.row(format!("`audit`{what}"), 0)
+    }
+
+    fn size(&self) -> String {
+        format!(", {} events", grouped(self.events as u64))
+    }
+
+    fn alone(&self, most: f64) -> Row {
+        let work = format!("product alone: `audit`{}", self.size());
+        Row::alone(work, UNIT, &self.product.per(self.units()), Goal::Within(most))
     }
 }
 
-/// What each event more costs the product from one size to the next.
-fn added(shorter: &AtSize, longer: &AtSize) -> Took {
-    let rounds = |size: &AtSize| size.times[0].per(size.runs.into());
-    Took::More { longer: rounds(longer), shorter: rounds(shorter), units: longer.events - shorter.events }
+/// What a side does with a trail so often.
+type OfTrail = fn(&Told, u32) -> Measured;
+
+/// What the product and others do with some trails, each so often, all in the same rounds.
+fn of_all(name: &str, told: &[(&Told, u32)], does: &[OfTrail]) -> Result<Vec<OfOne>, String> {
+    let sides_of = |&(told, runs): &(_, u32)| does.iter().map(move |side| move || side(told, runs));
+    let mut all: Vec<_> = told.iter().flat_map(sides_of).collect();
+    let mut sides: Vec<Side> = all.iter_mut().map(|side| side as Side).collect();
+    let times = all_in_turn(name, &mut sides)?;
+    let one_of = |(&(told, runs), times): (&(&Told, u32), &[Times])| {
+        let [product, others @ ..] = times else { return Err(format!("{name}: no side")) };
+        others.iter().try_for_each(|other| are_alike(name, product, other))?;
+        Ok(OfOne { events: told.events(), runs, product: product.clone(), others: others.to_vec() })
+    };
+    told.iter().zip(times.chunks(does.len())).map(one_of).collect()
 }
 
-fn growth(name: &str, sizes: &[AtSize; LOCKS.len()]) -> Row {
-    let [first, second, third, fourth] = sizes;
+/// `order_of`, the twin that checks the rules, and the one that doesn't.
+fn orders(told: &[(&Told, u32)]) -> Result<Vec<OfOne>, String> {
+    let does: [OfTrail; 3] = [
+        |told, times| product::order(told.text.as_bytes(), times),
+        |told, times| twin::order(&told.trail, times),
+        |told, times| twin::trusting_order(&told.trail, times),
+    ];
+    of_all("order_of", told, &does)
+}
+
+fn audits(told: &[(&Told, u32)]) -> Result<Vec<OfOne>, String> {
+    let does: [OfTrail; 2] =
+        [|told, times| product::audit(told.text.as_bytes(), times), |told, times| twin::audit(&told.trail, times)];
+    of_all("audit", told, &does)
+}
+
+/// What each event more costs the product from one size to the next, by rounds.
+fn added(shorter: &OfOne, longer: &OfOne) -> Vec<f64> {
+    let nanos = |size: &OfOne| size.product.per(size.runs.into());
+    nanos(longer).iter().zip(nanos(shorter)).map(|(long, short)| (long - short) / (longer.events - shorter.events)).collect()
+}
+
+fn growth(name: &str, sizes: &[OfOne]) -> Result<Row, String> {
+    let [first, second, third, fourth] = sizes else { return Err("four sizes".to_string()) };
     let work = format!(
         "product alone: `{name}`, what an event more costs from {} to {} events, and from {} to {}",
         grouped(third.events as u64),
@@ -102,70 +127,41 @@ fn growth(name: &str, sizes: &[AtSize; LOCKS.len()]) -> Row {
         grouped(first.events as u64),
         grouped(second.events as u64)
     );
-    Row::new(work, "ns an event more", added(third, fourth), Some(added(first, second)), Goal::AtMost(1.2))
+    Ok(Row::paired(work, "ns an event more", &added(third, fourth), &added(first, second), Goal::AtMost(1.2)))
 }
 
 /// All sizes in the same rounds, since what an event more costs is their difference. A short trail runs more often in a round, so that
 /// each takes as long.
-fn all_sizes(
-    name: &str,
-    told: &[Told; LOCKS.len()],
-    product: fn(&[u8], u32) -> Measured,
-    twin: fn(&Trail, u32) -> Measured,
-) -> Result<[AtSize; LOCKS.len()], String> {
-    let [mut a, mut b, mut c, mut d] = [0, 1, 2, 3].map(|size| {
-        let (told, runs) = (&told[size], RUNS[size]);
-        (move || product(told.text.as_bytes(), runs), move || twin(&told.trail, runs))
-    });
-    let sides: [Side; 2 * LOCKS.len()] = [&mut a.0, &mut a.1, &mut b.0, &mut b.1, &mut c.0, &mut c.1, &mut d.0, &mut d.1];
-    let times = in_turn(name, sides)?;
-    let mut sizes = Vec::new();
-    for (size, pair) in times.chunks(2).enumerate() {
-        are_alike(name, &pair[0], &pair[1])?;
-        sizes.push(AtSize { events: told[size].events(), runs: RUNS[size], times: [pair[0].clone(), pair[1].clone()] });
-    }
-    sizes.try_into().map_err(|_| "as many sizes as there are".to_string())
-}
-
 pub fn sizes() -> Result<Part, String> {
     let told: Vec<Told> = LOCKS.into_iter().map(|locks| Told::new(walks(locks)?)).collect::<Result<_, String>>()?;
-    let told: [Told; LOCKS.len()] = told.try_into().map_err(|_| "as many trails as sizes")?;
-    let orders = all_sizes("order_of", &told, product::order, twin::order)?;
-    let trusting = all_sizes("order_of", &told, product::order, twin::trusting_order)?;
-    let audits = all_sizes("audit", &told, product::audit, twin::audit)?;
-    let mut rows: Vec<Row> = orders.iter().map(|size| size.row("order_of", "")).collect();
-    rows.extend(trusting.iter().map(|size| size.row("order_of", &format!("; {TRUSTING}"))));
-    rows.extend(audits.iter().map(|size| size.row("audit", "")));
-    rows.push(audits[0].alone("audit", 30.0));
-    rows.push(audits[LOCKS.len() - 1].alone("audit", 30.0));
-    rows.push(growth("order_of", &orders));
-    rows.push(growth("audit", &audits));
-    rows.push(broken()?);
+    let runs: Vec<(&Told, u32)> = told.iter().zip(RUNS).collect();
+    let (orders, audits) = (orders(&runs)?, audits(&runs)?);
+    let mut rows: Vec<Row> = orders.iter().flat_map(|size| size.order_rows(&size.size())).collect();
+    rows.extend(audits.iter().map(|size| size.audit_row(&size.size())));
+    rows.extend(audits.first().map(|size| size.alone(30.0)));
+    rows.extend(audits.last().map(|size| size.alone(30.0)));
+    rows.push(growth("order_of", &orders)?);
+    rows.push(growth("audit", &audits)?);
+    rows.extend(broken()?);
     Ok(Part::new(format!("The order and the audit of {} walks", grouped(CALLS.into())), TWIN, rows))
 }
 
 /// The longest trail, and the same with its last event changed.
-fn broken() -> Result<Row, String> {
+fn broken() -> Result<Vec<Row>, String> {
     let clean = walks(LOCKS[LOCKS.len() - 1])?;
     let broken = Told::new(schedules::broken(&clean).ok_or("a trail that breaks a rule")?)?;
-    let [ours, theirs] = broken.audits(1)?;
-    let work = "`audit`, 1,048,576 events of which the last breaks a rule";
-    Ok(Row::of_times(work, UNIT, [&ours, &theirs], broken.events(), LEAST))
+    let audits = audits(&[(&broken, 1)])?;
+    Ok(audits.iter().map(|it| it.audit_row(&format!("{} of which the last breaks a rule", it.size()))).collect())
 }
 
 /// Trails with deep chains, many calls open at once, and calls in each other's way.
 pub fn schedules() -> Result<Part, String> {
-    let times = 4;
     let mut rows = Vec::new();
     for (name, text) in schedules::all().ok_or("schedules")? {
         let told = Told::new(text)?;
-        let events = told.events() * f64::from(times);
-        let [ours, theirs] = told.orders(times)?;
-        rows.push(Row::of_times(format!("`order_of`: {name}"), UNIT, [&ours, &theirs], events, LEAST));
-        let [ours, theirs] = told.trusting_orders(times)?;
-        rows.push(Row::of_times(format!("`order_of`: {name}; {TRUSTING}"), UNIT, [&ours, &theirs], events, LEAST));
-        let [ours, theirs] = told.audits(times)?;
-        rows.push(Row::of_times(format!("`audit`: {name}"), UNIT, [&ours, &theirs], events, LEAST));
+        let what = format!(": {name}");
+        rows.extend(orders(&[(&told, 4)])?.iter().flat_map(|it| it.order_rows(&what)));
+        rows.extend(audits(&[(&told, 4)])?.iter().map(|it| it.audit_row(&what)));
     }
     Ok(Part::new("The order and the audit where first locks are deep and in each other's way, 16,384 events", TWIN, rows))
 }

@@ -8,16 +8,13 @@ use crate::codes;
 use crate::measured::Measured;
 use crate::processes::Engines;
 use crate::processors;
-use crate::rounds::{are_alike, in_turn, in_turn_often, Side, Times};
+use crate::rounds::{are_alike, in_turn, Side, Times};
 use crate::sqlite;
 use crate::table::{Goal, Part, Row};
 use crate::trees::{chains, heads, CALLS, CHAIN, NODES};
 
 /// How many workers run the batches of an engine.
 const WORKERS: [usize; 3] = [1, 2, 4];
-
-/// How many turns a round has at least, and so processes of each side.
-const RUNS: usize = 2;
 
 /// Calls on threads: what they do, their code, the tree's nodes and the length of its chains, and how many engines are made.
 struct OnThreads {
@@ -100,7 +97,7 @@ fn times_of(it: &OnThreads) -> Result<[[Times; 2]; WORKERS.len()], String> {
         &mut || four.of_product(),
         &mut || four.of_twin(),
     ];
-    let [a, b, c, d, e, f] = in_turn_often(it.work, RUNS, sides)?;
+    let [a, b, c, d, e, f] = in_turn(it.work, sides)?;
     [&b, &c, &d, &e, &f].into_iter().try_for_each(|other| are_alike(it.work, &a, other))?;
     Ok([[a, b], [c, d], [e, f]])
 }
