@@ -15,10 +15,9 @@ const fn reason(heading: &'static str, words: &'static str, text: &'static str) 
 }
 
 /// The first that fits a row is its reason.
-const REASONS: [Reason; 14] = [
+const REASONS: [Reason; 13] = [
     reason("A call alone", "", INTERPRETER),
     reason("A core", "", CORE),
-    reason("What else a core does", "`admit`", ADMISSION),
     reason("`Running`", "product alone", ORDER_OF_RUNNING),
     reason("`Running`", "nodes of eight children", END_OF_A_CALL),
     reason("`Running`", "", CORE),
@@ -39,9 +38,6 @@ holds a node by the verifier's proof is asked once more whether it does.";
 
 const CORE: &str = "**A step of a core** comes to 0.8 to 1.05 of the twin's speed by how both are built, from the same sources. What the product does more \
 than the faster twin wasn't found: an answer goes to the caller without a call on both sides, and the state of a call stands behind two indices on both.";
-
-const ADMISSION: &str = "**`admit`** takes memory for calls and events. Where the process has that from work before, an admission takes 80 to 300 ns, and \
-where the kernel has to give it, 500 to 1,900, on both sides. So the fastest rounds compare who got it in which of them, and the rounds' own ratios tell more.";
 
 const END_OF_A_CALL: &str = "**Nodes of eight children.** A call has a lock, a free and its end there, and the end is half of the time by \
 `perf`. It takes no memory: so the reply, with room for 32 values, is copied twice. And it gives back two shared pointers by atomic \
@@ -68,7 +64,7 @@ const ORDER_OF: &str = "**`order_of`.** The call that holds a node takes eight b
 Each event is matched in six functions, each with its own contract, and the twin's in one.";
 
 const WORKERS: &str = "**More workers.** Where others use the machine's processors too, two workers rarely both get a whole one: with 10,000 instructions between two \
-turns the twin goes 2.5 to 3.4 times as fast on four workers as on one, and the product 2.2 to 2.8 times. On one path, and with 20 instructions between two \
+turns the twin goes 2.5 to 3.4 times as fast on four workers as on one, and the product 2.2 to 3.1 times. On one path, and with 20 instructions between two \
 turns, the lock goes from processor to processor, and both sides lose by more workers.";
 
 const TURN: &str = "**A turn of an engine.** Under the lock the segment's turn is compared with the kept one by value: the parents of 4,096 nodes take 200 to \
