@@ -13,6 +13,8 @@ pub struct Placer {
     standing: Vec<bool>,
     /// one a node: the call that holds it
     holders: Vec<u32>,
+    /// how many nodes are held
+    held: usize,
     /// one a node: the call that was the last to lock it while it held the parent
     under: Vec<u32>,
 }
@@ -23,6 +25,7 @@ impl Placer {
             order: Vec::with_capacity(calls),
             standing: vec![false; calls],
             holders: vec![NOBODY; nodes],
+            held: 0,
             under: vec![NOBODY; nodes],
         }
     }
@@ -41,14 +44,19 @@ impl Placer {
         self.under[usize::from(node)]
     }
 
-    /// The first in order of the calls that may still come to the node: the first that a climb to the root meets.
+    /// The first in order of the calls that may still come to the node: the first that a climb to the root meets. The climb ends where
+    /// it has met as many held nodes as there are.
     fn nearest_coming(&self, node: u16, shape: &Shape) -> u32 {
         let mut node = node;
-        while node != 0 {
+        let mut left = self.held;
+        while node != 0 && left > 0 {
             let above = shape.parent(node);
             let holder = self.holder(above);
-            if holder != NOBODY && self.under(node) != holder {
-                return holder;
+            if holder != NOBODY {
+                if self.under(node) != holder {
+                    return holder;
+                }
+                left -= 1;
             }
             node = above;
         }
@@ -77,10 +85,12 @@ impl Placer {
             self.put_at_node(call, node, shape);
         }
         self.holders[usize::from(node)] = call;
+        self.held += 1;
     }
 
     pub fn free(&mut self, node: u16) {
         self.holders[usize::from(node)] = NOBODY;
+        self.held -= 1;
     }
 
     pub fn end(&mut self, call: u32) {
