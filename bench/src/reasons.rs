@@ -61,7 +61,9 @@ and where one breaks a rule, the plain definition places all of them. The rows w
 an engine keep the rules, and check nothing.";
 
 const ORDER_OF: &str = "**`order_of`.** The call that holds a node takes eight bytes, with a mark for none, where the twin's takes four and none is the greatest number. \
-Each event is matched in six functions, each with its own contract, and the twin's in one.";
+Beside a twin that was built with eight, the product has 0.61 of the speed with one call after another, 0.95 with 64 below each other and 0.80 with 64 in each other's way, and \
+0.54, 0.78 and 0.69 beside the twin in the same rounds. Besides, each event is matched in six functions, each with its own contract, and the twin's in one: by `perf`, half of \
+the time is in what checks an event, and half in what places it.";
 
 const WORKERS: &str = "**More workers.** Where others use the machine's processors too, two workers rarely both get a whole one: with 10,000 instructions between two \
 turns the twin goes 2.5 to 3.4 times as fast on four workers as on one, and the product 2.2 to 3.1 times. On one path, and with 20 instructions between two \
