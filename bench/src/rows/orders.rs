@@ -43,14 +43,14 @@ impl Told {
 }
 
 /// The rounds of one trail of so many events, which is run so often in each: the product's, and those of what stands beside it.
-struct OfOne {
+struct TrailTimes {
     events: f64,
     runs: u32,
     product: Times,
     others: Vec<Times>,
 }
 
-impl OfOne {
+impl TrailTimes {
     fn units(&self) -> f64 {
         self.events * f64::from(self.runs)
     }
@@ -82,43 +82,43 @@ impl OfOne {
 /// What a side does with a trail so often.
 type OfTrail = fn(&Told, u32) -> Measured;
 
-/// What the product and others do with some trails, each so often, all in the same rounds.
-fn of_all(name: &str, told: &[(&Told, u32)], does: &[OfTrail]) -> Result<Vec<OfOne>, String> {
-    let sides_of = |&(told, runs): &(_, u32)| does.iter().map(move |side| move || side(told, runs));
-    let mut all: Vec<_> = told.iter().flat_map(sides_of).collect();
-    let mut sides: Vec<Side> = all.iter_mut().map(|side| side as Side).collect();
-    let times = all_in_turn(name, &mut sides)?;
+/// What the sides do with some trails, each so often, all in the same rounds. The first side is the product.
+fn times_of(name: &str, told: &[(&Told, u32)], sides: &[OfTrail]) -> Result<Vec<TrailTimes>, String> {
+    let runs_of = |&(told, runs): &(_, u32)| sides.iter().map(move |side| move || side(told, runs));
+    let mut runs: Vec<_> = told.iter().flat_map(runs_of).collect();
+    let mut turns: Vec<Side> = runs.iter_mut().map(|run| run as Side).collect();
+    let times = all_in_turn(name, &mut turns)?;
     let one_of = |(&(told, runs), times): (&(&Told, u32), &[Times])| {
         let [product, others @ ..] = times else { return Err(format!("{name}: no side")) };
         others.iter().try_for_each(|other| are_alike(name, product, other))?;
-        Ok(OfOne { events: told.events(), runs, product: product.clone(), others: others.to_vec() })
+        Ok(TrailTimes { events: told.events(), runs, product: product.clone(), others: others.to_vec() })
     };
-    told.iter().zip(times.chunks(does.len())).map(one_of).collect()
+    told.iter().zip(times.chunks(sides.len())).map(one_of).collect()
 }
 
 /// `order_of`, the twin that checks the rules, and the one that doesn't.
-fn orders(told: &[(&Told, u32)]) -> Result<Vec<OfOne>, String> {
-    let does: [OfTrail; 3] = [
+fn orders(told: &[(&Told, u32)]) -> Result<Vec<TrailTimes>, String> {
+    let sides: [OfTrail; 3] = [
         |told, times| product::order(told.text.as_bytes(), times),
         |told, times| twin::order(&told.trail, times),
         |told, times| twin::trusting_order(&told.trail, times),
     ];
-    of_all("order_of", told, &does)
+    times_of("order_of", told, &sides)
 }
 
-fn audits(told: &[(&Told, u32)]) -> Result<Vec<OfOne>, String> {
-    let does: [OfTrail; 2] =
+fn audits(told: &[(&Told, u32)]) -> Result<Vec<TrailTimes>, String> {
+    let sides: [OfTrail; 2] =
         [|told, times| product::audit(told.text.as_bytes(), times), |told, times| twin::audit(&told.trail, times)];
-    of_all("audit", told, &does)
+    times_of("audit", told, &sides)
 }
 
 /// What each event more costs the product from one size to the next, by rounds.
-fn added(shorter: &OfOne, longer: &OfOne) -> Vec<f64> {
-    let nanos = |size: &OfOne| size.product.per(size.runs.into());
+fn added(shorter: &TrailTimes, longer: &TrailTimes) -> Vec<f64> {
+    let nanos = |size: &TrailTimes| size.product.per(size.runs.into());
     nanos(longer).iter().zip(nanos(shorter)).map(|(long, short)| (long - short) / (longer.events - shorter.events)).collect()
 }
 
-fn growth(name: &str, sizes: &[OfOne]) -> Result<Row, String> {
+fn growth(name: &str, sizes: &[TrailTimes]) -> Result<Row, String> {
     let [first, second, third, fourth] = sizes else { return Err("four sizes".to_string()) };
     let work = format!(
         "product alone: `{name}`, what an event more costs from {} to {} events, and from {} to {}",
