@@ -50,7 +50,7 @@ fn judge<P: Progress>(alloc: Global, trail: &Trail, progress: &mut P) -> Result<
     ensures order { IfOk result (λ o. o.calls ≡ placed trail.now.parents trail.now.past) }
     ensures fault { IfErr result (λ f. f ≢ AuditFault.Memory → IsFirstFault trail.now f) }
 {
-    let mut watch = Watch::new(alloc, trail.calls(), trail.opening())?;
+    let mut watch = Watch::new(alloc, trail.calls() as u32, trail.opening())?;
     let mut replays = Replays::new(alloc, trail.calls())?;
     see_all(alloc, &mut watch, &mut replays, trail, progress)?;
     check_done(&watch, trail)?;

@@ -28,7 +28,7 @@ pub(crate) struct Watch {
 
 impl Watch {
     /// What no event came to.
-    pub(crate) fn new(alloc: Global, calls: usize, opening: &Tree) -> Result<Watch, AllocError>
+    pub(crate) fn new(alloc: Global, calls: u32, opening: &Tree) -> Result<Watch, AllocError>
         ensures { IfOk result (λ w. Shows opening.now.parents opening.now.records calls w []) }
     {
         let nodes = usize::from(opening.shape().node_count());

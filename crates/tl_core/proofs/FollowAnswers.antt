@@ -1,11 +1,10 @@
 -- What came of a segment.
-use Rattle.std.proofs.Common.{◌≡◌, ℕ, Bool, true, false, length, refl, sym, ap, ◌∙◌, inl, inr, arith, Option, Some, None, Ok, Err, if◌then◌else◌, get_or}
+use Rattle.std.proofs.Common.{◌≡◌, ◌≢◌, ℕ, Bool, true, false, refl, sym, ap, ◌∙◌, subst, Option, Some, None, Ok, if◌then◌else◌}
 use Rattle.std.specs.Prelude.{Result}
-use Rattle.std.proofs.lemmas.List.{get_or-set_same, set_past}
-use Rattle.std.proofs.lemmas.Bool.{lt-ltb, cases_lt}
+use Rattle.std.proofs.lemmas.Bool.{lt-ltb, both_ways, eq-eqb}
 use Rattle.tl_protocol.specs.declared.action.Action.{Action}
 use Rattle.tl_protocol.specs.declared.action.Action.TheVariants as did
-use Rattle.tl_protocol.specs.History.{admits}
+use Rattle.tl_protocol.specs.History.{admits, is_done}
 use Rattle.tl_protocol.specs.Holders.{holder_of}
 use Rattle.tl_protocol.specs.World.{as_found}
 use Rattle.tl_machine.specs.Turns.{SegmentValue}
@@ -14,9 +13,9 @@ use Rattle.tl_machine.specs.declared.want.Stop.{Stop}
 use Rattle.tl_machine.specs.declared.want.Stop.TheVariants as stop
 use Rattle.tl_core.specs.declared.fault.CoreFault.{CoreFault}
 use Rattle.tl_core.specs.declared.stepped.Stepped.{Stepped}
-use Rattle.tl_core.specs.declared.stepped.Stepped.TheVariants.{Moved, Blocked, Over}
-use Rattle.tl_core.specs.Cores.{CoreValue, CoreState, no_call, call_of, world_of}
-use Rattle.tl_core.specs.Entries.{node_of, stepped_by, step_answer, after_step, one_more}
+use Rattle.tl_core.specs.declared.stepped.Stepped.TheVariants.{Moved}
+use Rattle.tl_core.specs.Cores.{CoreValue, CoreState, world_of}
+use Rattle.tl_core.specs.Entries.{node_of, stepped_by, step_answer, after_step}
 use Rattle.tl_core.specs.Followed.{EndsStop, NextEndsStop, IsInTheWay, IsLed, HasGone}
 use Rattle.tl_core.proofs.FollowLemmas.{goes_more}
 use Rattle.tl_core.proofs.StoredCalls.{same_item}
@@ -37,7 +36,7 @@ by_action v s (did.Write x f n) ends free = absurd ends
 by_action v s (did.Emit n) ends free = absurd ends
 
 -- the step that does it
-stop_step : (v : CoreValue) (c : ℕ) (s : Stop) → NextEndsStop v c s → ((x d : ℕ) → IsInTheWay v s x d → ⊥) → (b : Action) × (step_answer (world_of v) c ≡ Ok (Moved b)) × EndsStop s b
+pub stop_step : (v : CoreValue) (c : ℕ) (s : Stop) → NextEndsStop v c s → ((x d : ℕ) → IsInTheWay v s x d → ⊥) → (b : Action) × (step_answer (world_of v) c ≡ Ok (Moved b)) × EndsStop s b
 stop_step v c s next free =
     let known = lt-ltb c (admits v.past) next.is_open.0 in
     let goes_on = next.is_open.1 in
@@ -45,8 +44,16 @@ stop_step v c s next free =
     let b = by_action v s next.next next.ends free in
     (b.0, rw (known, goes_on, is_next) (ap Ok b.1), b.2)
 
+-- and what was done is the action of the stop
+pub ends_by : (v : CoreValue) (c : ℕ) (s : Stop) → NextEndsStop v c s → ((x d : ℕ) → IsInTheWay v s x d → ⊥) → (a : Action) → Ok (Moved a) ≡ step_answer (world_of v) c → EndsStop s a
+ends_by v c s next free a answer =
+    let b = stop_step v c s next free in
+    let both : Ok (Moved b.0) ≡ Ok (Moved a) = sym b.1 ∙ sym answer in
+    let same : b.0 ≡ a = cc in
+    subst (EndsStop s) same b.2
+
 -- so the segment's local actions and that of its stop were done
-pub has_gone : (v w u : CoreState) (c : ℕ) (segment : SegmentValue) → IsLed v c segment w → NextEndsStop w.seen c segment.stop → ((x d : ℕ) → IsInTheWay w.seen segment.stop x d → ⊥)
+pub has_gone : (v w u : CoreState) (c : ℕ) (segment : SegmentValue) → IsLed v c w → NextEndsStop w.seen c segment.stop → ((x d : ℕ) → IsInTheWay w.seen segment.stop x d → ⊥)
     → (r : Result Stepped CoreFault) → r ≡ step_answer (world_of w.seen) c → u.seen ≡ after_step w.seen c r → HasGone v c segment u
 has_gone v w u c segment led next free r answer after =
     let b = stop_step w.seen c segment.stop next free in
@@ -77,22 +84,6 @@ none_ends_over (did.Read x f n) ends = ends
 none_ends_over (did.Write x f n) ends = ends
 none_ends_over (did.Emit n) ends = ends
 
--- the call has the same code then
-pub code_then : (v : CoreValue) (c : ℕ) (r : Result Stepped CoreFault) → (call_of (after_step v c r) c).code ≡ (call_of v c).code
-code_then v c (Ok (Moved a)) = elim (cases_lt c (length v.calls)) [
-  | inl lt ↦ ap (λ z. z.code) (get_or-set_same v.calls c (one_more (call_of v c)) no_call lt)
-  | inr ge ↦ ap (λ l. (get_or l c no_call).code) (set_past v.calls c (one_more (call_of v c)) (omega arith))
-]
-code_then v c (Ok (Blocked x d)) = refl
-code_then v c (Ok Over) = refl
-code_then v c (Err e) = refl
-
-pub parents_then : (v : CoreValue) (c : ℕ) (r : Result Stepped CoreFault) → (after_step v c r).parents ≡ v.parents
-parents_then v c (Ok (Moved a)) = refl
-parents_then v c (Ok (Blocked x d)) = refl
-parents_then v c (Ok Over) = refl
-parents_then v c (Err e) = refl
-
 -- a reply that was read is that of a call that is done, and none is that of an open one
 pub some_reply : {X : Type 0} → (b : Bool) (x y : X) → Some y ≡ (if b then Some x else None) → (b ≡ true) × (y ≡ x)
 some_reply true x y is = (refl, same_item is)
@@ -101,3 +92,9 @@ some_reply false x y is = absurd cc
 pub none_reply : {X : Type 0} → (b : Bool) (x : X) → None ≡ (if b then Some x else None) → b ≡ false
 none_reply true x is = absurd cc
 none_reply false x is = refl
+
+-- a call that isn't done behind what it did hasn't ended
+pub is_no_end : (v w : CoreValue) (c : ℕ) (a : Action) → w ≡ after_step v c (Ok (Moved a)) → is_done c w.past ≡ false → a ≢ did.End
+is_no_end v w c a after goes_on ends =
+    let ended : is_done c (after_step v c (Ok (Moved did.End))).past ≡ true = rw (eq-eqb c c refl) refl in
+    both_ways (is_done c w.past) goes_on (ap (λ u. is_done c u.past) (after ∙ ap (λ b. after_step v c (Ok (Moved b))) ends) ∙ ended)

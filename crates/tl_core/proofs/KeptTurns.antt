@@ -5,8 +5,9 @@ use Rattle.std.proofs.lemmas.List.{length-map, get_or_past}
 use Rattle.std.proofs.lemmas.Option.{slice_get-map, get_or_from_slice_get}
 use Rattle.tl_tree.specs.Trees.{TreeValue}
 use Rattle.tl_protocol.specs.History.{part_of, is_done, IsOpen}
-use Rattle.tl_machine.specs.declared.call.CallState.{CallState}
-use Rattle.tl_machine.specs.Turns.{TurnValue, IsTurn, Stops, left_of, with_call}
+use Rattle.tl_protocol.specs.declared.action.Action.{Action}
+use Rattle.tl_machine.specs.Stopped.{after_action}
+use Rattle.tl_machine.specs.Turns.{TurnValue, Stops, left_of, with_call}
 use Rattle.tl_machine.specs.declared.want.Stop.{Stop}
 use Rattle.tl_core.specs.declared.call.Call.{Call}
 use Rattle.tl_core.specs.declared.call.OpenCall.{OpenCall}
@@ -88,10 +89,12 @@ module _ (v : CoreValue) (now : TreeValue) (calls : List Call) (slots : List Ope
       let its = turn_of c t is in
       next_at_stop v now w.kept holders (length slots) reserved w.core c k.call k.there its.is_open.1 s (subst (λ z. Stops z s) (sym k.turn) stops)
 
--- A turn of the same code on trees of the same shape is the other with its state.
-pub same_turn : (t u : TurnValue) → (state : CallState) → u.code ≡ t.code → u.parents ≡ t.parents → state ≡ u.call → u ≡ with_call t state
-same_turn t u state code parents same = λ i. record { code = code i; parents = parents i; call = sym same i }
+-- ---- a turn behind what its call did
 
-pub same_kind : (t u : TurnValue) → (state : CallState) → u.code ≡ t.code → u.parents ≡ t.parents → state ≡ u.call
-    → IsTurn u.code.instrs u.parents u.call → IsTurn t.code.instrs t.parents state
-same_kind t u state code parents same turn = subst (λ z. IsTurn z.code.instrs z.parents z.call) (same_turn t u state code parents same) turn
+-- the action done is a lock or a free, and so is the change to the turn
+pub turned_by : (before t after : TurnValue) (b a : Action) → before ≡ t → after ≡ with_call before after.call → after.call ≡ after_action before.code.instrs before.call b → b ≡ a
+    → after ≡ with_call t (after_action t.code.instrs t.call a)
+turned_by before t after b a same_turn same exact is =
+    same ∙ ap (with_call before) exact
+    ∙ ap (λ d. with_call before (after_action before.code.instrs before.call d)) is
+    ∙ ap (λ u. with_call u (after_action u.code.instrs u.call a)) same_turn

@@ -39,6 +39,10 @@ module _ (v : CoreValue) (now : TreeValue) (calls : List Call) (slots : List Ope
       let held = subst (λ z. holder_of v.past z ≡ Some d) (sym same) way.holder in
       absurd cc
 
+  -- a turn that was put at the segment's last state is at its end
+  pub at_its_end : (j : ℕ) (s : Call) (o : OpenCall) → IsAt calls slots c j s o → (turn2 : TurnValue) → turn2 ≡ with_call o.turn seg.to → turn2 ≡ end_of seg
+  at_its_end j s o p turn2 is = is ∙ ap (λ t. with_call t seg.to) (turn_same v now calls slots holders reserved capacity w c j s o p seg.from kept)
+
   module _ (j : ℕ) (s : Call) (o : OpenCall) (p : IsAt calls slots c j s o) (turn2 : TurnValue) (at_end : turn2 ≡ end_of seg) where
     begins : o.turn ≡ seg.from
     begins = turn_same v now calls slots holders reserved capacity w c j s o p seg.from kept

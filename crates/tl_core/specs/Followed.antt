@@ -6,7 +6,8 @@ use Rattle.tl_protocol.specs.History.{is_done, admits, IsOpen}
 use Rattle.tl_protocol.specs.Holders.{holder_of}
 use Rattle.tl_protocol.specs.World.{next_of, reply_of}
 use Rattle.tl_machine.specs.BetweenSteps.{IsLocal}
-use Rattle.tl_machine.specs.Turns.{TurnValue, SegmentValue, Stops}
+use Rattle.tl_machine.specs.Stopped.{after_action}
+use Rattle.tl_machine.specs.Turns.{TurnValue, SegmentValue, Stops, with_call}
 use Rattle.tl_machine.specs.declared.want.Stop.{Stop}
 use Rattle.tl_machine.specs.declared.want.Stop.TheVariants as stop
 use Rattle.tl_core.specs.declared.fault.CoreFault.{CoreFault}
@@ -44,8 +45,8 @@ pub record NextEndsStop (v : CoreValue) (c : ℕ) (s : Stop) : Type 0 where
   pub is_next : next_of (world_of v) c ≡ Some next
   pub ends : EndsStop s next
 
--- the segment's end is the call's turn, and its local actions were done as steps of the call
-pub record IsLed (before : CoreState) (c : ℕ) (segment : SegmentValue) (after : CoreState) : Type 0 where
+-- local actions were done as steps of the call
+pub record IsLed (before : CoreState) (c : ℕ) (after : CoreState) : Type 0 where
   pub local : List Action
   pub each_local : EachLocal local
   pub goes : Goes before.seen c local after.seen
@@ -71,6 +72,11 @@ pub record ReachesStop (before : CoreState) (c : ℕ) (s : Stop) (after : CoreSt
   pub turn : TurnValue
   pub kept : kept_turn after c ≡ Some turn
   pub stops : Stops turn s
+
+-- the turn of a call that did something, and didn't end, is the one behind that action
+abbrev pub HasTurned : CoreState → ℕ → Stepped → CoreState → Type 0
+HasTurned v c s w = (a : Action) → s ≡ Moved a → a ≢ did.End → (t : TurnValue) → kept_turn v c ≡ Some t
+    → kept_turn w c ≡ Some (with_call t (after_action t.code.instrs t.call a))
 
 -- a step that isn't local: a lock, a free or an end, or nothing, where another call is in the way or this one is done
 abbrev pub IsNoLocal : Stepped → Type 0
@@ -118,6 +124,12 @@ abbrev pub IfFinished : Led → Type 0 → Type 0
 IfFinished led.Finished P = P
 IfFinished led.Went P = Unit {0}
 IfFinished (led.Blocked x d) P = Unit {0}
+
+-- the fact, where the call is blocked
+abbrev pub IfBlocked : Led → Type 0 → Type 0
+IfBlocked (led.Blocked x d) P = P
+IfBlocked led.Went P = Unit {0}
+IfBlocked led.Finished P = Unit {0}
 
 abbrev pub IsLedFreely : CoreState → SegmentValue → Led → Type 0
 IsLedFreely v segment (led.Blocked x d) = Unit {0}

@@ -13,10 +13,10 @@ ghost use Rattle.tl_procedures.specs.declared.fault.NamingFault.TheVariants as n
 ghost use Rattle.tl_core.specs.Cores.{world_of, call_of, code_of, opened, kept_turn, places, room, owed, open_calls, all_budgets, done_by, IsLeastUnfinished, IsTurnOf};
 ghost use Rattle.tl_core.specs.Entries.{step_answer, after_step, admission_refusal, after_admission, procedure_at, IsEntry, after_entry, Traced, after_moves, moved, part_of_run, entry_of, IsBlocked};
 ghost use Rattle.tl_machine.specs.Runs.{emits_of};
-ghost use Rattle.tl_machine.specs.Turns.{TurnValue, IsTurn, Stops, with_call, end_of};
+ghost use Rattle.tl_machine.specs.Turns.{TurnValue, SegmentValue, IsTurn, IsSegment, Stops, segment_of, with_call};
 ghost use Rattle.tl_machine.specs.declared.want.Stop.{Stop};
 ghost use Rattle.tl_machine.specs.declared.want.Stop.TheVariants as stop;
-ghost use Rattle.tl_core.specs.Followed.{IsLedTo, IsLedFreely, IfFinished, IsFollowed, IsUnhindered, IsFollowFault, IsInTheWay, IsLed, NextEndsStop, ReachesStop, Proceeds, IsNoLocal};
+ghost use Rattle.tl_core.specs.Followed.{IsLedTo, IsLedFreely, IfFinished, IfBlocked, IsFollowed, IsUnhindered, IsFollowFault, IsInTheWay, IsLed, HasTurned, NextEndsStop, ReachesStop, Proceeds, IsNoLocal};
 ghost use Rattle.tl_core.specs.declared.stepped.Stepped.TheVariants as stepped;
 ghost use Rattle.tl_core.specs.declared.fault.CoreFault.TheVariants as fault;
 
@@ -211,6 +211,7 @@ impl Core {
         ensures answer { Ok result ≡ step_answer (world_of self.old.seen) call }
         ensures last { IsNoLocal result }
         ensures after { self.new.seen ≡ after_step self.old.seen call (Ok result) }
+        ensures turned { HasTurned self.old call result self.new }
         ensures turns { (c : ℕ) → c ≢ call → kept_turn self.new c ≡ kept_turn self.old c }
     {
         // What the call's next action is: here a proof learns that.
@@ -231,6 +232,7 @@ impl Core {
         ensures answer { Ok result ≡ step_answer (world_of self.old.seen) call }
         ensures last { IsNoLocal result }
         ensures after { self.new.seen ≡ after_step self.old.seen call (Ok result) }
+        ensures turned { HasTurned self.old call result self.new }
         ensures turns { (c : ℕ) → c ≢ call → kept_turn self.new c ≡ kept_turn self.old c }
     {
         let Some(slot) = self.calls[call as usize].slot() else {
@@ -258,6 +260,7 @@ impl Core {
         ensures answer { Ok result ≡ step_answer (world_of self.old.seen) call }
         ensures last { IsNoLocal result }
         ensures after { self.new.seen ≡ after_step self.old.seen call (Ok result) }
+        ensures turned { HasTurned self.old call result self.new }
         ensures turns { (c : ℕ) → c ≢ call → kept_turn self.new c ≡ kept_turn self.old c }
     {
         let Some(slot) = self.calls[call as usize].slot() else {
@@ -281,6 +284,7 @@ impl Core {
         ensures answer { Ok result ≡ step_answer (world_of self.old.seen) call }
         ensures last { IsNoLocal result }
         ensures after { self.new.seen ≡ after_step self.old.seen call (Ok result) }
+        ensures turned { HasTurned self.old call result self.new }
         ensures turns { (c : ℕ) → c ≢ call → kept_turn self.new c ≡ kept_turn self.old c }
     {
         let index = call as usize;
@@ -357,7 +361,7 @@ impl Core {
             return Err(CoreFault::NoProcedure);
         };
         let proc = self.procedures.get(procedure);
-        if args.len() != usize::from(proc.code().arity().number()) {
+        if !proc.takes(args) {
             return Err(CoreFault::WrongArgs);
         }
         if self.calls.len() >= MAX_CALLS {
@@ -630,10 +634,9 @@ impl Core {
         ensures fault { IfErr result (λ e. IsFollowFault self.old call segment e) }
         ensures err { OnErr result (self.new ≡ self.old) }
     {
-        let mut state = *segment.from().call();
-        match self.lead(call, &segment, &mut state)? {
+        let (mut turn, mut state, stop) = segment.into_parts();
+        match self.lead(call, &turn, &mut state, stop)? {
             Led::Went => {
-                let mut turn = segment.into_turn();
                 turn.put_at(&state);
                 Ok(Followed::Went(turn))
             }
@@ -646,70 +649,77 @@ impl Core {
         }
     }
 
-    /// The same for a caller that keeps the segment, and in `state` a state of the call: where the call went, this is its
-    /// state now. So a turn takes no more than a copy of the state. 602, 607. Takes no memory.
+    /// The same for a caller that keeps the parts of a segment: the turn where it begins, the state to which it led, and where the
+    /// call stops there. Where the call went, the state is the one behind the stop; else it stays. So a turn takes no more than a
+    /// copy of a state. 602, 607. Takes no memory.
     pub fn lead(
         &mut self,
         call: u32,
-        segment: &Segment,
+        from: &Turn,
         state: &mut CallState,
+        stop: Stop,
     ) -> Result<Led, CoreFault>
-        requires { IsTurn segment.now.from.code.instrs segment.now.from.parents state.old }
-        ensures turn { IsTurn segment.now.from.code.instrs segment.now.from.parents state.new }
-        ensures from { IfOk result (λ _. kept_turn self.old call ≡ Some segment.now.from) }
+        requires { IsSegment (segment_of from.now state.old stop) }
+        ensures turn { IsTurn from.now.code.instrs from.now.parents state.new }
+        ensures blocked { IfOk result (λ l. IfBlocked l (state.new ≡ state.old)) }
+        ensures stays { OnErr result (state.new ≡ state.old) }
+        ensures from { IfOk result (λ _. kept_turn self.old call ≡ Some from.now) }
         ensures known { IfOk result (λ l. IfFinished l (call < length self.new.seen.calls)) }
-        ensures followed { IfOk result (λ l. IsLedTo self.old call segment.now (with_call segment.now.from state.new) l self.new) }
-        ensures unhindered { IfOk result (λ l. IsLedFreely self.old segment.now l) }
+        ensures followed { IfOk result (λ l. IsLedTo self.old call (segment_of from.now state.old stop) (with_call from.now state.new) l self.new) }
+        ensures unhindered { IfOk result (λ l. IsLedFreely self.old (segment_of from.now state.old stop) l) }
         ensures turns { (c : ℕ) → c ≢ call → kept_turn self.new c ≡ kept_turn self.old c }
-        ensures fault { IfErr result (λ e. IsFollowFault self.old call segment.now e) }
+        ensures fault { IfErr result (λ e. IsFollowFault self.old call (segment_of from.now state.old stop) e) }
         ensures err { OnErr result (self.new ≡ self.old) }
     {
-        if !self.is_at(call, segment.from())? {
+        if !self.is_at(call, from)? {
             return Err(CoreFault::NotFrom);
         }
-        if let Some((node, holder)) = self.in_the_way(call, segment) {
+        if let Some((node, holder)) = self.in_the_way(call, stop) {
             return Ok(Led::Blocked { node, holder });
         }
-        self.take_end(call, segment);
+        self.take_end(call, from, state);
         // What is so of the call's turn: here a proof learns that.
         self.is_sound();
         self.at_stop(call);
         // Nobody is in the way, so this is the action of the stop.
-        let _moved = self.pass_stop(call, segment.stop());
+        let stepped = self.pass_stop(call, stop);
         if let Some(reply) = self.reply(call) {
             // A call that has replied is done: here a proof learns that.
             let _values = reply.values();
             return Ok(Led::Finished);
         }
-        self.show(call, segment.from(), state);
+        if let Stepped::Moved { action } = &stepped {
+            from.repeat(state, action);
+        }
         Ok(Led::Went)
     }
 
-    // The node that the segment's stop locks, and the call that holds it.
-    fn in_the_way(&self, call: u32, segment: &Segment) -> Option<(u16, u32)>
-        requires { kept_turn self.now call ≡ Some segment.now.from }
-        ensures some { IfSome result (λ r. IsInTheWay self.now.seen segment.now.stop r.0 r.1) }
-        ensures none { IsNone result → (x d : ℕ) → IsInTheWay self.now.seen segment.now.stop x d → ⊥ }
+    // The node that is locked where a segment of the call stops, and the call that holds it.
+    fn in_the_way(&self, call: u32, stop: Stop) -> Option<(u16, u32)>
+        requires { (s : SegmentValue) × IsSegment s × (s.stop ≡ stop) × (kept_turn self.now call ≡ Some s.from) }
+        ensures some { IfSome result (λ r. IsInTheWay self.now.seen stop r.0 r.1) }
+        ensures none { IsNone result → (x d : ℕ) → IsInTheWay self.now.seen stop x d → ⊥ }
     {
-        let Stop::Lock(node) = segment.stop() else {
+        let Stop::Lock(node) = stop else {
             return None;
         };
         let holder = self.holders[usize::from(node)]?;
         Some((node, holder))
     }
 
-    // Puts the call's turn at the segment's end.
-    fn take_end(&mut self, call: u32, segment: &Segment)
-        requires { kept_turn self.old call ≡ Some segment.now.from }
-        ensures turn { kept_turn self.new call ≡ Some (end_of segment.now) }
+    // Puts the call's turn at a segment's end.
+    fn take_end(&mut self, call: u32, from: &Turn, state: &CallState)
+        requires segment { (s : Stop) × IsSegment (segment_of from.now state.now s) }
+        requires kept { kept_turn self.old call ≡ Some from.now }
+        ensures turn { kept_turn self.new call ≡ Some (with_call from.now state.now) }
         ensures turns { (c : ℕ) → c ≢ call → kept_turn self.new c ≡ kept_turn self.old c }
         ensures past { self.new.seen.past ≡ self.old.seen.past }
-        ensures led { IsLed self.old call segment.now self.new }
+        ensures led { IsLed self.old call self.new }
     {
         let Some(slot) = self.calls[call as usize].slot() else {
             unreachable!()
         };
-        self.slots[slot].turn.take_end(segment);
+        self.slots[slot].turn.put_at(state);
     }
 
     // Where a call's turn stops, its next action is that of the stop: here a proof learns that.
@@ -717,21 +727,6 @@ impl Core {
         ensures { (t : TurnValue) (s : Stop) → kept_turn self.now call ≡ Some t → Stops t s → NextEndsStop self.now.seen call s }
     {
         let _ = &self.history;
-    }
-
-    // Copies the state of an open call, of which this was a turn.
-    fn show(&self, call: u32, turn: &Turn, state: &mut CallState)
-        requires known { call < length self.now.seen.calls }
-        requires open { is_done call self.now.seen.past ≡ false }
-        requires code { turn.now.code ≡ (call_of self.now.seen call).code }
-        requires parents { turn.now.parents ≡ self.now.seen.parents }
-        ensures turn { IsTurn turn.now.code.instrs turn.now.parents state.new }
-        ensures kept { kept_turn self.now call ≡ Some (with_call turn.now state.new) }
-    {
-        let Some(slot) = self.calls[call as usize].slot() else {
-            unreachable!()
-        };
-        *state = *self.slots[slot].turn.call();
     }
 
     /// What is so of every core: its world is sound and legal, and what each call has done obeys the tree protocol and is

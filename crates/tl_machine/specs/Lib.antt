@@ -4,6 +4,7 @@ pub mod Left
 pub mod Rooms
 pub mod Call
 pub mod BetweenSteps
+pub mod Stopped
 pub mod Wants
 pub mod Turns
 pub mod Outcomes

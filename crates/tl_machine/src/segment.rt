@@ -54,15 +54,12 @@ impl Segment {
         self.stop
     }
 
-    /// Begins at another state of the same call, and does the local instructions from there, in place. So whoever takes turn
-    /// after turn moves no turn. Takes no memory.
-    pub fn go_on(&mut self, state: &CallState)
-        requires { IsTurn self.old.from.code.instrs self.old.from.parents state.now }
-        ensures { self.new.from ≡ with_call self.old.from state.now }
+    /// The turn at the first of them, the state behind the last, and where the call stops there.
+    pub fn into_parts(self) -> (Turn, CallState, Stop)
+        ensures parts { record { from = result.0; to = result.1; stop = result.2 } ≡ self }
+        ensures segment { IsSegment self }
     {
-        self.from.put_at(state);
-        self.to = *state;
-        self.stop = run_on(&mut self.to, self.from.procedure(), self.from.shape());
+        (self.from, self.to, self.stop)
     }
 
     /// The turn behind the last of them, on the procedure and the shape of the first. Takes no memory.
@@ -77,13 +74,15 @@ impl Segment {
 }
 
 impl Turn {
-    /// Goes to the end of a segment that begins here, without doing its instructions again. Takes no memory.
-    pub fn take_end(&mut self, segment: &Segment)
-        requires { self.old ≡ segment.now.from }
-        ensures turn { self.new ≡ end_of segment.now }
-        ensures segment { IsSegment segment.now }
+    /// Does the call's local instructions at a second state, which is where the turn is, and answers where the call stops then.
+    /// So whoever takes turn after turn moves no turn. Takes no memory.
+    pub fn run_on(&self, state: &mut CallState) -> Stop
+        requires { state.old ≡ self.now.call }
+        ensures { IsSegment (record { from = self.now; to = state.new; stop = result }) }
     {
-        self.put_at(segment.to());
+        // What is so of the turn's state: here a proof learns that.
+        let _call = self.call();
+        do_local(state, self.procedure(), self.shape())
     }
 }
 
@@ -92,7 +91,7 @@ pub fn local(turn: Turn) -> Segment
     ensures { result.from ≡ turn }
 {
     let mut to = *turn.call();
-    let stop = run_on(&mut to, turn.procedure(), turn.shape());
+    let stop = turn.run_on(&mut to);
     Segment {
         from: turn,
         to,
@@ -103,7 +102,7 @@ pub fn local(turn: Turn) -> Segment
 // Does the local instructions of a state, and says where the call stops then. This loop is a function of its own: in a caller that
 // copies whole states its position and its count didn't stay in registers.
 #[inline(never)]
-fn run_on(state: &mut CallState, procedure: &Proc, shape: &Shape) -> Stop
+fn do_local(state: &mut CallState, procedure: &Proc, shape: &Shape) -> Stop
     requires { IsTurn procedure.now.instrs shape.now state.old }
     ensures turn { IsTurn procedure.now.instrs shape.now state.new }
     ensures follows { ComesByLocal procedure.now.instrs shape.now state.old state.new }

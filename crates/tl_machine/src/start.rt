@@ -1,6 +1,6 @@
 // Where a call begins.
 
-ghost use Rattle.std.specs.Prelude.{◌≡◌, ◌↔◌, length, IsTrue, IsOk, IfOk};
+ghost use Rattle.std.specs.Prelude.{◌≡◌, ◌↔◌, length, IsOk, IfOk};
 ghost use Rattle.tl_machine.specs.BetweenSteps.{IsBetweenSteps};
 ghost use Rattle.tl_machine.specs.Outcomes.{IsStart};
 
@@ -10,13 +10,6 @@ use tl_budget::{MAX_DEPTH, MAX_EMITS};
 use tl_instr::{NODE_REGISTERS, VALUE_REGISTERS};
 use tl_tree::Shape;
 use tl_verify::Proc;
-
-/// Whether there are as many arguments as the procedure takes.
-pub fn takes(procedure: &Proc, args: &[i64]) -> bool
-    ensures { IsTrue result ↔ (length args.now ≡ procedure.now.arity) }
-{
-    args.len() == usize::from(procedure.code().arity().number())
-}
 
 /// The state of a call at its start: the arguments stand in the first registers, and all else is 0 or empty.
 pub fn at_start(procedure: &Proc, shape: &Shape, args: &[i64]) -> CallState
@@ -47,7 +40,7 @@ pub fn start(procedure: &Proc, shape: &Shape, args: &[i64]) -> Result<CallState,
     ensures start { IfOk result (IsStart args.now) }
     ensures stands { IfOk result (IsBetweenSteps procedure.now.instrs shape.now) }
 {
-    if !takes(procedure, args) {
+    if !procedure.takes(args) {
         return Err(WrongArgs);
     }
     Ok(at_start(procedure, shape, args))

@@ -2,12 +2,13 @@
 
 ghost use Rattle.std.specs.Prelude.{◌≡◌, ◌≢◌, ◌↔◌, ℕ, List, [], length, take, IsTrue, IsOk, IfOk};
 ghost use Rattle.std.specs.Arc.{arc_value};
-ghost use Rattle.tl_tree.specs.Records.{Records, record_at, put_record};
+ghost use Rattle.tl_tree.specs.Records.{Record as RecordValue, Records, record_at, put_record};
 ghost use Rattle.tl_protocol.specs.declared.action.Action.TheVariants as did;
 ghost use Rattle.tl_machine.specs.Runs.{Then, Ended};
 ghost use Rattle.tl_machine.specs.Alone.{alone as run_alone};
 ghost use Rattle.tl_machine.specs.Call.{in_tree, reply_so_far};
 ghost use Rattle.tl_machine.specs.BetweenSteps.{Steps, Locks, Frees, Ends};
+ghost use Rattle.tl_machine.specs.Stopped.{after_lock, after_free, after_action};
 ghost use Rattle.tl_machine.specs.Turns.{IsTurn, IsSegment, Wants, Stops, IfDid, IfStopped, left_of, with_call};
 ghost use Rattle.tl_machine.specs.declared.want.Want.TheVariants as want;
 ghost use Rattle.tl_machine.specs.declared.want.Stop.TheVariants as stop;
@@ -56,7 +57,7 @@ impl Turn {
         ensures steps { IfOk result (λ t. t.call.steps ≡ 0) }
         ensures reply { IfOk result (λ t. reply_so_far t.call ≡ []) }
     {
-        if !start::takes(&procedure, args) {
+        if !procedure.takes(args) {
             return Err(WrongArgs);
         }
         Ok(Turn::at_start(procedure, shape, args))
@@ -192,6 +193,7 @@ impl Turn {
         requires { Stops self.old (stop.Lock node) }
         ensures same { self.new ≡ with_call self.old self.new.call }
         ensures locks { Locks self.old.code.instrs self.old.parents self.old.call node found self.new.call }
+        ensures exact { self.new.call ≡ after_lock self.old.code.instrs self.old.call node found }
     {
         self.call.lock(&self.procedure, &self.shape, node, found);
     }
@@ -201,8 +203,28 @@ impl Turn {
         requires { (x : ℕ) × Stops self.old (stop.Free x) }
         ensures same { self.new ≡ with_call self.old self.new.call }
         ensures frees { (x : ℕ) × Stops self.old (stop.Free x) × Frees self.old.code.instrs self.old.parents self.old.call x result self.new.call }
+        ensures exact { self.new.call ≡ after_free self.old.code.instrs self.old.call }
     {
         self.call.free(&self.procedure, &self.shape)
+    }
+
+    /// Does the lock or the free of this action at a state of the same call that stops there, in place; where the action is
+    /// another, the state stays as it is. So whoever holds a second state of a call that did the action needn't copy the first.
+    #[inline(always)]
+    pub fn repeat(&self, state: &mut CallState, action: &Action)
+        requires turn { IsTurn self.now.code.instrs self.now.parents state.old }
+        requires lock { (x : ℕ) (found : RecordValue) → action.now ≡ did.Lock x found → Stops (with_call self.now state.old) (stop.Lock x) }
+        requires free { (x : ℕ) (left : RecordValue) → action.now ≡ did.Free x left → Stops (with_call self.now state.old) (stop.Free x) }
+        ensures turn { IsTurn self.now.code.instrs self.now.parents state.new }
+        ensures exact { state.new ≡ after_action self.now.code.instrs state.old action.now }
+    {
+        match *action {
+            Action::Lock { node, found } => state.lock(&self.procedure, &self.shape, node, found),
+            Action::Free { .. } => {
+                let _left = state.free(&self.procedure, &self.shape);
+            }
+            _ => {}
+        }
     }
 
     /// Ends the call, and gives the values that it emitted.

@@ -1,4 +1,5 @@
 pub mod Checked
+pub mod Column
 pub mod Faults
 pub mod Kept
 pub mod Line

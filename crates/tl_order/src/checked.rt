@@ -37,15 +37,15 @@ pub struct CheckedOrder {
 
 impl CheckedOrder {
     /// The order of no event, for so many nodes and calls.
-    pub fn new(alloc: Global, nodes: usize, calls: usize) -> Result<CheckedOrder, AllocError>
+    pub fn new(alloc: Global, nodes: usize, calls: u32) -> Result<CheckedOrder, AllocError>
         ensures calls { IfOk result (λ o. calls_of o ≡ calls) }
         ensures checked { IfOk result (λ o. (parents : List ℕ) → length parents ≡ nodes → IsChecked parents o []) }
     {
         Ok(CheckedOrder {
             kept: KeptOrder::new(alloc, nodes, calls)?,
             admitted: 0,
-            done: vec![in alloc; false; calls]?,
-            holding: vec![in alloc; 0; calls]?,
+            done: vec![in alloc; false; calls as usize]?,
+            holding: vec![in alloc; 0; calls as usize]?,
         })
     }
 

@@ -6,6 +6,7 @@ ghost use Rattle.tl_protocol.specs.declared.event.Event.{Event as EventValue};
 ghost use Rattle.tl_protocol.specs.Placing.{coming_calls, AreHolders, AreUnder};
 ghost use Rattle.tl_order.specs.Kept.{count_held};
 
+use crate::column::Column;
 use tl_tree::Shape;
 
 /// The first in order of the calls that may still come to the node, where the history keeps the rules: it is the first that
@@ -15,9 +16,9 @@ use tl_tree::Shape;
 /// The climb goes to ever lower numbers. So it has met all that it could meet once it has met as many held nodes as there are.
 pub fn nearest_coming(
     shape: &Shape,
-    holders: &[Option<u32>],
+    holders: &Column,
     held_count: usize,
-    under: &[Option<u32>],
+    under: &Column,
     node: u16,
 ) -> Option<u32>
     requires tree { IsTree shape.now }
@@ -32,8 +33,8 @@ pub fn nearest_coming(
     let mut left = held_count;
     while step > 0 && left > 0 {
         let above = shape.parent(step);
-        if let Some(call) = holders[usize::from(above)] {
-            if under[usize::from(step)] != Some(call) {
+        if let Some(call) = holders.at(above) {
+            if under.at(step) != Some(call) {
                 return Some(call);
             }
             left -= 1;

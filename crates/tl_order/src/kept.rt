@@ -12,6 +12,7 @@ ghost use Rattle.tl_protocol.specs.Placing.{is_call, coming_calls};
 ghost use Rattle.tl_order.specs.Kept.{IsOfSize, IsKept};
 
 use crate::climb::nearest_coming;
+use crate::column::Column;
 use crate::order::Order;
 use std::alloc::{AllocError, Global};
 use std::marker::Model;
@@ -29,40 +30,42 @@ pub struct KeptOrder {
     // Of each call whether it stands in the order. The order has memory for as many.
     standing: Vec<bool>,
     // Of each node the call that holds it.
-    holders: Vec<Option<u32>>,
+    holders: Column,
     // How many nodes are held. A climb ends where it has met as many.
     held_count: usize,
     // Of each node the call that was the last to lock it while it held the node's parent.
-    under: Vec<Option<u32>>,
+    under: Column,
 }
 
 impl Model for KeptOrder {
     ghost use Rattle.std.specs.Prelude.{◌≡◌, ◌≤◌, length};
+    ghost use Rattle.tl_order.specs.declared.column.TheConstants.{NO_CALL};
     ghost use Rattle.tl_order.specs.Kept.{KeptValue, count_held};
     ghost use Rattle.tl_order.specs.Line.{IsLine};
     ghost use Rattle.tl_order.specs.Part.{trues};
 
     ghost Value = { KeptValue };
 
-    ghost view = { λ k. record { order = k.order; calls = length k.standing.items; holders = k.holders.items; under = k.under.items } };
+    ghost view = { λ k. record { order = k.order; calls = length k.standing.items; holders = k.holders; under = k.under } };
 
     ghost invariant = { λ k. IsLine k.order.calls k.standing.items
         × (length k.order.calls ≡ trues k.standing.items)
         × (length k.standing.items ≤ k.order.capacity)
-        × (k.held_count ≡ count_held k.holders.items) };
+        × (k.held_count ≡ count_held k.holders)
+        × (length k.standing.items ≤ NO_CALL) };
 }
 
 impl KeptOrder {
     /// The order of no event, for so many nodes and calls.
-    pub fn new(alloc: Global, nodes: usize, calls: usize) -> Result<KeptOrder, AllocError>
+    pub fn new(alloc: Global, nodes: usize, calls: u32) -> Result<KeptOrder, AllocError>
         ensures calls { IfOk result (λ k. k.calls ≡ calls) }
         ensures size { IfOk result (λ k. IsOfSize k nodes) }
         ensures kept { IfOk result (λ k. (parents : List ℕ) → IsKept k parents []) }
     {
-        let order = Order::with_capacity(alloc, calls)?;
-        let standing = vec![in alloc; false; calls]?;
-        let holders = vec![in alloc; None; nodes]?;
-        let under = vec![in alloc; None; nodes]?;
+        let order = Order::with_capacity(alloc, calls as usize)?;
+        let standing = vec![in alloc; false; calls as usize]?;
+        let holders = Column::new(alloc, nodes)?;
+        let under = Column::new(alloc, nodes)?;
         Ok(KeptOrder {
             order,
             standing,
@@ -77,7 +80,7 @@ impl KeptOrder {
         alloc: Global,
         shape: &Shape,
         events: &[Event],
-        calls: usize,
+        calls: u32,
     ) -> Result<KeptOrder, AllocError>
         requires legal { IsLegalHistory shape.now (past_of events.now) }
         requires nodes { All (IsOfNodes (length shape.now)) events.now }
@@ -120,7 +123,7 @@ impl KeptOrder {
         requires { node < length self.now.holders }
         ensures { result ≡ slice_index_or self.now.holders node None }
     {
-        self.holders[usize::from(node)]
+        self.holders.at(node)
     }
 
     /// The call that was the last to lock the node while it held the node's parent.
@@ -128,7 +131,7 @@ impl KeptOrder {
         requires { node < length self.now.under }
         ensures { result ≡ slice_index_or self.now.under node None }
     {
-        self.under[usize::from(node)]
+        self.under.at(node)
     }
 
     /// Takes up one more event.
@@ -173,6 +176,7 @@ impl KeptOrder {
     // A call that stands in the order locks one more node.
     #[inline(always)]
     fn lock_again(&mut self, call: u32, node: u16)
+        requires call { call < self.old.calls }
         requires holders { node < length self.old.holders }
         requires under { node < length self.old.under }
         ensures calls { self.new.calls ≡ self.old.calls }
@@ -182,19 +186,21 @@ impl KeptOrder {
             → IsLegalHistory parents (event.Lock node call found ∷ past)
             → IsKept self.new parents (event.Lock node call found ∷ past) }
     {
-        self.under[usize::from(node)] = Some(call);
+        self.under.put(node, call);
         self.hold(node, call);
     }
 
     // The call holds the node from now on.
     #[inline(always)]
     fn hold(&mut self, node: u16, call: u32)
-        requires { node < length self.old.holders }
+        requires node { node < length self.old.holders }
+        requires call { call < self.old.calls }
         ensures { self.new ≡ record self.old { holders = set self.old.holders node (Some call) } }
     {
-        if self.holders[usize::from(node)].replace(call).is_none() {
+        if self.holders.at(node).is_none() {
             self.held_count += 1;
         }
+        self.holders.put(node, call);
     }
 
     // A call that doesn't stand in the order locks its first node.
@@ -241,9 +247,10 @@ impl KeptOrder {
         ensures kept { (parents : List ℕ) (past : List EventValue) (call : ℕ) (left : RecordValue)
             → IsKept self.old parents past → IsKept self.new parents (event.Free node call left ∷ past) }
     {
-        if self.holders[usize::from(node)].take().is_some() {
+        if self.holders.at(node).is_some() {
             self.held_count -= 1;
         }
+        self.holders.clear(node);
     }
 
     /// A call ends: where it has locked no node, it goes to the end.

@@ -6,6 +6,7 @@
 
 mod checked;
 mod climb;
+mod column;
 mod event;
 mod fault;
 mod kept;

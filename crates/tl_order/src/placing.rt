@@ -52,7 +52,7 @@ fn kept_order(alloc: Global, history: &History, shape: &Shape) -> Result<Option<
         → admits history.now.past ≤ MAX_CALLS → IsSome o) }
 {
     let nodes = usize::from(shape.node_count());
-    let calls = history.len().min(MAX_CALLS);
+    let calls = history.len().min(MAX_CALLS) as u32;
     let mut order = CheckedOrder::new(alloc, nodes, calls)?;
     for event in history.events() {
         if !order.take(shape, event) {

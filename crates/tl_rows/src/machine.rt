@@ -5,6 +5,7 @@ use std::alloc::Global;
 use std::sync::Arc;
 use std::test::Fail;
 use tl_machine::{Stop, Turn, Want, local};
+use tl_protocol::Action;
 use tl_tree::Shape;
 use tl_verify::Proc;
 
@@ -65,35 +66,59 @@ fn a_segment_is_what_a_call_does_by_itself(rt: HostRuntime) -> Result<(), Fail> 
 }
 
 #[test]
-fn a_kept_turn_takes_the_end_of_a_segment(rt: HostRuntime) -> Result<(), Fail> {
+fn a_kept_turn_follows_to_the_end_of_a_segment(rt: HostRuntime) -> Result<(), Fail> {
     let alloc = rt.alloc();
     let shape = Arc::new(alloc, Shape::new(alloc, &[0, 0, 0])?)?;
     let mut kept = Turn::start(shared(alloc, LOOK)?, shape, &[-1])?;
-    let mut other = kept.try_clone()?;
     let segment = local(kept.try_clone()?);
     assert!(rt; kept.is(segment.from()));
-    kept.take_end(&segment);
-    assert!(rt; !kept.is(segment.from()));
-    assert_eq!(rt; kept.want(), Want::Stop(Stop::Return));
-    other.follow(&kept);
     let end = segment.into_turn();
-    assert!(rt; other.is(&end));
+    assert!(rt; !kept.is(&end));
+    kept.follow(&end);
+    assert!(rt; kept.is(&end));
+    assert_eq!(rt; kept.want(), Want::Stop(Stop::Return));
     Ok(())
 }
 
 #[test]
-fn a_segment_begins_again_at_a_state_of_its_call(rt: HostRuntime) -> Result<(), Fail> {
+fn a_state_is_led_on_beside_its_turn(rt: HostRuntime) -> Result<(), Fail> {
     let alloc = rt.alloc();
     let shape = Arc::new(alloc, Shape::new(alloc, &[0, 0, 0])?)?;
     let mut turn = Turn::start(shared(alloc, LOOK)?, shape, &[-1])?;
-    let state = *turn.call();
+    let mut state = *turn.call();
+    let stop = turn.run_on(&mut state);
+    assert_eq!(rt; stop, Stop::Return);
+    assert_eq!(rt; turn.call().steps, 0);
+    assert_eq!(rt; state.steps, 1);
     turn.put_at(&state);
-    let mut segment = local(turn);
-    let begin = *segment.from().call();
-    segment.go_on(&begin);
-    assert_eq!(rt; segment.from().call().steps, 0);
-    assert_eq!(rt; segment.to().steps, 1);
-    assert_eq!(rt; segment.stop(), Stop::Return);
+    assert_eq!(rt; turn.call().steps, 1);
+    Ok(())
+}
+
+#[test]
+fn the_parts_of_a_segment_are_its_own(rt: HostRuntime) -> Result<(), Fail> {
+    let alloc = rt.alloc();
+    let shape = Arc::new(alloc, Shape::new(alloc, &[0, 0, 0])?)?;
+    let turn = Turn::start(shared(alloc, LOOK)?, shape, &[-1])?;
+    let (from, to, stop) = local(turn).into_parts();
+    assert_eq!(rt; from.call().steps, 0);
+    assert_eq!(rt; to.steps, 1);
+    assert_eq!(rt; stop, Stop::Return);
+    Ok(())
+}
+
+#[test]
+fn a_lock_is_repeated_at_a_second_state(rt: HostRuntime) -> Result<(), Fail> {
+    let alloc = rt.alloc();
+    let shape = Arc::new(alloc, Shape::new(alloc, &[0, 0, 0])?)?;
+    let turn = Turn::start(shared(alloc, LOOK)?, shape, &[0])?;
+    let mut state = *turn.call();
+    let stop = turn.run_on(&mut state);
+    assert_eq!(rt; stop, Stop::Lock(0));
+    let found = [1, 2, 3, 4];
+    turn.repeat(&mut state, &Action::Lock { node: 0, found });
+    assert_eq!(rt; state.steps, 1);
+    assert_eq!(rt; turn.call().steps, 0);
     Ok(())
 }
 

@@ -12,9 +12,9 @@ ghost use Rattle.tl_procedures.specs.Names.{naming_refusal};
 ghost use Rattle.tl_procedures.specs.declared.fault.NamingFault.TheVariants as naming;
 ghost use Rattle.tl_core.specs.Cores.{CoreState, world_of, done_by, kept_turn, IsLeastUnfinished};
 ghost use Rattle.tl_core.specs.Entries.{step_answer, after_step, admission_refusal, after_admission, part_of_run, entry_of, IsBlocked};
-ghost use Rattle.tl_core.specs.Followed.{IsLedTo, IsLedFreely, IfFinished, IsFollowed, HasGone, IsUnhindered, IsFollowFault, EndsStop, Proceeds};
+ghost use Rattle.tl_core.specs.Followed.{IsLedTo, IsLedFreely, IfFinished, IfBlocked, IsFollowed, HasGone, IsUnhindered, IsFollowFault, EndsStop, Proceeds};
 ghost use Rattle.tl_core.specs.declared.stepped.Stepped.TheVariants.{Moved};
-ghost use Rattle.tl_machine.specs.Turns.{TurnValue, SegmentValue, IsTurn, with_call};
+ghost use Rattle.tl_machine.specs.Turns.{TurnValue, SegmentValue, IsTurn, IsSegment, segment_of, with_call};
 ghost use Rattle.tl_core.specs.declared.fault.CoreFault.TheVariants as fault;
 ghost use Rattle.tl_machine.specs.BetweenSteps.{IsLocal};
 ghost use Rattle.tl_order.specs.Kept.{IsOfSize, IsKept};
@@ -25,7 +25,7 @@ use std::alloc::{AllocError, Global};
 use std::marker::Model;
 use tl_core::{Core, CoreFault, Followed, Led, Stepped};
 use tl_history::MAX_CALLS;
-use tl_machine::{CallState, Segment, Stop};
+use tl_machine::{CallState, Segment, Stop, Turn};
 use tl_order::{KeptOrder, Order, SerialFault};
 use tl_procedures::NamingFault;
 use tl_protocol::Action;
@@ -151,10 +151,9 @@ impl Running {
         ensures fault { IfErr result (λ e. IsFollowFault self.old call segment e) }
         ensures err { OnErr result (self.new ≡ self.old) }
     {
-        let mut state = *segment.from().call();
-        match self.lead(call, &segment, &mut state)? {
+        let (mut turn, mut state, stop) = segment.into_parts();
+        match self.lead(call, &turn, &mut state, stop)? {
             Led::Went => {
-                let mut turn = segment.into_turn();
                 turn.put_at(&state);
                 Ok(Followed::Went(turn))
             }
@@ -167,25 +166,27 @@ impl Running {
         }
     }
 
-    /// The same for a caller that keeps the segment and a state of the call, as the core does: 602, 607. Takes no memory.
+    /// The same for a caller that keeps the parts of a segment, as the core does: 602, 607. Takes no memory.
     pub fn lead(
         &mut self,
         call: u32,
-        segment: &Segment,
+        from: &Turn,
         state: &mut CallState,
+        stop: Stop,
     ) -> Result<Led, CoreFault>
-        requires { IsTurn segment.now.from.code.instrs segment.now.from.parents state.old }
-        ensures turn { IsTurn segment.now.from.code.instrs segment.now.from.parents state.new }
-        ensures from { IfOk result (λ _. kept_turn self.old call ≡ Some segment.now.from) }
+        requires { IsSegment (segment_of from.now state.old stop) }
+        ensures turn { IsTurn from.now.code.instrs from.now.parents state.new }
+        ensures blocked { IfOk result (λ l. IfBlocked l (state.new ≡ state.old)) }
+        ensures stays { OnErr result (state.new ≡ state.old) }
+        ensures from { IfOk result (λ _. kept_turn self.old call ≡ Some from.now) }
         ensures known { IfOk result (λ l. IfFinished l (call < length self.new.seen.calls)) }
-        ensures followed { IfOk result (λ l. IsLedTo self.old call segment.now (with_call segment.now.from state.new) l self.new) }
-        ensures unhindered { IfOk result (λ l. IsLedFreely self.old segment.now l) }
+        ensures followed { IfOk result (λ l. IsLedTo self.old call (segment_of from.now state.old stop) (with_call from.now state.new) l self.new) }
+        ensures unhindered { IfOk result (λ l. IsLedFreely self.old (segment_of from.now state.old stop) l) }
         ensures turns { (c : ℕ) → c ≢ call → kept_turn self.new c ≡ kept_turn self.old c }
-        ensures fault { IfErr result (λ e. IsFollowFault self.old call segment.now e) }
+        ensures fault { IfErr result (λ e. IsFollowFault self.old call (segment_of from.now state.old stop) e) }
         ensures err { OnErr result (self.new ≡ self.old) }
     {
-        let stop = segment.stop();
-        let led = self.core.lead(call, segment, state);
+        let led = self.core.lead(call, from, state, stop);
         if let Ok(outcome) = &led {
             if has_gone(*outcome) {
                 take_up(&mut self.order, &self.core, call, stop);
@@ -226,7 +227,7 @@ pub(crate) fn order_of_core(alloc: Global, core: &Core) -> Result<KeptOrder, All
     core.is_sound();
     let _calls = core.calls();
     let shape = core.opening().shape();
-    KeptOrder::of_events(alloc, shape, core.history().events(), MAX_CALLS)
+    KeptOrder::of_events(alloc, shape, core.history().events(), MAX_CALLS as u32)
 }
 
 // Where the call stopped that did this, if it is no local action.

@@ -11,10 +11,11 @@ ghost use Rattle.tl_procedures.specs.declared.fault.NamingFault.TheVariants as n
 ghost use Rattle.tl_procedures.specs.declared.procedures.TheConstants.{MAX_NAME};
 ghost use Rattle.tl_core.specs.declared.fault.CoreFault.TheVariants as core_fault;
 ghost use Rattle.tl_protocol.specs.World.{reply_of};
-ghost use Rattle.tl_machine.specs.Turns.{IsTurn, Stops, with_call};
+ghost use Rattle.tl_machine.specs.Turns.{IsTurn, IsSegment, Stops, segment_of, with_call};
 ghost use Rattle.tl_machine.specs.declared.want.Stop.TheVariants as stop;
 ghost use Rattle.tl_core.specs.Cores.{kept_turn, world_of};
 ghost use Rattle.tl_table.specs.declared.fault.TableFault.TheVariants as fault;
+ghost use Rattle.tl_table.specs.declared.receipt.Outcome.TheVariants as outcome;
 ghost use Rattle.tl_table.specs.Ends.{EndsBefore, begun_by_end};
 ghost use Rattle.tl_table.specs.Tables.{seen, Stands, IsAtRest, IsKnown, table_refusal, IsAdmittedTo};
 ghost use Rattle.tl_table.specs.Sent.{IsSentTo, IsSentFreely, IsSent, IsUnblocked, IsSubmitFault, IsOfCall};
@@ -26,7 +27,7 @@ use std::alloc::Global;
 use std::marker::Model;
 use tl_core::{Core, CoreFault, Led};
 use tl_history::MAX_CALLS;
-use tl_machine::{CallState, Reply, Segment, Turn};
+use tl_machine::{CallState, Reply, Segment, Stop, Turn};
 use tl_order::Order;
 use tl_procedures::NamingFault;
 use tl_serial::Running;
@@ -235,10 +236,9 @@ impl Table {
         ensures fault { IfErr result (λ e. IsSubmitFault self.old call segment e) }
         ensures err { OnErr result (self.new ≡ self.old) }
     {
-        let mut state = *segment.from().call();
-        match self.lead(call, &segment, &mut state)? {
+        let (mut turn, mut state, stop) = segment.into_parts();
+        match self.lead(call, &turn, &mut state, stop)? {
             Outcome::Went => {
-                let mut turn = segment.into_turn();
                 turn.put_at(&state);
                 Ok(Sent::Went(turn))
             }
@@ -251,28 +251,31 @@ impl Table {
         }
     }
 
-    /// The same for a caller that keeps the segment, and in `state` a state of the call: where the call went, this is its
-    /// state now. 602, 801. Takes no memory.
+    /// The same for a caller that keeps the parts of a segment: the turn where it begins, the state to which it led, and where the
+    /// call stops there. Where the call went, the state is the one behind the stop; else it stays. 602, 801. Takes no memory.
     pub fn lead(
         &mut self,
         call: u32,
-        segment: &Segment,
+        from: &Turn,
         state: &mut CallState,
+        stop: Stop,
     ) -> Result<Outcome, TableFault>
-        requires { IsTurn segment.now.from.code.instrs segment.now.from.parents state.old }
-        ensures turn { IsTurn segment.now.from.code.instrs segment.now.from.parents state.new }
-        ensures from { IfOk result (λ _. kept_turn self.old.core call ≡ Some segment.now.from) }
-        ensures sent { IfOk result (λ o. IsSentTo self.old call segment.now (with_call segment.now.from state.new) o self.new) }
-        ensures unhindered { IfOk result (λ o. IsSentFreely self.old segment.now o) }
+        requires { IsSegment (segment_of from.now state.old stop) }
+        ensures turn { IsTurn from.now.code.instrs from.now.parents state.new }
+        ensures blocked { IfOk result (λ o. o ≡ outcome.Blocked → state.new ≡ state.old) }
+        ensures stays { OnErr result (state.new ≡ state.old) }
+        ensures from { IfOk result (λ _. kept_turn self.old.core call ≡ Some from.now) }
+        ensures sent { IfOk result (λ o. IsSentTo self.old call (segment_of from.now state.old stop) (with_call from.now state.new) o self.new) }
+        ensures unhindered { IfOk result (λ o. IsSentFreely self.old (segment_of from.now state.old stop) o) }
         ensures turns { (c : ℕ) → c ≢ call → kept_turn self.new.core c ≡ kept_turn self.old.core c }
         ensures sessions { (self.new.sessions ≡ self.old.sessions) × (self.new.owners ≡ self.old.owners) }
-        ensures fault { IfErr result (λ e. IsSubmitFault self.old call segment.now e) }
+        ensures fault { IfErr result (λ e. IsSubmitFault self.old call (segment_of from.now state.old stop) e) }
         ensures err { OnErr result (self.new ≡ self.old) }
     {
         // What is so of the call before: here a proof learns that.
         self.running.core().is_sound();
         let _calls = self.running.core().calls();
-        match self.running.lead(call, segment, state) {
+        match self.running.lead(call, from, state, stop) {
             Ok(Led::Went) => {
                 // And what is so of it now.
                 self.running.core().is_sound();

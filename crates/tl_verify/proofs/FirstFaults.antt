@@ -1,6 +1,5 @@
 -- An acceptable code has no first fault, and no code has two.
-use Rattle.std.proofs.Common.{◌≡◌, ◌⊎◌, inl, inr, ℕ, zero, suc, ◌+◌, ◌<◌, ◌≤◌, List, Option, Some, None, Bool, true, false, refl, sym, ◌∙◌, ap, subst, arith}
-use Rattle.std.specs.Prelude.{◌≢◌, slice_get}
+use Rattle.std.proofs.Common.{◌≡◌, ◌⊎◌, inl, inr, ℕ, zero, suc, ◌<◌, List, Bool, true, false, refl, sym, ◌∙◌, ap, subst, arith}
 use Rattle.std.proofs.lemmas.Bool.{cases_order}
 use Rattle.tl_instr.specs.declared.instr.Instr.{Instr}
 use Rattle.tl_budget.specs.Findings as loops
@@ -8,7 +7,7 @@ use Rattle.tl_budget.proofs.FirstFaults.{ranked, is_ranked}
 use Rattle.tl_verify.specs.declared.marks.Marks.{Marks}
 use Rattle.tl_verify.specs.declared.fault.VerifyFault.{VerifyFault}
 use Rattle.tl_verify.specs.Acceptable.{Acceptable}
-use Rattle.tl_verify.specs.Marks.{is_held, source, destination}
+use Rattle.tl_verify.specs.Marks.{is_held}
 use Rattle.tl_verify.specs.Findings.{Finding, OfLoops, TargetBack, TargetPastEnd, TargetInLoop, Joined, Spent, Missing, Taken, LeftHeld, Changed, NextPastEnd, Steps, Locks, Emits, Arises, Meets, Precedes, pass, position, rank, fault_of, IsFirstFault}
 use Rattle.tl_verify.proofs.MarksLemmas.{pointwise_same, pointwise_itself}
 use Rattle.tl_verify.proofs.NoFindings.{nothing_found}

@@ -1,5 +1,5 @@
 -- What holds of every procedure.
-use Rattle.std.specs.Prelude.{◌≡◌, ℕ, List}
+use Rattle.std.specs.Prelude.{◌≡◌, List}
 use Rattle.tl_instr.specs.declared.instr.Instr.{Instr}
 use Rattle.tl_instr.specs.Codes.{CodeValue, IsCode}
 use Rattle.tl_budget.specs.declared.limits.Bounds.{Bounds}

@@ -59,6 +59,13 @@ impl Proc {
         self.bounds
     }
 
+    /// Whether a call with these arguments has as many as the procedure takes.
+    pub fn takes(&self, args: &[i64]) -> bool
+        ensures { IsTrue result ↔ (length args.now ≡ self.now.arity) }
+    {
+        args.len() == usize::from(self.code.arity().number())
+    }
+
     /// Whether both are made of the same code: as many arguments, and the same instructions. Their loops and bounds are then
     /// the same.
     pub fn is(&self, other: &Proc) -> bool

@@ -1,7 +1,8 @@
 // A call that is run to its end.
 
 ghost use Rattle.std.specs.Prelude.{◌≡◌, [], IfOk, IfSome, OnErr};
-ghost use Rattle.tl_machine.specs.Turns.{IsTurn};
+ghost use Rattle.tl_machine.specs.Turns.{IsTurn, IsSegment, segment_of};
+ghost use Rattle.tl_table.specs.declared.receipt.Outcome.TheVariants.{Blocked};
 ghost use Rattle.tl_workers.specs.Kept.{Gains, call_of};
 
 use crate::asking::{Asking, values_of};
@@ -12,7 +13,7 @@ use crate::session::Session;
 use std::alloc::Global;
 use std::sync::{MutexGuard, Wait};
 use tl_core::CoreFault;
-use tl_machine::{CallState, Segment, Stop, Turn, local};
+use tl_machine::{CallState, Stop, Turn};
 use tl_table::{Outcome, Receipt, Table, TableFault};
 
 impl Engine {
@@ -85,17 +86,22 @@ impl Engine {
         passed: &mut u64,
         gate: &G,
     ) -> bool {
-        let mut state = *turn.call();
-        let mut segment = local(turn);
+        let mut from = turn;
+        let mut state = *from.call();
+        let mut stop = from.run_on(&mut state);
         for _ in rt.forever() {
             gate.ready(call, *passed);
-            match self.send(rt, call, &segment, &mut state) {
+            match self.send(rt, call, &from, &mut state, stop) {
                 Ok(Outcome::Finished) => return true,
-                Ok(_) => {}
+                Ok(Outcome::Went) => {
+                    *passed = pass(gate, call, *passed);
+                    from.put_at(&state);
+                    stop = from.run_on(&mut state);
+                }
+                // The instructions up to the lock are done: it is asked for once more.
+                Ok(Outcome::Blocked) => *passed = pass(gate, call, *passed),
                 Err(_) => return false,
             }
-            *passed = pass(gate, call, *passed);
-            segment.go_on(&state);
         }
         unreachable!()
     }
@@ -112,15 +118,16 @@ impl Engine {
         &self,
         rt: &impl Wait,
         call: u32,
-        segment: &Segment,
+        from: &Turn,
         state: &mut CallState,
+        stop: Stop,
     ) -> Result<Outcome, TableFault>
-        requires { IsTurn segment.now.from.code.instrs segment.now.from.parents state.old }
-        ensures { IsTurn segment.now.from.code.instrs segment.now.from.parents state.new }
+        requires { IsSegment (segment_of from.now state.old stop) }
+        ensures turn { IsTurn from.now.code.instrs from.now.parents state.new }
+        ensures stays { IfOk result (λ o. o ≡ Blocked → state.new ≡ state.old) }
     {
-        let stop = segment.stop();
         let mut table = self.table.lock(rt);
-        let sent = table.lead(call, segment, state);
+        let sent = table.lead(call, from, state, stop);
         match (&sent, stop) {
             (Ok(Outcome::Blocked), Stop::Lock(node)) => self.wait_for(rt, table, node),
             (Ok(_), Stop::Free(_) | Stop::Return) => {

@@ -47,7 +47,7 @@ loop-node-smaller-in-Lock c =
     let wants = stop_is c.args.procedure.now.instrs c.loop-node.tree.parents c.run_local.new.self (stop.Lock c.in-Lock.node) _ c.in-Lock.is (rw same at c.run_local.ensures.stop) in
     let st = stands_at _ _ _ _ _ c.shape.ensures.whole.count (stop.Lock c.in-Lock.node) u (λ e. cc) wants in
     let again = c.deref-in-Lock.ensures ∙ c.shape-in-Lock.ensures.shape in
-    more_left _ _ _ _ _ c.shape.ensures.whole.count u st c.loop-node.call c.lock.new.self (follows_steps _ _ _ _ c.run_local.ensures.follows) c.lock.ensures.counts.steps
+    more_left _ _ _ _ _ c.shape.ensures.whole.count u st c.loop-node.call c.lock.new.self (follows_steps _ _ _ _ c.run_local.ensures.follows) c.lock.ensures.locks.counts.steps
 
 pub loop-node-preserved-in-Lock : goal.loop-node-preserved-in-Lock
 loop-node-preserved-in-Lock c =
@@ -57,7 +57,7 @@ loop-node-preserved-in-Lock c =
     let st = stands_at _ _ _ _ _ c.shape.ensures.whole.count (stop.Lock c.in-Lock.node) u (λ e. cc) wants in
     let again = c.deref-in-Lock.ensures ∙ c.shape-in-Lock.ensures.shape in
     record {
-      under_way = lock_on _ _ _ _ _ c.shape.ensures.whole.count u st _ _ c.lock.new.self c.record_at-found.ensures (rw again at c.lock.ensures);
+      under_way = lock_on _ _ _ _ _ c.shape.ensures.whole.count u st _ _ c.lock.new.self c.record_at-found.ensures (rw again at c.lock.ensures.locks);
       shape = c.loop-node.invariant.shape;
     }
 
@@ -94,7 +94,7 @@ loop-node-smaller-in-Free c =
     let wants = stop_is c.args.procedure.now.instrs c.loop-node.tree.parents c.run_local.new.self (stop.Free c.in-Free.node) _ c.in-Free.is (rw same at c.run_local.ensures.stop) in
     let st = stands_at _ _ _ _ _ c.shape.ensures.whole.count (stop.Free c.in-Free.node) u (λ e. cc) wants in
     let again = c.deref-in-Free.ensures ∙ c.shape-in-Free.ensures.shape in
-    more_left _ _ _ _ _ c.shape.ensures.whole.count u st c.loop-node.call c.free-left.new.self (follows_steps _ _ _ _ c.run_local.ensures.follows) c.free-left.ensures.2.counts.steps
+    more_left _ _ _ _ _ c.shape.ensures.whole.count u st c.loop-node.call c.free-left.new.self (follows_steps _ _ _ _ c.run_local.ensures.follows) c.free-left.ensures.frees.2.counts.steps
 
 pub loop-node-preserved-in-Free : goal.loop-node-preserved-in-Free
 loop-node-preserved-in-Free c =
@@ -103,7 +103,7 @@ loop-node-preserved-in-Free c =
     let wants = stop_is c.args.procedure.now.instrs c.loop-node.tree.parents c.run_local.new.self (stop.Free c.in-Free.node) _ c.in-Free.is (rw same at c.run_local.ensures.stop) in
     let st = stands_at _ _ _ _ _ c.shape.ensures.whole.count (stop.Free c.in-Free.node) u (λ e. cc) wants in
     let again = c.deref-in-Free.ensures ∙ c.shape-in-Free.ensures.shape in
-    let freed = rw again at c.free-left.ensures in
+    let freed = rw again at c.free-left.ensures.frees in
     rw c.put_at.ensures (record {
       under_way = free_on _ _ _ _ _ c.shape.ensures.whole.count u st c.in-Free.node freed.0 _ c.free-left.new.self wants freed.1 freed.2;
       shape = c.loop-node.invariant.shape;

@@ -22,12 +22,11 @@ returns-then-ne c past hold last =
     let shape = c.args.shape.now in
     let x = c.loop-step.step in
     let up = c.parent-above.ensures.parent in
-    let at = c.from.ensures ∙ up in
     let inside : parent shape x < length c.args.holders.now = omega (arith, c.requires.holders, c.parent-above.ensures.inside, up) in
-    let holds : holder_of past (parent shape x) ≡ Some c.in-Some.call = sym (hold (parent shape x) inside) ∙ ap (λ k. get_or c.args.holders.now k None) (sym at) ∙ c.in-Some.is in
+    let holds : holder_of past (parent shape x) ≡ Some c.in-Some.call = sym (hold (parent shape x) inside) ∙ ap (λ k. get_or c.args.holders.now k None) (sym up) ∙ sym c.at.ensures.call ∙ c.in-Some.is in
     let below : x < length c.args.under.now = omega (arith, c.requires.under, c.loop-step.invariant.0) in
     let tested : c.ne.result ≡ not (is_call (get_or c.args.under.now x None) c.in-Some.call) =
-    c.ne.ensures ∙ ap not (option_eq-call (get_or c.args.under.now c.from-in-Some.result None) c.in-Some.call) ∙ ap (λ k. not (is_call (get_or c.args.under.now k None) c.in-Some.call)) c.from-in-Some.ensures in
+    c.ne.ensures ∙ ap not (option_eq-call c.at-in-Some.result c.in-Some.call) ∙ ap (λ entry. not (is_call entry c.in-Some.call)) c.at-in-Some.ensures.call in
     let apart : under_of shape past x ≢ Some c.in-Some.call = λ u.
     let t = some-is_call (get_or c.args.under.now x None) c.in-Some.call (last x below ∙ u) in
     let n : c.ne.result ≡ false = tested ∙ ap not t in
@@ -38,15 +37,14 @@ pub loop-step-preserved-else-ne : goal.loop-step-preserved-else-ne
 loop-step-preserved-else-ne c =
     let shape = c.args.shape.now in
     let x = c.loop-step.step in
-    let up = c.parent-above.ensures.parent in
-    let at = c.from.ensures ∙ up in (
+    let up = c.parent-above.ensures.parent in (
       c.parent-above.ensures.inside,
       λ past hold last.
           let inside : parent shape x < length c.args.holders.now = omega (arith, c.requires.holders, c.parent-above.ensures.inside, up) in
-          let holds : holder_of past (parent shape x) ≡ Some c.in-Some.call = sym (hold (parent shape x) inside) ∙ ap (λ k. get_or c.args.holders.now k None) (sym at) ∙ c.in-Some.is in
+          let holds : holder_of past (parent shape x) ≡ Some c.in-Some.call = sym (hold (parent shape x) inside) ∙ ap (λ k. get_or c.args.holders.now k None) (sym up) ∙ sym c.at.ensures.call ∙ c.in-Some.is in
           let below : x < length c.args.under.now = omega (arith, c.requires.under, c.loop-step.invariant.0) in
           let tested : c.ne.result ≡ not (is_call (get_or c.args.under.now x None) c.in-Some.call) =
-          c.ne.ensures ∙ ap not (option_eq-call (get_or c.args.under.now c.from-in-Some.result None) c.in-Some.call) ∙ ap (λ k. not (is_call (get_or c.args.under.now k None) c.in-Some.call)) c.from-in-Some.ensures in
+          c.ne.ensures ∙ ap not (option_eq-call c.at-in-Some.result c.in-Some.call) ∙ ap (λ entry. not (is_call entry c.in-Some.call)) c.at-in-Some.ensures.call in
           let t : is_call (get_or c.args.under.now x None) c.in-Some.call ≡ true = let no' = c.if-ne.false in grind (arith, tested, no') in
           let shut : under_of shape past x ≡ Some c.in-Some.call = sym (last x below) ∙ is_call-some (get_or c.args.under.now x None) c.in-Some.call t in
           let so_far = c.loop-step.invariant.1 past hold last in
@@ -63,8 +61,7 @@ pub loop-step-preserved : goal.loop-step-preserved
 loop-step-preserved c =
     let shape = c.args.shape.now in
     let x = c.loop-step.step in
-    let up = c.parent-above.ensures.parent in
-    let at = c.from.ensures ∙ up in (
+    let up = c.parent-above.ensures.parent in (
       c.parent-above.ensures.inside,
       λ past hold last.
           let inside : parent shape x < length c.args.holders.now = omega (arith, c.requires.holders, c.parent-above.ensures.inside, up) in
@@ -73,7 +70,7 @@ loop-step-preserved c =
           let fewer = held_below-grows past (parent shape x) x (omega (arith, low)) in
           let here = ap (λ y. held_below y past) (sym up) in (
             so_far.0
-                ∙ climb_on shape c.requires.tree past x c.loop-step-test.true (λ d h. absurd (c.in_default.not-Some d (ap (λ k. get_or c.args.holders.now k None) at ∙ hold (parent shape x) inside ∙ h)))
+                ∙ climb_on shape c.requires.tree past x c.loop-step-test.true (λ d h. absurd (c.in_default.not-Some d (c.at.ensures.call ∙ ap (λ k. get_or c.args.holders.now k None) up ∙ hold (parent shape x) inside ∙ h)))
                 ∙ ap (coming_calls shape past) (sym up),
             omega (arith, so_far.1, fewer, here),
           ),

@@ -1,7 +1,9 @@
-use Rattle.std.proofs.Common.{◌-◌, sym, ap, ◌∙◌, subst, arith}
+use Rattle.std.proofs.Common.{◌≡◌, ◌-◌, sym, ap, ◌∙◌, subst, arith, Some}
+use Rattle.tl_protocol.specs.declared.action.Action.TheVariants as did
 use Rattle.tl_machine.specs.Turns.{Stops}
 use Rattle.tl_machine.specs.declared.want.Stop.TheVariants as stop
-use Rattle.tl_core.proofs.OpenCall.{at_read, slot_read, turned_inside, turn_same, kept_here, whole_then, seen_on, turns_then}
+use Rattle.tl_core.proofs.OpenCall.{at_read, slot_read, turned_inside, turn_same, kept_here, whole_then, seen_on, turn_then, turns_then}
+use Rattle.tl_core.proofs.KeptTurns.{turned_by}
 use Rattle.tl_core.proofs.StepExits.{freed_slot, freed_record, free_place, free_reserved, free_answer, free_seen, free_kept}
 use Rattle.tl_core.proofs.interleaving.Core.free.Goals as goal
 
@@ -106,3 +108,14 @@ returns-clause-turns c =
     let p = at_read _ _ _ _ _ _ _ c.self.invariant c.args.call c.in-Some.slot c.index.result.now c.index_mut-current.result.now inside c.index.ensures (sym c.slot.ensures ∙ c.in-Some.is) c.index_mut-current.ensures.value in
     let same = c.free-left.ensures.same in
     rw (← c.self.view_is) (turns_then _ _ _ _ _ _ _ c.self.invariant c.args.call c.in-Some.slot c.index.result.now c.index_mut-current.result.now p c.free-left.new.self (c.index_mut-current.result.now.places - 1) (ap (λ t. t.code) same))
+
+pub returns-clause-turned : goal.returns-clause-turned
+returns-clause-turned c =
+    let kept = rw (← c.self.view_is) at c.requires.1 in
+    let inside = turned_inside _ _ _ _ _ _ _ c.self.invariant c.args.call c.requires.0 kept in
+    let p = at_read _ _ _ _ _ _ _ c.self.invariant c.args.call c.in-Some.slot c.index.result.now c.index_mut-current.result.now inside c.index.ensures (sym c.slot.ensures ∙ c.in-Some.is) c.index_mut-current.ensures.value in
+    let same = c.free-left.ensures.same in
+    rw (← c.self.view_is) (λ a is other t here.
+    let it : did.Free c.args.node c.free-left.result ≡ a = cc in
+    turn_then _ _ _ _ _ _ _ c.self.invariant c.args.call c.in-Some.slot c.index.result.now c.index_mut-current.result.now p c.free-left.new.self (c.index_mut-current.result.now.places - 1) (ap (λ t. t.code) same)
+    ∙ ap Some (turned_by _ t _ _ a (turn_same _ _ _ _ _ _ _ c.self.invariant c.args.call c.in-Some.slot c.index.result.now c.index_mut-current.result.now p t here) same c.free-left.ensures.exact it))

@@ -1,8 +1,9 @@
-use Rattle.std.proofs.Common.{◌-◌, sym, ap, ◌∙◌, subst, arith, Some, None}
+use Rattle.std.proofs.Common.{◌≡◌, ◌-◌, sym, ap, ◌∙◌, subst, arith, Some, None}
+use Rattle.tl_protocol.specs.declared.action.Action.TheVariants as did
 use Rattle.tl_machine.specs.Turns.{Stops}
 use Rattle.tl_machine.specs.declared.want.Stop.TheVariants as stop
-use Rattle.tl_core.proofs.OpenCall.{at_read, slot_read, turned_inside, turn_same, kept_here, whole_then, seen_on, turns_then}
-use Rattle.tl_core.proofs.KeptTurns.{kept_with}
+use Rattle.tl_core.proofs.OpenCall.{at_read, slot_read, turned_inside, turn_same, kept_here, whole_then, seen_on, turn_then, turns_then}
+use Rattle.tl_core.proofs.KeptTurns.{kept_with, turned_by}
 use Rattle.tl_core.proofs.StepExits.{holder_slot, record_slot, has_place, has_reserved, blocked_answer, lock_answer, lock_seen, lock_kept, holder_read}
 use Rattle.tl_core.proofs.interleaving.Core.lock_or_block.Goals as goal
 
@@ -118,3 +119,14 @@ returns-clause-turns c =
     let p = at_read _ _ _ _ _ _ _ c.self.invariant c.args.call c.in-Some.slot c.index.result.now c.index_mut-current.result.now inside c.index.ensures (sym c.slot.ensures ∙ c.in-Some.is) c.index_mut-current.ensures.value in
     let same = c.lock_node.ensures.same in
     rw (← c.self.view_is) (turns_then _ _ _ _ _ _ _ c.self.invariant c.args.call c.in-Some.slot c.index.result.now c.index_mut-current.result.now p c.lock_node.new.self (c.index_mut-current.result.now.places - 1) (ap (λ t. t.code) same))
+
+pub returns-clause-turned : goal.returns-clause-turned
+returns-clause-turned c =
+    let kept = rw (← c.self.view_is) at c.requires.1 in
+    let inside = turned_inside _ _ _ _ _ _ _ c.self.invariant c.args.call c.requires.0 kept in
+    let p = at_read _ _ _ _ _ _ _ c.self.invariant c.args.call c.in-Some.slot c.index.result.now c.index_mut-current.result.now inside c.index.ensures (sym c.slot.ensures ∙ c.in-Some.is) c.index_mut-current.ensures.value in
+    let same = c.lock_node.ensures.same in
+    rw (← c.self.view_is) (λ a is other t here.
+    let it : did.Lock c.args.node c.record_at-found.result ≡ a = cc in
+    turn_then _ _ _ _ _ _ _ c.self.invariant c.args.call c.in-Some.slot c.index.result.now c.index_mut-current.result.now p c.lock_node.new.self (c.index_mut-current.result.now.places - 1) (ap (λ t. t.code) same)
+    ∙ ap Some (turned_by _ t _ _ a (turn_same _ _ _ _ _ _ _ c.self.invariant c.args.call c.in-Some.slot c.index.result.now c.index_mut-current.result.now p t here) same c.lock_node.ensures.exact it))

@@ -27,15 +27,26 @@ unreachable-requires c =
     (at_lent _ _ _ _ _ _ c.instrs.ensures.value c.code.ensures.value c.requires.stands.inside refl)
     (λ n v l e. c.in_default.not-First n v l e) (λ n m v l e. c.in_default.not-Child n m v l e)
 
-pub returns-in-First : goal.returns-in-First
-returns-in-First c =
+pub returns-in-First-clause-locks : goal.returns-in-First-clause-locks
+returns-in-First-clause-locks c =
     let at = at_lent _ _ _ _ _ _ c.instrs.ensures.value c.code.ensures.value c.requires.stands.inside c.in-First.is in
     first_locks _ c.args.shape.now c.code.ensures.accepted c.args.self.now c.requires.stands c.in-First.to c.in-First.number c.in-First.otherwise c.args.node c.args.found at
     (first_found _ _ _ _ _ _ _ c.requires.lock at) _ c.hold.ensures
 
-pub returns-in-Child : goal.returns-in-Child
-returns-in-Child c =
+pub returns-in-Child-clause-locks : goal.returns-in-Child-clause-locks
+returns-in-Child-clause-locks c =
     let at = at_lent _ _ _ _ _ _ c.instrs.ensures.value c.code.ensures.value c.requires.stands.inside c.in-Child.is in
     let k = child_found _ _ _ c.args.node _ _ _ _ c.requires.lock at in
     child_taken _ c.args.shape.now c.code.ensures.accepted c.args.self.now c.requires.stands c.in-Child.to c.in-Child.parent c.in-Child.number c.in-Child.otherwise c.args.node c.args.found at k c.pass_child.new.call _
     (c.pass_child.ensures k.held k.number k.holds k.value) c.hold-in-Child.ensures
+
+pub returns-in-First-clause-exact : goal.returns-in-First-clause-exact
+returns-in-First-clause-exact c =
+    rw (at_lent _ _ _ _ _ _ c.instrs.ensures.value c.code.ensures.value c.requires.stands.inside c.in-First.is) c.hold.ensures
+
+pub returns-in-Child-clause-exact : goal.returns-in-Child-clause-exact
+returns-in-Child-clause-exact c =
+    let at = at_lent _ _ _ _ _ _ c.instrs.ensures.value c.code.ensures.value c.requires.stands.inside c.in-Child.is in
+    let k = child_found _ _ _ c.args.node _ _ _ _ c.requires.lock at in
+    let passed = c.pass_child.ensures k.held k.number k.holds k.value in
+    rw (at, k.holds, k.value) (rw passed at c.hold-in-Child.ensures)

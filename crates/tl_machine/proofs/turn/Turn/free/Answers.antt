@@ -20,5 +20,5 @@ pub returns-clause-frees : goal.returns-clause-frees
 returns-clause-frees c =
     let wants = rw (sym c.self.view_is) at c.requires in
     let st = stands_wants _ _ _ (want.Stop (stop.Free wants.0)) c.self.invariant (λ e. cc) wants.1 in
-    let f = rw (c.deref.ensures, c.deref-2.ensures) at c.free.ensures in
+    let f = rw (c.deref.ensures, c.deref-2.ensures) at c.free.ensures.frees in
     rw (sym c.self.view_is) (f.0.node, free_wanted _ _ _ st st.counters f.0 f.1, f.2)

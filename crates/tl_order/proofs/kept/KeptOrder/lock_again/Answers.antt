@@ -5,7 +5,7 @@ use Rattle.tl_order.proofs.kept.KeptOrder.lock_again.Goals as goal
 
 pub returns-clause-kept : goal.returns-clause-kept
 returns-clause-kept c parents past found tree there kept legal =
-    let k : KeptValue = record { order = c.self.inside.order; calls = length c.self.inside.standing.items; holders = c.self.inside.holders.items; under = c.self.inside.under.items } in
+    let k : KeptValue = record { order = c.self.inside.order; calls = length c.self.inside.standing.items; holders = c.self.inside.holders; under = c.self.inside.under } in
     let stays = rw (sym c.self.view_is) at there in
     let before = rw (sym c.self.view_is) at kept in
-    rw (c.hold.ensures, c.from.ensures) (kept_again parents tree k past c.args.call c.args.node found stays before legal)
+    rw (c.hold.ensures, c.put.ensures) (kept_again parents tree k past c.args.call c.args.node found stays before legal)

@@ -1,4 +1,4 @@
-use Rattle.std.proofs.Common.{rules, ◌≡◌, ◌<◌, ℕ, List, Option, None, false, length, get_or, replicate, sym, ap, ◌∙◌, arith}
+use Rattle.std.proofs.Common.{◌≡◌, ◌<◌, ℕ, List, Option, None, false, length, get_or, replicate, sym, ap, ◌∙◌, arith}
 use Rattle.std.proofs.lemmas.List.{get_or-replicate, length-replicate}
 use Rattle.tl_order.proofs.Marks.{trues-false, get_or-all_false}
 use Rattle.tl_order.specs.Kept.{count_held}
@@ -16,20 +16,17 @@ invariant_of-result c =
     let column = c.in_ok-standing.ensures.items_if_clones_equal (λ _ e. e) in
     let none = c.in_ok-order.ensures.none in
     let size = length-replicate c.args.calls false in
-    let holders : c.in_ok-holders.holders.items ≡ replicate c.args.nodes None = search rules in
     rw (none, column) (
       record { distinct = tt; standing = λ d. sym (get_or-all_false c.args.calls d) },
       sym (trues-false c.args.calls),
       omega (arith, size, c.in_ok-order.ensures.capacity),
-      sym (ap count_held holders ∙ count_held-none c.args.nodes),
+      sym (ap count_held c.in_ok-holders.ensures ∙ count_held-none c.args.nodes),
+      omega (arith, size, c.ranges.calls),
     )
 
 pub returns-clause-kept : goal.returns-clause-kept
-returns-clause-kept c parents =
-    let holders : c.in_ok-holders.holders.items ≡ replicate c.args.nodes None = search rules in
-    let under : c.in_ok-under.under.items ≡ replicate c.args.nodes None = search rules in
-    record {
-      order = c.in_ok-order.ensures.none;
-      holders = λ x inside. none_at c.in_ok-holders.holders.items c.args.nodes x holders inside;
-      under = λ x inside. none_at c.in_ok-under.under.items c.args.nodes x under inside;
-    }
+returns-clause-kept c parents = record {
+  order = c.in_ok-order.ensures.none;
+  holders = λ x inside. none_at c.in_ok-holders.holders c.args.nodes x c.in_ok-holders.ensures inside;
+  under = λ x inside. none_at c.in_ok-under.under c.args.nodes x c.in_ok-under.ensures inside;
+}

@@ -11,9 +11,7 @@ returns-in-None-clause-place c past call kept =
     let before = rw (sym c.self.view_is) at kept in
     let shape = c.args.shape.now in
     let order = c.self.inside.order.calls in
-    let holders = rw (sym c.deref.ensures.value) at before.holders in
-    let under = rw (sym c.deref-2.ensures.value) at before.under in
-    let none : slice_get (coming_calls shape past c.args.node) 0 ≡ None = sym (c.nearest_coming.ensures past holders under) ∙ c.in-None.is in
+    let none : slice_get (coming_calls shape past c.args.node) 0 ≡ None = sym (c.nearest_coming.ensures past before.holders before.under) ∙ c.in-None.is in
     let put : put_before (is_call (slice_get (coming_calls shape past c.args.node) 0)) call order ≡ insert order (length order) call =
     ap (λ first. put_before (is_call first) call order) none ∙ put_before-no_call call order ∙ sym (insert-end order call) in
     rw (sym c.self.view_is, c.calls-in-None.ensures.same) put

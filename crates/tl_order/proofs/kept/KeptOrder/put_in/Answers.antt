@@ -27,4 +27,5 @@ invariant_of-self c =
       omega (arith, more, longer, now, c.self.invariant.1),
       omega (arith, size, c.put_in.ensures.capacity, c.self.invariant.2),
       c.self.invariant.3,
+      omega (arith, size, c.self.invariant.4),
     )

@@ -1,6 +1,6 @@
-use Rattle.tl_machine.specs.Turns.{IsTurn}
+use Rattle.tl_machine.specs.Turns.{IsSegment, segment_of}
 use Rattle.tl_workers.proofs.engine.Engine.run_from.Given as goal
 
--- the state is one of the segment's call
+-- the state comes from the turn by local instructions, and the call stops there
 abbrev pub invariant-loop : goal.invariant-loop
-invariant-loop g l = IsTurn l.segment.from.code.instrs l.segment.from.parents l.state
+invariant-loop g l = IsSegment (segment_of l.from l.state l.stop)
