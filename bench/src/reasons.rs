@@ -60,10 +60,8 @@ const TRUSTING: &str = "**`order_of` beside a twin that takes it that the rules 
 and where one breaks a rule, the plain definition places all of them. The rows without that remark stand beside a twin that does so too. `Running` and \
 an engine keep the rules, and check nothing.";
 
-const ORDER_OF: &str = "**`order_of`.** The call that holds a node takes eight bytes, with a mark for none, where the twin's takes four and none is the greatest number. \
-Beside a twin that was built with eight, the product has 0.61 of the speed with one call after another, 0.95 with 64 below each other and 0.80 with 64 in each other's way, and \
-0.54, 0.78 and 0.69 beside the twin in the same rounds. Besides, each event is matched in six functions, each with its own contract, and the twin's in one: by `perf`, half of \
-the time is in what checks an event, and half in what places it.";
+const ORDER_OF: &str = "**`order_of`.** What kind an event is of is asked three times: by what checks it, by what places it and by what counts. Each time \
+that is a jump that a processor foresees badly. The twin asks once.";
 
 const WORKERS: &str = "**More workers.** Where others use the machine's processors too, two workers rarely both get a whole one: with 10,000 instructions between two \
 turns the twin goes 2.5 to 3.4 times as fast on four workers as on one, and the product 2.2 to 3.1 times. On one path, and with 20 instructions between two \
@@ -71,8 +69,8 @@ turns, the lock goes from processor to processor, and both sides lose by more wo
 
 const TURN: &str = "**A turn of an engine.** Under the lock the segment's turn is compared with the kept one by value: the parents of 4,096 nodes take 200 to \
 250 ns of it, a third of a short call, those of 128 some 10 (by `perf`, and by the same calls on both trees). A call's state of 800 bytes is \
-copied four times in a turn, and the twin's twice: a tenth of a short call, and a quarter to a third of a walk. Besides, a short call pays for its admission, its \
-receipt and the session's list, which are a third of it.";
+compared too, and copied twice, as the twin's is. Besides, a short call pays for its admission, its receipt and the session's list, which are \
+a third of it.";
 
 const TRANSACTION: &str = "**A procedure a transaction through an engine.** A call has thirteen locks, frees and returns. Each is a turn \
 that is compared as above, goes through the lock, and is copied. In a core the same call takes an eighth of the time.";

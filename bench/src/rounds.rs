@@ -19,6 +19,16 @@ const PASS: Duration = Duration::from_millis(900);
 /// caches are warm, and what disturbs the machine for less than a millisecond is left out on each side.
 const ROUND: Duration = Duration::from_millis(12);
 
+/// How many rounds a pass has at least, and how long a side works in each at least.
+#[derive(Clone, Copy)]
+pub struct Plan {
+    pub rounds: usize,
+    pub round: Duration,
+}
+
+/// What most work needs.
+pub const USUAL: Plan = Plan { rounds: ROUNDS, round: ROUND };
+
 /// How many times as long a side's round may take with what isn't timed, as texts that are read first.
 const MAKING_READY: u32 = 4;
 
@@ -81,16 +91,21 @@ impl Times {
 
 /// All sides do their work in turn, each round on another processor and beginning with another side. A side has to come to the same each
 /// time.
-pub fn in_turn<const N: usize>(name: &str, mut sides: [Side; N]) -> Result<[Times; N], String> {
-    all_in_turn(name, &mut sides)?.try_into().map_err(|_| format!("{name}: as many times as sides"))
+pub fn in_turn<const N: usize>(name: &str, sides: [Side; N]) -> Result<[Times; N], String> {
+    as_planned(name, USUAL, sides)
+}
+
+/// The same in rounds as they are planned.
+pub fn as_planned<const N: usize>(name: &str, plan: Plan, mut sides: [Side; N]) -> Result<[Times; N], String> {
+    all_as_planned(name, plan, &mut sides)?.try_into().map_err(|_| format!("{name}: as many times as sides"))
 }
 
 /// The same of any number of sides.
-pub fn all_in_turn(name: &str, sides: &mut [Side]) -> Result<Vec<Times>, String> {
+pub fn all_as_planned(name: &str, plan: Plan, sides: &mut [Side]) -> Result<Vec<Times>, String> {
     let count = sides.len();
     let mut times = vec![Times::default(); count];
-    let runs = warm_up(name, sides, &mut times)?;
-    for round in 0..runs.rounds.max(ROUNDS) {
+    let runs = warm_up(name, plan.round, sides, &mut times)?;
+    for round in 0..runs.rounds.max(plan.rounds) {
         processors::next_round();
         times.iter_mut().for_each(|side| side.nanos.push(f64::INFINITY));
         for place in (0..count).map(|place| (round + place) % count) {
@@ -109,7 +124,7 @@ struct Runs {
 }
 
 /// Each side does its work once, which shows how long it takes.
-fn warm_up(name: &str, sides: &mut [Side], times: &mut [Times]) -> Result<Runs, String> {
+fn warm_up(name: &str, least: Duration, sides: &mut [Side], times: &mut [Times]) -> Result<Runs, String> {
     let mut in_a_round = Vec::new();
     let mut round = Duration::ZERO;
     for (side, times) in sides.iter_mut().zip(times) {
@@ -117,7 +132,7 @@ fn warm_up(name: &str, sides: &mut [Side], times: &mut [Times]) -> Result<Runs, 
         let measured = side();
         let once = start.elapsed();
         times.add(name, measured)?;
-        let runs = times_in(ROUND, Duration::from_nanos(measured.nanos)).min(times_in(MAKING_READY * ROUND, once));
+        let runs = times_in(least, Duration::from_nanos(measured.nanos)).min(times_in(MAKING_READY * least, once));
         in_a_round.push(runs);
         round += once * runs as u32;
     }
@@ -186,6 +201,19 @@ mod tests {
         let times = in_turn("order", [&mut || side(0), &mut || side(1)]).unwrap();
         assert_eq!(order.borrow()[2..8], [0, 1, 1, 0, 0, 1]);
         assert_eq!(times[0].nanos, [6.0; ROUNDS]);
+    }
+
+    #[test]
+    fn a_plan_is_kept() {
+        let [times] = as_planned("rounds", Plan { rounds: ROUNDS + 2, ..USUAL }, [&mut || slow(6)]).unwrap();
+        assert_eq!(times.nanos, [6.0; ROUNDS + 2]);
+        let mut runs = 0;
+        let mut side = || {
+            runs += 1;
+            Measured { nanos: ROUND.as_nanos() as u64, ..Measured::default() }
+        };
+        let [times] = as_planned("runs", Plan { round: 3 * ROUND, ..USUAL }, [&mut side]).unwrap();
+        assert_eq!(runs - 1, 3 * times.nanos.len());
     }
 
     #[test]

@@ -1,9 +1,11 @@
 //! Orders and audits of trails.
 
+use std::time::Duration;
+
 use super::{grouped, walks, TWIN};
 use crate::measured::Measured;
 use crate::product;
-use crate::rounds::{all_in_turn, are_alike, Side, Times};
+use crate::rounds::{all_as_planned, are_alike, Plan, Side, Times, USUAL};
 use crate::schedules;
 use crate::table::{Goal, Part, Row};
 use crate::trees::CALLS;
@@ -16,6 +18,17 @@ const LOCKS: [u16; 4] = [15, 31, 63, 127];
 
 /// How often each of these trails is run in a round.
 const RUNS: [u32; LOCKS.len()] = [16, 8, 4, 2];
+
+/// How often the order of a short trail is found in each call of a side, and how often it is audited. The product reads the trail's text
+/// before the first run, which then finds the caches cold, and the twin doesn't: among so many runs one counts little.
+const SHORT_RUNS: [u32; 2] = [64, 8];
+
+/// The same of a trail whose order takes long to find, and how many nanoseconds are long.
+const LONG_RUNS: [u32; 2] = [1, 1];
+const LONG: u64 = 1_000_000;
+
+/// So many runs take as long as a round of other work. A longer round has several calls, of which the fastest counts.
+const PLAN: Plan = Plan { round: Duration::from_millis(40), ..USUAL };
 
 /// What the twin does that looks at no rule.
 const TRUSTING: &str = "the twin takes it that the rules are kept";
@@ -83,11 +96,11 @@ impl TrailTimes {
 type OfTrail = fn(&Told, u32) -> Measured;
 
 /// What the sides do with some trails, each so often, all in the same rounds. The first side is the product.
-fn times_of(name: &str, told: &[(&Told, u32)], sides: &[OfTrail]) -> Result<Vec<TrailTimes>, String> {
+fn times_of(name: &str, told: &[(&Told, u32)], plan: Plan, sides: &[OfTrail]) -> Result<Vec<TrailTimes>, String> {
     let runs_of = |&(told, runs): &(_, u32)| sides.iter().map(move |side| move || side(told, runs));
     let mut runs: Vec<_> = told.iter().flat_map(runs_of).collect();
     let mut turns: Vec<Side> = runs.iter_mut().map(|run| run as Side).collect();
-    let times = all_in_turn(name, &mut turns)?;
+    let times = all_as_planned(name, plan, &mut turns)?;
     let one_of = |(&(told, runs), times): (&(&Told, u32), &[Times])| {
         let [product, others @ ..] = times else { return Err(format!("{name}: no side")) };
         others.iter().try_for_each(|other| are_alike(name, product, other))?;
@@ -97,37 +110,39 @@ fn times_of(name: &str, told: &[(&Told, u32)], sides: &[OfTrail]) -> Result<Vec<
 }
 
 /// `order_of`, the twin that checks the rules, and the one that doesn't.
-fn orders(told: &[(&Told, u32)]) -> Result<Vec<TrailTimes>, String> {
+fn orders(told: &[(&Told, u32)], plan: Plan) -> Result<Vec<TrailTimes>, String> {
     let sides: [OfTrail; 3] = [
         |told, times| product::order(told.text.as_bytes(), times),
         |told, times| twin::order(&told.trail, times),
         |told, times| twin::trusting_order(&told.trail, times),
     ];
-    times_of("order_of", told, &sides)
+    times_of("order_of", told, plan, &sides)
 }
 
-fn audits(told: &[(&Told, u32)]) -> Result<Vec<TrailTimes>, String> {
+fn audits(told: &[(&Told, u32)], plan: Plan) -> Result<Vec<TrailTimes>, String> {
     let sides: [OfTrail; 2] =
         [|told, times| product::audit(told.text.as_bytes(), times), |told, times| twin::audit(&told.trail, times)];
-    times_of("audit", told, &sides)
+    times_of("audit", told, plan, &sides)
 }
 
-/// What each event more costs the product from one size to the next, by rounds.
+/// What each event more costs the product from one size to a longer one, by rounds.
 fn added(shorter: &TrailTimes, longer: &TrailTimes) -> Vec<f64> {
     let nanos = |size: &TrailTimes| size.product.per(size.runs.into());
     nanos(longer).iter().zip(nanos(shorter)).map(|(long, short)| (long - short) / (longer.events - shorter.events)).collect()
 }
 
+/// What an event more costs in long trails and in short ones, each from one size to four times that: to twice that, the difference of
+/// the times would be noisier.
 fn growth(name: &str, sizes: &[TrailTimes]) -> Result<Row, String> {
     let [first, second, third, fourth] = sizes else { return Err("four sizes".to_string()) };
     let work = format!(
         "product alone: `{name}`, what an event more costs from {} to {} events, and from {} to {}",
-        grouped(third.events as u64),
+        grouped(second.events as u64),
         grouped(fourth.events as u64),
         grouped(first.events as u64),
-        grouped(second.events as u64)
+        grouped(third.events as u64)
     );
-    Ok(Row::paired(work, "ns an event more", &added(third, fourth), &added(first, second), Goal::AtMost(1.2)))
+    Ok(Row::paired(work, "ns an event more", &added(second, fourth), &added(first, third), Goal::AtMost(1.2)))
 }
 
 /// All sizes in the same rounds, since what an event more costs is their difference. A short trail runs more often in a round, so that
@@ -135,7 +150,7 @@ fn growth(name: &str, sizes: &[TrailTimes]) -> Result<Row, String> {
 pub fn sizes() -> Result<Part, String> {
     let told: Vec<Told> = LOCKS.into_iter().map(|locks| Told::new(walks(locks)?)).collect::<Result<_, String>>()?;
     let runs: Vec<(&Told, u32)> = told.iter().zip(RUNS).collect();
-    let (orders, audits) = (orders(&runs)?, audits(&runs)?);
+    let (orders, audits) = (orders(&runs, USUAL)?, audits(&runs, USUAL)?);
     let mut rows: Vec<Row> = orders.iter().flat_map(|size| size.order_rows(&size.size())).collect();
     rows.extend(audits.iter().map(|size| size.audit_row(&size.size())));
     rows.extend(audits.first().map(|size| size.alone(30.0)));
@@ -150,8 +165,14 @@ pub fn sizes() -> Result<Part, String> {
 fn broken() -> Result<Vec<Row>, String> {
     let clean = walks(LOCKS[LOCKS.len() - 1])?;
     let broken = Told::new(schedules::broken(&clean).ok_or("a trail that breaks a rule")?)?;
-    let audits = audits(&[(&broken, 1)])?;
+    let audits = audits(&[(&broken, 1)], USUAL)?;
     Ok(audits.iter().map(|it| it.audit_row(&format!("{} of which the last breaks a rule", it.size()))).collect())
+}
+
+/// How often the trail's order is found in each call of a side, and how often it is audited.
+fn runs_of(told: &Told) -> [u32; 2] {
+    let takes_long = (0..3).all(|_| twin::order(&told.trail, 1).nanos >= LONG);
+    if takes_long { LONG_RUNS } else { SHORT_RUNS }
 }
 
 /// Trails with deep chains, many calls open at once, and calls in each other's way.
@@ -160,8 +181,9 @@ pub fn schedules() -> Result<Part, String> {
     for (name, text) in schedules::all().ok_or("schedules")? {
         let told = Told::new(text)?;
         let what = format!(": {name}");
-        rows.extend(orders(&[(&told, 4)])?.iter().flat_map(|it| it.order_rows(&what)));
-        rows.extend(audits(&[(&told, 4)])?.iter().map(|it| it.audit_row(&what)));
+        let [order_runs, audit_runs] = runs_of(&told);
+        rows.extend(orders(&[(&told, order_runs)], PLAN)?.iter().flat_map(|it| it.order_rows(&what)));
+        rows.extend(audits(&[(&told, audit_runs)], PLAN)?.iter().map(|it| it.audit_row(&what)));
     }
     Ok(Part::new("The order and the audit where first locks are deep and in each other's way, 16,384 events", TWIN, rows))
 }

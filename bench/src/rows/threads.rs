@@ -8,13 +8,17 @@ use crate::codes;
 use crate::measured::Measured;
 use crate::processes::Engines;
 use crate::processors;
-use crate::rounds::{are_alike, in_turn, Side, Times};
+use crate::rounds::{are_alike, as_planned, in_turn, Plan, Side, Times, USUAL};
 use crate::sqlite;
 use crate::table::{Goal, Part, Row};
 use crate::trees::{chains, heads, CALLS, CHAIN, NODES};
 
 /// How many workers run the batches of an engine.
 const WORKERS: [usize; 3] = [1, 2, 4];
+
+/// How many times as fast more workers are goes by how many processors the host really gives at that moment, so that takes more rounds
+/// than other work.
+const PLAN: Plan = Plan { rounds: 10, ..USUAL };
 
 /// Calls on threads: what they do, their code, the tree's nodes and the length of its chains, and how many engines are made.
 struct OnThreads {
@@ -97,7 +101,7 @@ fn times_of(it: &OnThreads) -> Result<[[Times; 2]; WORKERS.len()], String> {
         &mut || four.of_product(),
         &mut || four.of_twin(),
     ];
-    let [a, b, c, d, e, f] = in_turn(it.work, sides)?;
+    let [a, b, c, d, e, f] = as_planned(it.work, PLAN, sides)?;
     [&b, &c, &d, &e, &f].into_iter().try_for_each(|other| are_alike(it.work, &a, other))?;
     Ok([[a, b], [c, d], [e, f]])
 }

@@ -1,6 +1,7 @@
 use super::assembler::{assemble, disassemble};
 use super::audit::audit as audit_trail;
 use super::core::{Core, Event, Stepped};
+use super::engine::{Engine, Request, Session};
 use super::fault::Fault;
 use super::instruction::decode;
 use super::json::{self, Value};
@@ -10,6 +11,7 @@ use super::trail::{trail_of, write_trail, Trail};
 use super::tree::Tree;
 use super::verifier::verify;
 use super::{checked, defined, order, turns as many, work};
+use crate::codes::two_locks;
 
 const WALK: &[u8] = include_bytes!("../../../examples/walk.tlp");
 const WALK_TEXT: &str = include_str!("../../../examples/walk.asm");
@@ -345,5 +347,22 @@ fn calls_on_threads_leave_what_they_leave_alone() {
     for workers in 2..=16 {
         let measured = many::engines(&sweep(), &parents, &[1; 512], workers, 2);
         assert_eq!((measured.count, measured.sum), (alone.count, alone.sum));
+    }
+}
+
+/// Calls in each other's way, with few instructions between two locks and with many.
+#[test]
+fn what_an_engine_leaves_is_clean() {
+    for turns in [4, 400] {
+        for workers in [1, 2, 4] {
+            let engine = Engine::new(Tree::new(vec![0, 0, 1], vec![[0; 4]; 3]).unwrap());
+            engine.register("two", verify(decode(&two_locks(turns)).unwrap()).unwrap()).unwrap();
+            let mut session = Session::default();
+            let requests = [1; 200].map(|node| Request { name: "two".to_string(), args: vec![node] });
+            engine.batch(&mut session, &requests, workers).unwrap();
+            let running = engine.close(&session).unwrap();
+            assert_eq!(running.core().records()[2], [200, 0, 0, 0]);
+            assert_eq!(audit_trail(&trail_of(running.core())).as_deref(), Ok(running.order()), "{turns} {workers}");
+        }
     }
 }
