@@ -36,7 +36,7 @@ a line less in the twin's `end` took its `get` and `put` from 1.2 to 1.0 ns a st
 comparisons that it overflows, where the twin's asks the processor's flag (0.4 ns, by the twin with the same comparisons), and a register that \
 holds a node by the verifier's proof is asked once more whether it does.";
 
-const CORE: &str = "**A step of a core** comes to 0.8 to 1.05 of the twin's speed by how both are built, from the same sources. What the product does more \
+const CORE: &str = "**A step of a core** comes to 0.78 to 1.05 of the twin's speed by how both are built, from the same sources. What the product does more \
 than the faster twin wasn't found: an answer goes to the caller without a call on both sides, and the state of a call stands behind two indices on both.";
 
 const END_OF_A_CALL: &str = "**Nodes of eight children.** A call has a lock, a free and its end there, and the end is half of the time by \
