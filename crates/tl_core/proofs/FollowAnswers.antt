@@ -52,6 +52,10 @@ ends_by v c s next free a answer =
     let same : b.0 ≡ a = cc in
     subst (EndsStop s) same b.2
 
+-- who is in nobody's way stays so while nothing happens
+pub still_free : (v w : CoreValue) (s : Stop) → w.past ≡ v.past → ((x d : ℕ) → IsInTheWay v s x d → ⊥) → (x d : ℕ) → IsInTheWay w s x d → ⊥
+still_free v w s same free x d way = free x d (record { locks = way.locks; holder = ap (λ past. holder_of past x) (sym same) ∙ way.holder })
+
 -- so the segment's local actions and that of its stop were done
 pub has_gone : (v w u : CoreState) (c : ℕ) (segment : SegmentValue) → IsLed v c w → NextEndsStop w.seen c segment.stop → ((x d : ℕ) → IsInTheWay w.seen segment.stop x d → ⊥)
     → (r : Result Stepped CoreFault) → r ≡ step_answer (world_of w.seen) c → u.seen ≡ after_step w.seen c r → HasGone v c segment u

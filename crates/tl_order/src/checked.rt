@@ -12,7 +12,6 @@ ghost use Rattle.tl_protocol.specs.Order.{placed};
 ghost use Rattle.tl_protocol.specs.Rules.{KeepsRules, IsApart};
 ghost use Rattle.tl_order.specs.Checked.{calls_of, IsEventOf, IsEven, IsChecked, IsLegal, IsOfEvents, IsNext};
 
-use crate::event::{caller, is_of_nodes};
 use crate::kept::KeptOrder;
 use crate::order::Order;
 use std::alloc::{AllocError, Global};
@@ -49,7 +48,16 @@ impl CheckedOrder {
         })
     }
 
+    // Whether there is such a call.
+    #[inline(always)]
+    fn is_call(&self, call: u32) -> bool
+        ensures { IsTrue result ↔ call < calls_of self.now }
+    {
+        (call as usize) < self.done.len()
+    }
+
     // Whether the call was admitted and isn't done.
+    #[inline(always)]
     fn is_open(&self, call: u32) -> bool
         requires { call < calls_of self.now }
         ensures { (parents : List ℕ) (past : List EventValue)
@@ -60,6 +68,7 @@ impl CheckedOrder {
 
     // Whether the call is open and the protocol permits it to lock the node. A call that holds the node's parent is open, so that is
     // asked at a first lock alone.
+    #[inline(always)]
     fn may_lock(&self, shape: &Shape, call: u32, node: u16) -> bool
         requires tree { IsTree shape.now }
         requires even { IsEven self.now (length shape.now) }
@@ -77,7 +86,21 @@ impl CheckedOrder {
         self.kept.under(node) != Some(call)
     }
 
+    // Whether no other call holds the node.
+    #[inline(always)]
+    fn is_free_for(&self, call: u32, node: u16) -> bool
+        requires { node < length self.now.kept.holders }
+        ensures { (parents : List ℕ) (past : List EventValue) (found : RecordValue) → IsChecked parents self.now past
+            → IsTrue result ↔ IsApart past (event.Lock node call found) }
+    {
+        match self.kept.holder(node) {
+            Some(holder) => holder == call,
+            None => true,
+        }
+    }
+
     // Whether the call is open and the protocol permits it to free the node: whether it holds the node.
+    #[inline(always)]
     fn may_free(&self, call: u32, node: u16) -> bool
         requires { node < length self.now.kept.holders }
         ensures { (parents : List ℕ) (past : List EventValue) (left : RecordValue) → IsChecked parents self.now past
@@ -87,6 +110,7 @@ impl CheckedOrder {
     }
 
     // Whether the protocol permits the call to end.
+    #[inline(always)]
     fn permits_end(&self, call: u32) -> bool
         requires even { length self.now.holding.items ≡ calls_of self.now }
         requires call { call < calls_of self.now }
@@ -106,11 +130,31 @@ impl CheckedOrder {
             → IsTrue result ↔ KeepsRules shape.now past event.now }
     {
         match *event {
-            Event::Admit { call } => call as usize == self.admitted,
+            Event::Admit { call } => self.is_next(call),
             Event::Lock { call, node, .. } => self.may_lock(shape, call, node),
             Event::Free { call, node, .. } => self.may_free(call, node),
-            Event::Done { call } => self.is_open(call) && self.permits_end(call),
+            Event::Done { call } => self.may_end(call),
         }
+    }
+
+    // Whether the call is the next to be admitted.
+    #[inline(always)]
+    fn is_next(&self, call: u32) -> bool
+        ensures { (parents : List ℕ) (past : List EventValue) → IsChecked parents self.now past
+            → IsTrue result ↔ KeepsRules parents past (event.Admit call) }
+    {
+        call as usize == self.admitted
+    }
+
+    // Whether the call is open and the protocol permits it to end.
+    #[inline(always)]
+    fn may_end(&self, call: u32) -> bool
+        requires even { length self.now.holding.items ≡ calls_of self.now }
+        requires call { call < calls_of self.now }
+        ensures { (parents : List ℕ) (past : List EventValue) → IsChecked parents self.now past
+            → IsTrue result ↔ KeepsRules parents past (event.Done call) }
+    {
+        self.is_open(call) && self.permits_end(call)
     }
 
     /// Whether no other call holds the node that the event locks.
@@ -119,31 +163,10 @@ impl CheckedOrder {
         ensures { (parents : List ℕ) (past : List EventValue) → IsChecked parents self.now past
             → IsTrue result ↔ IsApart past event.now }
     {
-        let Event::Lock { call, node, .. } = *event else {
-            return true;
-        };
-        match self.kept.holder(node) {
-            Some(holder) => holder == call,
-            None => true,
+        match *event {
+            Event::Lock { call, node, .. } => self.is_free_for(call, node),
+            Event::Admit { .. } | Event::Free { .. } | Event::Done { .. } => true,
         }
-    }
-
-    /// Whether the event is of a call and a node that there are, and keeps the rules. An event of another call or node is
-    /// looked at no further.
-    pub fn is_legal(&self, shape: &Shape, event: &Event) -> bool
-        requires tree { IsTree shape.now }
-        requires even { IsEven self.now (length shape.now) }
-        ensures { (past : List EventValue) → IsChecked shape.now self.now past
-            → IsTrue result ↔ IsLegal shape.now self.now past event.now }
-    {
-        self.is_known(shape, event) && self.keeps_rules(shape, event) && self.is_apart(event)
-    }
-
-    // Whether the event is of a call and a node that there are.
-    fn is_known(&self, shape: &Shape, event: &Event) -> bool
-        ensures { IsTrue result ↔ IsEventOf (length shape.now) (calls_of self.now) event.now }
-    {
-        (caller(event) as usize) < self.done.len() && is_of_nodes(event, shape.node_count())
     }
 
     /// Takes up one more event, which keeps the rules.
@@ -155,16 +178,72 @@ impl CheckedOrder {
             → KeepsRules shape.now past event.now → IsApart past event.now
             → IsChecked shape.now self.new (event.now ∷ past) }
     {
-        self.kept.note(shape, event);
         match *event {
-            Event::Admit { call } => self.admitted = call as usize + 1,
-            Event::Lock { call, .. } => self.holding[call as usize] += 1,
-            Event::Free { call, .. } => self.holding[call as usize] -= 1,
-            Event::Done { call } => self.done[call as usize] = true,
+            Event::Admit { call } => self.note_admission(shape, call),
+            Event::Lock { call, node, .. } => self.note_lock(shape, call, node),
+            Event::Free { call, node, .. } => self.note_free(shape, call, node),
+            Event::Done { call } => self.note_end(shape, call),
         }
     }
 
-    /// Takes up one more event where it is legal, and tells whether it was.
+    // The call is admitted.
+    #[inline(always)]
+    fn note_admission(&mut self, shape: &Shape, call: u32)
+        requires tree { IsTree shape.now }
+        requires next { IsNext shape.now self.old (event.Admit call) }
+        ensures calls { calls_of self.new ≡ calls_of self.old }
+        ensures checked { (past : List EventValue) → IsChecked shape.now self.old past
+            → KeepsRules shape.now past (event.Admit call)
+            → IsChecked shape.now self.new (event.Admit call ∷ past) }
+    {
+        self.kept.admitted();
+        self.admitted = call as usize + 1;
+    }
+
+    // The call locks the node.
+    #[inline(always)]
+    fn note_lock(&mut self, shape: &Shape, call: u32, node: u16)
+        requires tree { IsTree shape.now }
+        requires next { (found : RecordValue) × IsNext shape.now self.old (event.Lock node call found) }
+        ensures calls { calls_of self.new ≡ calls_of self.old }
+        ensures checked { (past : List EventValue) (found : RecordValue) → IsChecked shape.now self.old past
+            → KeepsRules shape.now past (event.Lock node call found) → IsApart past (event.Lock node call found)
+            → IsChecked shape.now self.new (event.Lock node call found ∷ past) }
+    {
+        self.kept.lock(shape, call, node);
+        self.holding[call as usize] += 1;
+    }
+
+    // The call frees the node.
+    #[inline(always)]
+    fn note_free(&mut self, shape: &Shape, call: u32, node: u16)
+        requires tree { IsTree shape.now }
+        requires next { (left : RecordValue) × IsNext shape.now self.old (event.Free node call left) }
+        ensures calls { calls_of self.new ≡ calls_of self.old }
+        ensures checked { (past : List EventValue) (left : RecordValue) → IsChecked shape.now self.old past
+            → KeepsRules shape.now past (event.Free node call left)
+            → IsChecked shape.now self.new (event.Free node call left ∷ past) }
+    {
+        self.kept.free(node);
+        self.holding[call as usize] -= 1;
+    }
+
+    // The call ends.
+    #[inline(always)]
+    fn note_end(&mut self, shape: &Shape, call: u32)
+        requires tree { IsTree shape.now }
+        requires next { IsNext shape.now self.old (event.Done call) }
+        ensures calls { calls_of self.new ≡ calls_of self.old }
+        ensures checked { (past : List EventValue) → IsChecked shape.now self.old past
+            → KeepsRules shape.now past (event.Done call)
+            → IsChecked shape.now self.new (event.Done call ∷ past) }
+    {
+        self.kept.end(call);
+        self.done[call as usize] = true;
+    }
+
+    /// Takes up one more event where it is legal, and tells whether it was: whether it is of a call and a node that there are,
+    /// and keeps the rules.
     pub fn take(&mut self, shape: &Shape, event: &Event) -> bool
         requires tree { IsTree shape.now }
         requires events { IsOfEvents shape.now self.old }
@@ -175,10 +254,94 @@ impl CheckedOrder {
             → IsChecked shape.now self.new (event.now ∷ past) }
         ensures refused { result ≡ false → self.new ≡ self.old }
     {
-        if !self.is_legal(shape, event) {
+        // What kind of event it is is asked once: that is a jump that a processor foresees badly.
+        match *event {
+            Event::Admit { call } => self.take_admission(shape, call),
+            Event::Lock { call, node, .. } => self.take_lock(shape, call, node),
+            Event::Free { call, node, .. } => self.take_free(shape, call, node),
+            Event::Done { call } => self.take_end(shape, call),
+        }
+    }
+
+    // `take` of an admission.
+    #[inline(always)]
+    fn take_admission(&mut self, shape: &Shape, call: u32) -> bool
+        requires tree { IsTree shape.now }
+        requires events { IsOfEvents shape.now self.old }
+        ensures legal { (past : List EventValue) → IsChecked shape.now self.old past
+            → IsTrue result ↔ IsLegal shape.now self.old past (event.Admit call) }
+        ensures calls { calls_of self.new ≡ calls_of self.old }
+        ensures taken { IsTrue result → (past : List EventValue) → IsChecked shape.now self.old past
+            → IsChecked shape.now self.new (event.Admit call ∷ past) }
+        ensures refused { result ≡ false → self.new ≡ self.old }
+    {
+        if !self.is_call(call) || !self.is_next(call) {
             return false;
         }
-        self.note(shape, event);
+        self.note_admission(shape, call);
+        true
+    }
+
+    // `take` of a lock.
+    #[inline(always)]
+    fn take_lock(&mut self, shape: &Shape, call: u32, node: u16) -> bool
+        requires tree { IsTree shape.now }
+        requires events { IsOfEvents shape.now self.old }
+        ensures legal { (past : List EventValue) (found : RecordValue) → IsChecked shape.now self.old past
+            → IsTrue result ↔ IsLegal shape.now self.old past (event.Lock node call found) }
+        ensures calls { calls_of self.new ≡ calls_of self.old }
+        ensures taken { IsTrue result → (past : List EventValue) (found : RecordValue) → IsChecked shape.now self.old past
+            → IsChecked shape.now self.new (event.Lock node call found ∷ past) }
+        ensures refused { result ≡ false → self.new ≡ self.old }
+    {
+        if !self.is_call(call) || node >= shape.node_count() {
+            return false;
+        }
+        if !self.may_lock(shape, call, node) || !self.is_free_for(call, node) {
+            return false;
+        }
+        self.note_lock(shape, call, node);
+        true
+    }
+
+    // `take` of a free.
+    #[inline(always)]
+    fn take_free(&mut self, shape: &Shape, call: u32, node: u16) -> bool
+        requires tree { IsTree shape.now }
+        requires events { IsOfEvents shape.now self.old }
+        ensures legal { (past : List EventValue) (left : RecordValue) → IsChecked shape.now self.old past
+            → IsTrue result ↔ IsLegal shape.now self.old past (event.Free node call left) }
+        ensures calls { calls_of self.new ≡ calls_of self.old }
+        ensures taken { IsTrue result → (past : List EventValue) (left : RecordValue) → IsChecked shape.now self.old past
+            → IsChecked shape.now self.new (event.Free node call left ∷ past) }
+        ensures refused { result ≡ false → self.new ≡ self.old }
+    {
+        if !self.is_call(call) || node >= shape.node_count() {
+            return false;
+        }
+        if !self.may_free(call, node) {
+            return false;
+        }
+        self.note_free(shape, call, node);
+        true
+    }
+
+    // `take` of an end.
+    #[inline(always)]
+    fn take_end(&mut self, shape: &Shape, call: u32) -> bool
+        requires tree { IsTree shape.now }
+        requires events { IsOfEvents shape.now self.old }
+        ensures legal { (past : List EventValue) → IsChecked shape.now self.old past
+            → IsTrue result ↔ IsLegal shape.now self.old past (event.Done call) }
+        ensures calls { calls_of self.new ≡ calls_of self.old }
+        ensures taken { IsTrue result → (past : List EventValue) → IsChecked shape.now self.old past
+            → IsChecked shape.now self.new (event.Done call ∷ past) }
+        ensures refused { result ≡ false → self.new ≡ self.old }
+    {
+        if !self.is_call(call) || !self.may_end(call) {
+            return false;
+        }
+        self.note_end(shape, call);
         true
     }
 
