@@ -15,7 +15,7 @@ const fn reason(heading: &'static str, words: &'static str, text: &'static str) 
 }
 
 /// The first that fits a row is its reason.
-const REASONS: [Reason; 13] = [
+const REASONS: [Reason; 12] = [
     reason("A call alone", "", INTERPRETER),
     reason("A core", "", CORE),
     reason("`Running`", "product alone", ORDER_OF_RUNNING),
@@ -25,7 +25,6 @@ const REASONS: [Reason; 13] = [
     reason("The order and the audit", "product alone: `audit`", AUDIT_NANOSECONDS),
     reason("The order and the audit", "4,096 open", MANY_OPEN),
     reason("The order and the audit", "the rules are kept", TRUSTING),
-    reason("The order and the audit", "`order_of`", ORDER_OF),
     reason("Engines", "product alone", WORKERS),
     reason("Engines", "", TURN),
     reason("A procedure a transaction", "", TRANSACTION),
@@ -60,9 +59,6 @@ const TRUSTING: &str = "**`order_of` beside a twin that takes it that the rules 
 and where one breaks a rule, the plain definition places all of them. The rows without that remark stand beside a twin that does so too. `Running` and \
 an engine keep the rules, and check nothing.";
 
-const ORDER_OF: &str = "**`order_of`.** What kind an event is of is asked three times: by what checks it, by what places it and by what counts. Each time \
-that is a jump that a processor foresees badly. The twin asks once.";
-
 const WORKERS: &str = "**More workers.** Where others use the machine's processors too, two workers rarely both get a whole one: with 10,000 instructions between two \
 turns the twin goes 2.5 to 3.4 times as fast on four workers as on one, and the product 2.2 to 3.1 times. On one path, and with 20 instructions between two \
 turns, the lock goes from processor to processor, and both sides lose by more workers.";
@@ -73,7 +69,7 @@ compared too, and copied twice, as the twin's is. Besides, a short call pays for
 a third of it.";
 
 const TRANSACTION: &str = "**A procedure a transaction through an engine.** A call has thirteen locks, frees and returns. Each is a turn \
-that is compared as above, goes through the lock, and is copied. In a core the same call takes an eighth of the time.";
+that is compared as above, goes through the lock, and is copied. In a core the same call takes an eighth to a tenth of the time.";
 
 /// Why such a row is short, where that is known.
 pub fn of(heading: &str, work: &str) -> Option<&'static Reason> {
