@@ -36,6 +36,7 @@ pub keeps_core : (v : CoreValue) (more : List Named) (now : TreeValue) (kept : L
 keeps_core v more now kept holders open_count reserved h =
     record {
       sound = h.sound;
+      reached = h.reached;
       counted = h.counted;
       few = h.few;
       calls = h.calls;

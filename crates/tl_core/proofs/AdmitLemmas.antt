@@ -11,7 +11,7 @@ use Rattle.tl_protocol.specs.declared.event.Event.{Event}
 use Rattle.tl_protocol.specs.declared.event.Event.TheVariants as event
 use Rattle.tl_protocol.specs.Alone.{Outcome, EndsOnce, IsAlone}
 use Rattle.tl_protocol.specs.History.{part_of, is_done, admits}
-use Rattle.tl_protocol.specs.World.{IsSound, after_admission}
+use Rattle.tl_protocol.specs.World.{IsSound, Reached, Admits, after_admission}
 use Rattle.tl_protocol.proofs.ReachedWorlds.{sound_after_admission, unadmitted_done}
 use Rattle.tl_protocol.proofs.WorldSteps.{unadmitted}
 use Rattle.tl_history.specs.Stored.{Stored}
@@ -113,6 +113,9 @@ module _ (v : CoreValue) (now : TreeValue) (kept : List Kept) (holders : List (O
   sound_then : IsSound (world_of then_)
   sound_then = subst IsSound (sym world_then) (sound_after_admission (world_of v) does h.sound is_like)
 
+  reached_then : Reached v.parents v.opening (world_of then_)
+  reached_then = subst (Reached v.parents v.opening) (sym world_then) (Admits (world_of v) does h.reached is_like)
+
   -- ---- the calls that were there
 
   code_before : (d : ℕ) → d < length v.calls → (call_of then_ d).code ≡ (call_of v d).code
@@ -195,6 +198,7 @@ module _ (v : CoreValue) (now : TreeValue) (kept : List Kept) (holders : List (O
       (subst (λ l. IsCore (record v { calls = l; past = new_past }) now kept2 holders open_count2 (reserved + k.places)) (sym calls)
       (record {
         sound = sound_then;
+        reached = reached_then;
         counted = let e = h.counted in omega arith;
         few = omega arith;
         calls = sym calls;

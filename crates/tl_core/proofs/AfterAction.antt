@@ -20,7 +20,7 @@ use Rattle.tl_core.specs.Kept.{IsCore, IsKept, call_value}
 use Rattle.tl_core.proofs.Sums.{total-other}
 use Rattle.tl_core.proofs.StoredCalls.{slice_get-set_same, slice_get-set_other, same_item}
 use Rattle.tl_core.proofs.ActionEvents.{part_after, part_of_others, done_of_others}
-use Rattle.tl_core.proofs.CallInWorld.{keep, call_is, inside, after, sound_after, same_code}
+use Rattle.tl_core.proofs.CallInWorld.{keep, call_is, inside, after, sound_after, reached_after, same_code}
 
 -- 1 for a call that is open_count
 abbrev pub open_in : List Event → ℕ → ℕ
@@ -128,6 +128,7 @@ module _ (v : CoreValue) (now : TreeValue) (kept : List Kept) (holders : List (O
       (subst (λ calls. IsCore (record v { calls = calls; past = then_.past }) now2 (set kept c k2) holders2 open_count2 reserved2) (sym calls)
       (record {
         sound = sound_after v now kept holders open_count reserved h c k at a may;
+        reached = reached_after v now kept holders open_count reserved h c k at a may;
         counted = length-set v.calls c (one_more (call_of v c)) ∙ h.counted ∙ sym (admits-past_after c did_ v.past);
         few = let e = length-set v.calls c (one_more (call_of v c)) in let f = h.few in omega arith;
         calls = sym calls;

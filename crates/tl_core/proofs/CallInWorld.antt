@@ -10,7 +10,7 @@ use Rattle.tl_protocol.specs.declared.action.Action.TheVariants as did
 use Rattle.tl_protocol.specs.Actions.{with_found}
 use Rattle.tl_protocol.specs.History.{part_of, is_done, admits, IsOpen}
 use Rattle.tl_protocol.specs.Holders.{holder_of}
-use Rattle.tl_protocol.specs.World.{IsSound, MayTake, alone_of, next_of}
+use Rattle.tl_protocol.specs.World.{IsSound, Reached, Moves, MayTake, alone_of, next_of}
 use Rattle.tl_protocol.proofs.Records.{length-with_found}
 use Rattle.tl_protocol.proofs.Holders.{holderless_may_take}
 use Rattle.tl_protocol.proofs.ReachedWorlds.{sound_after_step}
@@ -128,3 +128,6 @@ module _ (v : CoreValue) (now : TreeValue) (kept : List Kept) (holders : List (O
 
   pub sound_after : (a : Action) → MayTake (world_of v) c a → IsSound (world_of (after a))
   sound_after a may = subst IsSound (sym (world_is v c inside a)) (sound_after_step (world_of v) c a h.sound may)
+
+  pub reached_after : (a : Action) → MayTake (world_of v) c a → Reached v.parents v.opening (world_of (after a))
+  reached_after a may = subst (Reached v.parents v.opening) (sym (world_is v c inside a)) (Moves (world_of v) c a h.reached may)

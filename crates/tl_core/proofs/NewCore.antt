@@ -3,6 +3,7 @@ use Rattle.std.proofs.Common.{◌≡◌, ℕ, List, [], length, replicate, map, 
 use Rattle.std.proofs.lemmas.List.{get_or-replicate, length-replicate}
 use Rattle.std.proofs.lemmas.Option.{slice_get-get_or}
 use Rattle.tl_tree.specs.Trees.{TreeValue, IsWhole}
+use Rattle.tl_protocol.specs.World.{Opens}
 use Rattle.tl_protocol.proofs.ReachedWorlds.{sound_opening}
 use Rattle.tl_core.specs.Stored.{seen_call, AreStored}
 use Rattle.tl_history.specs.Stored.{Stored}
@@ -23,6 +24,7 @@ opened tree whole procedures limit holders holders_are =
     let sized : length holders ≡ length tree.parents = ap length holders_are ∙ length-replicate (length tree.parents) None in
     record {
       sound = sound_opening tree.parents tree.records (world_of v).meanings whole.shape whole.count;
+      reached = Opens (world_of v).meanings;
       counted = refl;
       few = omega arith;
       calls = refl;

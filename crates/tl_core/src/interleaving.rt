@@ -7,7 +7,7 @@ ghost use Rattle.tl_protocol.specs.Actions.{held, lock_count};
 ghost use Rattle.tl_protocol.specs.History.{part_of, admits, is_done, IsOpen, AllDone, record_now, records_now};
 ghost use Rattle.tl_protocol.specs.Holders.{holder_of};
 ghost use Rattle.tl_protocol.specs.Obeys.{Obeys};
-ghost use Rattle.tl_protocol.specs.World.{Legal, IsSound, IsStuck, IsEnabled, reply_of};
+ghost use Rattle.tl_protocol.specs.World.{Legal, IsSound, Reached, IsStuck, IsEnabled, reply_of};
 ghost use Rattle.tl_procedures.specs.Names.{number_of, naming_refusal};
 ghost use Rattle.tl_procedures.specs.declared.fault.NamingFault.TheVariants as naming;
 ghost use Rattle.tl_core.specs.Cores.{world_of, call_of, code_of, opened, kept_turn, places, room, owed, open_calls, all_budgets, done_by, IsLeastUnfinished, IsTurnOf};
@@ -729,11 +729,12 @@ impl Core {
         let _ = &self.history;
     }
 
-    /// What is so of every core: its world is sound and legal, and what each call has done obeys the tree protocol and is
-    /// within the bounds of its procedure.
+    /// What is so of every core: admissions and steps led to its world, which is sound and legal, and what each call has done
+    /// obeys the tree protocol and is within the bounds of its procedure.
     pub fn is_sound(&self)
         ensures sound { IsSound (world_of self.now.seen) }
         ensures legal { Legal (world_of self.now.seen) }
+        ensures reached { Reached self.now.seen.parents self.now.seen.opening (world_of self.now.seen) }
         ensures counted { length self.now.seen.calls ≡ admits self.now.seen.past }
         ensures turned { (c : ℕ) → IsOpen c self.now.seen.past → (t : TurnValue) × (kept_turn self.now c ≡ Some t) }
         ensures turn_of { (c : ℕ) (t : TurnValue) → kept_turn self.now c ≡ Some t → IsTurnOf self.now.seen c t }
