@@ -47,14 +47,14 @@ or_true : (t : Bool) → (t || true) ≡ true
 or_true true = refl
 or_true false = refl
 
-done_stays : (later earlier : List Event) (a : ℕ) → is_done a earlier ≡ true → is_done a (later ++ earlier) ≡ true
+pub done_stays : (later earlier : List Event) (a : ℕ) → is_done a earlier ≡ true → is_done a (later ++ earlier) ≡ true
 done_stays [] earlier a done = done
 done_stays (Admit c ∷ later) earlier a done = done_stays later earlier a done
 done_stays (Lock x c found ∷ later) earlier a done = done_stays later earlier a done
 done_stays (Free x c left ∷ later) earlier a done = done_stays later earlier a done
 done_stays (Done d ∷ later) earlier a done = ap (λ t. (d == a) || t) (done_stays later earlier a done) ∙ or_true (d == a)
 
-in_turn_earlier : (later earlier : List Event) → InTurn (later ++ earlier) → InTurn earlier
+pub in_turn_earlier : (later earlier : List Event) → InTurn (later ++ earlier) → InTurn earlier
 in_turn_earlier [] earlier turn = turn
 in_turn_earlier (Admit c ∷ later) earlier turn = in_turn_earlier later earlier turn.1
 in_turn_earlier (Lock x c found ∷ later) earlier turn = in_turn_earlier later earlier turn.1

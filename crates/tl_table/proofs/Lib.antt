@@ -1,4 +1,5 @@
 pub mod Admitted
 pub mod Ended
+pub mod Finding
 pub mod Receipts
 pub mod Submitted

@@ -25,6 +25,11 @@ owner_of t c = get_or t.owners c 0
 abbrev pub IsKnown : TableValue → ℕ → Type 0
 IsKnown t c = c < length (seen t).calls
 
+-- each call has a session that was given
+pub record AreOwned (t : TableValue) : Type 0 where
+  pub each : length t.owners ≡ length (seen t).calls
+  pub given : (c : ℕ) → IsKnown t c → owner_of t c < t.sessions
+
 -- the call of the receipt's number is done, and has its session, procedure, arguments and reply
 pub record Stands (t : TableValue) (r : Receipt) : Type 0 where
   pub known : IsKnown t r.call

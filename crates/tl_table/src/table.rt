@@ -17,7 +17,7 @@ ghost use Rattle.tl_core.specs.Cores.{kept_turn, world_of};
 ghost use Rattle.tl_table.specs.declared.fault.TableFault.TheVariants as fault;
 ghost use Rattle.tl_table.specs.declared.receipt.Outcome.TheVariants as outcome;
 ghost use Rattle.tl_table.specs.Ends.{EndsBefore, begun_by_end};
-ghost use Rattle.tl_table.specs.Tables.{seen, Stands, IsAtRest, IsKnown, table_refusal, IsAdmittedTo};
+ghost use Rattle.tl_table.specs.Tables.{seen, Stands, IsAtRest, IsKnown, AreOwned, table_refusal, IsAdmittedTo};
 ghost use Rattle.tl_table.specs.Sent.{IsSentTo, IsSentFreely, IsSent, IsUnblocked, IsSubmitFault, IsOfCall};
 
 use crate::fault::TableFault;
@@ -111,8 +111,7 @@ impl Table {
     ) -> Result<u32, NamingFault>
         ensures number { IfOk result (λ n. n ≡ length (seen self.old).procedures) }
         ensures free { IfOk result (λ _. naming_refusal (seen self.old).procedures name.now ≡ None) }
-        ensures last { OnOk result (seen self.new ≡ record (seen self.old) { procedures = (seen self.old).procedures ++ record { name = name.now; code = procedure } ∷ [] }) }
-        ensures same { (self.new.sessions ≡ self.old.sessions) × (self.new.owners ≡ self.old.owners) }
+        ensures last { OnOk result (self.new ≡ record self.old { core = record self.old.core { seen = record (seen self.old) { procedures = (seen self.old).procedures ++ record { name = name.now; code = procedure } ∷ [] } } }) }
         ensures fault { IfErr result (λ e. e ≢ naming.Memory → naming_refusal (seen self.old).procedures name.now ≡ Some e) }
         ensures memory { IfErr result (λ e. e ≡ naming.Memory → naming_refusal (seen self.old).procedures name.now ≡ None) }
         ensures err { OnErr result (self.new ≡ self.old) }
@@ -330,10 +329,17 @@ impl Table {
         self.begun[call as usize]
     }
 
-    // Of each call its session.
-    fn owners(&self) -> &[u32]
+    /// How many sessions were given.
+    pub fn sessions(&self) -> u32
+        ensures { result ≡ self.now.sessions }
+    {
+        self.sessions
+    }
+
+    /// Of each call its session.
+    pub fn owners(&self) -> &[u32]
         ensures same { result.now ≡ self.now.owners }
-        ensures each { length self.now.owners ≡ length (seen self.now).calls }
+        ensures owned { AreOwned self.now }
     {
         self.owners.as_slice()
     }
@@ -401,10 +407,17 @@ impl Closed {
         self.table.order()
     }
 
+    /// How many sessions were given.
+    pub fn sessions(&self) -> u32
+        ensures { result ≡ self.now.sessions }
+    {
+        self.table.sessions()
+    }
+
     /// Of each call its session.
     pub fn owners(&self) -> &[u32]
         ensures same { result.now ≡ self.now.owners }
-        ensures each { length self.now.owners ≡ length (seen self.now).calls }
+        ensures owned { AreOwned self.now }
     {
         self.table.owners()
     }

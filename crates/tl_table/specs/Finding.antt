@@ -1,0 +1,17 @@
+-- What a call finds at a node that an earlier call left.
+use Rattle.std.specs.Prelude.{◌≡◌, ℕ, List, ◌∷◌, ◌++◌}
+use Rattle.tl_tree.specs.Records.{Record}
+use Rattle.tl_protocol.specs.declared.event.Event.{Event}
+use Rattle.tl_protocol.specs.declared.event.Event.TheVariants.{Lock, Free}
+use Rattle.tl_protocol.specs.History.{last_left}
+
+-- Call b locked x after call a had freed it, and found what was left there last since then: by another call, or else by a.
+-- As ever, a history has its latest event first.
+pub record FindsWhatWasLeft (past : List Event) (a b x : ℕ) : Type 0 where
+  pub later : List Event
+  pub since : List Event
+  pub before : List Event
+  pub found : Record
+  pub left : Record
+  pub places : past ≡ later ++ Lock x b found ∷ (since ++ Free x a left ∷ before)
+  pub finds : found ≡ last_left since x left
