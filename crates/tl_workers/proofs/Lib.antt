@@ -1,3 +1,4 @@
+pub mod AllSessions
 pub mod Askings
 pub mod Batches
 pub mod Calls

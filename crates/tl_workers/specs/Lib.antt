@@ -2,3 +2,4 @@ pub mod Kept
 pub mod Lending
 pub mod Matching
 pub mod Refusals
+pub mod Sessions

@@ -3,10 +3,11 @@
 ghost use Rattle.std.specs.Prelude.{◌≡◌, ◌↔◌, ◌⊎◌, [], false, IsTrue, IfOk, OnOk, IfErr, All};
 ghost use Rattle.tl_procedures.specs.Names.{is_name};
 ghost use Rattle.tl_procedures.specs.declared.fault.NamingFault.TheVariants.{BadName};
-ghost use Rattle.tl_core.specs.declared.fault.CoreFault.TheVariants as core_fault;
 ghost use Rattle.tl_table.specs.declared.fault.TableFault.TheVariants as fault;
 ghost use Rattle.tl_workers.specs.declared.refusal.Refusal.TheVariants as refusal;
 ghost use Rattle.tl_workers.specs.Matching.{Matches, DoesNotClose};
+ghost use Rattle.tl_workers.specs.Refusals.{IsNewEngineRefusal};
+ghost use Rattle.tl_workers.specs.Sessions.{AreAllOf, AskForEachOnce, FindsItsWrites};
 
 use crate::matching::all_match;
 use crate::refusal::Refusal;
@@ -35,7 +36,9 @@ pub struct Engine {
 
 impl Engine {
     /// An engine for calls on the tree, without procedures. 690, 890, 990 where memory is refused.
-    pub fn new(alloc: Global, tree: Tree) -> Result<Engine, Refusal> {
+    pub fn new(alloc: Global, tree: Tree) -> Result<Engine, Refusal>
+        ensures err { IfErr result IsNewEngineRefusal }
+    {
         match Core::new(alloc, tree) {
             Ok(core) => Engine::of_core(alloc, core),
             Err(fault) => Err(Refusal::Table(TableFault::Core(fault))),
@@ -45,7 +48,7 @@ impl Engine {
     /// An engine for calls of a core that has none yet. 690, 890, 990 where memory is refused.
     pub fn of_core(alloc: Global, core: Core) -> Result<Engine, Refusal>
         requires { core.seen.calls ≡ [] }
-        ensures err { IfErr result (λ e. (e ≡ refusal.Table fault.Memory) ⊎ (e ≡ refusal.Table (fault.Core core_fault.Memory)) ⊎ (e ≡ refusal.Memory)) }
+        ensures err { IfErr result IsNewEngineRefusal }
     {
         let table = match Table::new(alloc, core) {
             Ok(table) => table,
@@ -88,11 +91,16 @@ impl Engine {
 
     /// The closed table, where every call is done and each session's list is what the table says; else the table. The
     /// sessions come back as they were. Takes no memory.
+    ///
+    /// Where these are all sessions of the engine, exactly one of their lists asks for a call, and once. A call that was asked
+    /// for after a receipt was got finds what that receipt's call left, or what was left there since.
     pub fn close(
         self,
         sessions: Vec<Session>,
     ) -> Result<(Closed, Vec<Session>), (Table, Vec<Session>)>
         ensures ok { IfOk result (λ r. (r.1.items ≡ sessions.items) × All (Matches r.0) r.1.items) }
+        ensures once { IfOk result (λ r. AreAllOf r.0 r.1.items → AskForEachOnce r.0 r.1.items) }
+        ensures writes { IfOk result (λ r. All (FindsItsWrites r.0) r.1.items) }
         ensures err { IfErr result (λ r. (r.1.items ≡ sessions.items) × DoesNotClose r.0 r.1.items) }
     {
         let Engine {
@@ -107,6 +115,9 @@ impl Engine {
         if !all_match(&closed, sessions.as_slice()) {
             return Err((closed.into_table(), sessions));
         }
+        // Each call has a session that was given, and the history is legal: here a proof learns that.
+        let _owners = closed.owners();
+        closed.core().is_sound();
         Ok((closed, sessions))
     }
 }

@@ -9,6 +9,7 @@ mod asking;
 mod batch;
 mod engine;
 mod gate;
+pub mod laws;
 mod matching;
 mod refusal;
 mod running;
