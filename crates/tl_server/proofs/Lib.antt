@@ -1,5 +1,6 @@
 pub mod Held
 pub mod Coming
+pub mod Gained
 pub mod Sending
 pub mod Lists
 pub mod LineAnswers

@@ -1,6 +1,9 @@
 -- What a run of the server did.
-use Rattle.std.specs.Prelude.{◌≡◌, ℕ, List, ◌++◌, Option, Some, IfSome}
+use Rattle.std.specs.Prelude.{◌≡◌, ℕ, List, ◌++◌, Option, Some, IfSome, Contains}
+use Rattle.tl_table.specs.declared.receipt.Receipt.{Receipt}
+use Rattle.tl_workers.specs.declared.asking.Asking.{Asking}
 use Rattle.tl_workers.specs.declared.session.Did.{Did}
+use Rattle.tl_workers.specs.declared.session.Did.TheVariants.{Asked, Got}
 use Rattle.tl_workers.specs.Kept.{SessionValue, Gains}
 use Rattle.tl_server.specs.Lines.{lines_of, with_lfs, HasNoLf, NoLfs}
 use Rattle.tl_server.specs.Served.{Answered, AnsweredAll}
@@ -11,6 +14,14 @@ pub record Moment : Type 0 where
   pub input : Option (List ℕ)
   pub session : SessionValue
   pub output : Option (List ℕ)
+
+-- each call that was asked for has its receipt
+abbrev pub AllGot : List Did → Type 0
+AllGot dids = (a : Asking) → Contains dids (Asked a) → (r : Receipt) × Contains dids (Got r) × (r.call ≡ a.call)
+
+-- the session gained calls that have their receipts
+abbrev pub GainsWholeCalls : SessionValue → SessionValue → Type 0
+GainsWholeCalls old new = (gained : List Did) × Gains old new gained × AllGot gained
 
 -- the lines up to one that closed the connection were answered, or all; there are n of them
 abbrev pub AnswersAll : Moment → Moment → ℕ → Type 0

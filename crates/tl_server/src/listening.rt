@@ -1,5 +1,8 @@
 // Connections on a local port.
 
+ghost use Rattle.std.specs.Prelude.{◌≡◌, ◌⊎◌, IfErr};
+ghost use Rattle.tl_server.specs.declared.fault.ListenFault.TheVariants.{NoPort, Memory};
+
 use crate::answer::put_error_line;
 use crate::fault::ListenFault;
 use crate::outbox::Outbox;
@@ -163,7 +166,9 @@ impl Server {
         alloc: Global,
         port: u16,
         connections: u16,
-    ) -> Result<Server, ListenFault> {
+    ) -> Result<Server, ListenFault>
+        ensures { IfErr result (λ e. (e ≡ NoPort) ⊎ (e ≡ Memory)) }
+    {
         let sessions = Vec::with_capacity(alloc, usize::from(connections))?;
         let outbox = Outbox::new(alloc)?;
         let address = SocketAddr::V4(SocketAddrV4::new(Ipv4Addr::LOCALHOST, port));
@@ -210,6 +215,8 @@ pub fn listen<R: Net<Listener = TcpListener, Stream = TcpStream> + Threads + Wai
     port: u16,
     connections: u16,
     engine: &Engine,
-) -> Result<Vec<Session>, ListenFault> {
+) -> Result<Vec<Session>, ListenFault>
+    ensures { IfErr result (λ e. (e ≡ NoPort) ⊎ (e ≡ Memory)) }
+{
     Ok(Server::bind(rt, alloc, port, connections)?.serve(rt, alloc, engine))
 }

@@ -3,7 +3,7 @@
 ghost use Rattle.std.specs.Prelude.{◌≡◌, ◌+◌, [], ◌⊎◌, true, Some, None, IfOk, OnOk, IsErrOf};
 ghost use Rattle.tl_server.specs.Lines.{HasNoLf};
 ghost use Rattle.tl_server.specs.Sending.{sending, Writes};
-ghost use Rattle.tl_server.specs.Runs.{AnswersAll, AnswersWhole, AnswersPart};
+ghost use Rattle.tl_server.specs.Runs.{AnswersAll, AnswersWhole, AnswersPart, GainsWholeCalls};
 ghost use Rattle.tl_server.specs.declared.fault.ServeFault.TheVariants.{ReadFailed, WriteFailed, Memory};
 
 use crate::answering::answer_line;
@@ -49,6 +49,8 @@ pub fn serve<R: Threads + Wait + Sync, S: Source, K: Sink>(
     ensures ok { IfOk result (λ n. AnswersAll (record { input = S.input source.old; session = session.old; output = K.output sink.old }) (record { input = S.input source.new; session = session.new; output = K.output sink.new }) n) }
     ensures read { IsErrOf result ReadFailed → AnswersWhole (record { input = S.input source.old; session = session.old; output = K.output sink.old }) (record { input = S.input source.new; session = session.new; output = K.output sink.new }) }
     ensures write { IsErrOf result WriteFailed → AnswersPart (record { input = S.input source.old; session = session.old; output = K.output sink.old }) (record { input = S.input source.new; session = session.new; output = K.output sink.new }) }
+    // Whatever the devices tell of their bytes.
+    ensures kept { GainsWholeCalls session.old session.new }
     // Which device has failed.
     ensures fine { OnOk result ((S.failures source.new ≡ S.failures source.old) × (K.failures sink.new ≡ K.failures sink.old)) }
     ensures read_fails { IsErrOf result ReadFailed → (S.failures source.new ≡ S.failures source.old + 1) × (K.failures sink.new ≡ K.failures sink.old) }

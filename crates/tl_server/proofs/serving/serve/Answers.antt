@@ -5,6 +5,7 @@ use Rattle.tl_server.specs.Coming.{Comes}
 use Rattle.tl_server.specs.Sending.{Sending, sending}
 use Rattle.tl_server.specs.Runs.{Moment}
 use Rattle.tl_server.proofs.Goings.{if_some, begins, settles, goes_on, one_of, stops_before, breaks_off, ends, closes_at, rest_last, finished_all, finished_part, none_left}
+use Rattle.tl_server.proofs.Gained.{gains_none, answered_more}
 use Rattle.tl_server.proofs.serving.serve.Goals as goal
 
 pub loop-init : goal.loop-init
@@ -16,6 +17,7 @@ loop-init g c =
       (λ bytes e. begins m c.in-Ok.reader.left bytes s e c.in-Ok.ensures refl c.in-Ok-new.ensures.0 c.in-Ok-new.ensures.1),
       refl,
       ap (λ (b : Bool). if b then n + 1 else n) (sym c.in-Ok-new.ensures.1),
+      gains_none c.args.session.now,
     )
 
 pub returns-then-has_failed-clause-write : goal.returns-then-has_failed-clause-write
@@ -160,4 +162,26 @@ loop-preserved g c =
           goes_on m input input' c.loop.session after.session s1 s2 left r c.loop.count bytes run came one c.in-Some-checked_add.more c.in-Some-checked_add.ensures.1),
       c.in-Ok-Whole.ensures.fine ∙ c.loop.invariant.1,
       c.answer_line-in-Ok-Whole.ensures.3.counts n (c.settle.ensures.writes.counts n c.loop.invariant.2),
+      answered_more c.args.session.now c.loop.session after.session c.line-in-Ok-Whole.result.now c.answer_line-in-Ok-Whole.result c.answer_line-in-Ok-Whole.ensures.0 c.answer_line-in-Ok-Whole.ensures.1 c.loop.invariant.3 c.answer_line-in-Ok-Whole.ensures.2 c.answer_line-in-Ok-Whole.ensures.4,
     )
+
+pub returns-then-has_failed-clause-kept : goal.returns-then-has_failed-clause-kept
+returns-then-has_failed-clause-kept g c = c.loop.invariant.3
+
+pub returns-in-Err-clause-kept : goal.returns-in-Err-clause-kept
+returns-in-Err-clause-kept g c = c.loop.invariant.3
+
+pub returns-in-Ok-End-clause-kept : goal.returns-in-Ok-End-clause-kept
+returns-in-Ok-End-clause-kept g c = c.loop.invariant.3
+
+pub returns-then-has_failed-2-clause-kept : goal.returns-then-has_failed-2-clause-kept
+returns-then-has_failed-2-clause-kept g c = answered_more c.args.session.now c.loop.session c.answer_line.new.session c.line.result.now c.answer_line.result c.answer_line.ensures.0 c.answer_line.ensures.1 c.loop.invariant.3 c.answer_line.ensures.2 c.answer_line.ensures.4
+
+pub returns-in-Ok-Rest-clause-kept : goal.returns-in-Ok-Rest-clause-kept
+returns-in-Ok-Rest-clause-kept g c = answered_more c.args.session.now c.loop.session c.answer_line.new.session c.line.result.now c.answer_line.result c.answer_line.ensures.0 c.answer_line.ensures.1 c.loop.invariant.3 c.answer_line.ensures.2 c.answer_line.ensures.4
+
+pub returns-then-has_failed-3-clause-kept : goal.returns-then-has_failed-3-clause-kept
+returns-then-has_failed-3-clause-kept g c = answered_more c.args.session.now c.loop.session c.answer_line-in-Ok-Whole.new.session c.line-in-Ok-Whole.result.now c.answer_line-in-Ok-Whole.result c.answer_line-in-Ok-Whole.ensures.0 c.answer_line-in-Ok-Whole.ensures.1 c.loop.invariant.3 c.answer_line-in-Ok-Whole.ensures.2 c.answer_line-in-Ok-Whole.ensures.4
+
+pub returns-then-answer_line-clause-kept : goal.returns-then-answer_line-clause-kept
+returns-then-answer_line-clause-kept g c = answered_more c.args.session.now c.loop.session c.answer_line-in-Ok-Whole.new.session c.line-in-Ok-Whole.result.now c.answer_line-in-Ok-Whole.result c.answer_line-in-Ok-Whole.ensures.0 c.answer_line-in-Ok-Whole.ensures.1 c.loop.invariant.3 c.answer_line-in-Ok-Whole.ensures.2 c.answer_line-in-Ok-Whole.ensures.4

@@ -1,5 +1,6 @@
 use Rattle.std.proofs.Common.{◌≡◌, ℕ, List}
 use Rattle.std.specs.Prelude.{Some}
+use Rattle.tl_server.specs.Runs.{GainsWholeCalls}
 use Rattle.tl_server.specs.Sending.{sending, IsCounted}
 use Rattle.tl_server.proofs.Goings.{GoesOn}
 use Rattle.tl_server.proofs.serving.serve.Given as goal
@@ -11,3 +12,4 @@ invariant-loop g l =
     (g.S.Source.input l.source) l.session (sending (g.K.Sink.output l.sink) (g.K.Sink.failures l.sink) l.outbox) l.reader.left l.count bytes)
     × (g.S.Source.failures l.source ≡ g.S.Source.failures l.fn.source)
     × IsCounted (g.K.Sink.failures l.fn.sink) (sending (g.K.Sink.output l.sink) (g.K.Sink.failures l.sink) l.outbox)
+    × GainsWholeCalls l.fn.session l.session

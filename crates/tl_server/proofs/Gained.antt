@@ -1,0 +1,127 @@
+-- What a session gains by lines that are answered.
+use Rattle.std.proofs.Common.{◌≡◌, ◌<◌, ◌⊎◌, inl, inr, zero, suc, ℕ, List, [], ◌∷◌, ◌++◌, Bool, true, false, sym, ap, ◌∙◌, subst, refl, append_assoc, append-nil, arith, ⊎_elim}
+use Rattle.std.specs.Prelude.{ℤ, Contains, Result, Ok, Err, string_bytes, slice_index_or}
+use Rattle.std.proofs.lemmas.List.Elements.{Contains-append_left, Contains-append_right, Contains-append_cases}
+use Rattle.tl_procedures.specs.declared.request.Request.{Request}
+use Rattle.tl_table.specs.declared.receipt.Receipt.{Receipt}
+use Rattle.tl_workers.specs.declared.asking.Asking.{Asking}
+use Rattle.tl_workers.specs.declared.refusal.Refusal.{Refusal}
+use Rattle.tl_workers.specs.declared.session.Did.{Did}
+use Rattle.tl_workers.specs.declared.session.Did.TheVariants.{Asked, Got}
+use Rattle.tl_workers.specs.Kept.{SessionValue, Gains, asking, call_of, AnswersEach, asked_of, gots_of}
+use Rattle.tl_server.specs.declared.fault.LineFault.{LineFault}
+use Rattle.tl_server.specs.Answers.{line_text, error_text, batch_text}
+use Rattle.tl_server.specs.Faults.{numbers_of}
+use Rattle.tl_server.specs.Requests.{LineValue, Registers, Calls, Batches, Closes, IsRequest, IsLineFault}
+use Rattle.tl_server.specs.Served.{CallOutcome, AnswersRequest, AnswersLine, IsAnswer}
+use Rattle.tl_server.specs.Runs.{AllGot, GainsWholeCalls}
+
+-- ---- lists of entries
+
+no_entry : (x : Did) → Contains [] x → ⊥
+no_entry x h = let l = h.1 in omega (arith, l)
+
+got_nothing : AllGot []
+got_nothing a h = absurd (no_entry (Asked a) h)
+
+nothing : (dids : List Did) → dids ≡ [] → AllGot dids
+nothing dids e = subst AllGot (sym e) got_nothing
+
+got_both : (xs ys : List Did) → AllGot xs → AllGot ys → AllGot (xs ++ ys)
+got_both xs ys p q a h = ⊎_elim
+    (λ (l : Contains xs (Asked a)). let r = p a l in (r.0, Contains-append_left xs ys (Got r.0) r.1, r.2))
+    (λ (l : Contains ys (Asked a)). let r = q a l in (r.0, Contains-append_right xs ys (Got r.0) r.1, r.2))
+    (Contains-append_cases xs ys (Asked a) h)
+
+-- the first entry, or one of the rest
+only_at : (x y : Did) (k : ℕ) → k < 1 → slice_index_or (x ∷ []) k y ≡ y → x ≡ y
+only_at x y zero lt is = is
+only_at x y (suc k) lt is = absurd (omega (arith, lt))
+
+first_or_later : (x : Did) (xs : List Did) (y : Did) → Contains (x ∷ xs) y → (x ≡ y) ⊎ Contains xs y
+first_or_later x xs y h = ⊎_elim (λ (l : Contains (x ∷ []) y). inl (only_at x y l.0 l.1 l.2)) (λ (l : Contains xs y). inr l) (Contains-append_cases (x ∷ []) xs y h)
+
+here : (x : Did) (xs : List Did) → Contains (x ∷ xs) x
+here x xs = (0, omega arith, refl)
+
+later : (x : Did) (xs : List Did) (y : Did) → Contains xs y → Contains (x ∷ xs) y
+later x xs y h = Contains-append_right (x ∷ []) xs y h
+
+-- ---- one call
+
+same_call : (a b : Asking) → Asked a ≡ Asked b → a.call ≡ b.call
+same_call a b e = let s : a ≡ b = cc in ap (λ x. x.call) s
+
+one_call : (name : List ℕ) (args : List ℤ) (r : Receipt) → AllGot (call_of name args r)
+one_call name args r a h = ⊎_elim
+    (λ (e : Asked (asking r.call name args) ≡ Asked a). (r, later (Asked (asking r.call name args)) (Got r ∷ []) (Got r) (here (Got r) []), same_call (asking r.call name args) a e))
+    (λ (l : Contains (Got r ∷ []) (Asked a)). absurd (⊎_elim (λ (e : Got r ≡ Asked a). let f : ⊥ = cc in f) (λ (m : Contains [] (Asked a)). no_entry (Asked a) m) (first_or_later (Got r) [] (Asked a) l)))
+    (first_or_later (Asked (asking r.call name args)) (Got r ∷ []) (Asked a) h)
+
+call_whole : (q : List ℕ × List ℤ) (gained : List Did) (answer : Result Receipt Refusal) → CallOutcome q gained answer → AllGot gained
+call_whole q gained (Ok r) h = subst AllGot (sym h.1) (one_call q.0 q.1 r)
+call_whole q gained (Err e) h = nothing gained h
+
+-- ---- a batch
+
+no_asked : (answers : List (Result Receipt Refusal)) (a : Asking) → Contains (gots_of answers) (Asked a) → ⊥
+no_asked [] a h = no_entry (Asked a) h
+no_asked (Ok r ∷ answers) a h = ⊎_elim (λ (e : Got r ≡ Asked a). let f : ⊥ = cc in f) (no_asked answers a) (first_or_later (Got r) (gots_of answers) (Asked a) h)
+no_asked (Err e ∷ answers) a h = no_asked answers a h
+
+asked_got : (requests : List Request) (answers : List (Result Receipt Refusal)) → AnswersEach requests answers → (a : Asking) → Contains (asked_of requests answers) (Asked a)
+    → (r : Receipt) × Contains (gots_of answers) (Got r) × (r.call ≡ a.call)
+asked_got [] [] each a h = absurd (no_entry (Asked a) h)
+asked_got [] (answer ∷ answers) each a h = absurd each
+asked_got (q ∷ requests) [] each a h = absurd each
+asked_got (q ∷ requests) (Ok r ∷ answers) each a h = ⊎_elim
+    (λ (e : Asked (asking r.call (string_bytes q.name) q.args.items) ≡ Asked a). (r, here (Got r) (gots_of answers), same_call (asking r.call (string_bytes q.name) q.args.items) a e))
+    (λ (l : Contains (asked_of requests answers) (Asked a)). let found = asked_got requests answers each.1 a l in (found.0, later (Got r) (gots_of answers) (Got found.0) found.1, found.2))
+    (first_or_later (Asked (asking r.call (string_bytes q.name) q.args.items)) (asked_of requests answers) (Asked a) h)
+asked_got (q ∷ requests) (Err e ∷ answers) each a h = asked_got requests answers each a h
+
+batch_whole : (requests : List Request) (answers : List (Result Receipt Refusal)) → AnswersEach requests answers → AllGot (asked_of requests answers ++ gots_of answers)
+batch_whole requests answers each a h = ⊎_elim
+    (λ (l : Contains (asked_of requests answers) (Asked a)). let found = asked_got requests answers each a l in (found.0, Contains-append_right (asked_of requests answers) (gots_of answers) (Got found.0) found.1, found.2))
+    (λ (l : Contains (gots_of answers) (Asked a)). absurd (no_asked answers a l))
+    (Contains-append_cases (asked_of requests answers) (gots_of answers) (Asked a) h)
+
+-- ---- a line
+
+request_whole : (r : LineValue) (gained : List Did) (out : List ℕ) → AnswersRequest r gained out → AllGot gained
+request_whole (Registers name text) gained out h = nothing gained h.0
+request_whole (Calls name args) gained out h = call_whole (name, args) gained h.0 h.1
+request_whole (Batches calls workers) gained out h = ⊎_elim
+    (λ (refused : (gained ≡ []) × (out ≡ line_text (error_text (990 ∷ [])))). nothing gained refused.0)
+    (λ (b : (answers : List (Result Receipt Refusal)) × AnswersEach h.0 answers × (gained ≡ asked_of h.0 answers ++ gots_of answers) × (out ≡ line_text (batch_text answers))). subst AllGot (sym b.2) (batch_whole h.0 b.0 b.1))
+    h.2
+request_whole Closes gained out h = absurd h
+
+line_whole : (line : List ℕ) (gained : List Did) (out : List ℕ) → AnswersLine line gained out → AllGot gained
+line_whole line gained out h = ⊎_elim
+    (λ (refused : (gained ≡ []) × (out ≡ line_text (error_text (990 ∷ [])))). nothing gained refused.0)
+    (λ (rest : ((f : LineFault) × IsLineFault line f × (gained ≡ []) × (out ≡ line_text (error_text (numbers_of f)))) ⊎ ((r : LineValue) × IsRequest line r × AnswersRequest r gained out)).
+    ⊎_elim
+    (λ (fault : (f : LineFault) × IsLineFault line f × (gained ≡ []) × (out ≡ line_text (error_text (numbers_of f)))). nothing gained fault.2)
+    (λ (answered : (r : LineValue) × IsRequest line r × AnswersRequest r gained out). request_whole answered.0 gained out answered.2)
+    rest)
+    h
+
+answer_whole : (line : List ℕ) (closes : Bool) (gained : List Did) (out : List ℕ) → IsAnswer line closes gained out → AllGot gained
+answer_whole line true gained out h = nothing gained h.1
+answer_whole line false gained out h = line_whole line gained out h
+
+-- ---- lines
+
+pub gains_none : (s : SessionValue) → GainsWholeCalls s s
+gains_none s = ([], record { number = refl; kept = sym (append-nil s.kept) }, got_nothing)
+
+pub answered_more : (first old new : SessionValue) (line : List ℕ) (closes : Bool) (gained : List Did) (out : List ℕ) → GainsWholeCalls first old → Gains old new gained → IsAnswer line closes gained out → GainsWholeCalls first new
+answered_more first old new line closes gained out before more answer = (
+  before.0 ++ gained,
+  record {
+    number = more.number ∙ before.1.number;
+    kept = more.kept ∙ ap (λ kept. kept ++ gained) before.1.kept ∙ append_assoc first.kept before.0 gained;
+  },
+  got_both before.0 gained before.2 (answer_whole line closes gained out answer),
+)
