@@ -1,46 +1,86 @@
-//! A source and a sink in memory, which fail when they are told to.
+//! A source and a sink in memory, which tell their bytes, and fail when they are told to.
+
+ghost use Rattle.std.specs.Prelude.{◌<◌, ◌≤◌, length};
 
 use std::alloc::Global;
+use std::process::Abort;
 use tl_server::{Failure, Sink, Source};
 
-/// Bytes that come at most `size` at a time. It fails once so many reads are done.
+/// Bytes that come at most so many at a time, or a line at a time. One read fails: the one behind so many.
 #[derive(Drop)]
 pub struct Failing<'a> {
     pub left: &'a [u8],
     size: usize,
+    by_line: bool,
     reads: u32,
-    failed: u64,
+    has_failed: bool,
+    ghost some: { 0 < size },
 }
 
 impl<'a> Failing<'a> {
+    /// In pieces of at most that many, and at least one.
     pub fn new(bytes: &'a [u8], size: usize, reads: u32) -> Failing<'a> {
         Failing {
             left: bytes,
-            size,
+            size: size.max(1),
+            by_line: false,
             reads,
-            failed: 0,
+            has_failed: false,
         }
+    }
+
+    /// A line at a time, with its LF.
+    pub fn by_line(bytes: &'a [u8], reads: u32) -> Failing<'a> {
+        Failing {
+            left: bytes,
+            size: usize::MAX,
+            by_line: true,
+            reads,
+            has_failed: false,
+        }
+    }
+
+    // How many bytes come next.
+    fn next(&self) -> usize
+        ensures within { result ≤ length self.now.left.now }
+        ensures some { 0 < length self.now.left.now → 0 < result }
+    {
+        let line = if self.by_line {
+            first_line(self.left)
+        } else {
+            self.left.len()
+        };
+        self.size.min(line)
     }
 }
 
+/// How many bytes the first line of a text has, with its LF.
+pub fn first_line(text: &[u8]) -> usize
+    ensures within { result ≤ length text.now }
+    ensures some { 0 < length text.now → 0 < result }
+{
+    for (at, byte) in text.iter().enumerate() {
+        if *byte == b'\n' {
+            return at + 1;
+        }
+    }
+    text.len()
+}
+
 impl<'a> Source for Failing<'a> {
-    ghost use Rattle.std.specs.Prelude.{None};
+    ghost use Rattle.std.specs.Prelude.{Some, if◌then◌else◌};
 
-    ghost input = { λ _. None };
+    ghost input = { λ s. Some s.left.now };
 
-    ghost failures = { λ s. s.failed };
+    ghost failures = { λ s. if s.has_failed then 1 else 0 };
 
     fn read(&mut self, buffer: &mut [u8]) -> Result<usize, Failure> {
-        if self.reads == 0 {
-            // A count that is full can't rise: the input has ended instead.
-            let Some(failed) = self.failed.checked_add(1) else {
-                return Ok(0);
-            };
-            self.failed = failed;
+        if self.reads == 0 && !self.has_failed {
+            self.has_failed = true;
             return Err(Failure);
         }
-        self.reads -= 1;
-        let count = self.size.min(buffer.len()).min(self.left.len());
+        self.reads = self.reads.saturating_sub(1);
+        let count = self.next().min(buffer.len());
         let (now, later) = self.left.split_at(count);
         buffer[..count].copy_from_slice(now);
         self.left = later;
@@ -48,44 +88,45 @@ impl<'a> Source for Failing<'a> {
     }
 }
 
-/// What was written. It takes at most `size` bytes at a time, and fails once so many writes are done.
+/// What was written. It takes at most `size` bytes at a time. One write fails: the one behind so many.
 #[derive(Drop)]
-pub struct Written {
+pub struct Written<'a, R> {
+    rt: &'a R,
     pub text: Vec<u8>,
     size: usize,
-    left: u32,
-    failed: u64,
+    writes: u32,
+    has_failed: bool,
 }
 
-impl Written {
-    pub fn new(alloc: Global, size: usize, writes: u32) -> Written {
+impl<'a, R: Abort> Written<'a, R> {
+    pub fn new(rt: &'a R, alloc: Global, size: usize, writes: u32) -> Written<'a, R> {
         Written {
+            rt,
             text: Vec::new(alloc),
             size,
-            left: writes,
-            failed: 0,
+            writes,
+            has_failed: false,
         }
     }
 }
 
-impl Sink for Written {
-    ghost use Rattle.std.specs.Prelude.{None};
+impl<'a, R: Abort> Sink for Written<'a, R> {
+    ghost use Rattle.std.specs.Prelude.{Some, if◌then◌else◌};
 
-    ghost output = { λ _. None };
+    ghost output = { λ s. Some s.text.items };
 
-    ghost failures = { λ s. s.failed };
+    ghost failures = { λ s. if s.has_failed then 1 else 0 };
 
     fn write(&mut self, text: &[u8]) -> Result<usize, Failure> {
-        let count = self.size.min(text.len()).max(1);
-        if self.left == 0 || self.text.extend_from_slice(&text[..count]).is_err() {
-            // A count that is full can't rise: the bytes are let go instead.
-            let Some(failed) = self.failed.checked_add(1) else {
-                return Ok(count);
-            };
-            self.failed = failed;
+        if self.writes == 0 && !self.has_failed {
+            self.has_failed = true;
             return Err(Failure);
         }
-        self.left -= 1;
+        self.writes = self.writes.saturating_sub(1);
+        let count = self.size.min(text.len()).max(1);
+        self.text
+            .extend_from_slice(&text[..count])
+            .expect(self.rt, "memory for what is written");
         Ok(count)
     }
 }

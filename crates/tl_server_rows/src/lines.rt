@@ -1,138 +1,130 @@
 //! Lines and their answers.
 
-use crate::device::Written;
+use crate::device::{Failing, Written, first_line};
 use std::alloc::Global;
 use std::process::Abort;
 use std::sync::Wait;
 use std::test::Fail;
 use std::thread::Threads;
-use tl_server::{Bytes, ServeFault, serve};
-use tl_tree::read_tree;
+use tl_examples::ONE_NODE;
+use tl_server::{Bytes, ServeFault, Sink, Source, serve};
+use tl_trials::with_engine;
 use tl_workers::{Engine, Session};
 
-pub const ADD: &str =
-    "{\"asm\":\"arity 2\\nfirst n0 v0 else L6\\nget v2 n0 0\\nadd v2 v2 v1 else L4\\nput n0 0 v2\\nL4:\\nemit v2\\nrel n0\\nL6:\\nret\",\"name\":\"add\",\"op\":\"register\"}\n";
-
-const LINES: &str =
-    "{\"args\":[0,3],\"op\":\"call\",\"proc\":\"add\"}\n{\"args\":[0,0],\"op\":\"call\",\"proc\":\"add\"}\n{\"args\":[0,0],\"op\":\"call\",\"proc\":\"nosuch\"}\n";
-
-const MORE: &str =
-    "hello\n{\"calls\":[[\"add\",[0,1]],[\"add\",[0]]],\"op\":\"batch\",\"workers\":1}\n{\"op\":\"close\"}";
-
-pub const BOUNDS: &str = "{\"bounds\":{\"emits\":1,\"locks\":1,\"steps\":7}}\n";
-
-const ANSWERS: &str =
-    "{\"call\":0,\"reply\":[8]}\n{\"call\":1,\"reply\":[8]}\n{\"error\":[601]}\n{\"error\":[611]}\n{\"error\":[901]}\n{\"batch\":[{\"call\":2,\"reply\":[9]},{\"error\":[501]}]}\n{\"closed\":true}\n";
-
-/// An engine on the tree of a text.
-pub fn engine_on(alloc: Global, text: &str) -> Result<Engine, Fail> {
-    let tree = read_tree(alloc, text)?;
-    Ok(Engine::new(alloc, tree)?)
-}
-
-/// An engine on a tree of one node, whose field 0 is 5.
-pub fn engine(alloc: Global) -> Result<Engine, Fail> {
-    engine_on(alloc, "{\"parents\":[0],\"records\":[[5,0,0,0]]}")
-}
-
 /// A `register`, calls, what is refused, a batch, and a `close` without an LF.
-pub fn all_lines(alloc: Global) -> Result<Vec<u8>, Fail> {
-    let mut text = Vec::new(alloc);
-    text.extend_from_slice(ADD.as_bytes())?;
-    text.extend_from_slice(LINES.as_bytes())?;
-    text.extend_from_slice(ADD.as_bytes())?;
-    text.extend_from_slice(MORE.as_bytes())?;
-    Ok(text)
-}
+pub const LINES: &[u8] =
+    b"{\"asm\":\"arity 2\\nfirst n0 v0 else L6\\nget v2 n0 0\\nadd v2 v2 v1 else L4\\nput n0 0 v2\\nL4:\\nemit v2\\nrel n0\\nL6:\\nret\",\"name\":\"add\",\"op\":\"register\"}\n{\"args\":[0,3],\"op\":\"call\",\"proc\":\"add\"}\n{\"args\":[0,0],\"op\":\"call\",\"proc\":\"add\"}\n{\"args\":[0,0],\"op\":\"call\",\"proc\":\"nosuch\"}\n{\"asm\":\"arity 2\\nfirst n0 v0 else L6\\nget v2 n0 0\\nadd v2 v2 v1 else L4\\nput n0 0 v2\\nL4:\\nemit v2\\nrel n0\\nL6:\\nret\",\"name\":\"add\",\"op\":\"register\"}\nhello\n{\"calls\":[[\"add\",[0,1]],[\"add\",[0]]],\"op\":\"batch\",\"workers\":1}\n{\"op\":\"close\"}";
 
-/// A `register`, and a call with 0 and 3.
-pub fn first_lines(alloc: Global) -> Result<Vec<u8>, Fail> {
-    let mut text = Vec::new(alloc);
-    text.extend_from_slice(ADD.as_bytes())?;
-    text.extend_from_slice(b"{\"args\":[0,3],\"op\":\"call\",\"proc\":\"add\"}\n")?;
-    Ok(text)
-}
+/// What they are answered, on a node whose field 0 is 5.
+pub const ANSWERS: &[u8] =
+    b"{\"bounds\":{\"emits\":1,\"locks\":1,\"steps\":7}}\n{\"call\":0,\"reply\":[8]}\n{\"call\":1,\"reply\":[8]}\n{\"error\":[601]}\n{\"error\":[611]}\n{\"error\":[901]}\n{\"batch\":[{\"call\":2,\"reply\":[9]},{\"error\":[501]}]}\n{\"closed\":true}\n";
 
-pub fn all_answers(alloc: Global) -> Result<Vec<u8>, Fail> {
-    let mut text = Vec::new(alloc);
-    text.extend_from_slice(BOUNDS.as_bytes())?;
-    text.extend_from_slice(ANSWERS.as_bytes())?;
-    Ok(text)
-}
+/// The answer to the first line.
+pub const BOUNDS: &[u8] = b"{\"bounds\":{\"emits\":1,\"locks\":1,\"steps\":7}}\n";
 
-/// The engine closes with that session alone.
-pub fn closes(alloc: Global, engine: Engine, session: Session) -> Result<(), Fail> {
-    let mut sessions = Vec::new(alloc);
-    sessions.push(session)?;
-    match engine.close(sessions) {
-        Ok(_) => Ok(()),
-        Err(_) => Err("not closed".into()),
+/// The lines of a text from its beginning, so many, each with its LF; and what is left.
+pub fn split_lines(text: &[u8], count: usize) -> (&[u8], &[u8]) {
+    let mut left = text;
+    for _ in 0..count {
+        let (_, later) = left.split_at(first_line(left));
+        left = later;
     }
+    text.split_at(text.len().saturating_sub(left.len()))
 }
 
-/// The lines come in pieces of one size, and the answers are taken in pieces of another.
+/// Serves the lines of the source on a new engine, in a session with which it closes.
+pub fn served<R: Threads + Wait + Sync, S: Source, K: Sink>(
+    rt: &R,
+    alloc: Global,
+    source: &mut S,
+    sink: &mut K,
+) -> Result<Result<u64, ServeFault>, Fail> {
+    with_engine(
+        rt,
+        alloc,
+        ONE_NODE,
+        &[],
+        1,
+        |engine, sessions| serve_alone(rt, alloc, source, sink, engine, sessions),
+        |served, _| Ok(served),
+    )
+}
+
+/// Serves the lines of the source in the one session.
+pub fn serve_alone<R: Threads + Wait + Sync, S: Source, K: Sink>(
+    rt: &R,
+    alloc: Global,
+    source: &mut S,
+    sink: &mut K,
+    engine: &Engine,
+    sessions: &mut [Session],
+) -> Result<Result<u64, ServeFault>, Fail> {
+    let [session] = sessions else {
+        return Err("not one session".into());
+    };
+    Ok(serve(rt, alloc, source, sink, engine, session))
+}
+
+/// How many bytes of the lines come at a time, and how many bytes of the answers are taken at a time.
+const PIECES: [(usize, usize); 8] = [
+    (1, 1),
+    (1, 65_536),
+    (2, 1),
+    (2, 65_536),
+    (7, 1),
+    (7, 65_536),
+    (65_536, 1),
+    (65_536, 65_536),
+];
+
+#[test]
+fn lines_in_pieces(rt: HostRuntime) -> Result<(), Fail> {
+    for (piece, taken) in PIECES {
+        let mut source = Bytes::new(LINES, piece.max(1));
+        let mut sink = Written::new(&rt, rt.alloc(), taken, u32::MAX);
+        let served = served(&rt, rt.alloc(), &mut source, &mut sink)?;
+        assert_eq!(rt; sink.text.as_slice(), ANSWERS, "{piece}, {taken}");
+        assert_eq!(rt; served, Ok(8));
+    }
+    Ok(())
+}
+
+/// How many bytes `x` stand first, and what comes behind them; the answers, and how many these are.
+const LONG: [(usize, &[u8], &[u8], u64); 5] = [
+    (65_536, b"", b"{\"error\":[901]}\n", 1),
+    (65_537, b"", b"{\"error\":[902]}\n", 1),
+    (65_536, b"\n", b"{\"error\":[901]}\n", 1),
+    (65_537, b"\n", b"{\"error\":[902]}\n", 1),
+    (
+        70_000,
+        b"\n\xff\n\n{\"op\":\"close\"}\nhello\n",
+        b"{\"error\":[902]}\n{\"error\":[903]}\n{\"error\":[901]}\n{\"closed\":true}\n",
+        4,
+    ),
+];
+
+/// The lines are answered so.
 fn answered<R: Threads + Wait + Sync + Abort>(
     rt: &R,
     alloc: Global,
     lines: &[u8],
-    piece: usize,
-    taken: usize,
     answers: &[u8],
     count: u64,
 ) -> Result<(), Fail> {
-    let engine = engine(alloc)?;
-    let mut session = engine.session(rt, alloc)?;
-    let mut source = Bytes::new(lines, piece.max(1));
-    let mut sink = Written::new(alloc, taken, u32::MAX);
-    let served = serve(rt, alloc, &mut source, &mut sink, &engine, &mut session)?;
+    let mut source = Failing::new(lines, 1000, u32::MAX);
+    let mut sink = Written::new(rt, alloc, 100, u32::MAX);
+    let served = served(rt, alloc, &mut source, &mut sink)?;
     assert_eq!(rt; sink.text.as_slice(), answers);
-    assert_eq!(rt; served, count);
-    closes(alloc, engine, session)
-}
-
-#[test]
-fn lines_in_pieces(rt: HostRuntime) -> Result<(), Fail> {
-    let alloc = rt.alloc();
-    let lines = all_lines(alloc)?;
-    let answers = all_answers(alloc)?;
-    for (piece, taken) in [(1usize, 1usize), (2, 65_536), (7, 1), (65_536, 65_536)] {
-        answered(
-            &rt,
-            alloc,
-            lines.as_slice(),
-            piece,
-            taken,
-            answers.as_slice(),
-            8,
-        )?;
-    }
+    assert_eq!(rt; served, Ok(count));
     Ok(())
 }
 
 #[test]
 fn long_lines_and_other_bytes(rt: HostRuntime) -> Result<(), Fail> {
-    let alloc = rt.alloc();
-    let mut lines = vec![in alloc; b'x'; 65_536]?;
-    lines.push(b'\n')?;
-    for _ in 0..65_537u32 {
-        lines.push(b'x')?;
+    for (long, more, answers, count) in LONG {
+        let mut lines = vec![in rt.alloc(); b'x'; long]?;
+        lines.extend_from_slice(more)?;
+        answered(&rt, rt.alloc(), lines.as_slice(), answers, count)?;
     }
-    lines.extend_from_slice(b"\n\xff\n\n{\"op\":\"close\"}\nhello\n")?;
-    let answers =
-        b"{\"error\":[901]}\n{\"error\":[902]}\n{\"error\":[903]}\n{\"error\":[901]}\n{\"closed\":true}\n";
-    answered(&rt, alloc, lines.as_slice(), 1000, 100, answers, 5)
-}
-
-#[test]
-fn a_failed_write_ends_it_after_the_call(rt: HostRuntime) -> Result<(), Fail> {
-    let alloc = rt.alloc();
-    let engine = engine(alloc)?;
-    let mut session = engine.session(&rt, alloc)?;
-    let lines = all_lines(alloc)?;
-    let mut source = Bytes::new(lines.as_slice(), 65_536);
-    let mut sink = Written::new(alloc, BOUNDS.len(), 1);
-    let served = serve(&rt, alloc, &mut source, &mut sink, &engine, &mut session);
-    assert!(rt; matches!(&served, Err(ServeFault::WriteFailed)));
-    assert_eq!(rt; sink.text.as_slice(), BOUNDS.as_bytes());
-    closes(alloc, engine, session)
+    Ok(())
 }

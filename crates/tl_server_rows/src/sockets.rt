@@ -1,24 +1,31 @@
 //! Lines over connections.
 
-use crate::lines::{ADD, BOUNDS, all_answers, all_lines, engine, engine_on, first_lines};
+use crate::lines::{ANSWERS, BOUNDS, LINES, split_lines};
 use std::alloc::Global;
 use std::io::{Read, Write};
 use std::net::{Ipv4Addr, Net, Shutdown, SocketAddr, SocketAddrV4, TcpListener, TcpStream};
 use std::process::Abort;
+use std::sync::Wait;
 use std::test::Fail;
-use std::thread;
+use std::thread::Threads;
 use std::time::{Clock, Duration};
-use tl_server::{ListenFault, listen};
+use std::{io, thread};
+use tl_examples::{FORK, ONE_NODE};
+use tl_server::{ListenFault, ServeFault, SocketSink, SocketSource, listen, serve};
+use tl_trials::{Ended, use_up_sessions, with_callers, with_engine_on_threads};
 use tl_workers::{Engine, Session};
 
 const REFUSED: &[u8] = b"{\"error\":[901]}\n";
+
+/// For how many seconds an answer is waited for.
+const PATIENCE: u64 = 10;
 
 fn address(port: u16) -> SocketAddr {
     SocketAddr::V4(SocketAddrV4::new(Ipv4Addr::LOCALHOST, port))
 }
 
 /// A port that nobody has.
-fn free_port<R: Net<Listener = TcpListener, Stream = TcpStream>>(rt: &R) -> Result<u16, Fail> {
+fn free_port<R: Net<Listener = TcpListener, Stream = TcpStream>>(rt: &R) -> io::Result<u16> {
     let listener = rt.bind(address(0))?;
     Ok(listener.local_addr()?.port())
 }
@@ -27,43 +34,38 @@ fn free_port<R: Net<Listener = TcpListener, Stream = TcpStream>>(rt: &R) -> Resu
 fn connect<R: Net<Listener = TcpListener, Stream = TcpStream> + Clock>(
     rt: &R,
     port: u16,
-) -> Result<TcpStream, Fail> {
+) -> io::Result<TcpStream> {
     for _ in 0..1000u32 {
         if let Ok(stream) = rt.connect(address(port)) {
+            stream.set_read_timeout(Some(Duration::from_secs(PATIENCE)))?;
             return Ok(stream);
         }
         thread::sleep(rt, Duration::from_millis(5));
     }
-    Err("nobody listens".into())
+    rt.connect(address(port))
 }
 
-/// Ends what is sent, and answers all that comes back.
-fn rest(alloc: Global, stream: &mut TcpStream) -> Result<Vec<u8>, Fail> {
-    stream.shutdown(Shutdown::Write)?;
-    let mut answers = Vec::new(alloc);
-    stream.read_to_end(&mut answers)?;
-    Ok(answers)
+/// The next bytes that come are these.
+fn comes(rt: &impl Abort, stream: &mut TcpStream, bytes: &[u8]) -> io::Result<()> {
+    for byte in bytes {
+        let mut next = [0u8; 1];
+        stream.read_exact(&mut next)?;
+        assert_eq!(rt; next[0], *byte);
+    }
+    Ok(())
 }
 
-/// Sends the lines, ends them, and answers all that comes back.
-fn ask<R: Net<Listener = TcpListener, Stream = TcpStream> + Clock>(
-    rt: &R,
-    alloc: Global,
-    port: u16,
-    lines: &[u8],
-) -> Result<Vec<u8>, Fail> {
-    let mut stream = connect(rt, port)?;
-    stream.write_all(lines)?;
-    rest(alloc, &mut stream)
+/// Nothing more comes.
+fn ends(rt: &impl Abort, stream: &mut TcpStream) -> io::Result<()> {
+    let mut next = [0u8; 1];
+    assert_eq!(rt; stream.read(&mut next)?, 0);
+    Ok(())
 }
 
 /// Sends a line that is no request, and takes its answer.
-fn greet(rt: &impl Abort, stream: &mut TcpStream) -> Result<(), Fail> {
+fn greet(rt: &impl Abort, stream: &mut TcpStream) -> io::Result<()> {
     stream.write_all(b"hello\n")?;
-    let mut answer = [0u8; 16];
-    stream.read_exact(&mut answer)?;
-    assert_eq!(rt; answer.as_slice(), REFUSED);
-    Ok(())
+    comes(rt, stream, REFUSED)
 }
 
 fn sessions_of(served: Result<Vec<Session>, ListenFault>) -> Result<Vec<Session>, Fail> {
@@ -73,23 +75,85 @@ fn sessions_of(served: Result<Vec<Session>, ListenFault>) -> Result<Vec<Session>
     }
 }
 
+/// A server of so many connections on this engine, while `ask` talks to its port. Answers the sessions.
+fn listening<R, F>(
+    rt: &R,
+    alloc: Global,
+    engine: &Engine,
+    connections: u16,
+    ask: F,
+) -> Result<Vec<Session>, Fail>
+where
+    R: Net<Listener = TcpListener, Stream = TcpStream> + Threads + Wait + Sync + Abort,
+    F: FnOnce(u16) -> io::Result<()>,
+    requires { (f : _) (x : _) → F.pre f x }
+{
+    let port = free_port(rt)?;
+    // Where a connection fails, the server may wait for ever: the test ends at once.
+    let (served, ()) = thread::join(
+        rt,
+        || listen(rt, alloc, port, connections, engine),
+        || assert!(rt; ask(port).is_ok(), "a connection fails"),
+    );
+    sessions_of(served)
+}
+
+/// A server of so many connections on a tree, while `ask` talks to its port. Then the engine closes with the sessions.
+fn with_server<R, F, G>(
+    rt: &R,
+    alloc: Global,
+    tree: &str,
+    connections: u16,
+    ask: F,
+    judge: G,
+) -> Result<(), Fail>
+where
+    R: Net<Listener = TcpListener, Stream = TcpStream> + Threads + Wait + Sync + Abort,
+    F: FnOnce(u16) -> io::Result<()>,
+    G: FnOnce(&Ended) -> Result<(), Fail>,
+    requires ask { (f : _) (x : _) → F.pre f x }
+    requires judge { G.IsAlwaysCallable judge }
+{
+    with_callers(
+        rt,
+        alloc,
+        tree,
+        &[],
+        |engine| -> Result<Vec<Session>, Fail>
+            requires { (f : _) (x : _) → F.pre f x }
+        { listening(rt, alloc, engine, connections, ask) },
+        judge,
+    )
+}
+
+/// The engine has closed with so many sessions.
+fn closes_with(rt: &impl Abort, ended: &Ended, sessions: usize) -> Result<(), Fail> {
+    assert_eq!(rt; ended.sessions().len(), sessions);
+    Ok(())
+}
+
+/// All lines are sent and ended, and all answers come back.
+fn all_lines<R: Net<Listener = TcpListener, Stream = TcpStream> + Clock + Abort>(
+    rt: &R,
+    port: u16,
+) -> io::Result<()> {
+    let mut stream = connect(rt, port)?;
+    stream.write_all(LINES)?;
+    stream.shutdown(Shutdown::Write)?;
+    comes(rt, &mut stream, ANSWERS)?;
+    ends(rt, &mut stream)
+}
+
 #[test]
 fn all_lines_over_a_connection(rt: HostRuntime) -> Result<(), Fail> {
-    let alloc = rt.alloc();
-    let engine = engine(alloc)?;
-    let lines = all_lines(alloc)?;
-    let port = free_port(&rt)?;
-    let (served, asked) = thread::join(
+    with_server(
         &rt,
-        || listen(&rt, alloc, port, 1, &engine),
-        || ask(&rt, alloc, port, lines.as_slice()),
-    );
-    let answers = asked?;
-    let sessions = sessions_of(served)?;
-    assert_eq!(rt; answers.as_slice(), all_answers(alloc)?.as_slice());
-    assert_eq!(rt; sessions.len(), 1);
-    assert!(rt; engine.close(sessions).is_ok());
-    Ok(())
+        rt.alloc(),
+        ONE_NODE,
+        1,
+        |port| all_lines(&rt, port),
+        |ended| closes_with(&rt, ended, 1),
+    )
 }
 
 /// Eight connections are held open; the ninth is answered after one of them has ended.
@@ -97,169 +161,258 @@ fn nine<R: Net<Listener = TcpListener, Stream = TcpStream> + Clock + Abort>(
     rt: &R,
     alloc: Global,
     port: u16,
-) -> Result<(), Fail> {
-    let mut open = Vec::new(alloc);
+) -> io::Result<()> {
+    let mut open = Vec::with_capacity(alloc, 8).expect(rt, "memory for eight connections");
     for _ in 0..8u32 {
         let mut stream = connect(rt, port)?;
         greet(rt, &mut stream)?;
-        open.push(stream)?;
+        open.push(stream).expect(rt, "memory for a connection");
     }
     let mut ninth = connect(rt, port)?;
     ninth.set_read_timeout(Some(Duration::from_millis(200)))?;
     ninth.write_all(b"hello\n")?;
-    let mut answer = [0u8; 16];
+    let mut answer = [0u8; 1];
     assert!(rt; ninth.read_exact(&mut answer).is_err());
     drop(open.pop());
-    ninth.set_read_timeout(None)?;
-    ninth.read_exact(&mut answer)?;
-    assert_eq!(rt; answer.as_slice(), REFUSED);
-    Ok(())
+    ninth.set_read_timeout(Some(Duration::from_secs(PATIENCE)))?;
+    comes(rt, &mut ninth, REFUSED)
 }
 
 #[test]
 fn a_ninth_connection_waits(rt: HostRuntime) -> Result<(), Fail> {
-    let alloc = rt.alloc();
-    let engine = engine(alloc)?;
-    let port = free_port(&rt)?;
-    let (served, asked) = thread::join(
+    with_server(
         &rt,
-        || listen(&rt, alloc, port, 9, &engine),
-        || nine(&rt, alloc, port),
-    );
-    asked?;
-    let sessions = sessions_of(served)?;
-    assert_eq!(rt; sessions.len(), 9);
-    assert!(rt; engine.close(sessions).is_ok());
-    Ok(())
+        rt.alloc(),
+        ONE_NODE,
+        9,
+        |port| nine(&rt, rt.alloc(), port),
+        |ended| closes_with(&rt, ended, 9),
+    )
 }
 
 /// What still comes is the answer to a call, with that reply.
-fn replies(
-    rt: &impl Abort,
-    alloc: Global,
-    stream: &mut TcpStream,
-    reply: &[u8],
-) -> Result<(), Fail> {
-    let answer = rest(alloc, stream)?;
+fn replies(rt: &impl Abort, stream: &mut TcpStream, reply: &[u8]) -> io::Result<()> {
+    stream.shutdown(Shutdown::Write)?;
+    comes(rt, stream, b"{\"call\":")?;
     // Which of the two calls has which number is open.
-    assert!(rt; answer.starts_with(b"{\"call\":"));
-    assert!(rt; answer.ends_with(reply));
-    Ok(())
+    let mut call = [0u8; 1];
+    stream.read_exact(&mut call)?;
+    assert!(rt; call[0] == b'0' || call[0] == b'1');
+    comes(rt, stream, reply)?;
+    ends(rt, stream)
 }
 
 /// Two connections that are open at once ask for a call each, before either reads its answer.
 fn two_at_once<R: Net<Listener = TcpListener, Stream = TcpStream> + Clock + Abort>(
     rt: &R,
-    alloc: Global,
     port: u16,
-) -> Result<(), Fail> {
+) -> io::Result<()> {
     let mut one = connect(rt, port)?;
     let mut other = connect(rt, port)?;
-    one.write_all(ADD.as_bytes())?;
-    let mut bounds = [0u8; BOUNDS.len()];
-    one.read_exact(&mut bounds)?;
-    assert_eq!(rt; bounds.as_slice(), BOUNDS.as_bytes());
+    let (register, _) = split_lines(LINES, 1);
+    one.write_all(register)?;
+    comes(rt, &mut one, BOUNDS)?;
     one.write_all(b"{\"args\":[1,3],\"op\":\"call\",\"proc\":\"add\"}\n")?;
     other.write_all(b"{\"args\":[2,3],\"op\":\"call\",\"proc\":\"add\"}\n")?;
-    replies(rt, alloc, &mut one, b",\"reply\":[13]}\n")?;
-    replies(rt, alloc, &mut other, b",\"reply\":[23]}\n")
+    replies(rt, &mut one, b",\"reply\":[13]}\n")?;
+    replies(rt, &mut other, b",\"reply\":[23]}\n")
 }
 
-/// The engine closes with these sessions. Its order has both calls, and its tree what they added.
-fn closes_with_both(rt: &impl Abort, engine: Engine, sessions: Vec<Session>) -> Result<(), Fail> {
-    let Ok((closed, _)) = engine.close(sessions) else {
-        return Err("not closed".into());
-    };
-    let order = closed.order().calls();
+/// The engine's order has both calls, and its tree what they added.
+fn has_both(rt: &impl Abort, ended: &Ended) -> Result<(), Fail> {
+    let order = ended.order();
     assert!(rt; order == [0, 1].as_slice() || order == [1, 0].as_slice());
-    let records = closed.core().tree().records();
     assert_eq!(rt;
-        records,
+        ended.records(),
         [[0, 0, 0, 0], [13, 0, 0, 0], [23, 0, 0, 0]].as_slice()
     );
-    Ok(())
+    closes_with(rt, ended, 2)
 }
 
 #[test]
 fn two_connections_at_once_get_their_own_replies(rt: HostRuntime) -> Result<(), Fail> {
-    let alloc = rt.alloc();
-    let engine = engine_on(
-        alloc,
-        "{\"parents\":[0,0,0],\"records\":[[0,0,0,0],[10,0,0,0],[20,0,0,0]]}",
-    )?;
-    let port = free_port(&rt)?;
-    let (served, asked) = thread::join(
+    with_server(
         &rt,
-        || listen(&rt, alloc, port, 2, &engine),
-        || two_at_once(&rt, alloc, port),
-    );
-    asked?;
-    let sessions = sessions_of(served)?;
-    assert_eq!(rt; sessions.len(), 2);
-    closes_with_both(&rt, engine, sessions)
+        rt.alloc(),
+        FORK,
+        2,
+        |port| two_at_once(&rt, port),
+        |ended| has_both(&rt, ended),
+    )
+}
+
+/// A port that another one has.
+fn listen_on_a_port_that_is_had<R>(
+    rt: &R,
+    alloc: Global,
+    engine: &Engine,
+) -> Result<Vec<Session>, Fail>
+where
+    R: Net<Listener = TcpListener, Stream = TcpStream> + Threads + Wait + Sync + Abort,
+{
+    let listener = rt.bind(address(0))?;
+    let port = listener.local_addr()?.port();
+    let served = listen(rt, alloc, port, 1, engine);
+    assert!(rt; matches!(&served, Err(ListenFault::NoPort)));
+    Ok(Vec::new(alloc))
 }
 
 #[test]
 fn a_port_that_is_had_is_refused(rt: HostRuntime) -> Result<(), Fail> {
-    let alloc = rt.alloc();
-    let engine = engine(alloc)?;
-    let listener = rt.bind(address(0))?;
-    let port = listener.local_addr()?.port();
-    let served = listen(&rt, alloc, port, 1, &engine);
-    assert!(rt; matches!(&served, Err(ListenFault::NoPort)));
-    Ok(())
-}
-
-/// The next line that comes, with its LF, or what came of it.
-fn line(alloc: Global, stream: &mut TcpStream) -> Vec<u8> {
-    let mut line = Vec::new(alloc);
-    let mut byte = [0u8; 1];
-    for _ in 0..1000u32 {
-        if stream.read_exact(&mut byte).is_err()
-            || line.push(byte[0]).is_err()
-            || byte[0] == b'\n'
-        {
-            break;
-        }
-    }
-    line
+    with_callers(
+        &rt,
+        rt.alloc(),
+        ONE_NODE,
+        &[],
+        |engine| listen_on_a_port_that_is_had(&rt, rt.alloc(), engine),
+        |ended| closes_with(&rt, ended, 0),
+    )
 }
 
 /// A peer that reads its answers and goes away without a `close`; then another one.
-fn one_after_another<R>(rt: &R, alloc: Global, port: u16) -> Result<(), Fail>
+fn one_after_another<R>(rt: &R, port: u16) -> io::Result<()>
 where
     R: Net<Listener = TcpListener, Stream = TcpStream> + Clock + Abort,
 {
-    let lines = first_lines(alloc)?;
+    let (lines, _) = split_lines(LINES, 2);
+    let (answers, _) = split_lines(ANSWERS, 2);
     let mut first = connect(rt, port)?;
-    first.write_all(lines.as_slice())?;
-    assert!(rt; line(alloc, &mut first).starts_with(b"{\"bounds\":"));
-    assert_eq!(rt;
-        line(alloc, &mut first).as_slice(),
-        b"{\"call\":0,\"reply\":[8]}\n".as_slice()
-    );
+    first.write_all(lines)?;
+    comes(rt, &mut first, answers)?;
     drop(first);
     let mut second = connect(rt, port)?;
     second.write_all(b"{\"args\":[0,0],\"op\":\"call\",\"proc\":\"add\"}\n")?;
-    assert_eq!(rt;
-        line(alloc, &mut second).as_slice(),
-        b"{\"call\":1,\"reply\":[8]}\n".as_slice()
-    );
-    Ok(())
+    comes(rt, &mut second, b"{\"call\":1,\"reply\":[8]}\n")
 }
 
 #[test]
 fn a_peer_that_goes_away_leaves_its_calls_done(rt: HostRuntime) -> Result<(), Fail> {
-    let alloc = rt.alloc();
-    let engine = engine(alloc)?;
-    let port = free_port(&rt)?;
-    let (served, asked) = thread::join(
+    with_server(
         &rt,
-        || listen(&rt, alloc, port, 2, &engine),
-        || one_after_another(&rt, alloc, port),
-    );
-    asked?;
-    let sessions = sessions_of(served)?;
-    assert!(rt; engine.close(sessions).is_ok());
+        rt.alloc(),
+        ONE_NODE,
+        2,
+        |port| one_after_another(&rt, port),
+        |ended| closes_with(&rt, ended, 2),
+    )
+}
+
+/// A connection, and one to another address of this machine.
+fn local_alone<R>(rt: &R, port: u16) -> io::Result<()>
+where
+    R: Net<Listener = TcpListener, Stream = TcpStream> + Clock + Abort,
+{
+    let mut stream = connect(rt, port)?;
+    let other = SocketAddr::V4(SocketAddrV4::new(Ipv4Addr::new(127, 0, 0, 2), port));
+    assert!(rt; rt.connect(other).is_err());
+    greet(rt, &mut stream)
+}
+
+#[test]
+fn no_other_address_is_listened_on(rt: HostRuntime) -> Result<(), Fail> {
+    with_server(
+        &rt,
+        rt.alloc(),
+        ONE_NODE,
+        1,
+        |port| local_alone(&rt, port),
+        |ended| closes_with(&rt, ended, 1),
+    )
+}
+
+/// A peer that goes away while an answer has come of which it has read one byte. So its connection is reset.
+fn reset(rt: &impl Abort, stream: TcpStream, lines: &[u8], first: &[u8]) -> io::Result<()> {
+    let mut stream = stream;
+    stream.write_all(lines)?;
+    comes(rt, &mut stream, first)
+}
+
+/// Serves that connection.
+fn serve_stream<R: Threads + Wait + Sync>(
+    rt: &R,
+    alloc: Global,
+    stream: &TcpStream,
+    engine: &Engine,
+    session: &mut Session,
+) -> Result<u64, ServeFault> {
+    let mut source = SocketSource::new(stream);
+    let mut sink = SocketSink::new(stream);
+    serve(rt, alloc, &mut source, &mut sink, engine, session)
+}
+
+#[test]
+fn a_connection_that_is_reset_has_not_ended(rt: HostRuntime) -> Result<(), Fail> {
+    let listener = rt.bind(address(0))?;
+    let peer = connect(&rt, listener.local_addr()?.port())?;
+    let (stream, _) = listener.accept()?;
+    with_engine_on_threads(
+        &rt,
+        rt.alloc(),
+        ONE_NODE,
+        &[],
+        |engine, session| serve_stream(&rt, rt.alloc(), &stream, engine, session),
+        |_, _| reset(&rt, peer, b"hello\n", b"{"),
+        |served, left, _| {
+            assert!(rt; left.is_ok(), "the peer fails");
+            assert_eq!(rt; served, Err(ServeFault::ReadFailed));
+            Ok(())
+        },
+    )
+}
+
+/// A peer asks for a call, and its connection is reset; then another one comes.
+fn one_is_reset<R>(rt: &R, port: u16) -> io::Result<()>
+where
+    R: Net<Listener = TcpListener, Stream = TcpStream> + Clock + Abort,
+{
+    let (lines, _) = split_lines(LINES, 2);
+    reset(rt, connect(rt, port)?, lines, BOUNDS)?;
+    let mut second = connect(rt, port)?;
+    greet(rt, &mut second)
+}
+
+#[test]
+fn the_session_of_a_connection_that_is_reset_is_answered(rt: HostRuntime) -> Result<(), Fail> {
+    with_server(
+        &rt,
+        rt.alloc(),
+        ONE_NODE,
+        2,
+        |port| one_is_reset(&rt, port),
+        |ended| closes_with(&rt, ended, 2),
+    )
+}
+
+/// Nine connections, each of which is told that there is no session for it, and ended.
+fn nine_are_refused<R>(rt: &R, port: u16) -> io::Result<()>
+where
+    R: Net<Listener = TcpListener, Stream = TcpStream> + Clock + Abort,
+{
+    for _ in 0..9u32 {
+        let mut stream = connect(rt, port)?;
+        comes(rt, &mut stream, b"{\"error\":[821]}\n")?;
+        ends(rt, &mut stream)?;
+    }
     Ok(())
+}
+
+#[test]
+fn connections_without_a_session_are_told_so_and_ended(rt: HostRuntime) -> Result<(), Fail> {
+    with_callers(
+        &rt,
+        rt.alloc(),
+        ONE_NODE,
+        &[],
+        |engine| {
+            use_up_sessions(&rt, rt.alloc(), engine);
+            listening(
+                &rt,
+                rt.alloc(),
+                engine,
+                9,
+                |port| nine_are_refused(&rt, port),
+            )
+        },
+        |ended| closes_with(&rt, ended, 0),
+    )
 }

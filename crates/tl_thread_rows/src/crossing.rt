@@ -1,24 +1,20 @@
 //! Two calls that a gate lets cross: each is held in the midst of its turns until the other one has gone on.
 
-use crate::closing::{audited, batch, closed_with, closed_with_both, engine_of, request};
+use crate::signal::Signal;
 use std::alloc::Global;
 use std::process::Abort;
 use std::sync::Wait;
-use std::sync::atomic::{AtomicBool, Ordering};
 use std::test::Fail;
-use std::thread;
 use std::thread::Threads;
-use tl_core::Core;
+use tl_commands::run_cmd;
 use tl_examples::{FORK, LOOK};
 use tl_protocol::Event;
 use tl_table::Receipt;
-use tl_workers::{Engine, Gate, Refusal, Request, Session};
+use tl_trials::{Asked, Ended, batch, with_engine, with_engine_on_threads};
+use tl_workers::{Engine, Gate, Refusal, Session};
 
 /// How often two calls cross.
 const RUNS: u32 = 20;
-
-/// How often a thread that is held looks whether it may go on.
-const LOOKS: u32 = 1_000_000;
 
 /// Where in its second turn call 0 is held: before it, or after its local instructions.
 #[derive(Clone, Copy, Debug, PartialEq, Eq)]
@@ -32,44 +28,37 @@ enum Point {
 #[derive(Drop)]
 struct Crossing {
     point: Point,
-    has_come: AtomicBool,
-    was_answered: AtomicBool,
-    is_late: AtomicBool,
+    has_come: Signal,
+    was_answered: Signal,
 }
 
 impl Crossing {
     fn new(point: Point) -> Crossing {
         Crossing {
             point,
-            has_come: AtomicBool::new(false),
-            was_answered: AtomicBool::new(false),
-            is_late: AtomicBool::new(false),
+            has_come: Signal::new(),
+            was_answered: Signal::new(),
         }
     }
 
     // Call 0 has come to a point of its second turn.
     fn come_to(&self, point: Point) {
         if point == self.point {
-            self.has_come.store(true, Ordering::SeqCst);
-            self.hold_until(&self.was_answered);
+            self.has_come.tell();
+            self.was_answered.wait();
         }
     }
 
-    fn hold_until(&self, told: &AtomicBool) {
-        for _ in 0..LOOKS {
-            if told.load(Ordering::SeqCst) {
-                return;
-            }
-            thread::yield_now();
-        }
-        self.is_late.store(true, Ordering::SeqCst);
+    // Neither call was held for too long.
+    fn came_in_time(&self) -> bool {
+        self.has_come.came_in_time() && self.was_answered.came_in_time()
     }
 }
 
 impl Gate for Crossing {
     fn pass(&self, call: u32, turn: u64) {
         match (call, turn) {
-            (1, 1) => self.hold_until(&self.has_come),
+            (1, 1) => self.has_come.wait(),
             (0, 2) => self.come_to(Point::Pass),
             _ => {}
         }
@@ -83,7 +72,7 @@ impl Gate for Crossing {
 
     fn answered(&self, call: u32) {
         if call == 1 {
-            self.was_answered.store(true, Ordering::SeqCst);
+            self.was_answered.tell();
         }
     }
 }
@@ -91,25 +80,30 @@ impl Gate for Crossing {
 /// Locks, frees and ends, each with its call: call 1 locks, frees and ends while call 0 holds its node.
 const CROSSED: [(char, u32); 6] = [('l', 0), ('l', 1), ('f', 1), ('d', 1), ('f', 0), ('d', 0)];
 
-/// The locks, frees and ends of a core's calls.
-fn told(alloc: Global, core: &Core) -> Result<Vec<(char, u32)>, Fail> {
-    let mut told = Vec::new(alloc);
-    for event in core.history().events() {
-        match *event {
-            Event::Admit { .. } => {}
-            Event::Lock { call, .. } => told.push(('l', call))?,
-            Event::Free { call, .. } => told.push(('f', call))?,
-            Event::Done { call } => told.push(('d', call))?,
-        }
+/// A lock, a free or an end, with its call.
+fn told(event: &Event) -> Option<(char, u32)> {
+    match *event {
+        Event::Admit { .. } => None,
+        Event::Lock { call, .. } => Some(('l', call)),
+        Event::Free { call, .. } => Some(('f', call)),
+        Event::Done { call } => Some(('d', call)),
     }
-    Ok(told)
 }
 
-/// The calls have crossed, and what they have done is clean.
-fn crossed(rt: &impl Abort, alloc: Global, core: &Core) -> Result<(), Fail> {
-    assert_eq!(rt; told(alloc, core)?.as_slice(), CROSSED.as_slice());
-    audited(alloc, core)?;
-    Ok(())
+/// The calls have crossed.
+fn crossed(rt: &impl Abort, ended: &Ended) {
+    let mut left = CROSSED.as_slice();
+    for event in ended.events() {
+        if let Some(step) = told(event) {
+            let Some((next, later)) = left.split_first() else {
+                assert!(rt; false, "a step more");
+                return;
+            };
+            assert_eq!(rt; step, *next);
+            left = later;
+        }
+    }
+    assert!(rt; left.is_empty());
 }
 
 /// A look at that node of the fork finds ten times its number.
@@ -126,25 +120,22 @@ fn found(rt: &impl Abort, node: i64, answer: &Result<Receipt, Refusal>) {
 }
 
 /// Looks at nodes 1 and 2.
-fn two_looks(alloc: Global) -> Result<Vec<Request>, Fail> {
-    let mut looks = Vec::new(alloc);
-    looks.push(request(alloc, "look", &[1])?)?;
-    looks.push(request(alloc, "look", &[2])?)?;
-    Ok(looks)
-}
+const LOOKED: [Asked<'static>; 2] = [(1, "look", &[1]), (1, "look", &[2])];
 
 /// Two looks cross in a batch of this session.
 fn cross_in_a_batch<R: Threads + Wait + Abort + Sync>(
     rt: &R,
     alloc: Global,
     engine: &Engine,
-    session: &mut Session,
+    sessions: &mut [Session],
     point: Point,
 ) -> Result<(), Fail> {
+    let [session] = sessions else {
+        return Err("not one session".into());
+    };
     let gate = Crossing::new(point);
-    let looks = two_looks(alloc)?;
-    let answers = batch(rt, alloc, engine, session, &looks, 2, &gate)?;
-    assert!(rt; !gate.is_late.load(Ordering::SeqCst));
+    let answers = batch(rt, alloc, engine, session, &LOOKED, 2, &gate)?;
+    assert!(rt; gate.came_in_time());
     assert_eq!(rt; answers.len(), 2);
     found(rt, 1, &answers[0]);
     found(rt, 2, &answers[1]);
@@ -157,11 +148,18 @@ fn two_workers_cross<R: Threads + Wait + Abort + Sync>(
     alloc: Global,
     point: Point,
 ) -> Result<(), Fail> {
-    let engine = engine_of(rt, alloc, FORK, "look", LOOK)?;
-    let mut session = engine.session(rt, alloc)?;
-    cross_in_a_batch(rt, alloc, &engine, &mut session, point)?;
-    let closed = closed_with(alloc, engine, session)?;
-    crossed(rt, alloc, closed.core())
+    with_engine(
+        rt,
+        alloc,
+        FORK,
+        &[("look", LOOK)],
+        1,
+        |engine, sessions| cross_in_a_batch(rt, alloc, engine, sessions, point),
+        |_, ended| {
+            crossed(rt, ended);
+            Ok(())
+        },
+    )
 }
 
 #[test]
@@ -180,38 +178,17 @@ fn a_gate_shows_local_parts_of_two_workers(rt: HostRuntime) -> Result<(), Fail> 
     Ok(())
 }
 
-/// Looks at the node on this thread, and gives the session back.
+/// Looks at the node on this thread.
 fn look(
     rt: &(impl Wait + Abort),
     alloc: Global,
     engine: &Engine,
-    session: Session,
+    session: &mut Session,
     node: i64,
     gate: &Crossing,
-) -> Session {
-    let mut session = session;
-    let answer = engine.call(rt, alloc, &mut session, "look", &[node], gate);
+) {
+    let answer = engine.call(rt, alloc, session, "look", &[node], gate);
     found(rt, node, &answer);
-    session
-}
-
-/// Two looks cross on threads of their own. Gives the sessions back.
-fn cross_on_threads<R: Threads + Wait + Abort + Sync>(
-    rt: &R,
-    alloc: Global,
-    engine: &Engine,
-    one: Session,
-    other: Session,
-    point: Point,
-) -> (Session, Session) {
-    let gate = Crossing::new(point);
-    let sessions = thread::join(
-        rt,
-        || look(rt, alloc, engine, one, 1, &gate),
-        || look(rt, alloc, engine, other, 2, &gate),
-    );
-    assert!(rt; !gate.is_late.load(Ordering::SeqCst));
-    sessions
 }
 
 /// Two threads of their own ask a new engine for a look each.
@@ -220,12 +197,20 @@ fn two_calls_cross<R: Threads + Wait + Abort + Sync>(
     alloc: Global,
     point: Point,
 ) -> Result<(), Fail> {
-    let engine = engine_of(rt, alloc, FORK, "look", LOOK)?;
-    let one = engine.session(rt, alloc)?;
-    let other = engine.session(rt, alloc)?;
-    let (one, other) = cross_on_threads(rt, alloc, &engine, one, other, point);
-    let closed = closed_with_both(alloc, engine, one, other)?;
-    crossed(rt, alloc, closed.core())
+    let gate = Crossing::new(point);
+    with_engine_on_threads(
+        rt,
+        alloc,
+        FORK,
+        &[("look", LOOK)],
+        |engine, session| look(rt, alloc, engine, session, 1, &gate),
+        |engine, session| look(rt, alloc, engine, session, 2, &gate),
+        |_, _, ended| {
+            assert!(rt; gate.came_in_time());
+            crossed(rt, ended);
+            Ok(())
+        },
+    )
 }
 
 #[test]
@@ -240,6 +225,35 @@ fn a_gate_shows_two_calls_on_threads(rt: HostRuntime) -> Result<(), Fail> {
 fn a_gate_shows_local_parts_of_two_calls(rt: HostRuntime) -> Result<(), Fail> {
     for _ in 0..RUNS {
         two_calls_cross(&rt, rt.alloc(), Point::Ready)?;
+    }
+    Ok(())
+}
+
+/// The two looks as a script.
+const SCRIPT: &[u8] =
+    b"{\"calls\":[[\"look\",[1]],[\"look\",[2]]],\"procs\":[[\"look\",\"arity 1\\nfirst n0 v0 else L4\\nget v1 n0 0\\nemit v1\\nrel n0\\nL4:\\nret\"]]}";
+
+/// What a run of it prints.
+const PRINTED: &str =
+    "{\"batch\":[{\"call\":0,\"reply\":[10]},{\"call\":1,\"reply\":[20]}]}\n{\"order\":[0,1]}\n{\"parents\":[0,0,0],\"records\":[[0,0,0,0],[10,0,0,0],[20,0,0,0]]}\n";
+
+/// Two workers run a look each of the script.
+fn two_workers_of_a_run_cross<R: Threads + Wait + Abort + Sync>(
+    rt: &R,
+    alloc: Global,
+    point: Point,
+) -> Result<(), Fail> {
+    let gate = Crossing::new(point);
+    let printed = run_cmd(rt, alloc, FORK.as_bytes(), SCRIPT, 2, &gate)?;
+    assert_eq!(rt; printed.as_str(), PRINTED);
+    assert!(rt; gate.came_in_time());
+    Ok(())
+}
+
+#[test]
+fn a_gate_shows_two_workers_of_a_run(rt: HostRuntime) -> Result<(), Fail> {
+    for _ in 0..RUNS {
+        two_workers_of_a_run_cross(&rt, rt.alloc(), Point::Pass)?;
     }
     Ok(())
 }

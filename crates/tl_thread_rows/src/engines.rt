@@ -1,27 +1,24 @@
 //! Engines on one node: what sessions keep, and with which sessions an engine closes.
 
-use crate::closing::{audited, batch, closed_with, engine_of, requests};
 use std::alloc::Global;
 use std::process::Abort;
 use std::sync::Wait;
 use std::test::Fail;
-use std::thread;
 use std::thread::Threads;
-use tl_core::Core;
+use tl_commands::{CliFault, conclude_engine};
 use tl_examples::{ADD, ONE_NODE};
-use tl_table::{Closed, Receipt, Table};
+use tl_table::{Receipt, Table};
+use tl_trials::{
+    Ended, batch, end_exchanged, with_engine, with_engine_on_threads, with_exchanged_sessions,
+};
 use tl_workers::{Did, Engine, NoGate, Refusal, Session};
 
-/// An engine on a node whose field 0 is 5, with the procedure `add`.
-fn engine(rt: &impl Wait, alloc: Global) -> Result<Engine, Fail> {
-    engine_of(rt, alloc, ONE_NODE, "add", ADD)
-}
+/// The procedure `add`, on a node whose field 0 is 5.
+const PROCEDURES: [(&str, &str); 1] = [("add", ADD)];
 
-/// The record of the node is that, and what the calls have done is clean.
-fn ends_at(rt: &impl Abort, alloc: Global, core: &Core, sum: i64) -> Result<(), Fail> {
-    assert_eq!(rt; core.tree().records(), [[sum, 0, 0, 0]].as_slice());
-    audited(alloc, core)?;
-    Ok(())
+/// The record of the node is that.
+fn ends_at(rt: &impl Abort, ended: &Ended, sum: i64) {
+    assert_eq!(rt; ended.records(), [[sum, 0, 0, 0]].as_slice());
 }
 
 // ---- one session
@@ -44,12 +41,22 @@ fn five_calls<R: Threads + Wait + Abort + Sync>(
     rt: &R,
     alloc: Global,
     engine: &Engine,
-    session: &mut Session,
+    sessions: &mut [Session],
 ) -> Result<(), Fail> {
+    let [session] = sessions else {
+        return Err("not one session".into());
+    };
     let first = engine.call(rt, alloc, session, "add", &[0, 1], &NoGate)?;
     assert_eq!(rt; first.reply.as_slice(), [6].as_slice());
-    let four = requests(alloc, 4, "add", &[0, 1])?;
-    let answers = batch(rt, alloc, engine, session, &four, 2, &NoGate)?;
+    let answers = batch(
+        rt,
+        alloc,
+        engine,
+        session,
+        &[(4, "add", &[0, 1])],
+        2,
+        &NoGate,
+    )?;
     assert_eq!(rt; sum(&answers), 34);
     assert_eq!(rt; session.kept().len(), 10);
     Ok(())
@@ -57,11 +64,18 @@ fn five_calls<R: Threads + Wait + Abort + Sync>(
 
 #[test]
 fn calls_and_a_batch_are_kept_by_their_session(rt: HostRuntime) -> Result<(), Fail> {
-    let engine = engine(&rt, rt.alloc())?;
-    let mut session = engine.session(&rt, rt.alloc())?;
-    five_calls(&rt, rt.alloc(), &engine, &mut session)?;
-    let closed = closed_with(rt.alloc(), engine, session)?;
-    ends_at(&rt, rt.alloc(), closed.core(), 10)
+    with_engine(
+        &rt,
+        rt.alloc(),
+        ONE_NODE,
+        &PROCEDURES,
+        1,
+        |engine, sessions| five_calls(&rt, rt.alloc(), engine, sessions),
+        |_, ended| {
+            ends_at(&rt, ended, 10);
+            Ok(())
+        },
+    )
 }
 
 // ---- a session of another engine
@@ -75,37 +89,67 @@ fn has_one_call(rt: &impl Abort, table: &Table, given: &[i64]) {
 
 #[test]
 fn an_engine_closes_with_its_own_sessions_alone(rt: HostRuntime) -> Result<(), Fail> {
-    let own = engine(&rt, rt.alloc())?;
-    let other = engine(&rt, rt.alloc())?;
-    let mut own_session = own.session(&rt, rt.alloc())?;
-    let mut other_session = other.session(&rt, rt.alloc())?;
-    own.call(&rt, rt.alloc(), &mut own_session, "add", &[0, 1], &NoGate)?;
-    other.call(&rt, rt.alloc(), &mut other_session, "add", &[0, 2], &NoGate)?;
-    let mut sessions = Vec::new(rt.alloc());
-    sessions.push(other_session)?;
-    let Err((table, _)) = own.close(sessions) else {
-        return Err("closed with another engine's session".into());
+    with_exchanged_sessions(
+        &rt,
+        rt.alloc(),
+        ONE_NODE,
+        &PROCEDURES,
+        |own, session, other, other_session| {
+            own.call(&rt, rt.alloc(), session, "add", &[0, 1], &NoGate)?;
+            other.call(&rt, rt.alloc(), other_session, "add", &[0, 2], &NoGate)?;
+            Ok(())
+        },
+        |own, other| {
+            has_one_call(&rt, own, &[0, 1]);
+            has_one_call(&rt, other, &[0, 2]);
+            Ok(())
+        },
+    )
+}
+
+/// 831, and the exit status of a refusal.
+fn is_not_closed(rt: &impl Abort, concluded: &Result<String, CliFault>) {
+    let Err(fault) = concluded else {
+        assert!(rt; false, "closed with another engine's session");
+        return;
     };
-    has_one_call(&rt, &table, &[0, 1]);
+    assert_eq!(rt; fault.numbers().as_slice(), [831].as_slice());
+    assert_eq!(rt; fault.status(), 1);
+}
+
+// One engine has a call, and the other one none.
+#[test]
+fn nothing_is_concluded_with_another_session(rt: HostRuntime) -> Result<(), Fail> {
+    let (busy, quiet) = end_exchanged(
+        &rt,
+        rt.alloc(),
+        ONE_NODE,
+        &PROCEDURES,
+        |own, session, _, _| {
+            own.call(&rt, rt.alloc(), session, "add", &[0, 1], &NoGate)?;
+            Ok(())
+        },
+        |engine, sessions| conclude_engine(rt.alloc(), engine, sessions),
+    )?;
+    is_not_closed(&rt, &busy);
+    is_not_closed(&rt, &quiet);
     Ok(())
 }
 
 // ---- two sessions on threads of their own
 
-/// Asks for a hundred calls, one after another, each of which finds more than the one before. Gives the session back.
+/// Asks for a hundred calls, one after another, each of which finds more than the one before.
 fn a_hundred_calls(
     rt: &(impl Wait + Abort),
     alloc: Global,
     engine: &Engine,
-    session: Session,
-) -> Session {
-    let mut session = session;
+    session: &mut Session,
+) {
     let mut last = 5;
     for _ in 0..100 {
-        let answer = engine.call(rt, alloc, &mut session, "add", &[0, 1], &NoGate);
+        let answer = engine.call(rt, alloc, session, "add", &[0, 1], &NoGate);
         last = found_more(rt, last, &answer);
     }
-    session
 }
 
 /// What the call found and added to, which is more than that.
@@ -123,43 +167,35 @@ fn found_more(rt: &impl Abort, last: i64, answer: &Result<Receipt, Refusal>) -> 
 }
 
 /// The session asked for a hundred calls, and each receipt that it got stands.
-fn stand(rt: &impl Abort, closed: &Closed, session: &Session) {
+fn stand(rt: &impl Abort, ended: &Ended, session: &Session) {
     assert_eq!(rt; session.kept().len(), 200);
     for did in session.kept() {
         if let Did::Got(receipt) = did {
-            assert!(rt; closed.stands(receipt));
+            assert!(rt; ended.stands(receipt));
         }
     }
 }
 
-fn closes_with_both(
-    rt: &impl Abort,
-    alloc: Global,
-    engine: Engine,
-    one: Session,
-    other: Session,
-) -> Result<(), Fail> {
-    let mut sessions = Vec::new(alloc);
-    sessions.push(one)?;
-    sessions.push(other)?;
-    let Ok((closed, sessions)) = engine.close(sessions) else {
-        return Err("not closed".into());
-    };
-    for session in &sessions {
-        stand(rt, &closed, session);
+fn all_stand(rt: &impl Abort, ended: &Ended) {
+    assert_eq!(rt; ended.sessions().len(), 2);
+    for session in ended.sessions() {
+        stand(rt, ended, session);
     }
-    ends_at(rt, alloc, closed.core(), 205)
+    ends_at(rt, ended, 205);
 }
 
 #[test]
 fn two_sessions_ask_on_threads_of_their_own(rt: HostRuntime) -> Result<(), Fail> {
-    let engine = engine(&rt, rt.alloc())?;
-    let one = engine.session(&rt, rt.alloc())?;
-    let other = engine.session(&rt, rt.alloc())?;
-    let (one, other) = thread::join(
+    with_engine_on_threads(
         &rt,
-        || a_hundred_calls(&rt, rt.alloc(), &engine, one),
-        || a_hundred_calls(&rt, rt.alloc(), &engine, other),
-    );
-    closes_with_both(&rt, rt.alloc(), engine, one, other)
+        rt.alloc(),
+        ONE_NODE,
+        &PROCEDURES,
+        |engine, session| a_hundred_calls(&rt, rt.alloc(), engine, session),
+        |engine, session| a_hundred_calls(&rt, rt.alloc(), engine, session),
+        |_, _, ended| {
+            all_stand(&rt, ended);
+            Ok(())
+        },
+    )
 }

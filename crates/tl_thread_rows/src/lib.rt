@@ -1,12 +1,8 @@
-//! The tests of running threads: tables, and engines with the calls and batches of their sessions. Whoever closes an engine
-//! audits what its calls have done.
+//! The tests of running threads: tables, and engines with the calls and batches of their sessions.
 //!
-//! Each `?` and each end of a function that owns a table or an engine is dear to prove. So a function here does one thing, and
-//! most are lent what they work on.
+//! A function here owns no table and no engine: `tl_trials` makes them, lends them, and closes them.
 #![tactic(auto)]
 
-#[cfg(test)]
-mod closing;
 #[cfg(test)]
 mod crossing;
 #[cfg(test)]
@@ -16,6 +12,10 @@ mod limits;
 #[cfg(test)]
 mod ready;
 #[cfg(test)]
+mod signal;
+#[cfg(test)]
 mod sweeps;
 #[cfg(test)]
 mod tables;
+#[cfg(test)]
+mod waiting;

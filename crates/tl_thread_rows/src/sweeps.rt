@@ -1,18 +1,15 @@
 //! Calls that go down one path, each of which adds to every record on the way.
 
-use crate::closing::{
-    Answers, audited, batch, closed_with, closed_with_both, done, engine_of, request, requests,
-};
 use std::alloc::Global;
 use std::process::Abort;
 use std::sync::Wait;
 use std::test::Fail;
-use std::thread;
 use std::thread::Threads;
-use tl_core::{Core, CoreFault};
+use tl_core::CoreFault;
 use tl_examples::SWEEP;
 use tl_table::{Receipt, TableFault};
-use tl_workers::{Engine, NoGate, Refusal, Request, Session};
+use tl_trials::{Asked, Ended, batch, done, with_engine, with_engine_on_threads};
+use tl_workers::{Engine, NoGate, Refusal, Session};
 
 /// How often two calls sweep at once.
 const RUNS: u32 = 20;
@@ -20,22 +17,18 @@ const RUNS: u32 = 20;
 /// A root with a child that has a child.
 const PATH: &str = "{\"parents\":[0,0,1],\"records\":[[0,0,0,0],[0,0,0,0],[0,0,0,0]]}";
 
-/// Field 0 of each of the three records is that, and what the calls have done is clean. Gives their order.
-fn swept(rt: &impl Abort, alloc: Global, core: &Core, sum: i64) -> Result<Vec<u32>, Fail> {
-    assert_eq!(rt; core.tree().records(), [[sum, 0, 0, 0]; 3].as_slice());
-    let order = audited(alloc, core)?;
-    Ok(Vec::from_slice(alloc, order.calls())?)
+const PROCEDURES: [(&str, &str); 1] = [("sweep", SWEEP)];
+
+/// Field 0 of each of the three records is that.
+fn swept(rt: &impl Abort, ended: &Ended, sum: i64) {
+    assert_eq!(rt; ended.records(), [[sum, 0, 0, 0]; 3].as_slice());
+    assert_eq!(rt; ended.order(), ended.audited());
 }
 
 // ---- two calls
 
 /// Sweeps that add 1 and 10.
-fn two_sweeps(alloc: Global) -> Result<Vec<Request>, Fail> {
-    let mut sweeps = Vec::new(alloc);
-    sweeps.push(request(alloc, "sweep", &[1])?)?;
-    sweeps.push(request(alloc, "sweep", &[10])?)?;
-    Ok(sweeps)
-}
+const TWO: [Asked<'static>; 2] = [(1, "sweep", &[1]), (1, "sweep", &[10])];
 
 /// The answer is a receipt with an empty reply.
 fn says_nothing(rt: &impl Abort, answer: &Result<Receipt, Refusal>) {
@@ -50,10 +43,12 @@ fn sweep_twice<R: Threads + Wait + Abort + Sync>(
     rt: &R,
     alloc: Global,
     engine: &Engine,
-    session: &mut Session,
+    sessions: &mut [Session],
 ) -> Result<(), Fail> {
-    let sweeps = two_sweeps(alloc)?;
-    let answers = batch(rt, alloc, engine, session, &sweeps, 2, &NoGate)?;
+    let [session] = sessions else {
+        return Err("not one session".into());
+    };
+    let answers = batch(rt, alloc, engine, session, &TWO, 2, &NoGate)?;
     assert_eq!(rt; answers.len(), 2);
     for answer in &answers {
         says_nothing(rt, answer);
@@ -61,30 +56,39 @@ fn sweep_twice<R: Threads + Wait + Abort + Sync>(
     Ok(())
 }
 
+fn swept_twice(rt: &impl Abort, ended: &Ended) {
+    swept(rt, ended, 11);
+    let order = ended.order();
+    assert!(rt; order == [0, 1].as_slice() || order == [1, 0].as_slice());
+}
+
 #[test]
 fn two_calls_sweep_at_once(rt: HostRuntime) -> Result<(), Fail> {
     for _ in 0..RUNS {
-        let engine = engine_of(&rt, rt.alloc(), PATH, "sweep", SWEEP)?;
-        let mut session = engine.session(&rt, rt.alloc())?;
-        sweep_twice(&rt, rt.alloc(), &engine, &mut session)?;
-        let closed = closed_with(rt.alloc(), engine, session)?;
-        let order = swept(&rt, rt.alloc(), closed.core(), 11)?;
-        assert!(rt; order.as_slice() == [0, 1].as_slice() || order.as_slice() == [1, 0].as_slice());
+        with_engine(
+            &rt,
+            rt.alloc(),
+            PATH,
+            &PROCEDURES,
+            1,
+            |engine, sessions| sweep_twice(&rt, rt.alloc(), engine, sessions),
+            |_, ended| {
+                swept_twice(&rt, ended);
+                Ok(())
+            },
+        )?;
     }
     Ok(())
 }
 
 // ---- many calls and workers
 
-/// So many calls sweep, of which more are asked for than may be open. The last two requests are refused.
-const SWEEPS: usize = 250;
-
-fn many_sweeps(alloc: Global) -> Result<Vec<Request>, Fail> {
-    let mut sweeps = requests(alloc, SWEEPS, "sweep", &[1])?;
-    sweeps.push(request(alloc, "none", &[1])?)?;
-    sweeps.push(request(alloc, "sweep", &[1, 2])?)?;
-    Ok(sweeps)
-}
+/// More sweeps than may be open. The last two requests are refused.
+const MANY: [Asked<'static>; 3] = [
+    (250, "sweep", &[1]),
+    (1, "none", &[1]),
+    (1, "sweep", &[1, 2]),
+];
 
 fn refused(rt: &impl Abort, answer: &Result<Receipt, Refusal>, fault: CoreFault) {
     let Err(refusal) = answer else {
@@ -98,11 +102,13 @@ fn sweep_often<R: Threads + Wait + Abort + Sync>(
     rt: &R,
     alloc: Global,
     engine: &Engine,
-    session: &mut Session,
+    sessions: &mut [Session],
     workers: usize,
 ) -> Result<(), Fail> {
-    let sweeps = many_sweeps(alloc)?;
-    let answers = batch(rt, alloc, engine, session, &sweeps, workers, &NoGate)?;
+    let [session] = sessions else {
+        return Err("not one session".into());
+    };
+    let answers = batch(rt, alloc, engine, session, &MANY, workers, &NoGate)?;
     assert_eq!(rt; answers.len(), 252);
     assert_eq!(rt; done(&answers), 250);
     refused(rt, &answers[250], CoreFault::NoProcedure);
@@ -114,59 +120,64 @@ fn sweep_often<R: Threads + Wait + Abort + Sync>(
 #[test]
 fn many_workers_sweep(rt: HostRuntime) -> Result<(), Fail> {
     for workers in 1..17 {
-        let engine = engine_of(&rt, rt.alloc(), PATH, "sweep", SWEEP)?;
-        let mut session = engine.session(&rt, rt.alloc())?;
-        sweep_often(&rt, rt.alloc(), &engine, &mut session, workers)?;
-        let closed = closed_with(rt.alloc(), engine, session)?;
-        swept(&rt, rt.alloc(), closed.core(), 250)?;
+        with_engine(
+            &rt,
+            rt.alloc(),
+            PATH,
+            &PROCEDURES,
+            1,
+            |engine, sessions| sweep_often(&rt, rt.alloc(), engine, sessions, workers),
+            |_, ended| {
+                swept(&rt, ended, 250);
+                Ok(())
+            },
+        )?;
     }
     Ok(())
 }
 
 // ---- two batches
 
-/// Runs a batch of sweeps, and gives the session back.
+/// A hundred sweeps.
+const HUNDRED: [Asked<'static>; 1] = [(100, "sweep", &[1])];
+
+/// Runs a batch of sweeps, and answers how many were done.
 fn sweep_in_turn<R: Threads + Wait + Abort + Sync>(
     rt: &R,
     alloc: Global,
     engine: &Engine,
-    session: Session,
-    sweeps: &[Request],
-) -> (Session, Result<Answers, Refusal>) {
-    let mut session = session;
-    let answers = batch(rt, alloc, engine, &mut session, sweeps, 3, &NoGate);
-    (session, answers)
+    session: &mut Session,
+) -> i64 {
+    let Ok(answers) = batch(rt, alloc, engine, session, &HUNDRED, 3, &NoGate) else {
+        assert!(rt; false, "a batch is refused");
+        return 0;
+    };
+    done(&answers)
 }
 
-/// Two batches of sweeps at once. Gives the sessions back, and how many sweeps were done: at least those of one batch, since
-/// a request is refused only while 64 calls of the other batch are open.
-fn sweep_in_two_batches<R: Threads + Wait + Abort + Sync>(
-    rt: &R,
-    alloc: Global,
-    engine: &Engine,
-    one: Session,
-    other: Session,
-) -> Result<(Session, Session, i64), Fail> {
-    let sweeps = requests(alloc, 100, "sweep", &[1])?;
-    let ((one, first), (other, second)) = thread::join(
-        rt,
-        || sweep_in_turn(rt, alloc, engine, one, &sweeps),
-        || sweep_in_turn(rt, alloc, engine, other, &sweeps),
-    );
-    let sum = done(&first?).saturating_add(done(&second?));
+/// So many sweeps were done in two batches at once: at least those of one batch, since a request is refused only while 64 calls of the
+/// other batch are open.
+fn swept_in_two_batches(rt: &impl Abort, ended: &Ended, first: i64, second: i64) {
+    let sum = first.saturating_add(second);
     assert!(rt; sum >= 100);
-    Ok((one, other, sum))
+    swept(rt, ended, sum);
 }
 
 #[test]
 fn two_batches_sweep_at_once(rt: HostRuntime) -> Result<(), Fail> {
     for _ in 0..RUNS {
-        let engine = engine_of(&rt, rt.alloc(), PATH, "sweep", SWEEP)?;
-        let one = engine.session(&rt, rt.alloc())?;
-        let other = engine.session(&rt, rt.alloc())?;
-        let (one, other, sum) = sweep_in_two_batches(&rt, rt.alloc(), &engine, one, other)?;
-        let closed = closed_with_both(rt.alloc(), engine, one, other)?;
-        swept(&rt, rt.alloc(), closed.core(), sum)?;
+        with_engine_on_threads(
+            &rt,
+            rt.alloc(),
+            PATH,
+            &PROCEDURES,
+            |engine, session| sweep_in_turn(&rt, rt.alloc(), engine, session),
+            |engine, session| sweep_in_turn(&rt, rt.alloc(), engine, session),
+            |first, second, ended| {
+                swept_in_two_batches(&rt, ended, first, second);
+                Ok(())
+            },
+        )?;
     }
     Ok(())
 }

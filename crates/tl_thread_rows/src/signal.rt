@@ -1,0 +1,43 @@
+//! What one thread tells another one.
+
+use std::sync::atomic::{AtomicBool, Ordering};
+use std::thread;
+
+/// How often a thread that waits looks whether it may go on.
+const LOOKS: u32 = 1_000_000;
+
+/// Told by one thread, and waited for by another one, but not for ever.
+#[derive(Drop)]
+pub struct Signal {
+    was_told: AtomicBool,
+    is_late: AtomicBool,
+}
+
+impl Signal {
+    pub fn new() -> Signal {
+        Signal {
+            was_told: AtomicBool::new(false),
+            is_late: AtomicBool::new(false),
+        }
+    }
+
+    pub fn tell(&self) {
+        self.was_told.store(true, Ordering::SeqCst);
+    }
+
+    /// Returns once it was told, or too late.
+    pub fn wait(&self) {
+        for _ in 0..LOOKS {
+            if self.was_told.load(Ordering::SeqCst) {
+                return;
+            }
+            thread::yield_now();
+        }
+        self.is_late.store(true, Ordering::SeqCst);
+    }
+
+    /// It was told, and whoever waited for it was told in time.
+    pub fn came_in_time(&self) -> bool {
+        self.was_told.load(Ordering::SeqCst) && !self.is_late.load(Ordering::SeqCst)
+    }
+}

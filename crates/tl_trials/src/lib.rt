@@ -1,0 +1,22 @@
+//! The owners of what tests run.
+//!
+//! A table, an engine or its sessions are made here, lent to what a test does with them, and closed; then a test is lent what
+//! the closed table says. How a value is let go is proved once for each crate that lets go of one, and at each way out of
+//! a function that owns one. So a test owns none of these, and its `?` stand where it owns nothing.
+//!
+//! Whoever closes a table here audits what its calls have done.
+#![tactic(auto)]
+
+mod asking;
+mod ended;
+mod engine;
+mod exchange;
+mod ready;
+mod table;
+
+pub use asking::{Answers, Asked, batch, done};
+pub use ended::Ended;
+pub use engine::{use_up_sessions, with_callers, with_engine, with_engine_on_threads};
+pub use exchange::{end_exchanged, with_exchanged_sessions};
+pub use ready::with_ready;
+pub use table::{receipt_of, with_table};
