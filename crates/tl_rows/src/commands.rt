@@ -3,6 +3,7 @@
 
 use crate::{alone as alone_rows, audit, containers, drive, procedures, run};
 use std::alloc::{AllocError, Global};
+use std::process::Abort;
 use std::sync::Wait;
 use std::test::Fail;
 use std::thread::Threads;
@@ -131,28 +132,49 @@ fn answer(alloc: Global, printed: Result<String, CliFault>) -> Result<String, Fa
     }
 }
 
-#[test]
-fn each_command_answers_what_its_row_says(rt: HostRuntime) -> Result<(), Fail> {
+/// What the row's command answers.
+fn answered<R: Threads + Wait + Sync + AllocGlobal>(
+    rt: &R,
+    command: &Command,
+) -> Result<String, Fail> {
     let alloc = rt.alloc();
-    let tables: [(&str, &[Row]); 6] = [
-        ("procedures", &procedures::ROWS),
-        ("containers", &containers::ROWS),
-        ("alone", &alone_rows::ROWS),
-        ("drive", &drive::ROWS),
-        ("run", &run::ROWS),
-        ("audit", &audit::ROWS),
-    ];
-    for (table, rows) in tables {
-        for (number, row) in rows.iter().enumerate() {
-            let file = file_of(alloc, &row.0)?;
-            let found = answer(alloc, printed(&rt, &row.0, &file))?;
-            let expected = row.1.concat(alloc)?;
-            assert_eq!(rt;
-                found.as_str(),
-                expected.as_str(),
-                "row {number} of {table}"
-            );
-        }
+    let file = file_of(alloc, command)?;
+    answer(alloc, printed(rt, command, &file))
+}
+
+fn row_answers<R: Threads + Wait + Sync + AllocGlobal + Abort>(
+    rt: &R,
+    table: &str,
+    number: usize,
+    row: &Row,
+) -> Result<(), Fail> {
+    let found = answered(rt, &row.0)?;
+    let expected = row.1.concat(rt.alloc())?;
+    assert_eq!(rt;
+        found.as_str(),
+        expected.as_str(),
+        "row {number} of {table}"
+    );
+    Ok(())
+}
+
+fn table_answers<R: Threads + Wait + Sync + AllocGlobal + Abort>(
+    rt: &R,
+    table: &str,
+    rows: &[Row],
+) -> Result<(), Fail> {
+    for (number, row) in rows.iter().enumerate() {
+        row_answers(rt, table, number, row)?;
     }
     Ok(())
+}
+
+#[test]
+fn each_command_answers_what_its_row_says(rt: HostRuntime) -> Result<(), Fail> {
+    table_answers(&rt, "procedures", &procedures::ROWS)?;
+    table_answers(&rt, "containers", &containers::ROWS)?;
+    table_answers(&rt, "alone", &alone_rows::ROWS)?;
+    table_answers(&rt, "drive", &drive::ROWS)?;
+    table_answers(&rt, "run", &run::ROWS)?;
+    table_answers(&rt, "audit", &audit::ROWS)
 }
