@@ -76,7 +76,7 @@ const LEAVE_BOTH: &str =
 const ENDLESS: &str = "arity 0\nset v0 1\n";
 
 /// The reply and the steps, and the tree as it is then.
-pub static ROWS: [Row; 97] = [
+static ROWS: [Row; 97] = [
     (
         Alone(ONE_NODE, ADD, "[0,3]"),
         &[
@@ -582,3 +582,8 @@ pub static ROWS: [Row; 97] = [
         &["[106] 1"],
     ),
 ];
+
+/// The rows of this table.
+pub fn rows() -> &'static [Row] {
+    &ROWS
+}

@@ -83,7 +83,7 @@ pub const WHOLE: Parts = &[
 ];
 
 /// The order, or what is wrong first.
-pub static ROWS: [Row; 13] = [
+static ROWS: [Row; 13] = [
     // The trail as it is.
     (Audit(WHOLE), &["{\"order\":[2,0,1]}\n"]),
     // Event 3 is taken out.
@@ -183,3 +183,8 @@ pub static ROWS: [Row; 13] = [
         &["[701] 1"],
     ),
 ];
+
+/// The rows of this table.
+pub fn rows() -> &'static [Row] {
+    &ROWS
+}

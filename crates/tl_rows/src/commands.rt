@@ -171,10 +171,10 @@ fn table_answers<R: Threads + Wait + Sync + AllocGlobal + Abort>(
 
 #[test]
 fn each_command_answers_what_its_row_says(rt: HostRuntime) -> Result<(), Fail> {
-    table_answers(&rt, "procedures", &procedures::ROWS)?;
-    table_answers(&rt, "containers", &containers::ROWS)?;
-    table_answers(&rt, "alone", &alone_rows::ROWS)?;
-    table_answers(&rt, "drive", &drive::ROWS)?;
-    table_answers(&rt, "run", &run::ROWS)?;
-    table_answers(&rt, "audit", &audit::ROWS)
+    table_answers(&rt, "procedures", procedures::rows())?;
+    table_answers(&rt, "containers", containers::rows())?;
+    table_answers(&rt, "alone", alone_rows::rows())?;
+    table_answers(&rt, "drive", drive::rows())?;
+    table_answers(&rt, "run", run::rows())?;
+    table_answers(&rt, "audit", audit::rows())
 }

@@ -29,7 +29,7 @@ const TEXT_64: &str =
     "ret\nret\nret\nret\nret\nret\nret\nret\nret\nret\nret\nret\nret\nret\nret\nret\nret\nret\nret\nret\nret\nret\nret\nret\nret\nret\nret\nret\nret\nret\nret\nret\nret\nret\nret\nret\nret\nret\nret\nret\nret\nret\nret\nret\nret\nret\nret\nret\nret\nret\nret\nret\nret\nret\nret\nret\nret\nret\nret\nret\nret\nret\nret\nret\n";
 
 /// The text, or what is wrong first; or the bounds.
-pub static ROWS: [Row; 26] = [
+static ROWS: [Row; 26] = [
     (Dis(&[HEAD, FIRST, GET, SUM, PUT, EMIT, REL, RET]), &[ADD]),
     (
         Bounds(&[HEAD, FIRST, GET, SUM, PUT, EMIT, REL, RET]),
@@ -244,3 +244,8 @@ pub static ROWS: [Row; 26] = [
         &["[205] 1"],
     ),
 ];
+
+/// The rows of this table.
+pub fn rows() -> &'static [Row] {
+    &ROWS
+}

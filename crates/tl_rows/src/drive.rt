@@ -19,7 +19,7 @@ const WIDE: &str =
 const LOOKS_16: &str =
     "[\"look\",[-1]],[\"look\",[-1]],[\"look\",[-1]],[\"look\",[-1]],[\"look\",[-1]],[\"look\",[-1]],[\"look\",[-1]],[\"look\",[-1]],[\"look\",[-1]],[\"look\",[-1]],[\"look\",[-1]],[\"look\",[-1]],[\"look\",[-1]],[\"look\",[-1]],[\"look\",[-1]],[\"look\",[-1]],";
 
-pub static ROWS: [Row; 41] = [
+static ROWS: [Row; 41] = [
     // Call 2 comes to node 2 before call 0, which began first.
     (
         Drive(
@@ -405,3 +405,8 @@ pub static ROWS: [Row; 41] = [
         &["{\"order\":[0]}\n"],
     ),
 ];
+
+/// The rows of this table.
+pub fn rows() -> &'static [Row] {
+    &ROWS
+}

@@ -16,7 +16,7 @@ const RETS_64: &str =
     "ret\nret\nret\nret\nret\nret\nret\nret\nret\nret\nret\nret\nret\nret\nret\nret\nret\nret\nret\nret\nret\nret\nret\nret\nret\nret\nret\nret\nret\nret\nret\nret\nret\nret\nret\nret\nret\nret\nret\nret\nret\nret\nret\nret\nret\nret\nret\nret\nret\nret\nret\nret\nret\nret\nret\nret\nret\nret\nret\nret\nret\nret\nret\nret\n";
 
 /// The count of instructions, and the text that is written for the code; what the verifier says; or what the assembler says.
-pub static ROWS: [Row; 94] = [
+static ROWS: [Row; 94] = [
     (Listed(ADD), &["{\"count\":7}\n", ADD]),
     (
         Verify(ADD),
@@ -312,3 +312,8 @@ pub static ROWS: [Row; 94] = [
         &["[254] 1"],
     ),
 ];
+
+/// The rows of this table.
+pub fn rows() -> &'static [Row] {
+    &ROWS
+}

@@ -15,7 +15,7 @@ const CALLS: &str = "{\"calls\":[";
 const ECHO: &str = "],\"procs\":[[\"echo\",\"arity 1\\nemit v0\\nret\"]]}";
 
 /// The answers, the order and the tree, or what is wrong first.
-pub static ROWS: [Row; 13] = [
+static ROWS: [Row; 13] = [
     (
         Run(
             ONE_NODE,
@@ -92,4 +92,9 @@ fn two_sweeps_run_at_once(rt: HostRuntime) -> Result<(), Fail> {
     let expected = [batch, order.as_str(), tree].concat(alloc)?;
     assert_eq!(rt; lines.as_str(), expected.as_str());
     Ok(())
+}
+
+/// The rows of this table.
+pub fn rows() -> &'static [Row] {
+    &ROWS
 }
