@@ -29,11 +29,11 @@ impl Schedule {
     }
 
     fn lock(&mut self, call: u32) {
-        self.events.push(Event::Lock { call, node: self.nodes[call as usize], record: [0; 4] });
+        self.events.push(Event::Lock { call, node: self.nodes[call as usize], record: [0; 8] });
     }
 
     fn leave(&mut self, call: u32) {
-        self.events.push(Event::Free { call, node: self.nodes[call as usize], record: [0; 4] });
+        self.events.push(Event::Free { call, node: self.nodes[call as usize], record: [0; 8] });
         self.events.push(Event::Done { call });
     }
 
@@ -54,7 +54,7 @@ impl Schedule {
 
     /// The trail's text on the tree of these parents.
     fn text(self, parents: Vec<u16>) -> Option<String> {
-        let tree = Tree::new(parents, vec![[0; 4]; usize::from(NODES)]).ok()?;
+        let tree = Tree::new(parents, vec![[0; 8]; usize::from(NODES)]).ok()?;
         let mut procedures = Procedures::default();
         procedures.add("touch", verify(decode(&codes::touch()).ok()?).ok()?).ok()?;
         let told = |node: &u16| ToldCall { procedure: 0, args: vec![i64::from(*node)], reply: Some(Vec::new()) };

@@ -120,9 +120,9 @@ impl Drop for Statement<'_> {
 /// A table of the tree's nodes, each with its number among its siblings.
 fn filled(parents: &[u16]) -> Option<Database> {
     let database = Database::open(Library::find()?)?;
-    database.run("CREATE TABLE nodes (id INTEGER PRIMARY KEY, parent INTEGER, number INTEGER, a INTEGER, b INTEGER, c INTEGER, d INTEGER)")?;
+    database.run("CREATE TABLE nodes (id INTEGER PRIMARY KEY, parent INTEGER, number INTEGER, a INTEGER, b INTEGER, c INTEGER, d INTEGER, e INTEGER, f INTEGER, g INTEGER, h INTEGER)")?;
     database.run("CREATE UNIQUE INDEX ways ON nodes (parent, number)")?;
-    let insert = database.prepare("INSERT INTO nodes VALUES (?1, ?2, ?3, ?1, 2 * ?1, 3 * ?1, 4 * ?1)")?;
+    let insert = database.prepare("INSERT INTO nodes VALUES (?1, ?2, ?3, ?1, 2 * ?1, 3 * ?1, 4 * ?1, 5 * ?1, 6 * ?1, 7 * ?1, 8 * ?1)")?;
     let mut children = vec![0; parents.len()];
     insert.run(&[0, -1, 0])?;
     for (node, &parent) in (0..).zip(parents).skip(1) {
@@ -174,7 +174,7 @@ fn run_all(database: &Database, args: &[i64], chain: u16, measured: &mut Measure
 
 fn mix_nodes(database: &Database, nodes: usize, measured: &mut Measured) -> Option<()> {
     let field = |name| database.prepare(&format!("SELECT {name} FROM nodes WHERE id = ?1"));
-    let fields = [field("a")?, field("b")?, field("c")?, field("d")?];
+    let fields = [field("a")?, field("b")?, field("c")?, field("d")?, field("e")?, field("f")?, field("g")?, field("h")?];
     for node in 0..nodes as i64 {
         for field in &fields {
             measured.mix(field.run(&[node])?? as u64);

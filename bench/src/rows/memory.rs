@@ -11,14 +11,14 @@ use crate::table::{Goal, Part, Row};
 use crate::trees::{chains, heads, CALLS, CHAIN, NODES};
 use crate::twin::turns as twin;
 
-/// What a stored event is at least: a kind, a call, a node and four fields.
-const EVENT: f64 = 39.0;
+/// What a stored event is at least: a kind, a call, a node and eight fields.
+const EVENT: f64 = 71.0;
 
 /// What a done call is at least: a procedure's number, eight arguments and 32 emitted values, and how many.
 const DONE_CALL: f64 = 326.0;
 
 /// What a node is at least: a parent, two records and a holder.
-const NODE: f64 = 71.0;
+const NODE: f64 = 135.0;
 
 /// Bytes on both sides: the product's, and the twin's.
 type Bytes = [f64; 2];

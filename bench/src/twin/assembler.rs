@@ -5,7 +5,7 @@ use std::collections::HashMap;
 use std::fmt::{self, Write};
 
 use super::fault::Fault;
-use super::instruction::{Code, Instruction, MAX_ARITY, MAX_INSTRUCTIONS, NODE_REGISTERS, VALUE_REGISTERS};
+use super::instruction::{Code, Instruction, Version, MAX_ARITY, MAX_INSTRUCTIONS, NODE_REGISTERS, VALUE_REGISTERS};
 use super::tree::FIELDS;
 
 const MAX_LABEL: usize = 32;
@@ -16,6 +16,7 @@ const MOST_WORDS: usize = 7;
 /// The lines so far, before targets are known.
 #[derive(Default)]
 struct Sketch<'a> {
+    version: Version,
     arity: Option<u8>,
     /// targets are 0
     instructions: Vec<Instruction>,
@@ -54,6 +55,10 @@ fn split<'a>(line: &'a str, words: &mut [&'a str; MOST_WORDS]) -> usize {
 
 impl<'a> Sketch<'a> {
     fn add(&mut self, words: &[&'a str], line: usize) -> Result<(), Fault> {
+        if self.arity.is_none() && self.version == Version::One && matches!(words, ["version", "2"]) {
+            self.version = Version::Two;
+            return Ok(());
+        }
         if self.arity.is_none() {
             self.arity = Some(arity_of(words).ok_or(Fault::at(251, line))?);
             return Ok(());
@@ -75,7 +80,7 @@ impl<'a> Sketch<'a> {
     }
 
     fn add_instruction(&mut self, words: &[&'a str], line: usize) -> Result<(), Fault> {
-        let instruction = instruction_of(words).ok_or(Fault::at(251, line))?;
+        let instruction = instruction_of(words).filter(|it| it.is_of(self.version)).ok_or(Fault::at(251, line))?;
         if self.instructions.len() == MAX_INSTRUCTIONS {
             return Err(Fault::plain(254));
         }
@@ -97,7 +102,7 @@ impl<'a> Sketch<'a> {
                 *target = position;
             }
         }
-        Ok(Code { arity, instructions: self.instructions })
+        Ok(Code { version: self.version, arity, instructions: self.instructions })
     }
 }
 
@@ -137,6 +142,7 @@ fn instruction_of(words: &[&str]) -> Option<Instruction> {
         ["jlt", x, y, l] => JumpIfLess { left: value(x)?, right: value(y)?, target: label(l)? },
         ["jeq", x, y, l] => JumpIfEqual { left: value(x)?, right: value(y)?, target: label(l)? },
         ["rep", w] => Repeat { count: number(w, 65_536)? },
+        ["repv", x, w] => RepeatBy { turns: value(x)?, count: number(w, 65_536)? },
         ["end"] => End,
         ["first", x, y, "else", l] => First { to: node(x)?, number: value(y)?, target: label(l)? },
         ["child", x, y, z, "else", l] => Child { to: node(x)?, parent: node(y)?, number: value(z)?, target: label(l)? },
@@ -190,6 +196,9 @@ pub fn disassemble(code: &Code) -> String {
 }
 
 fn write_lines(text: &mut String, code: &Code, is_target: &[bool]) -> fmt::Result {
+    if code.version == Version::Two {
+        writeln!(text, "version 2")?;
+    }
     writeln!(text, "arity {}", code.arity)?;
     for (position, instruction) in code.instructions.iter().enumerate() {
         if is_target[position] {
@@ -218,6 +227,7 @@ impl fmt::Display for Instruction {
             JumpIfLess { left, right, target } => write!(out, "jlt v{left} v{right} L{target}"),
             JumpIfEqual { left, right, target } => write!(out, "jeq v{left} v{right} L{target}"),
             Repeat { count } => write!(out, "rep {count}"),
+            RepeatBy { turns, count } => write!(out, "repv v{turns} {count}"),
             End => write!(out, "end"),
             First { to, number, target } => write!(out, "first n{to} v{number} else L{target}"),
             Child { to, parent, number, target } => write!(out, "child n{to} n{parent} v{number} else L{target}"),

@@ -1,14 +1,13 @@
-//! The twenty instructions, and codes as their containers have them.
+//! The twenty-one instructions, and codes as their containers have them.
 
 use super::fault::Fault;
-use super::tree::FIELDS;
+use super::tree::{FIELDS, NARROW_FIELDS};
 
 pub const VALUE_REGISTERS: usize = 16;
 pub const NODE_REGISTERS: usize = 8;
 pub const MAX_ARITY: usize = 8;
 pub const MAX_INSTRUCTIONS: usize = 1_024;
 
-const MAGIC: &[u8] = b"TLP1";
 const CELL: usize = 8;
 
 #[derive(Clone, Copy, Debug, PartialEq, Eq)]
@@ -23,6 +22,7 @@ pub enum Instruction {
     JumpIfLess { left: u8, right: u8, target: u16 },
     JumpIfEqual { left: u8, right: u8, target: u16 },
     Repeat { count: u16 },
+    RepeatBy { turns: u8, count: u16 },
     End,
     First { to: u8, number: u8, target: u16 },
     Child { to: u8, parent: u8, number: u8, target: u16 },
@@ -86,23 +86,55 @@ impl Instruction {
         }
     }
 
+    /// Whether the version has it.
+    pub fn is_of(&self, version: Version) -> bool {
+        match *self {
+            Instruction::RepeatBy { .. } => version == Version::Two,
+            Instruction::Get { field, .. } | Instruction::Put { field, .. } => usize::from(field) < version.fields(),
+            _ => true,
+        }
+    }
+
     /// Whether control may go on to the next position.
     pub fn goes_on(&self) -> bool {
         !matches!(self, Instruction::Jump { .. } | Instruction::Return)
     }
 }
 
+#[derive(Clone, Copy, Debug, Default, PartialEq, Eq)]
+pub enum Version {
+    #[default]
+    One,
+    Two,
+}
+
+impl Version {
+    fn of_magic(bytes: &[u8]) -> Option<Version> {
+        match bytes.first_chunk()? {
+            b"TLP1" => Some(Version::One),
+            b"TLP2" => Some(Version::Two),
+            _ => None,
+        }
+    }
+
+    fn fields(self) -> usize {
+        match self {
+            Version::One => NARROW_FIELDS,
+            Version::Two => FIELDS,
+        }
+    }
+}
+
 #[derive(Clone, Debug, PartialEq, Eq)]
 pub struct Code {
+    pub version: Version,
     pub arity: u8,
     pub instructions: Vec<Instruction>,
 }
 
 /// The code of a container.
 pub fn decode(bytes: &[u8]) -> Result<Code, Fault> {
-    if !bytes.starts_with(MAGIC) {
-        return Err(Fault::plain(201));
-    }
+    let version = Version::of_magic(bytes).ok_or(Fault::plain(201))?;
     if bytes.len() < CELL {
         return Err(Fault::plain(202));
     }
@@ -120,9 +152,9 @@ pub fn decode(bytes: &[u8]) -> Result<Code, Fault> {
     }
     let mut instructions = Vec::with_capacity(usize::from(count));
     for (position, cell) in cells.chunks_exact(CELL).enumerate() {
-        instructions.push(instruction_of(cell, count).map_err(|number| Fault::at(number, position))?);
+        instructions.push(instruction_of(cell, version, count).map_err(|number| Fault::at(number, position))?);
     }
-    Ok(Code { arity, instructions })
+    Ok(Code { version, arity, instructions })
 }
 
 /// What stands in the place of an operand.
@@ -170,21 +202,22 @@ fn operands(opcode: u8) -> Option<[Operand; 4]> {
         17 => [Node, Field, Value, Unused],
         18 => [Value, Node, Unused, Unused],
         19 => [Value, Unused, Unused, Unused],
+        21 => [Value, Unused, Unused, Count],
         _ => return None,
     })
 }
 
 /// The instruction of eight bytes in a code of `count` instructions, or the number of what is wrong.
-fn instruction_of(cell: &[u8], count: u16) -> Result<Instruction, u16> {
+fn instruction_of(cell: &[u8], version: Version, count: u16) -> Result<Instruction, u16> {
     let (opcode, x, y, z) = (cell[0], cell[1], cell[2], cell[3]);
     let w = u32::from_be_bytes([cell[4], cell[5], cell[6], cell[7]]);
-    let kinds = operands(opcode).ok_or(203u16)?;
+    let kinds = operands(opcode).filter(|_| opcode != 21 || version == Version::Two).ok_or(203u16)?;
     let found = [u32::from(x), u32::from(y), u32::from(z), w];
     if !kinds.iter().zip(found).all(|(kind, operand)| kind.takes(operand, count)) {
         return Err(204);
     }
     let target = w as u16;
-    Ok(match opcode {
+    let instruction = match opcode {
         1 => Instruction::Set { to: x, number: w as i32 },
         2 => Instruction::Copy { to: x, from: y },
         3 => Instruction::Add { to: x, left: y, right: z, target },
@@ -204,6 +237,8 @@ fn instruction_of(cell: &[u8], count: u16) -> Result<Instruction, u16> {
         17 => Instruction::Put { node: x, field: y, from: z },
         18 => Instruction::Kids { to: x, node: y },
         19 => Instruction::Emit { from: x },
+        21 => Instruction::RepeatBy { turns: x, count: w as u16 },
         _ => Instruction::Return,
-    })
+    };
+    if instruction.is_of(version) { Ok(instruction) } else { Err(204) }
 }

@@ -156,7 +156,7 @@ impl<'a> Parser<'a> {
     }
 
     /// Takes the byte, where it comes next behind space.
-    fn take(&mut self, byte: u8) -> bool {
+    pub fn take(&mut self, byte: u8) -> bool {
         self.skip_space();
         let is_next = self.peek() == Some(byte);
         if is_next {

@@ -4,7 +4,7 @@ use super::assembler::assemble;
 use super::core::{Event, Procedures, MAX_CALLS, MAX_EVENTS};
 use super::json::{self, Parser, Value};
 use super::trail::{ToldCall, Trail};
-use super::tree::{Record, Tree};
+use super::tree::{Record, Tree, FIELDS, NARROW_FIELDS};
 use super::verifier::verify;
 
 const MAX_REPLY: usize = 32;
@@ -13,6 +13,18 @@ const MAX_REPLY: usize = 32;
 pub fn read_trail(text: &str) -> Result<Trail, ()> {
     let through_value = || json::parse(text).and_then(|value| parts_from(&value)?.into_trail());
     streamed(text).and_then(Parts::into_trail).or_else(through_value).ok_or(())
+}
+
+/// How many numbers the records of a text have, once one was read: all have as many.
+#[derive(Default)]
+struct Width(Option<usize>);
+
+impl Width {
+    /// Whether a record of so many numbers may stand beside those before it.
+    fn takes(&mut self, count: usize) -> Option<()> {
+        let is_width = count == FIELDS || count == NARROW_FIELDS;
+        (is_width && *self.0.get_or_insert(count) == count).then_some(())
+    }
 }
 
 /// What a text tells, not yet looked at as a whole.
@@ -69,16 +81,17 @@ fn streamed(text: &str) -> Option<Parts> {
     let calls = parser.list(call)?;
     parser.expect(b',')?;
     member(&mut parser, "end")?;
-    let ends = parser.list(record)?;
+    let mut width = Width::default();
+    let ends = parser.list(|parser| record(parser, &mut width))?;
     parser.expect(b',')?;
     member(&mut parser, "events")?;
-    let events = parser.list(event)?;
+    let events = parser.list(|parser| event(parser, &mut width))?;
     parser.expect(b',')?;
     member(&mut parser, "procs")?;
     let procedures = parser.list(procedure)?;
     parser.expect(b',')?;
     member(&mut parser, "tree")?;
-    let (parents, records) = tree(&mut parser)?;
+    let (parents, records) = tree(&mut parser, &mut width)?;
     parser.expect(b'}')?;
     parser.is_over().then_some(Parts { calls, ends, events, procedures, parents, records })
 }
@@ -89,13 +102,13 @@ fn member(parser: &mut Parser, name: &str) -> Option<()> {
     parser.expect(b':')
 }
 
-fn tree(parser: &mut Parser) -> Option<(Vec<u16>, Vec<Record>)> {
+fn tree(parser: &mut Parser, width: &mut Width) -> Option<(Vec<u16>, Vec<Record>)> {
     parser.expect(b'{')?;
     member(parser, "parents")?;
     let parents = parser.list(number)?;
     parser.expect(b',')?;
     member(parser, "records")?;
-    let records = parser.list(record)?;
+    let records = parser.list(|parser| record(parser, width))?;
     parser.expect(b'}')?;
     Some((parents, records))
 }
@@ -104,15 +117,20 @@ fn number<T: TryFrom<i64>>(parser: &mut Parser) -> Option<T> {
     parser.integer()?.try_into().ok()
 }
 
-fn record(parser: &mut Parser) -> Option<Record> {
+/// The fields that a record doesn't tell are 0.
+fn record(parser: &mut Parser, width: &mut Width) -> Option<Record> {
     let mut record = Record::default();
-    let mut before = b'[';
-    for field in &mut record {
-        parser.expect(before)?;
-        *field = parser.integer()?;
-        before = b',';
+    let mut count = 0;
+    parser.expect(b'[')?;
+    loop {
+        *record.get_mut(count)? = parser.integer()?;
+        count += 1;
+        if !parser.take(b',') {
+            break;
+        }
     }
     parser.expect(b']')?;
+    width.takes(count)?;
     Some(record)
 }
 
@@ -136,7 +154,7 @@ fn call(parser: &mut Parser) -> Option<RawCall> {
     Some(RawCall { procedure, args, reply })
 }
 
-fn event(parser: &mut Parser) -> Option<Event> {
+fn event(parser: &mut Parser, width: &mut Width) -> Option<Event> {
     parser.expect(b'[')?;
     let letter = parser.plain_string()?;
     parser.expect(b',')?;
@@ -145,11 +163,11 @@ fn event(parser: &mut Parser) -> Option<Event> {
         "a" => Event::Admit { call },
         "d" => Event::Done { call },
         "l" => {
-            let (node, record) = touched(parser)?;
+            let (node, record) = touched(parser, width)?;
             Event::Lock { call, node, record }
         }
         "f" => {
-            let (node, record) = touched(parser)?;
+            let (node, record) = touched(parser, width)?;
             Event::Free { call, node, record }
         }
         _ => return None,
@@ -158,11 +176,11 @@ fn event(parser: &mut Parser) -> Option<Event> {
     Some(event)
 }
 
-fn touched(parser: &mut Parser) -> Option<(u16, Record)> {
+fn touched(parser: &mut Parser, width: &mut Width) -> Option<(u16, Record)> {
     parser.expect(b',')?;
     let node = number(parser)?;
     parser.expect(b',')?;
-    Some((node, record(parser)?))
+    Some((node, record(parser, width)?))
 }
 
 // ---- through a value
@@ -170,13 +188,14 @@ fn touched(parser: &mut Parser) -> Option<(u16, Record)> {
 fn parts_from(value: &Value) -> Option<Parts> {
     let [calls, ends, events, procedures, tree] = value.members(["calls", "end", "events", "procs", "tree"])?;
     let [parents, records] = tree.members(["parents", "records"])?;
+    let mut width = Width::default();
     Some(Parts {
         calls: each_from(calls, call_from)?,
-        ends: each_from(ends, record_from)?,
-        events: each_from(events, event_from)?,
+        ends: each_from(ends, |value| record_from(value, &mut width))?,
+        events: each_from(events, |value| event_from(value, &mut width))?,
         procedures: each_from(procedures, procedure_from)?,
         parents: each_from(parents, number_from)?,
-        records: each_from(records, record_from)?,
+        records: each_from(records, |value| record_from(value, &mut width))?,
     })
 }
 
@@ -188,8 +207,12 @@ fn number_from<T: TryFrom<i64>>(value: &Value) -> Option<T> {
     value.as_integer()?.try_into().ok()
 }
 
-fn record_from(value: &Value) -> Option<Record> {
-    each_from(value, Value::as_integer)?.try_into().ok()
+fn record_from(value: &Value, width: &mut Width) -> Option<Record> {
+    let numbers = each_from(value, Value::as_integer)?;
+    width.takes(numbers.len())?;
+    let mut record = Record::default();
+    record[..numbers.len()].copy_from_slice(&numbers);
+    Some(record)
 }
 
 fn procedure_from(value: &Value) -> Option<(String, String)> {
@@ -206,7 +229,7 @@ fn call_from(value: &Value) -> Option<RawCall> {
     Some(RawCall { procedure: procedure.as_str()?.to_string(), args: each_from(args, Value::as_integer)?, reply })
 }
 
-fn event_from(value: &Value) -> Option<Event> {
+fn event_from(value: &Value, width: &mut Width) -> Option<Event> {
     match value.as_array()? {
         [letter, call] => {
             let call = number_from(call)?;
@@ -217,7 +240,7 @@ fn event_from(value: &Value) -> Option<Event> {
             }
         }
         [letter, call, node, record] => {
-            let (call, node, record) = (number_from(call)?, number_from(node)?, record_from(record)?);
+            let (call, node, record) = (number_from(call)?, number_from(node)?, record_from(record, width)?);
             match letter.as_str()? {
                 "l" => Some(Event::Lock { call, node, record }),
                 "f" => Some(Event::Free { call, node, record }),

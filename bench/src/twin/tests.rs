@@ -59,6 +59,12 @@ fn wrong_texts_are_refused() {
         ("arity 0\nset v0 -0\nL:\nL:", Fault::at(251, 2)),
         ("arity 0\nL:\nL:\nret 1", Fault::at(253, 3)),
         ("arity 0\n\njmp L ; L:\nret", Fault::at(252, 3)),
+        ("arity 0\nrepv v0 1\nend\nret", Fault::at(251, 2)),
+        ("arity 0\nget v0 n0 4\nret", Fault::at(251, 2)),
+        ("version 3\narity 0\nret", Fault::at(251, 1)),
+        ("version 2\nversion 2\narity 0\nret", Fault::at(251, 2)),
+        ("arity 0\nversion 2\nret", Fault::at(251, 2)),
+        ("version 2", Fault::at(251, 1)),
         (&long, Fault::plain(254)),
     ];
     for (text, fault) in cases {
@@ -96,7 +102,7 @@ fn the_verifier_finds_the_first_fault() {
 #[test]
 fn a_call_runs_alone() {
     let procedure = verify(decode(WALK).unwrap()).unwrap();
-    let mut tree = Tree::new(vec![0, 0, 1], vec![[0; 4], [0; 4], [7, 0, 0, 0]]).unwrap();
+    let mut tree = Tree::new(vec![0, 0, 1], vec![[0; 8], [0; 8], [7, 0, 0, 0, 0, 0, 0, 0]]).unwrap();
     for (start, reply, steps) in [(0, vec![7], 15), (2, vec![7], 7), (3, vec![], 2), (-1, vec![], 2)] {
         let (answer, done) = run_alone(&procedure, &[start], &mut tree).unwrap();
         assert_eq!((answer.values(), done), (&reply[..], steps));
@@ -105,8 +111,28 @@ fn a_call_runs_alone() {
 }
 
 /// The core of `examples/turns.json`, after its moves.
+#[test]
+fn a_register_says_the_turns() {
+    let text = "version 2\narity 1\nrepv v0 10\nemit v0\nend\nret\n";
+    let code = assemble(text).unwrap();
+    assert_eq!(disassemble(&code), text);
+    let container = [&b"TLP2"[..], &[1, 0, 0, 4], &[21, 0, 0, 0, 0, 0, 0, 10], &[19, 0, 0, 0, 0, 0, 0, 0], &[11, 0, 0, 0, 0, 0, 0, 0], &[20, 0, 0, 0, 0, 0, 0, 0]].concat();
+    assert_eq!(decode(&container), Ok(code.clone()));
+    let first = [&b"TLP1"[..], &container[4..]].concat();
+    assert_eq!(decode(&first), Err(Fault::at(203, 0)));
+    let procedure = verify(code).unwrap();
+    assert_eq!((procedure.bounds.steps, procedure.bounds.locks, procedure.bounds.emits), (22, 0, 10));
+    let mut tree = Tree::new(vec![0], vec![[0; 8]]).unwrap();
+    for (turns, reply, steps) in [(3, vec![3; 3], 8), (-5, vec![], 2), (99, vec![99; 10], 22)] {
+        let (answer, done) = run_alone(&procedure, &[turns], &mut tree).unwrap();
+        assert_eq!((answer.values(), done), (&reply[..], steps));
+    }
+    let at_the_end = assemble("version 2\narity 0\nrepv v0 1\nset v1 1\nend").unwrap();
+    assert_eq!(verify(at_the_end), Err(Fault::at(403, 0)));
+}
+
 fn turns() -> Core {
-    let mut core = Core::new(Tree::new(vec![0; 3], vec![[0; 4], [10, 0, 0, 0], [20, 0, 0, 0]]).unwrap());
+    let mut core = Core::new(Tree::new(vec![0; 3], vec![[0; 8], [10, 0, 0, 0, 0, 0, 0, 0], [20, 0, 0, 0, 0, 0, 0, 0]]).unwrap());
     for (name, text) in [("both", BOTH_TEXT), ("look", LOOK_TEXT), ("store", STORE_TEXT)] {
         core.add_procedure(name, verify(assemble(text).unwrap()).unwrap()).unwrap();
     }
@@ -128,10 +154,10 @@ fn calls_take_turns() {
     let mut core = turns();
     assert_eq!(core.step(0), Ok(Stepped::Over));
     assert_eq!(core.step(3), Err(Fault::plain(602)));
-    assert_eq!(core.records(), [[0; 4], [11, 0, 0, 0], [22, 0, 0, 0]]);
+    assert_eq!(core.records(), [[0; 8], [11, 0, 0, 0, 0, 0, 0, 0], [22, 0, 0, 0, 0, 0, 0, 0]]);
     assert_eq!(core.admit("both", &[1]), Ok(3));
     assert_eq!(core.admit("look", &[0]), Ok(4));
-    assert_eq!(core.step(3), Ok(Stepped::Moved(Action::Lock { node: 0, record: [0; 4] })));
+    assert_eq!(core.step(3), Ok(Stepped::Moved(Action::Lock { node: 0, record: [0; 8] })));
     assert_eq!(core.step(4), Ok(Stepped::Blocked { node: 0, holder: 3 }));
 }
 
@@ -145,18 +171,18 @@ fn a_clean_trail_gives_its_order() {
 #[test]
 fn a_trail_is_written_byte_for_byte() {
     let calls = r#"["both",[11],[22]],["look",[1],[11]],["store",[2,22],[]]"#;
-    let ends = "[0,0,0,0],[11,0,0,0],[22,0,0,0]";
+    let ends = "[0,0,0,0,0,0,0,0],[11,0,0,0,0,0,0,0],[22,0,0,0,0,0,0,0]";
     let events = [
-        r#"["a",0],["l",0,0,[0,0,0,0]],["l",0,1,[10,0,0,0]],["f",0,1,[11,0,0,0]]"#,
-        r#"["a",1],["l",1,1,[11,0,0,0]],["f",1,1,[11,0,0,0]],["d",1]"#,
-        r#"["a",2],["l",2,2,[20,0,0,0]],["f",2,2,[22,0,0,0]],["d",2]"#,
-        r#"["l",0,2,[22,0,0,0]],["f",0,2,[22,0,0,0]],["f",0,0,[0,0,0,0]],["d",0]"#,
+        r#"["a",0],["l",0,0,[0,0,0,0,0,0,0,0]],["l",0,1,[10,0,0,0,0,0,0,0]],["f",0,1,[11,0,0,0,0,0,0,0]]"#,
+        r#"["a",1],["l",1,1,[11,0,0,0,0,0,0,0]],["f",1,1,[11,0,0,0,0,0,0,0]],["d",1]"#,
+        r#"["a",2],["l",2,2,[20,0,0,0,0,0,0,0]],["f",2,2,[22,0,0,0,0,0,0,0]],["d",2]"#,
+        r#"["l",0,2,[22,0,0,0,0,0,0,0]],["f",0,2,[22,0,0,0,0,0,0,0]],["f",0,0,[0,0,0,0,0,0,0,0]],["d",0]"#,
     ];
     let procedures = [("both", BOTH_TEXT), ("look", LOOK_TEXT), ("store", STORE_TEXT)].map(|(name, text)| {
         let canonical = disassemble(&assemble(text).unwrap());
         format!("[\"{name}\",\"{}\"]", canonical.replace('\n', "\\n"))
     });
-    let tree = r#"{"parents":[0,0,0],"records":[[0,0,0,0],[10,0,0,0],[20,0,0,0]]}"#;
+    let tree = r#"{"parents":[0,0,0],"records":[[0,0,0,0,0,0,0,0],[10,0,0,0,0,0,0,0],[20,0,0,0,0,0,0,0]]}"#;
     let (events, procedures) = (events.join(","), procedures.join(","));
     let expected = format!(
         "{{\"calls\":[{calls}],\"end\":[{ends}],\"events\":[{events}],\"procs\":[{procedures}],\"tree\":{tree}}}"
@@ -168,9 +194,9 @@ fn a_trail_is_written_byte_for_byte() {
 fn an_altered_trail_is_refused() {
     let cases: [(fn(&mut Trail), Fault); 8] = [
         (|trail| trail.events[0] = Event::Done { call: 0 }, Fault::at(711, 0)),
-        (|trail| trail.events.insert(2, Event::Lock { call: 0, node: 0, record: [0; 4] }), Fault::at(711, 2)),
-        (|trail| trail.events[5] = Event::Lock { call: 1, node: 0, record: [0; 4] }, Fault::at(712, 5)),
-        (|trail| trail.events[5] = Event::Lock { call: 1, node: 1, record: [0; 4] }, Fault::at(713, 5)),
+        (|trail| trail.events.insert(2, Event::Lock { call: 0, node: 0, record: [0; 8] }), Fault::at(711, 2)),
+        (|trail| trail.events[5] = Event::Lock { call: 1, node: 0, record: [0; 8] }, Fault::at(712, 5)),
+        (|trail| trail.events[5] = Event::Lock { call: 1, node: 1, record: [0; 8] }, Fault::at(713, 5)),
         (|trail| trail.events.truncate(15), Fault::at(715, 0)),
         (|trail| trail.calls[2].args[1] = 21, Fault::at(714, 2)),
         (|trail| trail.calls[1].reply = None, Fault::at(717, 1)),
@@ -196,6 +222,8 @@ fn a_trail_of_another_form_is_the_same() {
         text.replace("\"events\"", "\"\\u0065vents\""),
         text.replace("\"l\"", "\"\\u006c\""),
         text.replace("\"both\"", "\"\\u0062oth\""),
+        text.replace(",0,0,0,0]", "]"),
+        text.replace(",0,0,0,0]", "]").replace("\"events\"", "\"\\u0065vents\""),
     ];
     for other in others {
         assert_eq!(read_trail(&other).as_ref(), Ok(&trail), "{other}");
@@ -203,6 +231,7 @@ fn a_trail_of_another_form_is_the_same() {
     for (place, _) in text.char_indices() {
         assert_eq!(read_trail(&text[..place]), Err(()));
     }
+    assert_eq!(read_trail(&text.replacen(",0,0,0,0]", "]", 1)), Err(()));
     for wrong in ["-0", "01", "1.0", "1e0", "4294967296", "null"] {
         assert_eq!(read_trail(&text.replacen("[\"a\",0]", &format!("[\"a\",{wrong}]"), 1)), Err(()), "{wrong}");
     }
@@ -300,8 +329,8 @@ fn a_sum_depends_on_each_part_of_a_trail() {
     let read = |text: &str| work::read(text.as_bytes(), 1).sum;
     let text = write_trail(&trail_of(&turns()));
     let parts = [
-        ("[\"f\",0,1,[11,0,0,0]]", "[\"f\",0,1,[11,0,0,1]]"),
-        ("[\"f\",0,1,[11,0,0,0]]", "[\"l\",0,1,[11,0,0,0]]"),
+        ("[\"f\",0,1,[11,0,0,0,0,0,0,0]]", "[\"f\",0,1,[11,0,0,1,0,0,0,0]]"),
+        ("[\"f\",0,1,[11,0,0,0,0,0,0,0]]", "[\"l\",0,1,[11,0,0,0,0,0,0,0]]"),
         ("[\"look\",[1],[11]]", "[\"look\",[1],[12]]"),
         ("[\"look\",[1],[11]]", "[\"look\",[0],[11]]"),
         ("[\"look\",[1],[11]]", "[\"look\",[1],null]"),
@@ -355,13 +384,13 @@ fn calls_on_threads_leave_what_they_leave_alone() {
 fn what_an_engine_leaves_is_clean() {
     for turns in [4, 400] {
         for workers in [1, 2, 4] {
-            let engine = Engine::new(Tree::new(vec![0, 0, 1], vec![[0; 4]; 3]).unwrap());
+            let engine = Engine::new(Tree::new(vec![0, 0, 1], vec![[0; 8]; 3]).unwrap());
             engine.register("two", verify(decode(&two_locks(turns)).unwrap()).unwrap()).unwrap();
             let mut session = Session::default();
             let requests = [1; 200].map(|node| Request { name: "two".to_string(), args: vec![node] });
             engine.batch(&mut session, &requests, workers).unwrap();
             let running = engine.close(&session).unwrap();
-            assert_eq!(running.core().records()[2], [200, 0, 0, 0]);
+            assert_eq!(running.core().records()[2], [200, 0, 0, 0, 0, 0, 0, 0]);
             assert_eq!(audit_trail(&trail_of(running.core())).as_deref(), Ok(running.order()), "{turns} {workers}");
         }
     }

@@ -4,7 +4,9 @@ use std::sync::Arc;
 
 use super::fault::Fault;
 
-pub const FIELDS: usize = 4;
+pub const FIELDS: usize = 8;
+/// The fields of a record of the first version.
+pub const NARROW_FIELDS: usize = 4;
 pub const MAX_NODES: usize = 4_096;
 
 pub type Record = [i64; FIELDS];

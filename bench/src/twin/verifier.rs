@@ -17,11 +17,13 @@ pub struct Bounds {
     pub emits: u64,
 }
 
-/// The loops around a position: how many, and where the innermost opens (0 without one).
+/// The loops around a position: how many, and where the innermost opens (0 without one). Where the loop ends that opens here (0
+/// without one).
 #[derive(Clone, Copy, Debug, PartialEq, Eq)]
 pub struct Around {
     pub depth: u8,
     pub opening: u16,
+    pub close: u16,
 }
 
 /// A code that was accepted, with its loops and bounds.
@@ -42,18 +44,21 @@ pub fn verify(code: Code) -> Result<Procedure, Fault> {
 
 /// The loops around each position.
 fn nest(instructions: &[Instruction]) -> Result<Vec<Around>, Fault> {
-    let mut loops = Vec::with_capacity(instructions.len());
+    let mut loops: Vec<Around> = Vec::with_capacity(instructions.len());
     let mut open: Vec<u16> = Vec::with_capacity(MAX_DEPTH);
     for (position, instruction) in instructions.iter().enumerate() {
         let opening = open.last().copied().unwrap_or(0);
-        loops.push(Around { depth: open.len() as u8, opening });
+        loops.push(Around { depth: open.len() as u8, opening, close: 0 });
         match *instruction {
             Instruction::End => {
-                open.pop().ok_or(Fault::at(302, position))?;
+                let opening = open.pop().ok_or(Fault::at(302, position))?;
+                loops[usize::from(opening)].close = position as u16;
             }
-            Instruction::Repeat { count: 0 } => return Err(Fault::at(304, position)),
-            Instruction::Repeat { .. } if open.len() == MAX_DEPTH => return Err(Fault::at(303, position)),
-            Instruction::Repeat { .. } => open.push(position as u16),
+            Instruction::Repeat { count: 0 } | Instruction::RepeatBy { count: 0, .. } => return Err(Fault::at(304, position)),
+            Instruction::Repeat { .. } | Instruction::RepeatBy { .. } if open.len() == MAX_DEPTH => {
+                return Err(Fault::at(303, position));
+            }
+            Instruction::Repeat { .. } | Instruction::RepeatBy { .. } => open.push(position as u16),
             _ => {}
         }
     }
@@ -145,6 +150,10 @@ fn check_registers(instructions: &[Instruction], loops: &[Around]) -> Result<(),
         if let Some(target) = instruction.target() {
             arrivals[usize::from(target)].add(state);
         }
+        if matches!(instruction, Instruction::RepeatBy { .. }) {
+            let behind = usize::from(loops[position].close) + 1;
+            arrivals.get_mut(behind).ok_or(Fault::at(403, position))?.add(state);
+        }
         if instruction.goes_on() {
             let next = arrivals.get_mut(position + 1).ok_or(Fault::at(403, position))?;
             next.add(state.after(instruction));
@@ -180,7 +189,7 @@ fn bounds(instructions: &[Instruction]) -> Result<Bounds, Fault> {
         match *instruction {
             Instruction::First { .. } | Instruction::Child { .. } => bounds.locks = bounds.locks.saturating_add(weight),
             Instruction::Emit { .. } => bounds.emits = bounds.emits.saturating_add(weight),
-            Instruction::Repeat { count } => {
+            Instruction::Repeat { count } | Instruction::RepeatBy { count, .. } => {
                 outer.push(weight);
                 weight *= u64::from(count);
             }

@@ -29,8 +29,7 @@ pub fn procedure_of(code: &[u8]) -> Result<Procedure, Fault> {
 }
 
 fn record_of(node: usize) -> Record {
-    let number = node as i64;
-    [number, 2 * number, 3 * number, 4 * number]
+    std::array::from_fn(|field| (field as i64 + 1) * node as i64)
 }
 
 pub fn tree_of(parents: Vec<u16>) -> Result<Tree, Fault> {

@@ -1,5 +1,5 @@
 -- The canonical text is that of its code.
-use Rattle.std.proofs.Common.{◌≡◌, ◌≢◌, ℕ, ◌+◌, ◌<◌, ◌≤◌, ◌^◌, List, [], ◌∷◌, ◌++◌, length, map, refl, sym, ◌∙◌, ap, subst, arith, Bool, true, false, ◌==◌, ◌||◌, Option, Some, None, option_map, inl, inr}
+use Rattle.std.proofs.Common.{◌≡◌, ◌≢◌, ℕ, ◌+◌, ◌<◌, ◌≤◌, ◌^◌, List, [], ◌∷◌, ◌++◌, length, map, refl, sym, ◌∙◌, ap, subst, arith, append_assoc, Bool, true, false, ◌==◌, ◌||◌, Option, Some, None, option_map, inl, inr}
 use Rattle.std.specs.Prelude.{IfSome}
 use Rattle.std.specs.Option.{option_map_or}
 use Rattle.std.specs.List.{AllByRecursion}
@@ -10,16 +10,19 @@ use Rattle.std.proofs.lemmas.Bool.{eq-eqb, cases_Bool, cases_eq, false≢true}
 use Rattle.std.proofs.lemmas.Fmt.{decimal_injective}
 use Rattle.std.proofs.lemmas.List.Elements.{recursion_from_All}
 use Rattle.tl_instr.specs.declared.instr.Instr.{Instr}
-use Rattle.tl_instr.specs.declared.instr.Instr.TheVariants.{Set, Copy, Add, Subtract, Multiply, Divide, Jump, JumpIfLess, JumpIfEqual, Repeat, End, First, Child, Move, Release, Get, Put, Kids, Emit, Return}
+use Rattle.tl_instr.specs.declared.instr.Instr.TheVariants.{Set, Copy, Add, Subtract, Multiply, Divide, Jump, JumpIfLess, JumpIfEqual, Repeat, RepeatBy, End, First, Child, Move, Release, Get, Put, Kids, Emit, Return}
+use Rattle.tl_instr.specs.declared.version.Version.{Version}
+use Rattle.tl_instr.specs.declared.version.Version.TheVariants.{One, Two}
 use Rattle.tl_instr.specs.Codes.{CodeValue, IsCode}
 use Rattle.tl_instr.specs.Instructions.{IsInstr, target}
 use Rattle.tl_asm.specs.Words.{Word}
-use Rattle.tl_asm.specs.Statements.{DraftValue, Said, Blank, Takes, Does}
-use Rattle.tl_asm.specs.Texts.{Written, Follow, Distinct, statements, with_target, aimed, position_of, labels_in, drafts_in}
-use Rattle.tl_asm.specs.Listing.{label_word, is_target, lines_from, listing}
+use Rattle.tl_asm.specs.Statements.{DraftValue, Said, Blank, Version2, Takes, Does}
+use Rattle.tl_asm.specs.Texts.{Written, Follow, InPlace, Distinct, statements, version_in, arity_in, with_target, aimed, position_of, labels_in, drafts_in}
+use Rattle.tl_asm.specs.Listing.{line_of, label_word, is_target, lines_from, header_lines, listing}
 use Rattle.tl_asm.proofs.StatementLists.{same_bytes, bytes_same}
+use Rattle.tl_asm.proofs.SketchToCode.{of_version}
 use Rattle.tl_asm.proofs.SpacedWords.{line_says}
-use Rattle.tl_asm.proofs.TokenSpelling.{drafted, arity_again, either_true}
+use Rattle.tl_asm.proofs.TokenSpelling.{drafted, arity_again, version_again, either_true}
 use Rattle.tl_asm.proofs.ListingLemmas.{marked, said_from, lines_say, Fits, number_word, clean_if}
 
 -- ---- labels
@@ -29,9 +32,9 @@ other_label p q small low different e =
     let digits : decimal p ≡ decimal q = cc in
     different (decimal_injective p q small low digits)
 
-follow_marked : (b : Bool) (pc : ℕ) (rest : List (Option Said)) → Follow rest → Follow (marked b pc ++ rest)
-follow_marked true pc rest h = h
-follow_marked false pc rest h = h
+follow_marked : (v : Version) (b : Bool) (pc : ℕ) (rest : List (Option Said)) → Follow v rest → Follow v (marked b pc ++ rest)
+follow_marked v true pc rest h = h
+follow_marked v false pc rest h = h
 
 fresh_marked : (b : Bool) (p pc : ℕ) (rest : List (Option Said)) → label_word pc ≢ label_word p → AllByRecursion (λ other. other.0 ≢ label_word p) (labels_in pc rest) → AllByRecursion (λ other. other.0 ≢ label_word p) (labels_in pc (marked b pc ++ rest))
 fresh_marked true p pc rest ne h = (ne, h)
@@ -60,10 +63,10 @@ drafts_marked g true n pc rest xs h = h (n + 1)
 drafts_marked g false n pc rest xs h = h n
 
 module _ (f : ℕ → Bool) where
-  follow : (pc : ℕ) (is : List Instr) → Follow (said_from f pc is)
+  follow : (v : Version) (n pc : ℕ) (is : List Instr) → AllByRecursion (IsInstr v n) is → Follow v (said_from f pc is)
   unfolding said_from
-  follow pc [] = follow_marked (f pc) pc (Some Blank ∷ []) tt
-  follow pc (i ∷ is) = follow_marked (f pc) pc (Some (Does (drafted i)) ∷ said_from f (pc + 1) is) (follow (pc + 1) is)
+  follow v n pc [] h = follow_marked v (f pc) pc (Some Blank ∷ []) tt
+  follow v n pc (i ∷ is) h = follow_marked v (f pc) pc (Some (Does (drafted i)) ∷ said_from f (pc + 1) is) (of_version v 0 i h.0.of_version, follow v n (pc + 1) is h.1)
 
   fresh : (p pc : ℕ) (is : List Instr) → p < pc → pc + length is ≤ 1024 → AllByRecursion (λ other. other.0 ≢ label_word p) (labels_in pc (said_from f pc is))
   unfolding said_from
@@ -108,6 +111,7 @@ aimed_again labels (Jump to) h = ap (option_map (λ pc. Jump pc)) h
 aimed_again labels (JumpIfLess left right to) h = ap (option_map (λ pc. JumpIfLess left right pc)) h
 aimed_again labels (JumpIfEqual left right to) h = ap (option_map (λ pc. JumpIfEqual left right pc)) h
 aimed_again labels (Repeat count) h = refl
+aimed_again labels (RepeatBy turns count) h = refl
 aimed_again labels End h = refl
 aimed_again labels (First to number otherwise) h = ap (option_map (λ pc. First to number pc)) h
 aimed_again labels (Child to parent number otherwise) h = ap (option_map (λ pc. Child to parent number pc)) h
@@ -143,36 +147,81 @@ known_target : (o : Option ℕ) (n : ℕ) (f : ℕ → Bool) (labels : List (Wor
 known_target None n f labels h k find = tt
 known_target (Some t) n f labels h k find = find t k h
 
-all_aimed : (n : ℕ) (f : ℕ → Bool) (labels : List (Word × ℕ)) (is : List Instr) → ((t : ℕ) → t ≤ n → f t ≡ true → position_of labels (label_word t) ≡ Some t) → AllByRecursion (λ i. IfSome (target i) (λ t. f t ≡ true)) is → AllByRecursion (IsInstr n) is → AllByRecursion (λ i. aimed labels (with_target 0 i) (option_map label_word (target i)) ≡ Some i) is
-all_aimed n f labels [] find h k = tt
-all_aimed n f labels (i ∷ is) find h k = (aimed_again labels i (known_target (target i) n f labels h.0 k.0.goes_within find), all_aimed n f labels is find h.1 k.1)
+all_aimed : (v : Version) (n : ℕ) (f : ℕ → Bool) (labels : List (Word × ℕ)) (is : List Instr) → ((t : ℕ) → t ≤ n → f t ≡ true → position_of labels (label_word t) ≡ Some t) → AllByRecursion (λ i. IfSome (target i) (λ t. f t ≡ true)) is → AllByRecursion (IsInstr v n) is → AllByRecursion (λ i. aimed labels (with_target 0 i) (option_map label_word (target i)) ≡ Some i) is
+all_aimed v n f labels [] find h k = tt
+all_aimed v n f labels (i ∷ is) find h k = (aimed_again labels i (known_target (target i) n f labels h.0 k.0.goes_within find), all_aimed v n f labels is find h.1 k.1)
 
 at_most : (o : Option ℕ) (n : ℕ) → n ≤ 1024 → IfSome o (λ t. t ≤ n) → IfSome o (λ t. t ≤ 1024)
 at_most None n le h = tt
 at_most (Some t) n le h = omega arith
 
-all_fit : (n : ℕ) (is : List Instr) → n ≤ 1024 → AllByRecursion (IsInstr n) is → AllByRecursion Fits is
-all_fit n [] le h = tt
-all_fit n (i ∷ is) le h = ((h.0.in_range, at_most (target i) n le h.0.goes_within), all_fit n is le h.1)
+all_fit : (v : Version) (n : ℕ) (is : List Instr) → n ≤ 1024 → AllByRecursion (IsInstr v n) is → AllByRecursion Fits is
+all_fit v n [] le h = tt
+all_fit v n (i ∷ is) le h = ((h.0.in_range, at_most (target i) n le h.0.goes_within), all_fit v n is le h.1)
+
+-- ---- the header
+
+-- what the header's lines say, and those behind it
+abbrev headed : Version → ℕ → List (Option Said) → List (Option Said)
+headed One arity ss = Some (Takes arity) ∷ ss
+headed Two arity ss = Some Version2 ∷ Some (Takes arity) ∷ ss
+
+module _ (arity : ℕ) (few : arity ≤ 8) where
+  arity_says : (rest : List ℕ) → statements (line_of (codes "arity" ∷ decimal arity ∷ []) ++ rest) ≡ Some (Takes arity) ∷ statements rest
+  arity_says rest =
+      line_says (codes "arity" ∷ decimal arity ∷ []) rest (clean_if (codes "arity") refl, (number_word arity (omega arith), tt))
+      ∙ ap (λ s. s ∷ statements rest) (arity_again arity few)
+
+  header_says : (v : Version) (rest : List ℕ) → statements (header_lines v arity ++ rest) ≡ headed v arity (statements rest)
+  header_says One rest = arity_says rest
+  header_says Two rest =
+      let second = line_of (codes "arity" ∷ decimal arity ∷ []) in
+      ap statements (append_assoc (line_of (codes "version" ∷ codes "2" ∷ [])) second rest)
+      ∙ line_says (codes "version" ∷ codes "2" ∷ []) (second ++ rest) (clean_if (codes "version") refl, (clean_if (codes "2") refl, tt))
+      ∙ ap (λ s. s ∷ statements (second ++ rest)) version_again
+      ∙ ap (λ ss. Some Version2 ∷ ss) (arity_says rest)
+
+module _ (arity : ℕ) (ss : List (Option Said)) where
+  headed_in_place : (v : Version) → Follow v ss → InPlace (headed v arity ss)
+  headed_in_place One h = h
+  headed_in_place Two h = h
+
+  headed_version : (v : Version) → version_in (headed v arity ss) ≡ v
+  headed_version One = refl
+  headed_version Two = refl
+
+  headed_arity : (v : Version) → arity_in (headed v arity ss) ≡ Some arity
+  headed_arity One = refl
+  headed_arity Two = refl
+
+  headed_labels : (v : Version) → labels_in 0 (headed v arity ss) ≡ labels_in 0 ss
+  headed_labels One = refl
+  headed_labels Two = refl
+
+  headed_drafts : {A : Type 0} (g : ℕ × DraftValue → A) (xs : List A) (v : Version) → ((n : ℕ) → map g (drafts_in n ss) ≡ xs) → map g (drafts_in 1 (headed v arity ss)) ≡ xs
+  headed_drafts g xs One h = h 2
+  headed_drafts g xs Two h = h 3
 
 -- the canonical text is that of its code
 pub canonical : (c : CodeValue) → IsCode c → Written (listing c) c
 canonical c code =
     let is = c.instrs in
+    let v = c.version in
     let f = is_target c.instrs in
     let most = code.count.1 in
-    let valid : AllByRecursion (IsInstr (length c.instrs)) c.instrs = recursion_from_All (IsInstr (length c.instrs)) c.instrs code.instrs in
-    let arity = code.arity in
-    let small : c.arity < 2 ^ 64 = omega arith in
-    let says : statements (listing c) ≡ Some (Takes c.arity) ∷ said_from (is_target c.instrs) 0 c.instrs =
-    line_says (codes "arity" ∷ decimal c.arity ∷ []) (lines_from c.instrs 0 c.instrs) (clean_if (codes "arity") refl, (number_word c.arity small, tt))
-    ∙ (λ j. arity_again c.arity code.arity j ∷ lines_say c.instrs 0 c.instrs (all_fit (length c.instrs) c.instrs most valid) (omega arith) j) in
+    let valid : AllByRecursion (IsInstr c.version (length c.instrs)) c.instrs = recursion_from_All (IsInstr c.version (length c.instrs)) c.instrs code.instrs in
+    let ss = said_from (is_target c.instrs) 0 c.instrs in
+    let says : statements (listing c) ≡ headed c.version c.arity (said_from (is_target c.instrs) 0 c.instrs) =
+    header_says c.arity code.arity c.version (lines_from c.instrs 0 c.instrs)
+    ∙ ap (headed c.version c.arity) (lines_say c.instrs 0 c.instrs (all_fit v (length c.instrs) c.instrs most valid) (omega arith)) in
     let labels = labels_in 0 (said_from (is_target c.instrs) 0 c.instrs) in
-    let each : AllByRecursion (λ i. aimed labels (with_target 0 i) (option_map label_word (target i)) ≡ Some i) c.instrs = all_aimed (length c.instrs) f labels c.instrs (λ t le e. found f t 0 c.instrs (omega arith) (omega arith) (omega arith) e) (targets c.instrs) valid in
+    let each : AllByRecursion (λ i. aimed labels (with_target 0 i) (option_map label_word (target i)) ≡ Some i) c.instrs = all_aimed v (length c.instrs) f labels c.instrs (λ t le e. found f t 0 c.instrs (omega arith) (omega arith) (omega arith) e) (targets c.instrs) valid in
+    let known : labels_in 0 (headed c.version c.arity (said_from (is_target c.instrs) 0 c.instrs)) ≡ labels = headed_labels c.arity ss v in
     record {
       code = code;
-      in_place = rw says (follow f 0 c.instrs);
-      arity = rw says refl;
-      distinct = rw says (distinct f 0 c.instrs (omega arith));
-      instrs = rw says (aims f labels 2 0 c.instrs each);
+      in_place = rw says (headed_in_place c.arity ss v (follow f v (length c.instrs) 0 c.instrs valid));
+      version = rw says (headed_version c.arity ss v);
+      arity = rw says (headed_arity c.arity ss v);
+      distinct = rw (says, known) (distinct f 0 c.instrs (omega arith));
+      instrs = rw (says, known) (headed_drafts c.arity ss (λ d. aimed labels d.1.instr d.1.label) (map Some c.instrs) v (λ n. aims f labels n 0 c.instrs each));
     }

@@ -1,21 +1,21 @@
 -- A name and words are read as an instruction exactly where they are its words.
-use Rattle.std.proofs.Common.{◌≡◌, ◌⊎◌, inl, inr, ℕ, zero, suc, ◌+◌, ◌<◌, ◌≤◌, ◌^◌, List, [], ◌∷◌, length, get_or, Option, Some, None, Bool, true, false, cond, refl, sym, ◌∙◌, ap, subst, arith, ◌==◌, ◌||◌, ◌&&◌, not, slice_index}
+use Rattle.std.proofs.Common.{◌≡◌, ℕ, zero, suc, ◌<◌, ◌≤◌, ◌^◌, List, [], ◌∷◌, length, get_or, Option, Some, None, Bool, true, false, cond, refl, sym, ◌∙◌, ap, subst, arith, ◌==◌, ◌||◌, ◌&&◌, not, slice_index}
 use Rattle.std.specs.Prelude.{◌↔◌, ℤ, pos, negsuc, neg_ℤ, nat_lt, option_and_then, option_map}
 use Rattle.std.specs.Int.{w32}
 use Rattle.std.specs.Int.RustNames.{FitsSigned}
-use Rattle.std.specs.Str.{bytes_eq, all_ascii_digits}
+use Rattle.std.specs.Str.{bytes_eq}
 use Rattle.std.specs.Str.Parse.{digits_value}
 use Rattle.std.specs.Fmt.{decimal, signed_decimal}
-use Rattle.std.proofs.lemmas.Bool.{ltb-true, eqb-true, eqb-false, eq-eqb, ne_eqb}
+use Rattle.std.proofs.lemmas.Bool.{ltb-true, eqb-true, eq-eqb, ne_eqb}
 use Rattle.std.proofs.lemmas.Fmt.{decimal-digits_value}
 use Rattle.tl_instr.specs.declared.instr.Instr.{Instr}
-use Rattle.tl_instr.specs.declared.instr.Instr.TheVariants.{Set, Copy, Add, Subtract, Multiply, Divide, Jump, JumpIfLess, JumpIfEqual, Repeat, End, First, Child, Move, Release, Get, Put, Kids, Emit, Return}
+use Rattle.tl_instr.specs.declared.instr.Instr.TheVariants.{Set, Copy, Add, Subtract, Multiply, Divide, Jump, JumpIfLess, JumpIfEqual, Repeat, RepeatBy, End, First, Child, Move, Release, Get, Put, Kids, Emit, Return}
 use Rattle.tl_instr.specs.Instructions.{InRange, target}
 use Rattle.tl_fields.specs.Fields.{field_count}
 use Rattle.tl_instr.specs.declared.operand.TheConstants.{VALUE_REGISTERS, NODE_REGISTERS}
-use Rattle.tl_asm.specs.Words.{Word, first_of}
+use Rattle.tl_asm.specs.Words.{Word}
 use Rattle.tl_asm.specs.Tokens.{◌>>=◌, is_number, number_in, register_in, value_register, node_register, signed_in, is_label}
-use Rattle.tl_asm.specs.Statements.{DraftValue, plain, going, token, last, only_of, label_in, else_in, otherwise_in, bare_in, set_in, copy_in, arithmetic_in, add_in, subtract_in, multiply_in, divide_in, jump_in, comparison_in, jump_if_less_in, jump_if_equal_in, repeat_in, first_in, child_in, move_in, release_in, get_in, put_in, kids_in, emit_in, draft_in}
+use Rattle.tl_asm.specs.Statements.{DraftValue, plain, going, token, last, label_in, else_in, otherwise_in, bare_in, set_in, copy_in, arithmetic_in, add_in, subtract_in, multiply_in, divide_in, jump_in, comparison_in, jump_if_less_in, jump_if_equal_in, repeat_in, repeat_by_in, first_in, child_in, move_in, release_in, get_in, put_in, kids_in, emit_in, draft_in}
 use Rattle.tl_asm.specs.Listing.{value_word, node_word, words_to}
 use Rattle.tl_asm.specs.Lines.{label_or_none, IsLabelFor, IsLineOf}
 use lib.Chars.{codes}
@@ -296,6 +296,21 @@ rep_line words d h =
     let all : words ≡ decimal z ∷ [] = cc in
     subst (Line (codes "rep") words) same (record { words_are = ap (λ ws. codes "rep" ∷ ws) all; in_range = b_z; label = refl })
 
+repv_line : (words : List Word) (d : DraftValue) → repeat_by_in words ≡ Some d → Line (codes "repv") words d
+unfolding repeat_by_in Line
+repv_line words d h =
+    let (a, a_is, h0) = bound (token value_register words) (λ a. do
+      z ← last (number_in 65536) a.1
+      Some (plain (RepeatBy a.0 z))) d h in
+    let (z, z_is, hz) = bound (last (number_in 65536) a.1) (λ z. Some (plain (RepeatBy a.0 z))) d h0 in
+    let (w_a, at_a, r_a) = token_found value_register words a a_is in
+    let (v_a, b_a) = value_found a.0 w_a r_a in
+    let (w_z, at_z, r_z) = last_found (number_in 65536) a.1 z z_is in
+    let (v_z, b_z) = number_word 65536 z w_z (omega arith) r_z in
+    let same : plain (RepeatBy a.0 z) ≡ d = cc hz in
+    let all : words ≡ value_word a.0 ∷ decimal z ∷ [] = cc in
+    subst (Line (codes "repv") words) same (record { words_are = ap (λ ws. codes "repv" ∷ ws) all; in_range = (b_a, b_z); label = refl })
+
 first_line : (words : List Word) (d : DraftValue) → first_in words ≡ Some d → Line (codes "first") words d
 unfolding first_in Line
 first_line words d h =
@@ -457,27 +472,28 @@ named name want words d e h = let P : Word → Type 0 = λ n. Line n words d in 
 line_of_read : (name : Word) (words : List Word) (d : DraftValue) → draft_in name words ≡ Some d → Line name words d
 unfolding draft_in
 line_of_read name words d e =
-    pick (bytes_eq name (codes "set")) (set_in words) (cond (bytes_eq name (codes "copy")) (copy_in words) (cond (bytes_eq name (codes "add")) (add_in words) (cond (bytes_eq name (codes "sub")) (subtract_in words) (cond (bytes_eq name (codes "mul")) (multiply_in words) (cond (bytes_eq name (codes "div")) (divide_in words) (cond (bytes_eq name (codes "jmp")) (jump_in words) (cond (bytes_eq name (codes "jlt")) (jump_if_less_in words) (cond (bytes_eq name (codes "jeq")) (jump_if_equal_in words) (cond (bytes_eq name (codes "rep")) (repeat_in words) (cond (bytes_eq name (codes "end")) (bare_in End words) (cond (bytes_eq name (codes "first")) (first_in words) (cond (bytes_eq name (codes "child")) (child_in words) (cond (bytes_eq name (codes "move")) (move_in words) (cond (bytes_eq name (codes "rel")) (release_in words) (cond (bytes_eq name (codes "get")) (get_in words) (cond (bytes_eq name (codes "put")) (put_in words) (cond (bytes_eq name (codes "kids")) (kids_in words) (cond (bytes_eq name (codes "emit")) (emit_in words) (cond (bytes_eq name (codes "ret")) (bare_in Return words) None))))))))))))))))))) d (Line name words d) e (λ t x. named name (codes "set") words d t (set_line words d x)) (λ e1.
-    pick (bytes_eq name (codes "copy")) (copy_in words) (cond (bytes_eq name (codes "add")) (add_in words) (cond (bytes_eq name (codes "sub")) (subtract_in words) (cond (bytes_eq name (codes "mul")) (multiply_in words) (cond (bytes_eq name (codes "div")) (divide_in words) (cond (bytes_eq name (codes "jmp")) (jump_in words) (cond (bytes_eq name (codes "jlt")) (jump_if_less_in words) (cond (bytes_eq name (codes "jeq")) (jump_if_equal_in words) (cond (bytes_eq name (codes "rep")) (repeat_in words) (cond (bytes_eq name (codes "end")) (bare_in End words) (cond (bytes_eq name (codes "first")) (first_in words) (cond (bytes_eq name (codes "child")) (child_in words) (cond (bytes_eq name (codes "move")) (move_in words) (cond (bytes_eq name (codes "rel")) (release_in words) (cond (bytes_eq name (codes "get")) (get_in words) (cond (bytes_eq name (codes "put")) (put_in words) (cond (bytes_eq name (codes "kids")) (kids_in words) (cond (bytes_eq name (codes "emit")) (emit_in words) (cond (bytes_eq name (codes "ret")) (bare_in Return words) None)))))))))))))))))) d (Line name words d) e1 (λ t x. named name (codes "copy") words d t (copy_line words d x)) (λ e2.
-    pick (bytes_eq name (codes "add")) (add_in words) (cond (bytes_eq name (codes "sub")) (subtract_in words) (cond (bytes_eq name (codes "mul")) (multiply_in words) (cond (bytes_eq name (codes "div")) (divide_in words) (cond (bytes_eq name (codes "jmp")) (jump_in words) (cond (bytes_eq name (codes "jlt")) (jump_if_less_in words) (cond (bytes_eq name (codes "jeq")) (jump_if_equal_in words) (cond (bytes_eq name (codes "rep")) (repeat_in words) (cond (bytes_eq name (codes "end")) (bare_in End words) (cond (bytes_eq name (codes "first")) (first_in words) (cond (bytes_eq name (codes "child")) (child_in words) (cond (bytes_eq name (codes "move")) (move_in words) (cond (bytes_eq name (codes "rel")) (release_in words) (cond (bytes_eq name (codes "get")) (get_in words) (cond (bytes_eq name (codes "put")) (put_in words) (cond (bytes_eq name (codes "kids")) (kids_in words) (cond (bytes_eq name (codes "emit")) (emit_in words) (cond (bytes_eq name (codes "ret")) (bare_in Return words) None))))))))))))))))) d (Line name words d) e2 (λ t x. named name (codes "add") words d t (add_line words d x)) (λ e3.
-    pick (bytes_eq name (codes "sub")) (subtract_in words) (cond (bytes_eq name (codes "mul")) (multiply_in words) (cond (bytes_eq name (codes "div")) (divide_in words) (cond (bytes_eq name (codes "jmp")) (jump_in words) (cond (bytes_eq name (codes "jlt")) (jump_if_less_in words) (cond (bytes_eq name (codes "jeq")) (jump_if_equal_in words) (cond (bytes_eq name (codes "rep")) (repeat_in words) (cond (bytes_eq name (codes "end")) (bare_in End words) (cond (bytes_eq name (codes "first")) (first_in words) (cond (bytes_eq name (codes "child")) (child_in words) (cond (bytes_eq name (codes "move")) (move_in words) (cond (bytes_eq name (codes "rel")) (release_in words) (cond (bytes_eq name (codes "get")) (get_in words) (cond (bytes_eq name (codes "put")) (put_in words) (cond (bytes_eq name (codes "kids")) (kids_in words) (cond (bytes_eq name (codes "emit")) (emit_in words) (cond (bytes_eq name (codes "ret")) (bare_in Return words) None)))))))))))))))) d (Line name words d) e3 (λ t x. named name (codes "sub") words d t (sub_line words d x)) (λ e4.
-    pick (bytes_eq name (codes "mul")) (multiply_in words) (cond (bytes_eq name (codes "div")) (divide_in words) (cond (bytes_eq name (codes "jmp")) (jump_in words) (cond (bytes_eq name (codes "jlt")) (jump_if_less_in words) (cond (bytes_eq name (codes "jeq")) (jump_if_equal_in words) (cond (bytes_eq name (codes "rep")) (repeat_in words) (cond (bytes_eq name (codes "end")) (bare_in End words) (cond (bytes_eq name (codes "first")) (first_in words) (cond (bytes_eq name (codes "child")) (child_in words) (cond (bytes_eq name (codes "move")) (move_in words) (cond (bytes_eq name (codes "rel")) (release_in words) (cond (bytes_eq name (codes "get")) (get_in words) (cond (bytes_eq name (codes "put")) (put_in words) (cond (bytes_eq name (codes "kids")) (kids_in words) (cond (bytes_eq name (codes "emit")) (emit_in words) (cond (bytes_eq name (codes "ret")) (bare_in Return words) None))))))))))))))) d (Line name words d) e4 (λ t x. named name (codes "mul") words d t (mul_line words d x)) (λ e5.
-    pick (bytes_eq name (codes "div")) (divide_in words) (cond (bytes_eq name (codes "jmp")) (jump_in words) (cond (bytes_eq name (codes "jlt")) (jump_if_less_in words) (cond (bytes_eq name (codes "jeq")) (jump_if_equal_in words) (cond (bytes_eq name (codes "rep")) (repeat_in words) (cond (bytes_eq name (codes "end")) (bare_in End words) (cond (bytes_eq name (codes "first")) (first_in words) (cond (bytes_eq name (codes "child")) (child_in words) (cond (bytes_eq name (codes "move")) (move_in words) (cond (bytes_eq name (codes "rel")) (release_in words) (cond (bytes_eq name (codes "get")) (get_in words) (cond (bytes_eq name (codes "put")) (put_in words) (cond (bytes_eq name (codes "kids")) (kids_in words) (cond (bytes_eq name (codes "emit")) (emit_in words) (cond (bytes_eq name (codes "ret")) (bare_in Return words) None)))))))))))))) d (Line name words d) e5 (λ t x. named name (codes "div") words d t (div_line words d x)) (λ e6.
-    pick (bytes_eq name (codes "jmp")) (jump_in words) (cond (bytes_eq name (codes "jlt")) (jump_if_less_in words) (cond (bytes_eq name (codes "jeq")) (jump_if_equal_in words) (cond (bytes_eq name (codes "rep")) (repeat_in words) (cond (bytes_eq name (codes "end")) (bare_in End words) (cond (bytes_eq name (codes "first")) (first_in words) (cond (bytes_eq name (codes "child")) (child_in words) (cond (bytes_eq name (codes "move")) (move_in words) (cond (bytes_eq name (codes "rel")) (release_in words) (cond (bytes_eq name (codes "get")) (get_in words) (cond (bytes_eq name (codes "put")) (put_in words) (cond (bytes_eq name (codes "kids")) (kids_in words) (cond (bytes_eq name (codes "emit")) (emit_in words) (cond (bytes_eq name (codes "ret")) (bare_in Return words) None))))))))))))) d (Line name words d) e6 (λ t x. named name (codes "jmp") words d t (jmp_line words d x)) (λ e7.
-    pick (bytes_eq name (codes "jlt")) (jump_if_less_in words) (cond (bytes_eq name (codes "jeq")) (jump_if_equal_in words) (cond (bytes_eq name (codes "rep")) (repeat_in words) (cond (bytes_eq name (codes "end")) (bare_in End words) (cond (bytes_eq name (codes "first")) (first_in words) (cond (bytes_eq name (codes "child")) (child_in words) (cond (bytes_eq name (codes "move")) (move_in words) (cond (bytes_eq name (codes "rel")) (release_in words) (cond (bytes_eq name (codes "get")) (get_in words) (cond (bytes_eq name (codes "put")) (put_in words) (cond (bytes_eq name (codes "kids")) (kids_in words) (cond (bytes_eq name (codes "emit")) (emit_in words) (cond (bytes_eq name (codes "ret")) (bare_in Return words) None)))))))))))) d (Line name words d) e7 (λ t x. named name (codes "jlt") words d t (jlt_line words d x)) (λ e8.
-    pick (bytes_eq name (codes "jeq")) (jump_if_equal_in words) (cond (bytes_eq name (codes "rep")) (repeat_in words) (cond (bytes_eq name (codes "end")) (bare_in End words) (cond (bytes_eq name (codes "first")) (first_in words) (cond (bytes_eq name (codes "child")) (child_in words) (cond (bytes_eq name (codes "move")) (move_in words) (cond (bytes_eq name (codes "rel")) (release_in words) (cond (bytes_eq name (codes "get")) (get_in words) (cond (bytes_eq name (codes "put")) (put_in words) (cond (bytes_eq name (codes "kids")) (kids_in words) (cond (bytes_eq name (codes "emit")) (emit_in words) (cond (bytes_eq name (codes "ret")) (bare_in Return words) None))))))))))) d (Line name words d) e8 (λ t x. named name (codes "jeq") words d t (jeq_line words d x)) (λ e9.
-    pick (bytes_eq name (codes "rep")) (repeat_in words) (cond (bytes_eq name (codes "end")) (bare_in End words) (cond (bytes_eq name (codes "first")) (first_in words) (cond (bytes_eq name (codes "child")) (child_in words) (cond (bytes_eq name (codes "move")) (move_in words) (cond (bytes_eq name (codes "rel")) (release_in words) (cond (bytes_eq name (codes "get")) (get_in words) (cond (bytes_eq name (codes "put")) (put_in words) (cond (bytes_eq name (codes "kids")) (kids_in words) (cond (bytes_eq name (codes "emit")) (emit_in words) (cond (bytes_eq name (codes "ret")) (bare_in Return words) None)))))))))) d (Line name words d) e9 (λ t x. named name (codes "rep") words d t (rep_line words d x)) (λ e10.
-    pick (bytes_eq name (codes "end")) (bare_in End words) (cond (bytes_eq name (codes "first")) (first_in words) (cond (bytes_eq name (codes "child")) (child_in words) (cond (bytes_eq name (codes "move")) (move_in words) (cond (bytes_eq name (codes "rel")) (release_in words) (cond (bytes_eq name (codes "get")) (get_in words) (cond (bytes_eq name (codes "put")) (put_in words) (cond (bytes_eq name (codes "kids")) (kids_in words) (cond (bytes_eq name (codes "emit")) (emit_in words) (cond (bytes_eq name (codes "ret")) (bare_in Return words) None))))))))) d (Line name words d) e10 (λ t x. named name (codes "end") words d t (end_line words d x)) (λ e11.
-    pick (bytes_eq name (codes "first")) (first_in words) (cond (bytes_eq name (codes "child")) (child_in words) (cond (bytes_eq name (codes "move")) (move_in words) (cond (bytes_eq name (codes "rel")) (release_in words) (cond (bytes_eq name (codes "get")) (get_in words) (cond (bytes_eq name (codes "put")) (put_in words) (cond (bytes_eq name (codes "kids")) (kids_in words) (cond (bytes_eq name (codes "emit")) (emit_in words) (cond (bytes_eq name (codes "ret")) (bare_in Return words) None)))))))) d (Line name words d) e11 (λ t x. named name (codes "first") words d t (first_line words d x)) (λ e12.
-    pick (bytes_eq name (codes "child")) (child_in words) (cond (bytes_eq name (codes "move")) (move_in words) (cond (bytes_eq name (codes "rel")) (release_in words) (cond (bytes_eq name (codes "get")) (get_in words) (cond (bytes_eq name (codes "put")) (put_in words) (cond (bytes_eq name (codes "kids")) (kids_in words) (cond (bytes_eq name (codes "emit")) (emit_in words) (cond (bytes_eq name (codes "ret")) (bare_in Return words) None))))))) d (Line name words d) e12 (λ t x. named name (codes "child") words d t (child_line words d x)) (λ e13.
-    pick (bytes_eq name (codes "move")) (move_in words) (cond (bytes_eq name (codes "rel")) (release_in words) (cond (bytes_eq name (codes "get")) (get_in words) (cond (bytes_eq name (codes "put")) (put_in words) (cond (bytes_eq name (codes "kids")) (kids_in words) (cond (bytes_eq name (codes "emit")) (emit_in words) (cond (bytes_eq name (codes "ret")) (bare_in Return words) None)))))) d (Line name words d) e13 (λ t x. named name (codes "move") words d t (move_line words d x)) (λ e14.
-    pick (bytes_eq name (codes "rel")) (release_in words) (cond (bytes_eq name (codes "get")) (get_in words) (cond (bytes_eq name (codes "put")) (put_in words) (cond (bytes_eq name (codes "kids")) (kids_in words) (cond (bytes_eq name (codes "emit")) (emit_in words) (cond (bytes_eq name (codes "ret")) (bare_in Return words) None))))) d (Line name words d) e14 (λ t x. named name (codes "rel") words d t (rel_line words d x)) (λ e15.
-    pick (bytes_eq name (codes "get")) (get_in words) (cond (bytes_eq name (codes "put")) (put_in words) (cond (bytes_eq name (codes "kids")) (kids_in words) (cond (bytes_eq name (codes "emit")) (emit_in words) (cond (bytes_eq name (codes "ret")) (bare_in Return words) None)))) d (Line name words d) e15 (λ t x. named name (codes "get") words d t (get_line words d x)) (λ e16.
-    pick (bytes_eq name (codes "put")) (put_in words) (cond (bytes_eq name (codes "kids")) (kids_in words) (cond (bytes_eq name (codes "emit")) (emit_in words) (cond (bytes_eq name (codes "ret")) (bare_in Return words) None))) d (Line name words d) e16 (λ t x. named name (codes "put") words d t (put_line words d x)) (λ e17.
-    pick (bytes_eq name (codes "kids")) (kids_in words) (cond (bytes_eq name (codes "emit")) (emit_in words) (cond (bytes_eq name (codes "ret")) (bare_in Return words) None)) d (Line name words d) e17 (λ t x. named name (codes "kids") words d t (kids_line words d x)) (λ e18.
-    pick (bytes_eq name (codes "emit")) (emit_in words) (cond (bytes_eq name (codes "ret")) (bare_in Return words) None) d (Line name words d) e18 (λ t x. named name (codes "emit") words d t (emit_line words d x)) (λ e19.
-    pick (bytes_eq name (codes "ret")) (bare_in Return words) None d (Line name words d) e19 (λ t x. named name (codes "ret") words d t (ret_line words d x)) (λ e20.
-    absurd (cc e20)))))))))))))))))))))
+    pick (bytes_eq name (codes "set")) (set_in words) (cond (bytes_eq name (codes "copy")) (copy_in words) (cond (bytes_eq name (codes "add")) (add_in words) (cond (bytes_eq name (codes "sub")) (subtract_in words) (cond (bytes_eq name (codes "mul")) (multiply_in words) (cond (bytes_eq name (codes "div")) (divide_in words) (cond (bytes_eq name (codes "jmp")) (jump_in words) (cond (bytes_eq name (codes "jlt")) (jump_if_less_in words) (cond (bytes_eq name (codes "jeq")) (jump_if_equal_in words) (cond (bytes_eq name (codes "rep")) (repeat_in words) (cond (bytes_eq name (codes "end")) (bare_in End words) (cond (bytes_eq name (codes "first")) (first_in words) (cond (bytes_eq name (codes "child")) (child_in words) (cond (bytes_eq name (codes "move")) (move_in words) (cond (bytes_eq name (codes "rel")) (release_in words) (cond (bytes_eq name (codes "get")) (get_in words) (cond (bytes_eq name (codes "put")) (put_in words) (cond (bytes_eq name (codes "kids")) (kids_in words) (cond (bytes_eq name (codes "emit")) (emit_in words) (cond (bytes_eq name (codes "ret")) (bare_in Return words) (cond (bytes_eq name (codes "repv")) (repeat_by_in words) None)))))))))))))))))))) d (Line name words d) e (λ t x. named name (codes "set") words d t (set_line words d x)) (λ e1.
+    pick (bytes_eq name (codes "copy")) (copy_in words) (cond (bytes_eq name (codes "add")) (add_in words) (cond (bytes_eq name (codes "sub")) (subtract_in words) (cond (bytes_eq name (codes "mul")) (multiply_in words) (cond (bytes_eq name (codes "div")) (divide_in words) (cond (bytes_eq name (codes "jmp")) (jump_in words) (cond (bytes_eq name (codes "jlt")) (jump_if_less_in words) (cond (bytes_eq name (codes "jeq")) (jump_if_equal_in words) (cond (bytes_eq name (codes "rep")) (repeat_in words) (cond (bytes_eq name (codes "end")) (bare_in End words) (cond (bytes_eq name (codes "first")) (first_in words) (cond (bytes_eq name (codes "child")) (child_in words) (cond (bytes_eq name (codes "move")) (move_in words) (cond (bytes_eq name (codes "rel")) (release_in words) (cond (bytes_eq name (codes "get")) (get_in words) (cond (bytes_eq name (codes "put")) (put_in words) (cond (bytes_eq name (codes "kids")) (kids_in words) (cond (bytes_eq name (codes "emit")) (emit_in words) (cond (bytes_eq name (codes "ret")) (bare_in Return words) (cond (bytes_eq name (codes "repv")) (repeat_by_in words) None))))))))))))))))))) d (Line name words d) e1 (λ t x. named name (codes "copy") words d t (copy_line words d x)) (λ e2.
+    pick (bytes_eq name (codes "add")) (add_in words) (cond (bytes_eq name (codes "sub")) (subtract_in words) (cond (bytes_eq name (codes "mul")) (multiply_in words) (cond (bytes_eq name (codes "div")) (divide_in words) (cond (bytes_eq name (codes "jmp")) (jump_in words) (cond (bytes_eq name (codes "jlt")) (jump_if_less_in words) (cond (bytes_eq name (codes "jeq")) (jump_if_equal_in words) (cond (bytes_eq name (codes "rep")) (repeat_in words) (cond (bytes_eq name (codes "end")) (bare_in End words) (cond (bytes_eq name (codes "first")) (first_in words) (cond (bytes_eq name (codes "child")) (child_in words) (cond (bytes_eq name (codes "move")) (move_in words) (cond (bytes_eq name (codes "rel")) (release_in words) (cond (bytes_eq name (codes "get")) (get_in words) (cond (bytes_eq name (codes "put")) (put_in words) (cond (bytes_eq name (codes "kids")) (kids_in words) (cond (bytes_eq name (codes "emit")) (emit_in words) (cond (bytes_eq name (codes "ret")) (bare_in Return words) (cond (bytes_eq name (codes "repv")) (repeat_by_in words) None)))))))))))))))))) d (Line name words d) e2 (λ t x. named name (codes "add") words d t (add_line words d x)) (λ e3.
+    pick (bytes_eq name (codes "sub")) (subtract_in words) (cond (bytes_eq name (codes "mul")) (multiply_in words) (cond (bytes_eq name (codes "div")) (divide_in words) (cond (bytes_eq name (codes "jmp")) (jump_in words) (cond (bytes_eq name (codes "jlt")) (jump_if_less_in words) (cond (bytes_eq name (codes "jeq")) (jump_if_equal_in words) (cond (bytes_eq name (codes "rep")) (repeat_in words) (cond (bytes_eq name (codes "end")) (bare_in End words) (cond (bytes_eq name (codes "first")) (first_in words) (cond (bytes_eq name (codes "child")) (child_in words) (cond (bytes_eq name (codes "move")) (move_in words) (cond (bytes_eq name (codes "rel")) (release_in words) (cond (bytes_eq name (codes "get")) (get_in words) (cond (bytes_eq name (codes "put")) (put_in words) (cond (bytes_eq name (codes "kids")) (kids_in words) (cond (bytes_eq name (codes "emit")) (emit_in words) (cond (bytes_eq name (codes "ret")) (bare_in Return words) (cond (bytes_eq name (codes "repv")) (repeat_by_in words) None))))))))))))))))) d (Line name words d) e3 (λ t x. named name (codes "sub") words d t (sub_line words d x)) (λ e4.
+    pick (bytes_eq name (codes "mul")) (multiply_in words) (cond (bytes_eq name (codes "div")) (divide_in words) (cond (bytes_eq name (codes "jmp")) (jump_in words) (cond (bytes_eq name (codes "jlt")) (jump_if_less_in words) (cond (bytes_eq name (codes "jeq")) (jump_if_equal_in words) (cond (bytes_eq name (codes "rep")) (repeat_in words) (cond (bytes_eq name (codes "end")) (bare_in End words) (cond (bytes_eq name (codes "first")) (first_in words) (cond (bytes_eq name (codes "child")) (child_in words) (cond (bytes_eq name (codes "move")) (move_in words) (cond (bytes_eq name (codes "rel")) (release_in words) (cond (bytes_eq name (codes "get")) (get_in words) (cond (bytes_eq name (codes "put")) (put_in words) (cond (bytes_eq name (codes "kids")) (kids_in words) (cond (bytes_eq name (codes "emit")) (emit_in words) (cond (bytes_eq name (codes "ret")) (bare_in Return words) (cond (bytes_eq name (codes "repv")) (repeat_by_in words) None)))))))))))))))) d (Line name words d) e4 (λ t x. named name (codes "mul") words d t (mul_line words d x)) (λ e5.
+    pick (bytes_eq name (codes "div")) (divide_in words) (cond (bytes_eq name (codes "jmp")) (jump_in words) (cond (bytes_eq name (codes "jlt")) (jump_if_less_in words) (cond (bytes_eq name (codes "jeq")) (jump_if_equal_in words) (cond (bytes_eq name (codes "rep")) (repeat_in words) (cond (bytes_eq name (codes "end")) (bare_in End words) (cond (bytes_eq name (codes "first")) (first_in words) (cond (bytes_eq name (codes "child")) (child_in words) (cond (bytes_eq name (codes "move")) (move_in words) (cond (bytes_eq name (codes "rel")) (release_in words) (cond (bytes_eq name (codes "get")) (get_in words) (cond (bytes_eq name (codes "put")) (put_in words) (cond (bytes_eq name (codes "kids")) (kids_in words) (cond (bytes_eq name (codes "emit")) (emit_in words) (cond (bytes_eq name (codes "ret")) (bare_in Return words) (cond (bytes_eq name (codes "repv")) (repeat_by_in words) None))))))))))))))) d (Line name words d) e5 (λ t x. named name (codes "div") words d t (div_line words d x)) (λ e6.
+    pick (bytes_eq name (codes "jmp")) (jump_in words) (cond (bytes_eq name (codes "jlt")) (jump_if_less_in words) (cond (bytes_eq name (codes "jeq")) (jump_if_equal_in words) (cond (bytes_eq name (codes "rep")) (repeat_in words) (cond (bytes_eq name (codes "end")) (bare_in End words) (cond (bytes_eq name (codes "first")) (first_in words) (cond (bytes_eq name (codes "child")) (child_in words) (cond (bytes_eq name (codes "move")) (move_in words) (cond (bytes_eq name (codes "rel")) (release_in words) (cond (bytes_eq name (codes "get")) (get_in words) (cond (bytes_eq name (codes "put")) (put_in words) (cond (bytes_eq name (codes "kids")) (kids_in words) (cond (bytes_eq name (codes "emit")) (emit_in words) (cond (bytes_eq name (codes "ret")) (bare_in Return words) (cond (bytes_eq name (codes "repv")) (repeat_by_in words) None)))))))))))))) d (Line name words d) e6 (λ t x. named name (codes "jmp") words d t (jmp_line words d x)) (λ e7.
+    pick (bytes_eq name (codes "jlt")) (jump_if_less_in words) (cond (bytes_eq name (codes "jeq")) (jump_if_equal_in words) (cond (bytes_eq name (codes "rep")) (repeat_in words) (cond (bytes_eq name (codes "end")) (bare_in End words) (cond (bytes_eq name (codes "first")) (first_in words) (cond (bytes_eq name (codes "child")) (child_in words) (cond (bytes_eq name (codes "move")) (move_in words) (cond (bytes_eq name (codes "rel")) (release_in words) (cond (bytes_eq name (codes "get")) (get_in words) (cond (bytes_eq name (codes "put")) (put_in words) (cond (bytes_eq name (codes "kids")) (kids_in words) (cond (bytes_eq name (codes "emit")) (emit_in words) (cond (bytes_eq name (codes "ret")) (bare_in Return words) (cond (bytes_eq name (codes "repv")) (repeat_by_in words) None))))))))))))) d (Line name words d) e7 (λ t x. named name (codes "jlt") words d t (jlt_line words d x)) (λ e8.
+    pick (bytes_eq name (codes "jeq")) (jump_if_equal_in words) (cond (bytes_eq name (codes "rep")) (repeat_in words) (cond (bytes_eq name (codes "end")) (bare_in End words) (cond (bytes_eq name (codes "first")) (first_in words) (cond (bytes_eq name (codes "child")) (child_in words) (cond (bytes_eq name (codes "move")) (move_in words) (cond (bytes_eq name (codes "rel")) (release_in words) (cond (bytes_eq name (codes "get")) (get_in words) (cond (bytes_eq name (codes "put")) (put_in words) (cond (bytes_eq name (codes "kids")) (kids_in words) (cond (bytes_eq name (codes "emit")) (emit_in words) (cond (bytes_eq name (codes "ret")) (bare_in Return words) (cond (bytes_eq name (codes "repv")) (repeat_by_in words) None)))))))))))) d (Line name words d) e8 (λ t x. named name (codes "jeq") words d t (jeq_line words d x)) (λ e9.
+    pick (bytes_eq name (codes "rep")) (repeat_in words) (cond (bytes_eq name (codes "end")) (bare_in End words) (cond (bytes_eq name (codes "first")) (first_in words) (cond (bytes_eq name (codes "child")) (child_in words) (cond (bytes_eq name (codes "move")) (move_in words) (cond (bytes_eq name (codes "rel")) (release_in words) (cond (bytes_eq name (codes "get")) (get_in words) (cond (bytes_eq name (codes "put")) (put_in words) (cond (bytes_eq name (codes "kids")) (kids_in words) (cond (bytes_eq name (codes "emit")) (emit_in words) (cond (bytes_eq name (codes "ret")) (bare_in Return words) (cond (bytes_eq name (codes "repv")) (repeat_by_in words) None))))))))))) d (Line name words d) e9 (λ t x. named name (codes "rep") words d t (rep_line words d x)) (λ e10.
+    pick (bytes_eq name (codes "end")) (bare_in End words) (cond (bytes_eq name (codes "first")) (first_in words) (cond (bytes_eq name (codes "child")) (child_in words) (cond (bytes_eq name (codes "move")) (move_in words) (cond (bytes_eq name (codes "rel")) (release_in words) (cond (bytes_eq name (codes "get")) (get_in words) (cond (bytes_eq name (codes "put")) (put_in words) (cond (bytes_eq name (codes "kids")) (kids_in words) (cond (bytes_eq name (codes "emit")) (emit_in words) (cond (bytes_eq name (codes "ret")) (bare_in Return words) (cond (bytes_eq name (codes "repv")) (repeat_by_in words) None)))))))))) d (Line name words d) e10 (λ t x. named name (codes "end") words d t (end_line words d x)) (λ e11.
+    pick (bytes_eq name (codes "first")) (first_in words) (cond (bytes_eq name (codes "child")) (child_in words) (cond (bytes_eq name (codes "move")) (move_in words) (cond (bytes_eq name (codes "rel")) (release_in words) (cond (bytes_eq name (codes "get")) (get_in words) (cond (bytes_eq name (codes "put")) (put_in words) (cond (bytes_eq name (codes "kids")) (kids_in words) (cond (bytes_eq name (codes "emit")) (emit_in words) (cond (bytes_eq name (codes "ret")) (bare_in Return words) (cond (bytes_eq name (codes "repv")) (repeat_by_in words) None))))))))) d (Line name words d) e11 (λ t x. named name (codes "first") words d t (first_line words d x)) (λ e12.
+    pick (bytes_eq name (codes "child")) (child_in words) (cond (bytes_eq name (codes "move")) (move_in words) (cond (bytes_eq name (codes "rel")) (release_in words) (cond (bytes_eq name (codes "get")) (get_in words) (cond (bytes_eq name (codes "put")) (put_in words) (cond (bytes_eq name (codes "kids")) (kids_in words) (cond (bytes_eq name (codes "emit")) (emit_in words) (cond (bytes_eq name (codes "ret")) (bare_in Return words) (cond (bytes_eq name (codes "repv")) (repeat_by_in words) None)))))))) d (Line name words d) e12 (λ t x. named name (codes "child") words d t (child_line words d x)) (λ e13.
+    pick (bytes_eq name (codes "move")) (move_in words) (cond (bytes_eq name (codes "rel")) (release_in words) (cond (bytes_eq name (codes "get")) (get_in words) (cond (bytes_eq name (codes "put")) (put_in words) (cond (bytes_eq name (codes "kids")) (kids_in words) (cond (bytes_eq name (codes "emit")) (emit_in words) (cond (bytes_eq name (codes "ret")) (bare_in Return words) (cond (bytes_eq name (codes "repv")) (repeat_by_in words) None))))))) d (Line name words d) e13 (λ t x. named name (codes "move") words d t (move_line words d x)) (λ e14.
+    pick (bytes_eq name (codes "rel")) (release_in words) (cond (bytes_eq name (codes "get")) (get_in words) (cond (bytes_eq name (codes "put")) (put_in words) (cond (bytes_eq name (codes "kids")) (kids_in words) (cond (bytes_eq name (codes "emit")) (emit_in words) (cond (bytes_eq name (codes "ret")) (bare_in Return words) (cond (bytes_eq name (codes "repv")) (repeat_by_in words) None)))))) d (Line name words d) e14 (λ t x. named name (codes "rel") words d t (rel_line words d x)) (λ e15.
+    pick (bytes_eq name (codes "get")) (get_in words) (cond (bytes_eq name (codes "put")) (put_in words) (cond (bytes_eq name (codes "kids")) (kids_in words) (cond (bytes_eq name (codes "emit")) (emit_in words) (cond (bytes_eq name (codes "ret")) (bare_in Return words) (cond (bytes_eq name (codes "repv")) (repeat_by_in words) None))))) d (Line name words d) e15 (λ t x. named name (codes "get") words d t (get_line words d x)) (λ e16.
+    pick (bytes_eq name (codes "put")) (put_in words) (cond (bytes_eq name (codes "kids")) (kids_in words) (cond (bytes_eq name (codes "emit")) (emit_in words) (cond (bytes_eq name (codes "ret")) (bare_in Return words) (cond (bytes_eq name (codes "repv")) (repeat_by_in words) None)))) d (Line name words d) e16 (λ t x. named name (codes "put") words d t (put_line words d x)) (λ e17.
+    pick (bytes_eq name (codes "kids")) (kids_in words) (cond (bytes_eq name (codes "emit")) (emit_in words) (cond (bytes_eq name (codes "ret")) (bare_in Return words) (cond (bytes_eq name (codes "repv")) (repeat_by_in words) None))) d (Line name words d) e17 (λ t x. named name (codes "kids") words d t (kids_line words d x)) (λ e18.
+    pick (bytes_eq name (codes "emit")) (emit_in words) (cond (bytes_eq name (codes "ret")) (bare_in Return words) (cond (bytes_eq name (codes "repv")) (repeat_by_in words) None)) d (Line name words d) e18 (λ t x. named name (codes "emit") words d t (emit_line words d x)) (λ e19.
+    pick (bytes_eq name (codes "ret")) (bare_in Return words) (cond (bytes_eq name (codes "repv")) (repeat_by_in words) None) d (Line name words d) e19 (λ t x. named name (codes "ret") words d t (ret_line words d x)) (λ e20.
+    pick (bytes_eq name (codes "repv")) (repeat_by_in words) None d (Line name words d) e20 (λ t x. named name (codes "repv") words d t (repv_line words d x)) (λ e21.
+    absurd (cc e21))))))))))))))))))))))
 
 -- ---- from the words to what is read
 
@@ -489,7 +505,7 @@ with_label : Instr → Option Word → DraftValue
 with_label i label = record { instr = i; label = label }
 
 read_again : (i : Instr) (label : Option Word) → InRange i → IsLabelFor (target i) label → read_words (words_to (label_or_none label) i) ≡ Some (with_label i label)
-unfolding read_words with_label otherwise_in bare_in set_in copy_in arithmetic_in add_in subtract_in multiply_in divide_in jump_in comparison_in jump_if_less_in jump_if_equal_in repeat_in first_in child_in move_in release_in get_in put_in kids_in emit_in draft_in
+unfolding read_words with_label otherwise_in bare_in set_in copy_in arithmetic_in add_in subtract_in multiply_in divide_in jump_in comparison_in jump_if_less_in jump_if_equal_in repeat_in repeat_by_in first_in child_in move_in release_in get_in put_in kids_in emit_in draft_in
 read_again (Set to number) label h k = rw (value_again to h.0, signed_again number h.1) (ap (λ l. Some (with_label (Set to number) l)) (sym k))
 read_again (Copy to from) label h k = rw (value_again to h.0, value_again from h.1) (ap (λ l. Some (with_label (Copy to from) l)) (sym k))
 read_again (Add to left right otherwise) None h k = absurd k
@@ -507,6 +523,7 @@ read_again (JumpIfLess left right to) (Some w) h k = rw (value_again left h.0, v
 read_again (JumpIfEqual left right to) None h k = absurd k
 read_again (JumpIfEqual left right to) (Some w) h k = rw (value_again left h.0, value_again right h.1, k.1) (ap (λ o. Some (with_label (JumpIfEqual left right o) (Some w))) (sym k.0))
 read_again (Repeat count) label h k = rw (number_again 65536 count h (omega arith)) (ap (λ l. Some (with_label (Repeat count) l)) (sym k))
+read_again (RepeatBy turns count) label h k = rw (value_again turns h.0, number_again 65536 count h.1 (omega arith)) (ap (λ l. Some (with_label (RepeatBy turns count) l)) (sym k))
 read_again End label h k = (ap (λ l. Some (with_label End l)) (sym k))
 read_again (First to number otherwise) None h k = absurd k
 read_again (First to number otherwise) (Some w) h k = rw (node_again to h.0, value_again number h.1, k.1) (ap (λ o. Some (with_label (First to number o) (Some w))) (sym k.0))

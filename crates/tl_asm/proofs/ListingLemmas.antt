@@ -8,7 +8,7 @@ use Rattle.std.specs.Int.RustNames.{FitsSigned}
 use lib.Chars.{codes}
 use Rattle.std.proofs.lemmas.Fmt.{decimal_nonempty}
 use Rattle.tl_instr.specs.declared.instr.Instr.{Instr}
-use Rattle.tl_instr.specs.declared.instr.Instr.TheVariants.{Set, Copy, Add, Subtract, Multiply, Divide, Jump, JumpIfLess, JumpIfEqual, Repeat, End, First, Child, Move, Release, Get, Put, Kids, Emit, Return}
+use Rattle.tl_instr.specs.declared.instr.Instr.TheVariants.{Set, Copy, Add, Subtract, Multiply, Divide, Jump, JumpIfLess, JumpIfEqual, Repeat, RepeatBy, End, First, Child, Move, Release, Get, Put, Kids, Emit, Return}
 use Rattle.tl_instr.specs.Instructions.{InRange, GoesWithin}
 use Rattle.tl_instr.specs.declared.operand.TheConstants.{VALUE_REGISTERS, NODE_REGISTERS}
 use Rattle.tl_asm.specs.Words.{Word, words_of}
@@ -66,6 +66,7 @@ words_clean (Jump to) h t = (clean_if (codes "jmp") refl, (label_clean to t, tt)
 words_clean (JumpIfLess left right to) h t = (clean_if (codes "jlt") refl, (value_clean left h.0, (value_clean right h.1, (label_clean to t, tt))))
 words_clean (JumpIfEqual left right to) h t = (clean_if (codes "jeq") refl, (value_clean left h.0, (value_clean right h.1, (label_clean to t, tt))))
 words_clean (Repeat count) h t = (clean_if (codes "rep") refl, (number_word count (omega (arith, h)), tt))
+words_clean (RepeatBy turns count) h t = (clean_if (codes "repv") refl, (value_clean turns h.0, (number_word count (omega (arith, h.1)), tt)))
 words_clean End h t = (clean_if (codes "end") refl, tt)
 words_clean (First to number otherwise) h t = (clean_if (codes "first") refl, (node_clean to h.0, (value_clean number h.1, (clean_if (codes "else") refl, (label_clean otherwise t, tt)))))
 words_clean (Child to parent number otherwise) h t = (clean_if (codes "child") refl, (node_clean to h.0, (node_clean parent h.1, (value_clean number h.2, (clean_if (codes "else") refl, (label_clean otherwise t, tt))))))

@@ -78,8 +78,9 @@ pub same_code : (text : List ℕ) (c d : CodeValue) → Written text c → Writt
 same_code text c d v w =
     let arity : Some c.arity ≡ Some d.arity = sym v.arity ∙ w.arity in
     let one : c.arity ≡ d.arity = cc in
+    let version : c.version ≡ d.version = sym v.version ∙ w.version in
     let instrs = same_list c.instrs d.instrs (sym v.instrs ∙ w.instrs) in
-    (λ j. record { arity = one j; instrs = instrs j })
+    (λ j. record { version = version j; arity = one j; instrs = instrs j })
 
 -- what is read is the text's code; where it isn't read for another cause than memory, the text has none
 pub only_one : (text : List ℕ) (r : Result CodeValue AsmFault) (c : CodeValue) → IfOk r (λ code. Written text code) → IfErr r (λ f. f ≢ Memory → IsFirstFault text f) → Written text c → MatchResult r (λ code. code ≡ c) (λ f. f ≡ Memory)

@@ -3,12 +3,13 @@ use Rattle.std.proofs.Common.{◌≡◌, [], ◌∷◌, Some, None, refl}
 use Rattle.std.specs.Prelude.{negsuc}
 use Rattle.std.specs.Fmt.{digits}
 use lib.Chars.{codes}
-use Rattle.tl_instr.specs.declared.instr.Instr.TheVariants.{Set, Add, Jump, Put, Return}
+use Rattle.tl_instr.specs.declared.version.Version.TheVariants.{One, Two}
+use Rattle.tl_instr.specs.declared.instr.Instr.TheVariants.{Set, Add, Jump, RepeatBy, End, Put, Return}
 use Rattle.tl_asm.specs.declared.fault.AsmFault.TheVariants.{NoLabel, TooLong}
 use Rattle.tl_asm.specs.Words.{lines_of, words_of}
 use Rattle.tl_asm.specs.Tokens.{number_in, register_in, signed_in, is_label}
-use Rattle.tl_asm.specs.Statements.{Blank, Takes, Names, Does, plain, going, otherwise_in, bare_in, set_in, arithmetic_in, add_in, put_in, draft_in, said_in, says}
-use Rattle.tl_asm.specs.Texts.{statements, labels_in, drafts_in, aimed}
+use Rattle.tl_asm.specs.Statements.{Blank, Version2, Takes, Names, Does, plain, going, otherwise_in, bare_in, set_in, arithmetic_in, add_in, repeat_by_in, put_in, draft_in, said_in, says}
+use Rattle.tl_asm.specs.Texts.{statements, version_in, labels_in, drafts_in, aimed}
 use Rattle.tl_asm.specs.Faults.{numbers_of}
 use Rattle.tl_asm.specs.Listing.{listing}
 
@@ -88,7 +89,27 @@ known = refl
 unknown : aimed ((codes "a", 0) ∷ []) (Jump 0) (Some (codes "b")) ≡ None
 unknown = refl
 
-labels_listed : listing (record { arity = 1; instrs = Jump 2 ∷ Set 3 (negsuc 1) ∷ [] }) ≡ codes "arity 1\njmp L2\nset v3 -2\nL2:\n"
+second_version : says (codes " version\t2 ; newer") ≡ Some Version2
+unfolding words_of said_in
+second_version = refl
+
+no_third_version : says (codes "version 3") ≡ None
+unfolding words_of said_in
+no_third_version = refl
+
+turns_of_a_register : says (codes "repv v0 10") ≡ Some (Does (plain (RepeatBy 0 10)))
+unfolding words_of said_in draft_in repeat_by_in register_in number_in
+turns_of_a_register = refl
+
+version_of_text : version_in (statements (codes "; a comment\nversion 2\narity 0\nret")) ≡ Two
+unfolding words_of said_in draft_in bare_in number_in
+version_of_text = refl
+
+listed_with_version : listing (record { version = Two; arity = 1; instrs = RepeatBy 0 10 ∷ End ∷ Return ∷ [] }) ≡ codes "version 2\narity 1\nrepv v0 10\nend\nret\n"
+unfolding digits
+listed_with_version = refl
+
+labels_listed : listing (record { version = One; arity = 1; instrs = Jump 2 ∷ Set 3 (negsuc 1) ∷ [] }) ≡ codes "arity 1\njmp L2\nset v3 -2\nL2:\n"
 unfolding digits
 labels_listed = refl
 

@@ -7,12 +7,15 @@ use Rattle.std.proofs.lemmas.Bool.{cases_Bool}
 use Rattle.std.proofs.lemmas.List.{length-map}
 use Rattle.std.proofs.lemmas.List.Elements.{All-from_recursion, recursion_from_All}
 use Rattle.tl_instr.specs.declared.instr.Instr.{Instr}
-use Rattle.tl_instr.specs.declared.instr.Instr.TheVariants.{Set, Copy, Add, Subtract, Multiply, Divide, Jump, JumpIfLess, JumpIfEqual, Repeat, End, First, Child, Move, Release, Get, Put, Kids, Emit, Return}
+use Rattle.tl_instr.specs.declared.instr.Instr.TheVariants.{Set, Copy, Add, Subtract, Multiply, Divide, Jump, JumpIfLess, JumpIfEqual, Repeat, RepeatBy, End, First, Child, Move, Release, Get, Put, Kids, Emit, Return}
+use Rattle.tl_instr.specs.declared.version.Version.{Version}
+use Rattle.tl_instr.specs.declared.version.Version.TheVariants.{One, Two}
+use Rattle.tl_instr.specs.Versions.{HasInstr}
 use Rattle.tl_instr.specs.Codes.{IsCode, IsArity}
 use Rattle.tl_instr.specs.Instructions.{InRange, IsInstr, GoesWithin, target}
 use Rattle.tl_asm.specs.declared.fault.AsmFault.TheVariants.{BadLine, NoLabel}
 use Rattle.tl_asm.specs.Words.{Word, lines_of}
-use Rattle.tl_asm.specs.Statements.{DraftValue, Said, Blank, Takes, Names, Does, says}
+use Rattle.tl_asm.specs.Statements.{DraftValue, Said, Blank, Version2, Takes, Names, Does, says}
 use Rattle.tl_asm.specs.Texts.{Written, statements, with_target, aimed, position_of, arity_in, labels_in, drafts_in}
 use Rattle.tl_asm.specs.Faults.{IsWhole, IsFirstFaultIn}
 use Rattle.tl_asm.specs.Sketches.{Sketched, said_by, drafts_of, IsAstray}
@@ -30,6 +33,7 @@ in_range pc (Jump to) h = h
 in_range pc (JumpIfLess left right to) h = h
 in_range pc (JumpIfEqual left right to) h = h
 in_range pc (Repeat count) h = h
+in_range pc (RepeatBy turns count) h = h
 in_range pc End h = h
 in_range pc (First to number otherwise) h = h
 in_range pc (Child to parent number otherwise) h = h
@@ -52,6 +56,7 @@ goes_within n pc (Jump to) h = h
 goes_within n pc (JumpIfLess left right to) h = h
 goes_within n pc (JumpIfEqual left right to) h = h
 goes_within n pc (Repeat count) h = tt
+goes_within n pc (RepeatBy turns count) h = tt
 goes_within n pc End h = tt
 goes_within n pc (First to number otherwise) h = h
 goes_within n pc (Child to parent number otherwise) h = h
@@ -63,11 +68,37 @@ goes_within n pc (Kids to node) h = tt
 goes_within n pc (Emit from) h = tt
 goes_within n pc Return h = tt
 
+-- a target doesn't change the version
+pub of_version : (v : Version) (pc : ℕ) (i : Instr) → HasInstr v i → HasInstr v (with_target pc i)
+of_version Two pc i h = tt
+of_version One pc (Set to number) h = h
+of_version One pc (Copy to from) h = h
+of_version One pc (Add to left right otherwise) h = h
+of_version One pc (Subtract to left right otherwise) h = h
+of_version One pc (Multiply to left right otherwise) h = h
+of_version One pc (Divide to left right otherwise) h = h
+of_version One pc (Jump to) h = h
+of_version One pc (JumpIfLess left right to) h = h
+of_version One pc (JumpIfEqual left right to) h = h
+of_version One pc (Repeat count) h = h
+of_version One pc (RepeatBy turns count) h = h
+of_version One pc End h = h
+of_version One pc (First to number otherwise) h = h
+of_version One pc (Child to parent number otherwise) h = h
+of_version One pc (Move to from) h = h
+of_version One pc (Release node) h = h
+of_version One pc (Get to node field) h = h
+of_version One pc (Put node field from) h = h
+of_version One pc (Kids to node) h = h
+of_version One pc (Emit from) h = h
+of_version One pc Return h = h
+
 -- a label names a position up to the number of instructions
 pub position_within : (pc m k : ℕ) (ss : List (Option Said)) (label : Word) (t : ℕ) → pc + length (drafts_in m ss) ≤ k → position_of (labels_in pc ss) label ≡ Some t → t ≤ k
 position_within pc m k [] label t le e = absurd (cc)
 position_within pc m k (None ∷ ss) label t le e = position_within pc (m + 1) k ss label t le e
 position_within pc m k (Some Blank ∷ ss) label t le e = position_within pc (m + 1) k ss label t le e
+position_within pc m k (Some Version2 ∷ ss) label t le e = position_within pc (m + 1) k ss label t le e
 position_within pc m k (Some (Takes arity) ∷ ss) label t le e = position_within pc (m + 1) k ss label t le e
 position_within pc m k (Some (Names name) ∷ ss) label t le e =
     elim (cases_Bool (bytes_eq label name)) [
@@ -80,21 +111,21 @@ within_from_none : (o : Option ℕ) (n : ℕ) → IfSome o (λ t. t ≤ 0) → I
 within_from_none None n h = tt
 within_from_none (Some t) n h = omega (arith, h)
 
-module _ (ss : List (Option Said)) where
-  is_instr : (i x : Instr) (label : Option Word) → aimed (labels_in 0 ss) i label ≡ Some x → IsInstr 0 i → IsInstr (length (drafts_in 1 ss)) x
+module _ (ss : List (Option Said)) (v : Version) where
+  is_instr : (i x : Instr) (label : Option Word) → aimed (labels_in 0 ss) i label ≡ Some x → IsInstr v 0 i → IsInstr v (length (drafts_in 1 ss)) x
   is_instr i x None e h =
       let same : i ≡ x = cc in
-      subst (IsInstr (length (drafts_in 1 ss))) same (record { in_range = h.in_range; goes_within = within_from_none (target i) (length (drafts_in 1 ss)) h.goes_within })
+      subst (IsInstr v (length (drafts_in 1 ss))) same (record { in_range = h.in_range; goes_within = within_from_none (target i) (length (drafts_in 1 ss)) h.goes_within; of_version = h.of_version })
   is_instr i x (Some label) e h = at (position_of (labels_in 0 ss) label) refl
     where
-      at : (o : Option ℕ) → position_of (labels_in 0 ss) label ≡ o → IsInstr (length (drafts_in 1 ss)) x
+      at : (o : Option ℕ) → position_of (labels_in 0 ss) label ≡ o → IsInstr v (length (drafts_in 1 ss)) x
       at None p = let wrong : None ≡ Some x = ap (option_map (λ pc. with_target pc i)) (sym p) ∙ e in absurd (cc)
       at (Some pc) p =
           let found : Some (with_target pc i) ≡ Some x = ap (option_map (λ pc. with_target pc i)) (sym p) ∙ e in
           let same : with_target pc i ≡ x = cc in
-          subst (IsInstr (length (drafts_in 1 ss))) same (record { in_range = in_range pc i h.in_range; goes_within = goes_within (length (drafts_in 1 ss)) pc i (position_within 0 1 (length (drafts_in 1 ss)) ss label pc (omega arith) p) })
+          subst (IsInstr v (length (drafts_in 1 ss))) same (record { in_range = in_range pc i h.in_range; goes_within = goes_within (length (drafts_in 1 ss)) pc i (position_within 0 1 (length (drafts_in 1 ss)) ss label pc (omega arith) p); of_version = of_version v pc i h.of_version })
 
-  all_instrs : (ds : List (ℕ × DraftValue)) (xs : List Instr) → map (λ d. aimed (labels_in 0 ss) d.1.instr d.1.label) ds ≡ map Some xs → AllByRecursion (IsInstr 0) (map (λ d. d.1.instr) ds) → AllByRecursion (IsInstr (length (drafts_in 1 ss))) xs
+  all_instrs : (ds : List (ℕ × DraftValue)) (xs : List Instr) → map (λ d. aimed (labels_in 0 ss) d.1.instr d.1.label) ds ≡ map Some xs → AllByRecursion (IsInstr v 0) (map (λ d. d.1.instr) ds) → AllByRecursion (IsInstr v (length (drafts_in 1 ss))) xs
   all_instrs [] [] e h = tt
   all_instrs [] (x ∷ xs) e h = absurd (cc)
   all_instrs (d ∷ ds) [] e h = absurd (cc)
@@ -108,7 +139,7 @@ drafts_again : (ds : List (ℕ × DraftValue)) → drafts_of (map (λ d. d.1.ins
 drafts_again [] = refl
 drafts_again (d ∷ ds) = ap (λ (rest : List (ℕ × DraftValue)). d ∷ rest) (drafts_again ds)
 
-module _ (ss : List (Option Said)) (given : Option ℕ) (entries : List (Word × ℕ)) (is : List Instr) (lines : List (ℕ × Option Word)) (sk : Sketched ss given entries is lines) where
+module _ (ss : List (Option Said)) (v : Version) (given : Option ℕ) (entries : List (Word × ℕ)) (is : List Instr) (lines : List (ℕ × Option Word)) (sk : Sketched ss v given entries is lines) where
   drafts : drafts_of is lines ≡ drafts_in 1 ss
   drafts = (λ j. drafts_of (sk.instrs j) (sk.origins j)) ∙ drafts_again (drafts_in 1 ss)
 
@@ -121,7 +152,7 @@ module _ (ss : List (Option Said)) (given : Option ℕ) (entries : List (Word ×
   found_in : (xs : List Instr) → map (λ d. aimed entries d.1.instr d.1.label) (drafts_of is lines) ≡ map Some xs → map (λ d. aimed (labels_in 0 ss) d.1.instr d.1.label) (drafts_in 1 ss) ≡ map Some xs
   found_in xs found = (λ j. map (λ d. aimed (sym sk.labels j) d.1.instr d.1.label) (sym drafts j)) ∙ found
 
-  pub is_code : (arity : ℕ) (xs : List Instr) → given ≡ Some arity → 0 < length is → map (λ d. aimed entries d.1.instr d.1.label) (drafts_of is lines) ≡ map Some xs → IsCode (record { arity = arity; instrs = xs })
+  pub is_code : (arity : ℕ) (xs : List Instr) → given ≡ Some arity → 0 < length is → map (λ d. aimed entries d.1.instr d.1.label) (drafts_of is lines) ≡ map Some xs → IsCode (record { version = v; arity = arity; instrs = xs })
   is_code arity xs e some found =
       let aims = found_in xs found in
       let many : length (drafts_in 1 ss) ≡ length xs = sym (length-map (drafts_in 1 ss) (λ d. aimed (labels_in 0 ss) d.1.instr d.1.label)) ∙ ap length aims ∙ length-map xs Some in
@@ -130,7 +161,7 @@ module _ (ss : List (Option Said)) (given : Option ℕ) (entries : List (Word ×
       record {
         arity = subst (λ o. IfSome o IsArity) e sk.arity_in_range;
         count = (omega arith, omega arith);
-        instrs = subst (λ (k : ℕ). All (IsInstr k) xs) many (All-from_recursion (IsInstr (length (drafts_in 1 ss))) xs (all_instrs ss (drafts_in 1 ss) xs aims (recursion_from_All (IsInstr 0) (map (λ d. d.1.instr) (drafts_in 1 ss)) (subst (All (IsInstr 0)) sk.instrs sk.in_range))));
+        instrs = subst (λ (k : ℕ). All (IsInstr v k) xs) many (All-from_recursion (IsInstr v (length (drafts_in 1 ss))) xs (all_instrs ss v (drafts_in 1 ss) xs aims (recursion_from_All (IsInstr v 0) (map (λ d. d.1.instr) (drafts_in 1 ss)) (subst (All (IsInstr v 0)) sk.instrs sk.in_range))));
       }
 
   pub is_whole : (arity : ℕ) → given ≡ Some arity → 0 < length is → IsWhole ss
@@ -161,13 +192,14 @@ same_statements text lines e = again lines ∙ ap (map says) e
     again [] = refl
     again (l ∷ ls) = ap (λ (rest : List (Option Said)). says l.now ∷ rest) (again ls)
 
-pub written : (text : List ℕ) (ss : List (Option Said)) (entries : List (Word × ℕ)) (is : List Instr) (lines : List (ℕ × Option Word)) (arity : ℕ) (xs : List Instr) → ss ≡ statements text → Sketched ss (Some arity) entries is lines → 0 < length is → map (λ d. aimed entries d.1.instr d.1.label) (drafts_of is lines) ≡ map Some xs → Written text (record { arity = arity; instrs = xs })
-written text ss entries is lines arity xs e sk some found =
-    let at : Sketched (statements text) (Some arity) entries is lines = subst (λ (s : List (Option Said)). Sketched s (Some arity) entries is lines) e sk in
+pub written : (text : List ℕ) (ss : List (Option Said)) (v : Version) (entries : List (Word × ℕ)) (is : List Instr) (lines : List (ℕ × Option Word)) (arity : ℕ) (xs : List Instr) → ss ≡ statements text → Sketched ss v (Some arity) entries is lines → 0 < length is → map (λ d. aimed entries d.1.instr d.1.label) (drafts_of is lines) ≡ map Some xs → Written text (record { version = v; arity = arity; instrs = xs })
+written text ss v entries is lines arity xs e sk some found =
+    let at : Sketched (statements text) v (Some arity) entries is lines = subst (λ (s : List (Option Said)). Sketched s v (Some arity) entries is lines) e sk in
     record {
-      code = is_code (statements text) (Some arity) entries is lines at arity xs refl some found;
+      code = is_code (statements text) v (Some arity) entries is lines at arity xs refl some found;
       in_place = at.begin.in_place;
+      version = sym at.version_is;
       arity = sym at.arity;
       distinct = at.begin.distinct;
-      instrs = found_in (statements text) (Some arity) entries is lines at xs found;
+      instrs = found_in (statements text) v (Some arity) entries is lines at xs found;
     }

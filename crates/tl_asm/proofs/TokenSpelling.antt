@@ -11,12 +11,12 @@ use Rattle.std.specs.Str.{all_ascii_digits}
 use Rattle.std.proofs.lemmas.Bool.{ne_eqb, lt-ltb}
 use Rattle.std.proofs.lemmas.Fmt.{digits_decimal, digits_value-decimal, decimal_nonempty, decimal_digit, first_decimal, length-decimal-le}
 use Rattle.tl_instr.specs.declared.instr.Instr.{Instr}
-use Rattle.tl_instr.specs.declared.instr.Instr.TheVariants.{Set, Copy, Add, Subtract, Multiply, Divide, Jump, JumpIfLess, JumpIfEqual, Repeat, End, First, Child, Move, Release, Get, Put, Kids, Emit, Return}
+use Rattle.tl_instr.specs.declared.instr.Instr.TheVariants.{Set, Copy, Add, Subtract, Multiply, Divide, Jump, JumpIfLess, JumpIfEqual, Repeat, RepeatBy, End, First, Child, Move, Release, Get, Put, Kids, Emit, Return}
 use Rattle.tl_instr.specs.Instructions.{InRange, GoesWithin, target}
 use Rattle.tl_fields.specs.Fields.{field_count}
 use Rattle.tl_instr.specs.declared.operand.TheConstants.{VALUE_REGISTERS, NODE_REGISTERS}
 use Rattle.tl_asm.specs.Tokens.{is_number, number_in, register_in, signed_in, continues_label, is_label}
-use Rattle.tl_asm.specs.Statements.{DraftValue, Takes, Names, Does, otherwise_in, bare_in, set_in, copy_in, arithmetic_in, add_in, subtract_in, multiply_in, divide_in, jump_in, comparison_in, jump_if_less_in, jump_if_equal_in, repeat_in, first_in, child_in, move_in, release_in, get_in, put_in, kids_in, emit_in, draft_in, said_in}
+use Rattle.tl_asm.specs.Statements.{DraftValue, Version2, Takes, Names, Does, otherwise_in, bare_in, set_in, copy_in, arithmetic_in, add_in, subtract_in, multiply_in, divide_in, jump_in, comparison_in, jump_if_less_in, jump_if_equal_in, repeat_in, repeat_by_in, first_in, child_in, move_in, release_in, get_in, put_in, kids_in, emit_in, draft_in, said_in}
 use Rattle.tl_asm.specs.Texts.{with_target}
 use Rattle.tl_asm.specs.Listing.{label_word, instr_words}
 use lib.Chars.{codes}
@@ -91,7 +91,7 @@ abbrev pub drafted : Instr → DraftValue
 drafted i = record { instr = with_target 0 i; label = option_map label_word (target i) }
 
 pub instr_again : (i : Instr) → InRange i → GoesWithin 1024 i → said_in (instr_words i) ≡ Some (Does (drafted i))
-unfolding otherwise_in bare_in set_in copy_in arithmetic_in add_in subtract_in multiply_in divide_in jump_in comparison_in jump_if_less_in jump_if_equal_in repeat_in first_in child_in move_in release_in get_in put_in kids_in emit_in draft_in said_in
+unfolding otherwise_in bare_in set_in copy_in arithmetic_in add_in subtract_in multiply_in divide_in jump_in comparison_in jump_if_less_in jump_if_equal_in repeat_in repeat_by_in first_in child_in move_in release_in get_in put_in kids_in emit_in draft_in said_in
 instr_again (Set to number) h t = rw (value_again to h.0, signed_again number h.1) refl
 instr_again (Copy to from) h t = rw (value_again to h.0, value_again from h.1) refl
 instr_again (Add to left right otherwise) h t = rw (value_again to h.0, value_again left h.1, value_again right h.2, label_again otherwise t) refl
@@ -102,6 +102,7 @@ instr_again (Jump to) h t = rw (label_again to t) refl
 instr_again (JumpIfLess left right to) h t = rw (value_again left h.0, value_again right h.1, label_again to t) refl
 instr_again (JumpIfEqual left right to) h t = rw (value_again left h.0, value_again right h.1, label_again to t) refl
 instr_again (Repeat count) h t = rw (number_again 65536 count h (omega arith)) refl
+instr_again (RepeatBy turns count) h t = rw (value_again turns h.0, number_again 65536 count h.1 (omega arith)) refl
 instr_again End h t = refl
 instr_again (First to number otherwise) h t = rw (node_again to h.0, value_again number h.1, label_again otherwise t) refl
 instr_again (Child to parent number otherwise) h t = rw (node_again to h.0, node_again parent h.1, value_again number h.2, label_again otherwise t) refl
@@ -116,6 +117,10 @@ instr_again Return h t = refl
 pub arity_again : (n : ℕ) → n ≤ 8 → said_in (codes "arity" ∷ decimal n ∷ []) ≡ Some (Takes n)
 unfolding said_in
 arity_again n le = rw (number_again 9 n (omega arith) (omega arith)) refl
+
+pub version_again : said_in (codes "version" ∷ codes "2" ∷ []) ≡ Some Version2
+unfolding said_in
+version_again = refl
 
 -- a label's line
 pub label_line_again : (pc : ℕ) → pc ≤ 1024 → said_in ((label_word pc ++ 58 ∷ []) ∷ []) ≡ Some (Names (label_word pc))

@@ -5,7 +5,9 @@ use Rattle.std.specs.Fmt.{decimal, signed_decimal}
 use Rattle.std.specs.Option.{option_map_or}
 use lib.Chars.{codes}
 use Rattle.tl_instr.specs.declared.instr.Instr.{Instr}
-use Rattle.tl_instr.specs.declared.instr.Instr.TheVariants.{Set, Copy, Add, Subtract, Multiply, Divide, Jump, JumpIfLess, JumpIfEqual, Repeat, End, First, Child, Move, Release, Get, Put, Kids, Emit, Return}
+use Rattle.tl_instr.specs.declared.instr.Instr.TheVariants.{Set, Copy, Add, Subtract, Multiply, Divide, Jump, JumpIfLess, JumpIfEqual, Repeat, RepeatBy, End, First, Child, Move, Release, Get, Put, Kids, Emit, Return}
+use Rattle.tl_instr.specs.declared.version.Version.{Version}
+use Rattle.tl_instr.specs.declared.version.Version.TheVariants.{One, Two}
 use Rattle.tl_instr.specs.Codes.{CodeValue}
 use Rattle.tl_instr.specs.Instructions.{target}
 use Rattle.tl_asm.specs.Words.{Word}
@@ -32,6 +34,7 @@ words_to label (Jump to) = codes "jmp" ∷ label ∷ []
 words_to label (JumpIfLess left right to) = codes "jlt" ∷ value_word left ∷ value_word right ∷ label ∷ []
 words_to label (JumpIfEqual left right to) = codes "jeq" ∷ value_word left ∷ value_word right ∷ label ∷ []
 words_to label (Repeat count) = codes "rep" ∷ decimal count ∷ []
+words_to label (RepeatBy turns count) = codes "repv" ∷ value_word turns ∷ decimal count ∷ []
 words_to label End = codes "end" ∷ []
 words_to label (First to number otherwise) = codes "first" ∷ node_word to ∷ value_word number ∷ codes "else" ∷ label ∷ []
 words_to label (Child to parent number otherwise) = codes "child" ∷ node_word to ∷ node_word parent ∷ value_word number ∷ codes "else" ∷ label ∷ []
@@ -69,5 +72,10 @@ abbrev pub lines_from : List Instr → ℕ → List Instr → List ℕ
 lines_from instrs pc [] = label_line instrs pc
 lines_from instrs pc (i ∷ is) = label_line instrs pc ++ (instr_line i ++ lines_from instrs (pc + 1) is)
 
+-- the version, if it isn't the first, and the arity
+abbrev pub header_lines : Version → ℕ → List ℕ
+header_lines One arity = line_of (codes "arity" ∷ decimal arity ∷ [])
+header_lines Two arity = line_of (codes "version" ∷ codes "2" ∷ []) ++ line_of (codes "arity" ∷ decimal arity ∷ [])
+
 abbrev pub listing : CodeValue → List ℕ
-listing c = line_of (codes "arity" ∷ decimal c.arity ∷ []) ++ lines_from c.instrs 0 c.instrs
+listing c = header_lines c.version c.arity ++ lines_from c.instrs 0 c.instrs

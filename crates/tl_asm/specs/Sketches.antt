@@ -3,6 +3,7 @@ use Rattle.std.specs.Prelude.{◌≡◌, ◌<◌, ℕ, List, [], ◌∷◌, map,
 use Rattle.std.specs.Borrow.{Bor}
 use Rattle.std.specs.List.{All}
 use Rattle.tl_instr.specs.declared.instr.Instr.{Instr}
+use Rattle.tl_instr.specs.declared.version.Version.{Version}
 use Rattle.tl_instr.specs.Codes.{IsArity}
 use Rattle.tl_instr.specs.Instructions.{IsInstr}
 use Rattle.tl_instr.specs.declared.code.TheConstants.{MAX_COUNT}
@@ -12,7 +13,7 @@ use Rattle.tl_asm.specs.declared.sketch.Origin.{Origin}
 use Rattle.tl_asm.specs.declared.sketch.Sketch.{Sketch}
 use Rattle.tl_asm.specs.Words.{Word}
 use Rattle.tl_asm.specs.Statements.{DraftValue, Said, says}
-use Rattle.tl_asm.specs.Texts.{InPlace, Distinct, arity_in, labels_in, drafts_in, aimed}
+use Rattle.tl_asm.specs.Texts.{InPlace, Distinct, version_in, arity_in, labels_in, drafts_in, aimed}
 use Rattle.tl_asm.specs.Faults.{Begin}
 
 -- what lines in memory say
@@ -26,19 +27,20 @@ known entries = map (λ entry. (entry.0.now, entry.1)) entries
 abbrev pub traced : List Origin → List (ℕ × Option Word)
 traced origins = map (λ origin. (origin.line, option_map (λ label. label.now) origin.label)) origins
 
--- These lines begin a text, and the arity, the labels, the instructions and their origins are theirs.
-pub record Sketched (ss : List (Option Said)) (given : Option ℕ) (entries : List (Word × ℕ)) (is : List Instr) (lines : List (ℕ × Option Word)) : Type 0 where
+-- These lines begin a text, and the version, the arity, the labels, the instructions and their origins are theirs.
+pub record Sketched (ss : List (Option Said)) (version : Version) (given : Option ℕ) (entries : List (Word × ℕ)) (is : List Instr) (lines : List (ℕ × Option Word)) : Type 0 where
   pub begin : Begin ss
+  pub version_is : version ≡ version_in ss
   pub arity : given ≡ arity_in ss
   pub arity_in_range : IfSome given IsArity
   pub labels : entries ≡ labels_in 0 ss
   pub instrs : is ≡ map (λ d. d.1.instr) (drafts_in 1 ss)
   pub origins : lines ≡ map (λ d. (d.0, d.1.label)) (drafts_in 1 ss)
-  pub in_range : All (IsInstr 0) is
+  pub in_range : All (IsInstr version 0) is
 
 -- The sketch is that of these lines.
 abbrev pub IsSketch : List (Option Said) → Sketch → Type 0
-IsSketch ss s = Sketched ss s.arity (known s.labels.entries) s.instrs.items (traced s.origins.items)
+IsSketch ss s = Sketched ss s.version s.arity (known s.labels.entries) s.instrs.items (traced s.origins.items)
 
 -- what is wrong with the last of these lines, where those before it begin a text
 abbrev pub IsWrongLast : List (Option Said) → AsmFault → Type 0

@@ -4,7 +4,8 @@ use Rattle.std.specs.Str.{bytes_eq}
 use lib.Chars.{codes}
 use Rattle.tl_fields.specs.Fields.{field_count}
 use Rattle.tl_instr.specs.declared.instr.Instr.{Instr}
-use Rattle.tl_instr.specs.declared.instr.Instr.TheVariants.{Set, Copy, Add, Subtract, Multiply, Divide, Jump, JumpIfLess, JumpIfEqual, Repeat, End, First, Child, Move, Release, Get, Put, Kids, Emit, Return}
+use Rattle.tl_instr.specs.declared.instr.Instr.TheVariants.{Set, Copy, Add, Subtract, Multiply, Divide, Jump, JumpIfLess, JumpIfEqual, Repeat, RepeatBy, End, First, Child, Move, Release, Get, Put, Kids, Emit, Return}
+use Rattle.tl_instr.specs.declared.version.Version.TheVariants.{Two}
 use Rattle.tl_instr.specs.Codes.{IsArity}
 use Rattle.tl_instr.specs.Instructions.{IsInstr}
 use Rattle.tl_asm.specs.declared.draft.Draft.{Draft}
@@ -127,6 +128,12 @@ repeat_in words = do
   count ← last (number_in 65536) words
   Some (plain (Repeat count))
 
+unfoldable pub repeat_by_in : List Word → Option DraftValue
+repeat_by_in words = do
+  turns ← token value_register words
+  count ← last (number_in 65536) turns.1
+  Some (plain (RepeatBy turns.0 count))
+
 unfoldable pub first_in : List Word → Option DraftValue
 first_in words = do
   to ← token node_register words
@@ -201,10 +208,12 @@ draft_in name words =
     else (if bytes_eq name (codes "kids") then kids_in words
     else (if bytes_eq name (codes "emit") then emit_in words
     else (if bytes_eq name (codes "ret") then bare_in Return words
-    else None)))))))))))))))))))
+    else (if bytes_eq name (codes "repv") then repeat_by_in words
+    else None))))))))))))))))))))
 
 pub data Said : Type 0 where
   Blank : Said
+  Version2 : Said
   Takes : ℕ → Said
   Names : Word → Said
   Does : DraftValue → Said
@@ -213,13 +222,18 @@ abbrev pub names_in : Word → List Word → Option Said
 names_in label [] = option_map Names (label_in label)
 names_in label (word ∷ words) = None
 
--- the arity, a label, or an instruction
+-- the number of a version that is named: there is no other than the second
+abbrev pub version_named : Word → Option Said
+version_named word = if bytes_eq word (codes "2") then Some Version2 else None
+
+-- the version, the arity, a label, or an instruction
 unfoldable pub said_in : List Word → Option Said
 said_in [] = Some Blank
 said_in (name ∷ words) =
-    if bytes_eq name (codes "arity") then option_map Takes (last (number_in 9) words)
+    if bytes_eq name (codes "version") then last version_named words
+    else (if bytes_eq name (codes "arity") then option_map Takes (last (number_in 9) words)
     else (if slice_index name (length name - 1) == 58 then names_in (take (length name - 1) name) words
-    else option_map Does (draft_in name words))
+    else option_map Does (draft_in name words)))
 
 -- what a line says, where it is of one of these forms
 abbrev pub says : List ℕ → Option Said
@@ -228,6 +242,7 @@ says line = said_in (words_of (without_comment line))
 -- a statement without where its label lies in memory
 abbrev pub shown : Statement → Said
 shown statements.Blank = Blank
+shown statements.Version2 = Version2
 shown (statements.Takes arity) = Takes arity
 shown (statements.Names label) = Names label.now
 shown (statements.Does draft) = Does (view draft)
@@ -235,6 +250,7 @@ shown (statements.Does draft) = Does (view draft)
 -- an arity and operands are in range, and a target is 0
 abbrev pub IsSaid : Said → Type 0
 IsSaid Blank = Unit {0}
+IsSaid Version2 = Unit {0}
 IsSaid (Takes arity) = IsArity arity
 IsSaid (Names label) = Unit {0}
-IsSaid (Does d) = IsInstr 0 d.instr
+IsSaid (Does d) = IsInstr Two 0 d.instr

@@ -36,7 +36,7 @@ fn code_of(alloc: Global, text: &str) -> Result<Code, AsmFault>
         return Err(AsmFault::BadLine(lines.len() as u64));
     }
     let instrs = resolved(alloc, &sketch.instrs, &sketch.origins, &sketch.labels)?;
-    match Code::new(alloc, arity, instrs) {
+    match Code::of_version(alloc, sketch.version, arity, instrs) {
         Ok(code) => Ok(code),
         Err(fault) => match fault {
             CodeFault::Memory => Err(AsmFault::Memory),
@@ -48,7 +48,8 @@ fn code_of(alloc: Global, text: &str) -> Result<Code, AsmFault>
 
 /// The code that the text stands for.
 ///
-/// The first of these faults: line by line, 251 at a line that isn't of the text's forms or has no place there, 253 at
+/// The first of these faults: line by line, 251 at a line that isn't of the text's forms or has no place there, such as an
+/// instruction of the second version in a text that doesn't begin with `version 2`, 253 at
 /// a label that an earlier line defines, and 254 at the 1,025th instruction; then 251, with the number of lines, where
 /// no line has the arity or no line has an instruction; then 252 at the first line whose label no line defines. 290
 /// where memory is refused.

@@ -4,11 +4,11 @@ ghost use Rattle.std.specs.Prelude.{◌≡◌, ◌∷◌, [], codes, decimal, If
 ghost use Rattle.std.specs.Fmt.{signed_decimal};
 ghost use Rattle.std.specs.String.{string_bytes};
 ghost use Rattle.tl_asm.specs.Texts.{Written};
-ghost use Rattle.tl_asm.specs.Listing.{line_of, value_word, node_word, label_word, instr_line, label_line, is_target, listing};
+ghost use Rattle.tl_asm.specs.Listing.{line_of, value_word, node_word, label_word, instr_line, label_line, is_target, header_lines, listing};
 
 use crate::fault::AsmFault;
 use std::alloc::Global;
-use tl_instr::{Code, Field, Instr, NodeRegister, ValueRegister};
+use tl_instr::{Code, Field, Instr, NodeRegister, ValueRegister, Version};
 
 /// Whether control may go to this position.
 fn is_target(instrs: &[Instr], position: u16) -> bool
@@ -191,6 +191,9 @@ fn instr_line(alloc: Global, instr: &Instr) -> Result<String, AsmFault>
             target,
         } => comparison_line(alloc, "jeq", left, right, target),
         Instr::Repeat { count } => Ok(format!(in alloc; "rep {count}\n")?),
+        Instr::RepeatBy { turns, count } => {
+            Ok(format!(in alloc; "repv v{} {count}\n", turns.number())?)
+        }
         Instr::End => Ok(format!(in alloc; "end\n")?),
         Instr::First {
             to,
@@ -225,8 +228,20 @@ fn label_line(alloc: Global, instrs: &[Instr], position: u16) -> Result<String, 
     }
 }
 
-/// The canonical text of the code: its arity, its instructions, a line each, and before an instruction that is a target,
-/// and at the end if that is one, a line with `L` and the position.
+/// What stands before the instructions: the version, if it isn't the first, and the arity.
+fn header(alloc: Global, code: &Code) -> Result<String, AsmFault>
+    ensures lines { IfOk result (λ lines. string_bytes lines ≡ header_lines code.now.version code.now.arity) }
+    ensures memory { IfErr result (λ f. f ≡ AsmFault.Memory) }
+{
+    let arity = code.arity().number();
+    match code.version() {
+        Version::One => Ok(format!(in alloc; "arity {arity}\n")?),
+        Version::Two => Ok(format!(in alloc; "version 2\narity {arity}\n")?),
+    }
+}
+
+/// The canonical text of the code: its version, if that is the second, its arity, its instructions, a line each, and before
+/// an instruction that is a target, and at the end if that is one, a line with `L` and the position.
 ///
 /// 290 where memory is refused.
 pub fn disassemble(alloc: Global, code: &Code) -> Result<String, AsmFault>
@@ -235,7 +250,7 @@ pub fn disassemble(alloc: Global, code: &Code) -> Result<String, AsmFault>
     ensures memory { IfErr result (λ f. f ≡ AsmFault.Memory) }
 {
     let instrs = code.instrs();
-    let mut text = format!(in alloc; "arity {}\n", code.arity().number())?;
+    let mut text = header(alloc, code)?;
     for position in 0..code.count() {
         text.push_str(&label_line(alloc, instrs, position)?)?;
         text.push_str(&instr_line(alloc, &instrs[usize::from(position)])?)?;

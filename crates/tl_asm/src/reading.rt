@@ -2,10 +2,11 @@
 
 ghost use Rattle.std.specs.Prelude.{◌≡◌, IfSome};
 ghost use Rattle.tl_fields.specs.Fields.{field_count};
+ghost use Rattle.tl_instr.specs.declared.version.Version.TheVariants.{Two};
 ghost use Rattle.tl_instr.specs.Instructions.{GoesWithin, IsInstr};
 ghost use Rattle.tl_asm.specs.Words.{words_of, Finds};
 ghost use Rattle.tl_asm.specs.Tokens.{number_in, value_register, node_register, signed_in};
-ghost use Rattle.tl_asm.specs.Statements.{view, token, only_of, last, label_in, else_in, otherwise_in, bare_in, set_in, copy_in, arithmetic_in, add_in, subtract_in, multiply_in, divide_in, jump_in, comparison_in, jump_if_less_in, jump_if_equal_in, repeat_in, first_in, child_in, move_in, release_in, get_in, put_in, kids_in, emit_in, draft_in};
+ghost use Rattle.tl_asm.specs.Statements.{view, token, only_of, last, label_in, else_in, otherwise_in, bare_in, set_in, copy_in, arithmetic_in, add_in, subtract_in, multiply_in, divide_in, jump_in, comparison_in, jump_if_less_in, jump_if_equal_in, repeat_in, repeat_by_in, first_in, child_in, move_in, release_in, get_in, put_in, kids_in, emit_in, draft_in};
 
 use crate::draft::Draft;
 use crate::token;
@@ -73,7 +74,7 @@ fn otherwise(line: &[u8]) -> Option<&[u8]>
 fn bare(instr: Instr, line: &[u8]) -> Option<Draft<'_>>
     requires { GoesWithin 0 instr }
     ensures found { Finds view result (bare_in instr (words_of line.now)) }
-    ensures in_range { IfSome result (λ d. IsInstr 0 d.instr) }
+    ensures in_range { IfSome result (λ d. IsInstr Two 0 d.instr) }
 {
     if next_word(line).is_some() {
         return None;
@@ -84,7 +85,7 @@ fn bare(instr: Instr, line: &[u8]) -> Option<Draft<'_>>
 #[tactic(auto, unfolding(crate::specs::Statements::set_in))]
 fn set(line: &[u8]) -> Option<Draft<'_>>
     ensures found { Finds view result (set_in (words_of line.now)) }
-    ensures in_range { IfSome result (λ d. IsInstr 0 d.instr) }
+    ensures in_range { IfSome result (λ d. IsInstr Two 0 d.instr) }
 {
     let Some((to, rest)) = value(line) else {
         return None;
@@ -99,7 +100,7 @@ fn set(line: &[u8]) -> Option<Draft<'_>>
 #[tactic(auto, unfolding(crate::specs::Statements::copy_in))]
 fn copy(line: &[u8]) -> Option<Draft<'_>>
     ensures found { Finds view result (copy_in (words_of line.now)) }
-    ensures in_range { IfSome result (λ d. IsInstr 0 d.instr) }
+    ensures in_range { IfSome result (λ d. IsInstr Two 0 d.instr) }
 {
     let Some((to, rest)) = value(line) else {
         return None;
@@ -132,7 +133,7 @@ fn arithmetic(line: &[u8]) -> Option<(ValueRegister, ValueRegister, ValueRegiste
 #[tactic(auto, unfolding(crate::specs::Statements::add_in))]
 fn add(line: &[u8]) -> Option<Draft<'_>>
     ensures found { Finds view result (add_in (words_of line.now)) }
-    ensures in_range { IfSome result (λ d. IsInstr 0 d.instr) }
+    ensures in_range { IfSome result (λ d. IsInstr Two 0 d.instr) }
 {
     let Some((to, left, right, label)) = arithmetic(line) else {
         return None;
@@ -151,7 +152,7 @@ fn add(line: &[u8]) -> Option<Draft<'_>>
 #[tactic(auto, unfolding(crate::specs::Statements::subtract_in))]
 fn subtract(line: &[u8]) -> Option<Draft<'_>>
     ensures found { Finds view result (subtract_in (words_of line.now)) }
-    ensures in_range { IfSome result (λ d. IsInstr 0 d.instr) }
+    ensures in_range { IfSome result (λ d. IsInstr Two 0 d.instr) }
 {
     let Some((to, left, right, label)) = arithmetic(line) else {
         return None;
@@ -170,7 +171,7 @@ fn subtract(line: &[u8]) -> Option<Draft<'_>>
 #[tactic(auto, unfolding(crate::specs::Statements::multiply_in))]
 fn multiply(line: &[u8]) -> Option<Draft<'_>>
     ensures found { Finds view result (multiply_in (words_of line.now)) }
-    ensures in_range { IfSome result (λ d. IsInstr 0 d.instr) }
+    ensures in_range { IfSome result (λ d. IsInstr Two 0 d.instr) }
 {
     let Some((to, left, right, label)) = arithmetic(line) else {
         return None;
@@ -189,7 +190,7 @@ fn multiply(line: &[u8]) -> Option<Draft<'_>>
 #[tactic(auto, unfolding(crate::specs::Statements::divide_in))]
 fn divide(line: &[u8]) -> Option<Draft<'_>>
     ensures found { Finds view result (divide_in (words_of line.now)) }
-    ensures in_range { IfSome result (λ d. IsInstr 0 d.instr) }
+    ensures in_range { IfSome result (λ d. IsInstr Two 0 d.instr) }
 {
     let Some((to, left, right, label)) = arithmetic(line) else {
         return None;
@@ -208,7 +209,7 @@ fn divide(line: &[u8]) -> Option<Draft<'_>>
 #[tactic(auto, unfolding(crate::specs::Statements::jump_in))]
 fn jump(line: &[u8]) -> Option<Draft<'_>>
     ensures found { Finds view result (jump_in (words_of line.now)) }
-    ensures in_range { IfSome result (λ d. IsInstr 0 d.instr) }
+    ensures in_range { IfSome result (λ d. IsInstr Two 0 d.instr) }
 {
     let label = label(line)?;
     Some(Draft {
@@ -235,7 +236,7 @@ fn comparison(line: &[u8]) -> Option<(ValueRegister, ValueRegister, &[u8])>
 #[tactic(auto, unfolding(crate::specs::Statements::jump_if_less_in))]
 fn jump_if_less(line: &[u8]) -> Option<Draft<'_>>
     ensures found { Finds view result (jump_if_less_in (words_of line.now)) }
-    ensures in_range { IfSome result (λ d. IsInstr 0 d.instr) }
+    ensures in_range { IfSome result (λ d. IsInstr Two 0 d.instr) }
 {
     let Some((left, right, label)) = comparison(line) else {
         return None;
@@ -253,7 +254,7 @@ fn jump_if_less(line: &[u8]) -> Option<Draft<'_>>
 #[tactic(auto, unfolding(crate::specs::Statements::jump_if_equal_in))]
 fn jump_if_equal(line: &[u8]) -> Option<Draft<'_>>
     ensures found { Finds view result (jump_if_equal_in (words_of line.now)) }
-    ensures in_range { IfSome result (λ d. IsInstr 0 d.instr) }
+    ensures in_range { IfSome result (λ d. IsInstr Two 0 d.instr) }
 {
     let Some((left, right, label)) = comparison(line) else {
         return None;
@@ -271,7 +272,7 @@ fn jump_if_equal(line: &[u8]) -> Option<Draft<'_>>
 #[tactic(auto, unfolding(crate::specs::Statements::repeat_in))]
 fn repeat(line: &[u8]) -> Option<Draft<'_>>
     ensures found { Finds view result (repeat_in (words_of line.now)) }
-    ensures in_range { IfSome result (λ d. IsInstr 0 d.instr) }
+    ensures in_range { IfSome result (λ d. IsInstr Two 0 d.instr) }
 {
     let count = token::turns(only_word(line)?)?;
     Some(Draft {
@@ -280,10 +281,25 @@ fn repeat(line: &[u8]) -> Option<Draft<'_>>
     })
 }
 
+#[tactic(auto, unfolding(crate::specs::Statements::repeat_by_in))]
+fn repeat_by(line: &[u8]) -> Option<Draft<'_>>
+    ensures found { Finds view result (repeat_by_in (words_of line.now)) }
+    ensures in_range { IfSome result (λ d. IsInstr Two 0 d.instr) }
+{
+    let Some((turns, rest)) = value(line) else {
+        return None;
+    };
+    let count = token::turns(only_word(rest)?)?;
+    Some(Draft {
+        instr: Instr::RepeatBy { turns, count },
+        label: None,
+    })
+}
+
 #[tactic(auto, unfolding(crate::specs::Statements::first_in))]
 fn first(line: &[u8]) -> Option<Draft<'_>>
     ensures found { Finds view result (first_in (words_of line.now)) }
-    ensures in_range { IfSome result (λ d. IsInstr 0 d.instr) }
+    ensures in_range { IfSome result (λ d. IsInstr Two 0 d.instr) }
 {
     let Some((to, rest)) = node(line) else {
         return None;
@@ -305,7 +321,7 @@ fn first(line: &[u8]) -> Option<Draft<'_>>
 #[tactic(auto, unfolding(crate::specs::Statements::child_in))]
 fn child(line: &[u8]) -> Option<Draft<'_>>
     ensures found { Finds view result (child_in (words_of line.now)) }
-    ensures in_range { IfSome result (λ d. IsInstr 0 d.instr) }
+    ensures in_range { IfSome result (λ d. IsInstr Two 0 d.instr) }
 {
     let Some((to, rest)) = node(line) else {
         return None;
@@ -331,7 +347,7 @@ fn child(line: &[u8]) -> Option<Draft<'_>>
 #[tactic(auto, unfolding(crate::specs::Statements::move_in))]
 fn move_node(line: &[u8]) -> Option<Draft<'_>>
     ensures found { Finds view result (move_in (words_of line.now)) }
-    ensures in_range { IfSome result (λ d. IsInstr 0 d.instr) }
+    ensures in_range { IfSome result (λ d. IsInstr Two 0 d.instr) }
 {
     let Some((to, rest)) = node(line) else {
         return None;
@@ -346,7 +362,7 @@ fn move_node(line: &[u8]) -> Option<Draft<'_>>
 #[tactic(auto, unfolding(crate::specs::Statements::release_in))]
 fn release(line: &[u8]) -> Option<Draft<'_>>
     ensures found { Finds view result (release_in (words_of line.now)) }
-    ensures in_range { IfSome result (λ d. IsInstr 0 d.instr) }
+    ensures in_range { IfSome result (λ d. IsInstr Two 0 d.instr) }
 {
     let node = token::node_register(only_word(line)?)?;
     Some(Draft {
@@ -358,7 +374,7 @@ fn release(line: &[u8]) -> Option<Draft<'_>>
 #[tactic(auto, unfolding(crate::specs::Statements::get_in))]
 fn get(line: &[u8]) -> Option<Draft<'_>>
     ensures found { Finds view result (get_in (words_of line.now)) }
-    ensures in_range { IfSome result (λ d. IsInstr 0 d.instr) }
+    ensures in_range { IfSome result (λ d. IsInstr Two 0 d.instr) }
 {
     let Some((to, rest)) = value(line) else {
         return None;
@@ -376,7 +392,7 @@ fn get(line: &[u8]) -> Option<Draft<'_>>
 #[tactic(auto, unfolding(crate::specs::Statements::put_in))]
 fn put(line: &[u8]) -> Option<Draft<'_>>
     ensures found { Finds view result (put_in (words_of line.now)) }
-    ensures in_range { IfSome result (λ d. IsInstr 0 d.instr) }
+    ensures in_range { IfSome result (λ d. IsInstr Two 0 d.instr) }
 {
     let Some((node, rest)) = node(line) else {
         return None;
@@ -394,7 +410,7 @@ fn put(line: &[u8]) -> Option<Draft<'_>>
 #[tactic(auto, unfolding(crate::specs::Statements::kids_in))]
 fn kids(line: &[u8]) -> Option<Draft<'_>>
     ensures found { Finds view result (kids_in (words_of line.now)) }
-    ensures in_range { IfSome result (λ d. IsInstr 0 d.instr) }
+    ensures in_range { IfSome result (λ d. IsInstr Two 0 d.instr) }
 {
     let Some((to, rest)) = value(line) else {
         return None;
@@ -409,7 +425,7 @@ fn kids(line: &[u8]) -> Option<Draft<'_>>
 #[tactic(auto, unfolding(crate::specs::Statements::emit_in))]
 fn emit(line: &[u8]) -> Option<Draft<'_>>
     ensures found { Finds view result (emit_in (words_of line.now)) }
-    ensures in_range { IfSome result (λ d. IsInstr 0 d.instr) }
+    ensures in_range { IfSome result (λ d. IsInstr Two 0 d.instr) }
 {
     let from = token::value_register(only_word(line)?)?;
     Some(Draft {
@@ -422,7 +438,7 @@ fn emit(line: &[u8]) -> Option<Draft<'_>>
 #[tactic(auto, unfolding(crate::specs::Statements::draft_in))]
 pub fn draft<'a>(name: &[u8], line: &'a [u8]) -> Option<Draft<'a>>
     ensures found { Finds view result (draft_in name.now (words_of line.now)) }
-    ensures in_range { IfSome result (λ d. IsInstr 0 d.instr) }
+    ensures in_range { IfSome result (λ d. IsInstr Two 0 d.instr) }
 {
     if name == b"set".as_slice() {
         set(line)
@@ -464,6 +480,8 @@ pub fn draft<'a>(name: &[u8], line: &'a [u8]) -> Option<Draft<'a>>
         emit(line)
     } else if name == b"ret".as_slice() {
         bare(Instr::Return, line)
+    } else if name == b"repv".as_slice() {
+        repeat_by(line)
     } else {
         None
     }

@@ -89,6 +89,7 @@ fn with_target(instr: &Instr, target: u16) -> Instr
         Instr::Set { .. }
         | Instr::Copy { .. }
         | Instr::Repeat { .. }
+        | Instr::RepeatBy { .. }
         | Instr::End
         | Instr::Move { .. }
         | Instr::Release { .. }

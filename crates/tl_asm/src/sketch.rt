@@ -1,10 +1,11 @@
 //! The lines of a text, before targets are known.
 
 ghost use Rattle.std.specs.Prelude.{◌≡◌, ◌≢◌, ◌+◌, ◌≤◌, ◌++◌, ◌∷◌, [], List, Option, Some, length, IfOk, IfErr};
+ghost use Rattle.tl_instr.specs.declared.version.Version.TheVariants.{Two};
 ghost use Rattle.tl_instr.specs.Codes.{IsArity};
 ghost use Rattle.tl_instr.specs.Instructions.{IsInstr};
 ghost use Rattle.tl_asm.specs.Faults.{IsFirstFaultIn};
-ghost use Rattle.tl_asm.specs.Statements.{Said, Takes, Names, Does, view};
+ghost use Rattle.tl_asm.specs.Statements.{Said, Version2, Takes, Names, Does, view};
 ghost use Rattle.tl_asm.specs.Sketches.{IsSketch, IsWrongLast, said_by};
 
 use crate::draft::Draft;
@@ -12,7 +13,7 @@ use crate::fault::AsmFault;
 use crate::statement::{Statement, statement_of};
 use indexmap::IndexMap;
 use std::alloc::Global;
-use tl_instr::{Instr, MAX_COUNT};
+use tl_instr::{Instr, MAX_COUNT, Version};
 
 /// Where an instruction stands, and the label in the place of its target.
 #[derive(Clone, Copy, Debug)]
@@ -21,10 +22,11 @@ pub struct Origin<'a> {
     pub label: Option<&'a [u8]>,
 }
 
-/// What a text's lines say: the arity if a line gives it, the positions that labels name, and the instructions with
+/// What a text's lines say: the version, the arity if a line gives it, the positions that labels name, and the instructions with
 /// 0 in the place of a target, each with its origin.
 #[derive(Drop)]
 pub struct Sketch<'a> {
+    pub version: Version,
     pub arity: Option<u8>,
     pub labels: IndexMap<&'a [u8], u16>,
     pub instrs: Vec<Instr>,
@@ -37,11 +39,27 @@ impl<'a> Sketch<'a> {
         ensures { IsSketch [] result }
     {
         Sketch {
+            version: Version::One,
             arity: None,
             labels: IndexMap::new(alloc),
             instrs: Vec::new(alloc),
             origins: Vec::new(alloc),
         }
+    }
+
+    /// The next line says that the text is of the second version.
+    fn take_version(&mut self, line: u64) -> Result<(), AsmFault>
+        ensures grown { (ss : List (Option Said)) → IsSketch ss self.old → IfOk result (λ _. IsSketch (ss ++ Some Version2 ∷ []) self.new) }
+        ensures fault { (ss : List (Option Said)) → IsSketch ss self.old → line ≡ length ss + 1 → IfErr result (λ f. f ≢ AsmFault.Memory → IsWrongLast (ss ++ Some Version2 ∷ []) f) }
+    {
+        if self.arity.is_some() {
+            return Err(AsmFault::BadLine(line));
+        }
+        if self.version != Version::One {
+            return Err(AsmFault::BadLine(line));
+        }
+        self.version = Version::Two;
+        Ok(())
     }
 
     /// The next line has the arity.
@@ -75,17 +93,21 @@ impl<'a> Sketch<'a> {
 
     /// The next line has an instruction.
     fn take_draft(&mut self, line: u64, draft: Draft<'a>) -> Result<(), AsmFault>
-        requires { IsInstr 0 draft.instr }
+        requires { IsInstr Two 0 draft.instr }
         ensures grown { (ss : List (Option Said)) → IsSketch ss self.old → line ≡ length ss + 1 → IfOk result (λ _. IsSketch (ss ++ Some (Does (view draft.entry)) ∷ []) self.new) }
         ensures fault { (ss : List (Option Said)) → IsSketch ss self.old → line ≡ length ss + 1 → IfErr result (λ f. f ≢ AsmFault.Memory → IsWrongLast (ss ++ Some (Does (view draft.entry)) ∷ []) f) }
     {
         if self.arity.is_none() {
             return Err(AsmFault::BadLine(line));
         }
+        let instr = draft.instr;
+        if !instr.is_in(self.version) {
+            return Err(AsmFault::BadLine(line));
+        }
         if self.instrs.len() == MAX_COUNT {
             return Err(AsmFault::TooLong);
         }
-        self.instrs.push(draft.instr)?;
+        self.instrs.push(instr)?;
         self.origins.push(Origin {
             line,
             label: draft.label,
@@ -107,6 +129,7 @@ pub fn sketch_of<'a>(alloc: Global, lines: &[&'a str]) -> Result<Sketch<'a>, Asm
         };
         match statement {
             Statement::Blank => {}
+            Statement::Version2 => sketch.take_version(line)?,
             Statement::Takes(arity) => sketch.take_arity(line, arity)?,
             Statement::Names(label) => sketch.take_label(line, label)?,
             Statement::Does(draft) => sketch.take_draft(line, draft)?,

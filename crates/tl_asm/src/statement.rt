@@ -12,6 +12,8 @@ use crate::word::{next_word, without_comment};
 #[derive(Clone, Copy, Debug)]
 pub enum Statement<'a> {
     Blank,
+    /// That the text is of the second version of the language.
+    Version2,
     /// How many arguments the procedure takes.
     Takes(u8),
     /// The label of the position that comes next.
@@ -28,6 +30,12 @@ pub fn statement_of(line: &[u8]) -> Option<Statement<'_>>
     let Some((name, rest)) = next_word(without_comment(line)) else {
         return Some(Statement::Blank);
     };
+    if name == b"version".as_slice() {
+        if only_word(rest)? != b"2".as_slice() {
+            return None;
+        }
+        return Some(Statement::Version2);
+    }
     if name == b"arity".as_slice() {
         let arity = token::arity(only_word(rest)?)?;
         return Some(Statement::Takes(arity.number()));

@@ -64,7 +64,7 @@ pub fn node_register(word: &[u8]) -> Option<NodeRegister>
     NodeRegister::new(register_in(b'n', NODE_REGISTERS as u32, word)? as u8)
 }
 
-/// `0` to `3`.
+/// `0` to `7`.
 pub fn field(word: &[u8]) -> Option<Field>
     ensures { result ≡ number_in field_count word.now }
 {

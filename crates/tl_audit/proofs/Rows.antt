@@ -2,6 +2,7 @@
 use Rattle.std.proofs.Common.{◌≡◌, ℕ, zero, suc, ◌<◌, ℤ, pos, List, [], ◌∷◌, Bool, true, false, Option, Some, None, not, ◌&&◌, ◌||◌, ◌==◌, refl, arith}
 use Rattle.tl_instr.specs.declared.instr.Instr.{Instr}
 use Rattle.tl_instr.specs.declared.instr.Instr.TheVariants as instr
+use Rattle.tl_instr.specs.declared.version.Version.TheVariants.{One}
 use Rattle.tl_budget.specs.Loops.{loop_at}
 use Rattle.tl_tree.specs.Records.{Record}
 use Rattle.tl_protocol.specs.Actions.{held}
@@ -29,7 +30,7 @@ abbrev looked : List Event → Option (List ℤ) → Record → TrailValue
 looked past reply end = record {
   parents = 0 ∷ [];
   opening = five ∷ [];
-  procedures = record { name = 108 ∷ []; code = record { arity = 1; instrs = look } } ∷ [];
+  procedures = record { name = 108 ∷ []; code = record { version = One; arity = 1; instrs = look } } ∷ [];
   calls = record { procedure = 0; args = pos 0 ∷ []; reply = reply } ∷ [];
   past = past;
   ends = end ∷ [];

@@ -7,10 +7,19 @@ use tl_instr::decode;
 use tl_tree::{Record, Shape, Tree};
 use tl_verify::{Proc, verify};
 
-// The record of a node in the beginning: one to four times its number.
+// The record of a node in the beginning: one to eight times its number.
 fn record_of(node: u16) -> Record {
     let number = i64::from(node);
-    [number, 2 * number, 3 * number, 4 * number]
+    [
+        number,
+        2 * number,
+        3 * number,
+        4 * number,
+        5 * number,
+        6 * number,
+        7 * number,
+        8 * number,
+    ]
 }
 
 // The parent of a node in chains of that length below the root.

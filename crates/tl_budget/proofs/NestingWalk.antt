@@ -3,7 +3,7 @@ use Rattle.std.proofs.Common.{◌≡◌, ◌≢◌, ◌⊎◌, inl, inr, ℕ, su
 use Rattle.std.specs.Prelude.{slice_get, option_map}
 use Rattle.std.proofs.lemmas.List.{length-reverse, length_push, get_or_push, reverse-append, reverse-reverse}
 use Rattle.tl_instr.specs.declared.instr.Instr.{Instr}
-use Rattle.tl_instr.specs.declared.instr.Instr.TheVariants.{Repeat, End}
+use Rattle.tl_instr.specs.declared.instr.Instr.TheVariants.{End}
 use Rattle.tl_budget.specs.declared.fault.NestFault.{NestFault}
 use Rattle.tl_budget.specs.declared.fault.NestFault.TheVariants.{EndAlone, ZeroCount, TooDeep, LoopOpen, StepsOver, LocksOver, EmitsOver, Memory}
 use Rattle.tl_budget.specs.declared.nested.Place.{Place}
@@ -94,16 +94,14 @@ module _ (code : List Instr) (p : ℕ) (openings : List ℕ) (places : List Plac
       subst (IsFirstFault code) (sym e.1) (first_alone code p h.clear at none)
 
 -- neither
-other_kind : (i : Instr) → ((count : ℕ) → i ≢ Repeat count) → i ≢ End → ((w : ℕ) → kind i ≢ Opens w) × (kind i ≢ Closes)
-other_kind (Repeat count) not_repeat not_end = absurd (not_repeat count refl)
-other_kind End not_repeat not_end = absurd (not_end refl)
-other_kind i not_repeat not_end = (λ w e. cc, λ e. cc)
+no_end : (i : Instr) → i ≢ End → kind i ≢ Closes
+no_end End not_end = absurd (not_end refl)
+no_end i not_end = λ e. cc
 
-pub neither : (code : List Instr) (p : ℕ) (i : Instr) → slice_get code p ≡ Some i → ((count : ℕ) → i ≢ Repeat count) → i ≢ End → ((w : ℕ) → kind_at code p ≢ Some (Opens w)) × (kind_at code p ≢ Some Closes)
-neither code p i at not_repeat not_end =
-    let other = other_kind i not_repeat not_end in
+pub neither : (code : List Instr) (p : ℕ) (i : Instr) → slice_get code p ≡ Some i → ((w : ℕ) → kind i ≢ Opens w) → i ≢ End → ((w : ℕ) → kind_at code p ≢ Some (Opens w)) × (kind_at code p ≢ Some Closes)
+neither code p i at not_open not_end =
     let is : kind_at code p ≡ Some (kind i) = ap (option_map kind) at in
-    (λ w e. other.0 w cc, λ e. other.1 cc)
+    (λ w e. not_open w cc, λ e. no_end i not_end cc)
 
 pub walked_on : (code : List Instr) (p : ℕ) (openings : List ℕ) (places more : List Place) → Walked code p openings places → Placed code (p + 1) p more → ((w : ℕ) → kind_at code p ≢ Some (Opens w)) → kind_at code p ≢ Some Closes → Walked code (p + 1) openings more
 walked_on code p openings places more h placed not_open not_end =

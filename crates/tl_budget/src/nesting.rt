@@ -1,6 +1,7 @@
 // Matches the loops of a code.
 
-ghost use Rattle.std.specs.Prelude.{◌≡◌, ◌≢◌, ◌⊎◌, ◌-◌, ◌<◌, ◌≤◌, [], ◌∷◌, ◌++◌, length, slice_index, IfOk, OnOk, IfErr};
+ghost use Rattle.std.specs.Prelude.{◌≡◌, ◌≢◌, ◌⊎◌, ℕ, ◌-◌, ◌<◌, ◌≤◌, [], ◌∷◌, ◌++◌, length, slice_index, IfOk, OnOk, IfErr, MatchOption};
+ghost use Rattle.tl_budget.specs.Loops.{Opens, kind};
 ghost use Rattle.tl_budget.specs.Findings.{IsFirstFault};
 ghost use Rattle.tl_budget.specs.Nested.{IsNested, IsNest};
 ghost use Rattle.tl_budget.specs.declared.fault.NestFault.TheVariants as fault;
@@ -53,6 +54,16 @@ fn leave(openings: &mut ArrayVec<u16, MAX_DEPTH>, position: u16) -> Result<u16, 
     openings.pop().ok_or(NestFault::EndAlone(position))
 }
 
+// How often the loop turns at most that the instruction opens.
+pub(crate) fn turns_of(instr: &Instr) -> Option<u16>
+    ensures { MatchOption result ((w : ℕ) → kind instr.now ≢ Opens w) (λ w. kind instr.now ≡ Opens w) }
+{
+    match *instr {
+        Instr::Repeat { count } | Instr::RepeatBy { count, .. } => Some(count),
+        _ => None,
+    }
+}
+
 /// The loops of a code, where each has an end and turns, each end has a loop, and they nest at most four deep.
 ///
 /// Else the first fault at the least position: 302 at an end without an open loop, 304 at a loop of no turns, 303 at a
@@ -70,13 +81,11 @@ pub fn nest(alloc: Global, code: &Code) -> Result<Nest, NestFault>
     for position in 0..code.count() {
         places.push(place(&openings))?;
         let instr = &code.instrs()[usize::from(position)];
-        match *instr {
-            Instr::Repeat { count } => enter(&mut openings, position, count)?,
-            Instr::End => {
-                let opening = leave(&mut openings, position)?;
-                places[usize::from(opening)].close = position;
-            }
-            _ => {}
+        if let Some(count) = turns_of(instr) {
+            enter(&mut openings, position, count)?;
+        } else if let Instr::End = *instr {
+            let opening = leave(&mut openings, position)?;
+            places[usize::from(opening)].close = position;
         }
     }
     match openings.first() {

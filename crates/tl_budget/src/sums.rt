@@ -1,7 +1,7 @@
 // What a procedure costs at most.
 
-ghost use Rattle.std.specs.Prelude.{◌≡◌, ◌≢◌, ℕ, ◌+◌, IfOk, IfErr, MatchOption, if◌then◌else◌};
-ghost use Rattle.tl_budget.specs.Loops.{Opens, kind, budget, lock_bound, emit_bound, is_lock, is_emit};
+ghost use Rattle.std.specs.Prelude.{◌≡◌, ◌+◌, IfOk, IfErr, if◌then◌else◌};
+ghost use Rattle.tl_budget.specs.Loops.{budget, lock_bound, emit_bound, is_lock, is_emit};
 ghost use Rattle.tl_budget.specs.Faults.{IsOver, IsWithinLimits};
 ghost use Rattle.tl_budget.specs.Nested.{IsNest};
 ghost use Rattle.tl_budget.specs.Capped.{capped};
@@ -9,6 +9,7 @@ ghost use Rattle.tl_budget.specs.Capped.{capped};
 use crate::fault::NestFault;
 use crate::limits::{Bounds, MAX_DEPTH, MAX_EMITS, MAX_LOCKS, MAX_STEPS};
 use crate::nested::Nest;
+use crate::nesting::turns_of;
 use tl_instr::{Code, Instr};
 
 // The sums of the weights: of all instructions, of those that lock a node, and of those that emit a value. A sum that doesn't
@@ -49,16 +50,6 @@ fn emits_value(instr: &Instr) -> bool
     ensures { result ≡ is_emit instr.now }
 {
     matches!(*instr, Instr::Emit { .. })
-}
-
-// How often the loop turns that the instruction opens.
-fn turns_of(instr: &Instr) -> Option<u16>
-    ensures { MatchOption result ((w : ℕ) → kind instr.now ≢ Opens w) (λ w. kind instr.now ≡ Opens w) }
-{
-    match *instr {
-        Instr::Repeat { count } => Some(count),
-        _ => None,
-    }
 }
 
 // The sums over a whole code.

@@ -46,9 +46,19 @@ pub enum Request<'a> {
     Disassemble {
         container: &'a str,
     },
+    /// Write a container in the second version of the language.
+    Migrate {
+        old: &'a str,
+        new: &'a str,
+    },
     /// Print the bounds of a container's procedure.
     Verify {
         container: &'a str,
+    },
+    /// Write a tree whose records have eight fields.
+    Widen {
+        old: &'a str,
+        new: &'a str,
     },
 }
 
@@ -102,6 +112,11 @@ prints when the verifier refuses a procedure with [407,position,register], and w
 Exit status: 0 done, 2 a number that no fault has, or another mistake on the command line, 3 standard output can't be
 written, 4 memory.";
 
+const MIGRATE_HELP: &str = "\
+Example: treedb migrate add.tlp add2.tlp
+prints {\"count\":7}, and writes the same procedure as one of version 2. A container that is of version 2 already is refused.
+Exit status: 0 done, 1 refused, 2 a mistake on the command line, 3 a file that can't be read or written, 4 memory.";
+
 const RUN_HELP: &str = "\
 Example: treedb run --tree fork.json --workers 2 calls.json
 prints {\"batch\":[..]}, what came of each call, {\"call\":0,\"reply\":[8]} or {\"error\":[601]}; {\"order\":[..]}, the order in
@@ -126,6 +141,11 @@ const VERIFY_HELP: &str = "\
 Example: treedb verify walk.tlp
 prints {\"bounds\":{\"emits\":1,\"locks\":13,\"steps\":54}}, whatever the arguments and the tree.
 Exit status: 0 done, 1 refused, 2 a mistake on the command line, 3 a file that can't be read, 4 memory.";
+
+const WIDEN_HELP: &str = "\
+Example: treedb widen old.json new.json
+prints {\"nodes\":1}, and writes the tree with eight fields a record. Where each record has four, the others are 0.
+Exit status: 0 done, 1 refused, 2 a mistake on the command line, 3 a file that can't be read or written, 4 memory.";
 
 fn tree_arg<'a>(alloc: Global) -> Arg<'a> {
     Arg::new(alloc, "tree")
@@ -175,6 +195,28 @@ fn dis_command<'a>(alloc: Global) -> Result<Command<'a>, AllocError> {
         .about("Prints the assembler text of a container")
         .after_help(DIS_HELP)
         .arg(file_arg(alloc, "IN", "The file of the container"))
+}
+
+fn migrate_command<'a>(alloc: Global) -> Result<Command<'a>, AllocError> {
+    Command::new(alloc, "migrate")
+        .about(
+            "Writes the procedure of a container in version 2, and prints how many instructions it has",
+        )
+        .after_help(MIGRATE_HELP)
+        .arg(file_arg(alloc, "IN", "The file of the container"))?
+        .arg(file_arg(
+            alloc,
+            "OUT",
+            "The file that the new container is written to",
+        ))
+}
+
+fn widen_command<'a>(alloc: Global) -> Result<Command<'a>, AllocError> {
+    Command::new(alloc, "widen")
+        .about("Writes a tree with eight fields a record, and prints how many nodes it has")
+        .after_help(WIDEN_HELP)
+        .arg(file_arg(alloc, "IN", "The file of the tree, as JSON"))?
+        .arg(file_arg(alloc, "OUT", "The file that the new tree is written to"))
 }
 
 fn verify_command<'a>(alloc: Global) -> Result<Command<'a>, AllocError> {
@@ -279,6 +321,8 @@ fn command<'a>(alloc: Global) -> Result<Command<'a>, AllocError> {
         .subcommand(asm_command(alloc)?)?
         .subcommand(dis_command(alloc)?)?
         .subcommand(verify_command(alloc)?)?
+        .subcommand(migrate_command(alloc)?)?
+        .subcommand(widen_command(alloc)?)?
         .subcommand(explain_command(alloc)?)
 }
 
@@ -317,8 +361,16 @@ fn request_of<'a>(matches: &ArgMatches<'a>) -> Option<Request<'a>> {
             connections: words.get_one("connections")?,
             trail: words.get_str("trail"),
         }),
+        "migrate" => Some(Request::Migrate {
+            old: words.get_str("IN")?,
+            new: words.get_str("OUT")?,
+        }),
         "verify" => Some(Request::Verify {
             container: words.get_str("IN")?,
+        }),
+        "widen" => Some(Request::Widen {
+            old: words.get_str("IN")?,
+            new: words.get_str("OUT")?,
         }),
         _ => None,
     }

@@ -70,7 +70,7 @@ fn tree_meaning(number: u16) -> Option<Meaning> {
             "",
             "no node",
             "the list of parents is empty",
-            "give at least the root: `{\"parents\":[0],\"records\":[[0,0,0,0]]}`",
+            "give at least the root: `{\"parents\":[0],\"records\":[[0,0,0,0,0,0,0,0]]}`",
         )),
         102 => Some((
             "",
@@ -94,12 +94,12 @@ fn tree_meaning(number: u16) -> Option<Meaning> {
             "",
             "records and nodes",
             "there are more or fewer records than nodes",
-            "give each node one record of four integers",
+            "give each node one record of eight integers, or each one of four",
         )),
         106 => Some((
             "",
             "not a tree",
-            "the text isn't `{\"parents\":[..],\"records\":[..]}`",
+            "the text isn't `{\"parents\":[..],\"records\":[..]}`, or its records aren't all of eight integers or all of four",
             "compare it with the form in `formats.md`",
         )),
         190 => Some((
@@ -117,7 +117,7 @@ fn text_meaning(number: u16) -> Option<Meaning> {
         201 => Some((
             "",
             "not a container",
-            "the bytes don't begin with `TLP1`",
+            "the bytes begin neither with `TLP1` nor with `TLP2`",
             "make the container by `treedb asm`",
         )),
         202 => Some((
@@ -129,13 +129,13 @@ fn text_meaning(number: u16) -> Option<Meaning> {
         203 => Some((
             ", position",
             "unknown opcode",
-            "no instruction has this opcode",
-            "opcodes are 1 to 20",
+            "no instruction of the container's version has this opcode",
+            "opcodes are 1 to 20, and 21 in version 2",
         )),
         204 => Some((
             ", position",
             "bad operand",
-            "an operand is out of its range, or one that isn't used isn't 0",
+            "an operand is out of its range, such as a field above 3 in version 1, or one that isn't used isn't 0",
             "see the table of containers in `formats.md`",
         )),
         205 => Some((
@@ -150,11 +150,17 @@ fn text_meaning(number: u16) -> Option<Meaning> {
             "the arity is above 8, or the byte after it isn't 0",
             "a call takes at most 8 arguments",
         )),
+        207 => Some((
+            "",
+            "not version 1",
+            "the container that is to be migrated is of version 2",
+            "use it as it is",
+        )),
         251 => Some((
             ", line",
             "unreadable line",
-            "the line is no label, no instruction and no comment, or stands at the wrong place",
-            "the first line is `arity N`; see the instructions in `language.md`",
+            "the line is no label, no instruction of the text's version and no comment, or stands at the wrong place",
+            "the first line is `arity N`, or `version 2` and then that; see the instructions in `language.md`",
         )),
         252 => Some((
             ", line",
@@ -195,25 +201,25 @@ fn loop_meaning(number: u16) -> Option<Meaning> {
         301 => Some((
             ", position",
             "loop without end",
-            "the `rep` has no `end`",
+            "the `rep` or `repv` has no `end`",
             "add the `end`",
         )),
         302 => Some((
             ", position",
             "end without loop",
             "no loop is open at the `end`",
-            "remove it, or add the `rep`",
+            "remove it, or add the `rep` or `repv`",
         )),
         303 => Some((
             ", position",
             "loops too deep",
-            "a `rep` stands in four loops",
+            "a `rep` or `repv` stands in four loops",
             "take one loop apart",
         )),
         304 => Some((
             ", position",
             "loop of no turns",
-            "the count of the `rep` is 0",
+            "the count of the `rep` or `repv` is 0",
             "remove the loop, or give a count of 1 to 65,535",
         )),
         305 => Some((
@@ -261,7 +267,7 @@ fn register_meaning(number: u16) -> Option<Meaning> {
         403 => Some((
             ", position",
             "past the end",
-            "control can go on past the last instruction",
+            "control can go on past the last instruction, as it does behind the `end` of a `repv` that makes no turn",
             "end each way with `ret`",
         )),
         404 => Some((
@@ -347,6 +353,12 @@ fn call_meaning(number: u16) -> Option<Meaning> {
             "history full",
             "there is no room for all the events that the call may have",
             "end the run, and start the next one on the tree that it printed",
+        )),
+        606 => Some((
+            ", call",
+            "not at rest",
+            "the call isn't done, so the core isn't sealed; it is the least such call; only in the library",
+            "let all calls end, and seal again",
         )),
         607 => Some((
             "",

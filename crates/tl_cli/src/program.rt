@@ -5,7 +5,8 @@ use crate::failure::Failure;
 use crate::progress::Shown;
 use crate::{
     CliFault, alone_cmd, asm_cmd, audit_cmd, conclude_engine, conclude_engine_with_trail, dis_cmd,
-    drive_cmd, drive_with_trail_cmd, open_engine, output, run_cmd, run_with_trail_cmd, verify_cmd,
+    drive_cmd, drive_with_trail_cmd, migrate_cmd, open_engine, output, run_cmd, run_with_trail_cmd,
+    verify_cmd, widen_cmd,
 };
 use std::io::ErrorKind;
 use std::net::{Net, TcpListener, TcpStream};
@@ -67,6 +68,20 @@ impl<'a, R: Files + Print + Eprint + AllocGlobal> Program<'a, R> {
             }
         };
         self.write_file(container, &bytes)?;
+        Ok(line)
+    }
+
+    fn migrate<'p>(&self, old: &'p str, new: &'p str) -> Result<String, Failure<'p>> {
+        let old = self.read_file(old)?;
+        let (line, bytes) = migrate_cmd(self.rt.alloc(), &old)?;
+        self.write_file(new, &bytes)?;
+        Ok(line)
+    }
+
+    fn widen<'p>(&self, old: &'p str, new: &'p str) -> Result<String, Failure<'p>> {
+        let old = self.read_file(old)?;
+        let (line, text) = widen_cmd(self.rt.alloc(), &old)?;
+        self.write_file(new, text.as_bytes())?;
         Ok(line)
     }
 
@@ -181,6 +196,7 @@ where
                 script,
                 trail,
             } => self.drive(tree, script, trail),
+            Request::Migrate { old, new } => self.migrate(old, new),
             Request::Run {
                 tree,
                 workers,
@@ -196,6 +212,7 @@ where
             Request::Verify { container } => {
                 Ok(verify_cmd(self.rt.alloc(), &self.read_file(container)?)?)
             }
+            Request::Widen { old, new } => self.widen(old, new),
         }
     }
 

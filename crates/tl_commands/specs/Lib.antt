@@ -8,3 +8,4 @@ pub mod Run
 pub mod Serve
 pub mod Audit
 pub mod Procedures
+pub mod Widening

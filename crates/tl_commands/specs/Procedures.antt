@@ -1,9 +1,11 @@
--- What the commands on one procedure print, `asm`, `dis` and `verify`, and when they answer which fault.
+-- What the commands on one procedure print, `asm`, `dis`, `migrate` and `verify`, and when they answer which fault.
 use Rattle.std.specs.Prelude.{◌≡◌, ◌≢◌, ◌⊎◌, ℕ, List, ◌++◌, length, codes, decimal, IsUtf8}
-use Rattle.tl_instr.specs.Codes.{CodeValue}
+use Rattle.tl_instr.specs.declared.version.Version.TheVariants.{One}
+use Rattle.tl_instr.specs.Codes.{CodeValue, migrated}
 use Rattle.tl_instr.specs.Spelling.{Spelled}
 use Rattle.tl_instr.specs.Faults.{IsFirstFault as IsFirstCodeFault}
 use Rattle.tl_instr.specs.declared.fault.CodeFault.{CodeFault}
+use Rattle.tl_instr.specs.declared.fault.CodeFault.TheVariants.{NotVersion1}
 use Rattle.tl_asm.specs.Texts.{Written}
 use Rattle.tl_asm.specs.Listing.{listing}
 use Rattle.tl_asm.specs.Faults.{IsFirstFault as IsFirstTextFault}
@@ -52,6 +54,23 @@ pub record Lists (container out : List ℕ) : Type 0 where
 -- the container's first fault, or want of memory
 abbrev pub IsFirstContainerFault : List ℕ → CliFault → Type 0
 IsFirstContainerFault container e = status_of e ≢ 4 → (f : CodeFault) × (e ≡ Code f) × IsFirstCodeFault container f
+
+-- ---- `migrate`
+
+-- The container's code is of the first version. What is printed tells its count, and the file has the container of the same
+-- code in the second.
+pub record Migrates (container out file : List ℕ) : Type 0 where
+  pub code : CodeValue
+  pub spelled : Spelled container code
+  pub first : code.version ≡ One
+  pub new : Spelled file (migrated code)
+  pub same : out ≡ count_text (length code.instrs)
+
+-- the container's first fault, else its code isn't of the first version; or want of memory
+abbrev pub IsFirstMigratingFault : List ℕ → CliFault → Type 0
+IsFirstMigratingFault container e = status_of e ≢ 4 →
+    ((f : CodeFault) × (e ≡ Code f) × IsFirstCodeFault container f)
+    ⊎ ((code : CodeValue) × (e ≡ Code NotVersion1) × Spelled container code × (code.version ≢ One))
 
 -- ---- `verify`
 

@@ -39,7 +39,7 @@ pub enum CliFault {
     /// 101 to 106, 190: the tree.
     #[error("the tree: {0}")]
     Tree(TreeFault),
-    /// 201 to 206, 290: the container.
+    /// 201 to 207, 290: the container.
     #[error("the procedure: {0}")]
     Code(CodeFault),
     /// 301 to 307, 401 to 409, 490: the code isn't accepted.

@@ -17,12 +17,14 @@ mod running;
 mod script;
 mod serving;
 mod trace;
+mod widening;
 
 pub use alone::alone_cmd;
 pub use auditing::audit_cmd;
 pub use driving::{drive_cmd, drive_with_trail_cmd};
 pub use fault::CliFault;
-pub use procedures::{asm_cmd, dis_cmd, verify_cmd};
+pub use procedures::{asm_cmd, dis_cmd, migrate_cmd, verify_cmd};
 pub use running::{run_cmd, run_with_trail_cmd};
 pub use script::{Script, read_calls, read_moves};
 pub use serving::{conclude_engine, conclude_engine_with_trail, open_engine};
+pub use widening::widen_cmd;

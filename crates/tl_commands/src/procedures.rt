@@ -1,20 +1,23 @@
-// The commands on procedures alone: `asm`, `dis` and `verify`.
+// The commands on procedures alone: `asm`, `dis`, `migrate` and `verify`.
 
-ghost use Rattle.std.specs.Prelude.{◌≡◌, [], ◌∷◌, ◌++◌, false, pos, length, codes, string_bytes, IfOk, IfErr, IsUtf8};
+ghost use Rattle.std.specs.Prelude.{◌≡◌, ◌≢◌, [], ◌∷◌, ◌++◌, false, pos, length, codes, string_bytes, IfOk, IfErr, IsUtf8};
 ghost use Rattle.serde_json.specs.Data.{object, member, no_members};
 ghost use Rattle.serde_json.specs.View.{view};
 ghost use Rattle.serde_json.specs.Written.{has_float, compact_text};
 ghost use Rattle.tl_tree.specs.Writing.{integer_data};
+ghost use Rattle.tl_instr.specs.declared.version.Version.TheVariants.{One};
+ghost use Rattle.tl_instr.specs.Codes.{migrated};
 ghost use Rattle.tl_instr.specs.Spelling.{Spelled};
 ghost use Rattle.tl_asm.specs.Texts.{Written};
-ghost use Rattle.tl_commands.specs.Procedures.{count_text, bounds_text, Assembles, IsFirstAssemblingFault, Lists, IsFirstContainerFault, Verifies, IsFirstVerifyingFault};
+ghost use Rattle.tl_commands.specs.Procedures.{count_text, bounds_text, Assembles, IsFirstAssemblingFault, Lists, IsFirstContainerFault, Migrates, IsFirstMigratingFault, Verifies, IsFirstVerifyingFault};
 
 use crate::fault::CliFault;
+use crate::outputs::line_of;
 use serde_json::{Value, json};
 use std::alloc::{AllocError, Global};
 use tl_asm::{assemble, disassemble};
 use tl_budget::Bounds;
-use tl_instr::{Code, decode, encode};
+use tl_instr::{Code, CodeFault, decode, encode, migrate_code};
 use tl_verify::verify;
 
 // The code of an assembler text.
@@ -59,15 +62,6 @@ fn bounds_to_value(
         (member (codes "emits") (view emits) (member (codes "locks") (view locks) (member (codes "steps") (view steps) no_members)))) no_members)) }
 {
     json!(in alloc; {"bounds": {"emits": emits, "locks": locks, "steps": steps}})
-}
-
-// The line of a value.
-fn line_of(alloc: Global, value: &Value) -> Result<String, AllocError>
-    ensures { IfOk result (λ s. has_float (view value.now) ≡ false → string_bytes s ≡ compact_text (view value.now) ++ 10 ∷ []) }
-{
-    let mut line = value.to_string(alloc)?;
-    line.push_str("\n")?;
-    Ok(line)
 }
 
 // The line that tells how many instructions a code has.
@@ -118,6 +112,35 @@ pub fn dis_cmd(alloc: Global, container: &[u8]) -> Result<String, CliFault>
         Ok(text) => Ok(text),
         Err(fault) => Err(CliFault::Asm(fault)),
     }
+}
+
+// The same code in the second version. 207 where it isn't of the first.
+fn migrated_code(code: Code) -> Result<Code, CliFault>
+    ensures migrated { IfOk result (λ c. (code.version ≡ One) × (c ≡ migrated code)) }
+    ensures fault { IfErr result (λ e. (e ≡ CliFault.Code CodeFault.NotVersion1) × (code.version ≢ One)) }
+{
+    match migrate_code(code) {
+        Ok(code) => Ok(code),
+        Err((_, fault)) => Err(CliFault::Code(fault)),
+    }
+}
+
+/// The line that tells how many instructions a container's code has, and the container of the same code in the second version
+/// of the language. Takes the bytes of the container's file.
+///
+/// Else the container's first fault, 201 to 206, or 207 where it isn't of the first version. Where memory was refused, 290 or
+/// 990.
+pub fn migrate_cmd(alloc: Global, container: &[u8]) -> Result<(String, Vec<u8>), CliFault>
+    ensures printed { IfOk result (λ r. Migrates container.now (string_bytes r.0) r.1.items) }
+    ensures fault { IfErr result (λ e. IsFirstMigratingFault container.now e) }
+{
+    let code = migrated_code(code_of_container(alloc, container)?)?;
+    let container = match encode(alloc, &code) {
+        Ok(container) => container,
+        Err(fault) => return Err(CliFault::Code(fault)),
+    };
+    let line = count_line(alloc, &code)?;
+    Ok((line, container))
 }
 
 /// The line of the bounds of a container's procedure. Takes the bytes of the container's file.

@@ -2,11 +2,12 @@
 use Rattle.std.specs.Prelude.{◌≡◌, ℕ, zero, suc, ◌+◌, ◌-◌, ◌*◌, ◌<◌, true, List, [], length, get_or, if◌then◌else◌, min, drop, Option, None, ℤ}
 use Rattle.tl_tree.specs.Records.{Records}
 use Rattle.tl_instr.specs.declared.instr.Instr.{Instr}
+use Rattle.tl_instr.specs.declared.version.Version.TheVariants.{One}
 use Rattle.tl_instr.specs.Codes.{CodeValue}
 use Rattle.tl_budget.specs.Loops.{budget, lock_bound}
 use Rattle.tl_protocol.specs.declared.action.Action.{Action}
 use Rattle.tl_protocol.specs.declared.event.Event.{Event}
-use Rattle.tl_protocol.specs.History.{part_of, is_done, IsOpen}
+use Rattle.tl_protocol.specs.History.{part_of, is_done, IsOpen, AllDone, records_now}
 use Rattle.tl_protocol.specs.World.{World, alone_of, done_of}
 use Rattle.tl_machine.specs.Outcomes.{meaning}
 use Rattle.tl_protocol.specs.Actions.{with_found}
@@ -14,6 +15,8 @@ use Rattle.tl_machine.specs.Runs.{actions}
 use Rattle.tl_machine.specs.Turns.{TurnValue, left_of}
 use Rattle.tl_procedures.specs.Names.{Named}
 use Rattle.tl_tree.specs.Trees.{TreeValue}
+use Rattle.tl_core.specs.declared.fault.CoreFault.{CoreFault}
+use Rattle.tl_core.specs.declared.fault.CoreFault.TheVariants.{NotAtRest, Memory}
 
 -- a call: the number of its procedure, the code that it runs, its arguments, and how many instructions it has done
 pub record CallValue : Type 0 where
@@ -47,8 +50,13 @@ opened tree procedures limit = record {
   turns = [];
 }
 
+-- the core that takes over from one that is at rest: it opens with the records now, and has no calls yet
+abbrev pub opened_after : CoreValue → CoreState
+opened_after v =
+    opened (record { parents = v.parents; records = records_now v.past v.opening }) v.procedures v.limit
+
 abbrev pub no_call : CallValue
-no_call = record { procedure = 0; code = record { arity = 0; instrs = [] }; args = []; count = 0 }
+no_call = record { procedure = 0; code = record { version = One; arity = 0; instrs = [] }; args = []; count = 0 }
 
 abbrev pub call_of : CoreValue → ℕ → CallValue
 call_of v c = get_or v.calls c no_call
@@ -88,6 +96,12 @@ total f (suc n) = total f n + f n
 pub record IsLeastUnfinished (past : List Event) (c : ℕ) : Type 0 where
   pub is_open : IsOpen c past
   pub least : (d : ℕ) → d < c → is_done d past ≡ true
+
+-- a call isn't done, and it is the least such one; or, where memory was refused, every call is done
+abbrev pub IsSealFault : CoreValue → CoreFault → Type 0
+IsSealFault v (NotAtRest c) = IsLeastUnfinished v.past c
+IsSealFault v Memory = AllDone v.past
+IsSealFault v _ = ⊥
 
 -- how many calls are open
 abbrev pub open_calls : CoreValue → ℕ

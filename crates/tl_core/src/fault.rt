@@ -28,6 +28,9 @@ pub enum CoreFault {
     /// 605: the history has no room for all that the call may do.
     #[error("the history has no room for the call")]
     HistoryFull,
+    /// 606 and the call: the call isn't done, and it is the least such one.
+    #[error("call {call} isn't done")]
+    NotAtRest { call: u32 },
     /// 607: the segment doesn't begin at the turn that the call is at.
     #[error("not from the turn that the call is at")]
     NotFrom,
@@ -39,7 +42,7 @@ pub enum CoreFault {
 impl CoreFault {
     ghost use Rattle.tl_core.specs.Faults.{numbers_of};
 
-    /// The fault's number.
+    /// The fault's number, and then the call, where it names one.
     pub fn numbers(&self) -> ArrayVec<u64, 3>
         ensures { result.items ≡ numbers_of self.now }
     {
@@ -51,9 +54,13 @@ impl CoreFault {
             CoreFault::TooManyCalls => 603,
             CoreFault::TooManyOpen => 604,
             CoreFault::HistoryFull => 605,
+            CoreFault::NotAtRest { .. } => 606,
             CoreFault::NotFrom => 607,
             CoreFault::Memory => 690,
         });
+        if let CoreFault::NotAtRest { call } = self {
+            numbers.push(u64::from(*call));
+        }
         numbers
     }
 }

@@ -10,7 +10,7 @@ ghost use Rattle.tl_protocol.specs.Obeys.{Obeys};
 ghost use Rattle.tl_protocol.specs.World.{Legal, IsSound, Reached, IsStuck, IsEnabled, reply_of};
 ghost use Rattle.tl_procedures.specs.Names.{number_of, naming_refusal};
 ghost use Rattle.tl_procedures.specs.declared.fault.NamingFault.TheVariants as naming;
-ghost use Rattle.tl_core.specs.Cores.{world_of, call_of, code_of, opened, kept_turn, places, room, owed, open_calls, all_budgets, done_by, IsLeastUnfinished, IsTurnOf};
+ghost use Rattle.tl_core.specs.Cores.{world_of, call_of, code_of, opened, opened_after, IsSealFault, kept_turn, places, room, owed, open_calls, all_budgets, done_by, IsLeastUnfinished, IsTurnOf};
 ghost use Rattle.tl_core.specs.Entries.{step_answer, after_step, admission_refusal, after_admission, procedure_at, IsEntry, after_entry, Traced, after_moves, moved, part_of_run, entry_of, IsBlocked};
 ghost use Rattle.tl_machine.specs.Runs.{emits_of};
 ghost use Rattle.tl_machine.specs.Turns.{TurnValue, SegmentValue, IsTurn, IsSegment, Stops, segment_of, with_call};
@@ -116,6 +116,46 @@ impl Core {
             holders,
             history: History::new(alloc, limit),
         })
+    }
+
+    /// The core that takes over from this one, once every call is done: it opens with the records now, and has the same
+    /// procedures, no calls yet, and a history for as many events. 606 with the least unfinished call where there is one; else
+    /// 690 where memory is refused.
+    pub fn successor(&self, alloc: Global) -> Result<Core, CoreFault>
+        ensures done { IfOk result (λ _. AllDone self.now.seen.past) }
+        ensures next { IfOk result (λ core. core ≡ opened_after self.now.seen) }
+        ensures fault { IfErr result (λ e. IsSealFault self.now.seen e) }
+    {
+        if let Some(call) = self.least_unfinished() {
+            return Err(CoreFault::NotAtRest { call });
+        }
+        let Ok(tree) = self.tree().copy(alloc) else {
+            return Err(CoreFault::Memory);
+        };
+        let procedures = self.procedures.copy(alloc)?;
+        Core::with_procedures(alloc, tree, procedures, self.history.limit())
+    }
+
+    /// This core, at rest, and the one that takes over from it. 606 with the least unfinished call where there is one; else 690
+    /// where memory is refused. A refusal hands the core back as it was.
+    pub fn seal(self, alloc: Global) -> Result<(Core, Core), (Core, CoreFault)>
+        ensures same { IfOk result (λ r. r.0 ≡ self) }
+        ensures done { IfOk result (λ _. AllDone self.seen.past) }
+        ensures next { IfOk result (λ r. r.1 ≡ opened_after self.seen) }
+        ensures back { IfErr result (λ r. r.0 ≡ self) }
+        ensures fault { IfErr result (λ r. IsSealFault self.seen r.1) }
+    {
+        match self.successor(alloc) {
+            Ok(next) => Ok((self, next)),
+            Err(fault) => Err((self, fault)),
+        }
+    }
+
+    /// Gives back memory of the history that its calls don't need. What it is stays the same.
+    pub fn cut_history(&mut self)
+        ensures { self.new ≡ self.old }
+    {
+        self.history.cut();
     }
 
     /// Takes up a procedure under a name, and answers its number, from 0. The first that holds of: 612 where the name

@@ -8,13 +8,15 @@ use tl_tree::{Tree, read_tree};
 use tl_verify::{Proc, verify};
 
 /// A node whose field 0 is 5.
-pub const ONE_NODE: &str = "{\"parents\":[0],\"records\":[[5,0,0,0]]}";
+pub const ONE_NODE: &str = "{\"parents\":[0],\"records\":[[5,0,0,0,0,0,0,0]]}";
 
 /// A root with two children.
-pub const FORK: &str = "{\"parents\":[0,0,0],\"records\":[[0,0,0,0],[10,0,0,0],[20,0,0,0]]}";
+pub const FORK: &str =
+    "{\"parents\":[0,0,0],\"records\":[[0,0,0,0,0,0,0,0],[10,0,0,0,0,0,0,0],[20,0,0,0,0,0,0,0]]}";
 
 /// A root with a child that has a child.
-pub const CHAIN: &str = "{\"parents\":[0,0,1],\"records\":[[0,0,0,0],[0,0,0,0],[7,0,0,0]]}";
+pub const CHAIN: &str =
+    "{\"parents\":[0,0,1],\"records\":[[0,0,0,0,0,0,0,0],[0,0,0,0,0,0,0,0],[7,0,0,0,0,0,0,0]]}";
 
 /// Locks the node `v0`, adds `v1` to its field 0, and emits the sum.
 pub const ADD: &str = "arity 2

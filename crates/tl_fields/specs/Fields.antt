@@ -1,6 +1,10 @@
 -- How wide a record is.
 use Rattle.std.specs.Prelude.{ℕ}
 
--- a record has four fields
+-- a record has eight fields
 abbrev pub field_count : ℕ
-field_count = 4
+field_count = 8
+
+-- a narrow record, of the language's first version, has four
+abbrev pub narrow_field_count : ℕ
+narrow_field_count = 4

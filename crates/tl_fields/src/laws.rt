@@ -1,11 +1,12 @@
 // What is so of the width of a record.
 
 ghost use Rattle.std.specs.Prelude.{◌≡◌};
-ghost use Rattle.tl_fields.specs.Fields.{field_count};
+ghost use Rattle.tl_fields.specs.Fields.{field_count, narrow_field_count};
 
-use crate::count::FIELD_COUNT;
+use crate::count::{FIELD_COUNT, NARROW_FIELD_COUNT};
 
-/// The constant is the definitions' number.
-pub fn field_count_is_constant()
-    ensures { FIELD_COUNT ≡ field_count }
+/// The constants are the definitions' numbers.
+pub fn field_counts_are_constants()
+    ensures wide { FIELD_COUNT ≡ field_count }
+    ensures narrow { NARROW_FIELD_COUNT ≡ narrow_field_count }
 {}

@@ -3,6 +3,6 @@
 
 mod count;
 
-pub use count::FIELD_COUNT;
+pub use count::{FIELD_COUNT, NARROW_FIELD_COUNT};
 
 pub mod laws;

@@ -12,6 +12,7 @@ use Rattle.tl_tree.proofs.Items.{onto}
 use Rattle.tl_forms.specs.Lists.{items_of_list}
 use Rattle.tl_forms.specs.Procedures.{procedure_in, procedure_of}
 use Rattle.tl_forms.specs.Requests.{request_in, request_of}
+use Rattle.tl_tree.specs.declared.record.Width.{Width}
 use Rattle.tl_forms.specs.Events.{event_in, event_of}
 
 some_pushed : {A : Type 0} (xs ys : List A) (y : A) → onto xs (Some (y ∷ ys)) ≡ onto (xs ++ y ∷ []) (Some ys)
@@ -42,13 +43,13 @@ no_request (a ∷ []) other = refl
 no_request (a ∷ b ∷ []) other = absurd (other refl)
 no_request (a ∷ b ∷ c ∷ vs) other = refl
 
-neither : (vs : List Value) → length vs ≢ 2 → length vs ≢ 4 → event_in (items_of_list (items_view vs)) ≡ None
-neither [] two four = refl
-neither (a ∷ []) two four = refl
-neither (a ∷ b ∷ []) two four = absurd (two refl)
-neither (a ∷ b ∷ c ∷ []) two four = refl
-neither (a ∷ b ∷ c ∷ d ∷ []) two four = absurd (four refl)
-neither (a ∷ b ∷ c ∷ d ∷ e ∷ vs) two four = refl
+neither : (width : Width) (vs : List Value) → length vs ≢ 2 → length vs ≢ 4 → event_in width (items_of_list (items_view vs)) ≡ None
+neither width [] two four = refl
+neither width (a ∷ []) two four = refl
+neither width (a ∷ b ∷ []) two four = absurd (two refl)
+neither width (a ∷ b ∷ c ∷ []) two four = refl
+neither width (a ∷ b ∷ c ∷ d ∷ []) two four = absurd (four refl)
+neither width (a ∷ b ∷ c ∷ d ∷ e ∷ vs) two four = refl
 
 pub no_procedure_in : (d : Data) (vs : List Value) → Some (items_view vs) ≡ as_array d → length vs ≢ 2 → None ≡ procedure_of d
 no_procedure_in d vs is other = rw (sym is) (sym (not_two vs other))
@@ -56,8 +57,8 @@ no_procedure_in d vs is other = rw (sym is) (sym (not_two vs other))
 pub no_request_in : (d : Data) (vs : List Value) → Some (items_view vs) ≡ as_array d → length vs ≢ 2 → None ≡ request_of d
 no_request_in d vs is other = rw (sym is) (sym (no_request vs other))
 
-pub no_event_in : (d : Data) (vs : List Value) → Some (items_view vs) ≡ as_array d → length vs ≢ 2 → length vs ≢ 4 → None ≡ event_of d
-no_event_in d vs is two four = rw (sym is) (sym (neither vs two four))
+pub no_event_in : (width : Width) (d : Data) (vs : List Value) → Some (items_view vs) ≡ as_array d → length vs ≢ 2 → length vs ≢ 4 → None ≡ event_of width d
+no_event_in width d vs is two four = rw (sym is) (sym (neither width vs two four))
 
 -- ---- items that are their own forms
 

@@ -1,7 +1,8 @@
 -- Events.
-use Rattle.std.specs.Prelude.{ℕ, ℤ, List, [], ◌∷◌, Option, Some, None, option_and_then}
+use Rattle.std.specs.Prelude.{ℤ, List, [], ◌∷◌, Option, Some, None, option_and_then}
 use Rattle.serde_json.specs.Data.{Data}
 use Rattle.serde_json.specs.Find.{as_str}
+use Rattle.tl_tree.specs.declared.record.Width.{Width}
 use Rattle.tl_tree.specs.Records.{Record}
 use Rattle.tl_tree.specs.Trees.{IsRecord}
 use Rattle.tl_tree.specs.Reading.{both, integer_of, record_of}
@@ -30,15 +31,15 @@ long_event _ c x r = None
 abbrev pub letter_in : Data → Option Letter
 letter_in d = option_and_then letter_of (as_str d)
 
-abbrev pub event_in : List Data → Option RawEvent
-event_in (s ∷ c ∷ []) = option_and_then (λ x. short_event x.0 x.1) (both (letter_in s) (integer_of c))
-event_in (s ∷ c ∷ x ∷ r ∷ []) =
-    option_and_then (λ y. long_event y.0.0 y.0.1 y.1.0 y.1.1) (both (both (letter_in s) (integer_of c)) (both (integer_of x) (record_of r)))
-event_in _ = None
+abbrev pub event_in : Width → List Data → Option RawEvent
+event_in width (s ∷ c ∷ []) = option_and_then (λ x. short_event x.0 x.1) (both (letter_in s) (integer_of c))
+event_in width (s ∷ c ∷ x ∷ r ∷ []) =
+    option_and_then (λ y. long_event y.0.0 y.0.1 y.1.0 y.1.1) (both (both (letter_in s) (integer_of c)) (both (integer_of x) (record_of width r)))
+event_in width _ = None
 
--- the event that a value is
-abbrev pub event_of : Data → Option RawEvent
-event_of d = option_and_then event_in (list_of d)
+-- the event that a value is, whose record has that width
+abbrev pub event_of : Width → Data → Option RawEvent
+event_of width d = option_and_then (event_in width) (list_of d)
 
 -- ---- writing
 

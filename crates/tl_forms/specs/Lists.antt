@@ -25,5 +25,12 @@ abbrev pub natural : ℕ → Data
 natural n = number (unsigned n)
 
 -- the calls in their order
+abbrev pub calls_data : List ℕ → Data
+calls_data calls = list_data (map natural calls)
+
 abbrev pub order_data : List ℕ → Data
-order_data calls = object (member (codes "order") (list_data (map natural calls)) no_members)
+order_data calls = object (member (codes "order") (calls_data calls) no_members)
+
+-- the calls of each epoch in their order
+abbrev pub orders_data : List (List ℕ) → Data
+orders_data orders = object (member (codes "orders") (list_data (map calls_data orders)) no_members)

@@ -16,7 +16,7 @@ use crate::text::{PushText, push_number};
 use serde_json::{Value, json};
 use std::alloc::{AllocError, Global};
 use tl_protocol::Event;
-use tl_tree::{Record, record_from_value, record_to_value};
+use tl_tree::{Record, Width, record_from_value, record_to_value};
 
 /// An event as it is written: its call and its node may be any numbers.
 #[derive(Clone, Copy, Debug)]
@@ -57,9 +57,9 @@ fn long_event(letter: Letter, call: i64, node: i64, fields: Record) -> Option<Ra
     }
 }
 
-// The event that a value is, where it is one.
-fn event_from_value(value: &Value) -> Option<RawEvent>
-    ensures { result ≡ event_of (view value.now) }
+// The event that a value is, where it is one with a record of that width.
+fn event_from_value(width: Width, value: &Value) -> Option<RawEvent>
+    ensures { result ≡ event_of width (view value.now) }
 {
     let items = value.as_array()?;
     if let Some((letter, call)) = two_of(items) {
@@ -70,14 +70,17 @@ fn event_from_value(value: &Value) -> Option<RawEvent>
         Letter::from_text(letter.as_str()?)?,
         call.as_i64()?,
         node.as_i64()?,
-        record_from_value(fields)?,
+        record_from_value(width, fields)?,
     )
 }
 
-/// `["a",call]` or `["d",call]`, or `["l",call,node,record]` or `["f",call,node,record]`
-impl FromValue for RawEvent {
+/// `["a",call]` or `["d",call]`, or `["l",call,node,record]` or `["f",call,node,record]` with a record of eight numbers
+pub struct WideEvent;
+
+impl FromValue for WideEvent {
     type Item = RawEvent;
 
+    ghost use Rattle.tl_tree.specs.declared.record.Width.TheVariants.{Wide};
     ghost use Rattle.tl_forms.specs.declared.event.RawEvent.{RawEvent as Raw};
     ghost use Rattle.tl_forms.specs.Events.{event_of};
 
@@ -85,18 +88,46 @@ impl FromValue for RawEvent {
 
     ghost form = { λ e. e };
 
-    ghost form_of = { event_of };
+    ghost form_of = { event_of Wide };
 
     fn from_value(_alloc: Global, value: &Value) -> Result<Option<RawEvent>, AllocError> {
-        Ok(event_from_value(value))
+        Ok(event_from_value(Width::Wide, value))
     }
 }
 
-/// The events of a list, or `None` where the value is none, or an item is no event.
-pub fn events_from_value(alloc: Global, value: &Value) -> Result<Option<Vec<RawEvent>>, AllocError>
-    ensures { IfOk result (λ found. option_map (λ v. v.items) found ≡ each_of event_of (view value.now)) }
+/// The same with a record of four numbers.
+pub struct NarrowEvent;
+
+impl FromValue for NarrowEvent {
+    type Item = RawEvent;
+
+    ghost use Rattle.tl_tree.specs.declared.record.Width.TheVariants.{Narrow};
+    ghost use Rattle.tl_forms.specs.declared.event.RawEvent.{RawEvent as Raw};
+    ghost use Rattle.tl_forms.specs.Events.{event_of};
+
+    ghost Form = { Raw };
+
+    ghost form = { λ e. e };
+
+    ghost form_of = { event_of Narrow };
+
+    fn from_value(_alloc: Global, value: &Value) -> Result<Option<RawEvent>, AllocError> {
+        Ok(event_from_value(Width::Narrow, value))
+    }
+}
+
+/// The events of a list, or `None` where the value is none, or an item is no event with a record of that width.
+pub fn events_from_value(
+    alloc: Global,
+    width: Width,
+    value: &Value,
+) -> Result<Option<Vec<RawEvent>>, AllocError>
+    ensures { IfOk result (λ found. option_map (λ v. v.items) found ≡ each_of (event_of width) (view value.now)) }
 {
-    each_of::<RawEvent>(alloc, value)
+    match width {
+        Width::Wide => each_of::<WideEvent>(alloc, value),
+        Width::Narrow => each_of::<NarrowEvent>(alloc, value),
+    }
 }
 
 /// `["letter",call]`

@@ -16,11 +16,13 @@ mod reply;
 mod request;
 mod text;
 
-pub use event::{RawEvent, call_to_value, events_from_value, node_to_value};
+pub use event::{
+    NarrowEvent, RawEvent, WideEvent, call_to_value, events_from_value, node_to_value,
+};
 pub use fault::{ProcedureFault, RegisterFault};
 pub use json::{FromValue, each_of, four_of, parse, parse_text, three_of, two_of};
 pub use letter::Letter;
-pub use order::order_to_value;
+pub use order::{calls_to_value, order_to_value, orders_to_value};
 pub use procedure::{ProcedureText, procedures_to_value};
 pub use registering::{procedure_of_text, register, register_all};
 pub use reply::{reply_from_value, reply_to_value};

@@ -130,6 +130,15 @@ impl History {
         self.reserved -= places;
     }
 
+    /// Gives back the memory of places that are neither stored nor reserved. Where a smaller piece of memory is refused, all stays as
+    /// it is.
+    pub fn cut(&mut self)
+        ensures { self.new ≡ self.old }
+    {
+        let needed = self.len() + self.reserved();
+        self.events.shrink_to(needed);
+    }
+
     /// The events, the earliest first.
     pub fn events(&self) -> &[Event]
         ensures past { past_of result.now ≡ self.now.past }

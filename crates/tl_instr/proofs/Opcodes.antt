@@ -1,9 +1,12 @@
 -- The opcodes of the language.
-use Rattle.std.proofs.Common.{◌≡◌, ℕ, Bool, true, eqb, List, [], ◌∷◌, refl, sym, ◌∙◌, subst, ◌↔◌, IsTrue, pos, inl, inr}
+use Rattle.std.proofs.Common.{◌≡◌, ℕ, Bool, true, false, ◌||◌, eqb, List, [], ◌∷◌, refl, sym, ◌∙◌, subst, ◌↔◌, IsTrue, pos, inl, inr}
 use Rattle.std.specs.List.{list_any, AllByRecursion}
 use Rattle.std.proofs.lemmas.Bool.Decides.{eqb_tells}
 use Rattle.tl_instr.specs.declared.instr.Instr.{Instr}
-use Rattle.tl_instr.specs.declared.instr.Instr.TheVariants.{Set, Copy, Add, Subtract, Multiply, Divide, Jump, JumpIfLess, JumpIfEqual, Repeat, End, First, Child, Move, Release, Get, Put, Kids, Emit, Return}
+use Rattle.tl_instr.specs.declared.instr.Instr.TheVariants.{Set, Copy, Add, Subtract, Multiply, Divide, Jump, JumpIfLess, JumpIfEqual, Repeat, RepeatBy, End, First, Child, Move, Release, Get, Put, Kids, Emit, Return}
+use Rattle.tl_instr.specs.declared.version.Version.TheVariants.{One, Two}
+use Rattle.tl_instr.specs.Versions.{HasOpcode}
+use Rattle.std.proofs.lemmas.Bool.{eqb-true}
 use Rattle.tl_instr.specs.Faults.{IsOpcode}
 use Rattle.tl_instr.specs.Spelling.{cell_of}
 
@@ -11,92 +14,22 @@ abbrev pub opcodes : List ℕ
 opcodes =
     1 ∷ 2 ∷ 3 ∷ 4 ∷ 5 ∷ 6 ∷ 7 ∷ 8 ∷ 9 ∷ 10 ∷ 11 ∷ 12 ∷ 13 ∷ 14 ∷ 15 ∷ 16 ∷ 17 ∷ 18 ∷ 19 ∷ 20 ∷ []
 
--- each is an instruction's
-each_is : AllByRecursion IsOpcode opcodes
-each_is = (
-  (Set 0 (pos 0), refl),
-  (
-    (Copy 0 0, refl),
-    (
-      (Add 0 0 0 0, refl),
-      (
-        (Subtract 0 0 0 0, refl),
-        (
-          (Multiply 0 0 0 0, refl),
-          (
-            (Divide 0 0 0 0, refl),
-            (
-              (Jump 0, refl),
-              (
-                (JumpIfLess 0 0 0, refl),
-                (
-                  (JumpIfEqual 0 0 0, refl),
-                  (
-                    (Repeat 0, refl),
-                    (
-                      (End, refl),
-                      (
-                        (First 0 0 0, refl),
-                        (
-                          (Child 0 0 0 0, refl),
-                          (
-                            (Move 0 0, refl),
-                            (
-                              (Release 0, refl),
-                              (
-                                (Get 0 0 0, refl),
-                                (
-                                  (Put 0 0 0, refl),
-                                  (
-                                    (Kids 0 0, refl),
-                                    (
-                                      (Emit 0, refl),
-                                      (
-                                        (Return, refl),
-                                        tt,
-                                      ),
-                                    ),
-                                  ),
-                                ),
-                              ),
-                            ),
-                          ),
-                        ),
-                      ),
-                    ),
-                  ),
-                ),
-              ),
-            ),
-          ),
-        ),
-      ),
-    ),
-  ),
-)
+-- an instruction that each version has the opcode of
+abbrev Everywhere : ℕ → Type 0
+Everywhere n = (i : Instr) × HasOpcode One i × HasOpcode Two i × ((cell_of i).opcode ≡ n)
 
--- each instruction has one of them
-is_listed : (i : Instr) → list_any (λ y. eqb y (cell_of i).opcode) opcodes ≡ true
-is_listed (Set to number) = refl
-is_listed (Copy to from) = refl
-is_listed (Add to left right otherwise) = refl
-is_listed (Subtract to left right otherwise) = refl
-is_listed (Multiply to left right otherwise) = refl
-is_listed (Divide to left right otherwise) = refl
-is_listed (Jump to) = refl
-is_listed (JumpIfLess left right to) = refl
-is_listed (JumpIfEqual left right to) = refl
-is_listed (Repeat count) = refl
-is_listed End = refl
-is_listed (First to number otherwise) = refl
-is_listed (Child to parent number otherwise) = refl
-is_listed (Move to from) = refl
-is_listed (Release node) = refl
-is_listed (Get to node field) = refl
-is_listed (Put node field from) = refl
-is_listed (Kids to node) = refl
-is_listed (Emit from) = refl
-is_listed Return = refl
+-- each is an instruction's
+each_is : AllByRecursion Everywhere opcodes
+each_is = ((Set 0 (pos 0), tt, tt, refl), ((Copy 0 0, tt, tt, refl), ((Add 0 0 0 0, tt, tt, refl), ((Subtract 0 0 0 0, tt, tt, refl), ((Multiply 0 0 0 0, tt, tt, refl), ((Divide 0 0 0 0, tt, tt, refl), ((Jump 0, tt, tt, refl), ((JumpIfLess 0 0 0, tt, tt, refl), ((JumpIfEqual 0 0 0, tt, tt, refl), ((Repeat 0, tt, tt, refl), ((End, tt, tt, refl), ((First 0 0 0, tt, tt, refl), ((Child 0 0 0 0, tt, tt, refl), ((Move 0 0, tt, tt, refl), ((Release 0, tt, tt, refl), ((Get 0 0 0, tt, tt, refl), ((Put 0 0 0, tt, tt, refl), ((Kids 0 0, tt, tt, refl), ((Emit 0, tt, tt, refl), ((Return, tt, tt, refl), tt))))))))))))))))))))
+
+-- each instruction of the first version has one of them, and each of the second has one or 21
+is_listed : (i : Instr) → HasOpcode One i → list_any (λ y. eqb y (cell_of i).opcode) opcodes ≡ true
+is_listed (RepeatBy turns count) h = absurd h
+is_listed i h = refl
+
+or_by_register : (i : Instr) → (eqb (cell_of i).opcode 21 || list_any (λ y. eqb y (cell_of i).opcode) opcodes) ≡ true
+or_by_register (RepeatBy turns count) = refl
+or_by_register i = refl
 
 -- what is listed has what holds of each of the list
 found : (P : ℕ → Type 0) (ks : List ℕ) (n : ℕ) → AllByRecursion P ks → list_any (λ y. eqb y n) ks ≡ true → P n
@@ -107,6 +40,14 @@ found P (k ∷ ks) n all e =
       | inr other ↦ found P ks n all.1 (rw other.0 at e)
     ]
 
-pub decides : (n : ℕ) (b : Bool) → b ≡ list_any (λ y. eqb y n) opcodes → IsTrue b ↔ IsOpcode n
-decides n b e =
-    (λ yes. found IsOpcode opcodes n each_is (sym e ∙ yes), λ has. e ∙ subst (λ (m : ℕ). list_any (λ y. eqb y m) opcodes ≡ true) has.1 (is_listed has.0))
+pub decides_one : (n : ℕ) (b : Bool) → b ≡ list_any (λ y. eqb y n) opcodes → IsTrue b ↔ IsOpcode One n
+decides_one n b e =
+    (λ yes. let f = found Everywhere opcodes n each_is (sym e ∙ yes) in (f.0, f.1, f.3), λ has. e ∙ subst (λ (m : ℕ). list_any (λ y. eqb y m) opcodes ≡ true) has.2 (is_listed has.0 has.1))
+
+pub decides_two : (n : ℕ) (b : Bool) → b ≡ (eqb n 21 || list_any (λ y. eqb y n) opcodes) → IsTrue b ↔ IsOpcode Two n
+decides_two n b e =
+    (λ yes. by (eqb n 21) refl (sym e ∙ yes), λ has. e ∙ subst (λ (m : ℕ). (eqb m 21 || list_any (λ y. eqb y m) opcodes) ≡ true) has.2 (or_by_register has.0))
+  where
+    by : (c : Bool) → eqb n 21 ≡ c → (c || list_any (λ y. eqb y n) opcodes) ≡ true → IsOpcode Two n
+    by true same f = (RepeatBy 0 0, tt, sym (eqb-true n 21 same))
+    by false other f = let g = found Everywhere opcodes n each_is f in (g.0, g.2, g.3)

@@ -2,6 +2,7 @@
 use Rattle.std.proofs.Common.{◌≡◌, ◌++◌, List, ℕ, [], ◌∷◌, refl, Some, None, negsuc}
 use Rattle.tl_instr.specs.declared.fault.CodeFault.TheVariants.{BadOperand}
 use Rattle.tl_instr.specs.declared.instr.Instr.TheVariants.{Set, Add, First, Release, Get, Put, Emit, Return}
+use Rattle.tl_instr.specs.declared.version.Version.TheVariants.{One}
 use Rattle.tl_instr.specs.Codes.{CodeValue}
 use Rattle.tl_instr.specs.Faults.{numbers_of, count_at, cell_at, opcode_at}
 use Rattle.tl_instr.specs.Instructions.{target}
@@ -10,7 +11,7 @@ use Rattle.tl_instr.specs.Spelling.{cell, instr_bytes, spelling}
 
 -- first n0 v0 else 6; get v2 n0 0; add v2 v2 v1 else 4; put n0 0 v2; emit v2; rel n0; ret
 abbrev add_code : CodeValue
-add_code = record { arity = 2; instrs = First 0 0 6 ∷ Get 2 0 0 ∷ Add 2 2 1 4 ∷ Put 0 0 2 ∷ Emit 2 ∷ Release 0 ∷ Return ∷ [] }
+add_code = record { version = One; arity = 2; instrs = First 0 0 6 ∷ Get 2 0 0 ∷ Add 2 2 1 4 ∷ Put 0 0 2 ∷ Emit 2 ∷ Release 0 ∷ Return ∷ [] }
 
 abbrev add_bytes : List ℕ
 add_bytes =
@@ -44,7 +45,7 @@ out_of_range : instr_in (cell 3 16 2 1 4) ≡ None
 unfolding instr_in add_in
 out_of_range = refl
 
-no_such_opcode : instr_in (cell 21 0 0 0 0) ≡ None
+no_such_opcode : instr_in (cell 22 0 0 0 0) ≡ None
 unfolding instr_in
 no_such_opcode = refl
 

@@ -1,12 +1,15 @@
 -- The faults: their numbers, and which one comes first.
-use Rattle.std.specs.Prelude.{◌≡◌, ◌⊎◌, ℕ, ◌+◌, ◌*◌, ◌<◌, ◌≤◌, List, [], ◌∷◌, length, take, slice_index, slice_range}
+use Rattle.std.specs.Prelude.{◌≡◌, ◌⊎◌, ℕ, ◌+◌, ◌*◌, ◌<◌, ◌≤◌, List, [], ◌∷◌, length, take, slice_index, slice_range, ◌==◌, if◌then◌else◌}
 use Rattle.std.specs.Int.{w16, from_be_bytes}
 use Rattle.tl_instr.specs.declared.fault.CodeFault.{CodeFault}
-use Rattle.tl_instr.specs.declared.fault.CodeFault.TheVariants.{BadMagic, BadLength, BadOpcode, BadOperand, BadCount, BadArity, Memory}
+use Rattle.tl_instr.specs.declared.fault.CodeFault.TheVariants.{BadMagic, BadLength, BadOpcode, BadOperand, BadCount, BadArity, NotVersion1, Memory}
 use Rattle.tl_instr.specs.declared.instr.Instr.{Instr}
-use Rattle.tl_instr.specs.Codes.{CodeValue, IsArity, IsCount, IsFirstBeyond}
+use Rattle.tl_instr.specs.declared.version.Version.{Version}
+use Rattle.tl_instr.specs.declared.version.Version.TheVariants.{One, Two}
+use Rattle.tl_instr.specs.Versions.{magic, HasOpcode}
+use Rattle.tl_instr.specs.Codes.{CodeValue, IsArity, IsCount, IsFirstRefused}
 use Rattle.tl_instr.specs.Instructions.{IsInstr}
-use Rattle.tl_instr.specs.Spelling.{magic, cell_of, instr_bytes}
+use Rattle.tl_instr.specs.Spelling.{cell_of, instr_bytes}
 
 -- a fault's number, and then its parts
 abbrev pub numbers_of : CodeFault → List ℕ
@@ -16,22 +19,29 @@ numbers_of (BadOpcode pc) = 203 ∷ pc ∷ []
 numbers_of (BadOperand pc) = 204 ∷ pc ∷ []
 numbers_of BadCount = 205 ∷ []
 numbers_of BadArity = 206 ∷ []
+numbers_of NotVersion1 = 207 ∷ []
 numbers_of Memory = 290 ∷ []
 
--- The first fault of an arity and of instructions with operands in range: the arity, the count, the first target beyond the code.
+-- The first fault of an arity and of instructions with operands in range: the arity, the count, the first instruction that the version
+-- doesn't have, or whose target is beyond the code.
 abbrev pub IsFaultOf : CodeValue → CodeFault → Type 0
 IsFaultOf c BadMagic = ⊥
 IsFaultOf c BadLength = ⊥
-IsFaultOf c (BadOpcode pc) = ⊥
-IsFaultOf c (BadOperand pc) = IsArity c.arity × IsCount (length c.instrs) × IsFirstBeyond c.instrs pc
+IsFaultOf c (BadOpcode pc) = IsArity c.arity × IsCount (length c.instrs) × ((i : Instr) × IsFirstRefused c.version c.instrs pc i × ¬ HasOpcode c.version i)
+IsFaultOf c (BadOperand pc) = IsArity c.arity × IsCount (length c.instrs) × ((i : Instr) × IsFirstRefused c.version c.instrs pc i × HasOpcode c.version i)
 IsFaultOf c BadCount = IsArity c.arity × ¬ IsCount (length c.instrs)
 IsFaultOf c BadArity = ¬ IsArity c.arity
+IsFaultOf c NotVersion1 = ⊥
 IsFaultOf c Memory = ⊥
 
 -- ---- the parts of a container
 
+-- the version that the fourth byte names
+abbrev pub version_at : List ℕ → Version
+version_at bytes = if slice_index bytes 3 == 0x32 then Two else One
+
 abbrev pub HasMagic : List ℕ → Type 0
-HasMagic bytes = take 4 bytes ≡ magic
+HasMagic bytes = take 4 bytes ≡ magic (version_at bytes)
 
 -- the arity, and the 0 after it
 abbrev pub HasArity : List ℕ → Type 0
@@ -47,13 +57,13 @@ HasLength bytes = length bytes ≡ 8 + 8 * count_at bytes
 abbrev pub cell_at : List ℕ → ℕ → List ℕ
 cell_at bytes pc = slice_range bytes (8 + 8 * pc) (16 + 8 * pc)
 
--- the opcode of an instruction
-abbrev pub IsOpcode : ℕ → Type 0
-IsOpcode n = (i : Instr) × ((cell_of i).opcode ≡ n)
+-- the opcode of an instruction of that version
+abbrev pub IsOpcode : Version → ℕ → Type 0
+IsOpcode version n = (i : Instr) × HasOpcode version i × ((cell_of i).opcode ≡ n)
 
--- the bytes of an instruction of a code of that many
-abbrev pub IsCell : ℕ → List ℕ → Type 0
-IsCell count bytes = (i : Instr) × IsInstr count i × (instr_bytes i ≡ bytes)
+-- the bytes of an instruction of a code of that version and of that many
+abbrev pub IsCell : Version → ℕ → List ℕ → Type 0
+IsCell version count bytes = (i : Instr) × IsInstr version count i × (instr_bytes i ≡ bytes)
 
 -- The bytes before the instructions are right, and there is room for each of them.
 pub record IsFramed (bytes : List ℕ) : Type 0 where
@@ -70,8 +80,8 @@ opcode_at bytes pc = slice_index (cell_at bytes pc) 0
 pub record IsFirstBad (bytes : List ℕ) (pc : ℕ) : Type 0 where
   pub framed : IsFramed bytes
   pub inside : pc < count_at bytes
-  pub before : (k : ℕ) → k < pc → IsCell (count_at bytes) (cell_at bytes k)
-  pub here : ¬ IsCell (count_at bytes) (cell_at bytes pc)
+  pub before : (k : ℕ) → k < pc → IsCell (version_at bytes) (count_at bytes) (cell_at bytes k)
+  pub here : ¬ IsCell (version_at bytes) (count_at bytes) (cell_at bytes pc)
 
 -- The first fault of bytes that are no container.
 abbrev pub IsFirstFault : List ℕ → CodeFault → Type 0
@@ -79,10 +89,11 @@ IsFirstFault bytes BadMagic = ¬ HasMagic bytes
 IsFirstFault bytes BadLength = HasMagic bytes × ((length bytes < 8) ⊎ ((8 ≤ length bytes) × HasArity bytes × IsCount (count_at bytes) × ¬ HasLength bytes))
 IsFirstFault bytes BadArity = HasMagic bytes × (8 ≤ length bytes) × ¬ HasArity bytes
 IsFirstFault bytes BadCount = HasMagic bytes × (8 ≤ length bytes) × HasArity bytes × ¬ IsCount (count_at bytes)
-IsFirstFault bytes (BadOpcode pc) = IsFirstBad bytes pc × ¬ IsOpcode (opcode_at bytes pc)
-IsFirstFault bytes (BadOperand pc) = IsFirstBad bytes pc × IsOpcode (opcode_at bytes pc)
+IsFirstFault bytes (BadOpcode pc) = IsFirstBad bytes pc × ¬ IsOpcode (version_at bytes) (opcode_at bytes pc)
+IsFirstFault bytes (BadOperand pc) = IsFirstBad bytes pc × IsOpcode (version_at bytes) (opcode_at bytes pc)
+IsFirstFault bytes NotVersion1 = ⊥
 IsFirstFault bytes Memory = ⊥
 
 -- what is wrong with the bytes at pc alone
 abbrev pub IsCellFault : List ℕ → ℕ → CodeFault → Type 0
-IsCellFault bytes pc f = ¬ IsCell (count_at bytes) (cell_at bytes pc) × (((f ≡ BadOpcode pc) × ¬ IsOpcode (opcode_at bytes pc)) ⊎ ((f ≡ BadOperand pc) × IsOpcode (opcode_at bytes pc)))
+IsCellFault bytes pc f = ¬ IsCell (version_at bytes) (count_at bytes) (cell_at bytes pc) × (((f ≡ BadOpcode pc) × ¬ IsOpcode (version_at bytes) (opcode_at bytes pc)) ⊎ ((f ≡ BadOperand pc) × IsOpcode (version_at bytes) (opcode_at bytes pc)))

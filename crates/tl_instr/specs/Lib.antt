@@ -1,3 +1,4 @@
+pub mod Versions
 pub mod Instructions
 pub mod Codes
 pub mod Spelling

@@ -5,7 +5,7 @@ use Rattle.tl_fields.specs.Fields.{field_count}
 use Rattle.tl_instr.specs.declared.operand.TheConstants.{VALUE_REGISTERS, NODE_REGISTERS}
 use Rattle.tl_instr.specs.declared.cell.Cell.{Cell}
 use Rattle.tl_instr.specs.declared.instr.Instr.{Instr}
-use Rattle.tl_instr.specs.declared.instr.Instr.TheVariants.{Set, Copy, Add, Subtract, Multiply, Divide, Jump, JumpIfLess, JumpIfEqual, Repeat, End, First, Child, Move, Release, Get, Put, Kids, Emit, Return}
+use Rattle.tl_instr.specs.declared.instr.Instr.TheVariants.{Set, Copy, Add, Subtract, Multiply, Divide, Jump, JumpIfLess, JumpIfEqual, Repeat, RepeatBy, End, First, Child, Move, Release, Get, Put, Kids, Emit, Return}
 
 infixl 10 ◌>>=◌
 abbrev pub ◌>>=◌ : {A B : Type 0} → Option A → (A → Option B) → Option B
@@ -93,6 +93,12 @@ repeat_in c = do
   count ← position c.w
   Some (Repeat count)
 
+unfoldable pub repeat_by_in : Cell → Option Instr
+repeat_by_in c = do
+  turns ← value_register c.x
+  count ← position c.w
+  Some (RepeatBy turns count)
+
 unfoldable pub first_in : Cell → Option Instr
 first_in c = do
   to ← node_register c.x
@@ -166,4 +172,5 @@ instr_in c =
     else (if c.opcode == 18 then kids_in c
     else (if c.opcode == 19 then emit_in c
     else (if c.opcode == 20 then Some Return
-    else None)))))))))))))))))))
+    else (if c.opcode == 21 then repeat_by_in c
+    else None))))))))))))))))))))

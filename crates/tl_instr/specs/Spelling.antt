@@ -3,8 +3,10 @@ use Rattle.std.specs.Prelude.{◌≡◌, ℕ, List, [], ◌∷◌, ◌++◌, len
 use Rattle.std.specs.List.{flat_map}
 use Rattle.std.specs.Int.{w16, w32, cast_unsigned, to_be_bytes}
 use Rattle.tl_instr.specs.declared.cell.Cell.{Cell}
+use Rattle.tl_instr.specs.declared.version.Version.{Version}
+use Rattle.tl_instr.specs.Versions.{magic}
 use Rattle.tl_instr.specs.declared.instr.Instr.{Instr}
-use Rattle.tl_instr.specs.declared.instr.Instr.TheVariants.{Set, Copy, Add, Subtract, Multiply, Divide, Jump, JumpIfLess, JumpIfEqual, Repeat, End, First, Child, Move, Release, Get, Put, Kids, Emit, Return}
+use Rattle.tl_instr.specs.declared.instr.Instr.TheVariants.{Set, Copy, Add, Subtract, Multiply, Divide, Jump, JumpIfLess, JumpIfEqual, Repeat, RepeatBy, End, First, Child, Move, Release, Get, Put, Kids, Emit, Return}
 use Rattle.tl_instr.specs.Codes.{CodeValue, IsCode}
 
 abbrev pub cell : ℕ → ℕ → ℕ → ℕ → ℕ → Cell
@@ -22,6 +24,7 @@ cell_of (Jump to) = cell 7 0 0 0 to
 cell_of (JumpIfLess left right to) = cell 8 left right 0 to
 cell_of (JumpIfEqual left right to) = cell 9 left right 0 to
 cell_of (Repeat count) = cell 10 0 0 0 count
+cell_of (RepeatBy turns count) = cell 21 turns 0 0 count
 cell_of End = cell 11 0 0 0 0
 cell_of (First to number otherwise) = cell 12 to number 0 otherwise
 cell_of (Child to parent number otherwise) = cell 13 to parent number otherwise
@@ -40,15 +43,11 @@ cell_bytes c = (c.opcode ∷ c.x ∷ c.y ∷ c.z ∷ []) ++ to_be_bytes w32 c.w
 abbrev pub instr_bytes : Instr → List ℕ
 instr_bytes i = cell_bytes (cell_of i)
 
--- `TLP1`
-abbrev pub magic : List ℕ
-magic = 0x54 ∷ 0x4C ∷ 0x50 ∷ 0x31 ∷ []
-
-abbrev pub header : ℕ → ℕ → List ℕ
-header arity count = magic ++ (arity ∷ 0 ∷ []) ++ to_be_bytes w16 count
+abbrev pub header : Version → ℕ → ℕ → List ℕ
+header version arity count = magic version ++ (arity ∷ 0 ∷ []) ++ to_be_bytes w16 count
 
 abbrev pub spelling : CodeValue → List ℕ
-spelling c = header c.arity (length c.instrs) ++ flat_map instr_bytes c.instrs
+spelling c = header c.version c.arity (length c.instrs) ++ flat_map instr_bytes c.instrs
 
 -- the bytes are the container of that code
 pub record Spelled (bytes : List ℕ) (c : CodeValue) : Type 0 where

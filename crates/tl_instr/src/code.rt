@@ -1,15 +1,17 @@
 //! A code: an arity and instructions, valid by its type.
 
-ghost use Rattle.std.specs.Prelude.{◌≡◌, ◌≢◌, ◌↔◌, length, slice_get, IsTrue, IfOk, IfErr, IfSome};
-ghost use Rattle.tl_instr.specs.Codes.{CodeValue, IsCode};
+ghost use Rattle.std.specs.Prelude.{◌≡◌, ◌≢◌, ◌↔◌, length, slice_get, IsTrue, IsOk, IfOk, IfErr, IfSome};
+ghost use Rattle.tl_instr.specs.Codes.{CodeValue, IsCode, migrated};
 ghost use Rattle.tl_instr.specs.Faults.{IsFaultOf};
 ghost use Rattle.tl_instr.specs.Instructions.{IsInstr};
 ghost use Rattle.tl_instr.specs.Spelling.{Spelled};
+ghost use Rattle.tl_instr.specs.declared.version.Version.TheVariants.{One, Two};
 
 use crate::container::{one_spelling, spell};
 use crate::fault::CodeFault;
 use crate::instr::Instr;
 use crate::operand::Arity;
+use crate::version::Version;
 use std::alloc::Global;
 use std::marker::Model;
 
@@ -20,6 +22,7 @@ pub const MAX_COUNT: usize = 1024;
 /// end.
 #[derive(Debug, Drop)]
 pub struct Code {
+    version: Version,
     arity: Arity,
     instrs: Vec<Instr>,
     // The one container of the code. Two codes are the same where these bytes are, and bytes are compared fast.
@@ -29,21 +32,47 @@ pub struct Code {
 impl Model for Code {
     ghost Value = { CodeValue };
 
-    ghost view = { λ c. record { arity = c.arity; instrs = c.instrs.items } };
+    ghost view = { λ c. record { version = c.version; arity = c.arity; instrs = c.instrs.items } };
 
-    ghost invariant = { λ c. Spelled c.container.items (record { arity = c.arity; instrs = c.instrs.items }) };
+    ghost invariant = { λ c. Spelled c.container.items (record { version = c.version; arity = c.arity; instrs = c.instrs.items }) };
 }
 
 impl Code {
-    /// The code of these instructions. Takes memory for its container.
+    /// The code of the first version of these instructions. Takes memory for its container.
     ///
-    /// 206 where the arity is above 8; else 205 where there are not 1 to 1,024 instructions; else 204 at the first
-    /// instruction whose target is above their count. 290 where memory is refused.
+    /// 206 where the arity is above 8; else 205 where there are not 1 to 1,024 instructions; else at the first instruction that the
+    /// version doesn't have, or whose target is above their count, 203 where the version has no such opcode, and else 204. 290 where
+    /// memory is refused.
     pub fn new(alloc: Global, arity: u8, instrs: Vec<Instr>) -> Result<Code, CodeFault>
-        ensures value { IfOk result (λ c. c ≡ record { arity = arity; instrs = instrs.items }) }
-        ensures valid { IfOk result (λ _. IsCode (record { arity = arity; instrs = instrs.items })) }
-        ensures accepts { IsCode (record { arity = arity; instrs = instrs.items }) → IfErr result (λ f. f ≡ CodeFault.Memory) }
-        ensures fault { IfErr result (λ f. f ≢ CodeFault.Memory → IsFaultOf (record { arity = arity; instrs = instrs.items }) f) }
+        ensures value { IfOk result (λ c. c ≡ record { version = One; arity = arity; instrs = instrs.items }) }
+        ensures valid { IfOk result (λ _. IsCode (record { version = One; arity = arity; instrs = instrs.items })) }
+        ensures accepts { IsCode (record { version = One; arity = arity; instrs = instrs.items }) → IfErr result (λ f. f ≡ CodeFault.Memory) }
+        ensures fault { IfErr result (λ f. f ≢ CodeFault.Memory → IsFaultOf (record { version = One; arity = arity; instrs = instrs.items }) f) }
+    {
+        Code::of_version(alloc, Version::One, arity, instrs)
+    }
+
+    /// The same of the second version.
+    pub fn new2(alloc: Global, arity: u8, instrs: Vec<Instr>) -> Result<Code, CodeFault>
+        ensures value { IfOk result (λ c. c ≡ record { version = Two; arity = arity; instrs = instrs.items }) }
+        ensures valid { IfOk result (λ _. IsCode (record { version = Two; arity = arity; instrs = instrs.items })) }
+        ensures accepts { IsCode (record { version = Two; arity = arity; instrs = instrs.items }) → IfErr result (λ f. f ≡ CodeFault.Memory) }
+        ensures fault { IfErr result (λ f. f ≢ CodeFault.Memory → IsFaultOf (record { version = Two; arity = arity; instrs = instrs.items }) f) }
+    {
+        Code::of_version(alloc, Version::Two, arity, instrs)
+    }
+
+    /// The code of that version of these instructions.
+    pub fn of_version(
+        alloc: Global,
+        version: Version,
+        arity: u8,
+        instrs: Vec<Instr>,
+    ) -> Result<Code, CodeFault>
+        ensures value { IfOk result (λ c. c ≡ record { version = version; arity = arity; instrs = instrs.items }) }
+        ensures valid { IfOk result (λ _. IsCode (record { version = version; arity = arity; instrs = instrs.items })) }
+        ensures accepts { IsCode (record { version = version; arity = arity; instrs = instrs.items }) → IfErr result (λ f. f ≡ CodeFault.Memory) }
+        ensures fault { IfErr result (λ f. f ≢ CodeFault.Memory → IsFaultOf (record { version = version; arity = arity; instrs = instrs.items }) f) }
     {
         let arity = Arity::new(arity).ok_or(CodeFault::BadArity)?;
         if instrs.is_empty() || instrs.len() > MAX_COUNT {
@@ -54,27 +83,64 @@ impl Code {
             let instr = instrs[usize::from(position)];
             // Its operands are in range by their types: here a proof learns that.
             let _cell = instr.cell();
-            if instr.target().is_some_and(|target| target > count) {
+            if !instr.has_opcode_in(version) {
+                return Err(CodeFault::BadOpcode(position));
+            }
+            if !instr.is_in(version) || instr.target().is_some_and(|target| target > count) {
                 return Err(CodeFault::BadOperand(position));
             }
         }
-        let container = spell(alloc, arity, &instrs)?;
+        let container = spell(alloc, version, arity, &instrs)?;
         Ok(Code {
+            version,
             arity,
             instrs,
             container,
         })
     }
 
-    pub(crate) fn from_parts(arity: Arity, instrs: Vec<Instr>, container: Vec<u8>) -> Code
-        requires { Spelled container.items (record { arity = arity; instrs = instrs.items }) }
-        ensures { result ≡ record { arity = arity; instrs = instrs.items } }
+    /// The same code in the second version. Takes no memory. 207 where it isn't of the first.
+    pub(crate) fn into_version_2(self) -> Result<Code, (Code, CodeFault)>
+        ensures first { IsOk result ↔ (self.version ≡ One) }
+        ensures same { IfOk result (λ c. c ≡ migrated self) }
+        ensures handed_back { IfErr result (λ e. (e.0 ≡ self) × (e.1 ≡ CodeFault.NotVersion1)) }
+    {
+        if self.version != Version::One {
+            return Err((self, CodeFault::NotVersion1));
+        }
+        let mut container = self.container;
+        container[3] = b'2';
+        Ok(Code {
+            version: Version::Two,
+            arity: self.arity,
+            instrs: self.instrs,
+            container,
+        })
+    }
+
+    pub(crate) fn from_parts(
+        version: Version,
+        arity: Arity,
+        instrs: Vec<Instr>,
+        container: Vec<u8>,
+    ) -> Code
+        requires { Spelled container.items (record { version = version; arity = arity; instrs = instrs.items }) }
+        ensures { result ≡ record { version = version; arity = arity; instrs = instrs.items } }
     {
         Code {
+            version,
             arity,
             instrs,
             container,
         }
+    }
+
+    /// The version of the language that its container names.
+    pub fn version(&self) -> Version
+        ensures value { result ≡ self.now.version }
+        ensures valid { IsCode self.now }
+    {
+        self.version
     }
 
     /// How many arguments a call gives, 0 to 8.
@@ -103,7 +169,7 @@ impl Code {
     /// The instruction at a position; there is none at the code's end.
     pub fn instr_at(&self, position: u16) -> Option<Instr>
         ensures value { result ≡ slice_get self.now.instrs position }
-        ensures within { IfSome result (IsInstr (length self.now.instrs)) }
+        ensures within { IfSome result (IsInstr self.now.version (length self.now.instrs)) }
         ensures valid { IsCode self.now }
     {
         self.instrs.get(usize::from(position)).copied()

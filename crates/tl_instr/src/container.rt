@@ -1,9 +1,10 @@
 //! The container: a code as bytes.
 
-ghost use Rattle.std.specs.Prelude.{◌≡◌, ◌≢◌, ℕ, List, ◌+◌, ◌*◌, ◌<◌, ◌≤◌, length, drop, slice_index, IfOk, IfErr, MatchResult};
+ghost use Rattle.std.specs.Prelude.{◌≡◌, ◌≢◌, ℕ, List, ◌+◌, ◌*◌, ◌<◌, ◌≤◌, length, drop, slice_index, ◌↔◌, IsOk, IfOk, IfErr, MatchResult, MatchOption};
 ghost use Rattle.std.specs.List.{All, flat_map};
-ghost use Rattle.tl_instr.specs.Codes.{CodeValue, IsCode};
-ghost use Rattle.tl_instr.specs.Faults.{IsFramed, IsCellFault, IsFirstFault, count_at, cell_at};
+ghost use Rattle.tl_instr.specs.Codes.{CodeValue, IsCode, migrated};
+ghost use Rattle.tl_instr.specs.declared.version.Version.TheVariants.{One};
+ghost use Rattle.tl_instr.specs.Faults.{HasMagic, version_at, IsFramed, IsCellFault, IsFirstFault, count_at, cell_at};
 ghost use Rattle.tl_instr.specs.Instructions.{IsInstr};
 ghost use Rattle.tl_instr.specs.Spelling.{Spelled, spelling, instr_bytes};
 
@@ -13,29 +14,39 @@ use crate::fault::CodeFault;
 use crate::instr::Instr;
 use crate::operand::Arity;
 use crate::reading;
+use crate::version::Version;
 use std::alloc::Global;
-
-/// What a container begins with.
-const MAGIC: [u8; 4] = *b"TLP1";
 
 /// How many bytes stand before the instructions.
 const HEADER_SIZE: usize = 8;
 
 #[derive(Drop)]
 struct Header {
+    version: Version,
     arity: Arity,
     count: u16,
+}
+
+/// The version that the first four bytes name.
+fn version_of(bytes: &[u8]) -> Option<Version>
+    ensures { MatchOption result (¬ HasMagic bytes.now) (λ v. HasMagic bytes.now × (v ≡ version_at bytes.now)) }
+{
+    if bytes.starts_with(&Version::One.magic()) {
+        return Some(Version::One);
+    }
+    if bytes.starts_with(&Version::Two.magic()) {
+        return Some(Version::Two);
+    }
+    None
 }
 
 /// What stands before the instructions, where the bytes are as many as it says.
 fn header_of(bytes: &[u8]) -> Result<Header, CodeFault>
     ensures { MatchResult result
-        (λ h. IsFramed bytes.now × (h.arity ≡ slice_index bytes.now 4) × (h.count ≡ count_at bytes.now))
+        (λ h. IsFramed bytes.now × (h.version ≡ version_at bytes.now) × (h.arity ≡ slice_index bytes.now 4) × (h.count ≡ count_at bytes.now))
         (IsFirstFault bytes.now) }
 {
-    if !bytes.starts_with(&MAGIC) {
-        return Err(CodeFault::BadMagic);
-    }
+    let version = version_of(bytes).ok_or(CodeFault::BadMagic)?;
     if bytes.len() < HEADER_SIZE {
         return Err(CodeFault::BadLength);
     }
@@ -50,24 +61,29 @@ fn header_of(bytes: &[u8]) -> Result<Header, CodeFault>
     if bytes.len() != HEADER_SIZE + Cell::SIZE * usize::from(count) {
         return Err(CodeFault::BadLength);
     }
-    Ok(Header { arity, count })
+    Ok(Header {
+        version,
+        arity,
+        count,
+    })
 }
 
 /// The instruction at a position.
-fn instr_at(bytes: &[u8], count: u16, position: u16) -> Result<Instr, CodeFault>
+fn instr_at(bytes: &[u8], version: Version, count: u16, position: u16) -> Result<Instr, CodeFault>
     requires framed { IsFramed bytes.now }
+    requires version { version ≡ version_at bytes.now }
     requires counted { count ≡ count_at bytes.now }
     requires inside { position < count }
     ensures { MatchResult result
-        (λ i. IsInstr count i × (instr_bytes i ≡ cell_at bytes.now position))
+        (λ i. IsInstr version count i × (instr_bytes i ≡ cell_at bytes.now position))
         (IsCellFault bytes.now position) }
 {
     let start = HEADER_SIZE + Cell::SIZE * usize::from(position);
     let cell = Cell::from_bytes(&bytes[start..start + Cell::SIZE]);
-    if let Some(instr) = reading::instr_of(cell, count) {
+    if let Some(instr) = reading::instr_of(cell, version, count) {
         return Ok(instr);
     }
-    if reading::is_opcode(cell.opcode) {
+    if reading::is_opcode(version, cell.opcode) {
         Err(CodeFault::BadOperand(position))
     } else {
         Err(CodeFault::BadOpcode(position))
@@ -75,23 +91,29 @@ fn instr_at(bytes: &[u8], count: u16, position: u16) -> Result<Instr, CodeFault>
 }
 
 /// The instructions after the header.
-fn instrs_of(alloc: Global, bytes: &[u8], count: u16) -> Result<Vec<Instr>, CodeFault>
+fn instrs_of(
+    alloc: Global,
+    bytes: &[u8],
+    version: Version,
+    count: u16,
+) -> Result<Vec<Instr>, CodeFault>
     requires framed { IsFramed bytes.now }
+    requires version { version ≡ version_at bytes.now }
     requires counted { count ≡ count_at bytes.now }
-    ensures valid { IfOk result (λ v. All (IsInstr count) v.items × (length v.items ≡ count)) }
+    ensures valid { IfOk result (λ v. All (IsInstr version count) v.items × (length v.items ≡ count)) }
     ensures spelled { IfOk result (λ v. drop 8 bytes.now ≡ flat_map instr_bytes v.items) }
     ensures fault { IfErr result (λ f. f ≢ CodeFault.Memory → IsFirstFault bytes.now f) }
 {
     let mut instrs = Vec::with_capacity(alloc, usize::from(count))?;
     for position in 0..count {
-        instrs.push(instr_at(bytes, count, position)?)?;
+        instrs.push(instr_at(bytes, version, count, position)?)?;
     }
     Ok(instrs)
 }
 
 /// The code that the bytes spell, all of the bytes.
 ///
-/// The first of these faults: 201 where the first four bytes aren't `TLP1`; 202 where there are fewer than 8 bytes;
+/// The first of these faults: 201 where the first four bytes aren't `TLP1` or `TLP2`; 202 where there are fewer than 8 bytes;
 /// 206 where the arity is above 8, or the byte after it isn't 0; 205 where the count isn't 1 to 1,024; 202 where the
 /// bytes aren't 8, and 8 an instruction; and then at the first position whose eight bytes are no instruction's, 203
 /// where no instruction has that opcode, and else 204. 290 where memory is refused.
@@ -105,21 +127,30 @@ pub fn decode(alloc: Global, bytes: &[u8]) -> Result<Code, CodeFault>
     // Which fault it is.
     ensures fault { IfErr result (λ f. f ≢ CodeFault.Memory → IsFirstFault bytes.now f) }
 {
-    let Header { arity, count } = header_of(bytes)?;
-    let instrs = instrs_of(alloc, bytes, count)?;
-    Ok(Code::from_parts(arity, instrs, bytes.to_vec(alloc)?))
+    let Header {
+        version,
+        arity,
+        count,
+    } = header_of(bytes)?;
+    let instrs = instrs_of(alloc, bytes, version, count)?;
+    Ok(Code::from_parts(version, arity, instrs, bytes.to_vec(alloc)?))
 }
 
 /// The container of a code of these parts.
-pub(crate) fn spell(alloc: Global, arity: Arity, instrs: &[Instr]) -> Result<Vec<u8>, CodeFault>
+pub(crate) fn spell(
+    alloc: Global,
+    version: Version,
+    arity: Arity,
+    instrs: &[Instr],
+) -> Result<Vec<u8>, CodeFault>
     requires { length instrs.now ≤ MAX_COUNT }
-    ensures spelled { IfOk result (λ bytes. bytes.items ≡ spelling (record { arity = arity; instrs = instrs.now })) }
+    ensures spelled { IfOk result (λ bytes. bytes.items ≡ spelling (record { version = version; arity = arity; instrs = instrs.now })) }
     ensures memory { IfErr result (λ f. f ≡ CodeFault.Memory) }
 {
     let count = instrs.len() as u16;
     let size = HEADER_SIZE + Cell::SIZE * usize::from(count);
     let mut bytes = Vec::with_capacity(alloc, size)?;
-    bytes.extend_from_slice(&MAGIC)?;
+    bytes.extend_from_slice(&version.magic())?;
     bytes.extend_from_slice(&[arity.number(), 0])?;
     bytes.extend_from_slice(&count.to_be_bytes())?;
     for instr in instrs {
@@ -136,6 +167,18 @@ pub fn encode(alloc: Global, code: &Code) -> Result<Vec<u8>, CodeFault>
     ensures memory { IfErr result (λ f. f ≡ CodeFault.Memory) }
 {
     Ok(code.container().to_vec(alloc)?)
+}
+
+/// The code in the second version of the language: the same arity and the same instructions. Its container differs in the fourth byte
+/// alone. Takes no memory.
+///
+/// 207 where the code isn't of the first version; it is handed back then.
+pub fn migrate_code(code: Code) -> Result<Code, (Code, CodeFault)>
+    ensures first { IsOk result ↔ (code.version ≡ One) }
+    ensures same { IfOk result (λ c. c ≡ migrated code) }
+    ensures handed_back { IfErr result (λ e. (e.0 ≡ code) × (e.1 ≡ CodeFault.NotVersion1)) }
+{
+    code.into_version_2()
 }
 
 /// The laws of spellings: each code has one, and no bytes are the spelling of two codes. Bytes have a first fault only

@@ -10,16 +10,16 @@ use thiserror::Error;
 /// What is wrong with a code, or with the bytes of its container.
 #[derive(Clone, Copy, Debug, PartialEq, Eq, Error)]
 pub enum CodeFault {
-    /// 201: the bytes don't begin with `TLP1`.
-    #[error("the bytes don't begin with TLP1")]
+    /// 201: the bytes begin neither with `TLP1` nor with `TLP2`.
+    #[error("the bytes begin neither with TLP1 nor with TLP2")]
     BadMagic,
     /// 202: the header ends early, or the bytes aren't as many as the count says.
     #[error("the container's length is wrong")]
     BadLength,
-    /// 203: the language has no such opcode, at this position.
+    /// 203: the version has no such opcode, at this position.
     #[error("no such opcode at position {0}")]
     BadOpcode(u16),
-    /// 204: an operand is out of its range, or an unused one isn't 0, at this position.
+    /// 204: an operand is out of its range in that version, or an unused one isn't 0, at this position.
     #[error("a bad operand at position {0}")]
     BadOperand(u16),
     /// 205: there are not 1 to 1,024 instructions.
@@ -28,6 +28,9 @@ pub enum CodeFault {
     /// 206: the arity is above 8, or the byte after it isn't 0.
     #[error("a procedure takes 0 to 8 arguments")]
     BadArity,
+    /// 207: the code isn't of the first version.
+    #[error("the code is of version 2 already")]
+    NotVersion1,
     /// 290: memory was refused.
     #[error("out of memory")]
     Memory,
@@ -54,6 +57,7 @@ impl CodeFault {
             }
             CodeFault::BadCount => numbers.push(205),
             CodeFault::BadArity => numbers.push(206),
+            CodeFault::NotVersion1 => numbers.push(207),
             CodeFault::Memory => numbers.push(290),
         }
         numbers

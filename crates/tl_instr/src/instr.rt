@@ -2,6 +2,8 @@
 
 use crate::cell::Cell;
 use crate::operand::{Field, NodeRegister, ValueRegister};
+use crate::version::Version;
+use tl_fields::NARROW_FIELD_COUNT;
 
 /// One instruction. A target is the position that control goes to, counted from 0.
 #[derive(Clone, Copy, Debug, PartialEq, Eq)]
@@ -64,6 +66,12 @@ pub enum Instr {
     Repeat {
         count: u16,
     },
+    /// `repv vx w`: the body runs as often as the register says, not less than 0 times and not more than `count` times. The
+    /// register is read once, as the loop begins.
+    RepeatBy {
+        turns: ValueRegister,
+        count: u16,
+    },
     /// `end`: a turn of the innermost loop ends.
     End,
     /// `first nx vy else L`: locks the node of that number, or the target where there is none.
@@ -115,8 +123,9 @@ pub enum Instr {
 }
 
 impl Instr {
-    ghost use Rattle.std.specs.Prelude.{◌≡◌};
+    ghost use Rattle.std.specs.Prelude.{◌≡◌, ◌↔◌, IsTrue};
     ghost use Rattle.tl_instr.specs.Instructions.{target, InRange};
+    ghost use Rattle.tl_instr.specs.Versions.{HasOpcode, HasInstr};
     ghost use Rattle.tl_instr.specs.Spelling.{cell_of};
 
     /// The position that control may go to in place of the next one.
@@ -136,6 +145,7 @@ impl Instr {
             Instr::Set { .. }
             | Instr::Copy { .. }
             | Instr::Repeat { .. }
+            | Instr::RepeatBy { .. }
             | Instr::End
             | Instr::Move { .. }
             | Instr::Release { .. }
@@ -144,6 +154,28 @@ impl Instr {
             | Instr::Kids { .. }
             | Instr::Emit { .. }
             | Instr::Return => None,
+        }
+    }
+
+    /// Whether the version has this opcode.
+    pub(crate) fn has_opcode_in(&self, version: Version) -> bool
+        ensures { IsTrue result ↔ HasOpcode version self.now }
+    {
+        match (version, *self) {
+            (Version::One, Instr::RepeatBy { .. }) => false,
+            _ => true,
+        }
+    }
+
+    /// Whether the version has this instruction: its opcode, and the field, if it names one.
+    pub fn is_in(&self, version: Version) -> bool
+        ensures { IsTrue result ↔ HasInstr version self.now }
+    {
+        match (version, *self) {
+            (Version::One, Instr::RepeatBy { .. }) => false,
+            (Version::One, Instr::Get { field, .. }) => field.index() < NARROW_FIELD_COUNT,
+            (Version::One, Instr::Put { field, .. }) => field.index() < NARROW_FIELD_COUNT,
+            _ => true,
         }
     }
 
@@ -215,6 +247,9 @@ impl Instr {
                 target,
             } => Cell::new(9, left.number(), right.number(), 0, u32::from(target)),
             Instr::Repeat { count } => Cell::new(10, 0, 0, 0, u32::from(count)),
+            Instr::RepeatBy { turns, count } => {
+                Cell::new(21, turns.number(), 0, 0, u32::from(count))
+            }
             Instr::End => Cell::new(11, 0, 0, 0, 0),
             Instr::First {
                 to,

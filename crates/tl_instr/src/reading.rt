@@ -3,12 +3,13 @@
 ghost use Rattle.std.specs.Prelude.{◌≡◌, ◌≢◌, ◌↔◌, IsTrue, MatchOption};
 ghost use Rattle.tl_instr.specs.Faults.{IsOpcode};
 ghost use Rattle.tl_instr.specs.Instructions.{IsInstr};
-ghost use Rattle.tl_instr.specs.Reading.{set_in, copy_in, add_in, subtract_in, multiply_in, divide_in, jump_in, jump_if_less_in, jump_if_equal_in, repeat_in, first_in, child_in, move_in, release_in, get_in, put_in, kids_in, emit_in, instr_in};
+ghost use Rattle.tl_instr.specs.Reading.{set_in, copy_in, add_in, subtract_in, multiply_in, divide_in, jump_in, jump_if_less_in, jump_if_equal_in, repeat_in, repeat_by_in, first_in, child_in, move_in, release_in, get_in, put_in, kids_in, emit_in, instr_in};
 ghost use Rattle.tl_instr.specs.Spelling.{cell_of};
 
 use crate::cell::Cell;
 use crate::instr::Instr;
 use crate::operand::{Field, NodeRegister, ValueRegister};
+use crate::version::Version;
 
 #[tactic(auto, unfolding(crate::specs::Reading::set_in))]
 fn set(cell: Cell) -> Option<Instr>
@@ -114,6 +115,16 @@ fn repeat(cell: Cell) -> Option<Instr>
     ensures { result ≡ repeat_in cell }
 {
     Some(Instr::Repeat {
+        count: u16::try_from(cell.w).ok()?,
+    })
+}
+
+#[tactic(auto, unfolding(crate::specs::Reading::repeat_by_in))]
+fn repeat_by(cell: Cell) -> Option<Instr>
+    ensures { result ≡ repeat_by_in cell }
+{
+    Some(Instr::RepeatBy {
+        turns: ValueRegister::new(cell.x)?,
         count: u16::try_from(cell.w).ok()?,
     })
 }
@@ -227,25 +238,30 @@ fn named(cell: Cell) -> Option<Instr>
         18 => kids(cell),
         19 => emit(cell),
         20 => Some(Instr::Return),
+        21 => repeat_by(cell),
         _ => None,
     }
 }
 
-/// The language's opcodes.
+/// The opcodes of the first version, which each version has.
 const OPCODES: [u8; 20] = [
     1, 2, 3, 4, 5, 6, 7, 8, 9, 10, 11, 12, 13, 14, 15, 16, 17, 18, 19, 20,
 ];
 
-pub fn is_opcode(opcode: u8) -> bool
-    ensures { IsTrue result ↔ IsOpcode opcode }
+/// Whether an instruction of that version has that opcode.
+pub fn is_opcode(version: Version, opcode: u8) -> bool
+    ensures { IsTrue result ↔ IsOpcode version opcode }
 {
-    OPCODES.contains(&opcode)
+    match version {
+        Version::One => OPCODES.contains(&opcode),
+        Version::Two => opcode == 21 || OPCODES.contains(&opcode),
+    }
 }
 
-/// The instruction that this cell encodes, in a code of `count` instructions.
-pub fn instr_of(cell: Cell, count: u16) -> Option<Instr>
-    ensures { MatchOption result ((i : Instr) → IsInstr count i → cell_of i ≢ cell)
-        (λ i. IsInstr count i × (cell_of i ≡ cell)) }
+/// The instruction that this cell encodes, in a code of that version and of `count` instructions.
+pub fn instr_of(cell: Cell, version: Version, count: u16) -> Option<Instr>
+    ensures { MatchOption result ((i : Instr) → IsInstr version count i → cell_of i ≢ cell)
+        (λ i. IsInstr version count i × (cell_of i ≡ cell)) }
 {
     let instr = named(cell)?;
     // An operand that the instruction doesn't use is 0 in its own cell.
@@ -253,6 +269,9 @@ pub fn instr_of(cell: Cell, count: u16) -> Option<Instr>
         return None;
     }
     if instr.target().is_some_and(|target| target > count) {
+        return None;
+    }
+    if !instr.is_in(version) {
         return None;
     }
     Some(instr)

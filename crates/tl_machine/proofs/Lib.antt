@@ -10,6 +10,7 @@ pub mod Rooms
 pub mod ActionCounts
 pub mod LocalSteps
 pub mod LoopRooms
+pub mod LoopKinds
 pub mod LoopsLemmas
 pub mod AdvanceLemmas
 pub mod BetweenStepsLemmas
@@ -25,3 +26,5 @@ pub mod StartLemmas
 pub mod Along
 pub mod SameStates
 pub mod RestOfCall
+pub mod WiderRecords
+pub mod Rows

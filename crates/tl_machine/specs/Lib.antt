@@ -9,3 +9,4 @@ pub mod Wants
 pub mod Turns
 pub mod Outcomes
 pub mod Along
+pub mod Widths

@@ -1,9 +1,11 @@
 // What is so of every call alone.
 
-ghost use Rattle.std.specs.Prelude.{◌≡◌, ℕ, ◌≤◌, ℤ, List, [], length, drop};
+ghost use Rattle.std.specs.Prelude.{◌≡◌, ℕ, ◌≤◌, ℤ, List, [], length, drop, map};
+ghost use Rattle.tl_fields.specs.Fields.{narrow_field_count};
 ghost use Rattle.tl_tree.specs.Records.{Records, record_at};
 ghost use Rattle.tl_tree.specs.Shape.{IsTree};
-ghost use Rattle.tl_instr.specs.Codes.{CodeValue, IsCode};
+ghost use Rattle.tl_instr.specs.Codes.{CodeValue, IsCode, migrated};
+ghost use Rattle.tl_instr.specs.declared.version.Version.TheVariants.{One};
 ghost use Rattle.tl_protocol.specs.declared.action.Action.{Action};
 ghost use Rattle.tl_protocol.specs.Actions.{shared_actions, with_found, left_in, emitted as replies, lock_count, PermittedAfter};
 ghost use Rattle.tl_protocol.specs.Obeys.{Obeys};
@@ -12,6 +14,7 @@ ghost use Rattle.tl_budget.specs.Loops.{budget, lock_bound, emit_bound};
 ghost use Rattle.tl_verify.specs.Acceptable.{Acceptable};
 ghost use Rattle.tl_machine.specs.Runs.{actions};
 ghost use Rattle.tl_machine.specs.Outcomes.{meaning};
+ghost use Rattle.tl_machine.specs.Widths.{with_zeros, HasWidth, KeepsWidth, outcome_with_zeros};
 ghost use Rattle.tl_machine.specs.Turns.{TurnValue, IsTurn, left_of};
 ghost use Rattle.tl_machine.specs.Along.{HasFound, IsAlong};
 
@@ -48,6 +51,20 @@ pub fn alone_finds_and_leaves()
 pub fn alone_is_alone()
     ensures { (c : CodeValue) (parents : List ℕ) (args : List ℤ) → IsCode c → Acceptable c.instrs → IsTree parents
         → IsAlone parents (meaning c.instrs parents args) }
+{}
+
+/// A code of the first version does on records of eight fields, four of them zeros, what it does on records of four: the same actions,
+/// where each record that is told has the zeros too, the same reply, and the same tree with the zeros. On records of four every record
+/// that it finds, leaves or hands back has four fields. And the same code in the second version is accepted too, and does the same on
+/// every tree.
+pub fn padding()
+    ensures same { (c : CodeValue) (parents : List ℕ) (args : List ℤ) (t : Records) → IsCode c → Acceptable c.instrs → c.version ≡ One → IsTree parents → length t ≡ length parents
+        → HasWidth narrow_field_count t
+        → meaning c.instrs parents args (map (with_zeros 4) t) ≡ outcome_with_zeros 4 (meaning c.instrs parents args t) }
+    ensures width { (c : CodeValue) (parents : List ℕ) (args : List ℤ) (t : Records) → IsCode c → Acceptable c.instrs → c.version ≡ One → IsTree parents → length t ≡ length parents
+        → HasWidth narrow_field_count t → KeepsWidth narrow_field_count (meaning c.instrs parents args t) }
+    ensures accepted { (c : CodeValue) → IsCode c → Acceptable c.instrs → c.version ≡ One → IsCode (migrated c) × Acceptable (migrated c).instrs }
+    ensures migrated { (c : CodeValue) (parents : List ℕ) (args : List ℤ) (t : Records) → meaning (migrated c).instrs parents args t ≡ meaning c.instrs parents args t }
 {}
 
 /// A call alone keeps within the bounds of its code: it does no more actions, locks no more nodes and emits no more values

@@ -4,6 +4,7 @@ use Rattle.std.specs.Char.{is_ascii_alphanumeric}
 use Rattle.std.specs.List.{list_all}
 use Rattle.std.specs.Str.{bytes_eq}
 use Rattle.tl_procedures.specs.declared.procedures.TheConstants.{MAX_NAME, MAX_PROCEDURES}
+use Rattle.tl_instr.specs.declared.version.Version.TheVariants.{One}
 use Rattle.tl_instr.specs.Codes.{CodeValue}
 use Rattle.tl_procedures.specs.declared.fault.NamingFault.{NamingFault}
 use Rattle.tl_procedures.specs.declared.fault.NamingFault.TheVariants.{NameTaken, BadName, TooManyProcedures}
@@ -14,7 +15,7 @@ pub record Named : Type 0 where
   pub code : CodeValue
 
 abbrev pub no_procedure : Named
-no_procedure = record { name = []; code = record { arity = 0; instrs = [] } }
+no_procedure = record { name = []; code = record { version = One; arity = 0; instrs = [] } }
 
 -- the number of the procedure of that name
 abbrev pub number_of : List Named → List ℕ → Option ℕ

@@ -11,6 +11,8 @@ pub mod Serial
 pub mod WorldSteps
 pub mod NoStandstill
 pub mod ReachedWorlds
+pub mod EpochsJoined
+pub mod EpochsReached
 pub mod ListPlaces
 pub mod ObeysByPlaces
 pub mod DoneSteps

@@ -5,6 +5,7 @@ pub mod History
 pub mod Order
 pub mod Alone
 pub mod World
+pub mod Epochs
 pub mod Holders
 pub mod Nodes
 pub mod Placing

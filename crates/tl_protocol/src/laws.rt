@@ -12,6 +12,7 @@ ghost use Rattle.tl_protocol.specs.History.{past_of, part_of, IsOpen, AllDone, I
 ghost use Rattle.tl_protocol.specs.Order.{stands, IsDistinct, put_before, placed, placed_after, Agrees};
 ghost use Rattle.tl_protocol.specs.Alone.{Outcome, IsAlone, serial};
 ghost use Rattle.tl_protocol.specs.World.{World, Genuine, Legal, IsSound, IsStuck, IsEnabled, MayTake, Reached, alone_of, next_of, reply_of, done_of, as_found, opening_world, after_admission, after_step};
+ghost use Rattle.tl_protocol.specs.Epochs.{run_each, joined, joined_replies, left_by, FollowOn, AreAtRest, AgreeEach, placed_each, ReachedEpochs};
 ghost use Rattle.tl_protocol.specs.Holders.{holder_of};
 ghost use Rattle.tl_protocol.specs.Placing.{is_call, under_of, coming_calls, held_below, IsLegalNext};
 
@@ -51,6 +52,19 @@ pub fn serial_along()
         → (serial w.meanings order w.opening).tree ≡ records_now w.past w.opening }
     ensures replies { (w : World) (order : List ℕ) → IsSound w → AllDone w.past → Agrees order w.past
         → (serial w.meanings order w.opening).replies ≡ map (reply_of w) order }
+{}
+
+/// The same over epochs, each of which is at rest and opens with the records that the one before left: all their calls, run
+/// alone along the orders joined, leave the records now and give every reply.
+pub fn serial_along_epochs()
+    ensures one { (meanings : ℕ → Records → Outcome) (order : List ℕ) (opening : Records)
+        → serial meanings order opening ≡ run_each (map meanings order) opening }
+    ensures tree { (parents : List ℕ) (opening : Records) (worlds : List World) (orders : List (List ℕ))
+        → FollowOn parents opening worlds → AreAtRest worlds → AgreeEach orders worlds
+        → (run_each (joined worlds orders) opening).tree ≡ left_by opening worlds }
+    ensures replies { (parents : List ℕ) (opening : Records) (worlds : List World) (orders : List (List ℕ))
+        → FollowOn parents opening worlds → AreAtRest worlds → AgreeEach orders worlds
+        → (run_each (joined worlds orders) opening).replies ≡ joined_replies worlds orders }
 {}
 
 // ---- steps
@@ -215,4 +229,27 @@ pub fn headline()
     ensures replies { (parents : List ℕ) (opening : Records) (w : World) → IsTree parents
         → length opening ≡ length parents → Reached parents opening w → AllDone w.past
         → (serial w.meanings (placed parents w.past) opening).replies ≡ map (reply_of w) (placed parents w.past) }
+{}
+
+/// The same with seals among the steps. What `headline` says of a world is so of each epoch, and once all calls are done, those of all
+/// epochs, run alone along the orders joined, leave the records now and give every reply.
+pub fn headline_of_epochs()
+    ensures legal { (parents : List ℕ) (opening : Records) (sealed : List World) (w : World) → IsTree parents
+        → length opening ≡ length parents → ReachedEpochs parents opening sealed w → Legal w }
+    ensures follow { (parents : List ℕ) (opening : Records) (sealed : List World) (w : World) → IsTree parents
+        → length opening ≡ length parents → ReachedEpochs parents opening sealed w
+        → FollowOn parents opening (sealed ++ w ∷ []) × AreAtRest sealed }
+    ensures obeys { (parents : List ℕ) (opening : Records) (sealed : List World) (w : World) (c : ℕ) → IsTree parents
+        → length opening ≡ length parents → ReachedEpochs parents opening sealed w → c < admits w.past
+        → Obeys parents (take (w.counts c) (alone_of (w.meanings c) w.opening w.past c).actions) }
+    ensures goes_on { (parents : List ℕ) (opening : Records) (sealed : List World) (w : World) (c : ℕ) → IsTree parents
+        → length opening ≡ length parents → ReachedEpochs parents opening sealed w → IsOpen c w.past
+        → (d : ℕ) × (next : Action) × MayTake w d next }
+    ensures tree { (parents : List ℕ) (opening : Records) (sealed : List World) (w : World) → IsTree parents
+        → length opening ≡ length parents → ReachedEpochs parents opening sealed w → AllDone w.past
+        → (run_each (joined (sealed ++ w ∷ []) (placed_each (sealed ++ w ∷ []))) opening).tree ≡ records_now w.past w.opening }
+    ensures replies { (parents : List ℕ) (opening : Records) (sealed : List World) (w : World) → IsTree parents
+        → length opening ≡ length parents → ReachedEpochs parents opening sealed w → AllDone w.past
+        → (run_each (joined (sealed ++ w ∷ []) (placed_each (sealed ++ w ∷ []))) opening).replies
+        ≡ joined_replies (sealed ++ w ∷ []) (placed_each (sealed ++ w ∷ [])) }
 {}

@@ -4,118 +4,26 @@ use crate::texts::{ADD, BOTH, CHAIN, FORK, LOOK, ONE_NODE, STORE, WALK, procedur
 use std::alloc::Global;
 use std::process::Abort;
 use std::test::Fail;
-use tl_core::{Core, CoreFault, Followed, Stepped};
+use tl_core::{Core, CoreFault, Followed};
 use tl_machine::local;
-use tl_procedures::NamingFault;
-use tl_protocol::Action;
-use tl_tree::Record;
 
-/// A core of a tree, with one procedure and room for so many events.
-fn core_of(
-    alloc: Global,
-    tree: &str,
-    name: &str,
-    procedure: &str,
-    limit: usize,
-) -> Result<Core, Fail> {
-    if limit > 1_048_576 {
-        return Err("more events than a history has".into());
-    }
-    let mut core = Core::with_limit(alloc, tree_of(alloc, tree)?, limit)?;
-    core.add_proc(alloc, name, procedure_of(alloc, procedure)?)?;
-    Ok(core)
+/// What is asked of a core.
+enum Ask {
+    /// To take up the procedure of a text under a name.
+    AddProc(&'static str, &'static str),
+    Admit(&'static str, &'static [i64]),
+    Step(u32),
+    /// To let these calls step, one after another. After each step: which call is enabled, and how many nodes are held.
+    Steps(&'static [u32]),
+    /// To let a call follow its next segment, which is done outside of the core.
+    Follow(u32),
+    /// Whether a call is where another call's next segment begins.
+    IsAt(u32, u32),
+    Enabled(u32),
+    SomeEnabled,
+    /// The record and the holder of a node.
+    Node(u16),
 }
-
-// Each of these asks one thing of a core. A test that asks many is then proved in small parts.
-
-fn admits(
-    rt: &(impl Abort + AllocGlobal),
-    core: &mut Core,
-    name: &str,
-    args: &[i64],
-    answer: Result<u32, CoreFault>,
-) -> Result<(), Fail> {
-    assert_eq!(rt; core.admit(rt.alloc(), name, args), answer, "{name}");
-    Ok(())
-}
-
-fn steps(
-    rt: &impl Abort,
-    core: &mut Core,
-    call: u32,
-    answer: Result<Stepped, CoreFault>,
-) -> Result<(), Fail> {
-    assert_eq!(rt; core.step(call), answer, "{call}");
-    Ok(())
-}
-
-fn enabled(
-    rt: &impl Abort,
-    core: &Core,
-    call: u32,
-    answer: Result<bool, CoreFault>,
-    least: Option<u32>,
-) -> Result<(), Fail> {
-    assert_eq!(rt; core.enabled(call), answer, "{call}");
-    assert_eq!(rt; core.some_enabled(), least);
-    Ok(())
-}
-
-fn holds(
-    rt: &impl Abort,
-    core: &Core,
-    node: u16,
-    record: Record,
-    holder: Option<u32>,
-) -> Result<(), Fail> {
-    assert!(rt; node < core.opening().shape().node_count());
-    assert_eq!(rt; core.record_at(node), record, "{node}");
-    assert_eq!(rt; core.holder(node), holder, "{node}");
-    Ok(())
-}
-
-fn moved(action: Action) -> Result<Stepped, CoreFault> {
-    Ok(Stepped::Moved { action })
-}
-
-#[test]
-fn a_call_waits_for_another(rt: HostRuntime) -> Result<(), Fail> {
-    let mut core = core_of(rt.alloc(), FORK, "store", STORE, 16)?;
-    admits(&rt, &mut core, "store", &[2, 22], Ok(0))?;
-    admits(&rt, &mut core, "store", &[2, 33], Ok(1))?;
-    let found = [20, 0, 0, 0];
-    steps(&rt, &mut core, 0, moved(Action::Lock { node: 2, found }))?;
-    holds(&rt, &core, 2, found, Some(0))?;
-    let blocked = Stepped::Blocked { node: 2, holder: 0 };
-    steps(&rt, &mut core, 1, Ok(blocked))?;
-    enabled(&rt, &core, 1, Ok(false), Some(0))
-}
-
-// A call of this procedure may store four events.
-#[test]
-fn an_admission_has_room_for_its_events(rt: HostRuntime) -> Result<(), Fail> {
-    for (limit, second) in [(7, Err(CoreFault::HistoryFull)), (8, Ok(1))] {
-        let mut core = core_of(rt.alloc(), ONE_NODE, "add", ADD, limit)?;
-        admits(&rt, &mut core, "add", &[0, 3], Ok(0))?;
-        admits(&rt, &mut core, "add", &[0, 4], second)?;
-        admits(&rt, &mut core, "add", &[0], Err(CoreFault::WrongArgs))?;
-        admits(&rt, &mut core, "none", &[], Err(CoreFault::NoProcedure))?;
-    }
-    Ok(())
-}
-
-#[test]
-fn a_name_is_taken_up_once(rt: HostRuntime) -> Result<(), Fail> {
-    let alloc = rt.alloc();
-    let mut core = core_of(alloc, FORK, "store", STORE, 16)?;
-    let again = core.add_proc(alloc, "store", procedure_of(alloc, LOOK)?);
-    assert_eq!(rt; again, Err(NamingFault::NameTaken));
-    let bad = core.add_proc(alloc, "a b", procedure_of(alloc, LOOK)?);
-    assert_eq!(rt; bad, Err(NamingFault::BadName));
-    Ok(())
-}
-
-// ---- a call that goes down a chain
 
 /// How many nodes are held.
 fn held(core: &Core) -> u16 {
@@ -128,58 +36,17 @@ fn held(core: &Core) -> u16 {
     count
 }
 
-/// How many nodes the call holds after each of its steps: one or two between its first lock and its last free.
-const HELD: [u16; 15] = [1, 1, 2, 1, 1, 1, 2, 1, 1, 1, 1, 1, 1, 0, 0];
-
-#[test]
-fn a_walk_holds_one_node_or_two(rt: HostRuntime) -> Result<(), Fail> {
-    let mut core = core_of(rt.alloc(), CHAIN, "walk", WALK, 100)?;
-    admits(&rt, &mut core, "walk", &[0], Ok(0))?;
-    for (step, count) in HELD.iter().enumerate() {
-        core.step(0)?;
-        assert_eq!(rt; held(&core), *count, "{step}");
+fn steps(alloc: Global, core: &mut Core, calls: &[u32]) -> Result<String, Fail> {
+    let mut text = String::new(alloc);
+    for call in calls {
+        core.step(*call)?;
+        let least = core.some_enabled();
+        let count = held(core);
+        text.push_str(&format!(in alloc; "{least:?} {count}, ")?)?;
     }
-    steps(&rt, &mut core, 0, Ok(Stepped::Over))
+    Ok(text)
 }
 
-// ---- which call is enabled
-
-/// Whose step is next, and which call is enabled then.
-const STEPS: [(u32, Option<u32>); 17] = [
-    (1, Some(0)),
-    (0, Some(0)),
-    (0, Some(0)),
-    (0, Some(0)),
-    (0, Some(0)),
-    (0, Some(1)),
-    (0, Some(1)),
-    (1, Some(1)),
-    (1, Some(1)),
-    (1, Some(0)),
-    (1, Some(0)),
-    (0, Some(0)),
-    (0, Some(0)),
-    (0, Some(0)),
-    (0, Some(0)),
-    (0, Some(0)),
-    (0, None),
-];
-
-/// Takes a step, and says which call is enabled then.
-fn step_enables(
-    rt: &impl Abort,
-    core: &mut Core,
-    call: u32,
-    least: Option<u32>,
-) -> Result<(), Fail> {
-    core.step(call)?;
-    assert_eq!(rt; core.some_enabled(), least, "{call}");
-    Ok(())
-}
-
-// ---- segments
-
-/// Does a call's next local instructions outside the core, hands them in, and says what came of it.
 fn follow(core: &mut Core, call: u32) -> Result<&'static str, CoreFault> {
     let segment = local(core.turn(call)?);
     match core.follow(call, segment)? {
@@ -189,44 +56,187 @@ fn follow(core: &mut Core, call: u32) -> Result<&'static str, CoreFault> {
     }
 }
 
-/// Whose segment is next, and what comes of it: call 0 locks node 2, stores, frees it and ends.
-const SEGMENTS: [(u32, Result<&str, CoreFault>); 8] = [
-    (0, Ok("went")),
-    (1, Ok("blocked")),
-    (0, Ok("went")),
-    (1, Ok("went")),
-    (0, Ok("finished")),
-    (0, Err(CoreFault::NotFrom)),
-    (1, Ok("went")),
-    (2, Err(CoreFault::NoCall)),
-];
-
-#[test]
-fn calls_follow_segments_done_elsewhere(rt: HostRuntime) -> Result<(), Fail> {
-    let mut core = core_of(rt.alloc(), FORK, "store", STORE, 16)?;
-    admits(&rt, &mut core, "store", &[2, 22], Ok(0))?;
-    admits(&rt, &mut core, "store", &[2, 33], Ok(1))?;
-    let foreign = local(core.turn(1)?);
-    assert_eq!(rt; core.is_at(0, foreign.from()), Ok(false));
-    for (call, outcome) in SEGMENTS {
-        assert_eq!(rt; follow(&mut core, call), outcome, "{call}");
-    }
-    holds(&rt, &core, 2, [33, 0, 0, 0], None)
+fn is_at(core: &Core, call: u32, other: u32) -> Result<bool, CoreFault> {
+    let segment = local(core.turn(other)?);
+    core.is_at(call, segment.from())
 }
 
-// ---- which call is enabled, by steps
+fn node(alloc: Global, core: &Core, node: u16) -> Result<String, Fail> {
+    if node >= core.opening().shape().node_count() {
+        return Err("no such node".into());
+    }
+    let record = core.record_at(node);
+    let holder = core.holder(node);
+    Ok(format!(in alloc; "{record:?} {holder:?}")?)
+}
 
-// Call 1 holds node 2 when call 0 asks for it, and call 0 goes on once it is free.
+/// What the core answers.
+fn answer(alloc: Global, core: &mut Core, ask: &Ask) -> Result<String, Fail> {
+    Ok(match ask {
+        Ask::AddProc(name, text) => {
+            let procedure = procedure_of(alloc, text)?;
+            format!(in alloc; "{:?}", core.add_proc(alloc, name, procedure))?
+        }
+        Ask::Admit(name, args) => format!(in alloc; "{:?}", core.admit(alloc, name, args))?,
+        Ask::Step(call) => format!(in alloc; "{:?}", core.step(*call))?,
+        Ask::Steps(calls) => steps(alloc, core, calls)?,
+        Ask::Follow(call) => format!(in alloc; "{:?}", follow(core, *call))?,
+        Ask::IsAt(call, other) => format!(in alloc; "{:?}", is_at(core, *call, *other))?,
+        Ask::Enabled(call) => format!(in alloc; "{:?}", core.enabled(*call))?,
+        Ask::SomeEnabled => format!(in alloc; "{:?}", core.some_enabled())?,
+        Ask::Node(number) => node(alloc, core, *number)?,
+    })
+}
+
+/// What is asked of a core one after another, and what it answers.
+type Asks = &'static [(Ask, &'static str)];
+
+/// A tree, room for so many events, and what is asked.
+static CORES: [(&str, usize, Asks); 7] = [
+    // A call waits for another.
+    (
+        FORK,
+        16,
+        &[
+            (Ask::AddProc("store", STORE), "Ok(0)"),
+            (Ask::Admit("store", &[2, 22]), "Ok(0)"),
+            (Ask::Admit("store", &[2, 33]), "Ok(1)"),
+            (
+                Ask::Step(0),
+                "Ok(Moved { action: Lock { node: 2, found: [20, 0, 0, 0, 0, 0, 0, 0] } })",
+            ),
+            (Ask::Node(2), "[20, 0, 0, 0, 0, 0, 0, 0] Some(0)"),
+            (Ask::Step(1), "Ok(Blocked { node: 2, holder: 0 })"),
+            (Ask::Enabled(1), "Ok(false)"),
+            (Ask::SomeEnabled, "Some(0)"),
+        ],
+    ),
+    // A call of this procedure may store four events, and an admission has room for them.
+    (
+        ONE_NODE,
+        7,
+        &[
+            (Ask::AddProc("add", ADD), "Ok(0)"),
+            (Ask::Admit("add", &[0, 3]), "Ok(0)"),
+            (Ask::Admit("add", &[0, 4]), "Err(HistoryFull)"),
+            (Ask::Admit("add", &[0]), "Err(WrongArgs)"),
+            (Ask::Admit("none", &[]), "Err(NoProcedure)"),
+        ],
+    ),
+    (
+        ONE_NODE,
+        8,
+        &[
+            (Ask::AddProc("add", ADD), "Ok(0)"),
+            (Ask::Admit("add", &[0, 3]), "Ok(0)"),
+            (Ask::Admit("add", &[0, 4]), "Ok(1)"),
+            (Ask::Admit("add", &[0]), "Err(WrongArgs)"),
+            (Ask::Admit("none", &[]), "Err(NoProcedure)"),
+        ],
+    ),
+    // A name is taken up once.
+    (
+        FORK,
+        16,
+        &[
+            (Ask::AddProc("store", STORE), "Ok(0)"),
+            (Ask::AddProc("store", LOOK), "Err(NameTaken)"),
+            (Ask::AddProc("a b", LOOK), "Err(BadName)"),
+        ],
+    ),
+    // A call that goes down a chain holds one node or two between its first lock and its last free.
+    (
+        CHAIN,
+        100,
+        &[
+            (Ask::AddProc("walk", WALK), "Ok(0)"),
+            (Ask::Admit("walk", &[0]), "Ok(0)"),
+            (
+                Ask::Steps(&[0, 0, 0, 0, 0, 0, 0, 0]),
+                "Some(0) 1, Some(0) 1, Some(0) 2, Some(0) 1, Some(0) 1, Some(0) 1, Some(0) 2, Some(0) 1, ",
+            ),
+            (
+                Ask::Steps(&[0, 0, 0, 0, 0, 0, 0]),
+                "Some(0) 1, Some(0) 1, Some(0) 1, Some(0) 1, Some(0) 1, Some(0) 0, None 0, ",
+            ),
+            (Ask::Step(0), "Ok(Over)"),
+        ],
+    ),
+    // Call 1 holds node 2 when call 0 asks for it, and call 0 goes on once it is free.
+    (
+        FORK,
+        100,
+        &[
+            (Ask::AddProc("both", BOTH), "Ok(0)"),
+            (Ask::AddProc("look", LOOK), "Ok(1)"),
+            (Ask::SomeEnabled, "None"),
+            (Ask::Admit("both", &[11]), "Ok(0)"),
+            (Ask::Admit("look", &[2]), "Ok(1)"),
+            (Ask::SomeEnabled, "Some(0)"),
+            (
+                Ask::Steps(&[1, 0, 0, 0, 0, 0]),
+                "Some(0) 1, Some(0) 2, Some(0) 3, Some(0) 3, Some(0) 2, Some(1) 2, ",
+            ),
+            (Ask::Step(0), "Ok(Blocked { node: 2, holder: 1 })"),
+            (
+                Ask::Steps(&[0, 1, 1, 1, 1]),
+                "Some(1) 2, Some(1) 2, Some(1) 2, Some(0) 1, Some(0) 1, ",
+            ),
+            (
+                Ask::Steps(&[0, 0, 0, 0, 0, 0]),
+                "Some(0) 2, Some(0) 2, Some(0) 2, Some(0) 1, Some(0) 0, None 0, ",
+            ),
+        ],
+    ),
+    // Segments that are done elsewhere: call 0 locks node 2, stores, frees it and ends.
+    (
+        FORK,
+        16,
+        &[
+            (Ask::AddProc("store", STORE), "Ok(0)"),
+            (Ask::Admit("store", &[2, 22]), "Ok(0)"),
+            (Ask::Admit("store", &[2, 33]), "Ok(1)"),
+            (Ask::IsAt(0, 1), "Ok(false)"),
+            (Ask::Follow(0), "Ok(\"went\")"),
+            (Ask::Follow(1), "Ok(\"blocked\")"),
+            (Ask::Follow(0), "Ok(\"went\")"),
+            (Ask::Follow(1), "Ok(\"went\")"),
+            (Ask::Follow(0), "Ok(\"finished\")"),
+            (Ask::Follow(0), "Err(NotFrom)"),
+            (Ask::Follow(1), "Ok(\"went\")"),
+            (Ask::Follow(2), "Err(NoCall)"),
+            (Ask::Node(2), "[33, 0, 0, 0, 0, 0, 0, 0] None"),
+        ],
+    ),
+];
+
+fn answers(rt: &(impl Abort + AllocGlobal), core: &mut Core, asks: Asks) -> Result<(), Fail> {
+    for (number, (ask, expected)) in asks.iter().enumerate() {
+        let found = answer(rt.alloc(), core, ask)?;
+        assert_eq!(rt; found.as_str(), *expected, "question {number}");
+    }
+    Ok(())
+}
+
+/// Makes a core, and lends it.
+fn with_core(
+    rt: &(impl Abort + AllocGlobal),
+    tree: &str,
+    limit: usize,
+    asks: Asks,
+) -> Result<(), Fail> {
+    if limit > 1_048_576 {
+        return Err("more events than a history has".into());
+    }
+    let tree = tree_of(rt.alloc(), tree)?;
+    let mut core = Core::with_limit(rt.alloc(), tree, limit)?;
+    answers(rt, &mut core, asks)
+}
+
 #[test]
-fn the_least_enabled_call_is_told(rt: HostRuntime) -> Result<(), Fail> {
-    let mut core = core_of(rt.alloc(), FORK, "both", BOTH, 100)?;
-    core.add_proc(rt.alloc(), "look", procedure_of(rt.alloc(), LOOK)?)?;
-    assert_eq!(rt; core.some_enabled(), None);
-    admits(&rt, &mut core, "both", &[11], Ok(0))?;
-    admits(&rt, &mut core, "look", &[2], Ok(1))?;
-    assert_eq!(rt; core.some_enabled(), Some(0));
-    for (call, least) in STEPS {
-        step_enables(&rt, &mut core, call, least)?;
+fn cores_answer_what_their_rows_say(rt: HostRuntime) -> Result<(), Fail> {
+    for (tree, limit, asks) in &CORES {
+        with_core(&rt, tree, *limit, asks)?;
     }
     Ok(())
 }

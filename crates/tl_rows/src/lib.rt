@@ -2,15 +2,22 @@
 //! running threads are in `tl_thread_rows`.
 //!
 //! A test is proved with its crate, so the tests stand here together, and each crate below is proved once, without them.
-//! A row of a table costs nearly nothing, and a function does. So what a command can show is a row of its table in `alone`,
-//! `procedures`, `drive`, `run` or `audit`, from bytes to bytes. `cores`, `machine`, `serial`, `serve` and `tree`
-//! have what no command shows.
+//! A row of a table costs nearly nothing, and a function does. So what a command prints is a row in `alone`, `audit`, `containers`,
+//! `drive`, `procedures` or `run`, and one function in `commands` runs them all, from bytes to bytes. A folder has a table for each
+//! subject. `changed` has the bytes of good files with each of them changed. `cores`, `machine`, `serial`, `silent` and `tree` have
+//! what no command shows.
 #![tactic(auto)]
 
 #[cfg(test)]
 mod alone;
 #[cfg(test)]
 mod audit;
+#[cfg(test)]
+mod changed;
+#[cfg(test)]
+mod commands;
+#[cfg(test)]
+mod containers;
 #[cfg(test)]
 mod cores;
 #[cfg(test)]
@@ -28,7 +35,7 @@ mod run;
 #[cfg(test)]
 mod serial;
 #[cfg(test)]
-mod serve;
+mod silent;
 #[cfg(test)]
 mod texts;
 #[cfg(test)]

@@ -12,7 +12,7 @@ use tl_tree::{FIELD_COUNT, MAX_NODES};
 /// Each limit's constant, and its number in the documents.
 const LIMITS: [(&str, usize, usize); 16] = [
     ("nodes of a tree", MAX_NODES, 4_096),
-    ("fields of a record", FIELD_COUNT, 4),
+    ("fields of a record", FIELD_COUNT, 8),
     ("instructions of a code", MAX_COUNT, 1_024),
     ("arguments of a call", MAX_ARGS, 8),
     ("value registers", VALUE_REGISTERS, 16),

@@ -1,46 +1,21 @@
-//! The examples, their bytes, and what commands answer.
+//! Texts that rows of several commands share.
 
-use std::alloc::Global;
-use std::test::Fail;
-use tl_commands::{CliFault, asm_cmd};
 pub use tl_examples::{
     ADD, BOTH, CHAIN, FORK, LOOK, ONE_NODE, QUO, STORE, SWEEP, TURN, WALK, procedure_of, tree_of,
 };
 
-/// The container of `ADD`.
-pub const ADD_BYTES: [u8; 64] = [
-    0x54, 0x4C, 0x50, 0x31, 0x02, 0x00, 0x00, 0x07, //
-    0x0C, 0x00, 0x00, 0x00, 0x00, 0x00, 0x00, 0x06, //
-    0x10, 0x02, 0x00, 0x00, 0x00, 0x00, 0x00, 0x00, //
-    0x03, 0x02, 0x02, 0x01, 0x00, 0x00, 0x00, 0x04, //
-    0x11, 0x00, 0x00, 0x02, 0x00, 0x00, 0x00, 0x00, //
-    0x13, 0x02, 0x00, 0x00, 0x00, 0x00, 0x00, 0x00, //
-    0x0F, 0x00, 0x00, 0x00, 0x00, 0x00, 0x00, 0x00, //
-    0x14, 0x00, 0x00, 0x00, 0x00, 0x00, 0x00, 0x00, //
-];
+/// A root with a child that has a child, all of zeros.
+pub const ZEROS: &str =
+    "{\"parents\":[0,0,1],\"records\":[[0,0,0,0,0,0,0,0],[0,0,0,0,0,0,0,0],[0,0,0,0,0,0,0,0]]}";
 
-/// What a command answers: what it prints, or the numbers of what is wrong first, and the exit status.
-pub fn answer(alloc: Global, answer: Result<String, CliFault>) -> Result<String, Fail> {
-    match answer {
-        Ok(text) => Ok(text),
-        Err(fault) => {
-            let numbers = fault.numbers();
-            let numbers = numbers.as_slice();
-            let status = fault.status();
-            Ok(format!(in alloc; "{numbers:?} {status}")?)
-        }
-    }
-}
+/// The procedures that a script or a trail names.
+pub const THREE: &str =
+    "[\"both\",\"arity 1\\nfirst n0 v1 else L10\\nchild n1 n0 v1 else L9\\nput n1 0 v0\\nrel n1\\nset v2 1\\nchild n1 n0 v2 else L9\\nget v3 n1 0\\nemit v3\\nrel n1\\nL9:\\nrel n0\\nL10:\\nret\\n\"],\
+    [\"look\",\"arity 1\\nfirst n0 v0 else L4\\nget v1 n0 0\\nemit v1\\nrel n0\\nL4:\\nret\\n\"],\
+    [\"store\",\"arity 2\\nfirst n0 v0 else L3\\nput n0 0 v1\\nrel n0\\nL3:\\nret\\n\"]";
 
-/// The container of a text's code.
-pub fn container_of(alloc: Global, text: &str) -> Result<Vec<u8>, Fail> {
-    let (_, container) = asm_cmd(alloc, text.as_bytes())?;
-    Ok(container)
-}
+pub const LOOK_ALONE: &str =
+    "[\"look\",\"arity 1\\nfirst n0 v0 else L4\\nget v1 n0 0\\nemit v1\\nrel n0\\nL4:\\nret\\n\"]";
 
-/// A procedure as JSON, its name and its text.
-pub fn named(alloc: Global, name: &str, text: &str) -> Result<String, Fail> {
-    let text = String::from_str(alloc, text)?;
-    let escaped = text.replace(alloc, "\n", "\\n")?;
-    Ok(format!(in alloc; "[\"{name}\",\"{escaped}\"]")?)
-}
+pub const SWEEP_ALONE: &str =
+    "[\"sweep\",\"arity 1\\nfirst n0 v1 else L10\\nrep 12\\nget v2 n0 0\\nadd v2 v2 v0 else L4\\nL4:\\nput n0 0 v2\\nchild n1 n0 v1 else L9\\nrel n0\\nmove n0 n1\\nend\\nL9:\\nrel n0\\nL10:\\nret\\n\"]";

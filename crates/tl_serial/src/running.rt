@@ -10,7 +10,7 @@ ghost use Rattle.tl_protocol.specs.Order.{placed, Agrees};
 ghost use Rattle.tl_protocol.specs.World.{IsStuck, reply_of, past_after};
 ghost use Rattle.tl_procedures.specs.Names.{naming_refusal};
 ghost use Rattle.tl_procedures.specs.declared.fault.NamingFault.TheVariants as naming;
-ghost use Rattle.tl_core.specs.Cores.{CoreState, world_of, done_by, kept_turn, IsLeastUnfinished};
+ghost use Rattle.tl_core.specs.Cores.{CoreState, world_of, opened_after, IsSealFault, done_by, kept_turn, IsLeastUnfinished};
 ghost use Rattle.tl_core.specs.Entries.{step_answer, after_step, admission_refusal, after_admission, part_of_run, entry_of, IsBlocked};
 ghost use Rattle.tl_core.specs.Followed.{IsLedTo, IsLedFreely, IfFinished, IfBlocked, IsFollowed, HasGone, IsUnhindered, IsFollowFault, EndsStop, Proceeds};
 ghost use Rattle.tl_core.specs.declared.stepped.Stepped.TheVariants.{Moved};
@@ -59,6 +59,37 @@ impl Running {
     {
         let order = order_of_core(alloc, &core)?;
         Ok(Running { core, order })
+    }
+
+    /// Gives back memory of the history that its calls don't need. What it is stays the same.
+    pub fn cut_history(&mut self)
+        ensures { self.new ≡ self.old }
+    {
+        self.core.cut_history();
+    }
+
+    /// The core that takes over from this one with its order, once every call is done: 606, then 690.
+    pub fn successor(&self, alloc: Global) -> Result<Running, CoreFault>
+        ensures done { IfOk result (λ _. AllDone self.now.seen.past) }
+        ensures next { IfOk result (λ r. r ≡ opened_after self.now.seen) }
+        ensures fault { IfErr result (λ e. IsSealFault self.now.seen e) }
+    {
+        let next = self.core.successor(alloc)?;
+        Running::new(alloc, next)
+    }
+
+    /// This core, at rest, and the one that takes over from it: 606, then 690. A refusal hands the core back as it was.
+    pub fn seal(self, alloc: Global) -> Result<(Running, Running), (Running, CoreFault)>
+        ensures same { IfOk result (λ r. r.0 ≡ self) }
+        ensures done { IfOk result (λ _. AllDone self.seen.past) }
+        ensures next { IfOk result (λ r. r.1 ≡ opened_after self.seen) }
+        ensures back { IfErr result (λ r. r.0 ≡ self) }
+        ensures fault { IfErr result (λ r. IsSealFault self.seen r.1) }
+    {
+        match self.successor(alloc) {
+            Ok(next) => Ok((self, next)),
+            Err(fault) => Err((self, fault)),
+        }
     }
 
     /// The core.

@@ -224,7 +224,12 @@ fn has_both(rt: &impl Abort, ended: &Ended) -> Result<(), Fail> {
     assert!(rt; order == [0, 1].as_slice() || order == [1, 0].as_slice());
     assert_eq!(rt;
         ended.records(),
-        [[0, 0, 0, 0], [13, 0, 0, 0], [23, 0, 0, 0]].as_slice()
+        [
+            [0, 0, 0, 0, 0, 0, 0, 0],
+            [13, 0, 0, 0, 0, 0, 0, 0],
+            [23, 0, 0, 0, 0, 0, 0, 0]
+        ]
+        .as_slice()
     );
     closes_with(rt, ended, 2)
 }

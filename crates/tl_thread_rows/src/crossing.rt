@@ -235,7 +235,7 @@ const SCRIPT: &[u8] =
 
 /// What a run of it prints.
 const PRINTED: &str =
-    "{\"batch\":[{\"call\":0,\"reply\":[10]},{\"call\":1,\"reply\":[20]}]}\n{\"order\":[0,1]}\n{\"parents\":[0,0,0],\"records\":[[0,0,0,0],[10,0,0,0],[20,0,0,0]]}\n";
+    "{\"batch\":[{\"call\":0,\"reply\":[10]},{\"call\":1,\"reply\":[20]}]}\n{\"order\":[0,1]}\n{\"parents\":[0,0,0],\"records\":[[0,0,0,0,0,0,0,0],[10,0,0,0,0,0,0,0],[20,0,0,0,0,0,0,0]]}\n";
 
 /// Two workers run a look each of the script.
 fn two_workers_of_a_run_cross<R: Threads + Wait + Abort + Sync>(

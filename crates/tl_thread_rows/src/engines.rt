@@ -5,11 +5,13 @@ use std::process::Abort;
 use std::sync::Wait;
 use std::test::Fail;
 use std::thread::Threads;
-use tl_commands::{CliFault, conclude_engine};
+use tl_audit::Silent;
+use tl_commands::{CliFault, audit_cmd, conclude_engine, conclude_engine_with_trail, open_engine};
 use tl_examples::{ADD, ONE_NODE};
 use tl_table::{Receipt, Table};
 use tl_trials::{
-    Ended, batch, end_exchanged, with_engine, with_engine_on_threads, with_exchanged_sessions,
+    Ended, batch, end_exchanged, end_opened, with_engine, with_engine_on_threads,
+    with_exchanged_sessions,
 };
 use tl_workers::{Did, Engine, NoGate, Refusal, Session};
 
@@ -18,7 +20,7 @@ const PROCEDURES: [(&str, &str); 1] = [("add", ADD)];
 
 /// The record of the node is that.
 fn ends_at(rt: &impl Abort, ended: &Ended, sum: i64) {
-    assert_eq!(rt; ended.records(), [[sum, 0, 0, 0]].as_slice());
+    assert_eq!(rt; ended.records(), [[sum, 0, 0, 0, 0, 0, 0, 0]].as_slice());
 }
 
 // ---- one session
@@ -133,6 +135,52 @@ fn nothing_is_concluded_with_another_session(rt: HostRuntime) -> Result<(), Fail
     )?;
     is_not_closed(&rt, &busy);
     is_not_closed(&rt, &quiet);
+    Ok(())
+}
+
+// ---- an engine on the tree of a file
+
+/// The order of one call, and what it leaves.
+const CONCLUSION: &str = "{\"order\":[0]}\n{\"parents\":[0],\"records\":[[6,0,0,0,0,0,0,0]]}\n";
+
+/// What `end` answers of an engine on one node, after a call.
+fn concluded<R: Wait + Abort + AllocGlobal, U, E: FnOnce(Engine, Vec<Session>) -> U>(
+    rt: &R,
+    end: E,
+) -> Result<U, Fail>
+    requires { E.IsAlwaysCallable end }
+{
+    end_opened(
+        rt,
+        rt.alloc(),
+        || Ok(open_engine(rt.alloc(), ONE_NODE.as_bytes())?),
+        &PROCEDURES,
+        |engine, session| {
+            let receipt = engine.call(rt, rt.alloc(), session, "add", &[0, 1], &NoGate)?;
+            assert_eq!(rt; receipt.reply.as_slice(), [6].as_slice());
+            Ok(())
+        },
+        end,
+    )
+}
+
+#[test]
+fn an_engine_is_opened_and_concluded(rt: HostRuntime) -> Result<(), Fail> {
+    let lines = concluded(&rt, |engine, sessions| {
+        conclude_engine(rt.alloc(), engine, sessions)
+    })??;
+    assert_eq!(rt; lines.as_str(), CONCLUSION);
+    Ok(())
+}
+
+#[test]
+fn an_engine_is_concluded_to_its_trail(rt: HostRuntime) -> Result<(), Fail> {
+    let (lines, trail) = concluded(&rt, |engine, sessions| {
+        conclude_engine_with_trail(rt.alloc(), engine, sessions)
+    })??;
+    assert_eq!(rt; lines.as_str(), CONCLUSION);
+    let order = audit_cmd(rt.alloc(), trail.as_bytes(), &mut Silent)?;
+    assert_eq!(rt; order.as_str(), "{\"order\":[0]}\n");
     Ok(())
 }
 

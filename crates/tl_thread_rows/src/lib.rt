@@ -10,6 +10,8 @@ mod engines;
 #[cfg(test)]
 mod limits;
 #[cfg(test)]
+mod places;
+#[cfg(test)]
 mod ready;
 #[cfg(test)]
 mod signal;

@@ -15,13 +15,14 @@ use tl_workers::{Engine, NoGate, Refusal, Session};
 const RUNS: u32 = 20;
 
 /// A root with a child that has a child.
-const PATH: &str = "{\"parents\":[0,0,1],\"records\":[[0,0,0,0],[0,0,0,0],[0,0,0,0]]}";
+const PATH: &str =
+    "{\"parents\":[0,0,1],\"records\":[[0,0,0,0,0,0,0,0],[0,0,0,0,0,0,0,0],[0,0,0,0,0,0,0,0]]}";
 
 const PROCEDURES: [(&str, &str); 1] = [("sweep", SWEEP)];
 
 /// Field 0 of each of the three records is that.
 fn swept(rt: &impl Abort, ended: &Ended, sum: i64) {
-    assert_eq!(rt; ended.records(), [[sum, 0, 0, 0]; 3].as_slice());
+    assert_eq!(rt; ended.records(), [[sum, 0, 0, 0, 0, 0, 0, 0]; 3].as_slice());
     assert_eq!(rt; ended.order(), ended.audited());
 }
 

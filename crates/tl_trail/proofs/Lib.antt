@@ -2,6 +2,7 @@ pub mod TextForms
 pub mod TokenLemmas
 pub mod CallsTaken
 pub mod EventCount
+pub mod EitherWidth
 pub mod TreeOfText
 pub mod TrailTokenLemmas
 pub mod WholeTrail

@@ -5,17 +5,19 @@ use Rattle.json.specs.Json.{read_key, members, value}
 use Rattle.json.proofs.Grammar.{read_key-shorter}
 use Rattle.serde_json.specs.Data.{Data, object, Members, member, no_members, put}
 use Rattle.serde_json.specs.Read.{of_members, converted}
+use Rattle.tl_tree.specs.declared.record.Width.{Width}
 use Rattle.tl_tree.specs.Trees.{TreeValue}
-use Rattle.tl_tree.specs.Reading.{records_of, tree_from, form_of as tree_form_of}
+use Rattle.tl_tree.specs.Reading.{records_of, tree_from, form_at as tree_form_at}
 use Rattle.tl_forms.specs.Lists.{each_of}
 use Rattle.tl_forms.specs.Procedures.{procedure_form, procedure_of}
 use Rattle.tl_forms.specs.Events.{event_of}
 use Rattle.tl_trail.specs.declared.raw.RawTrail.{RawTrail}
 use Rattle.tl_trail.specs.Raw.{call_form, form_with, IsHalfRead}
-use Rattle.tl_trail.specs.Reading.{Parts, call_of, parts_of, form_of_parts}
+use Rattle.tl_trail.specs.Reading.{Parts, call_of, parts_of, form_at, form_of_parts}
 use Rattle.tl_trail.specs.Tokens.{member_depth, BeginsWithMember}
-use Rattle.tl_trail.specs.TrailTokens.{AreOfTrail}
+use Rattle.tl_trail.specs.TrailTokens.{AreOfTrail, IsFirstWidth}
 use Rattle.tl_trail.proofs.TokenLemmas.{same_some, one_member, no_member, stands_for}
+use Rattle.tl_trail.proofs.EitherWidth.{half_first}
 use Rattle.tl_trail.proofs.TreeOfText.{half_read}
 
 -- what a member's value stands for
@@ -45,11 +47,11 @@ parts_in_order : (calls ends events procedures tree : Data)
     → parts_of (object (in_order calls ends events procedures tree)) ≡ Some (record { calls = calls; ends = ends; events = events; procedures = procedures; tree = tree })
 parts_in_order calls ends events procedures tree = refl
 
-formed : (parts : Parts) (raw : RawTrail) → each_of call_of parts.calls ≡ Some (map call_form raw.calls.items) → records_of parts.ends ≡ Some raw.ends.items → each_of event_of parts.events ≡ Some raw.events.items
-    → each_of procedure_of parts.procedures ≡ Some (map procedure_form raw.procedures.items) → form_of_parts parts ≡ option_map (form_with raw) (tree_form_of parts.tree)
-formed parts raw calls ends events procedures = by (tree_form_of parts.tree) refl
+formed : (width : Width) (parts : Parts) (raw : RawTrail) → each_of call_of parts.calls ≡ Some (map call_form raw.calls.items) → records_of width parts.ends ≡ Some raw.ends.items → each_of (event_of width) parts.events ≡ Some raw.events.items
+    → each_of procedure_of parts.procedures ≡ Some (map procedure_form raw.procedures.items) → form_at width parts ≡ option_map (form_with raw) (tree_form_at width parts.tree)
+formed width parts raw calls ends events procedures = by (tree_form_at width parts.tree) refl
   where
-    by : (o : Option _) → tree_form_of parts.tree ≡ o → form_of_parts parts ≡ option_map (form_with raw) o
+    by : (o : Option _) → tree_form_at width parts.tree ≡ o → form_at width parts ≡ option_map (form_with raw) o
     by None is = rw (calls, ends, events, procedures, is) refl
     by (Some form) is = rw (calls, ends, events, procedures, is) refl
 
@@ -57,18 +59,18 @@ pub own_events : {A : Type 0} (xs : List A) → map (λ x. x) xs ≡ xs
 own_events [] = refl
 own_events (x ∷ xs) = ap (λ ys. x ∷ ys) (own_events xs)
 
-module _ (ts t1 t2 t3 t4 t5 rest : List Token) (raw : RawTrail) (tree : TreeValue) (d : Data) where
-  pub trail_of_members : BeginsWithMember (codes "calls") (each_of call_of) ts (map call_form raw.calls.items) t1 → BeginsWithMember (codes "end") records_of t1 raw.ends.items t2
-      → BeginsWithMember (codes "events") (each_of event_of) t2 raw.events.items t3 → BeginsWithMember (codes "procs") (each_of procedure_of) t3 (map procedure_form raw.procedures.items) t4
-      → BeginsWithMember (codes "tree") Some t4 d t5 → tree_from (tree_form_of d) ≡ Ok tree → read_key t5 ≡ Some (None, rest) → AreOfTrail ts tree raw rest
-  trail_of_members calls ends events procedures last is end =
+module _ (ts t1 t2 t3 t4 t5 rest : List Token) (width : Width) (raw : RawTrail) (tree : TreeValue) (de d : Data) where
+  pub trail_of_members : BeginsWithMember (codes "calls") (each_of call_of) ts (map call_form raw.calls.items) t1 → BeginsWithMember (codes "end") Some t1 de t2 → IsFirstWidth de width → records_of width de ≡ Some raw.ends.items
+      → BeginsWithMember (codes "events") (each_of (event_of width)) t2 raw.events.items t3 → BeginsWithMember (codes "procs") (each_of procedure_of) t3 (map procedure_form raw.procedures.items) t4
+      → BeginsWithMember (codes "tree") Some t4 d t5 → tree_from (tree_form_at width d) ≡ Ok tree → read_key t5 ≡ Some (None, rest) → AreOfTrail ts tree raw rest
+  trail_of_members calls ends first ends_are events procedures last is end =
       let n = length ts in
       let m1 = no_members in
       let a = put_next (codes "calls") (each_of call_of) ts (map call_form raw.calls.items) t1 calls m1 n (omega arith) in
       let m2 = put (codes "calls") calls.member.found m1 in
-      let b = put_next (codes "end") records_of t1 raw.ends.items t2 ends m2 (n - 1) a.1 in
+      let b = put_next (codes "end") Some t1 de t2 ends m2 (n - 1) a.1 in
       let m3 = put (codes "end") ends.member.found m2 in
-      let e = put_next (codes "events") (each_of event_of) t2 raw.events.items t3 events m3 (n - 1 - 1) b.1 in
+      let e = put_next (codes "events") (each_of (event_of width)) t2 raw.events.items t3 events m3 (n - 1 - 1) b.1 in
       let m4 = put (codes "events") events.member.found m3 in
       let g = put_next (codes "procs") (each_of procedure_of) t3 (map procedure_form raw.procedures.items) t4 procedures m4 (n - 1 - 1 - 1) e.1 in
       let m5 = put (codes "procs") procedures.member.found m4 in
@@ -76,11 +78,13 @@ module _ (ts t1 t2 t3 t4 t5 rest : List Token) (raw : RawTrail) (tree : TreeValu
       let m6 = put (codes "tree") last.member.found m5 in
       let all = in_order calls.member.found ends.member.found events.member.found procedures.member.found last.member.found in
       let parts : Parts = record { calls = calls.member.found; ends = ends.member.found; events = events.member.found; procedures = procedures.member.found; tree = last.member.found } in
-      let form = formed parts raw calls.member.stands ends.member.stands events.member.stands procedures.member.stands in
-      let tree_is : tree_from (tree_form_of last.member.found) ≡ Ok tree = ap (λ x. tree_from (tree_form_of x)) (same_some last.member.found d last.member.stands) ∙ is in
+      let same = same_some ends.member.found de ends.member.stands in
+      let form = formed width parts raw calls.member.stands (ap (records_of width) same ∙ ends_are) events.member.stands procedures.member.stands in
+      let tree_is : tree_from (tree_form_at width last.member.found) ≡ Ok tree = ap (λ x. tree_from (tree_form_at width x)) (same_some last.member.found d last.member.stands) ∙ is in
       record {
         found = all;
         are_members = a.0 ∙ b.0 ∙ e.0 ∙ g.0 ∙ h.0 ∙ no_member (value member_depth) (n - 1 - 1 - 1 - 1 - 1) t5 m6 rest h.1 end ∙ ap (λ ms. Some (ms, rest)) (put_in_order calls.member.found ends.member.found events.member.found procedures.member.found last.member.found);
         half_read = subst (λ o. IsHalfRead (option_and_then form_of_parts o) tree raw) (sym (parts_in_order calls.member.found ends.member.found events.member.found procedures.member.found last.member.found))
-            (subst (λ o. IsHalfRead o tree raw) (sym form) (half_read (tree_form_of last.member.found) raw tree tree_is));
+            (half_first width parts tree raw (subst (λ x. IsFirstWidth x width) (sym same) first)
+            (subst (λ o. IsHalfRead o tree raw) (sym form) (half_read (tree_form_at width last.member.found) raw tree tree_is)));
       }

@@ -10,9 +10,10 @@ use Rattle.serde_json.specs.Data.{Data, string, object, member, no_members, dept
 use Rattle.serde_json.specs.Read.{max_depth, read}
 use Rattle.serde_json.specs.View.{items_of}
 use Rattle.serde_json.specs.Written.{has_float}
+use Rattle.tl_tree.specs.declared.record.Width.TheVariants.{Wide}
 use Rattle.tl_tree.specs.Records.{Records}
 use Rattle.tl_tree.specs.Trees.{TreeValue, IsRecord}
-use Rattle.tl_tree.specs.Reading.{each_item, integer_of, tree_from, form_of as tree_form_of}
+use Rattle.tl_tree.specs.Reading.{each_item, integer_of, tree_from, form_at as tree_form_at}
 use Rattle.tl_tree.specs.Writing.{integers_data, records_data, tree_data}
 use Rattle.tl_tree.proofs.RoundTrip.{integer_back, integers_back as integers_same, record_back, records_back as records_same}
 use Rattle.tl_tree.proofs.Texts.{integers_whole, whole_items, integers_shallow, shallow_items}
@@ -134,7 +135,7 @@ record IsInside (calls nodes : ℕ) (e : Event) : Type 0 where
   pub call : caller e < calls
 
 module _ (calls nodes : ℕ) (few : calls ≤ 4096) (small : nodes ≤ 4096) where
-  event_read : (e : Event) → IsInside calls nodes e → event_of (event_data e) ≡ Some (event_form e)
+  event_read : (e : Event) → IsInside calls nodes e → event_of Wide (event_data e) ≡ Some (event_form e)
   event_read (Admit c) h = rw (natural_read c (omega (arith, h.call))) refl
   event_read (Lock x c found) h = rw (natural_read c (omega (arith, h.call)), natural_read x (omega (arith, h.node)), record_back found h.own) refl
   event_read (Free x c left) h = rw (natural_read c (omega (arith, h.call)), natural_read x (omega (arith, h.node)), record_back left h.own) refl
@@ -241,11 +242,11 @@ module _ (t : TrailValue) (w : IsWritable t) where
     ends = t.ends;
   }
 
-  form_read : (tree : List ℤ × Records) → tree_form_of (tree_data tree_of_trail) ≡ Some tree → (text : List ℕ) → read text ≡ Some (trail_data t) → form_in text ≡ Some (form_with tree)
+  form_read : (tree : List ℤ × Records) → tree_form_at Wide (tree_data tree_of_trail) ≡ Some tree → (text : List ℕ) → read text ≡ Some (trail_data t) → form_in text ≡ Some (form_with tree)
   form_read tree is text h =
       let calls = each_read call_of (call_data t.procedures) (call_form t.procedures) FitsText (call_read t.procedures) t.calls w.calls in
       let ends = records_same t.ends w.ends in
-      let events = each_read event_of event_data event_form (IsInside (length t.calls) (length t.parents)) (event_read (length t.calls) (length t.parents) w.trail.few w.trail.tree.few) (reverse t.past) inside in
+      let events = each_read (event_of Wide) event_data event_form (IsInside (length t.calls) (length t.parents)) (event_read (length t.calls) (length t.parents) w.trail.few w.trail.tree.few) (reverse t.past) inside in
       let procedures = each_read procedure_of procedure_data procedure_form (λ p. Unit {0}) (λ p h. refl) t.procedures (λ k d less. tt) in
       ap (λ d. option_and_then (λ e. option_and_then form_of_parts (parts_of e)) d) h ∙ rw (calls, ends, events, procedures, is) refl
 
@@ -265,7 +266,7 @@ module _ (t : TrailValue) (w : IsWritable t) where
 
   written_form : (text : List ℕ) → read text ≡ Some (trail_data t) → IsTrailText text t
   written_form text h =
-      let found = tree_form (tree_form_of (tree_data tree_of_trail)) tree_of_trail w.tree in
+      let found = tree_form (tree_form_at Wide (tree_data tree_of_trail)) tree_of_trail w.tree in
       record {
         form = form_with found.0;
         tree = tree_of_trail;

@@ -7,15 +7,26 @@ use Rattle.tl_tree.specs.declared.fault.TreeFault.{TreeFault}
 use Rattle.tl_procedures.specs.Names.{Named}
 use Rattle.tl_trail.specs.declared.fault.TrailFault.{TrailFault}
 use Rattle.tl_trail.specs.declared.fault.TrailFault.TheVariants.{NotTrail, Tree}
+use Rattle.serde_json.specs.View.{view}
+use Rattle.tl_trail.specs.declared.raw.Members.{Members}
 use Rattle.tl_trail.specs.declared.raw.RawCall.{RawCall}
 use Rattle.tl_trail.specs.declared.raw.RawTrail.{RawTrail}
 use Rattle.tl_trail.specs.Trails.{TrailValue}
 use Rattle.tl_forms.specs.Procedures.{procedure_form}
 use Rattle.tl_forms.specs.Registering.{TakenUp}
-use Rattle.tl_trail.specs.Reading.{CallForm, TrailForm, trail_of_form, IsUnregistered}
+use Rattle.tl_trail.specs.Reading.{CallForm, Parts, TrailForm, trail_of_form, IsUnregistered}
 
 abbrev pub call_form : RawCall → CallForm
 call_form x = record { name = string_bytes x.name; args = x.args.items; reply = option_map (λ r. r.items) x.reply }
+
+abbrev pub parts_in : Members → Parts
+parts_in m = record {
+  calls = view m.calls.now;
+  ends = view m.ends.now;
+  events = view m.events.now;
+  procedures = view m.procedures.now;
+  tree = view m.tree.now;
+}
 
 -- the form of a text that is this and has that tree
 abbrev pub form_with : RawTrail → List ℤ × Records → TrailForm

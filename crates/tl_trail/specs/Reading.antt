@@ -5,9 +5,12 @@ use Rattle.serde_json.specs.Events.{members_len}
 use Rattle.serde_json.specs.Find.{as_str, as_object, get_member}
 use Rattle.serde_json.specs.Read.{read}
 use Rattle.tl_history.specs.declared.history.TheConstants.{MAX_CALLS, MAX_EVENTS}
+use Rattle.std.specs.Option.{option_or}
+use Rattle.tl_tree.specs.declared.record.Width.{Width}
+use Rattle.tl_tree.specs.declared.record.Width.TheVariants.{Wide, Narrow}
 use Rattle.tl_tree.specs.Records.{Records}
 use Rattle.tl_tree.specs.Trees.{TreeValue}
-use Rattle.tl_tree.specs.Reading.{both, integers_of, records_of, tree_from, form_of as tree_form_of}
+use Rattle.tl_tree.specs.Reading.{both, integers_of, records_of, tree_from, form_at as tree_form_at}
 use Rattle.tl_tree.specs.declared.fault.TreeFault.{TreeFault}
 use Rattle.tl_protocol.specs.declared.event.Event.{Event}
 use Rattle.tl_protocol.specs.declared.event.Event.TheVariants as event
@@ -66,11 +69,16 @@ parts_of d = option_and_then (λ ms. if members_len ms == 5
     (both (get_member (codes "events") ms) (both (get_member (codes "procs") ms) (get_member (codes "tree") ms))))
     else None) (as_object d)
 
-abbrev pub form_of_parts : Parts → Option TrailForm
-form_of_parts parts =
+-- the form of the parts, where all records have that width
+abbrev pub form_at : Width → Parts → Option TrailForm
+form_at width parts =
     option_map (λ x. record { calls = x.0.0; ends = x.0.1; events = x.1.0; procedures = x.1.1.0; tree = x.1.1.1 })
-    (both (both (each_of call_of parts.calls) (records_of parts.ends))
-    (both (each_of event_of parts.events) (both (each_of procedure_of parts.procedures) (tree_form_of parts.tree))))
+    (both (both (each_of call_of parts.calls) (records_of width parts.ends))
+    (both (each_of (event_of width) parts.events) (both (each_of procedure_of parts.procedures) (tree_form_at width parts.tree))))
+
+-- the form of the parts: all records are wide, or all are narrow
+abbrev pub form_of_parts : Parts → Option TrailForm
+form_of_parts parts = option_or (form_at Wide parts) (form_at Narrow parts)
 
 -- the form that a text has
 abbrev pub form_in : List ℕ → Option TrailForm

@@ -1,9 +1,12 @@
 -- The members of a trail, as tokens.
-use Rattle.std.specs.Prelude.{◌≡◌, List, length, Some, option_and_then}
+use Rattle.std.specs.Prelude.{◌≡◌, List, length, Some, None, option_and_then}
 use Rattle.json.specs.Token.{Token}
 use Rattle.json.specs.Json.{members, value}
-use Rattle.serde_json.specs.Data.{Members, object, no_members}
+use Rattle.serde_json.specs.Data.{Data, Members, object, no_members}
 use Rattle.serde_json.specs.Read.{of_members, converted}
+use Rattle.tl_tree.specs.declared.record.Width.{Width}
+use Rattle.tl_tree.specs.declared.record.Width.TheVariants.{Wide, Narrow}
+use Rattle.tl_tree.specs.Reading.{records_of}
 use Rattle.tl_tree.specs.Trees.{TreeValue}
 use Rattle.tl_trail.specs.declared.raw.RawTrail.{RawTrail}
 use Rattle.tl_trail.specs.Raw.{IsHalfRead}
@@ -15,3 +18,8 @@ pub record AreOfTrail (ts : List Token) (tree : TreeValue) (raw : RawTrail) (res
   pub found : Members
   pub are_members : converted (λ ms. of_members ms no_members) (members (value member_depth) (length ts) ts) ≡ Some (found, rest)
   pub half_read : IsHalfRead (option_and_then form_of_parts (parts_of (object found))) tree raw
+
+-- the width of the records of a list is narrow only where they aren't wide
+abbrev pub IsFirstWidth : Data → Width → Type 0
+IsFirstWidth d Wide = Unit {0}
+IsFirstWidth d Narrow = records_of Wide d ≡ None

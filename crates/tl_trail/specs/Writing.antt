@@ -5,7 +5,8 @@ use Rattle.serde_json.specs.Written.{compact_text}
 use Rattle.std.specs.Int.{w64}
 use Rattle.tl_history.specs.declared.history.TheConstants.{MAX_EVENTS}
 use Rattle.tl_tree.specs.Trees.{IsRecord}
-use Rattle.tl_tree.specs.Reading.{tree_of}
+use Rattle.tl_tree.specs.declared.record.Width.TheVariants.{Wide}
+use Rattle.tl_tree.specs.Reading.{tree_at}
 use Rattle.tl_tree.specs.Writing.{integers_data, records_data, tree_data}
 use Rattle.tl_forms.specs.Lists.{list_data}
 use Rattle.tl_forms.specs.Procedures.{procedure_data, AreAccepted}
@@ -50,7 +51,7 @@ pub record IsWritable (t : TrailValue) : Type 0 where
   pub events : All HasRecord (reverse t.past)
   pub few : length t.past ≤ MAX_EVENTS
   pub ends : All IsRecord t.ends
-  pub tree : tree_of (tree_data (record { parents = t.parents; records = t.opening })) ≡ Ok (record { parents = t.parents; records = t.opening })
+  pub tree : tree_at Wide (tree_data (record { parents = t.parents; records = t.opening })) ≡ Ok (record { parents = t.parents; records = t.opening })
   -- what is made a value first is read back as its text has it
   pub calls_back : IsReadBack (list_data (map (call_data t.procedures) t.calls))
   pub procedures_back : IsReadBack (list_data (map procedure_data t.procedures))

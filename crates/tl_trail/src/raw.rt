@@ -2,9 +2,9 @@
 
 ghost use Rattle.std.specs.Prelude.{◌≡◌, option_map, option_and_then, IfOk};
 ghost use Rattle.serde_json.specs.View.{view};
-ghost use Rattle.tl_tree.specs.Reading.{form_of as tree_form_of};
-ghost use Rattle.tl_trail.specs.Reading.{parts_of, form_of_parts};
-ghost use Rattle.tl_trail.specs.Raw.{form_with};
+ghost use Rattle.tl_tree.specs.Reading.{form_at as tree_form_at};
+ghost use Rattle.tl_trail.specs.Reading.{parts_of, form_at};
+ghost use Rattle.tl_trail.specs.Raw.{parts_in, form_with};
 
 use arrayvec::ArrayVec;
 use serde_json::Value;
@@ -13,7 +13,7 @@ use tl_budget::MAX_EMITS;
 use tl_forms::{
     FromValue, ProcedureText, RawEvent, each_of, events_from_value, reply_from_value, three_of,
 };
-use tl_tree::{Record, integers_from_value, records_from_value};
+use tl_tree::{Record, Width, integers_from_value, records_from_value};
 
 /// A call as it is written: the name of its procedure, its arguments, and its reply, if any.
 #[derive(Debug, Drop)]
@@ -78,7 +78,7 @@ impl FromValue for RawCall {
 
 /// The members of an object that has these five and no others.
 pub(crate) fn members_of_value(value: &Value) -> Option<Members>
-    ensures { option_map (λ m. record { calls = view m.calls.now; ends = view m.ends.now; events = view m.events.now; procedures = view m.procedures.now; tree = view m.tree.now }) result ≡ parts_of (view value.now) }
+    ensures { option_map parts_in result ≡ parts_of (view value.now) }
 {
     let count = value.as_object()?.len();
     if count != 5 {
@@ -93,22 +93,23 @@ pub(crate) fn members_of_value(value: &Value) -> Option<Members>
     })
 }
 
-/// The trail that the members are, but for the tree.
+/// The trail that the members are, where their records have that width, but for the tree.
 pub(crate) fn raw_of_members(
     alloc: Global,
+    width: Width,
     members: &Members,
 ) -> Result<Option<RawTrail>, AllocError>
     ensures { IfOk result (λ found.
-        form_of_parts (record { calls = view members.now.calls.now; ends = view members.now.ends.now; events = view members.now.events.now; procedures = view members.now.procedures.now; tree = view members.now.tree.now })
-        ≡ option_and_then (λ raw. option_map (form_with raw) (tree_form_of (view members.now.tree.now))) found) }
+        form_at width (parts_in members.now)
+        ≡ option_and_then (λ raw. option_map (form_with raw) (tree_form_at width (view members.now.tree.now))) found) }
 {
     let Some(calls) = each_of::<RawCall>(alloc, members.calls)? else {
         return Ok(None);
     };
-    let Some(ends) = records_from_value(alloc, members.ends)? else {
+    let Some(ends) = records_from_value(alloc, width, members.ends)? else {
         return Ok(None);
     };
-    let Some(events) = events_from_value(alloc, members.events)? else {
+    let Some(events) = events_from_value(alloc, width, members.events)? else {
         return Ok(None);
     };
     let Some(procedures) = each_of::<ProcedureText>(alloc, members.procedures)? else {

@@ -7,11 +7,11 @@ ghost use Rattle.tl_protocol.specs.declared.event.Event.{Event as EventValue};
 ghost use Rattle.tl_protocol.specs.History.{caller};
 ghost use Rattle.tl_protocol.specs.Nodes.{IsOfNodes};
 ghost use Rattle.tl_trail.specs.Trails.{TrailValue, IsCallOf, call_value};
-ghost use Rattle.tl_trail.specs.Reading.{parts_of, form_of_parts, form_in, call_as, each_call, calls_as, below, event_as, events_as, IsTrailText, IsFirstTrailFault};
-ghost use Rattle.tl_trail.specs.Raw.{call_form, form_with, IsHalfRead, IsUnread, IsTrailOf, IsFaultOf};
+ghost use Rattle.tl_trail.specs.Reading.{parts_of, form_at, form_of_parts, form_in, call_as, each_call, calls_as, below, event_as, events_as, IsTrailText, IsFirstTrailFault};
+ghost use Rattle.tl_trail.specs.Raw.{call_form, form_with, parts_in, IsHalfRead, IsUnread, IsTrailOf, IsFaultOf};
 
 use crate::fault::TrailFault;
-use crate::raw::{RawCall, RawTrail, members_of_value, raw_of_members};
+use crate::raw::{Members, RawCall, RawTrail, members_of_value, raw_of_members};
 use crate::tokens::raw_of_tokens;
 use crate::trail::{Trail, TrailCall};
 use arrayvec::ArrayVec;
@@ -22,9 +22,32 @@ use tl_forms::{RawEvent, parse_text, register_all};
 use tl_history::{History, HistoryFault, MAX_CALLS, MAX_EVENTS};
 use tl_procedures::Procedures;
 use tl_protocol::Event;
-use tl_tree::{Tree, tree_from_value};
+use tl_tree::{Tree, Width, tree_from_value};
 
 // ---- the tree, and what else there is
+
+// What the members are, where their records have that width.
+fn raw_at(alloc: Global, width: Width, members: &Members) -> Result<(Tree, RawTrail), TrailFault>
+    ensures ok { IfOk result (λ found. IsHalfRead (form_at width (parts_in members.now)) found.0 found.1) }
+    ensures fault { IfErr result (λ e. e ≢ TrailFault.Memory → IsUnread (form_at width (parts_in members.now)) e) }
+{
+    let Some(raw) = raw_of_members(alloc, width, members)? else {
+        return Err(TrailFault::NotTrail);
+    };
+    let tree = tree_from_value(alloc, width, members.tree)?;
+    Ok((tree, raw))
+}
+
+// What they are, where their records are all wide or all narrow.
+fn raw_of_either(alloc: Global, members: &Members) -> Result<(Tree, RawTrail), TrailFault>
+    ensures ok { IfOk result (λ found. IsHalfRead (form_of_parts (parts_in members.now)) found.0 found.1) }
+    ensures fault { IfErr result (λ e. e ≢ TrailFault.Memory → IsUnread (form_of_parts (parts_in members.now)) e) }
+{
+    match raw_at(alloc, Width::Wide, members) {
+        Err(TrailFault::NotTrail) => raw_at(alloc, Width::Narrow, members),
+        answer => answer,
+    }
+}
 
 fn raw_of_value(alloc: Global, value: &Value) -> Result<(Tree, RawTrail), TrailFault>
     ensures ok { IfOk result (λ found. IsHalfRead (option_and_then form_of_parts (parts_of (view value.now))) found.0 found.1) }
@@ -33,11 +56,7 @@ fn raw_of_value(alloc: Global, value: &Value) -> Result<(Tree, RawTrail), TrailF
     let Some(members) = members_of_value(value) else {
         return Err(TrailFault::NotTrail);
     };
-    let Some(raw) = raw_of_members(alloc, &members)? else {
-        return Err(TrailFault::NotTrail);
-    };
-    let tree = tree_from_value(alloc, members.tree)?;
-    Ok((tree, raw))
+    raw_of_either(alloc, &members)
 }
 
 fn raw_of_text(alloc: Global, text: &str) -> Result<(Tree, RawTrail), TrailFault>
@@ -237,7 +256,8 @@ fn trail_of_text(alloc: Global, text: &str) -> Result<Trail, TrailFault>
 /// its arguments and its reply, a list of at most 32 numbers or null; `end`, the records in the end; `events`, a list of
 /// `["a",call]` for an admission, `["l",call,node,record]` for a lock and the record found, `["f",call,node,record]` for a
 /// free and the record left, and `["d",call]` for an end; `procs`, a list of names and assembler texts; and `tree`, the
-/// tree before the calls. Numbers are signed 64-bit integers.
+/// tree before the calls. Numbers are signed 64-bit integers. Of all records, those of the tree among them, each is a list of eight,
+/// or each is a list of four, and the fields behind them are 0.
 ///
 /// What is wrong first: 701 for another form; the tree's 101 to 105; of each procedure in order the assembler's 251 to
 /// 254, the verifier's 301 to 307 and 401 to 409, and 612, 611, 613 of its name; 603 for more than 4,096 calls; of each

@@ -3,24 +3,26 @@
 // The events are the most of a trail, and as a value each takes ten times its text. So where the members stand in the order in which
 // they are written, the lists are read item by item, and there is no value of the whole. Of other texts nothing is said here.
 
-ghost use Rattle.std.specs.Prelude.{◌≡◌, ◌<◌, ◌==◌, Some, true, false, map, length, slice_index, IsTrue, IfOk, IfSome};
+ghost use Rattle.std.specs.Prelude.{◌≡◌, ◌<◌, ◌==◌, codes, Some, true, false, map, length, slice_index, IsTrue, IfOk, IfSome};
 ghost use Rattle.json.specs.Json.{read_key, items as items_of_tokens, members as members_of_tokens, value as value_of_tokens};
 ghost use Rattle.serde_json.specs.Data.{no_members};
 ghost use Rattle.serde_json.specs.Read.{number_of, number_from, of_items, of_members, converted};
 ghost use Rattle.serde_json.specs.View.{view, number_view, items_view, members_view};
+ghost use Rattle.tl_tree.specs.Reading.{records_of};
 ghost use Rattle.tl_forms.specs.Lists.{each_of};
+ghost use Rattle.tl_forms.specs.Events.{event_of};
 ghost use Rattle.tl_trail.specs.Raw.{IsHalfRead};
 ghost use Rattle.tl_trail.specs.Reading.{form_in};
 ghost use Rattle.tl_trail.specs.Tokens.{member_depth, item_depth, BeginsWith, BeginsWithItems, BeginsWithMember};
-ghost use Rattle.tl_trail.specs.TrailTokens.{AreOfTrail};
+ghost use Rattle.tl_trail.specs.TrailTokens.{AreOfTrail, IsFirstWidth};
 
 use crate::raw::{RawCall, RawTrail};
 use fast_float::Numeral;
 use json::{Reader, Scratch, Token};
 use serde_json::{Map, Number, Value};
 use std::alloc::{AllocError, Global};
-use tl_forms::{FromValue, ProcedureText, RawEvent};
-use tl_tree::{Tree, records_from_value, tree_from_value};
+use tl_forms::{FromValue, NarrowEvent, ProcedureText, RawEvent, WideEvent};
+use tl_tree::{Record, Tree, Width, records_from_value, tree_from_value};
 
 // How deep a member of a text nests at most, and an item of a member: a text nests at most 127 deep.
 const MEMBER_DEPTH: usize = 126;
@@ -239,7 +241,37 @@ fn list_member<T: FromValue>(
     list::<T>(alloc, reader)
 }
 
-// What a trail's members stand for, where they come in their order.
+// The records of a list and their width: wide, if a list may be both.
+fn records_of_either(
+    alloc: Global,
+    value: &Value,
+) -> Result<Option<(Width, Vec<Record>)>, AllocError>
+    ensures { IfOk result (λ found. IfSome found (λ x. IsFirstWidth (view value.now) x.0 × (records_of x.0 (view value.now) ≡ Some x.1.items))) }
+{
+    if let Some(records) = records_from_value(alloc, Width::Wide, value)? {
+        return Ok(Some((Width::Wide, records)));
+    }
+    match records_from_value(alloc, Width::Narrow, value)? {
+        Some(records) => Ok(Some((Width::Narrow, records))),
+        None => Ok(None),
+    }
+}
+
+// The events of the next member, if that is named so.
+fn events_member(
+    alloc: Global,
+    reader: &mut Reader<'_>,
+    width: Width,
+) -> Result<Option<Vec<RawEvent>>, AllocError>
+    ensures { IfOk result (λ found. IfSome found (λ v. BeginsWithMember (codes "events") (each_of (event_of width)) reader.old v.items reader.new)) }
+{
+    match width {
+        Width::Wide => list_member::<WideEvent>(alloc, reader, "events"),
+        Width::Narrow => list_member::<NarrowEvent>(alloc, reader, "events"),
+    }
+}
+
+// What a trail's members stand for, where they come in their order. The records in the end tell the width of all others.
 fn trail_members(
     alloc: Global,
     reader: &mut Reader<'_>,
@@ -252,10 +284,10 @@ fn trail_members(
     let Some(ends) = member(alloc, reader, "end")? else {
         return Ok(None);
     };
-    let Some(ends) = records_from_value(alloc, &ends)? else {
+    let Some((width, ends)) = records_of_either(alloc, &ends)? else {
         return Ok(None);
     };
-    let Some(events) = list_member::<RawEvent>(alloc, reader, "events")? else {
+    let Some(events) = events_member(alloc, reader, width)? else {
         return Ok(None);
     };
     let Some(procedures) = list_member::<ProcedureText>(alloc, reader, "procs")? else {
@@ -264,7 +296,7 @@ fn trail_members(
     let Some(tree) = member(alloc, reader, "tree")? else {
         return Ok(None);
     };
-    let Ok(tree) = tree_from_value(alloc, &tree) else {
+    let Ok(tree) = tree_from_value(alloc, width, &tree) else {
         return Ok(None);
     };
     let Ok(None) = reader.next_key() else {

@@ -5,7 +5,8 @@ ghost use Rattle.serde_json.specs.Data.{depth};
 ghost use Rattle.serde_json.specs.Read.{max_depth};
 ghost use Rattle.serde_json.specs.View.{view};
 ghost use Rattle.serde_json.specs.Written.{has_float};
-ghost use Rattle.tl_tree.specs.Reading.{tree_of};
+ghost use Rattle.tl_tree.specs.declared.record.Width.TheVariants.{Wide};
+ghost use Rattle.tl_tree.specs.Reading.{tree_at};
 ghost use Rattle.tl_tree.specs.Writing.{tree_data};
 ghost use Rattle.tl_procedures.specs.Names.{AreFreeAfter};
 ghost use Rattle.tl_forms.specs.Lists.{list_data};
@@ -79,7 +80,7 @@ fn push_procedures(
 
 fn push_tree(alloc: Global, text: &mut String, tree: &Tree) -> Result<(), AllocError>
     ensures added { OnOk result (Adds (string_bytes text.old) (string_bytes text.new) (tree_data tree.now)) }
-    ensures reads_back { OnOk result (tree_of (tree_data tree.now) ≡ Ok tree.now) }
+    ensures reads_back { OnOk result (tree_at Wide (tree_data tree.now) ≡ Ok tree.now) }
 {
     let Ok(value) = tree_to_value(alloc, tree) else {
         return Err(AllocError);

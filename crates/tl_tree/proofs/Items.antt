@@ -4,7 +4,8 @@ use Rattle.std.proofs.lemmas.List.{map_push, map_more}
 use Rattle.serde_json.specs.Data.{Data}
 use Rattle.serde_json.specs.View.{view, items_view}
 use Rattle.serde_json.specs.declared.value.Value.{Value}
-use Rattle.tl_fields.specs.Fields.{field_count}
+use Rattle.tl_tree.specs.declared.record.Width.{Width}
+use Rattle.tl_tree.specs.Records.{width_of}
 use Rattle.tl_tree.specs.Reading.{each_item, integer_of, if_record}
 
 -- what was read before, and then the rest
@@ -21,15 +22,15 @@ pub length-each_item : {A : Type 0} (f : Data → Option A) (vs : List Value) (x
 length-each_item f [] xs e = let same : [] ≡ xs = cc in ap length (sym same)
 length-each_item f (v ∷ vs) xs e = each_or (f (view v)) (each_item f (items_view vs)) (length vs) xs (length-each_item f vs) e
 
-no_record : (o : Option (List ℤ)) (n : ℕ) → ((xs : List ℤ) → o ≡ Some xs → length xs ≡ n) → n ≢ field_count → None ≡ option_and_then if_record o
-no_record None n h other = refl
-no_record (Some xs) n h other =
+no_record : (width : Width) (o : Option (List ℤ)) (n : ℕ) → ((xs : List ℤ) → o ≡ Some xs → length xs ≡ n) → n ≢ width_of width → None ≡ option_and_then (if_record width) o
+no_record width None n h other = refl
+no_record width (Some xs) n h other =
     let size = h xs refl in
-    rw (ne_eqb (length xs) field_count (λ e. other (sym size ∙ e)))
+    rw (ne_eqb (length xs) (width_of width) (λ e. other (sym size ∙ e)))
 
 -- a list of another length is no record
-pub other_width : (vs : List Value) → length vs ≢ field_count → None ≡ option_and_then if_record (each_item integer_of (items_view vs))
-other_width vs other = no_record (each_item integer_of (items_view vs)) (length vs) (length-each_item integer_of vs) other
+pub other_width : (width : Width) (vs : List Value) → length vs ≢ width_of width → None ≡ option_and_then (if_record width) (each_item integer_of (items_view vs))
+other_width width vs other = no_record width (each_item integer_of (items_view vs)) (length vs) (length-each_item integer_of vs) other
 
 -- one more value is written
 pub views_more : {A : Type 0} (f : A → Data) (vs : List Value) (v : Value) (xs : List A) (i : ℕ) (d : A) → i < length xs → map view vs ≡ map f (take i xs) → view v ≡ f (get_or xs i d)

@@ -1,3 +1,4 @@
+pub mod EitherWidth
 pub mod Faults
 pub mod Items
 pub mod Parts
@@ -7,4 +8,5 @@ pub mod Paths
 pub mod RoundTrip
 pub mod Stands
 pub mod Texts
+pub mod Widths
 mod Rows

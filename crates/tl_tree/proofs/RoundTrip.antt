@@ -1,15 +1,16 @@
 -- What stands for a tree is read as that tree.
-use Rattle.std.proofs.Common.{◌≡◌, ℕ, suc, ◌<◌, ◌^◌, ℤ, pos, negsuc, List, [], ◌∷◌, length, get_or, map, Option, Some, Ok, refl, ap, ◌∙◌, arith, eq-eqb, lt-ltb}
+use Rattle.std.proofs.Common.{◌≡◌, ℕ, suc, ◌-◌, ◌<◌, ◌^◌, ℤ, pos, negsuc, List, [], ◌∷◌, ◌++◌, length, replicate, get_or, map, Option, Some, Ok, refl, ap, ◌∙◌, arith, eq-eqb, lt-ltb}
 use Rattle.std.specs.Prelude.{All, FitsSigned}
 use Rattle.std.specs.Int.{w64}
-use Rattle.std.proofs.lemmas.List.{length-map, get_or-map}
+use Rattle.std.proofs.lemmas.List.{length-map, get_or-map, append-nil}
 use Rattle.serde_json.specs.Data.{Data}
 use Rattle.serde_json.specs.View.{items_of}
 use Rattle.tl_fields.specs.Fields.{field_count}
-use Rattle.tl_tree.specs.Records.{Record, Records}
+use Rattle.tl_tree.specs.declared.record.Width.TheVariants.{Wide}
+use Rattle.tl_tree.specs.Records.{Record, Records, widened}
 use Rattle.tl_tree.specs.Shape.{IsTree}
 use Rattle.tl_tree.specs.Trees.{TreeValue, IsRecord, IsWhole}
-use Rattle.tl_tree.specs.Reading.{each_item, integer_of, integers_of, record_of, records_of, form_of, tree_from, tree_with, tree_of}
+use Rattle.tl_tree.specs.Reading.{each_item, integer_of, integers_of, record_of, records_of, form_at, tree_from, tree_with, tree_at}
 use Rattle.tl_tree.specs.Writing.{integer_data, integers_data, records_data, tree_data}
 use Rattle.tl_tree.proofs.Parents.{shape_of-pos}
 use Rattle.tl_tree.proofs.Paths.{parent_le}
@@ -29,11 +30,15 @@ integer_back (negsuc n) h = refl
 pub integers_back : (zs : List ℤ) → All (FitsSigned w64) zs → integers_of (integers_data zs) ≡ Some zs
 integers_back zs h = each_back integer_of integer_data (FitsSigned w64) integer_back zs h
 
-pub record_back : (fields : Record) → IsRecord fields → record_of (integers_data fields) ≡ Some fields
-record_back fields h = rw (integers_back fields h.fit, eq-eqb (length fields) field_count h.width) refl
+-- a record of all its fields is wide already
+pub widened_already : (fields : Record) → length fields ≡ field_count → widened fields ≡ fields
+widened_already fields all = ap (λ n. fields ++ replicate (field_count - n) (pos 0)) all ∙ append-nil fields
 
-pub records_back : (records : Records) → All IsRecord records → records_of (records_data records) ≡ Some records
-records_back records h = each_back record_of integers_data IsRecord record_back records h
+pub record_back : (fields : Record) → IsRecord fields → record_of Wide (integers_data fields) ≡ Some fields
+record_back fields h = rw (integers_back fields h.fit, eq-eqb (length fields) field_count h.width) (ap Some (widened_already fields h.width))
+
+pub records_back : (records : Records) → All IsRecord records → records_of Wide (records_data records) ≡ Some records
+records_back records h = each_back (record_of Wide) integers_data IsRecord record_back records h
 
 parent_fits : (parents : List ℕ) → IsTree parents → All (FitsSigned w64) (map pos parents)
 parent_fits parents tree k d inside =
@@ -44,9 +49,9 @@ parent_fits parents tree k d inside =
     let within : k < length parents = omega arith in
     rw (get_or-map pos parents k 0 d within) (record { sfits = less })
 
-pub tree_back : (tree : TreeValue) → IsWhole tree → All IsRecord tree.records → tree_of (tree_data tree) ≡ Ok tree
+pub tree_back : (tree : TreeValue) → IsWhole tree → All IsRecord tree.records → tree_at Wide (tree_data tree) ≡ Ok tree
 tree_back tree whole each =
     let parents = integers_back (map pos tree.parents) (parent_fits tree.parents whole.shape) in
     let records = records_back tree.records each in
-    let form : form_of (tree_data tree) ≡ Some (map pos tree.parents, tree.records) = rw (parents, records) refl in
+    let form : form_at Wide (tree_data tree) ≡ Some (map pos tree.parents, tree.records) = rw (parents, records) refl in
     ap tree_from form ∙ ap (tree_with tree.records) (shape_of-pos tree.parents whole.shape) ∙ rw (eq-eqb (length tree.records) (length tree.parents) whole.count) refl

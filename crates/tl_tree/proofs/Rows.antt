@@ -38,16 +38,28 @@ abbrev small : TreeValue
 small =
     record {
       parents = 0 ∷ 0 ∷ 0 ∷ [];
-      records = (pos 0 ∷ pos 0 ∷ pos 0 ∷ pos 0 ∷ []) ∷ (pos 10 ∷ pos 0 ∷ pos 0 ∷ pos 0 ∷ []) ∷ (pos 20 ∷ pos 0 ∷ pos 0 ∷ pos 0 ∷ []) ∷ [];
+      records = (pos 0 ∷ pos 0 ∷ pos 0 ∷ pos 0 ∷ pos 0 ∷ pos 0 ∷ pos 0 ∷ pos 0 ∷ []) ∷ (pos 10 ∷ pos 0 ∷ pos 0 ∷ pos 0 ∷ pos 0 ∷ pos 0 ∷ pos 0 ∷ pos 0 ∷ []) ∷ (pos 20 ∷ pos 0 ∷ pos 0 ∷ pos 0 ∷ pos 0 ∷ pos 0 ∷ pos 0 ∷ pos 0 ∷ []) ∷ [];
     }
 
-written : tree_text small ≡ codes "{\"parents\":[0,0,0],\"records\":[[0,0,0,0],[10,0,0,0],[20,0,0,0]]}"
+written : tree_text small ≡ codes "{\"parents\":[0,0,0],\"records\":[[0,0,0,0,0,0,0,0],[10,0,0,0,0,0,0,0],[20,0,0,0,0,0,0,0]]}"
 unfolding digits
 written = refl
 
-was_read : tree_of_text (codes "{ \"records\": [[0,0,0,0],[10,0,0,0],[20,0,0,0]], \"parents\": [0,0,0] }") ≡ Ok small
+was_read : tree_of_text (codes "{ \"records\": [[0,0,0,0,0,0,0,0],[10,0,0,0,0,0,0,0],[20,0,0,0,0,0,0,0]], \"parents\": [0,0,0] }") ≡ Ok small
 unfolding serde_json_on_literals
 was_read = refl
+
+narrow_was_read : tree_of_text (codes "{\"parents\":[0,0,0],\"records\":[[0,0,0,0],[10,0,0,0],[20,0,0,0]]}") ≡ Ok small
+unfolding serde_json_on_literals
+narrow_was_read = refl
+
+no_mix : tree_of_text (codes "{\"parents\":[0,0],\"records\":[[0,0,0,0,0,0,0,0],[10,0,0,0]]}") ≡ Err NotTree
+unfolding serde_json_on_literals
+no_mix = refl
+
+no_other_width : tree_of_text (codes "{\"parents\":[0],\"records\":[[1,2,3,4,5]]}") ≡ Err NotTree
+unfolding serde_json_on_literals
+no_other_width = refl
 
 one_key_more : tree_of_text (codes "{\"parents\":[],\"records\":[],\"more\":0}") ≡ Err NotTree
 unfolding serde_json_on_literals

@@ -7,10 +7,11 @@ use Rattle.serde_json.specs.Events.{members_len}
 use Rattle.serde_json.specs.Find.{as_object, get_member}
 use Rattle.tl_tree.specs.declared.fault.TreeFault.{TreeFault}
 use Rattle.tl_tree.specs.declared.fault.TreeFault.TheVariants.{WrongCount}
+use Rattle.tl_tree.specs.declared.record.Width.{Width}
 use Rattle.tl_tree.specs.Records.{Records}
 use Rattle.tl_tree.specs.Shape.{shape_of}
 use Rattle.tl_tree.specs.Trees.{TreeValue, IsWhole}
-use Rattle.tl_tree.specs.Reading.{both, integers_of, records_of, parts_of, form_of, tree_with, tree_from, tree_of, StandsFor}
+use Rattle.tl_tree.specs.Reading.{both, integers_of, records_of, parts_of, form_at, tree_with, tree_from, tree_at, StandsFor}
 use Rattle.tl_tree.proofs.Parents.{tree_from_shape_of, shape_of-pos}
 
 both_some : {A B : Type 0} (a : Option A) (b : Option B) (x : A) (y : B) → both a b ≡ Some (x, y) → (a ≡ Some x) × (b ≡ Some y)
@@ -40,14 +41,14 @@ from_shape numbers records (Ok parents) tree shape is =
     let good = tree_from_shape_of numbers parents shape in
     rw (← parts.1) (sym good.1, refl, record { shape = good.0; count = eqb-true (length records) (length parents) parts.0 })
 
-module _ (d : Data) (tree : TreeValue) where
+module _ (width : Width) (d : Data) (tree : TreeValue) where
   with_members : (ms : Members) (numbers : List ℤ) (records : Records) (parents_member records_member : Data) → as_object d ≡ Some ms
       → cond (members_len ms == 2) (both (get_member (codes "parents") ms) (get_member (codes "records") ms)) None ≡ Some (parents_member, records_member)
-      → both (integers_of parents_member) (records_of records_member) ≡ Some (numbers, records) → FromForm numbers records tree → StandsFor d tree
+      → both (integers_of parents_member) (records_of width records_member) ≡ Some (numbers, records) → FromForm numbers records tree → StandsFor width d tree
   with_members ms numbers records parents_member records_member object_is split form from =
       let two = chosen (members_len ms == 2) (both (get_member (codes "parents") ms) (get_member (codes "records") ms)) (parents_member, records_member) split in
       let found = both_some (get_member (codes "parents") ms) (get_member (codes "records") ms) parents_member records_member two.1 in
-      let lists = both_some (integers_of parents_member) (records_of records_member) numbers records form in
+      let lists = both_some (integers_of parents_member) (records_of width records_member) numbers records form in
       record {
         members = ms;
         parents_member = parents_member;
@@ -63,27 +64,27 @@ module _ (d : Data) (tree : TreeValue) where
 
   with_parts : (o : Option Members) (parts : Data × Data) (numbers : List ℤ) (records : Records) → as_object d ≡ o
       → option_and_then (λ ms. cond (members_len ms == 2) (both (get_member (codes "parents") ms) (get_member (codes "records") ms)) None) o ≡ Some parts
-      → both (integers_of parts.0) (records_of parts.1) ≡ Some (numbers, records) → FromForm numbers records tree → StandsFor d tree
+      → both (integers_of parts.0) (records_of width parts.1) ≡ Some (numbers, records) → FromForm numbers records tree → StandsFor width d tree
   with_parts None parts numbers records object_is split form from = absurd cc
   with_parts (Some ms) parts numbers records object_is split form from = with_members ms numbers records parts.0 parts.1 object_is split form from
 
   with_form : (o : Option (Data × Data)) (numbers : List ℤ) (records : Records) → parts_of d ≡ o
-      → option_and_then (λ parts. both (integers_of parts.0) (records_of parts.1)) o ≡ Some (numbers, records) → FromForm numbers records tree → StandsFor d tree
+      → option_and_then (λ parts. both (integers_of parts.0) (records_of width parts.1)) o ≡ Some (numbers, records) → FromForm numbers records tree → StandsFor width d tree
   with_form None numbers records split form from = absurd cc
   with_form (Some parts) numbers records split form from = with_parts (as_object d) parts numbers records refl split form from
 
-  stands_at : (o : Option (List ℤ × Records)) → form_of d ≡ o → tree_from o ≡ Ok tree → StandsFor d tree
+  stands_at : (o : Option (List ℤ × Records)) → form_at width d ≡ o → tree_from o ≡ Ok tree → StandsFor width d tree
   stands_at None form is = absurd cc
   stands_at (Some pair) form is = with_form (parts_of d) pair.0 pair.1 refl form (from_shape pair.0 pair.1 (shape_of pair.0) tree refl is)
 
-  pub stands_from_tree_of : tree_of d ≡ Ok tree → StandsFor d tree
-  stands_from_tree_of is = stands_at (form_of d) refl is
+  pub stands_from_tree_at : tree_at width d ≡ Ok tree → StandsFor width d tree
+  stands_from_tree_at is = stands_at (form_at width d) refl is
 
   -- ---- what stands for a tree is read as it
 
-  pub tree_of_stands : StandsFor d tree → tree_of d ≡ Ok tree
-  tree_of_stands h =
+  pub tree_at_stands : StandsFor width d tree → tree_at width d ≡ Ok tree
+  tree_at_stands h =
       let split : parts_of d ≡ Some (h.parents_member, h.records_member) = rw (h.object_is, eq-eqb (members_len h.members) 2 h.two, h.parents_found, h.records_found) refl in
-      let form : form_of d ≡ Some (map pos tree.parents, tree.records) = rw (split, h.parents_are, h.records_are) refl in
+      let form : form_at width d ≡ Some (map pos tree.parents, tree.records) = rw (split, h.parents_are, h.records_are) refl in
       let whole = h.whole in
       ap tree_from form ∙ ap (tree_with tree.records) (shape_of-pos tree.parents whole.shape) ∙ rw (eq-eqb (length tree.records) (length tree.parents) whole.count) refl

@@ -1,13 +1,15 @@
 -- What a JSON value or a text is: numbers, records, or a tree.
 use Rattle.std.specs.Prelude.{◌≡◌, ℕ, ◌==◌, ℤ, pos, map, List, [], ◌∷◌, length, codes, if◌then◌else◌, Option, Some, None, option_map, option_and_then, Result, Ok, Err}
+use Rattle.std.specs.Option.{option_or}
 use Rattle.serde_json.specs.Data.{Data, Items, no_items, item, Members}
 use Rattle.serde_json.specs.Events.{members_len}
 use Rattle.serde_json.specs.Find.{as_number, as_i64, as_array, as_object, get_member}
 use Rattle.serde_json.specs.Read.{read}
-use Rattle.tl_fields.specs.Fields.{field_count}
 use Rattle.tl_tree.specs.declared.fault.TreeFault.{TreeFault}
 use Rattle.tl_tree.specs.declared.fault.TreeFault.TheVariants.{WrongCount, NotTree}
-use Rattle.tl_tree.specs.Records.{Record, Records}
+use Rattle.tl_tree.specs.declared.record.Width.{Width}
+use Rattle.tl_tree.specs.declared.record.Width.TheVariants.{Wide, Narrow}
+use Rattle.tl_tree.specs.Records.{Record, Records, width_of, widened}
 use Rattle.tl_tree.specs.Shape.{shape_of}
 use Rattle.tl_tree.specs.Trees.{TreeValue, IsWhole}
 
@@ -27,23 +29,23 @@ integer_of d = option_and_then as_i64 (as_number d)
 abbrev pub integers_of : Data → Option (List ℤ)
 integers_of d = option_and_then (each_item integer_of) (as_array d)
 
-abbrev pub if_record : List ℤ → Option Record
-if_record fields = if length fields == field_count then Some fields else None
+abbrev pub if_record : Width → List ℤ → Option Record
+if_record width numbers = if length numbers == width_of width then Some (widened numbers) else None
 
--- a list of as many numbers as a record has fields
-abbrev pub record_of : Data → Option Record
-record_of d = option_and_then if_record (integers_of d)
+-- a list of as many numbers as the width says
+abbrev pub record_of : Width → Data → Option Record
+record_of width d = option_and_then (if_record width) (integers_of d)
 
-abbrev pub records_of : Data → Option Records
-records_of d = option_and_then (each_item record_of) (as_array d)
+abbrev pub records_of : Width → Data → Option Records
+records_of width d = option_and_then (each_item (record_of width)) (as_array d)
 
 -- the parents and the records of an object that has these two members and no others
 abbrev pub parts_of : Data → Option (Data × Data)
 parts_of d = option_and_then (λ ms. if members_len ms == 2 then both (get_member (codes "parents") ms) (get_member (codes "records") ms) else None) (as_object d)
 
--- what has a tree's form: integers for the parents, and records
-abbrev pub form_of : Data → Option (List ℤ × Records)
-form_of d = option_and_then (λ parts. both (integers_of parts.0) (records_of parts.1)) (parts_of d)
+-- what has a tree's form: integers for the parents, and records of one width
+abbrev pub form_at : Width → Data → Option (List ℤ × Records)
+form_at width d = option_and_then (λ parts. both (integers_of parts.0) (records_of width parts.1)) (parts_of d)
 
 abbrev pub tree_with : Records → Result (List ℕ) TreeFault → Result TreeValue TreeFault
 tree_with records (Err fault) = Err fault
@@ -53,9 +55,13 @@ abbrev pub tree_from : Option (List ℤ × Records) → Result TreeValue TreeFau
 tree_from None = Err NotTree
 tree_from (Some form) = tree_with form.1 (shape_of form.0)
 
--- the tree that a value stands for, or what is wrong first
+-- the tree that a value of records of one width stands for, or what is wrong first
+abbrev pub tree_at : Width → Data → Result TreeValue TreeFault
+tree_at width d = tree_from (form_at width d)
+
+-- the tree that a value stands for, or what is wrong first: all its records are wide, or all are narrow
 abbrev pub tree_of : Data → Result TreeValue TreeFault
-tree_of d = tree_from (form_of d)
+tree_of d = tree_from (option_or (form_at Wide d) (form_at Narrow d))
 
 abbrev pub tree_of_read : Option Data → Result TreeValue TreeFault
 tree_of_read None = Err NotTree
@@ -65,8 +71,8 @@ tree_of_read (Some d) = tree_of d
 abbrev pub tree_of_text : List ℕ → Result TreeValue TreeFault
 tree_of_text text = tree_of_read (read text)
 
--- The value is an object of two members, whose `parents` are the tree's and whose `records` are the tree's.
-pub record StandsFor (d : Data) (tree : TreeValue) : Type 0 where
+-- The value is an object of two members, whose `parents` are the tree's and whose `records` are the tree's, of that width.
+pub record StandsFor (width : Width) (d : Data) (tree : TreeValue) : Type 0 where
   pub members : Members
   pub parents_member : Data
   pub records_member : Data
@@ -75,5 +81,5 @@ pub record StandsFor (d : Data) (tree : TreeValue) : Type 0 where
   pub parents_found : get_member (codes "parents") members ≡ Some parents_member
   pub records_found : get_member (codes "records") members ≡ Some records_member
   pub parents_are : integers_of parents_member ≡ Some (map pos tree.parents)
-  pub records_are : records_of records_member ≡ Some tree.records
+  pub records_are : records_of width records_member ≡ Some tree.records
   pub whole : IsWhole tree

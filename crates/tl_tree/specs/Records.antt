@@ -1,5 +1,8 @@
 -- The records of a tree: one list of numbers a node. How many numbers, `field_count` says.
-use Rattle.std.specs.Prelude.{ℕ, List, [], get_or, slice_set, ℤ}
+use Rattle.std.specs.Prelude.{ℕ, ◌-◌, List, [], ◌++◌, length, replicate, get_or, slice_set, ℤ, pos}
+use Rattle.tl_fields.specs.Fields.{field_count, narrow_field_count}
+use Rattle.tl_tree.specs.declared.record.Width.{Width}
+use Rattle.tl_tree.specs.declared.record.Width.TheVariants.{Wide, Narrow}
 
 abbrev pub Record : Type 0
 Record = List ℤ
@@ -13,3 +16,12 @@ record_at records x = get_or records x []
 -- the records with this one at x, and all others as they were
 abbrev pub put_record : Records → ℕ → Record → Records
 put_record records x r = slice_set records x r
+
+-- how many numbers stand for a record in a text
+abbrev pub width_of : Width → ℕ
+width_of Wide = field_count
+width_of Narrow = narrow_field_count
+
+-- the record that so many numbers stand for: the fields behind them are 0
+abbrev pub widened : List ℤ → Record
+widened numbers = numbers ++ replicate (field_count - length numbers) (pos 0)

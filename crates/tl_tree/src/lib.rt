@@ -9,7 +9,7 @@ mod tree;
 mod value;
 
 pub use fault::TreeFault;
-pub use record::Record;
+pub use record::{Record, Width};
 pub use shape::{MAX_NODES, Shape};
 pub use text::{read_tree, write_tree};
 pub use tl_fields::FIELD_COUNT;

@@ -1,17 +1,31 @@
 // The text of a tree.
 
 ghost use Rattle.std.specs.Prelude.{◌≡◌, ◌≢◌, Err, Ok, IfOk, IfErr, string_bytes};
-ghost use Rattle.tl_tree.specs.Reading.{tree_of_text};
+ghost use Rattle.serde_json.specs.View.{view};
+ghost use Rattle.tl_tree.specs.Reading.{tree_of, tree_of_text};
 ghost use Rattle.tl_tree.specs.Writing.{tree_text};
 
 use crate::fault::TreeFault;
+use crate::record::Width;
 use crate::tree::Tree;
 use crate::value;
 use serde_json::Value;
 use std::alloc::Global;
 
+// The tree that a value is, whose records are all wide or all narrow.
+fn tree_of_value(alloc: Global, value: &Value) -> Result<Tree, TreeFault>
+    ensures ok { IfOk result (λ t. tree_of (view value.now) ≡ Ok t) }
+    ensures fault { IfErr result (λ e. e ≢ TreeFault.Memory → tree_of (view value.now) ≡ Err e) }
+{
+    match value::tree_from_value(alloc, Width::Wide, value) {
+        Err(TreeFault::NotTree) => value::tree_from_value(alloc, Width::Narrow, value),
+        answer => answer,
+    }
+}
+
 /// The tree that a text of JSON is: `{"parents":[..],"records":[record,..]}`, an object with these two members and no
-/// others. The parents are integers, and a record is a list of as many integers as a record has fields.
+/// others. The parents are integers, and a record is a list of eight integers. Where each record is a list of four, as
+/// in texts of the first version, its other fields are 0.
 ///
 /// What is wrong first: 106 for a text of another form, and then 101 to 105 in their order. 190 where memory is refused.
 pub fn read_tree(alloc: Global, text: &str) -> Result<Tree, TreeFault>
@@ -19,7 +33,7 @@ pub fn read_tree(alloc: Global, text: &str) -> Result<Tree, TreeFault>
     ensures fault { IfErr result (λ e. e ≢ TreeFault.Memory → tree_of_text text.now ≡ Err e) }
 {
     match Value::from_str(alloc, text) {
-        Ok(value) => value::tree_from_value(alloc, &value),
+        Ok(value) => tree_of_value(alloc, &value),
         Err(e) => if e.is_memory() {
             Err(TreeFault::Memory)
         } else {

@@ -4,12 +4,12 @@ ghost use Rattle.std.specs.Prelude.{◌≡◌, ◌≢◌, codes, map, option_map
 ghost use Rattle.std.specs.Int.{w64};
 ghost use Rattle.serde_json.specs.Data.{object, member, no_members};
 ghost use Rattle.serde_json.specs.View.{view, items_view};
-ghost use Rattle.tl_tree.specs.Reading.{each_item, integer_of, integers_of, if_record, record_of, records_of, parts_of, form_of, tree_of, StandsFor};
+ghost use Rattle.tl_tree.specs.Reading.{each_item, integer_of, integers_of, if_record, record_of, records_of, parts_of, form_at, tree_at, tree_of, StandsFor};
 ghost use Rattle.tl_tree.specs.Trees.{TreeValue, IsRecord};
 ghost use Rattle.tl_tree.specs.Writing.{integer_data, integers_data, records_data, tree_data};
 
 use crate::fault::TreeFault;
-use crate::record::Record;
+use crate::record::{Record, Width};
 use crate::shape::Shape;
 use crate::tree::Tree;
 use serde_json::{Value, json};
@@ -42,44 +42,53 @@ fn integers_from_items(alloc: Global, items: &[Value]) -> Result<Option<Vec<i64>
     Ok(Some(integers))
 }
 
-/// The record that a value is: a list of as many integers of 64 bits as a record has fields.
-pub fn record_from_value(value: &Value) -> Option<Record>
-    ensures { result ≡ record_of (view value.now) }
+/// The record that a value of that width is.
+pub fn record_from_value(width: Width, value: &Value) -> Option<Record>
+    ensures { result ≡ record_of width (view value.now) }
 {
-    record_from_items(value.as_array()?)
+    record_from_items(width, value.as_array()?)
 }
 
-fn record_from_items(items: &[Value]) -> Option<Record>
-    ensures { result ≡ option_and_then if_record (each_item integer_of (items_view items.now)) }
+fn record_from_items(width: Width, items: &[Value]) -> Option<Record>
+    ensures { result ≡ option_and_then (if_record width) (each_item integer_of (items_view items.now)) }
 {
-    if items.len() != FIELD_COUNT {
+    let count = width.count();
+    if items.len() != count {
         return None;
     }
     let mut fields = [0; FIELD_COUNT];
-    for i in 0..FIELD_COUNT {
+    for i in 0..count {
         fields[i] = items[i].as_i64()?;
     }
     Some(fields)
 }
 
-/// The records of a list of records, or `None` for another value.
-pub fn records_from_value(alloc: Global, value: &Value) -> Result<Option<Vec<Record>>, AllocError>
+/// The records of a list of records of that width, or `None` for another value.
+pub fn records_from_value(
+    alloc: Global,
+    width: Width,
+    value: &Value,
+) -> Result<Option<Vec<Record>>, AllocError>
     ensures { IfOk result (λ found. option_map (λ v. v.items) found
-        ≡ records_of (view value.now)) }
+        ≡ records_of width (view value.now)) }
 {
     match value.as_array() {
-        Some(items) => records_from_items(alloc, items),
+        Some(items) => records_from_items(alloc, width, items),
         None => Ok(None),
     }
 }
 
-fn records_from_items(alloc: Global, items: &[Value]) -> Result<Option<Vec<Record>>, AllocError>
+fn records_from_items(
+    alloc: Global,
+    width: Width,
+    items: &[Value],
+) -> Result<Option<Vec<Record>>, AllocError>
     ensures { IfOk result (λ found. option_map (λ v. v.items) found
-        ≡ each_item record_of (items_view items.now)) }
+        ≡ each_item (record_of width) (items_view items.now)) }
 {
     let mut records = Vec::with_capacity(alloc, items.len())?;
     for item in items {
-        let Some(record) = record_from_value(item) else {
+        let Some(record) = record_from_value(width, item) else {
             return Ok(None);
         };
         records.push(record)?;
@@ -87,41 +96,43 @@ fn records_from_items(alloc: Global, items: &[Value]) -> Result<Option<Vec<Recor
     Ok(Some(records))
 }
 
-/// The tree that a value is: an object with the members `parents` and `records` and no others.
+/// The tree that a value is, whose records have that width: an object with the members `parents` and `records` and no
+/// others.
 ///
-/// What is wrong first: 106 where the members are no list of integers and list of records, and then 101 to 105 in
+/// What is wrong first: 106 where the members are no list of integers and list of such records, and then 101 to 105 in
 /// their order. 190 where memory is refused.
-pub fn tree_from_value(alloc: Global, value: &Value) -> Result<Tree, TreeFault>
-    ensures ok { IfOk result (λ t. tree_of (view value.now) ≡ Ok t) }
-    ensures fault { IfErr result (λ e. e ≢ TreeFault.Memory → tree_of (view value.now) ≡ Err e) }
+pub fn tree_from_value(alloc: Global, width: Width, value: &Value) -> Result<Tree, TreeFault>
+    ensures ok { IfOk result (λ t. tree_at width (view value.now) ≡ Ok t) }
+    ensures fault { IfErr result (λ e. e ≢ TreeFault.Memory → tree_at width (view value.now) ≡ Err e) }
 
     // What is read stands for the tree, and what stands for a tree is read.
-    ensures stands { IfOk result (λ t. StandsFor (view value.now) t) }
-    ensures taken { (t : TreeValue) → StandsFor (view value.now) t
+    ensures stands { IfOk result (λ t. StandsFor width (view value.now) t) }
+    ensures taken { (t : TreeValue) → StandsFor width (view value.now) t
         → MatchResult result (λ r. r ≡ t) (λ e. e ≡ TreeFault.Memory) }
 {
-    checked_tree(alloc, value)
+    checked_tree(alloc, width, value)
 }
 
 // The same, said by the definition alone.
-fn checked_tree(alloc: Global, value: &Value) -> Result<Tree, TreeFault>
-    ensures ok { IfOk result (λ t. tree_of (view value.now) ≡ Ok t) }
-    ensures fault { IfErr result (λ e. e ≢ TreeFault.Memory → tree_of (view value.now) ≡ Err e) }
+fn checked_tree(alloc: Global, width: Width, value: &Value) -> Result<Tree, TreeFault>
+    ensures ok { IfOk result (λ t. tree_at width (view value.now) ≡ Ok t) }
+    ensures fault { IfErr result (λ e. e ≢ TreeFault.Memory → tree_at width (view value.now) ≡ Err e) }
 {
-    let Some((parents, records)) = form_from_value(alloc, value)? else {
+    let Some((parents, records)) = form_from_value(alloc, width, value)? else {
         return Err(TreeFault::NotTree);
     };
     let shape = Shape::new(alloc, &parents)?;
     Tree::new(Arc::new(alloc, shape)?, records)
 }
 
-// The parents and the records, where the value has a tree's form.
+// The parents and the records, where the value has a tree's form with records of that width.
 fn form_from_value(
     alloc: Global,
+    width: Width,
     value: &Value,
 ) -> Result<Option<(Vec<i64>, Vec<Record>)>, AllocError>
     ensures { IfOk result (λ found. option_map (λ form. (form.0.items, form.1.items)) found
-        ≡ form_of (view value.now)) }
+        ≡ form_at width (view value.now)) }
 {
     let Some((parents, records)) = parts_of_value(value) else {
         return Ok(None);
@@ -129,7 +140,7 @@ fn form_from_value(
     let Some(parents) = integers_from_value(alloc, parents)? else {
         return Ok(None);
     };
-    let Some(records) = records_from_value(alloc, records)? else {
+    let Some(records) = records_from_value(alloc, width, records)? else {
         return Ok(None);
     };
     Ok(Some((parents, records)))
@@ -188,7 +199,7 @@ pub fn records_to_value(alloc: Global, records: &[Record]) -> Result<Value, Allo
 /// The object that stands for a tree: its members `parents` and `records`.
 pub fn tree_to_value(alloc: Global, tree: &Tree) -> Result<Value, AllocError>
     ensures value { IfOk result (λ v. view v ≡ tree_data tree.now) }
-    ensures reads_back { IfOk result (λ v. tree_of (view v) ≡ Ok tree.now) }
+    ensures reads_back { IfOk result (λ v. tree_at Width.Wide (view v) ≡ Ok tree.now) }
 {
     let parents = shape_to_value(alloc, tree.shape())?;
     let records = records_to_value(alloc, tree.records())?;

@@ -22,7 +22,7 @@ pub(crate) fn engine_of(
     Ok(engine)
 }
 
-fn register_all(
+pub(crate) fn register_all(
     rt: &impl Wait,
     alloc: Global,
     engine: &Engine,
@@ -54,6 +54,20 @@ fn closed(alloc: Global, engine: Engine, sessions: Vec<Session>) -> Result<Ended
         Ok((closed, sessions)) => Ended::of(alloc, closed, sessions),
         Err(_) => Err("not closed".into()),
     }
+}
+
+// Ends an engine with this session alone.
+pub(crate) fn end_with<U, E: FnOnce(Engine, Vec<Session>) -> U>(
+    alloc: Global,
+    engine: Engine,
+    session: Session,
+    end: E,
+) -> Result<U, Fail>
+    requires { E.IsAlwaysCallable end }
+{
+    let mut sessions = Vec::new(alloc);
+    sessions.push(session)?;
+    Ok(end(engine, sessions))
 }
 
 /// Lends an engine on the tree of a text, with procedures, and so many sessions to `body`. Then it closes the engine with these

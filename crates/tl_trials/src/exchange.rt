@@ -1,6 +1,6 @@
 // Engines that are to be closed with sessions of another one.
 
-use crate::engine::engine_of;
+use crate::engine::{end_with, engine_of};
 use std::alloc::Global;
 use std::sync::Wait;
 use std::test::Fail;
@@ -15,20 +15,6 @@ fn left_open(alloc: Global, engine: Engine, session: Session) -> Result<Table, F
         Ok(_) => Err("closed with another engine's session".into()),
         Err((table, _)) => Ok(table),
     }
-}
-
-// Ends an engine with this session alone.
-fn end_with<U, E: FnOnce(Engine, Vec<Session>) -> U>(
-    alloc: Global,
-    engine: Engine,
-    session: Session,
-    end: E,
-) -> Result<U, Fail>
-    requires { E.IsAlwaysCallable end }
-{
-    let mut sessions = Vec::new(alloc);
-    sessions.push(session)?;
-    Ok(end(engine, sessions))
 }
 
 /// Lends two engines on the tree of a text, with procedures and a session each, to `body`. Then each engine is to be closed with the

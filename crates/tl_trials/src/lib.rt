@@ -11,6 +11,7 @@ mod asking;
 mod ended;
 mod engine;
 mod exchange;
+mod opened;
 mod ready;
 mod table;
 
@@ -18,5 +19,6 @@ pub use asking::{Answers, Asked, batch, done};
 pub use ended::Ended;
 pub use engine::{use_up_sessions, with_callers, with_engine, with_engine_on_threads};
 pub use exchange::{end_exchanged, with_exchanged_sessions};
+pub use opened::end_opened;
 pub use ready::with_ready;
 pub use table::{receipt_of, with_table};

@@ -4,7 +4,7 @@ use Rattle.std.specs.Prelude.{slice_get, get_or, slice_set}
 use Rattle.tl_instr.specs.declared.instr.Instr.{Instr}
 use Rattle.tl_instr.specs.declared.instr.Instr.TheVariants.{First, Child, Move, Release}
 use Rattle.tl_verify.specs.declared.marks.Marks.{Marks}
-use Rattle.tl_verify.specs.Marks.{entry, is_held, after, Leads, to_next, to_target, to_body}
+use Rattle.tl_verify.specs.Marks.{entry, is_held, after, Leads, to_next, to_aside, to_body}
 use Rattle.tl_verify.specs.Ways.{Way, start, onward}
 use Rattle.tl_verify.specs.Acceptable.{Fits}
 
@@ -34,8 +34,8 @@ along : (code : List Instr) (list : List (Option Marks)) → Fits code list → 
 along code list fits p q m k i at before (to_next goes there is) =
     let a = fits.arrives p i before.marks at before.there q (after i before.marks) (to_next goes there refl) in
     rw is (record { marks = a.marks; there = a.there; held = a.held ∙ held-after i before.marks m before.held; is_open = λ e. open-after i before.marks m before.is_open (a.is_open e) })
-along code list fits p q m k i at before (to_target there is) =
-    let a = fits.arrives p i before.marks at before.there q before.marks (to_target there refl) in
+along code list fits p q m k i at before (to_aside there is) =
+    let a = fits.arrives p i before.marks at before.there q before.marks (to_aside there refl) in
     rw is (record { marks = a.marks; there = a.there; held = a.held ∙ before.held; is_open = λ e. before.is_open (a.is_open e) })
 along code list fits p q m k i at before (to_body o l opens ends there is) =
     let a = fits.arrives p i before.marks at before.there q before.marks (to_body o l opens ends there refl) in

@@ -10,6 +10,8 @@ use Rattle.tl_budget.specs.Nested.{IsNested, IsNest, place_at}
 use Rattle.tl_budget.specs.declared.nested.Place.{Place}
 use Rattle.tl_verify.specs.Findings.{Finding, OfLoops, TargetBack, TargetPastEnd, TargetInLoop, Arises, Precedes, IsFirstFault, fault_of, pass, position, rank}
 use Rattle.tl_verify.specs.Known.{Ahead, AheadTo}
+use Rattle.tl_verify.specs.Marks.{aside}
+use Rattle.tl_verify.proofs.Asides.{target_or_behind, end_after}
 use Rattle.tl_verify.proofs.LoopBodies.{EntersNone, innermost_around, others_before, none_around}
 use Rattle.tl_budget.proofs.AroundLemmas.{nothing_found as loops_nothing_found}
 use Rattle.tl_verify.proofs.LoopFindings.{loops_first}
@@ -141,6 +143,11 @@ module _ (code : List Instr) (ahead : Ahead code) where
         by : (b : Bool) → nat_le (length code) l ≡ b → l < length code
         by true e = absurd (ahead.none (TargetPastEnd p) (omega arith) (i, l, at, is, leb-true (length code) l e))
         by false e = leb-false (length code) l e
+
+  -- what is aside is ahead
+  pub aside_ahead : (p l : ℕ) (i : Instr) → slice_get code p ≡ Some i → aside code p i ≡ Some l → p < l
+  aside_ahead p l i at is =
+      ⊎_elim (λ jumps. target_ahead p l i at jumps) (λ leaves. let e = leaves.0 in let h = end_after code p in omega arith) (target_or_behind code p l i is)
 
   pub enters_none : EntersNone code
   enters_none p l i at is o k inside = by (nat_le p o) refl

@@ -4,17 +4,16 @@ use Rattle.std.specs.Prelude.{slice_get, get_or, cond}
 use Rattle.std.proofs.lemmas.List.{length-set}
 use Rattle.tl_instr.specs.declared.instr.Instr.{Instr}
 use Rattle.tl_instr.specs.declared.instr.Instr.TheVariants.{First, Child, Move, Release}
-use Rattle.tl_instr.specs.Instructions.{target}
 use Rattle.tl_verify.specs.declared.marks.Marks.{Marks}
 use Rattle.tl_verify.specs.declared.arrivals.Arrivals.{Arrivals}
-use Rattle.tl_verify.specs.Marks.{after, Leads, to_next, to_target, to_body, goes_on}
+use Rattle.tl_verify.specs.Marks.{after, Leads, to_next, to_aside, to_body, goes_on, aside}
 use Rattle.tl_verify.specs.Ways.{Way}
 use Rattle.tl_verify.specs.Known.{Comes, begins, steps, Gathers, Collects, Known, Ahead, Arrived, PassesOn}
 use Rattle.tl_verify.proofs.LoopBodies.{reach}
 use Rattle.tl_verify.proofs.ArrivingStates.{comes_way, way_comes}
 use Rattle.tl_verify.proofs.FitLemmas.{held-after}
 use Rattle.tl_verify.proofs.ArrivalsLemmas.{IsClass, collects_same, joins, joins_none}
-use Rattle.tl_verify.proofs.JumpsLemmas.{target_ahead}
+use Rattle.tl_verify.proofs.JumpsLemmas.{aside_ahead}
 
 -- behind an instruction first is spent for all, or as it was
 pub is_open-after : (i : Instr) → ((m : Marks) → (after i m).is_open ≡ false) ⊎ ((m : Marks) → (after i m).is_open ≡ m.is_open)
@@ -29,9 +28,9 @@ module _ (code : List Instr) (b : ℕ) (i : Instr) (at : slice_get code b ≡ So
   Next : ℕ → Marks → Type 0
   Next q k = (m : Marks) × Way code b m × (goes_on i ≡ true) × (q ≡ b + 1) × (k ≡ after i m)
 
-  -- the states that go to the target
+  -- the states that go aside
   Aside : ℕ → Marks → Type 0
-  Aside q k = (m : Marks) × Way code b m × (target i ≡ Some q) × (k ≡ m) × (b < q)
+  Aside q k = (m : Marks) × Way code b m × (aside code b i ≡ Some q) × (k ≡ m) × (b < q)
 
   further : (q : ℕ) (k : Marks) → Comes code (b + 1) q k → (Comes code b q k ⊎ Next q k) ⊎ Aside q k
   unfolding Next Aside
@@ -55,7 +54,7 @@ module _ (code : List Instr) (b : ℕ) (i : Instr) (at : slice_get code b ≡ So
 
               by : Leads code j p m q k → (Comes code b q k ⊎ Next q k) ⊎ Aside q k
               by (to_next goes is got) = inl (inr (m, way', ap goes_on (sym same) ∙ goes, is ∙ ap (λ r. r + 1) e, got ∙ ap (λ x. after x m) same))
-              by (to_target is got) = inr (m, way', ap target (sym same) ∙ is, got, omega arith)
+              by (to_aside is got) = inr (m, way', ap (aside code b) (sym same) ∙ ap (λ r. aside code r j) (sym e) ∙ is, got, omega arith)
               by (to_body o l opens ends is got) = let h = (reach code o l opens).1 in absurd (omega arith)
 
   back : (q : ℕ) (k : Marks) → (Comes code b q k ⊎ Next q k) ⊎ Aside q k → Comes code (b + 1) q k
@@ -63,7 +62,7 @@ module _ (code : List Instr) (b : ℕ) (i : Instr) (at : slice_get code b ≡ So
   back q k (inl (inl (begins e f))) = begins e f
   back q k (inl (inl (steps p m j lt way there leads less))) = steps p m j (omega arith) way there leads less
   back q k (inl (inr (m, way, goes, is, got))) = steps b m i (omega arith) way at (to_next goes is got) (omega arith)
-  back q k (inr (m, way, is, got, less)) = steps b m i (omega arith) way at (to_target is got) less
+  back q k (inr (m, way, is, got, less)) = steps b m i (omega arith) way at (to_aside is got) less
 
   module _ (a : Arrivals) (gathers : Gathers (Way code b) a) (alike : a.differ ≡ false) where
     next_class : goes_on i ≡ true → IsClass (Next (b + 1)) (after i a.marks)
@@ -83,7 +82,7 @@ module _ (code : List Instr) (b : ℕ) (i : Instr) (at : slice_get code b ≡ So
         closed (inl f) e = let x = gathers.some in (after i x.0, (x.0, x.1, goes, refl, refl), f x.0)
         closed (inr f) e = let x = gathers.spent (sym (f a.marks) ∙ e) in (after i x.0, (x.0, x.1, goes, refl, refl), f x.0 ∙ x.2)
 
-    aside_class : (l : ℕ) → target i ≡ Some l → b < l → IsClass (Aside l) a.marks
+    aside_class : (l : ℕ) → aside code b i ≡ Some l → b < l → IsClass (Aside l) a.marks
     unfolding Aside
     aside_class l is less = record {
       some = let x = gathers.some in (x.0, (x.0, x.1, is, refl, less), x.2);
@@ -102,11 +101,11 @@ pub here : (code : List Instr) (b : ℕ) (states : List (Option Arrivals)) → K
 here code b states known lt o is = up_to_here code b b states known (omega arith) lt o is
 
 -- one position further, where a state was remembered
-pub known_next : (code : List Instr) (b : ℕ) (i : Instr) (a : Arrivals) (old new : List (Option Arrivals)) → slice_get code b ≡ Some i → b < length code → Ahead code → Known code b old → get_or old b None ≡ Some a → a.differ ≡ false → PassesOn i b a.marks old new → Known code (b + 1) new
+pub known_next : (code : List Instr) (b : ℕ) (i : Instr) (a : Arrivals) (old new : List (Option Arrivals)) → slice_get code b ≡ Some i → b < length code → Ahead code → Known code b old → get_or old b None ≡ Some a → a.differ ≡ false → PassesOn i (aside code b i) b a.marks old new → Known code (b + 1) new
 unfolding Next Aside
 known_next code b i a old new at lt ahead known is alike passes = record {
-  long = second_long (target i) passes.aside ∙ first_long (goes_on i) passes.next ∙ known.long;
-  each = λ q inside. collects_same (λ k. (Comes code b q k ⊎ Next code b i at q k) ⊎ Aside code b i at q k) (Comes code (b + 1) q) (get_or new q None) (back code b i at q) (further code b i at q) (second (target i) refl passes.aside q inside);
+  long = second_long (aside code b i) passes.aside ∙ first_long (goes_on i) passes.next ∙ known.long;
+  each = λ q inside. collects_same (λ k. (Comes code b q k ⊎ Next code b i at q k) ⊎ Aside code b i at q k) (Comes code (b + 1) q) (get_or new q None) (back code b i at q) (further code b i at q) (second (aside code b i) refl passes.aside q inside);
 }
   where
     n : ℕ
@@ -127,12 +126,12 @@ known_next code b i a old new at lt ahead known is alike passes = record {
     first false g e = rw e (joins_none n (Comes code b) (Next code b i at) old (λ q k t. let h : true ≡ false = sym t.2 ∙ g in cc) known.each)
     first true g e = rw e.2 (joins n (Comes code b) (Next code b i at) (b + 1) (after i a.marks) old e.0 e.1 (λ q k t. t.3) (next_class code b i at a gathers alike g) e.3 known.each)
 
-    second : (t : Option ℕ) → target i ≡ t → Arrived t a.marks passes.middle new → (q : ℕ) → q < n → Collects (λ k. (Comes code b q k ⊎ Next code b i at q k) ⊎ Aside code b i at q k) (get_or new q None)
+    second : (t : Option ℕ) → aside code b i ≡ t → Arrived t a.marks passes.middle new → (q : ℕ) → q < n → Collects (λ k. (Comes code b q k ⊎ Next code b i at q k) ⊎ Aside code b i at q k) (get_or new q None)
     second None g e = rw e (joins_none n (λ q k. Comes code b q k ⊎ Next code b i at q k) (Aside code b i at) passes.middle (λ q k t. let h : Some q ≡ None = sym t.2 ∙ g in cc) (first (goes_on i) refl passes.next))
     second (Some l) g e =
         rw e.2 (joins n (λ q k. Comes code b q k ⊎ Next code b i at q k) (Aside code b i at) l a.marks passes.middle e.0 e.1
         (λ q k t. let h : Some l ≡ Some q = sym g ∙ t.2 in cc)
-        (aside_class code b i at a gathers alike l g (target_ahead code ahead b l i at g)) e.3 (first (goes_on i) refl passes.next))
+        (aside_class code b i at a gathers alike l g (aside_ahead code ahead b l i at g)) e.3 (first (goes_on i) refl passes.next))
 
 -- one position further, where none was
 pub known_skip : (code : List Instr) (b : ℕ) (i : Instr) (states : List (Option Arrivals)) → slice_get code b ≡ Some i → b < length code → Known code b states → get_or states b None ≡ None → Known code (b + 1) states

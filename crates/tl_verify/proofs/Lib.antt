@@ -2,6 +2,7 @@ pub mod ProcedureLemmas
 pub mod Rows
 pub mod MarksLemmas
 pub mod RegisterSetLemmas
+pub mod Asides
 pub mod LoopBodies
 pub mod ArrivingStates
 pub mod FirstFaults

@@ -6,8 +6,9 @@ use Rattle.tl_instr.specs.declared.instr.Instr.{Instr}
 use Rattle.tl_instr.specs.Instructions.{target}
 use Rattle.tl_budget.specs.Loops.{Kind, Opens, Closes, Returns, Acts, kind_at, closing, Loop, loop_at, loop_by, with_loop, around_from, IsAround}
 use Rattle.tl_verify.specs.declared.marks.Marks.{Marks}
-use Rattle.tl_verify.specs.Marks.{Leads, to_next, to_target, to_body}
+use Rattle.tl_verify.specs.Marks.{Leads, to_next, to_aside, to_body}
 use Rattle.tl_verify.specs.Ways.{Way, start, onward}
+use Rattle.tl_verify.proofs.Asides.{target_or_behind, behind_leaves}
 
 -- a loop opens at its position, before its end
 pub reach : (code : List Instr) (o : ℕ) (l : Loop) → loop_at code o ≡ Some l → (l.opening ≡ o) × (o < l.close)
@@ -37,9 +38,11 @@ module _ (code : List Instr) (enters_none : EntersNone code) (o : ℕ) (l : Loop
   -- a step to a position of the body behind the first comes from the body
   pub from_body : (p q : ℕ) (m k : Marks) (i : Instr) → slice_get code p ≡ Some i → Leads code i p m q k → p < q → o + 1 < q → q ≤ l.close → o < p
   from_body p q m k i at (to_next goes is got) less behind le = omega arith
-  from_body p q m k i at (to_target is got) less behind le =
-      let h = (enters_none p q i at is o l (record { there = there; after = omega arith; before = le })).after in
-      h
+  from_body p q m k i at (to_aside is got) less behind le =
+      ⊎_elim
+      (λ jumps. (enters_none p q i at jumps o l (record { there = there; after = omega arith; before = le })).after)
+      (λ leaves. let e = leaves.0 in behind_leaves code p o l (omega arith) (record { there = there; after = omega arith; before = omega arith }))
+      (target_or_behind code p q i is)
   from_body p q m k i at (to_body o' l' there' ends is got) less behind le = let h = (reach code o' l' there').1 in absurd (omega arith)
 
   pub first_or_behind : (q : ℕ) → o < q → (q ≡ o + 1) ⊎ (o + 1 < q)

@@ -4,7 +4,7 @@ use Rattle.std.specs.Prelude.{slice_get, get_or, nat_le, ◌≢◌}
 use Rattle.std.proofs.lemmas.Bool.{leb-true, leb-false}
 use Rattle.std.proofs.lemmas.Option.{slice_get_within, slice_get-get_or}
 use Rattle.tl_instr.specs.declared.instr.Instr.{Instr}
-use Rattle.tl_instr.specs.declared.instr.Instr.TheVariants.{Repeat, End, Return}
+use Rattle.tl_instr.specs.declared.instr.Instr.TheVariants.{Repeat, RepeatBy, End, Return}
 use Rattle.tl_budget.specs.Loops.{Closes, kind, Loop, loop_at}
 use Rattle.tl_budget.specs.Nested.{IsNest, place_at}
 use Rattle.tl_budget.specs.declared.nested.Place.{Place}
@@ -26,6 +26,7 @@ ends_closes i e = cc
 closes_ends : (i : Instr) → kind i ≡ Closes → is_end i ≡ true
 closes_ends End e = refl
 closes_ends (Repeat w) e = cc
+closes_ends (RepeatBy turns w) e = cc
 closes_ends Return e = cc
 closes_ends i e = cc
 

@@ -5,10 +5,11 @@ use Rattle.tl_instr.specs.declared.instr.Instr.{Instr}
 use Rattle.tl_instr.specs.declared.instr.Instr.TheVariants.{First, Child, Move, Release}
 use Rattle.tl_budget.specs.Loops.{Loop, loop_at}
 use Rattle.tl_verify.specs.declared.marks.Marks.{Marks}
-use Rattle.tl_verify.specs.Marks.{after, is_first, Leads, to_next, to_target, to_body}
+use Rattle.tl_verify.specs.Marks.{after, is_first, furthest, Leads, to_next, to_aside, to_body}
 use Rattle.tl_verify.specs.Ways.{Way, start, onward}
 use Rattle.tl_verify.specs.Acceptable.{Fits, Arrives, HasFit, Acceptable}
 use Rattle.tl_verify.specs.Findings.{Finding, OfLoops, TargetBack, TargetPastEnd, TargetInLoop, Joined, Spent, Missing, Taken, LeftHeld, Changed, NextPastEnd, Steps, Locks, Emits, Arises, Changes, pass}
+use Rattle.tl_verify.proofs.Asides.{furthest_goes}
 use Rattle.tl_verify.proofs.LoopBodies.{EntersNone, reach, from_body, first_or_behind}
 use Rattle.tl_verify.proofs.FitLemmas.{Agrees, agrees, same_held}
 use Rattle.tl_budget.proofs.AroundLemmas.{nothing_found as loops_nothing_found}
@@ -54,8 +55,8 @@ module _ (code : List Instr) (enters_none : EntersNone code) (list : List (Optio
             is_open = ap (λ (x : Marks). x.is_open) got ∙ open_unless_first i m not_first ∙ u.is_open;
             of_list = λ b is. same c.marks b c.there is (λ e. let w = was in let h = sym (open_unless_first i a.marks not_first) ∙ c.is_open e in cc);
           }
-      by (to_target is got) =
-          let c = fits.arrives p i a.marks at a.there q a.marks (to_target is refl) in
+      by (to_aside is got) =
+          let c = fits.arrives p i a.marks at a.there q a.marks (to_aside is refl) in
           record {
             is_open = ap (λ (x : Marks). x.is_open) got ∙ u.is_open;
             of_list = λ b is. same c.marks b c.there is (λ e. let w = was in let h = c.is_open e in cc);
@@ -139,9 +140,16 @@ fit_finds_nothing code enters_none fit (LeftHeld p n) e (i, m, x, returns, full,
 fit_finds_nothing code enters_none fit (Changed p) e (i, m, o, l, x, there, ends, changes) = no_change code enters_none fit.list fit.fits p i m o l x.at x.way there ends changes
 fit_finds_nothing code enters_none fit (NextPastEnd p) e (i, m, x, goes, past) =
     let a = agrees code fit.list fit.fits p m x.way in
+    ⊎_elim
+    (λ near.
     let b = fit.fits.arrives p i a.marks x.at a.there (p + 1) (after i a.marks) (to_next goes refl refl) in
     let h = b.inside in
-    absurd (omega arith)
+    absurd (omega arith))
+    (λ far.
+    let b = fit.fits.arrives p i a.marks x.at a.there (furthest code p i + 1) a.marks (to_aside far refl) in
+    let h = b.inside in
+    absurd (omega arith))
+    (furthest_goes code p i)
 fit_finds_nothing code enters_none fit Steps e a = absurd (omega arith)
 fit_finds_nothing code enters_none fit Locks e a = absurd (omega arith)
 fit_finds_nothing code enters_none fit Emits e a = absurd (omega arith)

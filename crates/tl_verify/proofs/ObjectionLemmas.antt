@@ -5,7 +5,7 @@ use Rattle.std.proofs.lemmas.Bool.{leb-true, leb-false}
 use Rattle.tl_instr.specs.declared.instr.Instr.{Instr}
 use Rattle.tl_verify.specs.declared.marks.Marks.{Marks}
 use Rattle.tl_verify.specs.declared.arrivals.Arrivals.{Arrivals}
-use Rattle.tl_verify.specs.Marks.{is_held, source, destination, is_first, is_return, goes_on}
+use Rattle.tl_verify.specs.Marks.{is_held, source, destination, is_first, is_return, goes_on, furthest}
 use Rattle.tl_verify.specs.Ways.{Way}
 use Rattle.tl_verify.specs.Findings.{Finding, OfLoops, TargetBack, TargetPastEnd, TargetInLoop, Joined, Spent, Missing, Taken, LeftHeld, Changed, NextPastEnd, Steps, Locks, Emits, Arises, Meets, pass, position, rank}
 use Rattle.tl_verify.specs.Known.{Gathers, IsFirstAt}
@@ -115,12 +115,12 @@ module _ (code : List Instr) (p : ℕ) (i : Instr) (at : slice_get code p ≡ So
       let held : is_held a.marks n ≡ true = held_as alike m x.way n ∙ full in
       cc
 
-  clear_next : (goes_on i && nat_le (length code) (p + 1)) ≡ false → Arises code (NextPastEnd p) → ⊥
-  clear_next e (j, m, x, goes, past) = both_true (goes_on i) (nat_le (length code) (p + 1)) e (ap goes_on (sym (same_instr j m x)) ∙ goes) (at_most (nat_le (length code) (p + 1)) refl)
+  clear_next : (goes_on i && nat_le (length code) (furthest code p i + 1)) ≡ false → Arises code (NextPastEnd p) → ⊥
+  clear_next e (j, m, x, goes, past) = both_true (goes_on i) (nat_le (length code) (furthest code p i + 1)) e (ap goes_on (sym (same_instr j m x)) ∙ goes) (at_most (nat_le (length code) (furthest code p i + 1)) refl)
     where
-      at_most : (b : Bool) → nat_le (length code) (p + 1) ≡ b → nat_le (length code) (p + 1) ≡ true
+      at_most : (b : Bool) → nat_le (length code) (furthest code p i + 1) ≡ b → nat_le (length code) (furthest code p i + 1) ≡ true
       at_most true f = f
-      at_most false f = let h = leb-false (length code) (p + 1) f in absurd (omega arith)
+      at_most false f = let h = leb-false (length code) (furthest code p i + 1) f in let same = ap (furthest code p) (same_instr j m x) in absurd (omega arith)
 
   -- ---- the tests that passed so far
 
@@ -131,7 +131,7 @@ module _ (code : List Instr) (p : ℕ) (i : Instr) (at : slice_get code p ≡ So
     pub taken_none : 3 < r → taken p a.marks (destination i) ≡ None
     pub left_held_none' : 4 < r → left_held p (is_return i) (first_held a.marks.held 0) ≡ None
     pub same : 5 < r → changed ≡ false
-    pub next : 6 < r → (goes_on i && nat_le (length code) (p + 1)) ≡ false
+    pub next : 6 < r → (goes_on i && nat_le (length code) (furthest code p i + 1)) ≡ false
 
   below : (r : ℕ) → Passed r → (g : Finding) → pass g ≡ 3 → position g ≡ p → rank g < r → Arises code g → ⊥
   below r t (OfLoops q) e f lt x = let h = loops_first q in absurd (omega arith)
@@ -214,11 +214,11 @@ module _ (code : List Instr) (p : ℕ) (i : Instr) (at : slice_get code p ≡ So
   found_changed : Passed 5 → changed ≡ true → IsFirstAt code p (Changed p)
   found_changed t e = record { arises = changes e; pass_is = refl; position_is = refl; first = below 5 t }
 
-  found_next : Passed 6 → (goes_on i && nat_le (length code) (p + 1)) ≡ true → IsFirstAt code p (NextPastEnd p)
+  found_next : Passed 6 → (goes_on i && nat_le (length code) (furthest code p i + 1)) ≡ true → IsFirstAt code p (NextPastEnd p)
   found_next t e =
-      let both = and_true (goes_on i) (nat_le (length code) (p + 1)) e in
+      let both = and_true (goes_on i) (nat_le (length code) (furthest code p i + 1)) e in
       record {
-        arises = (i, some_way.0, meets, both.0, leb-true (length code) (p + 1) both.1);
+        arises = (i, some_way.0, meets, both.0, leb-true (length code) (furthest code p i + 1) both.1);
         pass_is = refl;
         position_is = refl;
         first = below 6 t;
@@ -228,7 +228,7 @@ module _ (code : List Instr) (p : ℕ) (i : Instr) (at : slice_get code p ≡ So
 
   chain : (d s c n : Bool) (m t l : Option Finding)
       → a.differ ≡ d → (is_first i && not a.marks.is_open) ≡ s → missing p a.marks (source i) ≡ m → taken p a.marks (destination i) ≡ t
-      → left_held p (is_return i) (first_held a.marks.held 0) ≡ l → changed ≡ c → (goes_on i && nat_le (length code) (p + 1)) ≡ n
+      → left_held p (is_return i) (first_held a.marks.held 0) ≡ l → changed ≡ c → (goes_on i && nat_le (length code) (furthest code p i + 1)) ≡ n
       → (f : Finding) → or_else (when d (Joined p)) (or_else (when s (Spent p)) (or_else m (or_else t (or_else l (or_else (when c (Changed p)) (when n (NextPastEnd p))))))) ≡ Some f → IsFirstAt code p f
   chain true s c n m t l e0 e1 e2 e3 e4 e5 e6 f e = let same : Joined p ≡ f = cc in subst (IsFirstAt code p) same (found_joined e0)
   chain false true c n m t l e0 e1 e2 e3 e4 e5 e6 f e =
@@ -252,13 +252,13 @@ module _ (code : List Instr) (p : ℕ) (i : Instr) (at : slice_get code p ≡ So
   chain false false false false None None None e0 e1 e2 e3 e4 e5 e6 f e = cc
 
   -- what is found arises, and nothing does before it at the position
-  pub finds : (f : Finding) → objection (length code) p i a changed ≡ Some f → IsFirstAt code p f
+  pub finds : (f : Finding) → objection (length code) (furthest code p i) p i a changed ≡ Some f → IsFirstAt code p f
   unfolding objection
-  finds f e = chain a.differ (is_first i && not a.marks.is_open) changed (goes_on i && nat_le (length code) (p + 1)) (missing p a.marks (source i)) (taken p a.marks (destination i)) (left_held p (is_return i) (first_held a.marks.held 0)) refl refl refl refl refl refl refl f e
+  finds f e = chain a.differ (is_first i && not a.marks.is_open) changed (goes_on i && nat_le (length code) (furthest code p i + 1)) (missing p a.marks (source i)) (taken p a.marks (destination i)) (left_held p (is_return i) (first_held a.marks.held 0)) refl refl refl refl refl refl refl f e
 
   all_passed : (d s c n : Bool) (m t l : Option Finding)
       → a.differ ≡ d → (is_first i && not a.marks.is_open) ≡ s → missing p a.marks (source i) ≡ m → taken p a.marks (destination i) ≡ t
-      → left_held p (is_return i) (first_held a.marks.held 0) ≡ l → changed ≡ c → (goes_on i && nat_le (length code) (p + 1)) ≡ n
+      → left_held p (is_return i) (first_held a.marks.held 0) ≡ l → changed ≡ c → (goes_on i && nat_le (length code) (furthest code p i + 1)) ≡ n
       → or_else (when d (Joined p)) (or_else (when s (Spent p)) (or_else m (or_else t (or_else l (or_else (when c (Changed p)) (when n (NextPastEnd p))))))) ≡ None → Passed 7
   all_passed true s c n m t l e0 e1 e2 e3 e4 e5 e6 e = cc
   all_passed false true c n m t l e0 e1 e2 e3 e4 e5 e6 e = cc
@@ -269,12 +269,12 @@ module _ (code : List Instr) (p : ℕ) (i : Instr) (at : slice_get code p ≡ So
   all_passed false false false true None None None e0 e1 e2 e3 e4 e5 e6 e = cc
   all_passed false false false false None None None e0 e1 e2 e3 e4 e5 e6 e = record { joined = λ lt. e0; spent = λ lt. e1; missing_none = λ lt. e2; taken_none = λ lt. e3; left_held_none' = λ lt. e4; same = λ lt. e5; next = λ lt. e6 }
 
-  pub passed : objection (length code) p i a changed ≡ None → Passed 7
+  pub passed : objection (length code) (furthest code p i) p i a changed ≡ None → Passed 7
   unfolding objection
-  passed e = all_passed a.differ (is_first i && not a.marks.is_open) changed (goes_on i && nat_le (length code) (p + 1)) (missing p a.marks (source i)) (taken p a.marks (destination i)) (left_held p (is_return i) (first_held a.marks.held 0)) refl refl refl refl refl refl refl e
+  passed e = all_passed a.differ (is_first i && not a.marks.is_open) changed (goes_on i && nat_le (length code) (furthest code p i + 1)) (missing p a.marks (source i)) (taken p a.marks (destination i)) (left_held p (is_return i) (first_held a.marks.held 0)) refl refl refl refl refl refl refl e
 
   -- where nothing is found, nothing arises
-  pub clear : objection (length code) p i a changed ≡ None → (g : Finding) → pass g ≡ 3 → position g ≡ p → Arises code g → ⊥
+  pub clear : objection (length code) (furthest code p i) p i a changed ≡ None → (g : Finding) → pass g ≡ 3 → position g ≡ p → Arises code g → ⊥
   clear e g is there x = below 7 (passed e) g is there (ranks g is) x
     where
       ranks : (g : Finding) → pass g ≡ 3 → rank g < 7

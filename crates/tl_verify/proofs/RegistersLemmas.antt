@@ -1,21 +1,21 @@
 -- One position after another, and the first fault of all.
-use Rattle.std.proofs.Common.{◌≡◌, ℕ, zero, suc, ◌+◌, ◌<◌, List, length, Option, Some, None, Bool, true, false, refl, ap, ◌∙◌, arith, ◌⊎◌, inl, inr, ⊎_elim, subst}
+use Rattle.std.proofs.Common.{◌≡◌, ℕ, zero, suc, ◌+◌, ◌<◌, List, length, Option, Some, None, Bool, true, false, refl, sym, ap, ◌∙◌, arith, ◌⊎◌, inl, inr, ⊎_elim, subst}
 use Rattle.std.specs.Prelude.{slice_get, get_or, option_map, IfSome, IfNone, MatchOption, ◌&&◌, nat_le}
 use Rattle.std.proofs.lemmas.Bool.{leb-false}
 use Rattle.std.proofs.lemmas.Option.{slice_get_within}
 use Rattle.tl_instr.specs.declared.instr.Instr.{Instr}
-use Rattle.tl_instr.specs.Instructions.{target}
 use Rattle.tl_budget.specs.Nested.{IsNest, place_at}
 use Rattle.tl_budget.specs.declared.nested.Place.{Place}
 use Rattle.tl_verify.specs.declared.marks.Marks.{Marks}
 use Rattle.tl_verify.specs.declared.arrivals.Arrivals.{Arrivals}
 use Rattle.tl_verify.specs.declared.fault.VerifyFault.{VerifyFault}
-use Rattle.tl_verify.specs.Marks.{entry, goes_on}
+use Rattle.tl_verify.specs.Marks.{entry, goes_on, aside_by, furthest_by, furthest}
 use Rattle.tl_verify.specs.Acceptable.{HasFit}
 use Rattle.tl_verify.specs.Ways.{Way}
 use Rattle.tl_verify.specs.Findings.{Finding, OfLoops, TargetBack, TargetPastEnd, TargetInLoop, Joined, Spent, Missing, Taken, LeftHeld, Changed, NextPastEnd, Steps, Locks, Emits, Arises, Precedes, IsFirstFault, fault_of, pass, position}
 use Rattle.tl_verify.specs.Known.{Known, Ahead, ClearTo, IsFirstAt, Settled, Comes, begins, steps, Gathers, Collects}
 use Rattle.tl_verify.specs.Pass.{Compares, is_end, objection}
+use Rattle.tl_verify.proofs.Asides.{aside_at, furthest_at, furthest_after, target_or_behind}
 use Rattle.tl_verify.proofs.JumpsLemmas.{target_in_code}
 use Rattle.tl_verify.proofs.KnownLemmas.{here}
 use Rattle.tl_verify.proofs.LoopFindings.{loops_first}
@@ -71,7 +71,10 @@ module _ (code : List Instr) (b : ℕ) where
 
   -- a position that control may come to
   module _ (places : List Place) (nest : IsNest code places) (i : Instr) (at : slice_get code b ≡ Some i) (states : List (Option Arrivals)) (known : Known code b states) (c : ClearTo code b)
-      (a : Arrivals) (is : get_or states b None ≡ Some a) (changed : Bool) (compares : Compares i (get_or states ((place_at places b).opening + 1) None) a.marks changed) where
+      (a : Arrivals) (is : get_or states b None ≡ Some a) (changed : Bool) (compares : Compares i (get_or states ((place_at places b).opening + 1) None) a.marks changed) (far : ℕ) (far_is : far ≡ furthest_by (place_at places b).close b i) where
+    same_far : far ≡ furthest code b i
+    same_far = far_is ∙ furthest_at code places nest b i at
+
     gathers : Gathers (Way code b) a
     gathers = here code b states known (slice_get_within code b i at) (Some a) is
 
@@ -81,18 +84,18 @@ module _ (code : List Instr) (b : ℕ) where
     keeps : changed ≡ false → a.differ ≡ false → Arises code (Changed b) → ⊥
     keeps = turn_keeps code places nest b i at states known a is changed compares c
 
-    pub fault_here : (fault : VerifyFault) → Ahead code → Some fault ≡ option_map fault_of (objection (length code) b i a changed) → IsFirstFault code fault
-    fault_here fault ahead e = by (objection (length code) b i a changed) refl e
+    pub fault_here : (fault : VerifyFault) → Ahead code → Some fault ≡ option_map fault_of (objection (length code) far b i a changed) → IsFirstFault code fault
+    fault_here fault ahead e = by (objection (length code) (furthest code b i) b i a changed) refl (e ∙ ap (λ n. option_map fault_of (objection (length code) n b i a changed)) same_far)
       where
-        by : (o : Option Finding) → objection (length code) b i a changed ≡ o → Some fault ≡ option_map fault_of o → IsFirstFault code fault
+        by : (o : Option Finding) → objection (length code) (furthest code b i) b i a changed ≡ o → Some fault ≡ option_map fault_of o → IsFirstFault code fault
         by None g h = cc
         by (Some f) g h =
             let same : fault ≡ fault_of f = cc in
             rw same (first_of_all ahead c f (finds code b i at a gathers changed changes keeps f g))
 
-    module _ (e : None ≡ option_map fault_of (objection (length code) b i a changed)) where
-      none : objection (length code) b i a changed ≡ None
-      none = none_found (objection (length code) b i a changed) e
+    module _ (e : None ≡ option_map fault_of (objection (length code) far b i a changed)) where
+      none : objection (length code) (furthest code b i) b i a changed ≡ None
+      none = none_found (objection (length code) (furthest code b i) b i a changed) (e ∙ ap (λ n. option_map fault_of (objection (length code) n b i a changed)) same_far)
 
       pub clear_next : ClearTo code (b + 1)
       clear_next = further c (clear code b i at a gathers changed changes keeps none)
@@ -101,16 +104,27 @@ module _ (code : List Instr) (b : ℕ) where
       pub alike : a.differ ≡ false
       alike = (passed code b i at a gathers changed changes keeps none).joined (omega arith)
 
-      -- where control goes on, the next position lies in the code
-      pub next_inside : goes_on i ≡ true → b + 1 < length states
-      next_inside goes = strict (nat_le (length code) (b + 1)) refl
+      -- where control goes on, the furthest position that it goes on to lies in the code
+      furthest_inside : goes_on i ≡ true → furthest code b i + 1 < length states
+      furthest_inside goes = strict (nat_le (length code) (furthest code b i + 1)) refl
         where
-          past : (goes_on i && nat_le (length code) (b + 1)) ≡ false
+          past : (goes_on i && nat_le (length code) (furthest code b i + 1)) ≡ false
           past = (passed code b i at a gathers changed changes keeps none).next (omega arith)
 
-          strict : (x : Bool) → nat_le (length code) (b + 1) ≡ x → b + 1 < length states
-          strict false f = let h = leb-false (length code) (b + 1) f in let g = known.long in omega arith
-          strict true f = absurd (both_true (goes_on i) (nat_le (length code) (b + 1)) past goes f)
+          strict : (x : Bool) → nat_le (length code) (furthest code b i + 1) ≡ x → furthest code b i + 1 < length states
+          strict false f = let h = leb-false (length code) (furthest code b i + 1) f in let g = known.long in omega arith
+          strict true f = absurd (both_true (goes_on i) (nat_le (length code) (furthest code b i + 1)) past goes f)
+
+      -- and so does the next one
+      pub next_inside : goes_on i ≡ true → b + 1 < length states
+      next_inside goes = let h = furthest_inside goes in let g = furthest_after code b i in omega arith
+
+      -- what is aside lies in the code
+      pub aside_inside : Ahead code → (beside : Option ℕ) → beside ≡ aside_by (place_at places b).close i → (l : ℕ) → beside ≡ Some l → l < length states
+      aside_inside ahead beside is' l there =
+          ⊎_elim (λ jumps. let h = target_in_code code ahead b l i at jumps in let g = known.long in omega arith)
+          (λ leaves. let h = furthest_inside leaves.2 in let f = leaves.0 in let g = leaves.1 in omega arith)
+          (target_or_behind code b l i (sym (aside_at code places nest b i at) ∙ sym is' ∙ there))
 
 -- before the first position only the entry is known
 pub known_start : (code : List Instr) (states : List (Option Arrivals)) → length states ≡ length code → 0 < length code
@@ -131,11 +145,7 @@ known_start code states long some first rest = record { long = long; each = λ q
     })
     by (suc q) = rw (rest (suc q) (omega arith)) (λ k h. let e = (only (suc q) k h).0 in absurd (omega arith))
 
--- targets lie in the code
-pub target_inside : (code : List Instr) (b l : ℕ) (i : Instr) (states : List (Option Arrivals)) → slice_get code b ≡ Some i → Ahead code → Known code b states → target i ≡ Some l → l < length states
-target_inside code b l i states at ahead known is = let h = target_in_code code ahead b l i at is in let g = known.long in omega arith
-
--- and so do the first positions of bodies
+-- the first positions of bodies lie in the code
 pub body_inside : (code : List Instr) (places : List Place) → IsNest code places → (b : ℕ) (i : Instr) (states : List (Option Arrivals)) → slice_get code b ≡ Some i → Known code b states → is_end i ≡ true → (place_at places b).opening + 1 < length states
 body_inside code places nest b i states at known ends = let h = start_inside code places nest b i at ends in let g = known.long in omega arith
 

@@ -57,38 +57,38 @@ number = refl
 abbrev came : Marks → Arrivals
 came m = record { marks = m; differ = false }
 
-unlocked : objection 9 2 (Get 0 0 0) (came entry) false ≡ Some (Missing 2 0)
+unlocked : objection 9 2 2 (Get 0 0 0) (came entry) false ≡ Some (Missing 2 0)
 unfolding objection
 unlocked = refl
 
-locked : objection 9 2 (Get 0 1 0) (came child_held) false ≡ None
+locked : objection 9 2 2 (Get 0 1 0) (came child_held) false ≡ None
 unfolding objection
 locked = refl
 
 -- of a second first into a held register it is told that first is spent
-twice : objection 9 2 (First 1 0 8) (came child_held) false ≡ Some (Spent 2)
+twice : objection 9 2 2 (First 1 0 8) (came child_held) false ≡ Some (Spent 2)
 unfolding objection
 twice = refl
 
 -- of a child of an empty register into a held one, that the first is empty
-child_of_none : objection 9 2 (Child 1 0 1 6) (came child_held) false ≡ Some (Missing 2 0)
+child_of_none : objection 9 2 2 (Child 1 0 1 6) (came child_held) false ≡ Some (Missing 2 0)
 unfolding objection
 child_of_none = refl
 
-child_over : objection 9 2 (Child 1 1 1 6) (came child_held) false ≡ Some (Taken 2 1)
+child_over : objection 9 2 2 (Child 1 1 1 6) (came child_held) false ≡ Some (Taken 2 1)
 unfolding objection
 child_over = refl
 
-left : objection 9 2 Return (came child_held) false ≡ Some (LeftHeld 2 1)
+left : objection 9 2 2 Return (came child_held) false ≡ Some (LeftHeld 2 1)
 unfolding objection
 left = refl
 
-last_goes_on : objection 3 2 (Release 1) (came child_held) false ≡ Some (NextPastEnd 2)
+last_goes_on : objection 3 2 2 (Release 1) (came child_held) false ≡ Some (NextPastEnd 2)
 unfolding objection
 last_goes_on = refl
 
 -- ways that differ are told before all else
-differing : objection 3 2 (Get 0 0 0) (record { marks = entry; differ = true }) true ≡ Some (Joined 2)
+differing : objection 3 2 2 (Get 0 0 0) (record { marks = entry; differ = true }) true ≡ Some (Joined 2)
 unfolding objection
 differing = refl
 

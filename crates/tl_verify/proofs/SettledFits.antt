@@ -7,18 +7,19 @@ use Rattle.std.proofs.lemmas.Bool.{leb-true, leb-false}
 use Rattle.tl_instr.specs.declared.instr.Instr.{Instr}
 use Rattle.tl_verify.specs.declared.marks.Marks.{Marks}
 use Rattle.tl_verify.specs.declared.arrivals.Arrivals.{Arrivals}
-use Rattle.tl_verify.specs.Marks.{entry, is_held, after, Leads, to_next, to_target, to_body, source, destination, is_first, is_return, goes_on}
+use Rattle.tl_verify.specs.Marks.{entry, is_held, after, Leads, to_next, to_aside, to_body, source, destination, is_first, is_return, goes_on, aside, furthest}
 use Rattle.tl_verify.specs.Ways.{Way, onward}
 use Rattle.tl_verify.specs.Acceptable.{Fits, Arrives, Allows}
 use Rattle.tl_verify.specs.Findings.{Joined, Spent, Missing, Taken, LeftHeld, Changed, NextPastEnd, Meets}
 use Rattle.tl_verify.specs.Known.{Comes, begins, steps, Gathers, Collects, Known, Ahead, ClearTo}
 use Rattle.tl_verify.specs.Pass.{first_held}
 use Rattle.tl_verify.proofs.MarksLemmas.{same_or_not}
+use Rattle.tl_verify.proofs.Asides.{target_or_behind, furthest_after}
 use Rattle.tl_verify.proofs.LoopBodies.{reach, entered}
 use Rattle.tl_verify.proofs.ArrivingStates.{comes_way, way_comes}
 use Rattle.tl_verify.proofs.FitLemmas.{held-after}
 use Rattle.tl_verify.proofs.ArrivalsLemmas.{collects_same}
-use Rattle.tl_verify.proofs.JumpsLemmas.{target_ahead, target_in_code, enters_none}
+use Rattle.tl_verify.proofs.JumpsLemmas.{aside_ahead, target_in_code, enters_none}
 use Rattle.tl_verify.proofs.KnownLemmas.{is_open-after}
 use Rattle.tl_verify.proofs.ObjectionLemmas.{first_held_is, first_held_none}
 
@@ -119,20 +120,28 @@ module _ (code : List Instr) (states : List (Option Arrivals)) (known : Known co
               on true k = h a.marks ∙ k
               on false k = let x = gathers.spent k in let y = g.is_open o (f x.0) (goes x.0 x.1) in let z = h x.0 ∙ x.2 in cc
 
-    -- the next position lies in the code
-    next_within : goes_on i ≡ true → q + 1 < length code
-    next_within goes = strict (nat_le (length code) (q + 1)) refl
+    -- the furthest position that control goes on to lies in the code
+    furthest_within : goes_on i ≡ true → furthest code q i + 1 < length code
+    furthest_within goes = strict (nat_le (length code) (furthest code q i + 1)) refl
       where
-        strict : (b : Bool) → nat_le (length code) (q + 1) ≡ b → q + 1 < length code
-        strict false e = leb-false (length code) (q + 1) e
-        strict true e = let x = gathers.some in absurd (clear.none (NextPastEnd q) refl inside (i, x.0, meets x.0 x.1, goes, leb-true (length code) (q + 1) e))
+        strict : (b : Bool) → nat_le (length code) (furthest code q i + 1) ≡ b → furthest code q i + 1 < length code
+        strict false e = leb-false (length code) (furthest code q i + 1) e
+        strict true e = let x = gathers.some in absurd (clear.none (NextPastEnd q) refl inside (i, x.0, meets x.0 x.1, goes, leb-true (length code) (furthest code q i + 1) e))
+
+    -- and so does the next one
+    next_within : goes_on i ≡ true → q + 1 < length code
+    next_within goes = let h = furthest_within goes in let g = furthest_after code q i in omega arith
+
+    aside_within : (to : ℕ) → aside code q i ≡ Some to → to < length code
+    aside_within to is =
+        ⊎_elim (λ jumps. target_in_code code ahead q to i at jumps) (λ leaves. let h = furthest_within leaves.2 in let e = leaves.0 in let f = leaves.1 in omega arith) (target_or_behind code q to i is)
 
     arrives : (to : ℕ) (k : Marks) → Leads code i q a.marks to k → Arrives code (marks_of states) to k
     arrives to k (to_next goes is got) =
         let within : to < length code = subst (λ r. r < length code) (sym is) (next_within goes) in
         rw got (there to within (omega arith) (after i) (λ m. to_next goes is refl) (λ m e. held-after i m a.marks e) (is_open-after i) (get_or states to None) refl)
-    arrives to k (to_target is got) =
-        rw got (there to (target_in_code code ahead q to i at is) (target_ahead code ahead q to i at is) (λ m. m) (λ m. to_target is refl) (λ m e. e) (inr (λ m. refl)) (get_or states to None) refl)
+    arrives to k (to_aside is got) =
+        rw got (there to (aside_within to is) (aside_ahead code ahead q to i at is) (λ m. m) (λ m. to_aside is refl) (λ m e. e) (inr (λ m. refl)) (get_or states to None) refl)
     arrives to k (to_body o l opens ends is got) = rw (is, got) (turn (get_or states (o + 1) None) refl)
       where
         r : (l.opening ≡ o) × (o < l.close)

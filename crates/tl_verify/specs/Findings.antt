@@ -9,7 +9,7 @@ use Rattle.tl_budget.specs.declared.limits.TheConstants.{MAX_STEPS, MAX_LOCKS, M
 use Rattle.tl_verify.specs.declared.marks.Marks.{Marks}
 use Rattle.tl_verify.specs.declared.fault.VerifyFault.{VerifyFault}
 use Rattle.tl_verify.specs.declared.fault.VerifyFault.TheVariants as fault
-use Rattle.tl_verify.specs.Marks.{is_held, source, destination, is_first, is_return, goes_on}
+use Rattle.tl_verify.specs.Marks.{is_held, source, destination, is_first, is_return, goes_on, furthest}
 use Rattle.tl_verify.specs.Ways.{Way}
 
 pub data Finding : Type 0 where
@@ -63,8 +63,8 @@ Arises code (Taken p n) = (i : Instr) × (m : Marks) × Meets code p i m × (des
 Arises code (LeftHeld p n) = (i : Instr) × (m : Marks) × Meets code p i m × (is_return i ≡ true) × (is_held m n ≡ true) × ((k : ℕ) → k < n → is_held m k ≡ false)
 -- a turn of a loop changes what is held, or spends first
 Arises code (Changed p) = (i : Instr) × (m : Marks) × (o : ℕ) × (l : Loop) × Meets code p i m × (loop_at code o ≡ Some l) × (l.close ≡ p) × Changes code l m
--- control goes on past the end
-Arises code (NextPastEnd p) = (i : Instr) × (m : Marks) × Meets code p i m × (goes_on i ≡ true) × (length code ≤ p + 1)
+-- control goes on past the end, or past it behind a loop that may turn no time
+Arises code (NextPastEnd p) = (i : Instr) × (m : Marks) × Meets code p i m × (goes_on i ≡ true) × (length code ≤ furthest code p i + 1)
 -- the sums are above their limits
 Arises code Steps = MAX_STEPS < budget code
 Arises code Locks = MAX_LOCKS < lock_bound code

@@ -1,7 +1,6 @@
 -- What is remembered is true of the ways that lead to each position.
 use Rattle.std.specs.Prelude.{◌≡◌, ◌≢◌, ℕ, ◌+◌, ◌<◌, List, length, true, false, Option, Some, None, slice_get, slice_set, get_or, if◌then◌else◌}
 use Rattle.tl_instr.specs.declared.instr.Instr.{Instr}
-use Rattle.tl_instr.specs.Instructions.{target}
 use Rattle.tl_verify.specs.declared.marks.Marks.{Marks}
 use Rattle.tl_verify.specs.declared.arrivals.Arrivals.{Arrivals}
 use Rattle.tl_verify.specs.Marks.{entry, after, Leads, goes_on}
@@ -47,11 +46,11 @@ Arrived (Some to) m old new = (a : Arrivals) × (to < length old) × (new ≡ sl
 abbrev pub next_of : Instr → ℕ → Option ℕ
 next_of i p = if goes_on i then Some (p + 1) else None
 
--- the states behind an instruction came to where it leads
-pub record PassesOn (i : Instr) (p : ℕ) (m : Marks) (old new : List (Option Arrivals)) : Type 0 where
+-- the states behind an instruction came to where it leads, and those from before it aside
+pub record PassesOn (i : Instr) (beside : Option ℕ) (p : ℕ) (m : Marks) (old new : List (Option Arrivals)) : Type 0 where
   pub middle : List (Option Arrivals)
   pub next : Arrived (next_of i p) (after i m) old middle
-  pub aside : Arrived (target i) m middle new
+  pub aside : Arrived beside m middle new
 
 -- The finding arises at the position, and none that comes before it does there.
 pub record IsFirstAt (code : List Instr) (p : ℕ) (f : Finding) : Type 0 where

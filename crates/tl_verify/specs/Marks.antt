@@ -2,7 +2,7 @@
 use Rattle.std.specs.Prelude.{◌≡◌, ℕ, ◌+◌, List, [], ◌∷◌, Bool, true, false, Option, Some, None, slice_set, get_or, replicate}
 use Rattle.tl_instr.specs.declared.operand.TheConstants.{NODE_REGISTERS}
 use Rattle.tl_instr.specs.declared.instr.Instr.{Instr}
-use Rattle.tl_instr.specs.declared.instr.Instr.TheVariants.{Jump, First, Child, Move, Release, Get, Put, Kids, Return}
+use Rattle.tl_instr.specs.declared.instr.Instr.TheVariants.{Jump, RepeatBy, First, Child, Move, Release, Get, Put, Kids, Return}
 use Rattle.tl_instr.specs.Instructions.{target}
 use Rattle.tl_budget.specs.Loops.{Loop, loop_at}
 use Rattle.tl_verify.specs.declared.marks.Marks.{Marks}
@@ -61,10 +61,35 @@ abbrev pub is_return : Instr → Bool
 is_return Return = true
 is_return i = false
 
+-- where the end stands of the loop that opens at p; p itself, where none does
+abbrev pub close_of : ℕ → Option Loop → ℕ
+close_of p None = p
+close_of p (Some l) = l.close
+
+abbrev pub end_of : List Instr → ℕ → ℕ
+end_of code p = close_of p (loop_at code p)
+
+-- where control may go with the marks from before the instruction: to the target, or behind the end of a loop that may
+-- turn no time
+abbrev pub aside_by : ℕ → Instr → Option ℕ
+aside_by close (RepeatBy turns count) = Some (close + 1)
+aside_by close i = target i
+
+abbrev pub aside : List Instr → ℕ → Instr → Option ℕ
+aside code p i = aside_by (end_of code p) i
+
+-- the position before the furthest one to which an instruction that isn't a jump may go on
+abbrev pub furthest_by : ℕ → ℕ → Instr → ℕ
+furthest_by close p (RepeatBy turns count) = close
+furthest_by close p i = p
+
+abbrev pub furthest : List Instr → ℕ → Instr → ℕ
+furthest code p i = furthest_by (end_of code p) p i
+
 -- Control may go from the instruction at p with the marks m to the position q with the marks k.
 pub data Leads (code : List Instr) (i : Instr) (p : ℕ) (m : Marks) (q : ℕ) (k : Marks) : Type 0 where
   to_next : goes_on i ≡ true → q ≡ p + 1 → k ≡ after i m → Leads code i p m q k
   -- the marks are those from before the instruction
-  to_target : target i ≡ Some q → k ≡ m → Leads code i p m q k
+  to_aside : aside code p i ≡ Some q → k ≡ m → Leads code i p m q k
   -- from a loop's end to the first position of its body
   to_body : (o : ℕ) (l : Loop) → loop_at code o ≡ Some l → l.close ≡ p → q ≡ o + 1 → k ≡ m → Leads code i p m q k

@@ -66,10 +66,11 @@ of_registers p i m rest =
     (or_else (taken p m (destination i))
     (or_else (left_held p (is_return i) (first_held m.held 0)) rest)))
 
--- what is found first at a position of a code of so many instructions, where a turn changes the marks or doesn't
-unfoldable pub objection : ℕ → ℕ → Instr → Arrivals → Bool → Option Finding
-objection count p i a changed =
+-- what is found first at a position of a code of so many instructions, where control may go on to behind `far`, and a turn
+-- changes the marks or doesn't
+unfoldable pub objection : ℕ → ℕ → ℕ → Instr → Arrivals → Bool → Option Finding
+objection count far p i a changed =
     or_else (when a.differ (Joined p))
     (of_registers p i a.marks
     (or_else (when changed (Changed p))
-    (when (goes_on i && nat_le count (p + 1)) (NextPastEnd p))))
+    (when (goes_on i && nat_le count (far + 1)) (NextPastEnd p))))

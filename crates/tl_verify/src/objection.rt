@@ -106,12 +106,13 @@ fn after(position: u16, instr: &Instr, marks: Marks) -> Result<Marks, VerifyFaul
     }
 }
 
-/// The registers behind an instruction at a position of a code of so many, or what is wrong with those that come to it, where a
-/// turn of the loop that ends here changes the marks or doesn't.
+/// The registers behind an instruction at a position of a code of so many, or what is wrong with those that come to it, where
+/// control may go on to the position behind `furthest`, and a turn of the loop that ends here changes the marks or doesn't.
 #[inline(always)]
 #[tactic(auto, unfolding(crate::specs::Pass::objection))]
 pub fn objection(
     count: u16,
+    furthest: u16,
     position: u16,
     instr: &Instr,
     arrivals: Arrivals,
@@ -119,8 +120,8 @@ pub fn objection(
 ) -> Result<Marks, VerifyFault>
     requires { 0 < count }
     ensures after { IfOk result (λ m. m ≡ marks_after instr.now arrivals.marks) }
-    ensures ok { IfOk result (λ _. None ≡ option_map fault_of (objection_at count position instr.now arrivals is_changed)) }
-    ensures fault { IfErr result (λ f. Some f ≡ option_map fault_of (objection_at count position instr.now arrivals is_changed)) }
+    ensures ok { IfOk result (λ _. None ≡ option_map fault_of (objection_at count furthest position instr.now arrivals is_changed)) }
+    ensures fault { IfErr result (λ f. Some f ≡ option_map fault_of (objection_at count furthest position instr.now arrivals is_changed)) }
 {
     if arrivals.differ {
         return Err(VerifyFault::Joins(position));
@@ -129,7 +130,7 @@ pub fn objection(
     if is_changed {
         return Err(VerifyFault::LoopChanges(position));
     }
-    if goes_on(instr) && count - 1 <= position {
+    if goes_on(instr) && count - 1 <= furthest {
         return Err(VerifyFault::OffEnd(position));
     }
     Ok(behind)

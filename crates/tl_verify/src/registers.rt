@@ -1,9 +1,8 @@
 // The pass over the node registers, by rising position.
 
 ghost use Rattle.std.specs.Prelude.{◌≡◌, ℕ, ◌+◌, ◌<◌, ◌≤◌, length, get_or, slice_get, Option, Some, None, true, IfSome, IfNone, IfOk, MatchOption};
-ghost use Rattle.tl_instr.specs.Instructions.{target};
 ghost use Rattle.tl_budget.specs.Nested.{IsNest, place_at};
-ghost use Rattle.tl_verify.specs.Marks.{goes_on as goes_on_from, after as marks_after};
+ghost use Rattle.tl_verify.specs.Marks.{goes_on as goes_on_from, after as marks_after, aside_by, furthest_by};
 ghost use Rattle.tl_verify.specs.Acceptable.{HasFit};
 ghost use Rattle.tl_verify.specs.Findings.{IsFirstFault};
 ghost use Rattle.tl_verify.specs.Known.{Known, Ahead, PassesOn, Settled};
@@ -17,25 +16,51 @@ use std::alloc::{AllocError, Global};
 use tl_budget::Nest;
 use tl_instr::{Instr, MAX_COUNT};
 
-// The states behind an instruction come to where it leads.
+// Where control may go with the marks from before the instruction: to its target, or behind the loop that it opens, where
+// that may turn no time.
+#[inline(always)]
+fn aside(nest: &Nest, position: u16, instr: &Instr) -> Option<usize>
+    requires { position < length nest.now }
+    ensures { result ≡ aside_by (place_at nest.now position).close instr.now }
+{
+    match *instr {
+        Instr::RepeatBy { .. } => Some(usize::from(nest.end_of(position)) + 1),
+        _ => Some(usize::from(instr.target()?)),
+    }
+}
+
+// The position before the furthest one to which control may go on.
+#[inline(always)]
+fn furthest(nest: &Nest, position: u16, instr: &Instr) -> u16
+    requires { position < length nest.now }
+    ensures { result ≡ furthest_by (place_at nest.now position).close position instr.now }
+{
+    match *instr {
+        Instr::RepeatBy { .. } => nest.end_of(position),
+        _ => position,
+    }
+}
+
+// The states behind an instruction come to where it leads, and those from before it aside.
 #[inline(always)]
 fn pass_on(
     states: &mut [Option<Arrivals>],
     position: usize,
     instr: &Instr,
+    beside: Option<usize>,
     marks: &Marks,
     behind: &Marks,
 )
     requires behind { behind.now ≡ marks_after instr.now marks.now }
     requires next { goes_on_from instr.now ≡ true → position + 1 < length states.old }
-    requires aside { (l : ℕ) → target instr.now ≡ Some l → l < length states.old }
-    ensures { PassesOn instr.now position marks.now states.old states.new }
+    requires aside { (l : ℕ) → beside ≡ Some l → l < length states.old }
+    ensures { PassesOn instr.now beside position marks.now states.old states.new }
 {
     if goes_on(instr) {
         arrive(states, position + 1, *behind);
     }
-    if let Some(target) = instr.target() {
-        arrive(states, usize::from(target), *marks);
+    if let Some(beside) = beside {
+        arrive(states, beside, *marks);
     }
 }
 
@@ -79,11 +104,13 @@ fn walk(code: &[Instr], nest: &Nest, states: &mut [Option<Arrivals>]) -> Option<
         let instr = &code[position];
         let changed = is_changed(states, nest, position as u16, instr, &arrivals.marks);
         let count = code.len() as u16;
-        let behind = match objection(count, position as u16, instr, arrivals, changed) {
+        let far = furthest(nest, position as u16, instr);
+        let behind = match objection(count, far, position as u16, instr, arrivals, changed) {
             Ok(behind) => behind,
             Err(fault) => return Some(fault),
         };
-        pass_on(states, position, instr, &arrivals.marks, &behind);
+        let beside = aside(nest, position as u16, instr);
+        pass_on(states, position, instr, beside, &arrivals.marks, &behind);
     }
     None
 }

@@ -24,7 +24,7 @@ returns-in_default-clause-fault c = λ _.
     let s = c.in_ok-sketch.sketch in
     let same : said_by c.deref.result.now ≡ statements c.args.text.now = same_statements c.args.text.now c.deref.result.now (ap (map (λ line. line.now)) c.deref.ensures.value ∙ c.in_ok-lines.ensures.lines) in
     let long : length (said_by c.deref.result.now) ≡ c.len.result = length-map c.deref.result.now (λ line. says line.now) ∙ search rules in
-    let fault = no_arity (said_by c.deref.result.now) s.arity (known s.labels.entries) s.instrs.items (traced s.origins.items) c.in_ok-sketch.ensures.found c.in_default.is in
+    let fault = no_arity (said_by c.deref.result.now) s.version s.arity (known s.labels.entries) s.instrs.items (traced s.origins.items) c.in_ok-sketch.ensures.found c.in_default.is in
     subst (λ (ss : List (Option Said)). IsFirstFaultIn ss (BadLine c.len.result)) same (subst (λ (n : ℕ). IsFirstFaultIn (said_by c.deref.result.now) (BadLine n)) long fault)
 
 pub returns-then-is_empty-clause-fault : goal.returns-then-is_empty-clause-fault
@@ -33,7 +33,7 @@ returns-then-is_empty-clause-fault c = λ _.
     let same : said_by c.deref.result.now ≡ statements c.args.text.now = same_statements c.args.text.now c.deref.result.now (ap (map (λ line. line.now)) c.deref.ensures.value ∙ c.in_ok-lines.ensures.lines) in
     let long : length (said_by c.deref.result.now) ≡ c.len-then-is_empty.result = length-map c.deref.result.now (λ line. says line.now) ∙ search rules in
     let empty : length s.instrs.items ≡ 0 = search rules in
-    let fault = no_instr (said_by c.deref.result.now) s.arity (known s.labels.entries) s.instrs.items (traced s.origins.items) c.in_ok-sketch.ensures.found empty in
+    let fault = no_instr (said_by c.deref.result.now) s.version s.arity (known s.labels.entries) s.instrs.items (traced s.origins.items) c.in_ok-sketch.ensures.found empty in
     subst (λ (ss : List (Option Said)). IsFirstFaultIn ss (BadLine c.len-then-is_empty.result)) same (subst (λ (n : ℕ). IsFirstFaultIn (said_by c.deref.result.now) (BadLine n)) long fault)
 
 pub returns-in_err-instrs-clause-fault : goal.returns-in_err-instrs-clause-fault
@@ -46,14 +46,14 @@ returns-in_err-instrs-clause-fault c =
     let x = c.in_err-instrs.ensures.fault n in
     let astray : IsAstray (known s.labels.entries) (drafts_of s.instrs.items (traced s.origins.items)) x.0 = subst (λ (os : List Origin). IsAstray (known s.labels.entries) (drafts_of s.instrs.items (traced os)) x.0) c.deref-3.ensures.value (subst (λ (is : List Instr). IsAstray (known s.labels.entries) (drafts_of is (traced c.deref-3.result.now)) x.0) c.deref-2.ensures.value x.2) in
     subst (λ (f : AsmFault). IsFirstFaultIn (statements c.args.text.now) f) (sym x.1) (subst (λ (ss : List (Option Said)). IsFirstFaultIn ss (NoLabel x.0)) same
-    (no_label (said_by c.deref.result.now) s.arity (known s.labels.entries) s.instrs.items (traced s.origins.items) c.in_ok-sketch.ensures.found c.in-Some.arity x.0 c.in-Some.is some astray)))
+    (no_label (said_by c.deref.result.now) s.version s.arity (known s.labels.entries) s.instrs.items (traced s.origins.items) c.in_ok-sketch.ensures.found c.in-Some.arity x.0 c.in-Some.is some astray)))
 
 pub unreachable-requires : goal.unreachable-requires
 unreachable-requires c =
     let s = c.in_ok-sketch.sketch in
     let some : 0 < length s.instrs.items = grind (arith, nat_tests, c.is_empty.ensures, c.if-is_empty.false) in
     let found : map (λ d. aimed (known s.labels.entries) d.1.instr d.1.label) (drafts_of s.instrs.items (traced s.origins.items)) ≡ map Some c.in_ok-instrs.instrs.items = subst (λ (os : List Origin). map (λ d. aimed (known s.labels.entries) d.1.instr d.1.label) (drafts_of s.instrs.items (traced os)) ≡ map Some c.in_ok-instrs.instrs.items) c.deref-3.ensures.value (subst (λ (is : List Instr). map (λ d. aimed (known s.labels.entries) d.1.instr d.1.label) (drafts_of is (traced c.deref-3.result.now)) ≡ map Some c.in_ok-instrs.instrs.items) c.deref-2.ensures.value c.in_ok-instrs.ensures.found) in
-    let accepts = c.new.ensures.accepts (is_code (said_by c.deref.result.now) s.arity (known s.labels.entries) s.instrs.items (traced s.origins.items) c.in_ok-sketch.ensures.found c.in-Some.arity c.in_ok-instrs.instrs.items c.in-Some.is some found) in
+    let accepts = c.of_version.ensures.accepts (is_code (said_by c.deref.result.now) s.version s.arity (known s.labels.entries) s.instrs.items (traced s.origins.items) c.in_ok-sketch.ensures.found c.in-Some.arity c.in_ok-instrs.instrs.items c.in-Some.is some found) in
     c.in_default-fault.not-Memory (rw c.in-Err.is at accepts)
 
 pub returns-in-Ok-clause-found : goal.returns-in-Ok-clause-found
@@ -62,5 +62,5 @@ returns-in-Ok-clause-found c =
     let same : said_by c.deref.result.now ≡ statements c.args.text.now = same_statements c.args.text.now c.deref.result.now (ap (map (λ line. line.now)) c.deref.ensures.value ∙ c.in_ok-lines.ensures.lines) in
     let some : 0 < length s.instrs.items = grind (arith, nat_tests, c.is_empty.ensures, c.if-is_empty.false) in
     let found : map (λ d. aimed (known s.labels.entries) d.1.instr d.1.label) (drafts_of s.instrs.items (traced s.origins.items)) ≡ map Some c.in_ok-instrs.instrs.items = subst (λ (os : List Origin). map (λ d. aimed (known s.labels.entries) d.1.instr d.1.label) (drafts_of s.instrs.items (traced os)) ≡ map Some c.in_ok-instrs.instrs.items) c.deref-3.ensures.value (subst (λ (is : List Instr). map (λ d. aimed (known s.labels.entries) d.1.instr d.1.label) (drafts_of is (traced c.deref-3.result.now)) ≡ map Some c.in_ok-instrs.instrs.items) c.deref-2.ensures.value c.in_ok-instrs.ensures.found) in
-    let sk : Sketched (said_by c.deref.result.now) (Some c.in-Some.arity) (known s.labels.entries) s.instrs.items (traced s.origins.items) = subst (λ (o : Option ℕ). Sketched (said_by c.deref.result.now) o (known s.labels.entries) s.instrs.items (traced s.origins.items)) c.in-Some.is c.in_ok-sketch.ensures.found in
-    subst (Written c.args.text.now) (sym c.in-Ok.ensures.value) (written c.args.text.now (said_by c.deref.result.now) (known s.labels.entries) s.instrs.items (traced s.origins.items) c.in-Some.arity c.in_ok-instrs.instrs.items same sk some found)
+    let sk : Sketched (said_by c.deref.result.now) s.version (Some c.in-Some.arity) (known s.labels.entries) s.instrs.items (traced s.origins.items) = subst (λ (o : Option ℕ). Sketched (said_by c.deref.result.now) s.version o (known s.labels.entries) s.instrs.items (traced s.origins.items)) c.in-Some.is c.in_ok-sketch.ensures.found in
+    subst (Written c.args.text.now) (sym c.in-Ok.ensures.value) (written c.args.text.now (said_by c.deref.result.now) s.version (known s.labels.entries) s.instrs.items (traced s.origins.items) c.in-Some.arity c.in_ok-instrs.instrs.items same sk some found)

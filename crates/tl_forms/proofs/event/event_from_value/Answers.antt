@@ -10,4 +10,4 @@ returns-in_err-letter c =
     let two : length c.in_ok-items.items.now.items ≢ 2 = search rules in
     let four : length c.in_ok-items.items.now.items ≢ 4 = search rules in
     let none : c.from_residual-in_err-letter.result ≡ None = search rules in
-    none ∙ no_event_in (view c.args.value.now) c.in_ok-items.items.now.items items two four
+    none ∙ no_event_in c.args.width (view c.args.value.now) c.in_ok-items.items.now.items items two four

@@ -5,4 +5,4 @@ use Rattle.tl_instr.proofs.container.spell.Given as goal
 
 abbrev pub invariant-loop-instr : goal.invariant-loop-instr
 invariant-loop-instr l =
-    l.bytes.items ≡ header l.fn.arity (length l.instrs) ++ flat_map instr_bytes (take l.instr-index l.instrs)
+    l.bytes.items ≡ header l.fn.version l.fn.arity (length l.instrs) ++ flat_map instr_bytes (take l.instr-index l.instrs)

@@ -5,4 +5,4 @@ use Rattle.tl_tree.proofs.Items.{onto}
 use Rattle.tl_tree.proofs.value.records_from_items.Given as goal
 
 abbrev pub invariant-loop-item : goal.invariant-loop-item
-invariant-loop-item l = onto l.records.items (each_item record_of (items_view (drop l.item-index l.items))) ≡ each_item record_of (items_view l.items)
+invariant-loop-item l = onto l.records.items (each_item (record_of l.width) (items_view (drop l.item-index l.items))) ≡ each_item (record_of l.width) (items_view l.items)

@@ -2,7 +2,8 @@ use Rattle.std.proofs.Common.{◌≡◌, IfOk, ap, ◌∙◌, rules}
 use Rattle.std.specs.Prelude.{All}
 use Rattle.std.proofs.lemmas.Result.{IfOk-weaker}
 use Rattle.serde_json.specs.View.{view}
-use Rattle.tl_tree.specs.Reading.{tree_of}
+use Rattle.tl_tree.specs.declared.record.Width.TheVariants.{Wide}
+use Rattle.tl_tree.specs.Reading.{tree_at}
 use Rattle.tl_tree.specs.Trees.{IsRecord}
 use Rattle.tl_tree.specs.Writing.{tree_data}
 use Rattle.tl_tree.proofs.RoundTrip.{tree_back}
@@ -13,4 +14,4 @@ returns-clause-reads_back c =
     let tree = c.args.tree.now in
     let value : IfOk c.parts_to_value.result (λ v. view v ≡ tree_data tree) = search rules in
     let each : All IsRecord tree.records = rw c.records.ensures.records at c.in_ok-records.ensures.each in
-    IfOk-weaker c.parts_to_value.result _ _ (λ v is. ap tree_of is ∙ tree_back tree c.shape.ensures.whole each) value
+    IfOk-weaker c.parts_to_value.result _ _ (λ v is. ap (tree_at Wide) is ∙ tree_back tree c.shape.ensures.whole each) value

@@ -1,0 +1,24 @@
+-- What the command `widen` prints and writes, and when it answers which fault.
+use Rattle.std.specs.Prelude.{◌≡◌, ◌≢◌, ℕ, List, [], ◌∷◌, ◌++◌, length, codes, decimal, Ok}
+use Rattle.tl_tree.specs.Trees.{TreeValue}
+use Rattle.tl_tree.specs.Reading.{tree_of_text}
+use Rattle.tl_tree.specs.Writing.{tree_text}
+use Rattle.tl_tree.specs.declared.fault.TreeFault.{TreeFault}
+use Rattle.tl_commands.specs.Alone.{IsTreeFault}
+use Rattle.tl_commands.specs.declared.fault.CliFault.{CliFault}
+use Rattle.tl_commands.specs.declared.fault.CliFault.TheVariants.{Tree}
+use Rattle.tl_commands.specs.Faults.{status_of}
+
+abbrev pub nodes_text : ℕ → List ℕ
+nodes_text nodes = codes "{\"nodes\":" ++ decimal nodes ++ codes "}\n"
+
+-- The bytes are the text of a tree. What is printed tells its nodes, and the file has its text.
+pub record WidensTree (bytes out file : List ℕ) : Type 0 where
+  pub tree : TreeValue
+  pub read : tree_of_text bytes ≡ Ok tree
+  pub written : file ≡ tree_text tree ++ 10 ∷ []
+  pub same : out ≡ nodes_text (length tree.parents)
+
+-- what is wrong with the tree first, or want of memory
+abbrev pub IsFirstWideningFault : List ℕ → CliFault → Type 0
+IsFirstWideningFault bytes e = status_of e ≢ 4 → (f : TreeFault) × (e ≡ Tree f) × IsTreeFault bytes f

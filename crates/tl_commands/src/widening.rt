@@ -1,0 +1,59 @@
+// The command `widen`.
+
+ghost use Rattle.std.specs.Prelude.{◌≡◌, [], ◌∷◌, ◌++◌, length, codes, string_bytes, IfOk, IfErr};
+ghost use Rattle.serde_json.specs.Data.{object, member, no_members};
+ghost use Rattle.serde_json.specs.View.{view};
+ghost use Rattle.tl_tree.specs.Writing.{tree_text};
+ghost use Rattle.tl_commands.specs.Faults.{status_of};
+ghost use Rattle.tl_commands.specs.Widening.{nodes_text, WidensTree, IsFirstWideningFault};
+
+use crate::fault::CliFault;
+use crate::inputs::tree_of_file;
+use crate::outputs::line_of;
+use serde_json::{Value, json};
+use std::alloc::{AllocError, Global};
+use tl_tree::{Tree, write_tree};
+
+fn nodes_to_value(alloc: Global, nodes: Value) -> Result<Value, AllocError>
+    ensures { IfOk result (λ v. view v ≡ object (member (codes "nodes") (view nodes) no_members)) }
+{
+    json!(in alloc; {"nodes": nodes})
+}
+
+// The line that tells how many nodes a tree has.
+fn nodes_line(alloc: Global, tree: &Tree) -> Result<String, AllocError>
+    ensures { IfOk result (λ s. string_bytes s ≡ nodes_text (length tree.now.parents)) }
+{
+    let value = nodes_to_value(alloc, Value::from(tree.shape().node_count()))?;
+    line_of(alloc, &value)
+}
+
+// The text of a tree, as a file.
+fn tree_file(alloc: Global, tree: &Tree) -> Result<String, CliFault>
+    ensures ok { IfOk result (λ s. string_bytes s ≡ tree_text tree.now ++ 10 ∷ []) }
+    ensures err { IfErr result (λ e. status_of e ≡ 4) }
+{
+    let mut text = match write_tree(alloc, tree) {
+        Ok(text) => text,
+        Err(fault) => return Err(CliFault::Tree(fault)),
+    };
+    text.push_str("\n")?;
+    Ok(text)
+}
+
+/// The line that tells how many nodes a tree has, and the text of the tree, whose records have eight fields. Takes the bytes of
+/// the tree's file, whose records may all have four: the others are 0 then.
+///
+/// Else what is wrong with the tree first, 101 to 106. Where memory was refused, 190 or 990.
+pub fn widen_cmd(alloc: Global, tree: &[u8]) -> Result<(String, String), CliFault>
+    ensures printed { IfOk result (λ r. WidensTree tree.now (string_bytes r.0) (string_bytes r.1)) }
+    ensures fault { IfErr result (λ e. IsFirstWideningFault tree.now e) }
+{
+    let tree = match tree_of_file(alloc, tree) {
+        Ok(tree) => tree,
+        Err(fault) => return Err(CliFault::Tree(fault)),
+    };
+    let text = tree_file(alloc, &tree)?;
+    let line = nodes_line(alloc, &tree)?;
+    Ok((line, text))
+}

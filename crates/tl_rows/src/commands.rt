@@ -1,0 +1,193 @@
+//! What the commands print. A row of a table costs nearly nothing to prove, and a function does: so one function runs each command,
+//! and the rows stand as data in a module for each of them, or in a folder of such modules.
+
+use crate::{alone, audit, containers, drive, procedures, run};
+use std::alloc::{AllocError, Global};
+use std::process::Abort;
+use std::sync::Wait;
+use std::test::Fail;
+use std::thread::Threads;
+use tl_audit::Silent;
+use tl_commands::{
+    CliFault, alone_cmd, asm_cmd, audit_cmd, dis_cmd, drive_cmd, drive_with_trail_cmd, run_cmd,
+    verify_cmd,
+};
+use tl_workers::NoGate;
+
+/// The parts of a text, one behind another.
+pub type Parts = &'static [&'static str];
+
+/// A command, and the texts of its files.
+pub enum Command {
+    /// `asm` of a text: its line.
+    Asm(Parts),
+    /// `asm` of a text, and then `dis` of its container.
+    Listed(&'static str),
+    /// `asm` of a text, and then `verify` of its container: its line alone.
+    Verify(&'static str),
+    /// `dis` of a container.
+    Dis(Parts),
+    /// `verify` of a container.
+    Bounds(Parts),
+    /// `alone` on a tree, with the container of a text and these arguments.
+    Alone(&'static str, &'static str, &'static str),
+    /// `drive` on a tree with a script.
+    Drive(&'static str, Parts),
+    /// `drive` on a tree with a script: its trail alone.
+    Trail(&'static str, Parts),
+    /// `drive` on a tree with a script, and then `audit` of its trail: its line alone.
+    DriveAudit(&'static str, Parts),
+    /// `run` on a tree with a script, by one worker.
+    Run(&'static str, Parts),
+    /// `audit` of a trail.
+    Audit(Parts),
+}
+
+/// A command, and what it answers: what it prints, or the numbers of what is wrong first, and the exit status.
+pub type Row = (Command, Parts);
+
+/// The name of a table, and its rows. The prover stops where one function names a large table: so each is a small one of one subject,
+/// which a function of its own lends.
+pub type Table = (&'static str, &'static [Row]);
+
+fn line_of(alloc: Global, text: &str) -> Result<String, CliFault> {
+    let (line, _) = asm_cmd(alloc, text.as_bytes())?;
+    Ok(line)
+}
+
+fn container_of(alloc: Global, text: &str) -> Result<Vec<u8>, CliFault> {
+    let (_, container) = asm_cmd(alloc, text.as_bytes())?;
+    Ok(container)
+}
+
+fn listed(alloc: Global, text: &str) -> Result<String, CliFault> {
+    let listing = dis_cmd(alloc, &container_of(alloc, text)?)?;
+    Ok([line_of(alloc, text)?.as_str(), listing.as_str()].concat(alloc)?)
+}
+
+fn verified(alloc: Global, text: &str) -> Result<String, CliFault> {
+    verify_cmd(alloc, &container_of(alloc, text)?)
+}
+
+fn done_alone(alloc: Global, tree: &str, text: &str, args: &str) -> Result<String, CliFault> {
+    alone_cmd(alloc, tree.as_bytes(), &container_of(alloc, text)?, args)
+}
+
+fn trail_of(alloc: Global, tree: &str, script: &str) -> Result<String, CliFault> {
+    let (_, trail) = drive_with_trail_cmd(alloc, tree.as_bytes(), script.as_bytes())?;
+    Ok(trail)
+}
+
+fn audited(alloc: Global, tree: &str, script: &str) -> Result<String, CliFault> {
+    let trail = trail_of(alloc, tree, script)?;
+    audit_cmd(alloc, trail.as_bytes(), &mut Silent)
+}
+
+/// The text of the command's file that is given in parts, or none.
+fn file_of(alloc: Global, command: &Command) -> Result<String, AllocError> {
+    match command {
+        Command::Asm(parts)
+        | Command::Dis(parts)
+        | Command::Bounds(parts)
+        | Command::Drive(_, parts)
+        | Command::Trail(_, parts)
+        | Command::DriveAudit(_, parts)
+        | Command::Run(_, parts)
+        | Command::Audit(parts) => parts.concat(alloc),
+        Command::Listed(_) | Command::Verify(_) | Command::Alone(_, _, _) => {
+            Ok(String::new(alloc))
+        }
+    }
+}
+
+/// What a command prints, of which this is the file.
+fn printed<R: Threads + Wait + Sync + AllocGlobal>(
+    rt: &R,
+    command: &Command,
+    file: &str,
+) -> Result<String, CliFault> {
+    let alloc = rt.alloc();
+    let bytes = file.as_bytes();
+    match command {
+        Command::Asm(_) => line_of(alloc, file),
+        Command::Listed(text) => listed(alloc, text),
+        Command::Verify(text) => verified(alloc, text),
+        Command::Dis(_) => dis_cmd(alloc, bytes),
+        Command::Bounds(_) => verify_cmd(alloc, bytes),
+        Command::Alone(tree, text, args) => done_alone(alloc, tree, text, args),
+        Command::Drive(tree, _) => drive_cmd(alloc, tree.as_bytes(), bytes),
+        Command::Trail(tree, _) => trail_of(alloc, tree, file),
+        Command::DriveAudit(tree, _) => audited(alloc, tree, file),
+        Command::Run(tree, _) => run_cmd(rt, alloc, tree.as_bytes(), bytes, 1, &NoGate),
+        Command::Audit(_) => audit_cmd(alloc, bytes, &mut Silent),
+    }
+}
+
+/// What is printed, or the numbers and the exit status.
+fn answer(alloc: Global, printed: Result<String, CliFault>) -> Result<String, Fail> {
+    match printed {
+        Ok(text) => Ok(text),
+        Err(fault) => {
+            let numbers = fault.numbers();
+            let numbers = numbers.as_slice();
+            let status = fault.status();
+            Ok(format!(in alloc; "{numbers:?} {status}")?)
+        }
+    }
+}
+
+/// What the row's command answers.
+fn answered<R: Threads + Wait + Sync + AllocGlobal>(
+    rt: &R,
+    command: &Command,
+) -> Result<String, Fail> {
+    let alloc = rt.alloc();
+    let file = file_of(alloc, command)?;
+    answer(alloc, printed(rt, command, &file))
+}
+
+fn row_answers<R: Threads + Wait + Sync + AllocGlobal + Abort>(
+    rt: &R,
+    table: &str,
+    number: usize,
+    row: &Row,
+) -> Result<(), Fail> {
+    let found = answered(rt, &row.0)?;
+    let expected = row.1.concat(rt.alloc())?;
+    assert_eq!(rt;
+        found.as_str(),
+        expected.as_str(),
+        "row {number} of {table}"
+    );
+    Ok(())
+}
+
+fn table_answers<R: Threads + Wait + Sync + AllocGlobal + Abort>(
+    rt: &R,
+    table: &Table,
+) -> Result<(), Fail> {
+    for (number, row) in table.1.iter().enumerate() {
+        row_answers(rt, table.0, number, row)?;
+    }
+    Ok(())
+}
+
+fn tables_answer<R: Threads + Wait + Sync + AllocGlobal + Abort>(
+    rt: &R,
+    tables: &[Table],
+) -> Result<(), Fail> {
+    for table in tables {
+        table_answers(rt, table)?;
+    }
+    Ok(())
+}
+
+#[test]
+fn each_command_answers_what_its_row_says(rt: HostRuntime) -> Result<(), Fail> {
+    tables_answer(&rt, &procedures::tables())?;
+    tables_answer(&rt, &alone::tables())?;
+    tables_answer(&rt, &drive::tables())?;
+    table_answers(&rt, &("containers", containers::rows()))?;
+    table_answers(&rt, &("run", run::rows()))?;
+    table_answers(&rt, &("audit", audit::rows()))
+}

@@ -1,0 +1,50 @@
+-- The form of a text, by the width of its records.
+use Rattle.std.proofs.Common.{◌≡◌, ◌≢◌, Option, Some, None, refl, sym, ap, subst, inl, inr}
+use Rattle.std.specs.Option.{option_or}
+use Rattle.tl_tree.specs.declared.record.Width.{Width}
+use Rattle.tl_tree.specs.declared.record.Width.TheVariants.{Wide, Narrow}
+use Rattle.tl_tree.specs.Trees.{TreeValue}
+use Rattle.tl_tree.specs.Reading.{records_of}
+use Rattle.tl_forms.specs.Lists.{each_of}
+use Rattle.tl_trail.specs.declared.fault.TrailFault.{TrailFault}
+use Rattle.tl_trail.specs.declared.fault.TrailFault.TheVariants.{NotTrail}
+use Rattle.tl_trail.specs.declared.raw.RawTrail.{RawTrail}
+use Rattle.tl_trail.specs.Raw.{IsHalfRead, IsUnread}
+use Rattle.tl_trail.specs.Reading.{Parts, TrailForm, call_of, form_at, form_of_parts}
+use Rattle.tl_trail.specs.TrailTokens.{IsFirstWidth}
+
+second : {A : Type 0} (wide narrow : Option A) → wide ≡ None → option_or wide narrow ≡ narrow
+second wide narrow none = ap (λ o. option_or o narrow) none
+
+first : {A : Type 0} (wide narrow : Option A) (x : A) → wide ≡ Some x → option_or wide narrow ≡ Some x
+first wide narrow x is = ap (λ o. option_or o narrow) is
+
+module _ (wide narrow : Option TrailForm) where
+  pub half_wide : (tree : TreeValue) (raw : RawTrail) → IsHalfRead wide tree raw → IsHalfRead (option_or wide narrow) tree raw
+  half_wide tree raw h = record { parts = h.parts; form_is = first wide narrow _ h.form_is; tree_is = h.tree_is }
+
+  pub half_narrow : (tree : TreeValue) (raw : RawTrail) → wide ≡ None → IsHalfRead narrow tree raw → IsHalfRead (option_or wide narrow) tree raw
+  half_narrow tree raw none h = subst (λ o. IsHalfRead o tree raw) (sym (second wide narrow none)) h
+
+  pub unread_wide : (e : TrailFault) → e ≢ NotTrail → IsUnread wide e → IsUnread (option_or wide narrow) e
+  unread_wide e other (inl h) = absurd (other h.0)
+  unread_wide e other (inr h) = inr (h.0, h.1, first wide narrow h.0 h.2, h.3, h.4)
+
+  pub unread_narrow : (e : TrailFault) → wide ≡ None → IsUnread narrow e → IsUnread (option_or wide narrow) e
+  unread_narrow e none h = subst (λ o. IsUnread o e) (sym (second wide narrow none)) h
+
+pub none_unread : (form : Option TrailForm) → IsUnread form NotTrail → form ≡ None
+none_unread form (inl h) = h.1
+none_unread form (inr h) = absurd (cc h.3)
+
+-- where the records in the end aren't wide, there is no form of wide records
+no_wide : (parts : Parts) → records_of Wide parts.ends ≡ None → form_at Wide parts ≡ None
+no_wide parts none = by (each_of call_of parts.calls) refl
+  where
+    by : (o : Option _) → each_of call_of parts.calls ≡ o → form_at Wide parts ≡ None
+    by None is = rw is refl
+    by (Some x) is = rw (is, none) refl
+
+pub half_first : (width : Width) (parts : Parts) (tree : TreeValue) (raw : RawTrail) → IsFirstWidth parts.ends width → IsHalfRead (form_at width parts) tree raw → IsHalfRead (form_of_parts parts) tree raw
+half_first Wide parts tree raw is h = half_wide (form_at Wide parts) (form_at Narrow parts) tree raw h
+half_first Narrow parts tree raw is h = half_narrow (form_at Wide parts) (form_at Narrow parts) tree raw (no_wide parts is) h
