@@ -10,13 +10,21 @@
             print(answer)
 
 A refusal of one request raises `Refused`, which has the numbers and says what they mean; within a batch it stands in the
-place of the answer. The connection stays open after a refusal. `docs/formats.md` has the lines that go to and fro, so that a
+place of the answer. The connection stays open after a refusal. An epoch of a server has room for 4,096 calls: `Client(7878, seals=True)`
+seals it where that has to be done, and goes on, until `Exhausted` says that the server has no epoch left. `docs/formats.md` has the lines that go to and fro, so that a
 client in another language can do the same; `docs/faults.md` has all numbers.
 """
 
 import json
 import socket
+import time
 from typing import NamedTuple
+
+# The last call of an epoch: there are 4,096.
+LAST_CALL = 4_095
+# How many seconds a client waits for the seal of another one, and how long it waits before it asks once more.
+PATIENCE = 5.0
+PAUSE = 0.01
 
 # What a server may refuse with, by number: the words of `docs/faults.md`.
 MEANINGS = {
@@ -44,13 +52,15 @@ MEANINGS = {
     490: "memory was refused to the verifier",
     501: "there are more or fewer arguments than the procedure takes",
     601: "no procedure has this name",
-    603: "4,096 calls were admitted",
+    603: "4,096 calls of this epoch were admitted",
     604: "64 calls are open",
-    605: "there is no room for all the events that the call may have",
+    605: "there is no room in the epoch for all the events that the call may have",
+    606: "the call isn't done, so the epoch isn't sealed; it is the least such call",
     611: "a procedure of this name was registered before",
     612: "a name isn't 1 to 32 of ASCII letters, digits and `_`",
     613: "256 procedures were registered",
     690: "memory was refused for a call, a procedure or the order",
+    808: "the last of 256 epochs is the current one, so it isn't sealed",
     890: "memory was refused for what is kept of a call",
     901: "the line is none of the requests",
     902: "the line has more than 65,536 bytes; it is passed over",
@@ -73,6 +83,10 @@ class Refused(Exception):
         super().__init__(f"[{self.number}{parts}] {self.meaning}")
 
 
+class Exhausted(Exception):
+    """The last epoch of the server is full: it takes no further call. End it, and start the next one on the tree that it prints."""
+
+
 class Disconnected(Exception):
     """The server ended the connection before it answered."""
 
@@ -86,17 +100,24 @@ class Bounds(NamedTuple):
 
 
 class Answer(NamedTuple):
-    """A call that was admitted and is done: its number among the server's calls, and its reply."""
+    """A call that was admitted and is done: its number among the calls of its epoch, its reply, and the number of the epoch."""
 
     call: int
     reply: list
+    epoch: int = 0
 
 
 class Client:
     """A connection to a server on a port of this machine. It can be used in a `with`, which closes it."""
 
-    def __init__(self, port, host="127.0.0.1", timeout=None):
-        """Connects. `timeout` is in seconds, for each answer; None waits as long as it takes."""
+    def __init__(self, port, host="127.0.0.1", timeout=None, seals=False):
+        """Connects. `timeout` is in seconds, for each answer; None waits as long as it takes.
+
+        With `seals`, the client that gets the last call of an epoch seals the epoch. Exactly one client gets it, so no two seal at once where
+        all clients of a server do so. A client that finds an epoch full waits for that, and asks again. Where nobody seals for
+        seconds, or the epoch has room for calls but not for all that this one may do, it seals the epoch itself.
+        """
+        self._seals = seals
         self._socket = socket.create_connection((host, port), timeout=timeout)
         self._socket.setsockopt(socket.IPPROTO_TCP, socket.TCP_NODELAY, 1)
         self._answers = self._socket.makefile("rb")
@@ -113,7 +134,18 @@ class Client:
 
     def call(self, procedure, *arguments):
         """Runs a call to its end, and returns its `Answer`."""
-        return _answer(self._ask({"op": "call", "proc": procedure, "args": list(arguments)}))
+        request = {"op": "call", "proc": procedure, "args": list(arguments)}
+        began = time.monotonic()
+        while True:
+            try:
+                answer = _answer(self._ask(request))
+            except Refused as refusal:
+                if not self._is_to_seal(refusal):
+                    raise
+                self._go_on(refusal, began)
+            else:
+                self._seal_behind([answer])
+                return answer
 
     def batch(self, calls, workers=1):
         """Runs 1 to 256 calls, given as (procedure, argument, ..), on 1 to 16 threads at once.
@@ -121,8 +153,59 @@ class Client:
         Returns a list with an `Answer` for each, in order, or a `Refused` where one was refused.
         """
         wanted = [[procedure, list(arguments)] for procedure, *arguments in calls]
+        answers = self._batch(wanted, workers)
+        began = time.monotonic()
+        while places := [place for place, answer in enumerate(answers) if self._is_to_seal(answer)]:
+            self._go_on(answers[places[0]], began)
+            for place, answer in zip(places, self._batch([wanted[place] for place in places], workers)):
+                answers[place] = answer
+        return answers
+
+    def _batch(self, wanted, workers):
         answers = self._ask({"op": "batch", "workers": workers, "calls": wanted})["batch"]
-        return [Refused(answer["error"]) if "error" in answer else _answer(answer) for answer in answers]
+        answers = [Refused(answer["error"]) if "error" in answer else _answer(answer) for answer in answers]
+        self._seal_behind(answers)
+        return answers
+
+    def _is_to_seal(self, answer):
+        """Whether the request was refused since the epoch is full, and this client seals."""
+        return self._seals and isinstance(answer, Refused) and answer.number in (603, 605)
+
+    def _go_on(self, refusal, began):
+        """Waits for the seal of the client that got the epoch's last call, or seals the epoch."""
+        if refusal.number == 603 and time.monotonic() < began + PATIENCE:
+            time.sleep(PAUSE)
+            return
+        try:
+            self.seal()
+        except Refused as unsealed:
+            if unsealed.number == 808:
+                raise Exhausted("the last epoch of the server is full") from unsealed
+            if unsealed.number != 606:
+                raise
+            time.sleep(PAUSE)
+
+    def _seal_behind(self, answers):
+        """Seals the epoch where one of these calls was its last, once the calls of others are done."""
+        is_last = any(isinstance(answer, Answer) and answer.call == LAST_CALL for answer in answers)
+        while self._seals and is_last:
+            try:
+                self.seal()
+                return
+            except Refused as unsealed:
+                # The next call says that the last epoch is full.
+                if unsealed.number == 808:
+                    return
+                if unsealed.number != 606:
+                    raise
+                time.sleep(PAUSE)
+
+    def seal(self):
+        """Seals the current epoch, and returns its number. Calls go on in the next one, on the tree as it is.
+
+        It is refused with 606 while a call is unfinished, and with 808 in the last epoch.
+        """
+        return self._ask({"op": "seal"})["sealed"]
 
     def close(self):
         """Ends the connection. A connection that is closed stays so."""
@@ -171,4 +254,4 @@ def script(procedures, calls):
 
 
 def _answer(answer):
-    return Answer(answer["call"], answer["reply"])
+    return Answer(answer["call"], answer["reply"], answer.get("epoch", 0))

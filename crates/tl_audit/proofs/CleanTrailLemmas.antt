@@ -193,7 +193,7 @@ module _ (t : TrailValue) (is : IsTrail t) where
     admitted_known : (c : ℕ) → c < admits t.past → c < length t.calls
     admitted_known c lt = let few = admits_within (length t.calls) t.past in_turn is.callers in omega arith
 
-    all_done : AllDone t.past
+    pub all_done : AllDone t.past
     all_done c lt = clean.done c (admitted_known c lt)
 
     call_genuine : (c : ℕ) → c < length t.calls → Genuine (meaning_of t c) t.opening t.past c (length (found_alone t c).actions)

@@ -6,3 +6,5 @@ pub mod EndRecords
 pub mod ReplayLemmas
 pub mod LedCalls
 pub mod AuditAnswers
+pub mod ChainLemmas
+pub mod Prefixes

@@ -5,6 +5,7 @@
 #![tactic(auto)]
 
 mod auditing;
+mod chain;
 mod fault;
 mod genuine;
 pub mod laws;
@@ -13,7 +14,9 @@ mod replays;
 mod watch;
 
 pub use auditing::{audit, audit_with};
+pub use chain::{ChainFault, audit_chain, audit_chain_with};
 pub use fault::AuditFault;
 pub use progress::{EVENTS_BETWEEN, Progress, Silent};
-pub use tl_record::trail_of;
-pub use tl_trail::{Trail, TrailFault, read_trail, write_trail};
+pub use tl_trail::{
+    MAX_TRAILS, Trail, TrailFault, read_chain, read_trail, write_chain, write_trail,
+};

@@ -84,8 +84,10 @@ fn close(
 ) -> Option<()> {
     let mut sessions = Vec::new(alloc);
     sessions.push(session).ok()?;
-    let (closed, _) = engine.close(sessions).ok()?;
-    measured.add(nanos, closed.core());
+    let (chain, _) = engine.close(sessions).ok()?;
+    for closed in &chain {
+        measured.add(nanos, closed.core());
+    }
     Some(())
 }
 

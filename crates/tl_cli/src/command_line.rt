@@ -92,6 +92,8 @@ prints {\"order\":[..]}, the order in which the calls would do the same alone, w
 Else it prints what is wrong first: {\"error\":[711,event]}, a rule broken; 712, a lock of a node that another call holds;
 713, another record found than was left; {\"error\":[714,call]}, a call that does not do what its procedure does; 715, one
 that isn't done; 717, another reply; {\"error\":[716,node]}, another record in the end. On a terminal its progress is shown.
+A file that is a list is a chain, one trail an epoch: this prints {\"orders\":[..]}, or {\"error\":[718,trail]} where a trail
+doesn't take over where the one before it ends, or {\"error\":[719,trail,..]} with what is wrong with a trail.
 Exit status: 0 done, 1 refused, 2 a mistake on the command line, 3 a file that can't be read, 4 memory.";
 
 const DIS_HELP: &str = "\
@@ -122,7 +124,9 @@ Example: treedb run --tree fork.json --workers 2 calls.json
 prints {\"batch\":[..]}, what came of each call, {\"call\":0,\"reply\":[8]} or {\"error\":[601]}; {\"order\":[..]}, the order in
 which the calls would do the same alone; and then the tree as JSON. Two runs may take the calls in another order. With
 --trail the calls, what they did and the records in the end are written to a file, which treedb audit checks. The other
-files are not changed.
+files are not changed. A script {\"epochs\":[[call,..],..],\"procs\":[..]} runs one list of calls after another, and seals
+the epoch between two: then there is a {\"batch\":[..]} for each, {\"orders\":[..]} tells the order in each epoch, and the file
+is the list of the epochs' trails.
 Exit status: 0 done, 1 refused, 2 a mistake on the command line, 3 a file that can't be read or written, 4 memory.";
 
 const SERVE_HELP: &str = "\
@@ -130,10 +134,12 @@ Example: treedb serve --tree one-node.json --port 7878 --connections 1
 says on standard error that it listens on 127.0.0.1:7878. Then, from another terminal,
     nc -N 127.0.0.1 7878 < requests.txt
 sends the lines of a file, each a request: {\"op\":\"register\",\"name\":\"add\",\"asm\":\"arity 2\\n..\"},
-{\"op\":\"call\",\"proc\":\"add\",\"args\":[0,3]}, {\"op\":\"batch\",\"calls\":[[\"add\",[0,3]],..],\"workers\":2} or {\"op\":\"close\"}. Each is
-answered by a line, in order. When all connections have ended, this prints {\"order\":[..]}, the order in which their calls
-would do the same alone, and then the tree as JSON. With --trail the calls, what they did and the records in the end are
-written to a file, which treedb audit checks. At most 8 connections are open at once.
+{\"op\":\"call\",\"proc\":\"add\",\"args\":[0,3]}, {\"op\":\"batch\",\"calls\":[[\"add\",[0,3]],..],\"workers\":2}, {\"op\":\"seal\"} or
+{\"op\":\"close\"}. Each is answered by a line, in order. When all connections have ended, this prints {\"order\":[..]}, the
+order in which their calls would do the same alone, and then the tree as JSON. With --trail the calls, what they did and the
+records in the end are written to a file, which treedb audit checks. At most 8 connections are open at once.
+After 4,096 calls a seal begins a new epoch, which goes on with the tree as it is; then this prints {\"orders\":[..]}, the order
+in each epoch, and the file is the list of the epochs' trails.
 Exit status: 0 done, 1 refused, 2 a mistake on the command line, 3 a file that can't be read or written, or a port
 that can't be had, 4 memory.";
 

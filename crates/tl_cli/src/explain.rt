@@ -339,8 +339,8 @@ fn call_meaning(number: u16) -> Option<Meaning> {
         603 => Some((
             "",
             "too many calls",
-            "4,096 calls were admitted",
-            "end the run, and start the next one on the tree that it printed",
+            "4,096 calls of this epoch were admitted",
+            "seal the epoch once all its calls are done, and ask again",
         )),
         604 => Some((
             "",
@@ -351,13 +351,13 @@ fn call_meaning(number: u16) -> Option<Meaning> {
         605 => Some((
             "",
             "history full",
-            "there is no room for all the events that the call may have",
-            "end the run, and start the next one on the tree that it printed",
+            "there is no room in the epoch for all the events that the call may have",
+            "seal the epoch once all its calls are done, and ask again",
         )),
         606 => Some((
             ", call",
             "not at rest",
-            "the call isn't done, so the core isn't sealed; it is the least such call; only in the library",
+            "the call isn't done, so the epoch isn't sealed; it is the least such call",
             "let all calls end, and seal again",
         )),
         607 => Some((
@@ -456,6 +456,18 @@ fn trail_meaning(number: u16) -> Option<Meaning> {
             "the call's reply isn't its procedure's with what it found",
             "no run leaves such a trail; ask who wrote it",
         )),
+        718 => Some((
+            ", trail",
+            "broken chain",
+            "the trail doesn't open with the tree that the one before it ends with, or its procedures don't begin with that one's",
+            "keep the trails of a run together, in their order",
+        )),
+        719 => Some((
+            ", trail, number",
+            "fault in a trail of a chain",
+            "something is wrong with the trail; its fault's numbers follow",
+            "look up the number behind the trail's",
+        )),
         731 => Some((
             "",
             "not a script",
@@ -491,6 +503,12 @@ fn table_meaning(number: u16) -> Option<Meaning> {
             "no such session",
             "no session of this number was given; only in the library",
             "take a session from the table",
+        )),
+        808 => Some((
+            "",
+            "too many epochs",
+            "the last of 256 epochs is the current one, so it isn't sealed",
+            "end the run, and start the next one on the tree that it printed",
         )),
         821 => Some((
             "",

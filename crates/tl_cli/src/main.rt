@@ -7,6 +7,7 @@ mod failure;
 mod output;
 mod program;
 mod progress;
+mod trail_file;
 
 use clap::Error;
 use command_line::Asked;

@@ -3,6 +3,7 @@
 use crate::command_line::Request;
 use crate::failure::Failure;
 use crate::progress::Shown;
+use crate::trail_file::TrailFile;
 use crate::{
     CliFault, alone_cmd, asm_cmd, audit_cmd, conclude_engine, conclude_engine_with_trail, dis_cmd,
     drive_cmd, drive_with_trail_cmd, migrate_cmd, open_engine, output, run_cmd, run_with_trail_cmd,
@@ -111,6 +112,19 @@ impl<'a, R: Files + Print + Eprint + AllocGlobal> Program<'a, R> {
     }
 }
 
+// What is printed after a trail's file was written, or why that wasn't done.
+fn printed<'p, R: Files>(
+    path: &'p str,
+    file: TrailFile<'_, R>,
+    answer: Result<String, CliFault>,
+) -> Result<String, Failure<'p>> {
+    match (answer, file.into_reason()) {
+        (Ok(lines), _) => Ok(lines),
+        (Err(CliFault::Unwritable), Some(reason)) => Err(Failure::Unwritable { path, reason }),
+        (Err(fault), _) => Err(Failure::Refused(fault)),
+    }
+}
+
 impl<'a, R: Files + Print + Eprint + AllocGlobal + Threads + Wait + Sync> Program<'a, R> {
     // The trail is written to a file, where one is named.
     fn run<'p>(
@@ -128,9 +142,9 @@ impl<'a, R: Files + Print + Eprint + AllocGlobal + Threads + Wait + Sync> Progra
         let Some(path) = trail else {
             return Ok(run_cmd(self.rt, alloc, &tree, &script, workers, &NoGate)?);
         };
-        let (lines, trail) = run_with_trail_cmd(self.rt, alloc, &tree, &script, workers, &NoGate)?;
-        self.write_file(path, trail.as_bytes())?;
-        Ok(lines)
+        let mut file = TrailFile::new(self.rt, path);
+        let ran = run_with_trail_cmd(self.rt, alloc, &tree, &script, workers, &NoGate, &mut file);
+        printed(path, file, ran)
     }
 }
 
@@ -173,9 +187,9 @@ where
         let Some(path) = trail else {
             return Ok(conclude_engine(alloc, engine, sessions)?);
         };
-        let (lines, trail) = conclude_engine_with_trail(alloc, engine, sessions)?;
-        self.write_file(path, trail.as_bytes())?;
-        Ok(lines)
+        let mut file = TrailFile::new(self.rt, path);
+        let concluded = conclude_engine_with_trail(alloc, engine, sessions, &mut file);
+        printed(path, file, concluded)
     }
 
     // What the program prints for a request.

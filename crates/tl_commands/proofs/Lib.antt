@@ -5,3 +5,7 @@ pub mod DriveLemmas
 pub mod RunLemmas
 pub mod ProcedureLines
 mod Rows
+pub mod SinkLemmas
+pub mod ClosingLemmas
+pub mod ScriptCounts
+pub mod AuditLemmas

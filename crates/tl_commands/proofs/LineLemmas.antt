@@ -1,13 +1,13 @@
 -- The values of the lines, and the lines one after another.
-use Rattle.std.proofs.Common.{◌≡◌, ◌+◌, ◌<◌, ℕ, List, [], ◌∷◌, ◌++◌, length, get_or, take, map, false, refl, sym, ap, ap₂, ◌∙◌, inl, inr}
+use Rattle.std.proofs.Common.{◌≡◌, ◌+◌, ◌<◌, ℕ, List, [], ◌∷◌, ◌++◌, length, get_or, take, map, codes, Bool, true, false, ◌==◌, if◌then◌else◌, refl, sym, ap, ap₂, ◌∙◌, inl, inr}
 use Rattle.std.specs.Prelude.{Result, Ok, Err}
 use Rattle.std.proofs.lemmas.List.{append_assoc, map_push, map_more}
-use Rattle.serde_json.specs.Data.{Data}
+use Rattle.serde_json.specs.Data.{Data, object, member, no_members}
 use Rattle.serde_json.specs.View.{view}
 use Rattle.serde_json.specs.Written.{has_float, compact_text}
 use Rattle.serde_json.specs.declared.value.Value.{Value}
 use Rattle.tl_tree.specs.Trees.{TreeValue}
-use Rattle.tl_tree.specs.Writing.{tree_text}
+use Rattle.tl_tree.specs.Writing.{tree_text, integers_data}
 use Rattle.tl_tree.proofs.Texts.{whole_items, integer_whole, integers_whole}
 use Rattle.tl_protocol.specs.declared.action.Action.{Action}
 use Rattle.tl_protocol.specs.declared.action.Action.TheVariants.{Plain, Lock, Read, Write, Free, Emit, End}
@@ -23,7 +23,8 @@ use Rattle.tl_table.specs.declared.receipt.Receipt.{Receipt}
 use Rattle.tl_workers.specs.Refusals.{numbers_of as refusal_numbers_of}
 use Rattle.tl_workers.specs.declared.refusal.Refusal.{Refusal}
 use Rattle.tl_commands.specs.Trace.{action_data, stepped_data, entry_data, trace_data, error_data}
-use Rattle.tl_forms.specs.Lists.{order_data}
+use Rattle.tl_forms.specs.Lists.{calls_data, order_data, orders_data}
+use Rattle.tl_commands.specs.Closing.{orders_form}
 use Rattle.tl_commands.specs.Drive.{IsConclusion}
 use Rattle.tl_commands.specs.Run.{answer_data, batch_data}
 use Rattle.tl_commands.specs.Scripted.{lines_text, two_lines_text}
@@ -64,6 +65,17 @@ trace_whole entries = rw (whole_items entry_data entry_whole entries) refl
 pub order_whole : (order : List ℕ) → has_float (order_data order) ≡ false
 order_whole order = rw (whole_items natural natural_whole order) refl
 
+calls_whole : (calls : List ℕ) → has_float (calls_data calls) ≡ false
+calls_whole calls = rw (whole_items natural natural_whole calls) refl
+
+pub orders_whole : (orders : List (List ℕ)) → has_float (orders_data orders) ≡ false
+orders_whole orders = rw (whole_items calls_data calls_whole orders) refl
+
+pub form_whole : (has_epochs : Bool) (orders : List (List ℕ)) → has_float (orders_form has_epochs orders) ≡ false
+form_whole true orders = orders_whole orders
+form_whole false [] = orders_whole []
+form_whole false (order ∷ orders) = order_whole order
+
 pub conclusion_whole : (v : CoreValue) (d : Data) → IsConclusion v d → has_float d ≡ false
 conclusion_whole v d (inl order) = ap has_float order.1 ∙ order_whole (placed v.parents v.past)
 conclusion_whole v d (inr unfinished) = ap has_float unfinished.2
@@ -71,8 +83,14 @@ conclusion_whole v d (inr unfinished) = ap has_float unfinished.2
 error_whole : (numbers : List ℕ) → has_float (error_data numbers) ≡ false
 error_whole numbers = rw (whole_items natural natural_whole numbers) refl
 
+-- a call's number, maybe its epoch's, and its reply
+parts_whole : (first : Bool) (c e : ℕ) (reply : Data) → has_float reply ≡ false
+    → has_float (object (member (codes "call") (natural c) (if first then member (codes "reply") reply no_members else member (codes "epoch") (natural e) (member (codes "reply") reply no_members)))) ≡ false
+parts_whole true c e reply whole = rw whole refl
+parts_whole false c e reply whole = rw whole refl
+
 answer_whole : (answer : Result Receipt Refusal) → has_float (answer_data answer) ≡ false
-answer_whole (Ok r) = rw (integers_whole r.reply.items) refl
+answer_whole (Ok r) = parts_whole (r.epoch == 0) r.call r.epoch (integers_data r.reply.items) (integers_whole r.reply.items)
 answer_whole (Err f) = error_whole (refusal_numbers_of f)
 
 pub batch_whole : (answers : List (Result Receipt Refusal)) → has_float (batch_data answers) ≡ false

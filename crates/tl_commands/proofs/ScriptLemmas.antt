@@ -1,14 +1,12 @@
 -- The parts of a script, and what a file with a script has.
 use Rattle.std.proofs.Common.{◌≡◌, ◌≢◌, ◌≤◌, ℕ, ℤ, List, length, codes, Option, Some, None, option_map, option_and_then, IsUtf8, refl, sym, ap, ◌∙◌, eq-eqb, ne_eqb}
 use Rattle.std.specs.Prelude.{MatchOption}
-use Rattle.std.proofs.lemmas.Bool.{le-leb}
 use Rattle.serde_json.specs.Data.{Data, null, boolean, number, string, array, object, Members}
 use Rattle.serde_json.specs.Events.{members_len}
 use Rattle.serde_json.specs.Find.{as_object, get, get_member}
 use Rattle.serde_json.specs.Read.{read}
-use Rattle.tl_forms.specs.Requests.{request_of}
 use Rattle.tl_commands.specs.declared.script.Script.{Script}
-use Rattle.tl_commands.specs.Script.{ScriptValue, parts_of, script_of, if_few, script_of_calls, IsScript}
+use Rattle.tl_commands.specs.Script.{ScriptValue, parts_of, IsScript}
 
 -- ---- its parts
 
@@ -42,22 +40,3 @@ file_read of f bytes d (Some x) utf8 is same = record { utf8 = utf8; same = ap (
 pub file_other : {A : Type 0} (of : Data → Option (ScriptValue A)) (bytes : List ℕ) → (IsUtf8 bytes → read bytes ≡ None) → (s : ScriptValue A) → ¬ IsScript of bytes s
 file_other of bytes other s script =
     let none : None ≡ Some s = ap (option_and_then of) (sym (other script.utf8)) ∙ script.same in absurd cc
-
--- ---- the number of calls
-
--- the script of calls, however many they are
-all_calls : Data → Option (ScriptValue (List ℕ × List ℤ))
-all_calls = script_of (codes "calls") request_of
-
-and_then_both : {A B C : Type 0} (f : A → Option B) (g : B → Option C) (o : Option A) → option_and_then (λ a. option_and_then g (f a)) o ≡ option_and_then g (option_and_then f o)
-and_then_both f g None = refl
-and_then_both f g (Some a) = refl
-
-pub few_calls : (bytes : List ℕ) (s : ScriptValue (List ℕ × List ℤ)) → IsScript (script_of (codes "calls") request_of) bytes s → 1 ≤ length s.tasks → length s.tasks ≤ 256
-    → IsScript script_of_calls bytes s
-few_calls bytes s is some few =
-    let fit : if_few s ≡ Some s = rw (le-leb 1 (length s.tasks) some, le-leb (length s.tasks) 256 few) refl in
-    record {
-      utf8 = is.utf8;
-      same = and_then_both (script_of (codes "calls") request_of) if_few (read bytes) ∙ ap (option_and_then if_few) is.same ∙ fit;
-    }

@@ -18,7 +18,7 @@ use Rattle.tl_machine.specs.Alone.{alone}
 use Rattle.tl_protocol.specs.Alone.{Outcome}
 use Rattle.tl_machine.specs.Outcomes.{outcome_of}
 use Rattle.tl_commands.specs.declared.fault.CliFault.{CliFault}
-use Rattle.tl_commands.specs.declared.fault.CliFault.TheVariants.{Unreadable, Unwritable, NoPort, NotUtf8, Asm, Tree, Code, Verify, Register, Core, Trail, Audit, Engine, NotClosed, NotScript, NotArgs, WrongArgs, Memory}
+use Rattle.tl_commands.specs.declared.fault.CliFault.TheVariants.{Unreadable, Unwritable, NoPort, NotUtf8, Asm, Tree, Code, Verify, Register, Core, Trail, Audit, Chain, Engine, NotClosed, NotScript, NotArgs, WrongArgs, Memory}
 
 -- the first line: the reply, and how many instructions were done
 abbrev pub answer_text : List ℤ → ℕ → List ℕ
@@ -74,6 +74,7 @@ IsFirstAloneFault t c a (Register f) = ⊥
 IsFirstAloneFault t c a (Core f) = ⊥
 IsFirstAloneFault t c a (Trail f) = ⊥
 IsFirstAloneFault t c a (Audit f) = ⊥
+IsFirstAloneFault t c a (Chain f) = ⊥
 IsFirstAloneFault t c a (Engine r) = ⊥
 IsFirstAloneFault t c a NotClosed = ⊥
 IsFirstAloneFault t c a NotScript = ⊥

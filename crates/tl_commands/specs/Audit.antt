@@ -1,37 +1,73 @@
 -- What the command `audit` prints, and when it answers which fault.
-use Rattle.std.specs.Prelude.{◌≡◌, ◌≢◌, ◌⊎◌, ℕ, List, [], ◌∷◌, ◌++◌, IsUtf8}
+use Rattle.std.specs.Prelude.{◌≡◌, ◌≢◌, ◌⊎◌, ℕ, ◌==◌, ◌||◌, Bool, true, false, List, [], ◌∷◌, ◌++◌, map, if◌then◌else◌, IsTrue, IsUtf8}
 use Rattle.serde_json.specs.Written.{compact_text}
 use Rattle.tl_protocol.specs.Order.{placed}
 use Rattle.tl_trail.specs.Trails.{TrailValue}
 use Rattle.tl_trail.specs.Reading.{IsTrailText, IsFirstTrailFault}
+use Rattle.tl_trail.specs.Chains.{IsChainText}
+use Rattle.tl_trail.specs.Chains as chains
 use Rattle.tl_trail.specs.Clean.{Clean}
 use Rattle.tl_audit.specs.Findings.{IsFirstFault}
+use Rattle.tl_audit.specs.Chains.{IsCleanChain, IsFirstChainFault, AreSerial, order_of}
 use Rattle.tl_trail.specs.declared.fault.TrailFault.{TrailFault}
 use Rattle.tl_trail.specs.declared.fault.TrailFault.TheVariants.{NotTrail}
 use Rattle.tl_audit.specs.declared.fault.AuditFault.{AuditFault}
+use Rattle.tl_audit.specs.declared.chain.ChainFault.{ChainFault}
 use Rattle.tl_commands.specs.declared.fault.CliFault.{CliFault}
-use Rattle.tl_commands.specs.declared.fault.CliFault.TheVariants.{Trail, Audit}
+use Rattle.tl_commands.specs.declared.fault.CliFault.TheVariants.{Trail, Audit, Chain}
 use Rattle.tl_commands.specs.Faults.{status_of}
-use Rattle.tl_forms.specs.Lists.{order_data}
+use Rattle.tl_forms.specs.Lists.{order_data, orders_data}
 
--- the bytes are UTF-8, and a text of the trail
-pub record IsTrailFile (bytes : List ℕ) (t : TrailValue) : Type 0 where
-  pub utf8 : IsUtf8 bytes
-  pub text : IsTrailText bytes t
-
--- what is wrong with a file of a trail
-abbrev pub IsTrailFileFault : List ℕ → TrailFault → Type 0
-IsTrailFileFault bytes f = ((f ≡ NotTrail) × (IsUtf8 bytes → ⊥)) ⊎ IsFirstTrailFault bytes f
+-- a bracket comes first, but for white space
+abbrev pub begins_with_list : List ℕ → Bool
+begins_with_list [] = false
+begins_with_list (b ∷ bs) = if (b == 32) || (b == 9) || (b == 10) || (b == 13) then begins_with_list bs else b == 91
 
 -- The trail is clean, and what is printed is the order that its events give.
-pub record Audits (bytes out : List ℕ) : Type 0 where
+pub record AuditsTrail (bytes out : List ℕ) : Type 0 where
   pub trail : TrailValue
-  pub file : IsTrailFile bytes trail
+  pub text : IsTrailText bytes trail
   pub clean : Clean trail
   pub same : out ≡ compact_text (order_data (placed trail.parents trail.past)) ++ 10 ∷ []
 
--- the first fault of the file, else the first of the trail; or want of memory
+-- The chain is clean, and what is printed are the orders that its trails' events give. All calls, run alone one after another along
+-- these orders joined, leave the records in the end, and give their replies.
+pub record AuditsChain (bytes out : List ℕ) : Type 0 where
+  pub trails : List TrailValue
+  pub text : IsChainText bytes trails
+  pub clean : IsCleanChain trails
+  pub serial : AreSerial trails (map order_of trails)
+  pub same : out ≡ compact_text (orders_data (map order_of trails)) ++ 10 ∷ []
+
+-- of a list those of a chain, of any other text those of a trail
+abbrev pub AuditsText : Bool → List ℕ → List ℕ → Type 0
+AuditsText true bytes out = AuditsChain bytes out
+AuditsText false bytes out = AuditsTrail bytes out
+
+-- the bytes are UTF-8, and those of a chain where a bracket comes first, else of a trail
+pub record Audits (bytes out : List ℕ) : Type 0 where
+  pub utf8 : IsUtf8 bytes
+  pub answer : AuditsText (begins_with_list bytes) bytes out
+
+-- the first fault of the text, else the first of the trail; or want of memory
+abbrev pub IsFirstTrailAuditFault : List ℕ → CliFault → Type 0
+IsFirstTrailAuditFault bytes e = status_of e ≢ 4 →
+    ((f : TrailFault) × (e ≡ Trail f) × IsFirstTrailFault bytes f)
+    ⊎ ((t : TrailValue) × (f : AuditFault) × (e ≡ Audit f) × IsTrailText bytes t × IsFirstFault t f)
+
+-- the first fault of the text, else the first of the chain; or want of memory
+abbrev pub IsFirstChainAuditFault : List ℕ → CliFault → Type 0
+IsFirstChainAuditFault bytes e = status_of e ≢ 4 →
+    ((f : TrailFault) × (e ≡ Trail f) × chains.IsFirstChainFault bytes f)
+    ⊎ ((ts : List TrailValue) × (f : ChainFault) × (e ≡ Chain f) × IsChainText bytes ts × IsFirstChainFault ts f)
+
+-- of a list what is wrong with a chain, of any other text what is wrong with a trail
+abbrev pub IsFirstTextFault : Bool → List ℕ → CliFault → Type 0
+IsFirstTextFault true bytes e = IsFirstChainAuditFault bytes e
+IsFirstTextFault false bytes e = IsFirstTrailAuditFault bytes e
+
+-- 701 where the bytes are no UTF-8
 abbrev pub IsFirstAuditFault : List ℕ → CliFault → Type 0
-IsFirstAuditFault bytes e = status_of e ≢ 4 →
-    ((f : TrailFault) × (e ≡ Trail f) × IsTrailFileFault bytes f)
-    ⊎ ((t : TrailValue) × (f : AuditFault) × (e ≡ Audit f) × IsTrailFile bytes t × IsFirstFault t f)
+IsFirstAuditFault bytes e =
+    ((e ≡ Trail NotTrail) × (IsUtf8 bytes → ⊥))
+    ⊎ (IsUtf8 bytes × IsFirstTextFault (begins_with_list bytes) bytes e)

@@ -12,14 +12,15 @@ use Rattle.tl_forms.specs.Faults.{numbers_of as register_numbers_of, is_memory}
 use Rattle.tl_core.specs.Faults.{numbers_of as core_numbers_of}
 use Rattle.tl_core.specs.declared.fault.CoreFault.TheVariants as core
 use Rattle.tl_trail.specs.Faults.{numbers_of as trail_numbers_of}
-use Rattle.tl_audit.specs.Faults.{audit_numbers_of}
+use Rattle.tl_audit.specs.Faults.{audit_numbers_of, chain_numbers_of}
 use Rattle.tl_trail.specs.declared.fault.TrailFault.TheVariants as trail
 use Rattle.tl_audit.specs.declared.fault.AuditFault.TheVariants as audit
+use Rattle.tl_audit.specs.declared.chain.ChainFault.TheVariants as chain
 use Rattle.tl_table.specs.declared.fault.TableFault.TheVariants as table
 use Rattle.tl_workers.specs.Refusals.{numbers_of as engine_numbers_of}
 use Rattle.tl_workers.specs.declared.refusal.Refusal.TheVariants as refusal
 use Rattle.tl_commands.specs.declared.fault.CliFault.{CliFault}
-use Rattle.tl_commands.specs.declared.fault.CliFault.TheVariants.{Unreadable, Unwritable, NoPort, NotUtf8, Asm, Tree, Code, Verify, Register, Core, Trail, Audit, Engine, NotClosed, NotScript, NotArgs, WrongArgs, Memory}
+use Rattle.tl_commands.specs.declared.fault.CliFault.TheVariants.{Unreadable, Unwritable, NoPort, NotUtf8, Asm, Tree, Code, Verify, Register, Core, Trail, Audit, Chain, Engine, NotClosed, NotScript, NotArgs, WrongArgs, Memory}
 
 abbrev pub numbers_of : CliFault → List ℕ
 numbers_of Unreadable = 31 ∷ []
@@ -34,6 +35,7 @@ numbers_of (Register f) = register_numbers_of f
 numbers_of (Core f) = core_numbers_of f
 numbers_of (Trail f) = trail_numbers_of f
 numbers_of (Audit f) = audit_numbers_of f
+numbers_of (Chain f) = chain_numbers_of f
 numbers_of (Engine r) = engine_numbers_of r
 numbers_of NotClosed = 831 ∷ []
 numbers_of NotScript = 731 ∷ []
@@ -54,6 +56,7 @@ status_of (Register f) = if is_memory f then 4 else 1
 status_of (Core core.Memory) = 4
 status_of (Trail trail.Memory) = 4
 status_of (Audit audit.Memory) = 4
+status_of (Chain chain.Memory) = 4
 status_of (Engine refusal.Memory) = 4
 status_of (Engine (refusal.Table table.Memory)) = 4
 status_of (Engine (refusal.Table (table.Core core.Memory))) = 4

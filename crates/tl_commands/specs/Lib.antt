@@ -9,3 +9,5 @@ pub mod Serve
 pub mod Audit
 pub mod Procedures
 pub mod Widening
+pub mod Closing
+pub mod Sinks

@@ -1,106 +1,132 @@
 -- What the command `run` prints, and when it answers which fault.
-use Rattle.std.specs.Prelude.{◌≡◌, ◌≢◌, ◌⊎◌, ℕ, ℤ, List, [], ◌∷◌, ◌++◌, map, codes, Result, Ok, Err}
-use Rattle.serde_json.specs.Data.{Data, object, member, no_members}
+use Rattle.std.specs.Prelude.{◌≡◌, ◌≢◌, ◌⊎◌, ℕ, ◌==◌, ℤ, Bool, List, [], ◌∷◌, ◌++◌, map, codes, Result, Ok, Err, Vec, Option, if◌then◌else◌}
+use Rattle.std.specs.declared.alloc.Global.{Global}
+use Rattle.serde_json.specs.Data.{Data, Members, object, member, no_members}
+use Rattle.serde_json.specs.Written.{compact_text}
 use Rattle.tl_tree.specs.Writing.{integers_data}
-use Rattle.tl_protocol.specs.Alone.{serial}
-use Rattle.tl_protocol.specs.Order.{placed}
-use Rattle.tl_protocol.specs.History.{AllDone, records_now}
-use Rattle.tl_protocol.specs.World.{Legal, reply_of}
 use Rattle.tl_procedures.specs.Names.{Named}
 use Rattle.tl_procedures.specs.declared.request.Request.{Request}
-use Rattle.tl_core.specs.Cores.{CoreValue, world_of}
-use Rattle.tl_forms.specs.Lists.{list_data, natural, order_data}
+use Rattle.tl_forms.specs.Lists.{list_data, natural}
 use Rattle.tl_forms.specs.Registering.{TakenUp}
 use Rattle.tl_forms.specs.Requests.{request_form}
-use Rattle.tl_table.specs.Tables.{TableValue, seen}
+use Rattle.tl_table.specs.Epochs.{EpochValue}
+use Rattle.tl_table.specs.Tables.{TableValue, IsChain}
 use Rattle.tl_table.specs.declared.fault.TableFault.TheVariants.{TooManySessions}
 use Rattle.tl_table.specs.declared.receipt.Receipt.{Receipt}
 use Rattle.tl_workers.specs.Kept.{SessionValue, AnswersEach, asked_of, gots_of}
 use Rattle.tl_workers.specs.Matching.{Matches, DoesNotClose}
-use Rattle.tl_workers.specs.Refusals.{numbers_of}
+use Rattle.tl_workers.specs.Refusals.{numbers_of, IsSealRefused}
 use Rattle.tl_workers.specs.declared.refusal.Refusal.{Refusal}
 use Rattle.tl_workers.specs.declared.refusal.Refusal.TheVariants as refusal
-use Rattle.tl_record.specs.Recording.{trail_value}
-use Rattle.tl_trail.specs.Writing.{trail_text}
+use Rattle.tl_workers.specs.declared.session.Did.{Did}
 use Rattle.tl_commands.specs.declared.fault.CliFault.{CliFault}
 use Rattle.tl_commands.specs.declared.fault.CliFault.TheVariants.{Engine, NotClosed}
 use Rattle.tl_commands.specs.Alone.{IsTreeFile}
+use Rattle.tl_commands.specs.Closing.{IsClosing}
 use Rattle.tl_commands.specs.Faults.{status_of}
-use Rattle.tl_commands.specs.Script.{ScriptValue, IsScript, script_of_calls}
-use Rattle.tl_commands.specs.Scripted.{tree_now, lines_text, IsWrong}
+use Rattle.tl_commands.specs.Script.{BatchesValue, IsScript, script_of_run, has_epochs}
+use Rattle.tl_commands.specs.Scripted.{IsWrong}
+use Rattle.tl_commands.specs.Sinks.{Adds, trails_file}
 use Rattle.tl_commands.specs.Trace.{error_data}
 
--- ---- the first line
+-- ---- the first lines
+
+-- the number of an epoch; the first one's is left out
+abbrev pub with_epoch : ℕ → Members → Members
+with_epoch epoch more = if epoch == 0 then more else member (codes "epoch") (natural epoch) more
 
 -- a call and its reply, or why the request was refused
 abbrev pub answer_data : Result Receipt Refusal → Data
-answer_data (Ok r) = object (member (codes "call") (natural r.call) (member (codes "reply") (integers_data r.reply.items) no_members))
+answer_data (Ok r) =
+    object (member (codes "call") (natural r.call) (with_epoch r.epoch (member (codes "reply") (integers_data r.reply.items) no_members)))
 answer_data (Err f) = error_data (numbers_of f)
 
 abbrev pub batch_data : List (Result Receipt Refusal) → Data
 batch_data answers = object (member (codes "batch") (list_data (map answer_data answers)) no_members)
 
+-- a line for each batch
+abbrev pub batch_lines : List (List (Result Receipt Refusal)) → List ℕ
+batch_lines [] = []
+batch_lines (answers ∷ rest) = compact_text (batch_data answers) ++ 10 ∷ batch_lines rest
+
 -- ---- what is printed
 
+abbrev pub batches_of : List (Vec Request Global) → List (List Request)
+batches_of batches = map (λ b. b.items) batches
+
+abbrev pub answers_of : List (Vec (Result Receipt Refusal) Global) → List (List (Result Receipt Refusal))
+answers_of answers = map (λ a. a.items) answers
+
 -- The tree's file has a tree, the script's procedures are taken up, and these are its calls.
-pub record IsReady (tree_bytes script_bytes : List ℕ) (requests : List Request) : Type 0 where
+pub record IsReady (tree_bytes script_bytes : List ℕ) (batches : List (List Request)) : Type 0 where
   pub tree : IsTreeFile tree_bytes
-  pub script : ScriptValue (List ℕ × List ℤ)
+  pub script : BatchesValue
   pub procedures : List Named
-  pub script_is : IsScript script_of_calls script_bytes script
+  pub script_is : IsScript script_of_run script_bytes script
   pub taken_up : TakenUp [] script.procedures procedures
-  pub requests_are : map request_form requests ≡ script.tasks
+  pub batches_are : map (map request_form) batches ≡ script.tasks
 
--- The requests were made in the session, and these are the answers: the session has what was asked for, and then each receipt.
-pub record AreAnswered (requests : List Request) (answers : List (Result Receipt Refusal)) (session : SessionValue) : Type 0 where
-  pub each : AnswersEach requests answers
-  pub kept : session.kept ≡ asked_of requests answers ++ gots_of answers
+-- these answer the requests of each batch
+abbrev pub AnswersBatches : List (List Request) → List (List (Result Receipt Refusal)) → Type 0
+AnswersBatches [] [] = Unit {0}
+AnswersBatches [] (answers ∷ rest) = ⊥
+AnswersBatches (requests ∷ batches) [] = ⊥
+AnswersBatches (requests ∷ batches) (answers ∷ rest) = AnswersEach requests answers × AnswersBatches batches rest
 
--- The script's calls were asked for, and the table says the same of them as the session.
-pub record IsRun (tree_bytes script_bytes : List ℕ) (answers : List (Result Receipt Refusal)) (table : TableValue) : Type 0 where
-  pub requests : List Request
+-- what a session keeps of each batch, joined: what was asked for, and then each receipt
+abbrev pub kept_of : List (List Request) → List (List (Result Receipt Refusal)) → List Did
+kept_of (requests ∷ batches) (answers ∷ rest) = (asked_of requests answers ++ gots_of answers) ++ kept_of batches rest
+kept_of batches answers = []
+
+-- The requests were made in the session, batch by batch, and these are the answers.
+pub record AreAnswered (batches : List (List Request)) (answers : List (List (Result Receipt Refusal))) (session : SessionValue) : Type 0 where
+  pub each : AnswersBatches batches answers
+  pub kept : session.kept ≡ kept_of batches answers
+
+-- The script's calls were asked for, and the epochs of the closed table say the same of them as the session.
+pub record IsRun (tree_bytes script_bytes : List ℕ) (answers : List (List (Result Receipt Refusal))) (es : List EpochValue) : Type 0 where
+  pub batches : List (List Request)
   pub session : SessionValue
-  pub ready : IsReady tree_bytes script_bytes requests
-  pub answered : AreAnswered requests answers session
-  pub matches : Matches table session
+  pub ready : IsReady tree_bytes script_bytes batches
+  pub answered : AreAnswered batches answers session
+  pub chain : IsChain es
+  pub matches : Matches es session
 
--- The history is legal, and all calls are done. Run alone, one after another in that order, they leave the records that there are
--- now, and give the replies that they gave.
-pub record IsOrder (v : CoreValue) (order : List ℕ) : Type 0 where
-  pub legal : Legal (world_of v)
-  pub done : AllDone v.past
-  pub same : order ≡ placed v.parents v.past
-  pub leaves : (serial (world_of v).meanings order v.opening).tree ≡ records_now v.past v.opening
-  pub replies : (serial (world_of v).meanings order v.opening).replies ≡ map (reply_of (world_of v)) order
+-- What is printed are the answers to each batch, the orders of the epochs' calls, and the tree in the end.
+pub record PrintsRun (with_epochs : Bool) (answers : List (List (Result Receipt Refusal))) (es : List EpochValue) (out : List ℕ) : Type 0 where
+  pub closing : List ℕ
+  pub closes : IsClosing with_epochs es closing
+  pub same : out ≡ batch_lines answers ++ closing
 
--- What is printed are the answers, the order of the table's calls, and its tree.
-pub record Prints (tree_bytes script_bytes out : List ℕ) (v : CoreValue) : Type 0 where
-  pub answers : List (Result Receipt Refusal)
-  pub table : TableValue
-  pub order : List ℕ
-  pub run : IsRun tree_bytes script_bytes answers table
-  pub core : v ≡ seen table
-  pub ordered : IsOrder v order
-  pub same : out ≡ lines_text (batch_data answers) (order_data order) (tree_now v)
+pub record Prints (tree_bytes script_bytes out : List ℕ) (es : List EpochValue) : Type 0 where
+  pub answers : List (List (Result Receipt Refusal))
+  pub run : IsRun tree_bytes script_bytes answers es
+  pub printed : PrintsRun (has_epochs script_bytes) answers es out
 
 abbrev pub Runs : List ℕ → List ℕ → List ℕ → Type 0
-Runs t s out = (v : CoreValue) × Prints t s out v
+Runs t s out = (es : List EpochValue) × Prints t s out es
 
--- The same, and the file has the trail of that core, and a line feed.
-abbrev pub RunsToTrail : List ℕ → List ℕ → List ℕ → List ℕ → Type 0
-RunsToTrail t s out file = (v : CoreValue) × Prints t s out v × (file ≡ trail_text (trail_value v) ++ 10 ∷ [])
+-- The same, and the file has the trails of those epochs.
+abbrev pub RunsToTrail : List ℕ → List ℕ → List ℕ → Option (List ℕ) → Option (List ℕ) → Type 0
+RunsToTrail t s out old new = (es : List EpochValue) × Prints t s out es × Adds old (trails_file es) new
 
 -- ---- faults
 
--- The engine has no session left, or it doesn't close: a call is unfinished, or the table says something else than the session.
-abbrev pub IsLeftOpen : List Request → CliFault → Type 0
-IsLeftOpen requests e =
+-- the table isn't sealed between two batches
+abbrev pub IsNotGoingOn : CliFault → Type 0
+IsNotGoingOn e = (r : Refusal) × (e ≡ Engine r) × IsSealRefused r
+
+-- The engine has no session left, or isn't sealed, or it doesn't close: a call is unfinished, or the epochs say something else than the
+-- session.
+abbrev pub IsLeftOpen : List (List Request) → CliFault → Type 0
+IsLeftOpen batches e =
     (e ≡ Engine (refusal.Table TooManySessions))
-    ⊎ ((e ≡ NotClosed) × (answers : List (Result Receipt Refusal)) × (session : SessionValue) × (table : TableValue)
-    × AreAnswered requests answers session × DoesNotClose table (session ∷ []))
+    ⊎ IsNotGoingOn e
+    ⊎ ((e ≡ NotClosed) × (answers : List (List (Result Receipt Refusal))) × (session : SessionValue) × (table : TableValue)
+    × AreAnswered batches answers session × DoesNotClose table (session ∷ []))
 
 -- what is wrong first, else why the engine doesn't close; or want of memory
 abbrev pub IsFirstRunFault : List ℕ → List ℕ → CliFault → Type 0
 IsFirstRunFault t s e = status_of e ≢ 4 →
-    IsWrong script_of_calls t s e
-    ⊎ ((requests : List Request) × IsReady t s requests × IsLeftOpen requests e)
+    IsWrong script_of_run t s e
+    ⊎ ((batches : List (List Request)) × IsReady t s batches × IsLeftOpen batches e)

@@ -1,6 +1,7 @@
 -- What the scripts of the commands `drive` and `run` are.
-use Rattle.std.specs.Prelude.{◌≡◌, ◌==◌, nat_lt, nat_le, ◌&&◌, ℕ, ℤ, map, length, List, codes, Option, Some, None, option_map, option_and_then, string_bytes, if◌then◌else◌, IsUtf8}
-use Rattle.std.specs.Option.{option_or}
+use Rattle.std.specs.Prelude.{◌≡◌, ◌==◌, nat_lt, nat_le, ◌&&◌, ℕ, ℤ, Bool, true, false, map, length, List, [], ◌∷◌, Vec, codes, Option, Some, None, option_map, option_and_then, string_bytes, if◌then◌else◌, IsUtf8}
+use Rattle.std.specs.Option.{option_or, option_map_or}
+use Rattle.std.specs.declared.alloc.Global.{Global}
 use Rattle.serde_json.specs.Data.{Data}
 use Rattle.serde_json.specs.Events.{members_len}
 use Rattle.serde_json.specs.Find.{as_number, as_u64, as_object, get_member}
@@ -8,7 +9,8 @@ use Rattle.serde_json.specs.Read.{read}
 use Rattle.tl_tree.specs.Reading.{both}
 use Rattle.tl_forms.specs.Lists.{each_of}
 use Rattle.tl_forms.specs.Procedures.{procedure_form, procedure_of}
-use Rattle.tl_forms.specs.Requests.{request_of}
+use Rattle.tl_forms.specs.Requests.{request_form, request_of}
+use Rattle.tl_procedures.specs.declared.request.Request.{Request}
 use Rattle.tl_core.specs.declared.moves.Move.{Move}
 use Rattle.tl_core.specs.declared.moves.Move.TheVariants as a_move
 use Rattle.tl_commands.specs.declared.script.Script.{Script}
@@ -56,13 +58,43 @@ script_of tasks f d =
 abbrev pub script_of_moves : Data → Option (ScriptValue MoveValue)
 script_of_moves = script_of (codes "moves") move_of
 
--- 1 to 256 calls
-abbrev pub if_few : ScriptValue (List ℕ × List ℤ) → Option (ScriptValue (List ℕ × List ℤ))
-if_few s = if nat_le 1 (length s.tasks) && nat_le (length s.tasks) 256 then Some s else None
+-- ---- the script of `run`
 
--- the script of `run`
-abbrev pub script_of_calls : Data → Option (ScriptValue (List ℕ × List ℤ))
-script_of_calls d = option_and_then if_few (script_of (codes "calls") request_of d)
+-- the requests of one batch
+abbrev pub batch_form : Vec Request Global → List (List ℕ × List ℤ)
+batch_form requests = map request_form requests.items
+
+-- 1 to 256 of them
+abbrev pub if_few : {A : Type 0} → List A → Option (List A)
+if_few xs = if nat_le 1 (length xs) && nat_le (length xs) 256 then Some xs else None
+
+-- 1 to 256 calls
+abbrev pub batch_of : Data → Option (List (List ℕ × List ℤ))
+batch_of d = option_and_then if_few (each_of request_of d)
+
+abbrev pub BatchesValue : Type 0
+BatchesValue = ScriptValue (List (List ℕ × List ℤ))
+
+-- one batch
+abbrev pub script_of_calls : Data → Option BatchesValue
+script_of_calls d =
+    option_and_then (λ parts. option_map (λ x. record { procedures = x.0; tasks = x.1 ∷ [] }) (both (each_of procedure_of parts.0) (batch_of parts.1)))
+    (parts_of (codes "calls") d)
+
+-- 1 to 256 batches, one an epoch
+abbrev pub script_of_epochs : Data → Option BatchesValue
+script_of_epochs d =
+    option_and_then (λ s. option_map (λ tasks. record { procedures = s.procedures; tasks = tasks }) (if_few s.tasks)) (script_of (codes "epochs") batch_of d)
+
+abbrev pub script_of_run : Data → Option BatchesValue
+script_of_run d = option_or (script_of_calls d) (script_of_epochs d)
+
+-- whether it is a script of epochs
+abbrev pub is_of_epochs : Data → Bool
+is_of_epochs d = option_map_or (λ s. false) (script_of_calls d) true
+
+abbrev pub has_epochs : List ℕ → Bool
+has_epochs bytes = option_map_or is_of_epochs (read bytes) false
 
 -- The bytes are UTF-8, and a text of the script.
 pub record IsScript {A : Type 0} (script_of : Data → Option (ScriptValue A)) (bytes : List ℕ) (s : ScriptValue A) : Type 0 where

@@ -1,36 +1,34 @@
 -- What the command `serve` prints, and when it answers which fault.
-use Rattle.std.specs.Prelude.{◌≡◌, ◌≢◌, ℕ, List, [], ◌∷◌, ◌++◌}
+use Rattle.std.specs.Prelude.{◌≡◌, ◌≢◌, ℕ, nat_lt, Bool, List, length, Option}
 use Rattle.std.specs.List.{All}
 use Rattle.tl_tree.specs.declared.fault.TreeFault.{TreeFault}
-use Rattle.tl_core.specs.Cores.{CoreValue}
-use Rattle.tl_forms.specs.Lists.{order_data}
-use Rattle.tl_table.specs.Tables.{TableValue, seen}
+use Rattle.tl_table.specs.Epochs.{EpochValue}
+use Rattle.tl_table.specs.Tables.{TableValue}
 use Rattle.tl_workers.specs.Kept.{SessionValue}
 use Rattle.tl_workers.specs.Matching.{Matches, DoesNotClose}
-use Rattle.tl_record.specs.Recording.{trail_value}
-use Rattle.tl_trail.specs.Writing.{trail_text}
 use Rattle.tl_commands.specs.declared.fault.CliFault.{CliFault}
 use Rattle.tl_commands.specs.declared.fault.CliFault.TheVariants.{Tree, NotClosed}
 use Rattle.tl_commands.specs.Alone.{IsTreeFault}
+use Rattle.tl_commands.specs.Closing.{IsClosing}
 use Rattle.tl_commands.specs.Faults.{status_of}
-use Rattle.tl_commands.specs.Run.{IsOrder}
-use Rattle.tl_commands.specs.Scripted.{tree_now, two_lines_text}
+use Rattle.tl_commands.specs.Sinks.{Adds, trails_file}
 
--- The table says the same as each session, and what is printed are the order of its calls and its tree.
-pub record ConcludesWith (sessions : List SessionValue) (out : List ℕ) (v : CoreValue) : Type 0 where
-  pub table : TableValue
-  pub order : List ℕ
-  pub matches : All (Matches table) sessions
-  pub core : v ≡ seen table
-  pub ordered : IsOrder v order
-  pub same : out ≡ two_lines_text (order_data order) (tree_now v)
+-- there are several epochs
+abbrev pub are_many : List EpochValue → Bool
+are_many es = nat_lt 1 (length es)
+
+-- The epochs say the same as each session, and what is printed are the orders of their calls, or the order of the only one, and the tree
+-- in the end.
+pub record ConcludesWith (sessions : List SessionValue) (out : List ℕ) (es : List EpochValue) : Type 0 where
+  pub matches : All (Matches es) sessions
+  pub closes : IsClosing (are_many es) es out
 
 abbrev pub Concludes : List SessionValue → List ℕ → Type 0
-Concludes sessions out = (v : CoreValue) × ConcludesWith sessions out v
+Concludes sessions out = (es : List EpochValue) × ConcludesWith sessions out es
 
--- The same, and the file has the trail of that core, and a line feed.
-abbrev pub ConcludesToTrail : List SessionValue → List ℕ → List ℕ → Type 0
-ConcludesToTrail sessions out file = (v : CoreValue) × ConcludesWith sessions out v × (file ≡ trail_text (trail_value v) ++ 10 ∷ [])
+-- The same, and the file has the trails of those epochs.
+abbrev pub ConcludesToTrail : List SessionValue → List ℕ → Option (List ℕ) → Option (List ℕ) → Type 0
+ConcludesToTrail sessions out old new = (es : List EpochValue) × ConcludesWith sessions out es × Adds old (trails_file es) new
 
 -- ---- faults
 

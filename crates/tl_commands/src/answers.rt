@@ -4,7 +4,7 @@ ghost use Rattle.std.specs.Prelude.{◌≡◌, codes, map, IfOk};
 ghost use Rattle.serde_json.specs.Data.{object, member, no_members};
 ghost use Rattle.serde_json.specs.View.{view};
 ghost use Rattle.tl_forms.specs.Lists.{list_data, natural};
-ghost use Rattle.tl_commands.specs.Run.{answer_data, batch_data};
+ghost use Rattle.tl_commands.specs.Run.{with_epoch, answer_data, batch_data};
 
 use crate::trace::error_to_value;
 use serde_json::{Value, json};
@@ -13,10 +13,31 @@ use tl_table::Receipt;
 use tl_tree::integers_to_value;
 use tl_workers::Refusal;
 
-fn parts_to_value(alloc: Global, call: u32, reply: Value) -> Result<Value, AllocError>
+fn first_parts_to_value(alloc: Global, call: u32, reply: Value) -> Result<Value, AllocError>
     ensures { IfOk result (λ v. view v ≡ object (member (codes "call") (natural call) (member (codes "reply") (view reply) no_members))) }
 {
     json!(in alloc; {"call": call, "reply": reply})
+}
+
+fn later_parts_to_value(
+    alloc: Global,
+    call: u32,
+    epoch: u32,
+    reply: Value,
+) -> Result<Value, AllocError>
+    ensures { IfOk result (λ v. view v ≡ object (member (codes "call") (natural call) (member (codes "epoch") (natural epoch) (member (codes "reply") (view reply) no_members)))) }
+{
+    json!(in alloc; {"call": call, "epoch": epoch, "reply": reply})
+}
+
+// A call of an epoch, whose number is left out of the first one's.
+fn parts_to_value(alloc: Global, call: u32, epoch: u32, reply: Value) -> Result<Value, AllocError>
+    ensures { IfOk result (λ v. view v ≡ object (member (codes "call") (natural call) (with_epoch epoch (member (codes "reply") (view reply) no_members)))) }
+{
+    if epoch == 0 {
+        return first_parts_to_value(alloc, call, reply);
+    }
+    later_parts_to_value(alloc, call, epoch, reply)
 }
 
 // The call's number and reply, or why the request was refused.
@@ -26,7 +47,7 @@ fn answer_to_value(alloc: Global, answer: &Result<Receipt, Refusal>) -> Result<V
     match answer {
         Ok(receipt) => {
             let reply = integers_to_value(alloc, receipt.reply.as_slice())?;
-            parts_to_value(alloc, receipt.call, reply)
+            parts_to_value(alloc, receipt.call, receipt.epoch, reply)
         }
         Err(refusal) => error_to_value(alloc, refusal.numbers().as_slice()),
     }
@@ -51,8 +72,8 @@ fn member_to_value(alloc: Global, answers: Value) -> Result<Value, AllocError>
     json!(in alloc; {"batch": answers})
 }
 
-/// `{"batch":[..]}`, with an answer to each request: `{"call":c,"reply":[..]}`, or `{"error":[number,..]}` where it was
-/// refused.
+/// `{"batch":[..]}`, with an answer to each request: `{"call":c,"reply":[..]}`, from the second epoch on
+/// `{"call":c,"epoch":e,"reply":[..]}`, or `{"error":[number,..]}` where it was refused.
 pub fn batch_to_value(
     alloc: Global,
     answers: &[Result<Receipt, Refusal>],

@@ -1,27 +1,61 @@
 // What is printed of calls that are all done.
 
-ghost use Rattle.std.specs.Prelude.{◌≡◌, ℕ, List, string_bytes, IfOk, IfErr};
-ghost use Rattle.tl_forms.specs.Lists.{order_data};
-ghost use Rattle.tl_table.specs.Tables.{seen};
+ghost use Rattle.std.specs.Prelude.{◌≡◌, ◌∷◌, ◌++◌, [], map, string_bytes, IfOk, IfErr};
+ghost use Rattle.serde_json.specs.View.{view, items_view};
+ghost use Rattle.serde_json.specs.Written.{compact_text};
+ghost use Rattle.tl_order.specs.Order.{OrderValue};
+ghost use Rattle.tl_forms.specs.Lists.{orders_data};
+ghost use Rattle.tl_table.specs.Chains.{calls_in};
+ghost use Rattle.tl_table.specs.Tables.{IsChain};
+ghost use Rattle.tl_commands.specs.Closing.{AreOrders, IsClosing, orders_form};
 ghost use Rattle.tl_commands.specs.Faults.{status_of};
-ghost use Rattle.tl_commands.specs.Run.{IsOrder};
-ghost use Rattle.tl_commands.specs.Scripted.{tree_now, two_lines_text};
 
 use crate::fault::CliFault;
 use crate::outputs::two_lines;
-use std::alloc::Global;
-use tl_forms::order_to_value;
-use tl_table::Closed;
+use serde_json::Value;
+use std::alloc::{AllocError, Global};
+use tl_core::CoreFault;
+use tl_forms::{calls_to_value, order_to_value, orders_to_value};
+use tl_order::Order;
+use tl_table::{Closed, conclude_all};
 
-/// The order of the calls, and the tree that they left.
-pub fn closing_lines(alloc: Global, closed: &Closed) -> Result<String, CliFault>
-    ensures ok { IfOk result (λ s. (order : List ℕ) × IsOrder (seen closed.now) order
-        × (string_bytes s ≡ two_lines_text (order_data order) (tree_now (seen closed.now)))) }
+/// `{"orders":[..]}`, with the order of each epoch.
+pub fn all_orders_to_value(alloc: Global, orders: &[Order]) -> Result<Value, AllocError>
+    ensures { IfOk result (λ v. view v ≡ orders_data (map calls_in orders.now)) }
+{
+    let mut items = Vec::with_capacity(alloc, orders.len())?;
+    for order in orders {
+        items.push(calls_to_value(alloc, order.calls())?)?;
+    }
+    orders_to_value(alloc, items)
+}
+
+// The orders of all epochs, or the order of the first.
+fn closing_value(alloc: Global, orders: &[Order], has_epochs: bool) -> Result<Value, AllocError>
+    ensures { IfOk result (λ v. view v ≡ orders_form has_epochs (map calls_in orders.now)) }
+{
+    match orders {
+        [first, ..] if !has_epochs => order_to_value(alloc, first.calls()),
+        _ => all_orders_to_value(alloc, orders),
+    }
+}
+
+/// The order of the calls of each epoch, or of the only one, and the tree that they left.
+///
+/// All calls, run alone one after another along these orders joined, from the tree before any call, leave that tree, and each gives
+/// the reply that it gave.
+pub fn closing_lines(alloc: Global, chain: &[Closed], has_epochs: bool) -> Result<String, CliFault>
+    requires { IsChain chain.now }
+    ensures ok { IfOk result (λ s. IsClosing has_epochs chain.now (string_bytes s)) }
     ensures err { IfErr result (λ e. status_of e ≡ 4) }
 {
-    let core = closed.core();
-    // Its history is legal: here a proof learns that.
-    core.is_sound();
-    let order = order_to_value(alloc, closed.order().calls())?;
-    two_lines(alloc, &order, core.tree())
+    let Ok(orders) = conclude_all(alloc, chain) else {
+        return Err(CliFault::Core(CoreFault::Memory));
+    };
+    let value = closing_value(alloc, &orders, has_epochs)?;
+    let Some(last) = chain.last() else {
+        // There is at least one epoch.
+        unreachable!()
+    };
+    two_lines(alloc, &value, last.core().tree())
 }

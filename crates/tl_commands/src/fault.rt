@@ -8,7 +8,7 @@ use arrayvec::ArrayVec;
 use std::alloc::AllocError;
 use thiserror::Error;
 use tl_asm::AsmFault;
-use tl_audit::AuditFault;
+use tl_audit::{AuditFault, ChainFault};
 use tl_core::CoreFault;
 use tl_forms::RegisterFault;
 use tl_instr::CodeFault;
@@ -57,7 +57,10 @@ pub enum CliFault {
     /// 711 to 717, 790: what is wrong with the trail.
     #[error("the trail: {0}")]
     Audit(AuditFault),
-    /// 821, 890, 990: the engine that runs many calls at once refuses.
+    /// 718, 719 with what is wrong with a trail, 790: what is wrong with a chain of trails.
+    #[error("the chain: {0}")]
+    Chain(ChainFault),
+    /// 606, 690, 808, 821, 890, 990: the engine that runs many calls at once refuses.
     #[error("the calls: {0}")]
     Engine(Refusal),
     /// 831: a call is unfinished, or the calls aren't those that were asked for.
@@ -79,7 +82,7 @@ pub enum CliFault {
 
 impl CliFault {
     /// The fault's number, then its parts.
-    pub fn numbers(&self) -> ArrayVec<u64, 3>
+    pub fn numbers(&self) -> ArrayVec<u64, 5>
         ensures { result.items ≡ numbers_of self.now }
     {
         let mut numbers = ArrayVec::new();
@@ -88,15 +91,16 @@ impl CliFault {
             CliFault::Unwritable => numbers.push(32),
             CliFault::NoPort => numbers.push(33),
             CliFault::NotUtf8 => numbers.push(255),
-            CliFault::Asm(fault) => return fault.numbers(),
-            CliFault::Tree(fault) => return fault.numbers(),
-            CliFault::Code(fault) => return fault.numbers(),
-            CliFault::Verify(fault) => return fault.numbers(),
-            CliFault::Register(fault) => return fault.numbers(),
-            CliFault::Core(fault) => return fault.numbers(),
-            CliFault::Trail(fault) => return fault.numbers(),
-            CliFault::Audit(fault) => return fault.numbers(),
-            CliFault::Engine(refusal) => return refusal.numbers(),
+            CliFault::Asm(fault) => return as_many(&fault.numbers()),
+            CliFault::Tree(fault) => return as_many(&fault.numbers()),
+            CliFault::Code(fault) => return as_many(&fault.numbers()),
+            CliFault::Verify(fault) => return as_many(&fault.numbers()),
+            CliFault::Register(fault) => return as_many(&fault.numbers()),
+            CliFault::Core(fault) => return as_many(&fault.numbers()),
+            CliFault::Trail(fault) => return as_many(&fault.numbers()),
+            CliFault::Audit(fault) => return as_many(&fault.numbers()),
+            CliFault::Chain(fault) => return fault.numbers(),
+            CliFault::Engine(refusal) => return as_many(&refusal.numbers()),
             CliFault::NotClosed => numbers.push(831),
             CliFault::NotScript => numbers.push(731),
             CliFault::NotArgs => numbers.push(732),
@@ -120,6 +124,7 @@ impl CliFault {
             | CliFault::Core(CoreFault::Memory)
             | CliFault::Trail(TrailFault::Memory)
             | CliFault::Audit(AuditFault::Memory)
+            | CliFault::Chain(ChainFault::Memory)
             | CliFault::Engine(
                 Refusal::Memory
                 | Refusal::Table(TableFault::Memory | TableFault::Core(CoreFault::Memory)),
@@ -128,6 +133,19 @@ impl CliFault {
             _ => 1,
         }
     }
+}
+
+// The same numbers, with room for more.
+fn as_many(numbers: &ArrayVec<u64, 3>) -> ArrayVec<u64, 5>
+    ensures { result.items ≡ numbers.now.items }
+{
+    let mut all = ArrayVec::new();
+    // They are at most three, by their type: here a proof learns that.
+    let _count = numbers.len();
+    let Ok(()) = all.try_extend_from_slice(numbers.as_slice()) else {
+        unreachable!()
+    };
+    all
 }
 
 impl From<AllocError> for CliFault {

@@ -16,6 +16,7 @@ mod procedures;
 mod running;
 mod script;
 mod serving;
+mod sink;
 mod trace;
 mod widening;
 
@@ -25,6 +26,7 @@ pub use driving::{drive_cmd, drive_with_trail_cmd};
 pub use fault::CliFault;
 pub use procedures::{asm_cmd, dis_cmd, migrate_cmd, verify_cmd};
 pub use running::{run_cmd, run_with_trail_cmd};
-pub use script::{Script, read_calls, read_moves};
+pub use script::{RunScript, Script, read_calls, read_moves};
 pub use serving::{conclude_engine, conclude_engine_with_trail, open_engine};
+pub use sink::TrailSink;
 pub use widening::widen_cmd;

@@ -1,18 +1,22 @@
 // What more than one command prints or writes.
 
-ghost use Rattle.std.specs.Prelude.{◌≡◌, [], ◌∷◌, ◌++◌, false, string_bytes, IfOk, IfErr, OnOk};
+ghost use Rattle.std.specs.Prelude.{◌≡◌, ◌⊎◌, [], ◌∷◌, ◌++◌, false, map, string_bytes, IfOk, IfErr, OnOk};
 ghost use Rattle.serde_json.specs.View.{view};
 ghost use Rattle.serde_json.specs.Written.{has_float, compact_text};
 ghost use Rattle.tl_record.specs.Recording.{trail_value};
+ghost use Rattle.tl_trail.specs.Chains.{chain_text};
 ghost use Rattle.tl_trail.specs.Writing.{trail_text};
 ghost use Rattle.tl_commands.specs.Faults.{status_of};
+ghost use Rattle.tl_commands.specs.Sinks.{Adds, IsSinkFault, comma_before, epoch_trail, trails_file};
 ghost use Rattle.tl_commands.specs.Scripted.{lines_text, two_lines_text};
 
 use crate::fault::CliFault;
+use crate::sink::TrailSink;
 use serde_json::Value;
 use std::alloc::{AllocError, Global};
 use tl_core::Core;
 use tl_record::trail_of;
+use tl_table::Closed;
 use tl_trail::write_trail;
 use tl_tree::{Tree, write_tree};
 
@@ -64,19 +68,77 @@ pub fn three_lines(
     Ok(text)
 }
 
-/// The text of the core's trail, as a file.
-pub fn trail_file(alloc: Global, core: &Core) -> Result<String, CliFault>
-    ensures ok { IfOk result (λ s. string_bytes s ≡ trail_text (trail_value core.now.seen) ++ 10 ∷ []) }
+// The text of the core's trail.
+fn trail_of_core(alloc: Global, core: &Core) -> Result<String, CliFault>
+    ensures ok { IfOk result (λ s. string_bytes s ≡ trail_text (trail_value core.now.seen)) }
     ensures err { IfErr result (λ e. status_of e ≡ 4) }
 {
     let trail = match trail_of(alloc, core) {
         Ok(trail) => trail,
         Err(fault) => return Err(CliFault::Trail(fault)),
     };
-    let mut text = match write_trail(alloc, &trail) {
-        Ok(text) => text,
-        Err(fault) => return Err(CliFault::Trail(fault)),
-    };
+    match write_trail(alloc, &trail) {
+        Ok(text) => Ok(text),
+        Err(fault) => Err(CliFault::Trail(fault)),
+    }
+}
+
+/// The text of the core's trail, as a file.
+pub fn trail_file(alloc: Global, core: &Core) -> Result<String, CliFault>
+    ensures ok { IfOk result (λ s. string_bytes s ≡ trail_text (trail_value core.now.seen) ++ 10 ∷ []) }
+    ensures err { IfErr result (λ e. status_of e ≡ 4) }
+{
+    let mut text = trail_of_core(alloc, core)?;
     text.push_str("\n")?;
     Ok(text)
+}
+
+// Puts the trail of an epoch last.
+fn put_trail<S: TrailSink>(alloc: Global, closed: &Closed, sink: &mut S) -> Result<(), CliFault>
+    ensures put { OnOk result (Adds (S.text sink.old) (trail_text (epoch_trail closed.now)) (S.text sink.new)) }
+    ensures fault { IfErr result (λ e. (status_of e ≡ 4) ⊎ (e ≡ CliFault.Unwritable)) }
+{
+    let text = trail_of_core(alloc, closed.core())?;
+    sink.put(&text)
+}
+
+// Puts a comma, but before the first trail.
+fn put_comma<S: TrailSink>(number: usize, sink: &mut S) -> Result<(), CliFault>
+    ensures put { OnOk result (Adds (S.text sink.old) (comma_before number) (S.text sink.new)) }
+    ensures fault { IfErr result (λ e. IsSinkFault e) }
+{
+    if number == 0 {
+        return Ok(());
+    }
+    sink.put(",")
+}
+
+// Puts the list of the epochs' trails last.
+fn put_list<S: TrailSink>(alloc: Global, chain: &[Closed], sink: &mut S) -> Result<(), CliFault>
+    ensures put { OnOk result (Adds (S.text sink.old) (chain_text (map epoch_trail chain.now)) (S.text sink.new)) }
+    ensures fault { IfErr result (λ e. (status_of e ≡ 4) ⊎ (e ≡ CliFault.Unwritable)) }
+{
+    sink.put("[")?;
+    for (number, closed) in chain.iter().enumerate() {
+        put_comma(number, sink)?;
+        put_trail(alloc, closed, sink)?;
+    }
+    sink.put("]")
+}
+
+/// Puts the file of a closed table's trails last: the text of the one trail, or the list of all, and a line feed. There is the text of
+/// one trail at a time.
+pub fn put_trails<S: TrailSink>(
+    alloc: Global,
+    chain: &[Closed],
+    sink: &mut S,
+) -> Result<(), CliFault>
+    ensures put { OnOk result (Adds (S.text sink.old) (trails_file chain.now) (S.text sink.new)) }
+    ensures fault { IfErr result (λ e. (status_of e ≡ 4) ⊎ (e ≡ CliFault.Unwritable)) }
+{
+    match chain {
+        [closed] => put_trail(alloc, closed, sink)?,
+        _ => put_list(alloc, chain, sink)?,
+    }
+    sink.put("\n")
 }

@@ -1,57 +1,89 @@
 // The command `run`.
 
-ghost use Rattle.std.specs.Prelude.{◌≡◌, ◌≢◌, ◌≤◌, ℕ, List, length, string_bytes, IfOk, IfErr};
-ghost use Rattle.tl_forms.specs.Lists.{order_data};
-ghost use Rattle.tl_table.specs.Tables.{seen};
+ghost use Rattle.std.specs.Prelude.{◌≡◌, ◌≢◌, ◌⊎◌, ◌≤◌, ℕ, List, [], length, All, map, string_bytes, IfOk, OnOk, IfErr};
+ghost use Rattle.tl_table.specs.Tables.{IsChain};
 ghost use Rattle.tl_workers.specs.declared.batch.TheConstants.{MAX_REQUESTS, MAX_WORKERS};
-ghost use Rattle.tl_workers.specs.Kept.{SessionValue};
+ghost use Rattle.tl_workers.specs.Kept.{SessionValue, Gains};
 ghost use Rattle.tl_workers.specs.Matching.{Matches};
 ghost use Rattle.tl_commands.specs.Faults.{status_of};
-ghost use Rattle.tl_commands.specs.Run.{AreAnswered, IsLeftOpen, IsRun, IsOrder, Runs, RunsToTrail, IsFirstRunFault, batch_data};
-ghost use Rattle.tl_commands.specs.Scripted.{tree_now, lines_text};
+ghost use Rattle.tl_commands.specs.Run.{AnswersBatches, AreAnswered, kept_of, IsLeftOpen, IsRun, IsNotGoingOn, Runs, RunsToTrail, IsFirstRunFault, batches_of, answers_of, batch_lines, PrintsRun};
+ghost use Rattle.tl_commands.specs.Script.{has_epochs};
 
 use crate::answers::batch_to_value;
 use crate::closing::closing_lines;
 use crate::fault::CliFault;
 use crate::inputs::{core_of, tree_of_file};
-use crate::outputs::{next_lines, trail_file};
+use crate::outputs::put_trails;
 use crate::script::read_calls;
+use crate::sink::TrailSink;
 use std::alloc::Global;
 use std::sync::Wait;
 use std::thread::Threads;
 use tl_forms::Request;
 use tl_table::{Closed, Receipt};
-use tl_workers::{Engine, Gate, MAX_WORKERS, Refusal};
+use tl_workers::{Engine, Gate, MAX_WORKERS, Refusal, Session};
 
-// What came of a script: the answers to its requests, and the closed table.
+// What the requests of a batch came to.
+type Answers = Vec<Result<Receipt, Refusal>>;
+
+// What came of a script: the answers to each batch, the epochs of the closed table, and whether the script names epochs.
 #[derive(Drop)]
 pub struct Ran {
-    answers: Vec<Result<Receipt, Refusal>>,
-    closed: Closed,
+    answers: Vec<Answers>,
+    chain: Vec<Closed>,
+    has_epochs: bool,
 }
 
-// Asks the engine for the calls in one session, and closes it.
-fn run_batch<R: Threads + Wait + Sync, G: Gate + Sync>(
+// Asks for one batch after another, and seals the table between two.
+fn ask_each<R: Threads + Wait + Sync, G: Gate + Sync>(
+    rt: &R,
+    alloc: Global,
+    engine: &Engine,
+    session: &mut Session,
+    batches: &[Vec<Request>],
+    workers: usize,
+    gate: &G,
+) -> Result<Vec<Answers>, CliFault>
+    requires each { All (λ b. (1 ≤ length b.items) × (length b.items ≤ MAX_REQUESTS)) batches.now }
+    requires one { 1 ≤ workers }
+    requires workers { workers ≤ MAX_WORKERS }
+    ensures each { IfOk result (λ answers. AnswersBatches (batches_of batches.now) (answers_of answers.items)) }
+    ensures kept { IfOk result (λ answers. Gains session.old session.new (kept_of (batches_of batches.now) (answers_of answers.items))) }
+    ensures fault { IfErr result (λ e. status_of e ≢ 4 → IsNotGoingOn e) }
+{
+    let mut all = Vec::with_capacity(alloc, batches.len())?;
+    for (number, requests) in batches.iter().enumerate() {
+        if number > 0 {
+            engine.seal(rt, alloc)?;
+        }
+        let answers = engine.batch(rt, alloc, session, requests, workers, gate)?;
+        all.push_reserved(answers);
+    }
+    Ok(all)
+}
+
+// Asks the engine for the batches in one session, and closes it.
+fn run_batches<R: Threads + Wait + Sync, G: Gate + Sync>(
     rt: &R,
     alloc: Global,
     engine: Engine,
-    requests: &[Request],
+    batches: &[Vec<Request>],
     workers: usize,
     gate: &G,
-) -> Result<Ran, CliFault>
-    requires some { 1 ≤ length requests.now }
-    requires few { length requests.now ≤ MAX_REQUESTS }
+) -> Result<(Vec<Answers>, Vec<Closed>), CliFault>
+    requires each { All (λ b. (1 ≤ length b.items) × (length b.items ≤ MAX_REQUESTS)) batches.now }
     requires one { 1 ≤ workers }
     requires workers { workers ≤ MAX_WORKERS }
-    ensures ok { IfOk result (λ r. (session : SessionValue) × AreAnswered requests.now r.answers.items session × Matches r.closed session) }
-    ensures fault { IfErr result (λ e. status_of e ≢ 4 → IsLeftOpen requests.now e) }
+    ensures chain { IfOk result (λ r. IsChain r.1.items) }
+    ensures ok { IfOk result (λ r. (session : SessionValue) × AreAnswered (batches_of batches.now) (answers_of r.0.items) session × Matches r.1.items session) }
+    ensures fault { IfErr result (λ e. status_of e ≢ 4 → IsLeftOpen (batches_of batches.now) e) }
 {
     let mut session = engine.session(rt, alloc)?;
     let mut sessions = Vec::with_capacity(alloc, 1)?;
-    let answers = engine.batch(rt, alloc, &mut session, requests, workers, gate)?;
+    let answers = ask_each(rt, alloc, &engine, &mut session, batches, workers, gate)?;
     sessions.push_reserved(session);
     match engine.close(sessions) {
-        Ok((closed, _)) => Ok(Ran { answers, closed }),
+        Ok((chain, _)) => Ok((answers, chain)),
         Err(_) => Err(CliFault::NotClosed),
     }
 }
@@ -67,33 +99,45 @@ fn run_script<R: Threads + Wait + Sync, G: Gate + Sync>(
 ) -> Result<Ran, CliFault>
     requires one { 1 ≤ workers }
     requires workers { workers ≤ MAX_WORKERS }
-    ensures ok { IfOk result (λ r. IsRun tree.now script.now r.answers.items r.closed) }
+    ensures ok { IfOk result (λ r. IsRun tree.now script.now (answers_of r.answers.items) r.chain.items) }
+    ensures epochs { IfOk result (λ r. r.has_epochs ≡ has_epochs script.now) }
     ensures fault { IfErr result (λ e. IsFirstRunFault tree.now script.now e) }
 {
     let tree = match tree_of_file(alloc, tree) {
         Ok(tree) => tree,
         Err(fault) => return Err(CliFault::Tree(fault)),
     };
-    let script = read_calls(alloc, script)?;
-    let core = core_of(alloc, tree, &script.procedures)?;
+    let asked = read_calls(alloc, script)?;
+    let core = core_of(alloc, tree, &asked.script.procedures)?;
     let engine = Engine::of_core(alloc, core)?;
-    run_batch(rt, alloc, engine, &script.tasks, workers, gate)
+    let (answers, chain) = run_batches(rt, alloc, engine, &asked.script.tasks, workers, gate)?;
+    Ok(Ran {
+        answers,
+        chain,
+        has_epochs: asked.has_epochs,
+    })
 }
 
-// The three lines.
+// A line for each batch, the orders or the order, and the tree.
 fn lines(alloc: Global, ran: &Ran) -> Result<String, CliFault>
-    ensures ok { IfOk result (λ s. (order : List ℕ) × IsOrder (seen ran.now.closed) order
-        × (string_bytes s ≡ lines_text (batch_data ran.now.answers.items) (order_data order) (tree_now (seen ran.now.closed)))) }
+    requires { IsChain ran.now.chain.items }
+    ensures ok { IfOk result (λ s. PrintsRun ran.now.has_epochs (answers_of ran.now.answers.items) ran.now.chain.items (string_bytes s)) }
     ensures err { IfErr result (λ e. status_of e ≡ 4) }
 {
-    let closing = closing_lines(alloc, &ran.closed)?;
-    let mut text = batch_to_value(alloc, &ran.answers)?.to_string(alloc)?;
-    next_lines(&mut text, &closing)?;
+    let closing = closing_lines(alloc, &ran.chain, ran.has_epochs)?;
+    let mut text = String::new(alloc);
+    for answers in &ran.answers {
+        let line = batch_to_value(alloc, answers)?.to_string(alloc)?;
+        text.push_str(&line)?;
+        text.push_str("\n")?;
+    }
+    text.push_str(&closing)?;
     Ok(text)
 }
 
-/// Runs the calls of a script on a tree, on up to so many threads, and gives the lines to print: the answer to each
-/// request; the order of the calls; and the tree as it is then. Takes the bytes of the tree's file and those of the script.
+/// Runs the calls of a script on a tree, on up to so many threads, and gives the lines to print: for each batch the answer to each
+/// request; the order of the calls, or of a script of epochs the order in each; and the tree as it is then. Takes the bytes of the
+/// tree's file and those of the script. Where the script has several lists of calls, the table is sealed between two.
 ///
 /// What is wrong first, in this order: 106 (also for a tree that is no UTF-8), 101 to 105; 731; then of each procedure
 /// the assembler's 251 to 254, the verifier's 301 to 307 and 401 to 409, and 612, 611, 613; 831 where the engine that ran
@@ -115,22 +159,24 @@ pub fn run_cmd<R: Threads + Wait + Sync, G: Gate + Sync>(
     lines(alloc, &ran)
 }
 
-/// The same, and the text of a file: the trail of the calls, and a line feed. Where memory was refused, also 790.
-pub fn run_with_trail_cmd<R: Threads + Wait + Sync, G: Gate + Sync>(
+/// The same, and puts into the sink what is to be written to a file: the trail of the calls, or the list of the trails of all epochs
+/// where there are several, and a line feed. 32 where that can't be written; where memory was refused, also 790.
+pub fn run_with_trail_cmd<R: Threads + Wait + Sync, G: Gate + Sync, S: TrailSink>(
     rt: &R,
     alloc: Global,
     tree: &[u8],
     script: &[u8],
     workers: usize,
     gate: &G,
-) -> Result<(String, String), CliFault>
+    sink: &mut S,
+) -> Result<String, CliFault>
     requires one { 1 ≤ workers }
     requires workers { workers ≤ MAX_WORKERS }
-    ensures printed { IfOk result (λ r. RunsToTrail tree.now script.now (string_bytes r.0) (string_bytes r.1)) }
-    ensures fault { IfErr result (λ e. IsFirstRunFault tree.now script.now e) }
+    ensures printed { IfOk result (λ s. RunsToTrail tree.now script.now (string_bytes s) (S.text sink.old) (S.text sink.new)) }
+    ensures fault { IfErr result (λ e. (e ≡ CliFault.Unwritable) ⊎ IsFirstRunFault tree.now script.now e) }
 {
     let ran = run_script(rt, alloc, tree, script, workers, gate)?;
     let text = lines(alloc, &ran)?;
-    let trail = trail_file(alloc, ran.closed.core())?;
-    Ok((text, trail))
+    put_trails(alloc, &ran.chain, sink)?;
+    Ok(text)
 }

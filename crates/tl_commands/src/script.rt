@@ -1,16 +1,17 @@
 // The scripts of the commands `drive` and `run`.
 
-ghost use Rattle.std.specs.Prelude.{◌≡◌, ◌⊎◌, ◌≤◌, codes, length, option_map, IfOk, IfErr, IfSome, MatchOption};
+ghost use Rattle.std.specs.Prelude.{◌≡◌, ◌⊎◌, ◌≤◌, codes, length, option_map, All, IfOk, IfErr, IfSome, MatchOption};
 ghost use Rattle.serde_json.specs.View.{view};
-ghost use Rattle.tl_forms.specs.Requests.{request_form};
+ghost use Rattle.tl_table.specs.declared.epoch.TheConstants.{MAX_EPOCHS};
 ghost use Rattle.tl_workers.specs.declared.batch.TheConstants.{MAX_REQUESTS};
-ghost use Rattle.tl_commands.specs.Script.{ScriptValue, script_view, move_view, call_of, parts_of, script_of, script_of_moves, script_of_calls, IsScript};
+ghost use Rattle.tl_commands.specs.Script.{ScriptValue, script_view, move_view, batch_form, call_of, parts_of, script_of, script_of_moves, script_of_calls, script_of_epochs, script_of_run, is_of_epochs, has_epochs, IsScript};
 
 use crate::fault::CliFault;
 use serde_json::Value;
 use std::alloc::{AllocError, Global};
 use tl_core::Move;
 use tl_forms::{FromValue, ProcedureText, Request, each_of, parse};
+use tl_table::MAX_EPOCHS;
 use tl_workers::MAX_REQUESTS;
 
 /// What a script says: which procedures are registered, and what is then to be done, moves or calls.
@@ -113,22 +114,106 @@ pub fn read_moves(alloc: Global, bytes: &[u8]) -> Result<Script<Move>, CliFault>
     }
 }
 
-/// The script of calls that a file has: `{"calls":[request,..],"procs":[[name,text],..]}`, an object with these two members
-/// and no others. There are 1 to 256 calls. A procedure is as in a script of moves, and a request is what an admission is
-/// there.
+/// The form of the calls of one batch: 1 to 256 requests.
+struct BatchForm;
+
+impl FromValue for BatchForm {
+    type Item = Vec<Request>;
+
+    ghost use Rattle.std.specs.Prelude.{ℕ, ℤ, List, map};
+    ghost use Rattle.tl_forms.specs.Requests.{request_form};
+    ghost use Rattle.tl_commands.specs.Script.{batch_of};
+
+    ghost Form = { List (List ℕ × List ℤ) };
+
+    ghost form = { λ requests. map request_form requests.items };
+
+    ghost form_of = { batch_of };
+
+    fn from_value(alloc: Global, value: &Value) -> Result<Option<Vec<Request>>, AllocError> {
+        match each_of::<Request>(alloc, value)? {
+            Some(requests) if !requests.is_empty() && requests.len() <= MAX_REQUESTS => {
+                Ok(Some(requests))
+            }
+            _ => Ok(None),
+        }
+    }
+}
+
+/// What a script of calls says: the batches, one an epoch, and whether it names epochs.
+#[derive(Debug, Drop)]
+pub struct RunScript {
+    pub script: Script<Vec<Request>>,
+    pub has_epochs: bool,
+}
+
+// The procedures and the one batch of an object with these two members and no others.
+fn calls_of_value(alloc: Global, value: &Value) -> Result<Option<Script<Vec<Request>>>, AllocError>
+    ensures { IfOk result (λ found. option_map (script_view batch_form) found ≡ script_of_calls (view value.now)) }
+{
+    let Some((procedures, calls)) = parts_of_value(value, "calls") else {
+        return Ok(None);
+    };
+    let Some(procedures) = each_of::<ProcedureText>(alloc, procedures)? else {
+        return Ok(None);
+    };
+    let Some(requests) = BatchForm::from_value(alloc, calls)? else {
+        return Ok(None);
+    };
+    let mut tasks = Vec::with_capacity(alloc, 1)?;
+    tasks.push_reserved(requests);
+    Ok(Some(Script { procedures, tasks }))
+}
+
+// The procedures and the batches of an object with these two members and no others: 1 to 256 batches.
+fn epochs_of_value(alloc: Global, value: &Value) -> Result<Option<Script<Vec<Request>>>, AllocError>
+    ensures { IfOk result (λ found. option_map (script_view batch_form) found ≡ script_of_epochs (view value.now)) }
+{
+    match script_of_value::<BatchForm>(alloc, value, "epochs")? {
+        Some(script) if !script.tasks.is_empty() && script.tasks.len() <= MAX_EPOCHS => {
+            Ok(Some(script))
+        }
+        _ => Ok(None),
+    }
+}
+
+fn run_script_of_value(alloc: Global, value: &Value) -> Result<Option<RunScript>, AllocError>
+    ensures script { IfOk result (λ found. option_map (λ r. script_view batch_form r.script) found ≡ script_of_run (view value.now)) }
+    ensures epochs { IfOk result (λ found. IfSome found (λ r. r.has_epochs ≡ is_of_epochs (view value.now))) }
+{
+    if let Some(script) = calls_of_value(alloc, value)? {
+        return Ok(Some(RunScript {
+            script,
+            has_epochs: false,
+        }));
+    }
+    match epochs_of_value(alloc, value)? {
+        Some(script) => Ok(Some(RunScript {
+            script,
+            has_epochs: true,
+        })),
+        None => Ok(None),
+    }
+}
+
+/// The script of calls that a file has: `{"calls":[request,..],"procs":[[name,text],..]}`, with 1 to 256 calls, or
+/// `{"epochs":[[request,..],..],"procs":[[name,text],..]}`, with 1 to 256 lists of 1 to 256 calls; an object with these two members
+/// and no others. A procedure is as in a script of moves, and a request is what an admission is there.
 ///
 /// 731 for all else, also where it is no UTF-8; 990 where memory is refused.
-pub fn read_calls(alloc: Global, bytes: &[u8]) -> Result<Script<Request>, CliFault>
-    ensures ok { IfOk result (λ s. IsScript script_of_calls bytes.now (script_view request_form s)) }
-    ensures some { IfOk result (λ s. 1 ≤ length s.tasks.items) }
-    ensures few { IfOk result (λ s. length s.tasks.items ≤ MAX_REQUESTS) }
-    ensures fault { IfErr result (λ e. (e ≡ CliFault.Memory) ⊎ (e ≡ CliFault.NotScript) × ((s : ScriptValue _) → ¬ IsScript script_of_calls bytes.now s)) }
+pub fn read_calls(alloc: Global, bytes: &[u8]) -> Result<RunScript, CliFault>
+    ensures ok { IfOk result (λ r. IsScript script_of_run bytes.now (script_view batch_form r.script)) }
+    ensures epochs { IfOk result (λ r. r.has_epochs ≡ has_epochs bytes.now) }
+    ensures some { IfOk result (λ r. 1 ≤ length r.script.tasks.items) }
+    ensures few { IfOk result (λ r. length r.script.tasks.items ≤ MAX_EPOCHS) }
+    ensures each { IfOk result (λ r. All (λ b. (1 ≤ length b.items) × (length b.items ≤ MAX_REQUESTS)) r.script.tasks.items) }
+    ensures fault { IfErr result (λ e. (e ≡ CliFault.Memory) ⊎ (e ≡ CliFault.NotScript) × ((s : ScriptValue _) → ¬ IsScript script_of_run bytes.now s)) }
 {
-    let Some(script) = script_of_file::<Request>(alloc, bytes, "calls")? else {
+    let Some(value) = parse(alloc, bytes)? else {
         return Err(CliFault::NotScript);
     };
-    if script.tasks.is_empty() || script.tasks.len() > MAX_REQUESTS {
-        return Err(CliFault::NotScript);
+    match run_script_of_value(alloc, &value)? {
+        Some(asked) => Ok(asked),
+        None => Err(CliFault::NotScript),
     }
-    Ok(script)
 }

@@ -1,14 +1,18 @@
 // The command `serve`: what is done before connections are taken up, and when all have ended.
 
-ghost use Rattle.std.specs.Prelude.{◌≡◌, string_bytes, IfOk, OnOk, IfErr, All};
+ghost use Rattle.std.specs.Prelude.{◌≡◌, ◌⊎◌, string_bytes, IfOk, OnOk, IfErr, All};
+ghost use Rattle.tl_table.specs.Tables.{IsChain};
 ghost use Rattle.tl_workers.specs.Matching.{Matches};
 ghost use Rattle.tl_commands.specs.Alone.{IsTreeFile};
-ghost use Rattle.tl_commands.specs.Serve.{Concludes, ConcludesToTrail, IsConclusionFault, IsOpeningFault};
+ghost use Rattle.tl_commands.specs.Closing.{IsClosing};
+ghost use Rattle.tl_commands.specs.Faults.{status_of};
+ghost use Rattle.tl_commands.specs.Serve.{are_many, Concludes, ConcludesToTrail, IsConclusionFault, IsOpeningFault};
 
 use crate::closing::closing_lines;
 use crate::fault::CliFault;
 use crate::inputs::tree_of_file;
-use crate::outputs::trail_file;
+use crate::outputs::put_trails;
+use crate::sink::TrailSink;
 use std::alloc::Global;
 use tl_core::Core;
 use tl_table::Closed;
@@ -33,17 +37,28 @@ pub fn open_engine(alloc: Global, tree: &[u8]) -> Result<Engine, CliFault>
 }
 
 // Closes an engine with the sessions of its connections.
-fn close_engine(engine: Engine, sessions: Vec<Session>) -> Result<Closed, CliFault>
-    ensures ok { IfOk result (λ t. All (Matches t) sessions.items) }
+fn close_engine(engine: Engine, sessions: Vec<Session>) -> Result<Vec<Closed>, CliFault>
+    ensures chain { IfOk result (λ r. IsChain r.items) }
+    ensures ok { IfOk result (λ r. All (Matches r.items) sessions.items) }
     ensures fault { IfErr result (λ e. IsConclusionFault sessions.items e) }
 {
     match engine.close(sessions) {
-        Ok((closed, _)) => Ok(closed),
+        Ok((chain, _)) => Ok(chain),
         Err(_) => Err(CliFault::NotClosed),
     }
 }
 
-/// Closes an engine with all its sessions, and gives the lines to print: the order of the calls, and the tree as it is then.
+// The closing lines of these epochs: the order of the only one, or the orders of all.
+fn lines(alloc: Global, chain: &[Closed]) -> Result<String, CliFault>
+    requires { IsChain chain.now }
+    ensures ok { IfOk result (λ s. IsClosing (are_many chain.now) chain.now (string_bytes s)) }
+    ensures err { IfErr result (λ e. status_of e ≡ 4) }
+{
+    closing_lines(alloc, chain, chain.len() > 1)
+}
+
+/// Closes an engine with all its sessions, and gives the lines to print: the order of the calls, or where there are several epochs
+/// the order in each; and the tree as it is then.
 ///
 /// 831 where the engine doesn't close: a call is unfinished, or a session's list isn't what the table says. Where memory was
 /// refused, 190 or 990.
@@ -55,21 +70,23 @@ pub fn conclude_engine(
     ensures printed { IfOk result (λ s. Concludes sessions.items (string_bytes s)) }
     ensures fault { IfErr result (λ e. IsConclusionFault sessions.items e) }
 {
-    let closed = close_engine(engine, sessions)?;
-    closing_lines(alloc, &closed)
+    let chain = close_engine(engine, sessions)?;
+    lines(alloc, &chain)
 }
 
-/// The same, and the text of a file: the trail of the calls, and a line feed. Where memory was refused, also 790.
-pub fn conclude_engine_with_trail(
+/// The same, and puts into the sink what is to be written to a file: the trail of the calls, or the list of the trails of all epochs
+/// where there are several, and a line feed. 32 where that can't be written; where memory was refused, also 790.
+pub fn conclude_engine_with_trail<S: TrailSink>(
     alloc: Global,
     engine: Engine,
     sessions: Vec<Session>,
-) -> Result<(String, String), CliFault>
-    ensures printed { IfOk result (λ r. ConcludesToTrail sessions.items (string_bytes r.0) (string_bytes r.1)) }
-    ensures fault { IfErr result (λ e. IsConclusionFault sessions.items e) }
+    sink: &mut S,
+) -> Result<String, CliFault>
+    ensures printed { IfOk result (λ s. ConcludesToTrail sessions.items (string_bytes s) (S.text sink.old) (S.text sink.new)) }
+    ensures fault { IfErr result (λ e. (e ≡ CliFault.Unwritable) ⊎ IsConclusionFault sessions.items e) }
 {
-    let closed = close_engine(engine, sessions)?;
-    let text = closing_lines(alloc, &closed)?;
-    let trail = trail_file(alloc, closed.core())?;
-    Ok((text, trail))
+    let chain = close_engine(engine, sessions)?;
+    let text = lines(alloc, &chain)?;
+    put_trails(alloc, &chain, sink)?;
+    Ok(text)
 }

@@ -1,7 +1,9 @@
-// Calls of sessions of an engine, one at a time and many at once.
+// Calls of sessions of an engine, one at a time and many at once, and a seal.
+
+ghost use Rattle.tl_table.specs.Tables.{IsChain};
 
 use crate::halt::Halt;
-use crate::judging::{judge, print_order, print_records};
+use crate::judging::{judge_all, print_order, print_records};
 use crate::making::{procedure_of, tree_of};
 use crate::seen::Seen;
 use std::alloc::{AllocError, Global};
@@ -103,17 +105,29 @@ fn use_session<R: Print + Threads + Wait + Sync>(
     }
     let requests = requests(alloc)?;
     run_batch(rt, alloc, engine, session, &requests)?;
+    let sealed = seal(rt, alloc, engine)?;
+    println!(rt; "sealed {sealed}")?;
+    let receipt = call(rt, alloc, engine, session, &[0, 1])?;
+    print_receipt(rt, &receipt)?;
     let kept = session.kept().len();
     println!(rt; "kept {kept}")?;
     Ok(())
 }
 
 fn print_receipt(rt: &impl Print, receipt: &Receipt) -> Result<(), Halt> {
-    let call = receipt.call;
+    let (epoch, call) = (receipt.epoch, receipt.call);
     let args = receipt.args.as_slice();
     let reply = receipt.reply.as_slice();
-    println!(rt; "call {call} {args:?} replies {reply:?}")?;
+    println!(rt; "epoch {epoch}, call {call} {args:?} replies {reply:?}")?;
     Ok(())
+}
+
+// Where memory is refused, the engine is asked again.
+fn seal(rt: &impl Wait, alloc: Global, engine: &Engine) -> Result<u32, Halt> {
+    if let Ok(sealed) = engine.seal(rt, alloc) {
+        return Ok(sealed);
+    }
+    engine.seal(rt, alloc).map_err(|_| Halt::Refused)
 }
 
 // ---- one call
@@ -241,14 +255,18 @@ fn close(
         return Err(Halt::Refused);
     }
     match engine.close(sessions) {
-        Ok((closed, _)) => tell(rt, alloc, &closed),
+        Ok((chain, _)) => tell(rt, alloc, &chain),
         Err(_) => Err(Halt::Changed),
     }
 }
 
-fn tell(rt: &impl Print, alloc: Global, closed: &Closed) -> Result<(), Halt> {
-    Seen::of(closed.core()).print(rt)?;
-    print_order(rt, "closed", closed.order().calls())?;
-    print_records(rt, closed.core().tree().records())?;
-    judge(rt, alloc, closed.core())
+fn tell(rt: &impl Print, alloc: Global, chain: &[Closed]) -> Result<(), Halt>
+    requires { IsChain chain.now }
+{
+    for closed in chain {
+        Seen::of(closed.core()).print(rt)?;
+        print_order(rt, "closed", closed.order().calls())?;
+        print_records(rt, closed.core().tree().records())?;
+    }
+    judge_all(rt, alloc, chain)
 }

@@ -1,14 +1,17 @@
 // What is concluded of calls, each asked once more where memory is refused.
 
-ghost use Rattle.std.specs.Prelude.{◌<◌, All, IfOk, length};
+ghost use Rattle.std.specs.Prelude.{◌<◌, ◌≤◌, All, IfOk, length};
+ghost use Rattle.tl_table.specs.Tables.{IsChain};
+ghost use Rattle.tl_trail.specs.declared.chain.TheConstants.{MAX_TRAILS};
 
 use crate::halt::Halt;
 use std::alloc::Global;
-use tl_audit::{AuditFault, audit};
+use tl_audit::{AuditFault, ChainFault, MAX_TRAILS, audit, audit_chain};
 use tl_core::Core;
 use tl_machine::Reply;
 use tl_record::trail_of;
 use tl_serial::{Order, Running, SerialFault, replay};
+use tl_table::{Closed, conclude_all};
 use tl_trail::Trail;
 use tl_tree::{Record, Tree};
 
@@ -57,6 +60,68 @@ pub fn judge(rt: &impl Print, alloc: Global, core: &Core) -> Result<(), Halt> {
             println!(rt; "audited: {fault}")?;
             Ok(())
         }
+    }
+}
+
+/// Prints what an audit of the chain of these epochs' trails says, and the orders that are concluded of all together.
+pub fn judge_all(rt: &impl Print, alloc: Global, chain: &[Closed]) -> Result<(), Halt>
+    requires { IsChain chain.now }
+{
+    for order in &concluded_of_all(alloc, chain)? {
+        print_order(rt, "concluded of all", order.calls())?;
+    }
+    let trails = trails(alloc, chain)?;
+    if trails.is_empty() || trails.len() > MAX_TRAILS {
+        return Err(Halt::Changed);
+    }
+    match audited_chain(alloc, &trails) {
+        Ok(orders) => {
+            for order in &orders {
+                print_order(rt, "audited in the chain", order.calls())?;
+            }
+            Ok(())
+        }
+        Err(ChainFault::Memory) => Err(Halt::Refused),
+        Err(fault) => {
+            println!(rt; "audited: {fault}")?;
+            Ok(())
+        }
+    }
+}
+
+fn concluded_of_all(alloc: Global, chain: &[Closed]) -> Result<Vec<Order>, Halt>
+    requires { IsChain chain.now }
+{
+    if let Ok(orders) = conclude_all(alloc, chain) {
+        return Ok(orders);
+    }
+    conclude_all(alloc, chain).map_err(|_| Halt::Refused)
+}
+
+fn trails(alloc: Global, chain: &[Closed]) -> Result<Vec<Trail>, Halt> {
+    let mut trails = room_for(alloc, chain.len())?;
+    for closed in chain {
+        if trails.push(trail(alloc, closed.core())?).is_err() {
+            return Err(Halt::Refused);
+        }
+    }
+    Ok(trails)
+}
+
+fn room_for(alloc: Global, count: usize) -> Result<Vec<Trail>, Halt> {
+    if let Ok(room) = Vec::with_capacity(alloc, count) {
+        return Ok(room);
+    }
+    Vec::with_capacity(alloc, count).map_err(|_| Halt::Refused)
+}
+
+fn audited_chain(alloc: Global, trails: &[Trail]) -> Result<Vec<Order>, ChainFault>
+    requires some { 0 < length trails.now }
+    requires few { length trails.now ≤ MAX_TRAILS }
+{
+    match audit_chain(alloc, trails) {
+        Err(ChainFault::Memory) => audit_chain(alloc, trails),
+        answer => answer,
     }
 }
 

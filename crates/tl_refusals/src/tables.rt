@@ -1,7 +1,7 @@
 // Calls of a session of a table.
 
 use crate::halt::Halt;
-use crate::judging::{judge, print_order, print_records};
+use crate::judging::{judge, judge_all, print_order, print_records};
 use crate::making::{procedure_of, tree_of};
 use crate::seen::Seen;
 use std::alloc::Global;
@@ -12,6 +12,9 @@ use tl_table::{Sent, Table, TableFault};
 
 /// How many calls are asked for.
 const CALLS: i64 = 20;
+
+/// How many epochs are sealed before the last one.
+const EPOCHS: u32 = 2;
 
 /// How many turns a call takes at most.
 const TURNS: u32 = 10;
@@ -26,6 +29,15 @@ pub fn run(rt: &impl Print, alloc: Global) -> Result<(), Halt> {
 fn run_on(rt: &impl Print, alloc: Global, table: &mut Table) -> Result<(), Halt> {
     register(alloc, table)?;
     let session = table.session().map_err(|_| Halt::Refused)?;
+    for _ in 0..EPOCHS {
+        run_epoch(rt, alloc, table, session)?;
+        let sealed = seal(alloc, table)?;
+        println!(rt; "sealed {sealed}")?;
+    }
+    run_epoch(rt, alloc, table, session)
+}
+
+fn run_epoch(rt: &impl Print, alloc: Global, table: &mut Table, session: u32) -> Result<(), Halt> {
     for value in 0..CALLS {
         let answer = admit(alloc, table, session, &[2, value])?;
         println!(rt; "store {value}: {answer:?}")?;
@@ -107,13 +119,29 @@ fn send_each(table: &mut Table, call: u32) -> Result<(), Halt> {
     Err(Halt::Changed)
 }
 
+// Where memory is refused, the table is as it was, and is asked again.
+fn seal(alloc: Global, table: &mut Table) -> Result<u32, Halt> {
+    let (before, epoch, sessions) = (Seen::of(table.core()), table.epoch(), table.sessions());
+    if let Ok(sealed) = table.seal(alloc) {
+        return Ok(sealed);
+    }
+    before.stands(table.core())?;
+    if table.epoch() != epoch || table.sessions() != sessions {
+        return Err(Halt::Changed);
+    }
+    table.seal(alloc).map_err(|_| Halt::Refused)
+}
+
 fn close(rt: &impl Print, alloc: Global, table: Table) -> Result<(), Halt> {
-    let Ok(closed) = table.close() else {
+    let Ok(chain) = table.close() else {
         return Err(Halt::Changed);
     };
-    Seen::of(closed.core()).print(rt)?;
-    print_order(rt, "closed", closed.order().calls())?;
-    print_order(rt, "of sessions", closed.owners())?;
-    print_records(rt, closed.core().tree().records())?;
-    judge(rt, alloc, closed.core())
+    for closed in &chain {
+        Seen::of(closed.core()).print(rt)?;
+        print_order(rt, "closed", closed.order().calls())?;
+        print_order(rt, "of sessions", closed.owners())?;
+        print_records(rt, closed.core().tree().records())?;
+        judge(rt, alloc, closed.core())?;
+    }
+    judge_all(rt, alloc, &chain)
 }

@@ -1,7 +1,7 @@
 //! What the commands print. A row of a table costs nearly nothing to prove, and a function does: so one function runs each command,
 //! and the rows stand as data in a module for each of them, or in a folder of such modules.
 
-use crate::{alone, audit, containers, drive, procedures, run};
+use crate::{alone, audit, chains, containers, drive, procedures, run};
 use std::alloc::{AllocError, Global};
 use std::process::Abort;
 use std::sync::Wait;
@@ -10,7 +10,7 @@ use std::thread::Threads;
 use tl_audit::Silent;
 use tl_commands::{
     CliFault, alone_cmd, asm_cmd, audit_cmd, dis_cmd, drive_cmd, drive_with_trail_cmd, run_cmd,
-    verify_cmd,
+    run_with_trail_cmd, verify_cmd,
 };
 use tl_workers::NoGate;
 
@@ -39,6 +39,10 @@ pub enum Command {
     DriveAudit(&'static str, Parts),
     /// `run` on a tree with a script, by one worker.
     Run(&'static str, Parts),
+    /// The same: its trails alone.
+    RunTrail(&'static str, Parts),
+    /// The same, and then `audit` of its trails: its line alone.
+    RunAudit(&'static str, Parts),
     /// `audit` of a trail.
     Audit(Parts),
 }
@@ -83,6 +87,27 @@ fn audited(alloc: Global, tree: &str, script: &str) -> Result<String, CliFault> 
     audit_cmd(alloc, trail.as_bytes(), &mut Silent)
 }
 
+fn trails_of<R: Threads + Wait + Sync + AllocGlobal>(
+    rt: &R,
+    tree: &str,
+    script: &str,
+) -> Result<String, CliFault> {
+    let alloc = rt.alloc();
+    let mut trails = String::new(alloc);
+    let (tree, script) = (tree.as_bytes(), script.as_bytes());
+    run_with_trail_cmd(rt, alloc, tree, script, 1, &NoGate, &mut trails)?;
+    Ok(trails)
+}
+
+fn chain_audited<R: Threads + Wait + Sync + AllocGlobal>(
+    rt: &R,
+    tree: &str,
+    script: &str,
+) -> Result<String, CliFault> {
+    let trails = trails_of(rt, tree, script)?;
+    audit_cmd(rt.alloc(), trails.as_bytes(), &mut Silent)
+}
+
 /// The text of the command's file that is given in parts, or none.
 fn file_of(alloc: Global, command: &Command) -> Result<String, AllocError> {
     match command {
@@ -93,6 +118,8 @@ fn file_of(alloc: Global, command: &Command) -> Result<String, AllocError> {
         | Command::Trail(_, parts)
         | Command::DriveAudit(_, parts)
         | Command::Run(_, parts)
+        | Command::RunTrail(_, parts)
+        | Command::RunAudit(_, parts)
         | Command::Audit(parts) => parts.concat(alloc),
         Command::Listed(_) | Command::Verify(_) | Command::Alone(_, _, _) => {
             Ok(String::new(alloc))
@@ -119,6 +146,8 @@ fn printed<R: Threads + Wait + Sync + AllocGlobal>(
         Command::Trail(tree, _) => trail_of(alloc, tree, file),
         Command::DriveAudit(tree, _) => audited(alloc, tree, file),
         Command::Run(tree, _) => run_cmd(rt, alloc, tree.as_bytes(), bytes, 1, &NoGate),
+        Command::RunTrail(tree, _) => trails_of(rt, tree, file),
+        Command::RunAudit(tree, _) => chain_audited(rt, tree, file),
         Command::Audit(_) => audit_cmd(alloc, bytes, &mut Silent),
     }
 }
@@ -189,5 +218,6 @@ fn each_command_answers_what_its_row_says(rt: HostRuntime) -> Result<(), Fail> {
     tables_answer(&rt, &drive::tables())?;
     table_answers(&rt, &("containers", containers::rows()))?;
     table_answers(&rt, &("run", run::rows()))?;
-    table_answers(&rt, &("audit", audit::rows()))
+    table_answers(&rt, &("audit", audit::rows()))?;
+    table_answers(&rt, &("chains", chains::rows()))
 }

@@ -2,7 +2,7 @@
 
 use std::test::Fail;
 use tl_asm::AsmFault;
-use tl_audit::{AuditFault, TrailFault};
+use tl_audit::{AuditFault, ChainFault, TrailFault};
 use tl_budget::NestFault;
 use tl_commands::CliFault;
 use tl_core::CoreFault;
@@ -13,7 +13,7 @@ use tl_verify::VerifyFault;
 use tl_workers::Refusal;
 
 /// Each fault, and its numbers, exit status and text.
-const FAULTS: [(CliFault, &str); 29] = [
+const FAULTS: [(CliFault, &str); 35] = [
     (CliFault::Unreadable, "[31] 3: a file can't be read"),
     (CliFault::Unwritable, "[32] 3: a file can't be written"),
     (CliFault::NoPort, "[33] 3: a port can't be had"),
@@ -75,6 +75,33 @@ const FAULTS: [(CliFault, &str); 29] = [
     (
         CliFault::Audit(AuditFault::Memory),
         "[790] 4: the trail: out of memory",
+    ),
+    (
+        CliFault::Chain(ChainFault::Memory),
+        "[790] 4: the chain: out of memory",
+    ),
+    (
+        CliFault::Chain(ChainFault::Broken { epoch: 3 }),
+        "[718, 3] 1: the chain: trail 3 doesn't take over where the one before it ends",
+    ),
+    (
+        CliFault::Chain(ChainFault::InEpoch {
+            epoch: 3,
+            fault: AuditFault::WrongReply { call: 5 },
+        }),
+        "[719, 3, 717, 5] 1: the chain: trail 3: the reply of call 5 isn't what its procedure answers",
+    ),
+    (
+        CliFault::Engine(Refusal::Table(TableFault::TooManyEpochs)),
+        "[808] 1: the calls: too many epochs",
+    ),
+    (
+        CliFault::Engine(Refusal::Table(TableFault::Core(CoreFault::NotAtRest { call: 5 }))),
+        "[606, 5] 1: the calls: call 5 isn't done",
+    ),
+    (
+        CliFault::Audit(AuditFault::WrongReply { call: 5 }),
+        "[717, 5] 1: the trail: the reply of call 5 isn't what its procedure answers",
     ),
     (
         CliFault::Verify(VerifyFault::OffEnd(7)),

@@ -3,7 +3,7 @@
 //!
 //! A test is proved with its crate, so the tests stand here together, and each crate below is proved once, without them.
 //! A row of a table costs nearly nothing, and a function does. So what a command prints is a row in `alone`, `audit`, `containers`,
-//! `drive`, `procedures` or `run`, and one function in `commands` runs them all, from bytes to bytes. A folder has a table for each
+//! `chains`, `drive`, `procedures` or `run`, and one function in `commands` runs them all, from bytes to bytes. A folder has a table for each
 //! subject. `changed` has the bytes of good files with each of them changed. `cores`, `machine`, `serial`, `silent` and `tree` have
 //! what no command shows.
 #![tactic(auto)]
@@ -12,6 +12,8 @@
 mod alone;
 #[cfg(test)]
 mod audit;
+#[cfg(test)]
+mod chains;
 #[cfg(test)]
 mod changed;
 #[cfg(test)]

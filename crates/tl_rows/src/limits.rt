@@ -2,6 +2,7 @@
 
 use std::test::Fail;
 use tl_asm::MAX_LABEL;
+use tl_audit::MAX_TRAILS;
 use tl_budget::{MAX_DEPTH, MAX_EMITS, MAX_LOCKS, MAX_STEPS};
 use tl_core::MAX_OPEN;
 use tl_history::{MAX_CALLS, MAX_EVENTS};
@@ -10,7 +11,8 @@ use tl_procedures::{MAX_NAME, MAX_PROCEDURES};
 use tl_tree::{FIELD_COUNT, MAX_NODES};
 
 /// Each limit's constant, and its number in the documents.
-const LIMITS: [(&str, usize, usize); 16] = [
+const LIMITS: [(&str, usize, usize); 17] = [
+    ("trails of a chain", MAX_TRAILS, 256),
     ("nodes of a tree", MAX_NODES, 4_096),
     ("fields of a record", FIELD_COUNT, 8),
     ("instructions of a code", MAX_COUNT, 1_024),
@@ -24,9 +26,9 @@ const LIMITS: [(&str, usize, usize); 16] = [
     ("values that a procedure emits", MAX_EMITS, 32),
     ("characters of a name", MAX_NAME, 32),
     ("procedures", MAX_PROCEDURES, 256),
-    ("calls of a core", MAX_CALLS, 4_096),
+    ("calls of an epoch", MAX_CALLS, 4_096),
     ("open calls of a core", MAX_OPEN, 64),
-    ("stored events", MAX_EVENTS, 1_048_576),
+    ("stored events of an epoch", MAX_EVENTS, 1_048_576),
 ];
 
 #[test]

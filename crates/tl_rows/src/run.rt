@@ -83,7 +83,8 @@ fn two_sweeps_run_at_once(rt: HostRuntime) -> Result<(), Fail> {
     let calls = "[\"sweep\",[1]],[\"sweep\",[10]]],\"procs\":[";
     let script = [CALLS, calls, SWEEP_ALONE, "]}"].concat(alloc)?;
     let (tree, script) = (ZEROS.as_bytes(), script.as_bytes());
-    let (lines, trail) = run_with_trail_cmd(&rt, alloc, tree, script, 2, &NoGate)?;
+    let mut trail = String::new(alloc);
+    let lines = run_with_trail_cmd(&rt, alloc, tree, script, 2, &NoGate, &mut trail)?;
     let order = audit_cmd(alloc, trail.as_bytes(), &mut Silent)?;
     let is_first = order.as_str() == "{\"order\":[0,1]}\n";
     assert!(rt; is_first || order.as_str() == "{\"order\":[1,0]}\n");

@@ -12,7 +12,7 @@ use Rattle.tl_workers.specs.Kept.{SessionValue, Gains, asking, call_of, AnswersE
 use Rattle.tl_server.specs.declared.fault.LineFault.{LineFault}
 use Rattle.tl_server.specs.Answers.{line_text, error_text, batch_text}
 use Rattle.tl_server.specs.Faults.{numbers_of}
-use Rattle.tl_server.specs.Requests.{LineValue, Registers, Calls, Batches, Closes, IsRequest, IsLineFault}
+use Rattle.tl_server.specs.Requests.{LineValue, Registers, Calls, Batches, Seals, Closes, IsRequest, IsLineFault}
 use Rattle.tl_server.specs.Served.{CallOutcome, AnswersRequest, AnswersLine, IsAnswer}
 use Rattle.tl_server.specs.Runs.{AllGot, GainsWholeCalls}
 
@@ -29,8 +29,8 @@ nothing dids e = subst AllGot (sym e) got_nothing
 
 got_both : (xs ys : List Did) → AllGot xs → AllGot ys → AllGot (xs ++ ys)
 got_both xs ys p q a h = ⊎_elim
-    (λ (l : Contains xs (Asked a)). let r = p a l in (r.0, Contains-append_left xs ys (Got r.0) r.1, r.2))
-    (λ (l : Contains ys (Asked a)). let r = q a l in (r.0, Contains-append_right xs ys (Got r.0) r.1, r.2))
+    (λ (l : Contains xs (Asked a)). let r = p a l in (r.0, Contains-append_left xs ys (Got r.0) r.1, r.2, r.3))
+    (λ (l : Contains ys (Asked a)). let r = q a l in (r.0, Contains-append_right xs ys (Got r.0) r.1, r.2, r.3))
     (Contains-append_cases xs ys (Asked a) h)
 
 -- the first entry, or one of the rest
@@ -49,14 +49,15 @@ later x xs y h = Contains-append_right (x ∷ []) xs y h
 
 -- ---- one call
 
-same_call : (a b : Asking) → Asked a ≡ Asked b → a.call ≡ b.call
-same_call a b e = let s : a ≡ b = cc in ap (λ x. x.call) s
+same_call : (a b : Asking) → Asked a ≡ Asked b → (a.epoch ≡ b.epoch) × (a.call ≡ b.call)
+same_call a b e = let s : a ≡ b = cc in (ap (λ x. x.epoch) s, ap (λ x. x.call) s)
 
 one_call : (name : List ℕ) (args : List ℤ) (r : Receipt) → AllGot (call_of name args r)
 one_call name args r a h = ⊎_elim
-    (λ (e : Asked (asking r.call name args) ≡ Asked a). (r, later (Asked (asking r.call name args)) (Got r ∷ []) (Got r) (here (Got r) []), same_call (asking r.call name args) a e))
+    (λ (e : Asked (asking r.epoch r.call name args) ≡ Asked a).
+    let same = same_call (asking r.epoch r.call name args) a e in (r, later (Asked (asking r.epoch r.call name args)) (Got r ∷ []) (Got r) (here (Got r) []), same.0, same.1))
     (λ (l : Contains (Got r ∷ []) (Asked a)). absurd (⊎_elim (λ (e : Got r ≡ Asked a). let f : ⊥ = cc in f) (λ (m : Contains [] (Asked a)). no_entry (Asked a) m) (first_or_later (Got r) [] (Asked a) l)))
-    (first_or_later (Asked (asking r.call name args)) (Got r ∷ []) (Asked a) h)
+    (first_or_later (Asked (asking r.epoch r.call name args)) (Got r ∷ []) (Asked a) h)
 
 call_whole : (q : List ℕ × List ℤ) (gained : List Did) (answer : Result Receipt Refusal) → CallOutcome q gained answer → AllGot gained
 call_whole q gained (Ok r) h = subst AllGot (sym h.1) (one_call q.0 q.1 r)
@@ -70,19 +71,20 @@ no_asked (Ok r ∷ answers) a h = ⊎_elim (λ (e : Got r ≡ Asked a). let f : 
 no_asked (Err e ∷ answers) a h = no_asked answers a h
 
 asked_got : (requests : List Request) (answers : List (Result Receipt Refusal)) → AnswersEach requests answers → (a : Asking) → Contains (asked_of requests answers) (Asked a)
-    → (r : Receipt) × Contains (gots_of answers) (Got r) × (r.call ≡ a.call)
+    → (r : Receipt) × Contains (gots_of answers) (Got r) × (r.epoch ≡ a.epoch) × (r.call ≡ a.call)
 asked_got [] [] each a h = absurd (no_entry (Asked a) h)
 asked_got [] (answer ∷ answers) each a h = absurd each
 asked_got (q ∷ requests) [] each a h = absurd each
 asked_got (q ∷ requests) (Ok r ∷ answers) each a h = ⊎_elim
-    (λ (e : Asked (asking r.call (string_bytes q.name) q.args.items) ≡ Asked a). (r, here (Got r) (gots_of answers), same_call (asking r.call (string_bytes q.name) q.args.items) a e))
-    (λ (l : Contains (asked_of requests answers) (Asked a)). let found = asked_got requests answers each.1 a l in (found.0, later (Got r) (gots_of answers) (Got found.0) found.1, found.2))
-    (first_or_later (Asked (asking r.call (string_bytes q.name) q.args.items)) (asked_of requests answers) (Asked a) h)
+    (λ (e : Asked (asking r.epoch r.call (string_bytes q.name) q.args.items) ≡ Asked a).
+    let same = same_call (asking r.epoch r.call (string_bytes q.name) q.args.items) a e in (r, here (Got r) (gots_of answers), same.0, same.1))
+    (λ (l : Contains (asked_of requests answers) (Asked a)). let found = asked_got requests answers each.1 a l in (found.0, later (Got r) (gots_of answers) (Got found.0) found.1, found.2, found.3))
+    (first_or_later (Asked (asking r.epoch r.call (string_bytes q.name) q.args.items)) (asked_of requests answers) (Asked a) h)
 asked_got (q ∷ requests) (Err e ∷ answers) each a h = asked_got requests answers each a h
 
 batch_whole : (requests : List Request) (answers : List (Result Receipt Refusal)) → AnswersEach requests answers → AllGot (asked_of requests answers ++ gots_of answers)
 batch_whole requests answers each a h = ⊎_elim
-    (λ (l : Contains (asked_of requests answers) (Asked a)). let found = asked_got requests answers each a l in (found.0, Contains-append_right (asked_of requests answers) (gots_of answers) (Got found.0) found.1, found.2))
+    (λ (l : Contains (asked_of requests answers) (Asked a)). let found = asked_got requests answers each a l in (found.0, Contains-append_right (asked_of requests answers) (gots_of answers) (Got found.0) found.1, found.2, found.3))
     (λ (l : Contains (gots_of answers) (Asked a)). absurd (no_asked answers a l))
     (Contains-append_cases (asked_of requests answers) (gots_of answers) (Asked a) h)
 
@@ -95,6 +97,7 @@ request_whole (Batches calls workers) gained out h = ⊎_elim
     (λ (refused : (gained ≡ []) × (out ≡ line_text (error_text (990 ∷ [])))). nothing gained refused.0)
     (λ (b : (answers : List (Result Receipt Refusal)) × AnswersEach h.0 answers × (gained ≡ asked_of h.0 answers ++ gots_of answers) × (out ≡ line_text (batch_text answers))). subst AllGot (sym b.2) (batch_whole h.0 b.0 b.1))
     h.2
+request_whole Seals gained out h = nothing gained h.0
 request_whole Closes gained out h = absurd h
 
 line_whole : (line : List ℕ) (gained : List Did) (out : List ℕ) → AnswersLine line gained out → AllGot gained

@@ -17,8 +17,13 @@ line_text text = text ++ codes "\n"
 abbrev pub comma_before : ℕ → List ℕ
 comma_before index = if index == 0 then [] else codes ","
 
+-- the number of an epoch; the first one's is left out
+abbrev pub epoch_text : ℕ → List ℕ
+epoch_text epoch = if epoch == 0 then [] else codes ",\"epoch\":" ++ decimal epoch
+
 abbrev pub call_text : Receipt → List ℕ
-call_text r = codes "{\"call\":" ++ decimal r.call ++ codes ",\"reply\":" ++ list_text signed_decimal r.reply.items ++ codes "}"
+call_text r =
+    codes "{\"call\":" ++ decimal r.call ++ epoch_text r.epoch ++ codes ",\"reply\":" ++ list_text signed_decimal r.reply.items ++ codes "}"
 
 abbrev pub error_text : List ℕ → List ℕ
 error_text numbers = codes "{\"error\":" ++ list_text decimal numbers ++ codes "}"
@@ -39,6 +44,11 @@ bounds_text b =
 abbrev pub register_text : Result Bounds RegisterFault → List ℕ
 register_text (Ok b) = bounds_text b
 register_text (Err e) = error_text (register_numbers_of e)
+
+-- what came of a seal
+abbrev pub seal_text : Result ℕ Refusal → List ℕ
+seal_text (Ok epoch) = codes "{\"sealed\":" ++ decimal epoch ++ codes "}"
+seal_text (Err e) = error_text (numbers_of e)
 
 abbrev pub closed_text : List ℕ
 closed_text = codes "{\"closed\":true}"

@@ -11,24 +11,27 @@ use Rattle.tl_forms.specs.Requests.{request_form, request_of}
 use Rattle.tl_workers.specs.declared.batch.TheConstants.{MAX_REQUESTS, MAX_WORKERS}
 use Rattle.tl_server.specs.declared.request.TheConstants.{MAX_LINE}
 use Rattle.tl_server.specs.declared.request.LineRequest.{LineRequest}
-use Rattle.tl_server.specs.declared.request.LineRequest.TheVariants.{Register, Call, Batch, Close}
+use Rattle.tl_server.specs.declared.request.LineRequest.TheVariants.{Register, Call, Batch, Seal, Close}
 use Rattle.tl_server.specs.declared.fault.LineFault.{LineFault}
 use Rattle.tl_server.specs.declared.fault.LineFault.TheVariants as fault
 
--- the name and the text of a procedure; the name and the arguments of a call; many calls, and on how many threads; or the end
+-- the name and the text of a procedure; the name and the arguments of a call; many calls, and on how many threads; the seal of an
+-- epoch; or the end
 pub data LineValue : Type 0 where
   Registers : List ℕ → List ℕ → LineValue
   Calls : List ℕ → List ℤ → LineValue
   Batches : List (List ℕ × List ℤ) → ℕ → LineValue
+  Seals : LineValue
   Closes : LineValue
 
 abbrev pub line_view : LineRequest → LineValue
 line_view (Register p) = Registers (string_bytes p.name) (string_bytes p.text)
 line_view (Call q) = Calls (string_bytes q.name) q.args.items
 line_view (Batch b) = Batches (map request_form b.requests.items) b.workers
+line_view Seal = Seals
 line_view Close = Closes
 
--- ---- the four forms
+-- ---- the five forms
 
 -- the value is an object of so many members
 abbrev pub has_members : ℕ → Data → Bool
@@ -63,6 +66,9 @@ batch_of d = if has_members 3 d
     (both (option_and_then calls_of (get (codes "calls") d)) (option_and_then workers_of (option_and_then integer_of (get (codes "workers") d))))
     else None
 
+abbrev pub seal_of : Data → Option LineValue
+seal_of d = if has_members 1 d then Some Seals else None
+
 abbrev pub close_of : Data → Option LineValue
 close_of d = if has_members 1 d then Some Closes else None
 
@@ -72,6 +78,7 @@ request_with op d =
     if bytes_eq op (codes "register") then register_of d
     else if bytes_eq op (codes "call") then call_of d
     else if bytes_eq op (codes "batch") then batch_of d
+    else if bytes_eq op (codes "seal") then seal_of d
     else if bytes_eq op (codes "close") then close_of d
     else None
 

@@ -17,7 +17,7 @@ pub record Moment : Type 0 where
 
 -- each call that was asked for has its receipt
 abbrev pub AllGot : List Did → Type 0
-AllGot dids = (a : Asking) → Contains dids (Asked a) → (r : Receipt) × Contains dids (Got r) × (r.call ≡ a.call)
+AllGot dids = (a : Asking) → Contains dids (Asked a) → (r : Receipt) × Contains dids (Got r) × (r.epoch ≡ a.epoch) × (r.call ≡ a.call)
 
 -- the session gained calls that have their receipts
 abbrev pub GainsWholeCalls : SessionValue → SessionValue → Type 0

@@ -15,10 +15,11 @@ use Rattle.tl_table.specs.declared.receipt.Receipt.{Receipt}
 use Rattle.tl_workers.specs.declared.refusal.Refusal.{Refusal}
 use Rattle.tl_workers.specs.declared.session.Did.{Did}
 use Rattle.tl_workers.specs.Kept.{call_of, AnswersEach, asked_of, gots_of}
+use Rattle.tl_workers.specs.Refusals.{IsSealRefused}
 use Rattle.tl_server.specs.declared.fault.LineFault.{LineFault}
 use Rattle.tl_server.specs.Faults.{numbers_of}
-use Rattle.tl_server.specs.Requests.{LineValue, Registers, Calls, Batches, Closes, IsRequest, IsLineFault}
-use Rattle.tl_server.specs.Answers.{one_text, error_text, batch_text, register_text, closed_text, line_text}
+use Rattle.tl_server.specs.Requests.{LineValue, Registers, Calls, Batches, Seals, Closes, IsRequest, IsLineFault}
+use Rattle.tl_server.specs.Answers.{one_text, error_text, batch_text, register_text, seal_text, closed_text, line_text}
 
 -- ---- a registration
 
@@ -52,6 +53,13 @@ IsBatchAnswer requests gained out =
     IsRefused gained out
     ⊎ ((answers : List (Result Receipt Refusal)) × AnswersEach requests answers × (gained ≡ asked_of requests answers ++ gots_of answers) × (out ≡ line_text (batch_text answers)))
 
+-- ---- a seal
+
+-- the number of the epoch that was sealed; else 606, 808 or want of memory
+abbrev pub SealOutcome : Result ℕ Refusal → Type 0
+SealOutcome (Ok epoch) = Unit {0}
+SealOutcome (Err e) = IsSealRefused e
+
 -- ---- lines
 
 -- a request's answer, after which the next line is read, and what the session gained by it
@@ -60,6 +68,7 @@ AnswersRequest (Registers name text) gained out =
     (gained ≡ []) × ((answer : Result Bounds RegisterFault) × RegisterOutcome (name, text) answer × (out ≡ line_text (register_text answer)))
 AnswersRequest (Calls name args) gained out = IsCallAnswer (name, args) gained out
 AnswersRequest (Batches calls workers) gained out = (requests : List Request) × (map request_form requests ≡ calls) × IsBatchAnswer requests gained out
+AnswersRequest Seals gained out = (gained ≡ []) × ((answer : Result ℕ Refusal) × SealOutcome answer × (out ≡ line_text (seal_text answer)))
 AnswersRequest Closes gained out = ⊥
 
 -- a line's answer, after which the next line is read

@@ -4,7 +4,7 @@ ghost use Rattle.std.specs.Prelude.{◌≡◌, ◌==◌, ℕ, ℤ, List, [], ◌
 ghost use Rattle.std.specs.Fmt.{signed_decimal};
 ghost use Rattle.tl_tree.specs.Writing.{list_text};
 ghost use Rattle.tl_server.specs.Sending.{sending, Writes};
-ghost use Rattle.tl_server.specs.Answers.{comma_before, call_text, error_text, one_text, batch_text, bounds_text, closed_text, line_text};
+ghost use Rattle.tl_server.specs.Answers.{comma_before, epoch_text, call_text, error_text, one_text, batch_text, bounds_text, closed_text, line_text};
 
 use crate::device::Sink;
 use crate::outbox::Outbox;
@@ -68,6 +68,23 @@ impl Part for Result<Bounds, RegisterFault> {
     }
 }
 
+impl Part for Result<u32, Refusal> {
+    ghost use Rattle.tl_server.specs.Answers.{seal_text};
+
+    ghost text = { seal_text };
+
+    fn put<K: Sink>(&self, outbox: &mut Outbox, sink: &mut K) {
+        match self {
+            Ok(epoch) => {
+                outbox.put(sink, b"{\"sealed\":");
+                put_number(outbox, sink, *epoch);
+                outbox.put(sink, b"}");
+            }
+            Err(refusal) => put_error(outbox, sink, refusal.numbers().as_slice()),
+        }
+    }
+}
+
 fn put_number<I: Integer, K: Sink>(outbox: &mut Outbox, sink: &mut K, number: I)
     ensures { Writes (sending (K.output sink.old) (K.failures sink.old) outbox.old) (sending (K.output sink.new) (K.failures sink.new) outbox.new) (I.text number) }
 {
@@ -96,12 +113,24 @@ fn put_list<T: Part, K: Sink>(outbox: &mut Outbox, sink: &mut K, items: &[T])
     outbox.put(sink, b"]");
 }
 
-// `{"call":c,"reply":[..]}`
+// `,"epoch":e`, but of the first epoch.
+fn put_epoch<K: Sink>(outbox: &mut Outbox, sink: &mut K, epoch: u32)
+    ensures { Writes (sending (K.output sink.old) (K.failures sink.old) outbox.old) (sending (K.output sink.new) (K.failures sink.new) outbox.new) (epoch_text epoch) }
+{
+    if epoch == 0 {
+        return;
+    }
+    outbox.put(sink, b",\"epoch\":");
+    put_number(outbox, sink, epoch);
+}
+
+// `{"call":c,"reply":[..]}`, with the epoch in between from the second one on
 fn put_call<K: Sink>(outbox: &mut Outbox, sink: &mut K, receipt: &Receipt)
     ensures { Writes (sending (K.output sink.old) (K.failures sink.old) outbox.old) (sending (K.output sink.new) (K.failures sink.new) outbox.new) (call_text receipt.now) }
 {
     outbox.put(sink, b"{\"call\":");
     put_number(outbox, sink, receipt.call);
+    put_epoch(outbox, sink, receipt.epoch);
     outbox.put(sink, b",\"reply\":");
     put_list(outbox, sink, receipt.reply.as_slice());
     outbox.put(sink, b"}");
@@ -129,7 +158,7 @@ fn put_bounds<K: Sink>(outbox: &mut Outbox, sink: &mut K, bounds: &Bounds)
     outbox.put(sink, b"}}");
 }
 
-/// The line of what came of a call or of a registration.
+/// The line of what came of a call, of a registration or of a seal.
 pub(crate) fn put_line<T: Part, K: Sink>(outbox: &mut Outbox, sink: &mut K, answer: &T)
     ensures { Writes (sending (K.output sink.old) (K.failures sink.old) outbox.old) (sending (K.output sink.new) (K.failures sink.new) outbox.new) (line_text (T.text answer.now)) }
 {

@@ -107,6 +107,11 @@ pub(crate) fn answer_line<R: Threads + Wait + Sync, K: Sink>(
             answer_batch(rt, alloc, engine, session, outbox, sink, &batch);
             false
         }
+        Ok(LineRequest::Seal) => {
+            let answer = engine.seal(rt, alloc);
+            put_line(outbox, sink, &answer);
+            false
+        }
         Ok(LineRequest::Close) => {
             put_closed_line(outbox, sink);
             true

@@ -26,6 +26,8 @@ pub enum LineRequest {
     Call(Request),
     /// To run many calls.
     Batch(BatchRequest),
+    /// To seal the current epoch.
+    Seal,
     /// To close the connection.
     Close,
 }
@@ -136,6 +138,11 @@ fn request_with_op(
         "register" => register_of_value(alloc, value),
         "call" => call_of_value(alloc, value),
         "batch" => batch_of_value(alloc, value),
+        "seal" => if has_members(value, 1) {
+            Ok(Some(LineRequest::Seal))
+        } else {
+            Ok(None)
+        },
         "close" => if has_members(value, 1) {
             Ok(Some(LineRequest::Close))
         } else {
@@ -156,8 +163,8 @@ fn request_of_value(alloc: Global, value: &Value) -> Result<Option<LineRequest>,
 
 /// What a line, without its LF, asks for. It is an object of JSON with the members shown and no others:
 /// `{"asm":text,"name":name,"op":"register"}`, `{"args":args,"op":"call","proc":name}`,
-/// `{"calls":[[name,args],..],"op":"batch","workers":w}` with 1 to 256 calls and 1 to 16 workers, or `{"op":"close"}`. The
-/// arguments are lists of signed 64-bit integers.
+/// `{"calls":[[name,args],..],"op":"batch","workers":w}` with 1 to 256 calls and 1 to 16 workers, `{"op":"seal"}`, or
+/// `{"op":"close"}`. The arguments are lists of signed 64-bit integers.
 ///
 /// Else the first that holds: 902 where it has more than 65,536 bytes, 903 where it isn't UTF-8, 901. 990 where memory is
 /// refused.

@@ -4,6 +4,8 @@
 #[cfg(test)]
 mod device;
 #[cfg(test)]
+mod epochs;
+#[cfg(test)]
 mod failing;
 mod limits;
 #[cfg(test)]

@@ -21,8 +21,8 @@ use Rattle.tl_core.specs.declared.fault.CoreFault.TheVariants as core_fault
 use Rattle.tl_core.specs.Cores.{CoreState, CoreValue, CallValue}
 use Rattle.tl_core.specs.Entries.{procedure_at, refusal_of, admission_refusal, after_admission, with_call_of}
 use Rattle.tl_table.specs.Ends.{begun_by_end}
-use Rattle.tl_table.specs.Tables.{TableValue, seen}
-use Rattle.tl_table.specs.Stored.{IsTable}
+use Rattle.tl_table.specs.Epochs.{EpochValue, seen}
+use Rattle.tl_table.specs.Stored.{IsEpoch}
 
 -- ---- what was admitted
 
@@ -63,13 +63,13 @@ name_short ps name i free at =
 
 -- ---- the table stays one
 
-pub table_more : (t : TableValue) (begun : List ℕ) (owners_room begun_room : ℕ) → IsTable t begun owners_room begun_room
+pub table_more : (t : EpochValue) (begun : List ℕ) (owners_room begun_room : ℕ) → IsEpoch t begun owners_room begun_room
     → InTurn (seen t).past → length (seen t).calls ≡ admits (seen t).past
     → (w : CoreState) (call : CallValue) → w.seen.calls ≡ (seen t).calls ++ call ∷ [] → w.seen.past ≡ Admit (length (seen t).calls) ∷ (seen t).past
     → (session : ℕ) → session < t.sessions
     → (owners more : List ℕ) → owners ≡ t.owners ++ session ∷ [] → more ≡ begun ++ 0 ∷ []
     → (r s : ℕ) → r ≡ owners_room → s ≡ begun_room
-    → IsTable (record { core = w; sessions = t.sessions; owners = owners }) more r s
+    → IsEpoch (record { number = t.number; core = w; sessions = t.sessions; owners = owners }) more r s
 table_more t begun ro rb h turn counted w call calls past session given owners more owners_are more_are r s r_is s_is =
     let n = length (seen t).calls in
     let long : length w.seen.calls ≡ n + 1 = ap length calls ∙ length-append (seen t).calls (call ∷ []) in

@@ -79,7 +79,7 @@ begun_case : (t : Bool) (past : List Event) (a : ℕ) → begun_by_end a past �
 begun_case true past a le = omega arith
 begun_case false past a le = le
 
-begun_few : (past : List Event) (a : ℕ) → begun_by_end a past ≤ admits past
+pub begun_few : (past : List Event) (a : ℕ) → begun_by_end a past ≤ admits past
 begun_few [] a = omega arith
 begun_few (Admit c ∷ past) a = let le = begun_few past a in omega (arith, le)
 begun_few (Lock x c found ∷ past) a = begun_few past a

@@ -18,17 +18,17 @@ use Rattle.tl_table.proofs.Ended.{done_stays}
 
 -- ---- where a call locked a node
 
-record IsLockedIn (events : List Event) (c x : ℕ) : Type 0 where
-  front : List Event
-  back : List Event
-  found : Record
-  split : events ≡ front ++ Lock x c found ∷ back
+pub record IsLockedIn (events : List Event) (c x : ℕ) : Type 0 where
+  pub front : List Event
+  pub back : List Event
+  pub found : Record
+  pub split : events ≡ front ++ Lock x c found ∷ back
 
 locked_later : (e : Event) (events : List Event) (c x : ℕ) → IsLockedIn events c x → IsLockedIn (e ∷ events) c x
 locked_later e events c x h = record { front = e ∷ h.front; back = h.back; found = h.found; split = ap (λ es. e ∷ es) h.split }
 
 -- a call that hadn't locked a node, and has now, locked it in between
-locked_in : (later earlier : List Event) (c x : ℕ) → locked (part_of c earlier) x ≡ false → locked (part_of c (later ++ earlier)) x ≡ true → IsLockedIn later c x
+pub locked_in : (later earlier : List Event) (c x : ℕ) → locked (part_of c earlier) x ≡ false → locked (part_of c (later ++ earlier)) x ≡ true → IsLockedIn later c x
 locked_in [] earlier c x none h = absurd (both_ways (locked (part_of c earlier) x) none h)
 locked_in (Admit d ∷ later) earlier c x none h = locked_later (Admit d) later c x (locked_in later earlier c x none h)
 locked_in (Lock y d found ∷ later) earlier c x none h = elim (locked-lock d y found (later ++ earlier) c x h) [
@@ -42,17 +42,17 @@ locked_in (Done d ∷ later) earlier c x none h =
 
 -- ---- where a call freed a node
 
-record IsFreedIn (events : List Event) (c x : ℕ) : Type 0 where
-  front : List Event
-  back : List Event
-  left : Record
-  split : events ≡ front ++ Free x c left ∷ back
+pub record IsFreedIn (events : List Event) (c x : ℕ) : Type 0 where
+  pub front : List Event
+  pub back : List Event
+  pub left : Record
+  pub split : events ≡ front ++ Free x c left ∷ back
 
 freed_later : (e : Event) (events : List Event) (c x : ℕ) → IsFreedIn events c x → IsFreedIn (e ∷ events) c x
 freed_later e events c x h = record { front = e ∷ h.front; back = h.back; left = h.left; split = ap (λ es. e ∷ es) h.split }
 
 -- a call that locked a node, and doesn't hold it any more, freed it
-freed_in : (past : List Event) (c x : ℕ) → locked (part_of c past) x ≡ true → held (part_of c past) x ≡ false → IsFreedIn past c x
+pub freed_in : (past : List Event) (c x : ℕ) → locked (part_of c past) x ≡ true → held (part_of c past) x ≡ false → IsFreedIn past c x
 freed_in [] c x h free = absurd (both_ways false refl h)
 freed_in (Admit d ∷ past) c x h free = freed_later (Admit d) past c x (freed_in past c x h free)
 freed_in (Lock y d found ∷ past) c x h free = freed_later (Lock y d found) past c x (elim (cases_eq d c) [
@@ -104,7 +104,7 @@ legal_earlier : (parents : List ℕ) (later earlier : List Event) → IsLegalHis
 legal_earlier parents [] earlier legal = legal
 legal_earlier parents (e ∷ later) earlier legal = legal_earlier parents later earlier (legal_before parents e (later ++ earlier) legal)
 
-found_then : (opening : Records) (later earlier : List Event) (c x : ℕ) (found : Record) → Follows opening (later ++ Lock x c found ∷ earlier) → found ≡ record_now earlier opening x
+pub found_then : (opening : Records) (later earlier : List Event) (c x : ℕ) (found : Record) → Follows opening (later ++ Lock x c found ∷ earlier) → found ≡ record_now earlier opening x
 found_then opening [] earlier c x found follows = follows.0
 found_then opening (Admit d ∷ later) earlier c x found follows = found_then opening later earlier c x found follows
 found_then opening (Lock y d r ∷ later) earlier c x found follows = found_then opening later earlier c x found follows.1
@@ -112,7 +112,7 @@ found_then opening (Free y d r ∷ later) earlier c x found follows = found_then
 found_then opening (Done d ∷ later) earlier c x found follows = found_then opening later earlier c x found follows
 
 -- what was left last after a free doesn't depend on what stood before it
-last_left-free : (since before : List Event) (c x : ℕ) (left r : Record) → last_left (since ++ Free x c left ∷ before) x r ≡ last_left since x left
+pub last_left-free : (since before : List Event) (c x : ℕ) (left r : Record) → last_left (since ++ Free x c left ∷ before) x r ≡ last_left since x left
 last_left-free [] before c x left r = let q = eq-eqb x x refl in rw q refl
 last_left-free (Admit d ∷ since) before c x left r = last_left-free since before c x left r
 last_left-free (Lock y d found ∷ since) before c x left r = last_left-free since before c x left r

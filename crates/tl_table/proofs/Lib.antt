@@ -1,5 +1,12 @@
+pub mod AcrossEpochs
 pub mod Admitted
+pub mod ChainOrders
 pub mod Ended
 pub mod Finding
+pub mod Going
+pub mod Lines
+pub mod ReachedChains
 pub mod Receipts
+pub mod ReceiptsOfEpochs
+pub mod SealedTables
 pub mod Submitted

@@ -16,8 +16,8 @@ use Rattle.tl_core.specs.Cores.{CoreState, CoreValue}
 use Rattle.tl_core.specs.Entries.{after_step}
 use Rattle.tl_core.specs.Followed.{Goes, EachLocal, EndsStop, HasGone}
 use Rattle.tl_table.specs.Ends.{begun_by_end}
-use Rattle.tl_table.specs.Tables.{TableValue, seen, IsKnown}
-use Rattle.tl_table.specs.Stored.{IsTable}
+use Rattle.tl_table.specs.Epochs.{EpochValue, seen, IsKnown}
+use Rattle.tl_table.specs.Stored.{IsEpoch}
 
 -- ---- what becomes of the history
 
@@ -81,9 +81,9 @@ other_ends c d past ne =
     (ap (λ t. t || is_done d past) q, ap (λ t. if t then admits past else begun_by_end d past) q)
 
 -- a call that goes on
-pub table_went : (t : TableValue) (begun : List ℕ) (owners_room begun_room : ℕ) → IsTable t begun owners_room begun_room
+pub table_went : (t : EpochValue) (begun : List ℕ) (owners_room begun_room : ℕ) → IsEpoch t begun owners_room begun_room
     → (w : CoreState) (c : ℕ) → IsLater (seen t) c w.seen → is_done c w.seen.past ≡ false
-    → IsTable (record { core = w; sessions = t.sessions; owners = t.owners }) begun owners_room begun_room
+    → IsEpoch (record { number = t.number; core = w; sessions = t.sessions; owners = t.owners }) begun owners_room begun_room
 table_went t begun ro rb h w c later open_yet = record {
   few = h.few;
   owned = h.owned ∙ sym later.calls;
@@ -115,11 +115,11 @@ length-set (y ∷ ys) zero x = refl
 length-set (y ∷ ys) (suc i) x = ap suc (length-set ys i x)
 
 -- a call that has ended
-pub table_finished : (t : TableValue) (begun : List ℕ) (owners_room begun_room : ℕ) → IsTable t begun owners_room begun_room
+pub table_finished : (t : EpochValue) (begun : List ℕ) (owners_room begun_room : ℕ) → IsEpoch t begun owners_room begun_room
     → (w : CoreState) (c : ℕ) → IsLater (seen t) c w.seen → IsKnown t c → length (seen t).calls ≡ admits (seen t).past
     → is_done c (seen t).past ≡ false → is_done c w.seen.past ≡ true
     → (n : ℕ) → n ≡ length w.seen.calls → (more : List ℕ) → more ≡ set begun c n → (s : ℕ) → s ≡ begun_room
-    → IsTable (record { core = w; sessions = t.sessions; owners = t.owners }) more owners_room s
+    → IsEpoch (record { number = t.number; core = w; sessions = t.sessions; owners = t.owners }) more owners_room s
 table_finished t begun ro rb h w c later known_c counted was_open done_c n n_is more more_is s s_is =
     let inside : c < length begun = omega (arith, known_c, h.counted) in
     ⊎_elim

@@ -1,6 +1,9 @@
+pub mod Across
+pub mod Chains
 pub mod Ends
 pub mod Faults
 pub mod Finding
 pub mod Sent
 pub mod Stored
+pub mod Epochs
 pub mod Tables

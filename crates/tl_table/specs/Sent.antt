@@ -11,17 +11,17 @@ use Rattle.tl_table.specs.declared.receipt.Sent.{Sent}
 use Rattle.tl_table.specs.declared.receipt.Sent.TheVariants.{Went, Blocked, Finished}
 use Rattle.tl_table.specs.declared.receipt.Outcome.{Outcome}
 use Rattle.tl_table.specs.declared.receipt.Outcome.TheVariants as outcome
-use Rattle.tl_table.specs.Tables.{TableValue, seen, IsKnown, Stands}
+use Rattle.tl_table.specs.Epochs.{EpochValue, seen, IsKnown, Stands}
 
 -- blocked where another call is in the way, and nothing is changed; else the call has done the segment's local actions and
 -- that of its stop, and goes on at a turn, or is done, and this is its receipt
-abbrev pub IsSent : TableValue → ℕ → SegmentValue → Sent → TableValue → Type 0
+abbrev pub IsSent : EpochValue → ℕ → SegmentValue → Sent → EpochValue → Type 0
 IsSent t c segment (Went turn) u = HasGone t.core c segment u.core × (kept_turn u.core c ≡ Some turn)
 IsSent t c segment Blocked u = ((x : ℕ) × (d : ℕ) × IsInTheWay (seen t) segment.stop x d) × (u ≡ t)
 IsSent t c segment (Finished r) u = HasGone t.core c segment u.core × (r.call ≡ c) × Stands u r
 
 -- nobody is in the way of a call that wasn't blocked
-abbrev pub IsUnblocked : TableValue → SegmentValue → Sent → Type 0
+abbrev pub IsUnblocked : EpochValue → SegmentValue → Sent → Type 0
 IsUnblocked t segment Blocked = Unit {0}
 IsUnblocked t segment sent = (x d : ℕ) → IsInTheWay (seen t) segment.stop x d → ⊥
 
@@ -31,17 +31,17 @@ IsOfCall c (Finished r) = r.call ≡ c
 IsOfCall c sent = Unit {0}
 
 -- 602 where the call wasn't admitted, 801 where the segment doesn't begin at the turn that is kept of it
-abbrev pub IsSubmitFault : TableValue → ℕ → SegmentValue → TableFault → Type 0
+abbrev pub IsSubmitFault : EpochValue → ℕ → SegmentValue → TableFault → Type 0
 IsSubmitFault t c segment e =
     ((e ≡ fault.Core NoCall) × (length (seen t).calls ≤ c))
     ⊎ ((e ≡ fault.Stale) × IsKnown t c × (kept_turn t.core c ≢ Some segment.from))
 
 -- the same of a caller that keeps the segment: the call went on to that turn, or is done
-abbrev pub IsSentTo : TableValue → ℕ → SegmentValue → TurnValue → Outcome → TableValue → Type 0
+abbrev pub IsSentTo : EpochValue → ℕ → SegmentValue → TurnValue → Outcome → EpochValue → Type 0
 IsSentTo t c segment turn outcome.Went u = HasGone t.core c segment u.core × (kept_turn u.core c ≡ Some turn)
 IsSentTo t c segment turn outcome.Blocked u = ((x : ℕ) × (d : ℕ) × IsInTheWay (seen t) segment.stop x d) × (u ≡ t)
 IsSentTo t c segment turn outcome.Finished u = HasGone t.core c segment u.core × (is_done c (seen u).past ≡ true) × IsKnown u c
 
-abbrev pub IsSentFreely : TableValue → SegmentValue → Outcome → Type 0
+abbrev pub IsSentFreely : EpochValue → SegmentValue → Outcome → Type 0
 IsSentFreely t segment outcome.Blocked = Unit {0}
 IsSentFreely t segment _ = (x d : ℕ) → IsInTheWay (seen t) segment.stop x d → ⊥

@@ -1,56 +1,77 @@
--- What callers see of a table, and which receipts stand.
-use Rattle.std.specs.Prelude.{◌≡◌, ℕ, ◌<◌, true, List, [], ◌∷◌, ◌++◌, length, get_or, Option, Some, option_map, if◌then◌else◌, nat_lt, ℤ}
-use Rattle.tl_protocol.specs.History.{is_done, AllDone}
-use Rattle.tl_protocol.specs.World.{reply_of}
-use Rattle.tl_core.specs.Cores.{CoreState, CoreValue, kept_turn, call_of, world_of}
-use Rattle.tl_core.specs.Entries.{admission_refusal, after_admission}
+-- What callers see of a table: its epochs, one after another.
+use Rattle.std.specs.Prelude.{◌≡◌, ℕ, ◌+◌, ◌<◌, ◌≤◌, List, [], ◌∷◌, ◌++◌, length}
+use Rattle.tl_history.specs.declared.history.TheConstants.{MAX_CALLS}
+use Rattle.tl_tree.specs.Records.{Records}
+use Rattle.tl_protocol.specs.History.{AllDone, admits, records_now}
+use Rattle.tl_protocol.specs.World.{World, IsSound, Reached}
+use Rattle.tl_procedures.specs.Names.{Named}
+use Rattle.tl_core.specs.declared.fault.CoreFault.TheVariants as core_fault
+use Rattle.tl_core.specs.Cores.{IsSealFault, world_of}
 use Rattle.tl_table.specs.declared.fault.TableFault.{TableFault}
 use Rattle.tl_table.specs.declared.fault.TableFault.TheVariants as fault
-use Rattle.tl_table.specs.declared.receipt.Receipt.{Receipt}
+use Rattle.tl_table.specs.declared.epoch.TheConstants.{MAX_EPOCHS}
+use Rattle.tl_table.specs.Epochs.{EpochValue, seen, IsAtRest, AreOwned, BeginsWith}
 
--- a core, how many sessions were given, and of each call its session
+-- the epochs that were sealed, the first one first, and the current one
 pub record TableValue : Type 0 where
-  pub core : CoreState
-  pub sessions : ℕ
-  pub owners : List ℕ
+  pub sealed : List EpochValue
+  pub current : EpochValue
 
--- the core as its callers see it
-abbrev pub seen : TableValue → CoreValue
-seen t = t.core.seen
+-- all epochs of the table, the current one last
+abbrev pub all_epochs : TableValue → List EpochValue
+all_epochs t = t.sealed ++ t.current ∷ []
 
-abbrev pub owner_of : TableValue → ℕ → ℕ
-owner_of t c = get_or t.owners c 0
+-- the world of an epoch
+abbrev pub epoch_world : EpochValue → World
+epoch_world e = world_of (seen e)
 
--- a call of that number was admitted
-abbrev pub IsKnown : TableValue → ℕ → Type 0
-IsKnown t c = c < length (seen t).calls
+-- ---- one epoch after another
 
--- each call has a session that was given
-pub record AreOwned (t : TableValue) : Type 0 where
-  pub each : length t.owners ≡ length (seen t).calls
-  pub given : (c : ℕ) → IsKnown t c → owner_of t c < t.sessions
+-- the records that these epochs leave, and the procedures that they have in the end, after these before
+abbrev pub records_after : Records → List EpochValue → Records
+records_after opening [] = opening
+records_after opening (e ∷ es) = records_after (records_now (seen e).past (seen e).opening) es
 
--- the call of the receipt's number is done, and has its session, procedure, arguments and reply
-pub record Stands (t : TableValue) (r : Receipt) : Type 0 where
-  pub known : IsKnown t r.call
-  pub done : is_done r.call (seen t).past ≡ true
-  pub session : r.session ≡ owner_of t r.call
-  pub procedure : r.procedure ≡ (call_of (seen t) r.call).procedure
-  pub args : r.args.items ≡ (call_of (seen t) r.call).args
-  pub reply : r.reply.items ≡ reply_of (world_of (seen t)) r.call
+abbrev pub procedures_after : List Named → List EpochValue → List Named
+procedures_after procedures [] = procedures
+procedures_after procedures (e ∷ es) = procedures_after (seen e).procedures es
 
--- every call is done
-abbrev pub IsAtRest : TableValue → Type 0
-IsAtRest t = AllDone (seen t).past
+-- the epoch has that number and that shape, opens with these records, and has these procedures first
+pub record IsNext (n : ℕ) (shape : List ℕ) (records : Records) (before : List Named) (e : EpochValue) : Type 0 where
+  pub number : e.number ≡ n
+  pub parents : (seen e).parents ≡ shape
+  pub opening : (seen e).opening ≡ records
+  pub procedures : BeginsWith before (seen e).procedures
 
--- why a call isn't admitted: its session wasn't given, or the core refuses
-abbrev pub table_refusal : TableValue → ℕ → List ℕ → List ℤ → Option TableFault
-table_refusal t session name args =
-    if nat_lt session t.sessions then option_map fault.Core (admission_refusal (seen t) name args) else Some fault.NoSession
+-- What is so of an epoch at rest.
+pub record IsRested (e : EpochValue) : Type 0 where
+  pub sound : IsSound (epoch_world e)
+  pub reached : Reached (seen e).parents (seen e).opening (epoch_world e)
+  pub done : AllDone (seen e).past
+  pub counted : length (seen e).calls ≡ admits (seen e).past
+  pub few : length (seen e).calls ≤ MAX_CALLS
+  pub owned : AreOwned e
 
--- the second table has a call of that session more
-pub record IsAdmittedTo (t : TableValue) (session : ℕ) (name : List ℕ) (args : List ℤ) (u : TableValue) : Type 0 where
-  pub core : seen u ≡ after_admission (seen t) name args
-  pub turns : (c : ℕ) → IsKnown t c → kept_turn u.core c ≡ kept_turn t.core c
-  pub owners : u.owners ≡ t.owners ++ session ∷ []
-  pub sessions : u.sessions ≡ t.sessions
+-- From that number on each epoch is the next after the one before, and at rest.
+abbrev pub InLine : ℕ → List ℕ → Records → List Named → List EpochValue → Type 0
+InLine n parents opening procedures [] = Unit {0}
+InLine n parents opening procedures (e ∷ es) =
+    IsNext n parents opening procedures e × IsRested e
+    × InLine (n + 1) parents (records_now (seen e).past (seen e).opening) (seen e).procedures es
+
+-- What a closed table is: its epochs in line, numbered from 0. The first opens with these records.
+pub record IsChain (es : List EpochValue) : Type 0 where
+  pub parents : List ℕ
+  pub opening : Records
+  pub line : InLine 0 parents opening [] es
+  pub some : 0 < length es
+  pub few : length es ≤ MAX_EPOCHS
+
+-- ---- why a table isn't sealed: the first that holds of a call that isn't done, and the last epoch; else memory was refused
+
+abbrev pub IsSealRefusal : TableValue → TableFault → Type 0
+IsSealRefusal t (fault.Core (core_fault.NotAtRest c)) = IsSealFault (seen t.current) (core_fault.NotAtRest c)
+IsSealRefusal t fault.TooManyEpochs = IsAtRest t.current × (length t.sealed + 1 ≡ MAX_EPOCHS)
+IsSealRefusal t (fault.Core core_fault.Memory) = IsAtRest t.current × (length t.sealed + 1 < MAX_EPOCHS)
+IsSealRefusal t fault.Memory = IsAtRest t.current × (length t.sealed + 1 < MAX_EPOCHS)
+IsSealRefusal t _ = ⊥

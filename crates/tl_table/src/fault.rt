@@ -9,7 +9,7 @@ use tl_core::CoreFault;
 /// Why a table refuses. A refusal changes nothing.
 #[derive(Clone, Copy, Debug, PartialEq, Eq, Error)]
 pub enum TableFault {
-    /// 501, 601 to 605, 690: the core refuses.
+    /// 501, 601 to 606, 690: the core refuses.
     #[error("{0}")]
     Core(CoreFault),
     /// 801: the segment doesn't begin where its call is, or the call is done.
@@ -18,6 +18,9 @@ pub enum TableFault {
     /// 803: no session of that number was given.
     #[error("no session of that number")]
     NoSession,
+    /// 808: the last of 256 epochs is the current one.
+    #[error("too many epochs")]
+    TooManyEpochs,
     /// 821: 65,535 sessions were given.
     #[error("too many sessions")]
     TooManySessions,
@@ -38,6 +41,7 @@ impl TableFault {
             TableFault::Core(fault) => return fault.numbers(),
             TableFault::Stale => numbers.push(801),
             TableFault::NoSession => numbers.push(803),
+            TableFault::TooManyEpochs => numbers.push(808),
             TableFault::TooManySessions => numbers.push(821),
             TableFault::Memory => numbers.push(890),
         }

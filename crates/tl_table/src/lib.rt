@@ -5,11 +5,17 @@
 //! then it says of a receipt whether it stands.
 #![tactic(auto)]
 
+mod chain;
+mod closed;
+mod epoch;
 mod fault;
 pub mod laws;
 mod receipt;
 mod table;
 
+pub use chain::conclude_all;
+pub use closed::Closed;
+pub use epoch::{MAX_EPOCHS, MAX_SESSIONS};
 pub use fault::TableFault;
 pub use receipt::{Outcome, Receipt, Sent};
-pub use table::{Closed, MAX_SESSIONS, Table};
+pub use table::Table;

@@ -12,7 +12,9 @@ use tl_machine::Turn;
 pub struct Receipt {
     /// The number of the session that asked for the call.
     pub session: u32,
-    /// The number of the call.
+    /// The number of the epoch.
+    pub epoch: u32,
+    /// The number of the call in its epoch.
     pub call: u32,
     /// The number of its procedure.
     pub procedure: u32,
@@ -36,6 +38,7 @@ impl Receipt {
     {
         Receipt {
             session: self.session,
+            epoch: self.epoch,
             call: self.call,
             procedure: self.procedure,
             args: copy_of(&self.args),

@@ -1,52 +1,45 @@
-// A core, its sessions, and which call is whose.
+// Epochs, one after another.
 
-ghost use Rattle.std.specs.Prelude.{◌≡◌, ◌≢◌, ℕ, ◌+◌, ◌<◌, ◌≤◌, ◌↔◌, ◌⊎◌, All, map, [], ◌∷◌, ◌++◌, length, true, false, IsTrue, IsOk, IfOk, IfErr, OnOk, OnErr, MatchOption, Some, None};
+ghost use Rattle.std.specs.Prelude.{◌≡◌, ◌≢◌, ℕ, ◌+◌, ◌<◌, ◌≤◌, ◌↔◌, ◌⊎◌, [], ◌∷◌, ◌++◌, length, slice_get, true, false, IsTrue, IsOk, IfOk, IfErr, IfSome, OnOk, OnErr, MatchOption, Some, None};
 ghost use Rattle.tl_instr.specs.declared.operand.TheConstants.{MAX_ARGS};
-ghost use Rattle.tl_protocol.specs.Alone.{serial};
-ghost use Rattle.tl_protocol.specs.History.{is_done, records_now, IsOpen};
-ghost use Rattle.tl_protocol.specs.Order.{placed, Agrees};
+ghost use Rattle.tl_protocol.specs.History.{is_done, IsOpen};
 ghost use Rattle.tl_protocol.specs.Holders.{holder_of};
 ghost use Rattle.tl_procedures.specs.Names.{naming_refusal};
 ghost use Rattle.tl_procedures.specs.declared.fault.NamingFault.TheVariants as naming;
 ghost use Rattle.tl_procedures.specs.declared.procedures.TheConstants.{MAX_NAME};
 ghost use Rattle.tl_core.specs.declared.fault.CoreFault.TheVariants as core_fault;
-ghost use Rattle.tl_protocol.specs.World.{reply_of};
 ghost use Rattle.tl_machine.specs.Turns.{IsTurn, IsSegment, Stops, segment_of, with_call};
 ghost use Rattle.tl_machine.specs.declared.want.Stop.TheVariants as stop;
-ghost use Rattle.tl_core.specs.Cores.{kept_turn, world_of};
+ghost use Rattle.tl_core.specs.Cores.{kept_turn};
 ghost use Rattle.tl_table.specs.declared.fault.TableFault.TheVariants as fault;
 ghost use Rattle.tl_table.specs.declared.receipt.Outcome.TheVariants as outcome;
-ghost use Rattle.tl_table.specs.Ends.{EndsBefore, begun_by_end};
-ghost use Rattle.tl_table.specs.Tables.{seen, Stands, IsAtRest, IsKnown, AreOwned, table_refusal, IsAdmittedTo};
+ghost use Rattle.tl_table.specs.declared.epoch.TheConstants.{MAX_SESSIONS};
+ghost use Rattle.tl_table.specs.Epochs.{EpochValue, seen, Stands, IsAtRest, IsKnown, AreOwned, GoesOn, epoch_after, table_refusal, IsAdmittedTo};
+ghost use Rattle.tl_table.specs.Tables.{all_epochs, IsChain, IsSealRefusal};
 ghost use Rattle.tl_table.specs.Sent.{IsSentTo, IsSentFreely, IsSent, IsUnblocked, IsSubmitFault, IsOfCall};
 
+use crate::closed::Closed;
+use crate::epoch::{Epoch, MAX_EPOCHS};
 use crate::fault::TableFault;
 use crate::receipt::{Outcome, Receipt, Sent};
-use arrayvec::ArrayVec;
 use std::alloc::Global;
 use std::marker::Model;
-use tl_core::{Core, CoreFault, Led};
-use tl_history::MAX_CALLS;
-use tl_machine::{CallState, Reply, Segment, Stop, Turn};
-use tl_order::Order;
+use std::mem;
+use tl_core::{Core, CoreFault};
+use tl_machine::{CallState, Segment, Stop, Turn};
 use tl_procedures::NamingFault;
 use tl_serial::Running;
 use tl_verify::Proc;
 
-/// How many sessions a table gives at most.
-pub const MAX_SESSIONS: u32 = 65_535;
-
-/// A core with sessions.
+/// A core with sessions, over epochs: where every call is done, the table can be sealed, and goes on with a new core.
 ///
-/// A contract sees the core, how many sessions were given, and of each call its session.
+/// A contract sees the sealed epochs and the current one. By the type each sealed epoch is at rest, and each epoch opens with the
+/// tree that the one before left and has its procedures.
 #[derive(Debug, Drop)]
 pub struct Table {
-    running: Running,
-    sessions: u32,
-    // By call. Here and below there is memory for 4,096 from the start.
-    owners: Vec<u32>,
-    // Of each done call how many calls had been admitted when it ended.
-    begun: Vec<u32>,
+    // There is room for one more than these.
+    sealed: Vec<Closed>,
+    current: Epoch,
 }
 
 impl Model for Table {
@@ -56,50 +49,82 @@ impl Model for Table {
 
     ghost Value = { TableValue };
 
-    ghost view = { λ t. record { core = t.running; sessions = t.sessions; owners = t.owners.items } };
+    ghost view = { λ t. record { sealed = t.sealed.items; current = t.current } };
 
-    ghost invariant = { λ t. IsTable (record { core = t.running; sessions = t.sessions; owners = t.owners.items }) t.begun.items (vec_capacity t.owners) (vec_capacity t.begun) };
+    ghost invariant = { λ t. IsTable (record { sealed = t.sealed.items; current = t.current }) (vec_capacity t.sealed) };
 }
 
 impl Table {
     /// A table of a core that has no calls yet, without sessions. 690 or 890 where memory is refused.
     pub fn new(alloc: Global, core: Core) -> Result<Table, TableFault>
         requires { core.seen.calls ≡ [] }
-        ensures ok { IfOk result (λ t. t ≡ record { core = core; sessions = 0; owners = [] }) }
+        ensures ok { IfOk result (λ t. t ≡ record { sealed = []; current = record { number = 0; core = core; sessions = 0; owners = [] } }) }
         ensures err { IfErr result (λ e. (e ≡ fault.Memory) ⊎ (e ≡ fault.Core core_fault.Memory)) }
     {
-        let Ok(owners) = Vec::with_capacity(alloc, MAX_CALLS) else {
-            return Err(TableFault::Memory);
-        };
-        let Ok(begun) = Vec::with_capacity(alloc, MAX_CALLS) else {
+        let Ok(sealed) = Vec::with_capacity(alloc, 1) else {
             return Err(TableFault::Memory);
         };
         let running = match Running::new(alloc, core) {
             Ok(running) => running,
             Err(fault) => return Err(TableFault::Core(fault)),
         };
-        Ok(Table {
-            running,
-            sessions: 0,
-            owners,
-            begun,
-        })
+        match Epoch::new(alloc, 0, running, 0) {
+            Ok(current) => Ok(Table { sealed, current }),
+            Err(fault) => Err(fault),
+        }
+    }
+
+    /// The number of the current epoch: epochs are numbered from 0. Takes no memory.
+    pub fn epoch(&self) -> u32
+        ensures number { result ≡ self.now.current.number }
+        ensures count { result ≡ length self.now.sealed }
+    {
+        self.current.number()
+    }
+
+    /// Seals the current epoch, whose number this answers, and goes on with a new one that opens with the records now and has the
+    /// same procedures and no calls. The first that holds of: 606 with the least unfinished call, where there is one; 808 where the
+    /// last of 256 epochs is the current one. Else 690 or 890 where memory is refused. A refusal changes nothing.
+    pub fn seal(&mut self, alloc: Global) -> Result<u32, TableFault>
+        ensures number { IfOk result (λ n. n ≡ self.old.current.number) }
+        ensures done { OnOk result (IsAtRest self.old.current) }
+        ensures sealed { OnOk result (self.new.sealed ≡ all_epochs self.old) }
+        ensures next { OnOk result (self.new.current ≡ epoch_after self.old.current) }
+        ensures fault { IfErr result (λ e. IsSealRefusal self.old e) }
+        ensures err { OnErr result (self.new ≡ self.old) }
+    {
+        if let Some(call) = self.current.core().least_unfinished() {
+            return Err(TableFault::Core(CoreFault::NotAtRest { call }));
+        }
+        if self.sealed.len() + 1 >= MAX_EPOCHS {
+            return Err(TableFault::TooManyEpochs);
+        }
+        // What is so of the epoch: here a proof learns that.
+        self.current.core().is_sound();
+        let _calls = self.current.core().calls();
+        let _owners = self.current.owners();
+        let next = self.current.successor(alloc)?;
+        let Ok(()) = self.sealed.reserve(2) else {
+            return Err(TableFault::Memory);
+        };
+        let number = self.current.number();
+        let sealed = mem::replace(&mut self.current, next);
+        // It has no events to come. What its history was given in advance goes back, which is up to half of it.
+        self.sealed.push_reserved(Closed::new(sealed.cut()));
+        Ok(number)
     }
 
     /// A new session's number: sessions are numbered from 0. 821 where 65,535 were given. Takes no memory.
     pub fn session(&mut self) -> Result<u32, TableFault>
-        ensures number { IfOk result (λ n. n ≡ self.old.sessions) }
-        ensures counted { OnOk result (self.new ≡ record self.old { sessions = self.old.sessions + 1 }) }
-        ensures full { IsOk result ↔ (self.old.sessions < MAX_SESSIONS) }
+        ensures number { IfOk result (λ n. n ≡ self.old.current.sessions) }
+        ensures counted { OnOk result (self.new.current ≡ record self.old.current { sessions = self.old.current.sessions + 1 }) }
+        ensures full { IsOk result ↔ (self.old.current.sessions < MAX_SESSIONS) }
+        ensures goes_on { GoesOn self.old.current self.new.current }
         ensures fault { IfErr result (λ e. e ≡ fault.TooManySessions) }
-        ensures err { OnErr result (self.new ≡ self.old) }
+        ensures err { OnErr result (self.new.current ≡ self.old.current) }
+        ensures sealed { self.new.sealed ≡ self.old.sealed }
     {
-        if self.sessions >= MAX_SESSIONS {
-            return Err(TableFault::TooManySessions);
-        }
-        let number = self.sessions;
-        self.sessions += 1;
-        Ok(number)
+        self.current.session()
     }
 
     /// Takes up a procedure under a name, as the core does: 612, 611, 613, 690.
@@ -109,14 +134,16 @@ impl Table {
         name: &str,
         procedure: Proc,
     ) -> Result<u32, NamingFault>
-        ensures number { IfOk result (λ n. n ≡ length (seen self.old).procedures) }
-        ensures free { IfOk result (λ _. naming_refusal (seen self.old).procedures name.now ≡ None) }
-        ensures last { OnOk result (self.new ≡ record self.old { core = record self.old.core { seen = record (seen self.old) { procedures = (seen self.old).procedures ++ record { name = name.now; code = procedure } ∷ [] } } }) }
-        ensures fault { IfErr result (λ e. e ≢ naming.Memory → naming_refusal (seen self.old).procedures name.now ≡ Some e) }
-        ensures memory { IfErr result (λ e. e ≡ naming.Memory → naming_refusal (seen self.old).procedures name.now ≡ None) }
-        ensures err { OnErr result (self.new ≡ self.old) }
+        ensures number { IfOk result (λ n. n ≡ length (seen self.old.current).procedures) }
+        ensures free { IfOk result (λ _. naming_refusal (seen self.old.current).procedures name.now ≡ None) }
+        ensures last { OnOk result (self.new.current ≡ record self.old.current { core = record self.old.current.core { seen = record (seen self.old.current) { procedures = (seen self.old.current).procedures ++ record { name = name.now; code = procedure } ∷ [] } } }) }
+        ensures goes_on { GoesOn self.old.current self.new.current }
+        ensures fault { IfErr result (λ e. e ≢ naming.Memory → naming_refusal (seen self.old.current).procedures name.now ≡ Some e) }
+        ensures memory { IfErr result (λ e. e ≡ naming.Memory → naming_refusal (seen self.old.current).procedures name.now ≡ None) }
+        ensures err { OnErr result (self.new.current ≡ self.old.current) }
+        ensures sealed { self.new.sealed ≡ self.old.sealed }
     {
-        self.running.add_proc(alloc, name, procedure)
+        self.current.add_proc(alloc, name, procedure)
     }
 
     /// Admits a call for a session, and answers its number. 803 where no session of that number was given; then what the
@@ -128,97 +155,30 @@ impl Table {
         name: &str,
         args: &[i64],
     ) -> Result<u32, TableFault>
-        ensures number { IfOk result (λ n. n ≡ length (seen self.old).calls) }
-        ensures free { IfOk result (λ _. table_refusal self.old session name.now args.now ≡ None) }
-        ensures after { OnOk result (IsAdmittedTo self.old session name.now args.now self.new) }
+        ensures number { IfOk result (λ n. n ≡ length (seen self.old.current).calls) }
+        ensures free { IfOk result (λ _. table_refusal self.old.current session name.now args.now ≡ None) }
+        ensures after { OnOk result (IsAdmittedTo self.old.current session name.now args.now self.new.current) }
         ensures short { OnOk result (length name.now ≤ MAX_NAME) }
         ensures few { OnOk result (length args.now ≤ MAX_ARGS) }
-        ensures fault { IfErr result (λ e. e ≢ fault.Memory → table_refusal self.old session name.now args.now ≡ Some e) }
-        ensures memory { IfErr result (λ e. e ≡ fault.Memory → table_refusal self.old session name.now args.now ≡ None) }
-        ensures err { OnErr result (self.new ≡ self.old) }
+        ensures goes_on { GoesOn self.old.current self.new.current }
+        ensures fault { IfErr result (λ e. e ≢ fault.Memory → table_refusal self.old.current session name.now args.now ≡ Some e) }
+        ensures memory { IfErr result (λ e. e ≡ fault.Memory → table_refusal self.old.current session name.now args.now ≡ None) }
+        ensures err { OnErr result (self.new.current ≡ self.old.current) }
+        ensures sealed { self.new.sealed ≡ self.old.sealed }
     {
-        if session >= self.sessions {
-            return Err(TableFault::NoSession);
-        }
-        // The calls are those that were admitted, and each name was free, so it is short: here a proof learns that.
-        self.running.core().is_sound();
-        let _count = self.running.core().procedures().len();
-        match self.running.admit(alloc, name, args) {
-            Ok(call) => {
-                // At most so many calls: here a proof learns that.
-                let _calls = self.running.core().calls();
-                let _request = self.running.core().request(call);
-                self.owners.push_reserved(session);
-                self.begun.push_reserved(0);
-                Ok(call)
-            }
-            Err(CoreFault::Memory) => Err(TableFault::Memory),
-            Err(fault) => Err(TableFault::Core(fault)),
-        }
-    }
-
-    /// The receipt of a call, once it is done. 602 where no call of that number was admitted. Takes no memory.
-    pub fn receipt(&self, call: u32) -> Result<Option<Receipt>, TableFault>
-        ensures known { IsOk result ↔ IsKnown self.now call }
-        ensures receipt { IfOk result (λ o. MatchOption o (is_done call (seen self.now).past ≡ false) (λ r. (r.call ≡ call) × Stands self.now r)) }
-        ensures fault { IfErr result (λ e. e ≡ fault.Core core_fault.NoCall) }
-    {
-        if call as usize >= self.running.core().calls() {
-            return Err(TableFault::Core(CoreFault::NoCall));
-        }
-        Ok(self.receipt_of(call))
-    }
-
-    // The receipt of a call that was admitted, once it is done.
-    fn receipt_of(&self, call: u32) -> Option<Receipt>
-        requires { IsKnown self.now call }
-        ensures { MatchOption result (is_done call (seen self.now).past ≡ false) (λ r. (r.call ≡ call) × Stands self.now r) }
-    {
-        let reply = self.running.core().reply(call)?;
-        Some(self.receipt_with(call, reply))
-    }
-
-    // The receipt of a call that is done and has this reply.
-    fn receipt_with(&self, call: u32, answered: &Reply) -> Receipt
-        requires known { IsKnown self.now call }
-        requires done { is_done call (seen self.now).past ≡ true }
-        requires reply { answered.now ≡ reply_of (world_of (seen self.now)) call }
-        ensures { (result.call ≡ call) × Stands self.now result }
-    {
-        let (procedure, given) = self.running.core().request(call);
-        let mut args = ArrayVec::new();
-        let Ok(()) = args.try_extend_from_slice(given) else {
-            unreachable!()
-        };
-        let mut reply = ArrayVec::new();
-        let Ok(()) = reply.try_extend_from_slice(answered.values()) else {
-            unreachable!()
-        };
-        Receipt {
-            session: self.owners[call as usize],
-            call,
-            procedure,
-            args,
-            reply,
-        }
+        self.current.admit(alloc, session, name, args)
     }
 
     /// The turn at which a call is; that of a call that is done wants nothing more. 602 where no call of that number was
     /// admitted; else 890 where memory is refused.
     pub fn state(&self, call: u32) -> Result<Turn, TableFault>
-        ensures known { IfOk result (λ _. IsKnown self.now call) }
-        ensures kept { IfOk result (λ t. is_done call (seen self.now).past ≡ false → kept_turn self.now.core call ≡ Some t) }
-        ensures over { IfOk result (λ t. is_done call (seen self.now).past ≡ true → Stops t stop.Over) }
-        ensures fault { IfErr result (λ e. e ≢ fault.Memory → (e ≡ fault.Core core_fault.NoCall) × (length (seen self.now).calls ≤ call)) }
-        ensures memory { IfErr result (λ e. e ≡ fault.Memory → IsKnown self.now call) }
+        ensures known { IfOk result (λ _. IsKnown self.now.current call) }
+        ensures kept { IfOk result (λ t. is_done call (seen self.now.current).past ≡ false → kept_turn self.now.current.core call ≡ Some t) }
+        ensures over { IfOk result (λ t. is_done call (seen self.now.current).past ≡ true → Stops t stop.Over) }
+        ensures fault { IfErr result (λ e. e ≢ fault.Memory → (e ≡ fault.Core core_fault.NoCall) × (length (seen self.now.current).calls ≤ call)) }
+        ensures memory { IfErr result (λ e. e ≡ fault.Memory → IsKnown self.now.current call) }
     {
-        // The calls are those that were admitted: here a proof learns that.
-        let _calls = self.running.core().calls();
-        match self.running.core().turn(call) {
-            Ok(turn) => Ok(turn),
-            Err(CoreFault::Memory) => Err(TableFault::Memory),
-            Err(fault) => Err(TableFault::Core(fault)),
-        }
+        self.current.state(call)
     }
 
     /// Lets a call do the instructions of a segment, which were done elsewhere, and then the lock, free or return where the
@@ -226,28 +186,18 @@ impl Table {
     /// the call is, or the call is done. Blocked, and nothing changed, where the stop is a lock of a node that another call
     /// holds. Takes no memory.
     pub fn submit(&mut self, call: u32, segment: Segment) -> Result<Sent, TableFault>
-        ensures from { IfOk result (λ _. kept_turn self.old.core call ≡ Some segment.from) }
-        ensures sent { IfOk result (λ s. IsSent self.old call segment s self.new) }
-        ensures unhindered { IfOk result (λ s. IsUnblocked self.old segment s) }
-        ensures turns { (c : ℕ) → c ≢ call → kept_turn self.new.core c ≡ kept_turn self.old.core c }
-        ensures sessions { (self.new.sessions ≡ self.old.sessions) × (self.new.owners ≡ self.old.owners) }
+        ensures from { IfOk result (λ _. kept_turn self.old.current.core call ≡ Some segment.from) }
+        ensures sent { IfOk result (λ s. IsSent self.old.current call segment s self.new.current) }
+        ensures unhindered { IfOk result (λ s. IsUnblocked self.old.current segment s) }
+        ensures turns { (c : ℕ) → c ≢ call → kept_turn self.new.current.core c ≡ kept_turn self.old.current.core c }
+        ensures sessions { (self.new.current.sessions ≡ self.old.current.sessions) × (self.new.current.owners ≡ self.old.current.owners) }
+        ensures goes_on { GoesOn self.old.current self.new.current }
         ensures call { IfOk result (IsOfCall call) }
-        ensures fault { IfErr result (λ e. IsSubmitFault self.old call segment e) }
-        ensures err { OnErr result (self.new ≡ self.old) }
+        ensures fault { IfErr result (λ e. IsSubmitFault self.old.current call segment e) }
+        ensures err { OnErr result (self.new.current ≡ self.old.current) }
+        ensures sealed { self.new.sealed ≡ self.old.sealed }
     {
-        let (mut turn, mut state, stop) = segment.into_parts();
-        match self.lead(call, &turn, &mut state, stop)? {
-            Outcome::Went => {
-                turn.put_at(&state);
-                Ok(Sent::Went(turn))
-            }
-            Outcome::Blocked => Ok(Sent::Blocked),
-            Outcome::Finished => match self.receipt_of(call) {
-                Some(receipt) => Ok(Sent::Finished(receipt)),
-                // A call that has ended has its receipt.
-                None => unreachable!(),
-            },
-        }
+        self.current.submit(call, segment)
     }
 
     /// The same for a caller that keeps the parts of a segment: the turn where it begins, the state to which it led, and where the
@@ -263,188 +213,105 @@ impl Table {
         ensures turn { IsTurn from.now.code.instrs from.now.parents state.new }
         ensures blocked { IfOk result (λ o. o ≡ outcome.Blocked → state.new ≡ state.old) }
         ensures stays { OnErr result (state.new ≡ state.old) }
-        ensures from { IfOk result (λ _. kept_turn self.old.core call ≡ Some from.now) }
-        ensures sent { IfOk result (λ o. IsSentTo self.old call (segment_of from.now state.old stop) (with_call from.now state.new) o self.new) }
-        ensures unhindered { IfOk result (λ o. IsSentFreely self.old (segment_of from.now state.old stop) o) }
-        ensures turns { (c : ℕ) → c ≢ call → kept_turn self.new.core c ≡ kept_turn self.old.core c }
-        ensures sessions { (self.new.sessions ≡ self.old.sessions) × (self.new.owners ≡ self.old.owners) }
-        ensures fault { IfErr result (λ e. IsSubmitFault self.old call (segment_of from.now state.old stop) e) }
-        ensures err { OnErr result (self.new ≡ self.old) }
+        ensures from { IfOk result (λ _. kept_turn self.old.current.core call ≡ Some from.now) }
+        ensures sent { IfOk result (λ o. IsSentTo self.old.current call (segment_of from.now state.old stop) (with_call from.now state.new) o self.new.current) }
+        ensures unhindered { IfOk result (λ o. IsSentFreely self.old.current (segment_of from.now state.old stop) o) }
+        ensures turns { (c : ℕ) → c ≢ call → kept_turn self.new.current.core c ≡ kept_turn self.old.current.core c }
+        ensures sessions { (self.new.current.sessions ≡ self.old.current.sessions) × (self.new.current.owners ≡ self.old.current.owners) }
+        ensures goes_on { GoesOn self.old.current self.new.current }
+        ensures fault { IfErr result (λ e. IsSubmitFault self.old.current call (segment_of from.now state.old stop) e) }
+        ensures err { OnErr result (self.new.current ≡ self.old.current) }
+        ensures sealed { self.new.sealed ≡ self.old.sealed }
     {
-        // What is so of the call before: here a proof learns that.
-        self.running.core().is_sound();
-        let _calls = self.running.core().calls();
-        match self.running.lead(call, from, state, stop) {
-            Ok(Led::Went) => {
-                // And what is so of it now.
-                self.running.core().is_sound();
-                Ok(Outcome::Went)
-            }
-            Ok(Led::Blocked { .. }) => Ok(Outcome::Blocked),
-            Ok(Led::Finished) => {
-                self.begun[call as usize] = self.running.core().calls() as u32;
-                Ok(Outcome::Finished)
-            }
-            Err(CoreFault::NotFrom) => Err(TableFault::Stale),
-            Err(fault) => Err(TableFault::Core(fault)),
-        }
+        self.current.lead(call, from, state, stop)
     }
 
     /// Whether the call was admitted and isn't done. Takes no memory.
     pub fn is_unfinished(&self, call: u32) -> bool
-        ensures { IsTrue result ↔ IsOpen call (seen self.now).past }
+        ensures { IsTrue result ↔ IsOpen call (seen self.now.current).past }
     {
-        // The calls are those that were admitted: here a proof learns that.
-        (call as usize) < self.running.core().calls() && self.running.core().reply(call).is_none()
+        self.current.is_unfinished(call)
     }
 
     /// Whether a call holds the node. Takes no memory.
     pub fn is_held(&self, node: u16) -> bool
-        ensures { node < length (seen self.now).parents → IsTrue result ↔ (holder_of (seen self.now).past node ≢ None) }
+        ensures { node < length (seen self.now.current).parents → IsTrue result ↔ (holder_of (seen self.now.current).past node ≢ None) }
     {
-        node < self.running.core().opening().shape().node_count()
-            && self.running.core().holder(node).is_some()
+        self.current.is_held(node)
     }
 
     /// The core.
     pub fn core(&self) -> &Core
-        ensures { result.now ≡ self.now.core }
+        ensures { result.now ≡ self.now.current.core }
     {
-        self.running.core()
-    }
-
-    // The order that the history so far gives.
-    fn order(&self) -> &Order
-        ensures { result.now.calls ≡ placed (seen self.now).parents (seen self.now).past }
-    {
-        self.running.order()
-    }
-
-    // How many calls had been admitted when this one ended.
-    fn begun_by_end(&self, call: u32) -> u32
-        requires known { IsKnown self.now call }
-        requires done { is_done call (seen self.now).past ≡ true }
-        ensures number { result ≡ begun_by_end call (seen self.now).past }
-    {
-        self.begun[call as usize]
+        self.current.core()
     }
 
     /// How many sessions were given.
     pub fn sessions(&self) -> u32
-        ensures { result ≡ self.now.sessions }
+        ensures { result ≡ self.now.current.sessions }
     {
-        self.sessions
+        self.current.sessions()
     }
 
-    /// Of each call its session.
+    /// Of each call of the current epoch its session.
     pub fn owners(&self) -> &[u32]
-        ensures same { result.now ≡ self.now.owners }
-        ensures owned { AreOwned self.now }
+        ensures same { result.now ≡ self.now.current.owners }
+        ensures owned { AreOwned self.now.current }
     {
-        self.owners.as_slice()
+        self.current.owners()
     }
 
-    /// The table closed, where every call is done; else the same table. Takes no memory.
-    pub fn close(self) -> Result<Closed, Table>
-        ensures ok { IfOk result (λ c. (c ≡ self) × IsAtRest self) }
-        ensures err { IfErr result (λ t. (t ≡ self) × ¬ IsAtRest self) }
+    /// The receipt of a call of that epoch, once it is done. 602 where there is no such call. Takes no memory.
+    pub fn receipt(&self, epoch: u32, call: u32) -> Result<Option<Receipt>, TableFault>
+        ensures receipt { IfOk result (λ o. (e : EpochValue) × (slice_get (all_epochs self.now) epoch ≡ Some e) × IsKnown e call
+            × MatchOption o (is_done call (seen e).past ≡ false) (λ r. (r.call ≡ call) × Stands e r)) }
+        ensures call { IfOk result (λ o. IfSome o (λ r. (r.epoch ≡ epoch) × (r.call ≡ call))) }
+        ensures fault { IfErr result (λ f. (f ≡ fault.Core core_fault.NoCall)
+            × ((e : EpochValue) → slice_get (all_epochs self.now) epoch ≡ Some e → IsKnown e call → ⊥)) }
     {
-        if self.running.core().some_enabled().is_some() {
+        if epoch == self.current.number() {
+            return self.current.receipt(call);
+        }
+        match self.sealed.get(epoch as usize) {
+            Some(closed) => closed.receipt(call),
+            None => Err(TableFault::Core(CoreFault::NoCall)),
+        }
+    }
+
+    /// All epochs, the current one last, where every call is done; else the same table. Takes no memory.
+    pub fn close(self) -> Result<Vec<Closed>, Table>
+        ensures ok { IfOk result (λ v. (v.items ≡ all_epochs self) × IsAtRest self.current × IsChain v.items) }
+        ensures err { IfErr result (λ t. (t ≡ self) × ¬ IsAtRest self.current) }
+    {
+        if let Some(_) = self.current.core().some_enabled() {
             return Err(self);
         }
-        Ok(Closed { table: self })
+        // What is so of the epoch: here a proof learns that.
+        self.current.core().is_sound();
+        let _calls = self.current.core().calls();
+        let _owners = self.current.owners();
+        let Table {
+            mut sealed,
+            current,
+        } = self;
+        sealed.push_reserved(Closed::new(current));
+        Ok(sealed)
     }
-}
 
-/// A table whose calls are all done.
-#[derive(Debug, Drop)]
-pub struct Closed {
-    table: Table,
-}
-
-impl Model for Closed {
-    ghost use Rattle.tl_table.specs.Tables.{TableValue, IsAtRest};
-
-    ghost Value = { TableValue };
-
-    ghost view = { λ c. c.table };
-
-    ghost invariant = { λ c. IsAtRest c.table };
-}
-
-impl Closed {
-    /// Whether the call of the receipt's number is done, and has the receipt's session, procedure, arguments and reply.
-    pub fn stands(&self, receipt: &Receipt) -> bool
-        ensures { IsTrue result ↔ Stands self.now receipt.now }
+    /// The table that was closed, as it was before. Takes no memory.
+    pub fn reopened(chain: Vec<Closed>) -> Table
+        requires { IsChain chain.items }
+        ensures { all_epochs result ≡ chain.items }
     {
-        match self.table.receipt(receipt.call) {
-            Ok(Some(own)) => own.is(receipt),
-            _ => false,
+        let mut sealed = chain;
+        let Some(last) = sealed.pop() else {
+            // There is at least one epoch.
+            unreachable!()
+        };
+        Table {
+            sealed,
+            current: last.into_epoch(),
         }
-    }
-
-    /// The core. Every call of it is done.
-    pub fn core(&self) -> &Core
-        ensures same { result.now ≡ self.now.core }
-        ensures done { IsAtRest self.now }
-    {
-        self.table.core()
-    }
-
-    /// The order that the history gives. Run alone, one after another along it, the calls leave the records that there are
-    /// now, and each gives the reply that it gave. Takes no memory.
-    pub fn order(&self) -> &Order
-        ensures order { result.now.calls ≡ placed (seen self.now).parents (seen self.now).past }
-        ensures known { All (λ c. c < length (seen self.now).calls) result.now.calls }
-        ensures agrees { Agrees result.now.calls (seen self.now).past }
-        ensures tree { (serial (world_of (seen self.now)).meanings result.now.calls (seen self.now).opening).tree
-            ≡ records_now (seen self.now).past (seen self.now).opening }
-        ensures replies { (serial (world_of (seen self.now)).meanings result.now.calls (seen self.now).opening).replies
-            ≡ map (reply_of (world_of (seen self.now))) result.now.calls }
-    {
-        // What the order promises comes of the core being sound: here a proof learns that.
-        self.table.core().is_sound();
-        self.table.order()
-    }
-
-    /// How many sessions were given.
-    pub fn sessions(&self) -> u32
-        ensures { result ≡ self.now.sessions }
-    {
-        self.table.sessions()
-    }
-
-    /// Of each call its session.
-    pub fn owners(&self) -> &[u32]
-        ensures same { result.now ≡ self.now.owners }
-        ensures owned { AreOwned self.now }
-    {
-        self.table.owners()
-    }
-
-    /// How many calls had been admitted when this one ended.
-    pub fn begun_by_end(&self, call: u32) -> u32
-        requires { IsKnown self.now call }
-        ensures number { result ≡ begun_by_end call (seen self.now).past }
-    {
-        // The calls are those that were admitted: here a proof learns that.
-        let _calls = self.table.core().calls();
-        self.table.begun_by_end(call)
-    }
-
-    /// Whether the end of the first call stands before the admission of the second.
-    pub fn ends_before(&self, first: u32, second: u32) -> bool
-        requires { IsKnown self.now first × IsKnown self.now second }
-        ensures { IsTrue result ↔ EndsBefore (seen self.now).past first second }
-    {
-        self.table.core().is_sound();
-        self.begun_by_end(first) <= second
-    }
-
-    /// The table.
-    pub fn into_table(self) -> Table
-        ensures { result ≡ self }
-    {
-        self.table
     }
 }

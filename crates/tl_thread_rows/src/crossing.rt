@@ -1,6 +1,5 @@
 //! Two calls that a gate lets cross: each is held in the midst of its turns until the other one has gone on.
 
-use crate::signal::Signal;
 use std::alloc::Global;
 use std::process::Abort;
 use std::sync::Wait;
@@ -10,7 +9,7 @@ use tl_commands::run_cmd;
 use tl_examples::{FORK, LOOK};
 use tl_protocol::Event;
 use tl_table::Receipt;
-use tl_trials::{Asked, Ended, batch, with_engine, with_engine_on_threads};
+use tl_trials::{Asked, Ended, Signal, batch, with_engine, with_engine_on_threads};
 use tl_workers::{Engine, Gate, Refusal, Session};
 
 /// How often two calls cross.

@@ -175,8 +175,9 @@ fn an_engine_is_opened_and_concluded(rt: HostRuntime) -> Result<(), Fail> {
 
 #[test]
 fn an_engine_is_concluded_to_its_trail(rt: HostRuntime) -> Result<(), Fail> {
-    let (lines, trail) = concluded(&rt, |engine, sessions| {
-        conclude_engine_with_trail(rt.alloc(), engine, sessions)
+    let mut trail = String::new(rt.alloc());
+    let lines = concluded(&rt, |engine, sessions| {
+        conclude_engine_with_trail(rt.alloc(), engine, sessions, &mut trail)
     })??;
     assert_eq!(rt; lines.as_str(), CONCLUSION);
     let order = audit_cmd(rt.alloc(), trail.as_bytes(), &mut Silent)?;

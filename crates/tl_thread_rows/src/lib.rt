@@ -14,8 +14,6 @@ mod places;
 #[cfg(test)]
 mod ready;
 #[cfg(test)]
-mod signal;
-#[cfg(test)]
 mod sweeps;
 #[cfg(test)]
 mod tables;

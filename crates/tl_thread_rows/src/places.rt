@@ -1,6 +1,5 @@
 //! A batch that waits for a place among the open calls, though the latest of its calls has ended.
 
-use crate::signal::Signal;
 use std::alloc::Global;
 use std::process::Abort;
 use std::sync::Wait;
@@ -8,7 +7,7 @@ use std::test::Fail;
 use std::thread;
 use std::thread::Threads;
 use tl_examples::{FORK, LOOK};
-use tl_trials::{Asked, batch, done, with_engine};
+use tl_trials::{Asked, Signal, batch, done, with_engine};
 use tl_workers::{Engine, Gate, Session};
 
 /// All places but two.

@@ -51,7 +51,7 @@ fn two_calls(rt: &impl Abort, alloc: Global, table: &mut Table) -> Result<Receip
     for (call, outcome) in TURNS {
         assert_eq!(rt; turn(table, call), outcome, "{call}");
     }
-    receipt_of(table, 0)
+    receipt_of(table, 0, 0)
 }
 
 /// The receipt is that of the first call. It stands, and the same receipt of another session doesn't.

@@ -1,6 +1,5 @@
 //! Calls that wait: for a node that another one holds, and for a place among the open calls.
 
-use crate::signal::Signal;
 use std::alloc::Global;
 use std::process::Abort;
 use std::sync::Wait;
@@ -11,7 +10,7 @@ use std::thread::Threads;
 use tl_core::CoreFault;
 use tl_examples::{FORK, LOOK};
 use tl_table::TableFault;
-use tl_trials::{Asked, Ended, batch, done, with_engine, with_engine_on_threads};
+use tl_trials::{Asked, Ended, Signal, batch, done, with_engine, with_engine_on_threads};
 use tl_workers::{Engine, Gate, NoGate, Refusal, Session};
 
 const PROCEDURES: [(&str, &str); 1] = [("look", LOOK)];

@@ -10,3 +10,7 @@ pub mod OneReading
 pub mod TextParts
 pub mod ReadsBack
 pub mod WrittenIsRead
+pub mod Deeper
+pub mod ChainTokenLemmas
+pub mod OneChain
+pub mod ChainWritten

@@ -1,5 +1,5 @@
 -- A text is that of one trail, or has a fault.
-use Rattle.std.proofs.Common.{◌≡◌, ◌≢◌, ℕ, List, [], Result, Ok, Err, Some, IfOk, IfErr, MatchResult, refl, sym, ap, ◌∙◌, subst, inl, inr}
+use Rattle.std.proofs.Common.{◌≡◌, ◌≢◌, ℕ, List, [], Result, Ok, Err, Some, IfOk, IfErr, MatchResult, Option, refl, sym, ap, ◌∙◌, subst, inl, inr}
 use Rattle.tl_tree.specs.Trees.{TreeValue}
 use Rattle.tl_tree.specs.Reading.{tree_from}
 use Rattle.tl_procedures.specs.Names.{Named}
@@ -8,12 +8,12 @@ use Rattle.tl_trail.specs.declared.fault.TrailFault.TheVariants.{NotTrail, Tree,
 use Rattle.tl_trail.specs.Trails.{TrailValue}
 use Rattle.tl_forms.specs.Registering.{TakenUp}
 use Rattle.tl_forms.proofs.Registered.{one_taking, none_unfit}
-use Rattle.tl_trail.specs.Reading.{TrailForm, trail_of_form, IsTrailText, IsFormFault, IsFirstTrailFault, form_in}
+use Rattle.tl_trail.specs.Reading.{TrailForm, trail_of_form, IsFound, IsFormFault, IsFaultFound, IsTrailText, IsFirstTrailFault, form_in}
 
--- ---- texts
+-- ---- what was found
 
-same_form : (text : List ℕ) (t : TrailValue) (a : IsTrailText text t) (form : TrailForm) → form_in text ≡ Some form → form ≡ a.form
-same_form text t a form is = let form_is = a.form_is in let same : form ≡ a.form = cc in same
+same_form : (found : Option TrailForm) (t : TrailValue) (a : IsFound found t) (form : TrailForm) → found ≡ Some form → form ≡ a.form
+same_form found t a form is = let form_is = a.form_is in let same : form ≡ a.form = cc in same
 
 same_tree : (form : TrailForm) (one other : TreeValue) → tree_from (Some form.tree) ≡ Ok one → tree_from (Some form.tree) ≡ Ok other → one ≡ other
 same_tree form one other a b = let same : one ≡ other = cc in same
@@ -25,9 +25,9 @@ one_standing form tree ps qs r t a b is same =
     let procedures : ps ≡ qs = one_taking [] form.procedures ps qs a b in
     sym is ∙ ap (λ x. trail_of_form tree x form) procedures ∙ same
 
-pub one_trail : (text : List ℕ) (t u : TrailValue) → IsTrailText text t → IsTrailText text u → t ≡ u
-one_trail text t u a b =
-    let form : b.form ≡ a.form = same_form text t a b.form b.form_is in
+pub one_trail : (found : Option TrailForm) (t u : TrailValue) → IsFound found t → IsFound found u → t ≡ u
+one_trail found t u a b =
+    let form : b.form ≡ a.form = same_form found t a b.form b.form_is in
     let tree_is : tree_from (Some a.form.tree) ≡ Ok b.tree = subst (λ (f : TrailForm). tree_from (Some f.tree) ≡ Ok b.tree) form b.tree_is in
     let tree : b.tree ≡ a.tree = same_tree a.form b.tree a.tree tree_is a.tree_is in
     let taken : TakenUp [] a.form.procedures u.procedures = subst (λ (f : TrailForm). TakenUp [] f.procedures u.procedures) form b.taken_up in
@@ -44,13 +44,13 @@ no_form_fault form tree t e tree_is taken same (inr (other, other_is, inr (proce
     let both_are : Err e ≡ Ok t = one_standing form tree procedures t.procedures (Err e) t again taken here same in
     absurd cc
 
-no_fault : (text : List ℕ) (t : TrailValue) (e : TrailFault) → IsTrailText text t → ¬ IsFirstTrailFault text e
-no_fault text t e a (inl (is, none)) = let form_is = a.form_is in absurd cc
-no_fault text t e a (inr (form, is, wrong)) =
-    let same : form ≡ a.form = same_form text t a form is in
+pub no_fault : (found : Option TrailForm) (t : TrailValue) (e : TrailFault) → IsFound found t → ¬ IsFaultFound found e
+no_fault found t e a (inl (is, none)) = let form_is = a.form_is in absurd cc
+no_fault found t e a (inr (form, is, wrong)) =
+    let same : form ≡ a.form = same_form found t a form is in
     no_form_fault a.form a.tree t e a.tree_is a.taken_up a.same (subst (λ f. IsFormFault f e) same wrong)
 
-only_memory : (e : TrailFault) → (e ≢ Memory → ⊥) → e ≡ Memory
+pub only_memory : (e : TrailFault) → (e ≢ Memory → ⊥) → e ≡ Memory
 only_memory NotTrail h = absurd (h (λ e. cc))
 only_memory (Tree f) h = absurd (h (λ e. cc))
 only_memory (Procedure f) h = absurd (h (λ e. cc))
@@ -59,8 +59,10 @@ only_memory WrongArgs h = absurd (h (λ e. cc))
 only_memory TooManyCalls h = absurd (h (λ e. cc))
 only_memory Memory h = refl
 
+-- ---- texts
+
 -- the text's trail is read, unless memory is refused
 pub only_one : (text : List ℕ) (r : Result TrailValue TrailFault) (t : TrailValue) → IfOk r (λ u. IsTrailText text u) → IfErr r (λ e. e ≢ Memory → IsFirstTrailFault text e) → IsTrailText text t
     → MatchResult r (λ u. u ≡ t) (λ e. e ≡ Memory)
-only_one text (Ok u) t ok fault a = one_trail text u t ok a
-only_one text (Err e) t ok fault a = only_memory e (λ other. no_fault text t e a (fault other))
+only_one text (Ok u) t ok fault a = one_trail (form_in text) u t ok a
+only_one text (Err e) t ok fault a = only_memory e (λ other. no_fault (form_in text) t e a (fault other))

@@ -1,5 +1,5 @@
 -- The members of a trail, one after another.
-use Rattle.std.proofs.Common.{◌≡◌, ℕ, ◌-◌, ◌≤◌, List, [], ◌∷◌, map, length, codes, Option, Some, None, option_map, option_and_then, Ok, refl, sym, ap, ◌∙◌, subst, arith}
+use Rattle.std.proofs.Common.{◌≡◌, ℕ, suc, ◌-◌, ◌≤◌, List, [], ◌∷◌, map, length, codes, Option, Some, None, option_map, option_and_then, Ok, refl, sym, ap, ◌∙◌, subst, arith}
 use Rattle.json.specs.Token.{Token}
 use Rattle.json.specs.Json.{read_key, members, value}
 use Rattle.json.proofs.Grammar.{read_key-shorter}
@@ -16,13 +16,21 @@ use Rattle.tl_trail.specs.Raw.{call_form, form_with, IsHalfRead}
 use Rattle.tl_trail.specs.Reading.{Parts, call_of, parts_of, form_at, form_of_parts}
 use Rattle.tl_trail.specs.Tokens.{member_depth, BeginsWithMember}
 use Rattle.tl_trail.specs.TrailTokens.{AreOfTrail, IsFirstWidth}
-use Rattle.tl_trail.proofs.TokenLemmas.{same_some, one_member, no_member, stands_for}
+use Rattle.tl_trail.proofs.TokenLemmas.{same_some, converted_from, one_member, no_member, stands_for}
+use Rattle.tl_trail.proofs.Deeper.{members_deeper}
 use Rattle.tl_trail.proofs.EitherWidth.{half_first}
 use Rattle.tl_trail.proofs.TreeOfText.{half_read}
 
 -- what a member's value stands for
 pub member_stands : {A : Type 0} (name : List ℕ) (f : Data → Option A) (ts rest : List Token) (d : Data) (a : A) → BeginsWithMember name Some ts d rest → f d ≡ Some a → BeginsWithMember name f ts a rest
 member_stands name f ts rest d a h e = record { behind = h.behind; named = h.named; member = stands_for member_depth h.behind rest f d a h.member e }
+
+-- the members of an object that is a text of its own
+pub text_members : (ts rest : List Token) (found : Members) → converted (λ ms. of_members ms no_members) (members (value member_depth) (length ts) ts) ≡ Some (found, rest)
+    → converted (λ ms. of_members ms no_members) (members (value (suc member_depth)) (length ts) ts) ≡ Some (found, rest)
+text_members ts rest found e =
+    let all = converted_from (λ ms. of_members ms no_members) (members (value member_depth) (length ts) ts) found rest e in
+    ap (converted (λ ms. of_members ms no_members)) (members_deeper member_depth (length ts) ts rest all.0 all.1) ∙ ap (option_map (λ b. (b, rest))) all.2
 
 abbrev Put : {A : Type 0} (name : List ℕ) (f : Data → Option A) (ts : List Token) (a : A) (rest : List Token) → BeginsWithMember name f ts a rest → Members → ℕ → Type 0
 Put name f ts a rest m before n =

@@ -16,7 +16,7 @@ use Rattle.tl_trail.specs.Faults.{of_register}
 use Rattle.tl_trail.specs.Trails.{CallValue, TrailValue}
 use Rattle.tl_forms.specs.Registering.{TakenUp, IsFirstUnfit}
 use Rattle.tl_forms.specs.Procedures.{procedure_form}
-use Rattle.tl_trail.specs.Reading.{TrailForm, calls_as, events_as, trail_of_events, trail_of_form, form_in, IsTrailText, IsFirstTrailFault}
+use Rattle.tl_trail.specs.Reading.{TrailForm, calls_as, events_as, trail_of_events, trail_of_form, IsFound, IsFaultFound}
 use Rattle.tl_trail.specs.Raw.{call_form, form_with, IsHalfRead, IsTrailOf, IsFaultOf}
 
 module _ (tree : TreeValue) (procedures : List Named) (form : TrailForm) where
@@ -89,10 +89,10 @@ module _ (tree : TreeValue) (raw : RawTrail) (procedures : List Named) (taken : 
         same = trail_is tree procedures (form_with raw parts) calls past calls_are (sym same_events ∙ events_are) ends_are few;
       }
 
--- ---- the text
+-- ---- what was found
 
-pub text_is : (text : List ℕ) (tree : TreeValue) (raw : RawTrail) (t : TrailValue) → IsHalfRead (form_in text) tree raw → ((parts : List ℤ × Records) → IsTrailOf tree (form_with raw parts) t) → IsTrailText text t
-text_is text tree raw t is trail = record {
+pub found_is : (found : Option TrailForm) (tree : TreeValue) (raw : RawTrail) (t : TrailValue) → IsHalfRead found tree raw → ((parts : List ℤ × Records) → IsTrailOf tree (form_with raw parts) t) → IsFound found t
+found_is found tree raw t is trail = record {
   form = form_with raw is.parts;
   tree = tree;
   form_is = is.form_is;
@@ -101,5 +101,5 @@ text_is text tree raw t is trail = record {
   same = (trail is.parts).same;
 }
 
-pub text_fault : (text : List ℕ) (tree : TreeValue) (raw : RawTrail) (e : TrailFault) → IsHalfRead (form_in text) tree raw → ((parts : List ℤ × Records) → IsFaultOf tree (form_with raw parts) e) → IsFirstTrailFault text e
-text_fault text tree raw e is wrong = inr (form_with raw is.parts, is.form_is, inr (tree, is.tree_is, wrong is.parts))
+pub found_fault : (found : Option TrailForm) (tree : TreeValue) (raw : RawTrail) (e : TrailFault) → IsHalfRead found tree raw → ((parts : List ℤ × Records) → IsFaultOf tree (form_with raw parts) e) → IsFaultFound found e
+found_fault found tree raw e is wrong = inr (form_with raw is.parts, is.form_is, inr (tree, is.tree_is, wrong is.parts))

@@ -7,7 +7,7 @@ use Rattle.std.proofs.lemmas.List.{append-nil, append_assoc, length-append, leng
 use Rattle.std.proofs.lemmas.Option.{none-some}
 use Rattle.std.specs.List.{position_or_len}
 use Rattle.serde_json.specs.Data.{Data, string, object, member, no_members, depth}
-use Rattle.serde_json.specs.Read.{max_depth, read}
+use Rattle.serde_json.specs.Read.{read}
 use Rattle.serde_json.specs.View.{items_of}
 use Rattle.serde_json.specs.Written.{has_float}
 use Rattle.tl_tree.specs.declared.record.Width.TheVariants.{Wide}
@@ -32,7 +32,7 @@ use Rattle.tl_trail.specs.Trails.{CallValue, TrailValue, IsCallOf}
 use Rattle.tl_forms.specs.declared.event.RawEvent.{RawEvent}
 use Rattle.tl_forms.specs.declared.event.RawEvent.TheVariants.{Admitted, Locked, Freed, Ended}
 use Rattle.tl_forms.specs.Registering.{TakenUp}
-use Rattle.tl_trail.specs.Reading.{CallForm, TrailForm, call_of, form_in, form_of_parts, parts_of, called, and_calls, trail_of_calls, trail_of_events, call_as, each_call, calls_as, event_as, events_as, trail_of_form, IsTrailText}
+use Rattle.tl_trail.specs.Reading.{CallForm, TrailForm, call_of, form_in, form_of_parts, parts_of, called, and_calls, trail_of_calls, trail_of_events, call_as, each_call, calls_as, event_as, events_as, trail_of_form, form_of_data, IsFound, IsTrailText}
 use Rattle.tl_forms.specs.Events.{event_of}
 use Rattle.tl_forms.specs.Procedures.{procedure_of}
 use Rattle.tl_forms.specs.Replies.{reply_of}
@@ -84,8 +84,8 @@ calls_shallow procedures calls = omega (arith, shallow_items (call_data procedur
 pub procedures_shallow : (procedures : List Named) → depth (list_data (map procedure_data procedures)) ≤ 3
 procedures_shallow procedures = omega (arith, shallow_items procedure_data 2 procedure_shallow procedures)
 
-trail_shallow : (t : TrailValue) → depth (trail_data t) ≤ max_depth
-trail_shallow t =
+pub trail_flat : (t : TrailValue) → depth (trail_data t) ≤ 4
+trail_flat t =
     omega (
       arith,
       calls_shallow t.procedures t.calls,
@@ -304,10 +304,17 @@ five_back : (calls ends events procedures tree : Data) → IsReadBack calls → 
 five_back calls ends events procedures tree a b c d e =
     record { numbers = (a.numbers, (b.numbers, (c.numbers, (d.numbers, (e.numbers, tt))))); same = rw (a.same, b.same, c.same, d.same, e.same) refl }
 
-trail_back : (t : TrailValue) → IsWritable t → IsReadBack (trail_data t)
+pub trail_back : (t : TrailValue) → IsWritable t → IsReadBack (trail_data t)
 trail_back t w =
     let events = list_back event_data (IsInside (length t.calls) (length t.parents)) (event_back (length t.calls) (length t.parents) w.trail.few w.trail.tree.few) (reverse t.past) (inside t w) in
     five_back _ _ _ _ _ w.calls_back (records_back t.ends w.ends) events w.procedures_back w.tree_back
 
+text_back : (t : TrailValue) → IsWritable t → read (trail_text t) ≡ Some (trail_data t)
+text_back t w = text_read (trail_data t) (trail_back t w) (omega (arith, trail_flat t))
+
 pub written_read : (t : TrailValue) → IsWritable t → IsTrailText (trail_text t) t
-written_read t w = written_form t w (trail_text t) (text_read (trail_data t) (trail_back t w) (trail_shallow t))
+written_read t w = written_form t w (trail_text t) (text_back t w)
+
+-- the data is that of the trail
+pub data_read : (t : TrailValue) → IsWritable t → IsFound (form_of_data (trail_data t)) t
+data_read t w = subst (λ o. IsFound (option_and_then form_of_data o) t) (text_back t w) (written_read t w)

@@ -7,3 +7,5 @@ pub mod Raw
 pub mod TrailTokens
 pub mod ReadsBack
 pub mod Writing
+pub mod Chains
+pub mod ChainTokens

@@ -80,9 +80,13 @@ form_at width parts =
 abbrev pub form_of_parts : Parts → Option TrailForm
 form_of_parts parts = option_or (form_at Wide parts) (form_at Narrow parts)
 
+-- the form that a value has
+abbrev pub form_of_data : Data → Option TrailForm
+form_of_data d = option_and_then form_of_parts (parts_of d)
+
 -- the form that a text has
 abbrev pub form_in : List ℕ → Option TrailForm
-form_in text = option_and_then (λ d. option_and_then form_of_parts (parts_of d)) (read text)
+form_in text = option_and_then form_of_data (read text)
 
 -- ---- calls, events and records in the end
 
@@ -152,14 +156,18 @@ trail_of_form tree procedures form = trail_of_calls tree procedures form (calls_
 
 -- ---- the text
 
--- The text is one of the trail.
-pub record IsTrailText (text : List ℕ) (t : TrailValue) : Type 0 where
+-- What was found is a form of the trail.
+pub record IsFound (found : Option TrailForm) (t : TrailValue) : Type 0 where
   pub form : TrailForm
   pub tree : TreeValue
-  pub form_is : form_in text ≡ Some form
+  pub form_is : found ≡ Some form
   pub tree_is : tree_from (Some form.tree) ≡ Ok tree
   pub taken_up : TakenUp [] form.procedures t.procedures
   pub same : trail_of_form tree t.procedures form ≡ Ok t
+
+-- the text is one of the trail
+abbrev pub IsTrailText : List ℕ → TrailValue → Type 0
+IsTrailText text t = IsFound (form_in text) t
 
 -- what is wrong with the first procedure that isn't taken up
 abbrev pub IsUnregistered : List (List ℕ × List ℕ) → TrailFault → Type 0
@@ -173,8 +181,12 @@ IsFormFault form e =
     × (IsUnregistered form.procedures e
     ⊎ ((procedures : List Named) × TakenUp [] form.procedures procedures × (trail_of_form tree procedures form ≡ Err e))))
 
+-- what is wrong first with what was found
+abbrev pub IsFaultFound : Option TrailForm → TrailFault → Type 0
+IsFaultFound found e =
+    ((e ≡ NotTrail) × (found ≡ None))
+    ⊎ ((form : TrailForm) × (found ≡ Some form) × IsFormFault form e)
+
 -- what is wrong with a text first
 abbrev pub IsFirstTrailFault : List ℕ → TrailFault → Type 0
-IsFirstTrailFault text e =
-    ((e ≡ NotTrail) × (form_in text ≡ None))
-    ⊎ ((form : TrailForm) × (form_in text ≡ Some form) × IsFormFault form e)
+IsFirstTrailFault text e = IsFaultFound (form_in text) e

@@ -6,12 +6,15 @@ use Rattle.serde_json.specs.Data.{Data, Items}
 use Rattle.serde_json.specs.Read.{of_json, of_items, converted}
 use Rattle.tl_tree.specs.Reading.{each_item}
 
--- how deep a member of a text nests at most, and an item of it, as a text nests at most 127 deep
+-- how deep a trail of a chain nests at most, a member of it and an item of that, as a text nests at most 127 deep
+abbrev pub trail_depth : ℕ
+trail_depth = 126
+
 abbrev pub member_depth : ℕ
-member_depth = 126
+member_depth = 125
 
 abbrev pub item_depth : ℕ
-item_depth = 125
+item_depth = 124
 
 -- first comes a value nested at most so deep, which stands for this under f; the rest follows
 pub record BeginsWith {A : Type 0} (f : Data → Option A) (depth : ℕ) (ts : List Token) (a : A) (rest : List Token) : Type 0 where

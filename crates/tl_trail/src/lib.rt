@@ -5,6 +5,7 @@
 //! here; whoever makes trails and whoever judges them stand on this definition.
 #![tactic(auto)]
 
+mod chain;
 mod fault;
 mod raw;
 mod reading;
@@ -12,6 +13,7 @@ mod tokens;
 mod trail;
 mod writing;
 
+pub use chain::{MAX_TRAILS, read_chain, write_chain};
 pub use fault::TrailFault;
 pub use reading::read_trail;
 pub use trail::{Trail, TrailCall};

@@ -1,13 +1,13 @@
 // Reading a trail from its text.
 
-ghost use Rattle.std.specs.Prelude.{◌≡◌, ◌≢◌, ◌<◌, ◌≤◌, ℤ, List, [], Some, Ok, Err, length, map, reverse, option_map, option_and_then, string_bytes, All, IfSome, IfOk, IfErr, OnOk, MatchResult};
+ghost use Rattle.std.specs.Prelude.{◌≡◌, ◌≢◌, ◌<◌, ◌≤◌, ℤ, List, [], Some, Ok, Err, length, map, reverse, option_map, string_bytes, All, IfSome, IfOk, IfErr, OnOk, MatchResult};
 ghost use Rattle.serde_json.specs.View.{view};
 ghost use Rattle.tl_tree.specs.Records.{Records};
 ghost use Rattle.tl_protocol.specs.declared.event.Event.{Event as EventValue};
 ghost use Rattle.tl_protocol.specs.History.{caller};
 ghost use Rattle.tl_protocol.specs.Nodes.{IsOfNodes};
 ghost use Rattle.tl_trail.specs.Trails.{TrailValue, IsCallOf, call_value};
-ghost use Rattle.tl_trail.specs.Reading.{parts_of, form_at, form_of_parts, form_in, call_as, each_call, calls_as, below, event_as, events_as, IsTrailText, IsFirstTrailFault};
+ghost use Rattle.tl_trail.specs.Reading.{parts_of, form_at, form_of_parts, form_of_data, form_in, call_as, each_call, calls_as, below, event_as, events_as, IsFound, IsFaultFound, IsTrailText, IsFirstTrailFault};
 ghost use Rattle.tl_trail.specs.Raw.{call_form, form_with, parts_in, IsHalfRead, IsUnread, IsTrailOf, IsFaultOf};
 
 use crate::fault::TrailFault;
@@ -50,8 +50,8 @@ fn raw_of_either(alloc: Global, members: &Members) -> Result<(Tree, RawTrail), T
 }
 
 fn raw_of_value(alloc: Global, value: &Value) -> Result<(Tree, RawTrail), TrailFault>
-    ensures ok { IfOk result (λ found. IsHalfRead (option_and_then form_of_parts (parts_of (view value.now))) found.0 found.1) }
-    ensures fault { IfErr result (λ e. e ≢ TrailFault.Memory → IsUnread (option_and_then form_of_parts (parts_of (view value.now))) e) }
+    ensures ok { IfOk result (λ found. IsHalfRead (form_of_data (view value.now)) found.0 found.1) }
+    ensures fault { IfErr result (λ e. e ≢ TrailFault.Memory → IsUnread (form_of_data (view value.now)) e) }
 {
     let Some(members) = members_of_value(value) else {
         return Err(TrailFault::NotTrail);
@@ -227,7 +227,9 @@ fn checked_history(
 
 // ---- the trail
 
-fn checked_trail(alloc: Global, tree: Tree, raw: RawTrail) -> Result<Trail, TrailFault>
+/// The trail of a tree and of what else its text has: what is wrong first with the procedures, the calls, the events and the records
+/// in the end.
+pub(crate) fn checked_trail(alloc: Global, tree: Tree, raw: RawTrail) -> Result<Trail, TrailFault>
     ensures ok { IfOk result (λ t. (parts : List ℤ × Records) → IsTrailOf tree (form_with raw parts) t) }
     ensures fault { IfErr result (λ e. e ≢ TrailFault.Memory → (parts : List ℤ × Records) → IsFaultOf tree (form_with raw parts) e) }
 {
@@ -239,6 +241,15 @@ fn checked_trail(alloc: Global, tree: Tree, raw: RawTrail) -> Result<Trail, Trai
     }
     let history = checked_history(alloc, calls.len() as u16, nodes, &raw.events)?;
     Ok(Trail::new(tree, procedures, calls, history, raw.ends))
+}
+
+/// The trail that a value is.
+pub(crate) fn trail_of_value(alloc: Global, value: &Value) -> Result<Trail, TrailFault>
+    ensures ok { IfOk result (λ t. IsFound (form_of_data (view value.now)) t) }
+    ensures fault { IfErr result (λ e. e ≢ TrailFault.Memory → IsFaultFound (form_of_data (view value.now)) e) }
+{
+    let (tree, raw) = raw_of_value(alloc, value)?;
+    checked_trail(alloc, tree, raw)
 }
 
 // The same as below, said by what a text is alone.

@@ -24,10 +24,13 @@ use std::alloc::{AllocError, Global};
 use tl_forms::{FromValue, NarrowEvent, ProcedureText, RawEvent, WideEvent};
 use tl_tree::{Record, Tree, Width, records_from_value, tree_from_value};
 
-// How deep a member of a text nests at most, and an item of a member: a text nests at most 127 deep.
-const MEMBER_DEPTH: usize = 126;
+/// How deep a trail of a chain nests at most: a text nests at most 127 deep.
+pub(crate) const TRAIL_DEPTH: usize = 126;
 
-const ITEM_DEPTH: usize = 125;
+// How deep a member of a trail nests at most, and an item of a member, in a chain too.
+const MEMBER_DEPTH: usize = 125;
+
+const ITEM_DEPTH: usize = 124;
 
 // ---- any value
 
@@ -70,9 +73,13 @@ fn integer(text: &str) -> Option<Number>
     }
 }
 
-// The value that is next.
+/// The value that is next, but for numbers that are no integers of 64 bits.
 #[cycle(value)]
-fn value(alloc: Global, reader: &mut Reader<'_>, depth: usize) -> Result<Option<Value>, AllocError>
+pub(crate) fn value(
+    alloc: Global,
+    reader: &mut Reader<'_>,
+    depth: usize,
+) -> Result<Option<Value>, AllocError>
     ensures { IfOk result (λ found. IfSome found (λ v. BeginsWith Some depth reader.old (view v) reader.new)) }
 {
     let Some(token) = reader.next() else {
@@ -271,8 +278,8 @@ fn events_member(
     }
 }
 
-// What a trail's members stand for, where they come in their order. The records in the end tell the width of all others.
-fn trail_members(
+/// What a trail's members stand for, where they come in their order. The records in the end tell the width of all others.
+pub(crate) fn trail_members(
     alloc: Global,
     reader: &mut Reader<'_>,
 ) -> Result<Option<(Tree, RawTrail)>, AllocError>

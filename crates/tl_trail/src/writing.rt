@@ -88,8 +88,8 @@ fn push_tree(alloc: Global, text: &mut String, tree: &Tree) -> Result<(), AllocE
     push_value(alloc, text, &value)
 }
 
-// The events are the most of a trail, and go into the text one after another.
-fn push_trail(alloc: Global, text: &mut String, trail: &Trail) -> Result<(), AllocError>
+/// Puts the text of a trail behind a text. The events are the most of a trail, and go into the text one after another.
+pub(crate) fn push_trail(alloc: Global, text: &mut String, trail: &Trail) -> Result<(), AllocError>
     ensures text { OnOk result (string_bytes text.new ≡ string_bytes text.old ++ trail_text trail.now) }
     ensures writable { OnOk result (IsWritable trail.now) }
 {

@@ -51,7 +51,7 @@ fn sessions_of(
 // What the engine says once it is closed with these sessions.
 fn closed(alloc: Global, engine: Engine, sessions: Vec<Session>) -> Result<Ended, Fail> {
     match engine.close(sessions) {
-        Ok((closed, sessions)) => Ended::of(alloc, closed, sessions),
+        Ok((chain, sessions)) => Ended::of(alloc, chain, sessions),
         Err(_) => Err("not closed".into()),
     }
 }

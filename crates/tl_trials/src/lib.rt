@@ -13,6 +13,7 @@ mod engine;
 mod exchange;
 mod opened;
 mod ready;
+mod signal;
 mod table;
 
 pub use asking::{Answers, Asked, batch, done};
@@ -21,4 +22,5 @@ pub use engine::{use_up_sessions, with_callers, with_engine, with_engine_on_thre
 pub use exchange::{end_exchanged, with_exchanged_sessions};
 pub use opened::end_opened;
 pub use ready::with_ready;
+pub use signal::Signal;
 pub use table::{receipt_of, with_table};

@@ -37,14 +37,14 @@ fn begin(
 // What the table says once it is closed.
 fn closed(alloc: Global, table: Table) -> Result<Ended, Fail> {
     match table.close() {
-        Ok(closed) => Ended::of(alloc, closed, Vec::new(alloc)),
+        Ok(chain) => Ended::of(alloc, chain, Vec::new(alloc)),
         Err(_) => Err("not closed".into()),
     }
 }
 
-/// The receipt of a call of the table. An `Err` where it isn't done.
-pub fn receipt_of(table: &Table, call: u32) -> Result<Receipt, Fail> {
-    match table.receipt(call) {
+/// The receipt of a call of an epoch of the table. An `Err` where it isn't done.
+pub fn receipt_of(table: &Table, epoch: u32, call: u32) -> Result<Receipt, Fail> {
+    match table.receipt(epoch, call) {
         Ok(Some(receipt)) => Ok(receipt),
         Ok(None) => Err("no receipt yet".into()),
         Err(fault) => Err(fault.into()),

@@ -24,7 +24,7 @@ pub receipts_long : (all : List (Result Asking Refusal)) (rs : List (Result Rece
 receipts_long [] [] h = refl
 receipts_long [] (r ∷ rs) h = absurd h
 receipts_long (Ok a ∷ all) [] h = absurd h
-receipts_long (Ok a ∷ all) (Ok r ∷ rs) h = ap suc (receipts_long all rs h.2)
+receipts_long (Ok a ∷ all) (Ok r ∷ rs) h = ap suc (receipts_long all rs h.3)
 receipts_long (Ok a ∷ all) (Err f ∷ rs) h = absurd h
 receipts_long (Err e ∷ all) [] h = absurd h
 receipts_long (Err e ∷ all) (Ok r ∷ rs) h = absurd h
@@ -36,14 +36,14 @@ answers_each [] [] (r ∷ rs) h g = absurd g
 answers_each [] (a ∷ all) rs h g = absurd h
 answers_each (q ∷ qs) [] rs h g = absurd h
 answers_each (q ∷ qs) (Ok a ∷ all) [] h g = absurd g
-answers_each (q ∷ qs) (Ok a ∷ all) (Ok r ∷ rs) h g = (g.1 ∙ h.1, answers_each qs all rs h.2 g.2)
+answers_each (q ∷ qs) (Ok a ∷ all) (Ok r ∷ rs) h g = (g.2 ∙ h.1, answers_each qs all rs h.2 g.3)
 answers_each (q ∷ qs) (Ok a ∷ all) (Err f ∷ rs) h g = absurd g
 answers_each (q ∷ qs) (Err e ∷ all) [] h g = absurd g
 answers_each (q ∷ qs) (Err e ∷ all) (Ok r ∷ rs) h g = absurd g
 answers_each (q ∷ qs) (Err e ∷ all) (Err f ∷ rs) h g = answers_each qs all rs h g
 
-same_asking : (a : Asking) (q : Request) (r : Receipt) → a.name ≡ string_bytes q.name → a.args.items ≡ q.args.items → r.call ≡ a.call → asking r.call (string_bytes q.name) q.args.items ≡ a
-same_asking a q r names args call = (λ i. record { call = call i; name = sym names i; args = record { items = sym args i } })
+same_asking : (a : Asking) (q : Request) (r : Receipt) → a.name ≡ string_bytes q.name → a.args.items ≡ q.args.items → r.epoch ≡ a.epoch → r.call ≡ a.call → asking r.epoch r.call (string_bytes q.name) q.args.items ≡ a
+same_asking a q r names args epoch call = (λ i. record { epoch = epoch i; call = call i; name = sym names i; args = record { items = sym args i } })
 
 pub asked_are : (qs : List Request) (all : List (Result Asking Refusal)) (rs : List (Result Receipt Refusal)) → AdmittedEach qs all → ReceiptsEach all rs → askings_of all ≡ asked_of qs rs
 asked_are [] [] [] h g = refl
@@ -51,7 +51,7 @@ asked_are [] [] (r ∷ rs) h g = absurd g
 asked_are [] (a ∷ all) rs h g = absurd h
 asked_are (q ∷ qs) [] rs h g = absurd h
 asked_are (q ∷ qs) (Ok a ∷ all) [] h g = absurd g
-asked_are (q ∷ qs) (Ok a ∷ all) (Ok r ∷ rs) h g = (λ i. Asked (sym (same_asking a q r h.0 h.1 g.0) i) ∷ asked_are qs all rs h.2 g.2 i)
+asked_are (q ∷ qs) (Ok a ∷ all) (Ok r ∷ rs) h g = (λ i. Asked (sym (same_asking a q r h.0 h.1 g.0 g.1) i) ∷ asked_are qs all rs h.2 g.3 i)
 asked_are (q ∷ qs) (Ok a ∷ all) (Err f ∷ rs) h g = absurd g
 asked_are (q ∷ qs) (Err e ∷ all) [] h g = absurd g
 asked_are (q ∷ qs) (Err e ∷ all) (Ok r ∷ rs) h g = absurd g
@@ -75,13 +75,13 @@ admitted-next qs i all now d a lt h e is =
     subst P (sym (ap (λ k. take k qs) (add-one i) ∙ take-suc qs i d lt)) (subst Q (sym is) (admitted-push (take i qs) all (get_or qs i d) a h e))
 
 receipts-push : (all : List (Result Asking Refusal)) (rs : List (Result Receipt Refusal)) (a : Result Asking Refusal) (r : Result Receipt Refusal) → ReceiptsEach all rs → Answers a r → ReceiptsEach (all ++ a ∷ []) (rs ++ r ∷ [])
-receipts-push [] [] (Ok a) (Ok r) h e = (e.0, e.1, tt)
+receipts-push [] [] (Ok a) (Ok r) h e = (e.0, e.1, e.2, tt)
 receipts-push [] [] (Ok a) (Err f) h e = absurd e
 receipts-push [] [] (Err x) (Ok r) h e = absurd e
 receipts-push [] [] (Err x) (Err f) h e = tt
 receipts-push [] (r ∷ rs) a x h e = absurd h
 receipts-push (Ok a ∷ all) [] b x h e = absurd h
-receipts-push (Ok a ∷ all) (Ok r ∷ rs) b x h e = (h.0, h.1, receipts-push all rs b x h.2 e)
+receipts-push (Ok a ∷ all) (Ok r ∷ rs) b x h e = (h.0, h.1, h.2, receipts-push all rs b x h.3 e)
 receipts-push (Ok a ∷ all) (Err f ∷ rs) b x h e = absurd h
 receipts-push (Err y ∷ all) [] b x h e = absurd h
 receipts-push (Err y ∷ all) (Ok r ∷ rs) b x h e = absurd h

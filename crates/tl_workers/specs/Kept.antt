@@ -18,12 +18,12 @@ pub record Gains (old new : SessionValue) (more : List Did) : Type 0 where
   pub number : new.number ≡ old.number
   pub kept : new.kept ≡ old.kept ++ more
 
-abbrev pub asking : ℕ → List ℕ → List ℤ → Asking
-asking call name args = record { call = call; name = name; args = record { items = args } }
+abbrev pub asking : ℕ → ℕ → List ℕ → List ℤ → Asking
+asking epoch call name args = record { epoch = epoch; call = call; name = name; args = record { items = args } }
 
 -- one call: asked for, then got
 abbrev pub call_of : List ℕ → List ℤ → Receipt → List Did
-call_of name args r = Asked (asking r.call name args) ∷ Got r ∷ []
+call_of name args r = Asked (asking r.epoch r.call name args) ∷ Got r ∷ []
 
 -- each Ok answers the request at its place
 abbrev pub AnswersEach : List Request → List (Result Receipt Refusal) → Type 0
@@ -35,7 +35,7 @@ AnswersEach (q ∷ qs) (Err e ∷ rs) = AnswersEach qs rs
 
 -- the requests that were answered Ok, as they were asked for
 abbrev pub asked_of : List Request → List (Result Receipt Refusal) → List Did
-asked_of (q ∷ qs) (Ok r ∷ rs) = Asked (asking r.call (string_bytes q.name) q.args.items) ∷ asked_of qs rs
+asked_of (q ∷ qs) (Ok r ∷ rs) = Asked (asking r.epoch r.call (string_bytes q.name) q.args.items) ∷ asked_of qs rs
 asked_of (q ∷ qs) (Err e ∷ rs) = asked_of qs rs
 asked_of qs rs = []
 
@@ -60,7 +60,7 @@ AdmittedEach (q ∷ qs) (Err e ∷ rest) = AdmittedEach qs rest
 
 -- what was answered is the receipt of the call that was admitted
 abbrev pub Answers : Result Asking Refusal → Result Receipt Refusal → Type 0
-Answers (Ok a) (Ok r) = (r.call ≡ a.call) × (r.args.items ≡ a.args.items)
+Answers (Ok a) (Ok r) = (r.epoch ≡ a.epoch) × (r.call ≡ a.call) × (r.args.items ≡ a.args.items)
 Answers (Ok a) (Err f) = ⊥
 Answers (Err e) (Ok r) = ⊥
 Answers (Err e) (Err f) = Unit {0}
@@ -68,7 +68,7 @@ Answers (Err e) (Err f) = Unit {0}
 -- a receipt for each call that was admitted
 abbrev pub ReceiptsEach : List (Result Asking Refusal) → List (Result Receipt Refusal) → Type 0
 ReceiptsEach [] [] = Unit {0}
-ReceiptsEach (Ok a ∷ rest) (Ok r ∷ rs) = (r.call ≡ a.call) × (r.args.items ≡ a.args.items) × ReceiptsEach rest rs
+ReceiptsEach (Ok a ∷ rest) (Ok r ∷ rs) = (r.epoch ≡ a.epoch) × (r.call ≡ a.call) × (r.args.items ≡ a.args.items) × ReceiptsEach rest rs
 ReceiptsEach (Err e ∷ rest) (Err f ∷ rs) = ReceiptsEach rest rs
 ReceiptsEach rest rs = ⊥
 

@@ -1,9 +1,13 @@
--- A session's list beside a table.
-use Rattle.std.specs.Prelude.{◌≡◌, ◌≢◌, ℕ, ◌+◌, ◌<◌, ◌==◌, ◌⊎◌, if◌then◌else◌, List, [], ◌∷◌, Option, Some, None, take, slice_get, max, nat_lt}
-use Rattle.tl_core.specs.Cores.{CoreValue, call_of}
+-- A session's list beside the epochs of a table.
+use Rattle.std.specs.Prelude.{◌≡◌, ◌≢◌, ℕ, ◌+◌, ◌*◌, ◌<◌, ◌==◌, ◌⊎◌, if◌then◌else◌, List, [], ◌∷◌, ◌++◌, Option, Some, None, take, slice_get, max, nat_lt}
+use Rattle.std.specs.Option.{option_map_or}
+use Rattle.tl_history.specs.declared.history.TheConstants.{MAX_CALLS}
+use Rattle.tl_protocol.specs.declared.event.Event.{Event}
+use Rattle.tl_core.specs.Cores.{call_of}
 use Rattle.tl_core.specs.Entries.{procedure_at}
 use Rattle.tl_table.specs.Ends.{EndsBefore, begun_by_end}
-use Rattle.tl_table.specs.Tables.{TableValue, seen, IsKnown, Stands, IsAtRest}
+use Rattle.tl_table.specs.Epochs.{EpochValue, seen, IsKnown, Stands, IsAtRest}
+use Rattle.tl_table.specs.Tables.{TableValue, all_epochs}
 use Rattle.tl_table.specs.declared.receipt.Receipt.{Receipt}
 use Rattle.tl_workers.specs.declared.asking.Asking.{Asking}
 use Rattle.tl_workers.specs.declared.session.Did.{Did}
@@ -16,61 +20,86 @@ asked_in [] = []
 asked_in (Asked a ∷ dids) = a ∷ asked_in dids
 asked_in (Got r ∷ dids) = asked_in dids
 
--- a call of a core, as one asks for it: by its procedure's name, with its arguments
-abbrev pub asking_of : CoreValue → ℕ → Asking
-asking_of v c = asking c (procedure_at v (call_of v c).procedure).name (call_of v c).args
+-- a call of an epoch, as one asks for it: by its procedure's name, with its arguments
+abbrev pub asking_of : EpochValue → ℕ → Asking
+asking_of e c = asking e.number c (procedure_at (seen e) (call_of (seen e) c).procedure).name (call_of (seen e) c).args
 
 -- the calls of session s by rising number, where call n has the first of the owners
-abbrev pub calls_from : CoreValue → ℕ → List ℕ → ℕ → List Asking
-calls_from v n [] s = []
-calls_from v n (o ∷ owners) s =
-    if o == s then asking_of v n ∷ calls_from v (n + 1) owners s else calls_from v (n + 1) owners s
+abbrev pub calls_from : EpochValue → ℕ → List ℕ → ℕ → List Asking
+calls_from e n [] s = []
+calls_from e n (o ∷ owners) s =
+    if o == s then asking_of e n ∷ calls_from e (n + 1) owners s else calls_from e (n + 1) owners s
 
-abbrev pub calls_of : TableValue → ℕ → List Asking
-calls_of t s = calls_from (seen t) 0 t.owners s
+abbrev pub calls_of : EpochValue → ℕ → List Asking
+calls_of e s = calls_from e 0 e.owners s
 
-abbrev pub WasAsked : List Did → ℕ → Type 0
-WasAsked dids c = (j : ℕ) × (a : Asking) × (slice_get dids j ≡ Some (Asked a)) × (a.call ≡ c)
+-- the same of all epochs, one after another
+abbrev pub all_calls_of : List EpochValue → ℕ → List Asking
+all_calls_of [] s = []
+all_calls_of (e ∷ es) s = calls_of e s ++ all_calls_of es s
+
+abbrev pub WasAsked : List Did → ℕ → ℕ → Type 0
+WasAsked dids e c = (j : ℕ) × (a : Asking) × (slice_get dids j ≡ Some (Asked a)) × (a.epoch ≡ e) × (a.call ≡ c)
+
+-- a receipt stands in the epoch that it names
+abbrev pub StandsIn : List EpochValue → Receipt → Type 0
+StandsIn es r = (e : EpochValue) × (slice_get es r.epoch ≡ Some e) × Stands e r
 
 -- a receipt stands, and its call was asked for before
-abbrev pub IsBacked : TableValue → Did → List Did → Type 0
-IsBacked t (Asked a) before = Unit {0}
-IsBacked t (Got r) before = Stands t r × WasAsked before r.call
+abbrev pub IsBacked : List EpochValue → Did → List Did → Type 0
+IsBacked es (Asked a) before = Unit {0}
+IsBacked es (Got r) before = StandsIn es r × WasAsked before r.epoch r.call
 
-unfoldable pub GotsStand : TableValue → List Did → Type 0
-GotsStand t dids = (i : ℕ) (did : Did) → slice_get dids i ≡ Some did → IsBacked t did (take i dids)
+unfoldable pub GotsStand : List EpochValue → List Did → Type 0
+GotsStand es dids = (i : ℕ) (did : Did) → slice_get dids i ≡ Some did → IsBacked es did (take i dids)
+
+-- the history of the epoch of that number
+abbrev pub past_at : List EpochValue → ℕ → List Event
+past_at es n = option_map_or (λ e. (seen e).past) (slice_get es n) []
+
+-- the receipt's call had ended before the other one was admitted: in an earlier epoch, or earlier in the same history
+abbrev pub HasEnded : List EpochValue → Receipt → Asking → Type 0
+HasEnded es r a = (r.epoch < a.epoch) ⊎ ((r.epoch ≡ a.epoch) × EndsBefore (past_at es r.epoch) r.call a.call)
 
 -- what was got before something was asked for had ended before that was admitted
-unfoldable pub GoInTurn : TableValue → List Did → Type 0
-GoInTurn t dids =
+unfoldable pub GoInTurn : List EpochValue → List Did → Type 0
+GoInTurn es dids =
     (i j : ℕ) (r : Receipt) (a : Asking) → i < j → slice_get dids i ≡ Some (Got r) → slice_get dids j ≡ Some (Asked a)
-    → EndsBefore (seen t).past r.call a.call
+    → HasEnded es r a
 
--- What was asked for are exactly the session's calls; each receipt stands; and calls that were asked for after a receipt
--- were admitted after its call's end.
-pub record Matches (t : TableValue) (s : SessionValue) : Type 0 where
-  pub asked : asked_in s.kept ≡ calls_of t s.number
-  pub gots : GotsStand t s.kept
-  pub in_turn : GoInTurn t s.kept
+-- What was asked for are exactly the session's calls, epoch by epoch; each receipt stands; and calls that were asked for after a
+-- receipt were admitted after its call's end.
+pub record Matches (es : List EpochValue) (s : SessionValue) : Type 0 where
+  pub asked : asked_in s.kept ≡ all_calls_of es s.number
+  pub gots : GotsStand es s.kept
+  pub in_turn : GoInTurn es s.kept
 
 -- each list that begins with x is another
 abbrev pub IsNotFirst : List Asking → Asking → Type 0
 IsNotFirst xs x = (rest : List Asking) → xs ≢ x ∷ rest
 
--- a receipt stands, and a call that was asked for is the table's
-abbrev pub IsKnownEntry : TableValue → Did → Type 0
-IsKnownEntry t (Asked a) = IsKnown t a.call
-IsKnownEntry t (Got r) = Stands t r
+-- a receipt stands, and a call that was asked for is one of its epoch
+abbrev pub IsKnownEntry : List EpochValue → Did → Type 0
+IsKnownEntry es (Asked a) = (e : EpochValue) × (slice_get es a.epoch ≡ Some e) × IsKnown e a.call
+IsKnownEntry es (Got r) = StandsIn es r
 
-unfoldable pub AreKnown : TableValue → List Did → Type 0
-AreKnown t dids = (i : ℕ) (did : Did) → slice_get dids i ≡ Some did → IsKnownEntry t did
+unfoldable pub AreKnown : List EpochValue → List Did → Type 0
+AreKnown es dids = (i : ℕ) (did : Did) → slice_get dids i ≡ Some did → IsKnownEntry es did
 
--- how many calls had been admitted at most when one of those got ended, one entry later; none where that entry asks for a
--- call that had been admitted by then
-abbrev pub begun_after : TableValue → Did → ℕ → Option ℕ
-begun_after t (Got r) begun = Some (max begun (begun_by_end r.call (seen t).past))
-begun_after t (Asked a) begun = if nat_lt a.call begun then None else Some begun
+-- one number of an epoch and of a number of calls in it, which rises with the epoch and then with the calls
+abbrev pub mark : ℕ → ℕ → ℕ
+mark epoch count = epoch * (MAX_CALLS + 1) + count
 
--- a call is unfinished, or a session's list isn't what the table says
+-- how far the calls of all epochs had begun when the receipt's call ended
+abbrev pub end_mark : List EpochValue → Receipt → ℕ
+end_mark es r = mark r.epoch (begun_by_end r.call (past_at es r.epoch))
+
+-- that at most when one of those got ended, one entry later; none where that entry asks for a call that had been admitted by then
+abbrev pub begun_after : List EpochValue → Did → ℕ → Option ℕ
+begun_after es (Got r) begun = Some (max begun (end_mark es r))
+begun_after es (Asked a) begun = if nat_lt (mark a.epoch a.call) begun then None else Some begun
+
+-- a call is unfinished, or a session's list isn't what the epochs say
 abbrev pub DoesNotClose : TableValue → List SessionValue → Type 0
-DoesNotClose t sessions = (¬ IsAtRest t) ⊎ ((i : ℕ) × (s : SessionValue) × (slice_get sessions i ≡ Some s) × ¬ Matches t s)
+DoesNotClose t sessions =
+    (¬ IsAtRest t.current) ⊎ ((i : ℕ) × (s : SessionValue) × (slice_get sessions i ≡ Some s) × ¬ Matches (all_epochs t) s)

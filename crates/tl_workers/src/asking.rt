@@ -48,7 +48,9 @@ impl Name {
 /// A call that was admitted, as its session's holder asked for it: plain data.
 #[derive(Debug, Drop)]
 pub struct Asking {
-    /// The number of the call.
+    /// The number of the epoch.
+    pub epoch: u32,
+    /// The number of the call in its epoch.
     pub call: u32,
     /// The name of its procedure.
     pub name: Name,
@@ -58,22 +60,26 @@ pub struct Asking {
 
 impl Asking {
     /// What was asked for, of an admitted call. Takes no memory.
-    pub fn new(call: u32, name: &str, args: &[i64]) -> Asking
+    pub fn new(epoch: u32, call: u32, name: &str, args: &[i64]) -> Asking
         requires name { length name.now ≤ MAX_NAME }
         requires args { length args.now ≤ MAX_ARGS }
-        ensures { result ≡ asking call name.now args.now }
+        ensures { result ≡ asking epoch call name.now args.now }
     {
         Asking {
+            epoch,
             call,
             name: Name::new(name),
             args: values_of(args),
         }
     }
 
-    /// Whether it is that call of a procedure of that name, with these arguments.
-    pub fn is(&self, call: u32, name: &str, args: &[i64]) -> bool
-        ensures { IsTrue result ↔ (self.now ≡ asking call name.now args.now) }
+    /// Whether it is that call of that epoch, of a procedure of that name, with these arguments.
+    pub fn is(&self, epoch: u32, call: u32, name: &str, args: &[i64]) -> bool
+        ensures { IsTrue result ↔ (self.now ≡ asking epoch call name.now args.now) }
     {
+        if self.epoch != epoch {
+            return false;
+        }
         if self.call != call {
             return false;
         }
@@ -87,7 +93,12 @@ impl Asking {
     pub fn copy(&self) -> Asking
         ensures { result ≡ self.now }
     {
-        Asking::new(self.call, self.name.as_str(), self.args.as_slice())
+        Asking::new(
+            self.epoch,
+            self.call,
+            self.name.as_str(),
+            self.args.as_slice(),
+        )
     }
 }
 

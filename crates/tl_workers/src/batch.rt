@@ -320,12 +320,13 @@ impl Engine {
         held: MutexGuard<'t, Table>,
         asked: &Asking,
     ) -> (Receipt, MutexGuard<'t, Table>)
+        ensures epoch { result.0.epoch ≡ asked.now.epoch }
         ensures call { result.0.call ≡ asked.now.call }
         ensures args { result.0.args.items ≡ asked.now.args.items }
     {
         let mut table = held;
         for _ in rt.forever() {
-            if let Ok(Some(told)) = table.receipt(asked.call) {
+            if let Ok(Some(told)) = table.receipt(asked.epoch, asked.call) {
                 let receipt = Receipt {
                     args: values_of(asked.args.as_slice()),
                     ..told
@@ -348,7 +349,7 @@ fn admit_one(
     ensures { AsksFor request.now result }
 {
     match table.admit(alloc, session, &request.name, &request.args) {
-        Ok(call) => Ok(Asking::new(call, &request.name, &request.args)),
+        Ok(call) => Ok(Asking::new(table.epoch(), call, &request.name, &request.args)),
         Err(fault) => Err(Refusal::Table(fault)),
     }
 }
@@ -371,9 +372,10 @@ fn is_full(one: &Result<Asking, Refusal>) -> bool {
 
 // Whether one of the calls is unfinished. The latest are looked at first, since mostly it is one of them.
 fn has_unfinished(table: &Table, admitted: &[Result<Asking, Refusal>]) -> bool {
+    let epoch = table.epoch();
     for one in admitted.iter().rev() {
         if let Ok(asked) = one {
-            if table.is_unfinished(asked.call) {
+            if asked.epoch == epoch && table.is_unfinished(asked.call) {
                 return true;
             }
         }

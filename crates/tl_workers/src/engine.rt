@@ -5,8 +5,9 @@ ghost use Rattle.tl_procedures.specs.Names.{is_name};
 ghost use Rattle.tl_procedures.specs.declared.fault.NamingFault.TheVariants.{BadName};
 ghost use Rattle.tl_table.specs.declared.fault.TableFault.TheVariants as fault;
 ghost use Rattle.tl_workers.specs.declared.refusal.Refusal.TheVariants as refusal;
+ghost use Rattle.tl_table.specs.Tables.{IsChain};
+ghost use Rattle.tl_workers.specs.Refusals.{IsNewEngineRefusal, IsSealRefused};
 ghost use Rattle.tl_workers.specs.Matching.{Matches, DoesNotClose};
-ghost use Rattle.tl_workers.specs.Refusals.{IsNewEngineRefusal};
 ghost use Rattle.tl_workers.specs.Sessions.{AreAllOf, AskForEachOnce, FindsItsWrites};
 
 use crate::matching::all_match;
@@ -89,7 +90,18 @@ impl Engine {
         self.table.lock(rt).add_proc(alloc, name, procedure)
     }
 
-    /// The closed table, where every call is done and each session's list is what the table says; else the table. The
+    /// Seals the current epoch of the table, whose number this answers: 606, 808, 690, 890. It waits for the lock and for
+    /// nothing else. Sessions go on.
+    pub fn seal(&self, rt: &impl Wait, alloc: Global) -> Result<u32, Refusal>
+        ensures { IfErr result (λ e. IsSealRefused e) }
+    {
+        match self.table.lock(rt).seal(alloc) {
+            Ok(epoch) => Ok(epoch),
+            Err(fault) => Err(Refusal::Table(fault)),
+        }
+    }
+
+    /// The epochs of the closed table, where every call is done and each session's list is what they say; else the table. The
     /// sessions come back as they were. Takes no memory.
     ///
     /// Where these are all sessions of the engine, exactly one of their lists asks for a call, and once. A call that was asked
@@ -97,10 +109,11 @@ impl Engine {
     pub fn close(
         self,
         sessions: Vec<Session>,
-    ) -> Result<(Closed, Vec<Session>), (Table, Vec<Session>)>
-        ensures ok { IfOk result (λ r. (r.1.items ≡ sessions.items) × All (Matches r.0) r.1.items) }
-        ensures once { IfOk result (λ r. AreAllOf r.0 r.1.items → AskForEachOnce r.0 r.1.items) }
-        ensures writes { IfOk result (λ r. All (FindsItsWrites r.0) r.1.items) }
+    ) -> Result<(Vec<Closed>, Vec<Session>), (Table, Vec<Session>)>
+        ensures chain { IfOk result (λ r. IsChain r.0.items) }
+        ensures ok { IfOk result (λ r. (r.1.items ≡ sessions.items) × All (Matches r.0.items) r.1.items) }
+        ensures once { IfOk result (λ r. AreAllOf r.0.items r.1.items → AskForEachOnce r.0.items r.1.items) }
+        ensures writes { IfOk result (λ r. All (FindsItsWrites r.0.items) r.1.items) }
         ensures err { IfErr result (λ r. (r.1.items ≡ sessions.items) × DoesNotClose r.0 r.1.items) }
     {
         let Engine {
@@ -112,12 +125,9 @@ impl Engine {
             Ok(closed) => closed,
             Err(table) => return Err((table, sessions)),
         };
-        if !all_match(&closed, sessions.as_slice()) {
-            return Err((closed.into_table(), sessions));
+        if !all_match(closed.as_slice(), sessions.as_slice()) {
+            return Err((Table::reopened(closed), sessions));
         }
-        // Each call has a session that was given, and the history is legal: here a proof learns that.
-        let _owners = closed.owners();
-        closed.core().is_sound();
         Ok((closed, sessions))
     }
 }

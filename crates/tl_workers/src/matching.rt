@@ -1,49 +1,66 @@
-// Whether a session's list is what a closed table says.
+// Whether a session's list is what the epochs of a closed table say.
 
-ghost use Rattle.std.specs.Prelude.{◌≡◌, ◌≢◌, ◌+◌, ◌<◌, ◌≤◌, ◌↔◌, ℕ, List, [], ◌∷◌, length, take, Some, slice_get, IsTrue, MatchOption, MatchBool, IfNone, IfSome, All};
-ghost use Rattle.tl_table.specs.Ends.{EndsBefore};
-ghost use Rattle.tl_table.specs.Tables.{seen, IsKnown, Stands};
-ghost use Rattle.tl_table.specs.declared.receipt.Receipt.{Receipt};
+ghost use Rattle.std.specs.Prelude.{◌≡◌, ◌≢◌, ◌+◌, ◌<◌, ◌≤◌, ◌↔◌, ℕ, List, [], ◌∷◌, ◌++◌, length, take, Some, slice_get, IsTrue, MatchOption, MatchBool, IfNone, IfSome, All};
+ghost use Rattle.tl_history.specs.declared.history.TheConstants.{MAX_CALLS};
+ghost use Rattle.tl_table.specs.Epochs.{IsKnown};
+ghost use Rattle.tl_table.specs.Tables.{IsChain};
+ghost use Rattle.tl_table.specs.declared.epoch.TheConstants.{MAX_EPOCHS};
 ghost use Rattle.tl_workers.specs.declared.asking.Asking.{Asking};
 ghost use Rattle.tl_workers.specs.declared.session.Did.TheVariants.{Asked, Got};
 ghost use Rattle.tl_workers.specs.Kept.{SessionValue};
-ghost use Rattle.tl_workers.specs.Matching.{asked_in, asking_of, calls_of, IsNotFirst, WasAsked, IsBacked, GotsStand, GoInTurn, AreKnown, IsKnownEntry, begun_after, Matches};
+ghost use Rattle.tl_workers.specs.Matching.{asked_in, asking_of, calls_of, all_calls_of, IsNotFirst, WasAsked, IsBacked, StandsIn, GotsStand, GoInTurn, AreKnown, IsKnownEntry, begun_after, mark, Matches};
 
 use crate::asking::Asking;
 use crate::session::{Did, Session};
-use tl_table::Closed;
+use tl_history::MAX_CALLS;
+use tl_table::{Closed, Receipt};
 
-/// Whether the session's list is what the closed table says. Takes no memory.
-pub fn matches(closed: &Closed, session: &Session) -> bool
-    ensures { IsTrue result ↔ Matches closed.now session.now }
+/// Whether the session's list is what the epochs of a closed table say. Takes no memory.
+pub fn matches(chain: &[Closed], session: &Session) -> bool
+    requires { IsChain chain.now }
+    ensures { IsTrue result ↔ Matches chain.now session.now }
 {
-    // Each call has a session: here a proof learns that.
-    let _owners = closed.owners();
     let kept = session.kept();
-    if !asks_its_calls(closed, session.number(), kept) {
+    if !asks_its_calls(chain, session.number(), kept) {
         return false;
     }
-    if !gots_stand(closed, kept) {
+    if !gots_stand(chain, kept) {
         return false;
     }
-    go_in_turn(closed, kept)
+    go_in_turn(chain, kept)
 }
 
-/// Whether each session's list is what the closed table says.
-pub(crate) fn all_match(closed: &Closed, sessions: &[Session]) -> bool
-    ensures { MatchBool result (All (Matches closed.now) sessions.now) ((i : ℕ) × (s : SessionValue) × (slice_get sessions.now i ≡ Some s) × ¬ Matches closed.now s) }
+/// Whether each session's list is what the epochs say.
+pub(crate) fn all_match(chain: &[Closed], sessions: &[Session]) -> bool
+    requires { IsChain chain.now }
+    ensures { MatchBool result (All (Matches chain.now) sessions.now) ((i : ℕ) × (s : SessionValue) × (slice_get sessions.now i ≡ Some s) × ¬ Matches chain.now s) }
 {
     for session in sessions {
-        if !matches(closed, session) {
+        if !matches(chain, session) {
             return false;
         }
     }
     true
 }
 
-// Whether what was asked for are exactly the session's calls.
-fn asks_its_calls(closed: &Closed, session: u32, all: &[Did]) -> bool
-    ensures { IsTrue result ↔ (asked_in all.now ≡ calls_of closed.now session) }
+// Whether what was asked for are exactly the session's calls, epoch by epoch.
+fn asks_its_calls(chain: &[Closed], session: u32, all: &[Did]) -> bool
+    ensures { IsTrue result ↔ (asked_in all.now ≡ all_calls_of chain.now session) }
+{
+    let mut kept = all;
+    for closed in chain {
+        let Some(left) = after_calls(closed, session, kept) else {
+            return false;
+        };
+        kept = left;
+    }
+    next_asked(kept).is_none()
+}
+
+// What came after the asking for the session's calls of that epoch, if these are the first.
+fn after_calls<'a>(closed: &Closed, session: u32, all: &'a [Did]) -> Option<&'a [Did]>
+    ensures none { IfNone result ((rest : List Asking) → asked_in all.now ≢ calls_of closed.now session ++ rest) }
+    ensures some { IfSome result (λ left. (rest : List Asking) → (asked_in all.now ≡ calls_of closed.now session ++ rest) ↔ (asked_in left.now ≡ rest)) }
 {
     let mut kept = all;
     // The calls are at most 4,096: here a proof learns that.
@@ -51,23 +68,23 @@ fn asks_its_calls(closed: &Closed, session: u32, all: &[Did]) -> bool
     for (i, owner) in closed.owners().iter().enumerate() {
         if *owner == session {
             let Some(left) = next_call(closed, i as u32, kept) else {
-                return false;
+                return None;
             };
             kept = left;
         }
     }
-    next_asked(kept).is_none()
+    Some(kept)
 }
 
 // What came after the asking for that call, if it is the first.
 fn next_call<'a>(closed: &Closed, call: u32, kept: &'a [Did]) -> Option<&'a [Did]>
     requires { IsKnown closed.now call }
-    ensures none { IfNone result (IsNotFirst (asked_in kept.now) (asking_of (seen closed.now) call)) }
-    ensures some { IfSome result (λ left. asked_in kept.now ≡ asking_of (seen closed.now) call ∷ asked_in left.now) }
+    ensures none { IfNone result (IsNotFirst (asked_in kept.now) (asking_of closed.now call)) }
+    ensures some { IfSome result (λ left. asked_in kept.now ≡ asking_of closed.now call ∷ asked_in left.now) }
 {
     let (asked, left) = next_asked(kept)?;
     let (procedure, args) = closed.core().request(call);
-    if !asked.is(call, closed.core().name(procedure), args) {
+    if !asked.is(closed.number(), call, closed.core().name(procedure), args) {
         return None;
     }
     Some(left)
@@ -88,12 +105,12 @@ fn next_asked(kept: &[Did]) -> Option<(&Asking, &[Did])>
 }
 
 // Whether each receipt stands, and its call was asked for before.
-fn gots_stand(closed: &Closed, kept: &[Did]) -> bool
-    ensures { IsTrue result ↔ GotsStand closed.now kept.now }
+fn gots_stand(chain: &[Closed], kept: &[Did]) -> bool
+    ensures { IsTrue result ↔ GotsStand chain.now kept.now }
 {
     for i in 0..kept.len() {
         let (before, _) = kept.split_at(i);
-        if !is_backed(closed, &kept[i], before) {
+        if !is_backed(chain, &kept[i], before) {
             return false;
         }
     }
@@ -101,42 +118,61 @@ fn gots_stand(closed: &Closed, kept: &[Did]) -> bool
 }
 
 // Whether an entry, if it is a receipt, stands, and its call was asked for before.
-fn is_backed(closed: &Closed, did: &Did, before: &[Did]) -> bool
-    ensures { IsTrue result ↔ IsBacked closed.now did.now before.now }
+fn is_backed(chain: &[Closed], did: &Did, before: &[Did]) -> bool
+    ensures { IsTrue result ↔ IsBacked chain.now did.now before.now }
 {
     match did {
         Did::Asked(_) => true,
-        Did::Got(receipt) => closed.stands(receipt) && was_asked(before, receipt.call),
+        Did::Got(receipt) => {
+            stands(chain, receipt) && was_asked(before, receipt.epoch, receipt.call)
+        }
+    }
+}
+
+// Whether a receipt stands in the epoch that it names.
+fn stands(chain: &[Closed], receipt: &Receipt) -> bool
+    ensures { IsTrue result ↔ StandsIn chain.now receipt.now }
+{
+    match chain.get(receipt.epoch as usize) {
+        Some(closed) => closed.stands(receipt),
+        None => false,
     }
 }
 
 // Whether the call was asked for. The latest are looked at first, since mostly it is one of them.
-fn was_asked(kept: &[Did], call: u32) -> bool
-    ensures { IsTrue result ↔ WasAsked kept.now call }
+fn was_asked(kept: &[Did], epoch: u32, call: u32) -> bool
+    ensures { IsTrue result ↔ WasAsked kept.now epoch call }
 {
     let mut rest = kept;
     while let Some((did, before)) = rest.split_last() {
-        if let Did::Asked(asked) = did {
-            if asked.call == call {
-                return true;
-            }
+        if is_of_call(did, epoch, call) {
+            return true;
         }
         rest = before;
     }
     false
 }
 
-// Whether what was got before something was asked for had ended before that was admitted. Of all that was got it is enough
-// to know how many calls at most had been admitted when one of them ended.
-fn go_in_turn(closed: &Closed, kept: &[Did]) -> bool
-    requires { AreKnown closed.now kept.now }
-    ensures { IsTrue result ↔ GoInTurn closed.now kept.now }
+// Whether the entry asks for that call.
+fn is_of_call(did: &Did, epoch: u32, call: u32) -> bool
+    ensures { IsTrue result ↔ ((a : Asking) × (did.now ≡ Asked a) × (a.epoch ≡ epoch) × (a.call ≡ call)) }
 {
-    // The history is in turn: here a proof learns that.
-    closed.core().is_sound();
+    match did {
+        Did::Asked(asked) => asked.epoch == epoch && asked.call == call,
+        Did::Got(_) => false,
+    }
+}
+
+// Whether what was got before something was asked for had ended before that was admitted. Of all that was got it is enough
+// to know how far the calls at most had begun when one of them ended.
+fn go_in_turn(chain: &[Closed], kept: &[Did]) -> bool
+    requires chain { IsChain chain.now }
+    requires known { AreKnown chain.now kept.now }
+    ensures { IsTrue result ↔ GoInTurn chain.now kept.now }
+{
     let mut begun = 0;
     for did in kept {
-        let Some(now_begun) = begun_after(closed, did, begun) else {
+        let Some(now_begun) = begun_after(chain, did, begun) else {
             return false;
         };
         begun = now_begun;
@@ -144,15 +180,36 @@ fn go_in_turn(closed: &Closed, kept: &[Did]) -> bool
     true
 }
 
-// How many calls had been admitted at most when one of those got ended, one entry later. None where that entry asks for a
-// call that had been admitted by then.
-fn begun_after(closed: &Closed, did: &Did, begun: u32) -> Option<u32>
-    requires { IsKnownEntry closed.now did.now }
-    ensures { result ≡ begun_after closed.now did.now begun }
+// How far the calls at most had begun when one of those got ended, one entry later. None where that entry asks for a call that
+// had been admitted by then.
+fn begun_after(chain: &[Closed], did: &Did, begun: u32) -> Option<u32>
+    requires few { length chain.now ≤ MAX_EPOCHS }
+    requires known { IsKnownEntry chain.now did.now }
+    ensures { result ≡ begun_after chain.now did.now begun }
 {
     match did {
-        Did::Got(receipt) => Some(begun.max(closed.begun_by_end(receipt.call))),
-        Did::Asked(asked) if asked.call < begun => None,
-        Did::Asked(_) => Some(begun),
+        Did::Got(receipt) => {
+            let closed = &chain[receipt.epoch as usize];
+            // At most so many calls had begun: here a proof learns that.
+            let _calls = closed.core().calls();
+            Some(begun.max(mark(receipt.epoch, closed.begun_by_end(receipt.call))))
+        }
+        Did::Asked(asked) => {
+            let _calls = chain[asked.epoch as usize].core().calls();
+            if mark(asked.epoch, asked.call) < begun {
+                None
+            } else {
+                Some(begun)
+            }
+        }
     }
+}
+
+// One number of an epoch and of a number of calls in it, which rises with the epoch and then with the calls.
+fn mark(epoch: u32, count: u32) -> u32
+    requires epoch { epoch < MAX_EPOCHS }
+    requires count { count ≤ MAX_CALLS }
+    ensures { result ≡ mark epoch count }
+{
+    epoch * (MAX_CALLS as u32 + 1) + count
 }

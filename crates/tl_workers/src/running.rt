@@ -33,17 +33,17 @@ impl Engine {
         ensures err { OnErr result (Gains session.old session.new []) }
     {
         session.reserve(2)?;
-        let admitted = self
-            .table
-            .lock(rt)
-            .admit(alloc, session.number(), name, args);
+        let mut table = self.table.lock(rt);
+        let epoch = table.epoch();
+        let admitted = table.admit(alloc, session.number(), name, args);
+        drop(table);
         let call = match admitted {
             Ok(call) => call,
             Err(fault) => return Err(Refusal::Table(fault)),
         };
         self.run(rt, call, gate);
         // A call that was admitted is known, and has ended.
-        let Some(told) = self.receipt(rt, call) else {
+        let Some(told) = self.receipt(rt, epoch, call) else {
             return Err(Refusal::Table(TableFault::Core(CoreFault::NoCall)));
         };
         // What comes out of the lock says nothing of what was handed in. Where the engine ran something else, the session's
@@ -52,7 +52,7 @@ impl Engine {
             args: values_of(args),
             ..told
         };
-        session.record(Asking::new(call, name, args), receipt.copy());
+        session.record(Asking::new(epoch, call, name, args), receipt.copy());
         Ok(receipt)
     }
 
@@ -107,10 +107,10 @@ impl Engine {
     }
 
     // The receipt of a call that has ended.
-    fn receipt(&self, rt: &impl Wait, call: u32) -> Option<Receipt>
-        ensures { IfSome result (λ r. r.call ≡ call) }
+    fn receipt(&self, rt: &impl Wait, epoch: u32, call: u32) -> Option<Receipt>
+        ensures { IfSome result (λ r. (r.epoch ≡ epoch) × (r.call ≡ call)) }
     {
-        self.table.lock(rt).receipt(call).ok()?
+        self.table.lock(rt).receipt(epoch, call).ok()?
     }
 
     // Submits what the call did by itself. Where it is blocked, this waits until its node is free.

@@ -1,8 +1,15 @@
-use Rattle.std.proofs.Common.{refl, ap, inl}
-use Rattle.tl_commands.specs.declared.fault.CliFault.TheVariants.{Trail}
-use Rattle.tl_commands.specs.Faults.{status_of}
+use Rattle.std.proofs.Common.{rules, ◌≡◌, false, IsUtf8, subst}
+use Rattle.std.proofs.lemmas.Result.{IfErr-weaker}
+use Rattle.tl_commands.specs.Audit.{begins_with_list, IsFirstTrailAuditFault, IsFirstAuditFault}
+use Rattle.tl_commands.proofs.AuditLemmas.{of_trail}
 use Rattle.tl_commands.proofs.auditing.audit_cmd.Goals as goal
 
-pub returns-in-Err-clause-fault : goal.returns-in-Err-clause-fault
-returns-in-Err-clause-fault g c =
-    λ known. inl (c.in-Err.fault, refl, c.in-Err.ensures.fault (λ e. known (ap (λ f. status_of (Trail f)) e)))
+pub returns-else-begins_with_list-clause-fault : goal.returns-else-begins_with_list-clause-fault
+returns-else-begins_with_list-clause-fault g c =
+    let file = c.args.file.now in
+    let text = c.in-Ok.text.now in
+    let same : text ≡ file = search rules in
+    let utf8 : IsUtf8 file = search rules in
+    let other : begins_with_list file ≡ false = search rules in
+    IfErr-weaker c.audit_trail_text.result (λ e. IsFirstTrailAuditFault text e) (λ e. IsFirstAuditFault file e)
+    (λ e wrong. of_trail file e utf8 other (subst (λ b. IsFirstTrailAuditFault b e) same wrong)) c.audit_trail_text.ensures.fault

@@ -1,4 +1,5 @@
 use Rattle.std.proofs.Common.{◌≡◌, ◌++◌, ◌∷◌, [], ap, ◌∙◌, string_bytes}
+use Rattle.std.proofs.lemmas.Result.{IfOk-weaker}
 use Rattle.serde_json.specs.Written.{compact_text, has_float}
 use Rattle.tl_forms.specs.Lists.{order_data}
 use Rattle.tl_commands.proofs.LineLemmas.{order_whole}
@@ -8,6 +9,6 @@ pub returns : goal.returns
 returns c =
     let order = c.args.order.now.calls in
     let is = c.in_ok-order.ensures ∙ ap order_data c.calls.ensures.same in
-    let text : string_bytes c.in_ok-line.line ≡ compact_text (order_data order) =
-    c.in_ok-line.ensures.text (ap has_float is ∙ order_whole order) ∙ ap compact_text is in
-    c.in_ok-push_str.ensures.bytes ∙ ap (λ s. s ++ 10 ∷ []) text
+    IfOk-weaker c.line_of.result _ (λ s. string_bytes s ≡ compact_text (order_data order) ++ 10 ∷ [])
+    (λ s told. told (ap has_float is ∙ order_whole order) ∙ ap (λ d. compact_text d ++ 10 ∷ []) is)
+    c.line_of.ensures

@@ -1,32 +1,28 @@
-use Rattle.std.proofs.Common.{◌≡◌, ℕ, List, ap, ◌∙◌, subst, string_bytes}
+use Rattle.std.proofs.Common.{◌≡◌, ◌-◌, length, map, Some, refl, sym, ap, ◌∙◌, string_bytes}
+use Rattle.std.specs.Prelude.{slice_get}
 use Rattle.std.proofs.lemmas.Result.{IfOk-weaker}
-use Rattle.tl_protocol.specs.World.{Legal}
-use Rattle.tl_core.specs.Cores.{CoreState, world_of}
-use Rattle.tl_forms.specs.Lists.{order_data}
-use Rattle.tl_commands.specs.Run.{IsOrder}
-use Rattle.tl_commands.specs.Scripted.{two_lines_text, tree_now}
-use Rattle.tl_commands.proofs.LineLemmas.{order_whole, two_lines_of}
+use Rattle.tl_table.specs.Chains.{calls_in}
+use Rattle.tl_core.specs.Cores.{CoreState}
+use Rattle.tl_commands.specs.Closing.{IsClosing, orders_form, tree_after}
+use Rattle.tl_commands.specs.Scripted.{tree_now}
+use Rattle.tl_commands.proofs.ClosingLemmas.{last_tree}
+use Rattle.tl_commands.proofs.LineLemmas.{form_whole, two_lines_of}
 use Rattle.tl_commands.proofs.closing.closing_lines.Goals as goal
 
 pub returns-clause-ok : goal.returns-clause-ok
 returns-clause-ok c =
-    let core = c.core-core.result.now in
-    let v = c.args.closed.now.core.seen in
-    let order = c.order.result.now.calls in
-    let same : core ≡ c.args.closed.now.core = c.core-core.ensures.same in
-    let is : IsOrder v order =
-    record {
-      legal = subst (λ (it : CoreState). Legal (world_of it.seen)) same c.is_sound.ensures.legal;
-      done = c.core-core.ensures.done;
-      same = c.order.ensures.order;
-      leaves = c.order.ensures.tree;
-      replies = c.order.ensures.replies;
-    } in
-    IfOk-weaker c.two_lines.result _ (λ s. (x : List ℕ) × IsOrder v x × (string_bytes s ≡ two_lines_text (order_data x) (tree_now v)))
-    (λ s told. (
-      order,
-      is,
-      two_lines_of _ (order_data order) _ (tree_now v) (string_bytes s) (c.in_ok-order.ensures ∙ ap order_data c.calls.ensures.same)
-          (c.tree.ensures ∙ ap (λ (it : CoreState). tree_now it.seen) same) (order_whole order) told,
-    ))
+    let es = c.args.chain.now in
+    let b = c.args.has_epochs in
+    let orders = map calls_in c.in-Ok.orders.items in
+    let value_is = c.in_ok-value.ensures ∙ ap (λ os. orders_form b (map calls_in os)) c.deref.ensures.value in
+    let last = c.in-Some.last.now in
+    let at : slice_get es (length es - 1) ≡ Some last = sym (rw c.in-Some.is at c.last.ensures.value) in
+    let same : c.core.result.now ≡ last.core = c.core.ensures.same in
+    let tree_is : c.tree.result.now ≡ tree_after es = c.tree.ensures ∙ ap (λ (it : CoreState). tree_now it.seen) same ∙ last_tree es (length es - 1) last refl at in
+    IfOk-weaker c.two_lines.result _ (λ s. IsClosing b es (string_bytes s))
+    (λ s told. record {
+      orders = orders;
+      ordered = record { chain = c.requires; same = c.in-Ok.ensures.orders; serial = c.in-Ok.ensures.serial };
+      same = two_lines_of _ (orders_form b orders) _ (tree_after es) (string_bytes s) value_is tree_is (form_whole b orders) told;
+    })
     c.two_lines.ensures.ok

@@ -1,20 +1,21 @@
-use Rattle.std.proofs.Common.{ap, ◌∙◌}
+use Rattle.std.proofs.Common.{◌≡◌, ◌+◌, ◌<◌, ◌∷◌, [], ◌++◌, length, get_or, take, codes, sym, ap, ap₂, ◌∙◌, string_bytes, arith}
 use Rattle.serde_json.specs.Written.{has_float, compact_text}
-use Rattle.tl_forms.specs.Lists.{order_data}
-use Rattle.tl_table.specs.Tables.{seen}
-use Rattle.tl_commands.specs.Run.{batch_data}
-use Rattle.tl_commands.specs.Scripted.{tree_now}
-use Rattle.tl_commands.proofs.LineLemmas.{batch_whole, lines_written}
+use Rattle.tl_commands.specs.Run.{answers_of, batch_data, batch_lines}
+use Rattle.tl_commands.proofs.LineLemmas.{batch_whole}
+use Rattle.tl_commands.proofs.RunLemmas.{answers_of_more, lines_more}
 use Rattle.tl_commands.proofs.running.lines.Goals as goal
 
-pub returns-clause-ok : goal.returns-clause-ok
-returns-clause-ok c =
-    let answers = c.args.ran.now.answers.items in
-    let closing = c.in_ok-closing.ensures.ok in
-    let batch_is = c.in_ok-batch_to_value.ensures ∙ ap batch_data c.deref.ensures.value in (
-      closing.0,
-      closing.1,
-      lines_written (batch_data answers) (order_data closing.0) (tree_now (seen c.args.ran.now.closed)) _ c.deref-2.result.now _
-          (c.in_ok-text.ensures.text (ap has_float batch_is ∙ batch_whole answers) ∙ ap compact_text batch_is) (c.deref-2.ensures ∙ closing.2)
-          c.in_ok-next_lines.ensures,
-    )
+pub loop-answers-preserved : goal.loop-answers-preserved
+loop-answers-preserved c =
+    let xs = c.args.ran.now.answers.items in
+    let i = c.loop-answers.answers-index in
+    let a = c.answers-item.result in
+    let before = answers_of (take i xs) in
+    let items : c.deref-answers-items.result.now ≡ xs = c.deref-answers-items.ensures.value in
+    let value_is = c.in_ok-batch_to_value.ensures ∙ ap batch_data c.deref-in-loop-answers.ensures.value in
+    let line : string_bytes c.in_ok-line.line ≡ compact_text (batch_data a.items) = c.in_ok-line.ensures.text (ap has_float value_is ∙ batch_whole a.items) ∙ ap compact_text value_is in
+    let first : string_bytes c.push_str.new.self ≡ batch_lines before ++ compact_text (batch_data a.items) =
+    c.in_ok-push_str.ensures.bytes ∙ ap₂ (λ x y. x ++ y) c.loop-answers.invariant (c.deref-in-loop-answers-2.ensures ∙ line) in
+    let inside : i < length xs = omega (arith, ap length items, c.loop-answers-test.true) in
+    let here : a ≡ get_or xs i a = c.answers-item.is ∙ ap (λ l. get_or l i a) items in
+    c.in_ok-push_str-2.ensures.bytes ∙ ap (λ l. l ++ codes "\n") first ∙ sym (lines_more before a.items) ∙ ap batch_lines (sym (answers_of_more xs i a inside here))

@@ -1,12 +1,16 @@
-use Rattle.std.proofs.Common.{refl, string_bytes}
+use Rattle.std.proofs.Common.{string_bytes, subst}
 use Rattle.std.proofs.lemmas.Result.{IfOk-weaker}
-use Rattle.tl_table.specs.Tables.{seen}
-use Rattle.tl_commands.specs.Run.{Runs}
+use Rattle.tl_commands.specs.Run.{Runs, PrintsRun, answers_of}
 use Rattle.tl_commands.proofs.running.run_cmd.Goals as goal
 
 pub returns-clause-printed : goal.returns-clause-printed
 returns-clause-printed g c =
     let ran = c.in_ok-ran.ran in
+    let answers = answers_of ran.answers.items in
+    let es = ran.chain.items in
     IfOk-weaker c.lines.result _ (λ s. Runs c.args.tree.now c.args.script.now (string_bytes s))
-    (λ s told. (seen ran.closed, record { answers = ran.answers.items; table = ran.closed; order = told.0; run = c.in_ok-ran.ensures.ok; core = refl; ordered = told.1; same = told.2 }))
+    (λ s told. (
+      es,
+      record { answers = answers; run = c.in_ok-ran.ensures.ok; printed = subst (λ b. PrintsRun b answers es (string_bytes s)) c.in_ok-ran.ensures.epochs told },
+    ))
     c.lines.ensures.ok

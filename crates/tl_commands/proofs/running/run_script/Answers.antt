@@ -1,5 +1,6 @@
-use Rattle.std.proofs.lemmas.Result.{IfOk-weaker}
-use Rattle.tl_commands.specs.Run.{IsRun}
+use Rattle.std.proofs.Common.{inr}
+use Rattle.std.proofs.lemmas.Result.{err_from_is_err_and}
+use Rattle.tl_commands.specs.Run.{IsFirstRunFault, batches_of}
 use Rattle.tl_commands.proofs.RunLemmas.{ready}
 use Rattle.tl_commands.proofs.running.run_script.Goals as goal
 
@@ -7,8 +8,17 @@ pub returns-clause-ok : goal.returns-clause-ok
 returns-clause-ok g c =
     let t = c.args.tree.now in
     let s = c.args.script.now in
-    let requests = c.deref-2.result.now in
-    let is = ready t s c.in-Ok.tree c.in_ok-script.script c.in_ok-core.core.seen c.deref.result.now requests c.in-Ok.ensures.ok c.in_ok-script.ensures.ok c.deref.ensures.value c.in_ok-core.ensures.taken c.deref-2.ensures.value in
-    IfOk-weaker c.run_batch.result _ (λ r. IsRun t s r.answers.items r.closed)
-    (λ r done. record { requests = requests; session = done.0; ready = is; answered = done.1; matches = done.2 })
-    c.run_batch.ensures.ok
+    let batches = c.deref-2.result.now in
+    let is = ready t s c.in-Ok.tree c.in_ok-asked.asked.script c.in_ok-core.core.seen c.deref.result.now batches c.in-Ok.ensures.ok c.in_ok-asked.ensures.ok c.deref.ensures.value c.in_ok-core.ensures.taken c.deref-2.ensures.value in
+    let done = c.in_ok-answers.ensures.ok in
+    record { batches = batches_of batches; session = done.0; ready = is; answered = done.1; chain = c.in_ok-answers.ensures.chain; matches = done.2 }
+
+pub returns-in_err-answers-clause-fault : goal.returns-in_err-answers-clause-fault
+returns-in_err-answers-clause-fault g c =
+    let t = c.args.tree.now in
+    let s = c.args.script.now in
+    let batches = c.deref-2.result.now in
+    let is = ready t s c.in-Ok.tree c.in_ok-asked.asked.script c.in_ok-core.core.seen c.deref.result.now batches c.in-Ok.ensures.ok c.in_ok-asked.ensures.ok c.deref.ensures.value c.in_ok-core.ensures.taken c.deref-2.ensures.value in
+    let p = err_from_is_err_and c.from_residual-in_err-answers.result c.from_residual-in_err-answers.ensures.1 in
+    let wrong : IsFirstRunFault t s c.in_err-answers.field-0.0 = λ known. inr (batches_of batches, is, c.in_err-answers.ensures.fault known) in
+    rw (p.1, p.2) wrong

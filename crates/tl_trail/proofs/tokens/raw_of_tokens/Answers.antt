@@ -5,9 +5,10 @@ use Rattle.json.specs.Reads.{token_of}
 use Rattle.serde_json.specs.Data.{object}
 use Rattle.serde_json.specs.Read.{of_json, converted, read}
 use Rattle.tl_trail.specs.Raw.{IsHalfRead}
-use Rattle.tl_trail.specs.Reading.{parts_of, form_of_parts}
+use Rattle.tl_trail.specs.Reading.{form_of_data}
 use Rattle.tl_trail.specs.TrailTokens.{AreOfTrail}
 use Rattle.tl_trail.proofs.TokenLemmas.{if_none, object_begins, whole}
+use Rattle.tl_trail.proofs.TrailTokenLemmas.{text_members}
 use Rattle.tl_trail.proofs.tokens.raw_of_tokens.Goals as goal
 
 pub returns : goal.returns
@@ -19,6 +20,6 @@ returns c =
     let all = sym c.in_ok-reader.ensures.ok ∙ first in
     let got : AreOfTrail s c.in-Some.found.0 c.in-Some.found.1 rest = rw c.in-Some.is at c.in_ok-found.ensures in
     let over : rest ≡ [] = (if_none _ c.next-2.result c.if-is_some.ensures c.next-2.ensures.value).0 in
-    let is_value = ap (λ ts. converted of_json (value 127 ts)) all ∙ object_begins 127 s (omega arith) ∙ ap (parse_map object) got.are_members ∙ ap (λ r. Some (object got.found, r)) over in
+    let is_value = ap (λ ts. converted of_json (value 127 ts)) all ∙ object_begins 127 s (omega arith) ∙ ap (parse_map object) (text_members s rest got.found got.are_members) ∙ ap (λ r. Some (object got.found, r)) over in
     let is : read text ≡ Some (object got.found) = whole (value 127 (tokens text)) (object got.found) is_value in
-    subst (λ o. IsHalfRead (option_and_then (λ d. option_and_then form_of_parts (parts_of d)) o) c.in-Some.found.0 c.in-Some.found.1) (sym is) got.half_read
+    subst (λ o. IsHalfRead (option_and_then form_of_data o) c.in-Some.found.0 c.in-Some.found.1) (sym is) got.half_read

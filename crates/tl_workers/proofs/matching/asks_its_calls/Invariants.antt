@@ -1,7 +1,6 @@
 use Rattle.std.proofs.Common.{◌≡◌, ◌↔◌, drop}
-use Rattle.tl_table.specs.Tables.{seen}
-use Rattle.tl_workers.specs.Matching.{asked_in, calls_from, calls_of}
+use Rattle.tl_workers.specs.Matching.{asked_in, all_calls_of}
 use Rattle.tl_workers.proofs.matching.asks_its_calls.Given as goal
 
-abbrev pub invariant-loop-i : goal.invariant-loop-i
-invariant-loop-i l = (asked_in l.fn.all ≡ calls_of l.closed l.session) ↔ (asked_in l.kept ≡ calls_from (seen l.closed) l.i (drop l.i l.closed.owners) l.session)
+abbrev pub invariant-loop-closed : goal.invariant-loop-closed
+invariant-loop-closed l = (asked_in l.fn.all ≡ all_calls_of l.chain l.session) ↔ (asked_in l.kept ≡ all_calls_of (drop l.closed-index l.chain) l.session)

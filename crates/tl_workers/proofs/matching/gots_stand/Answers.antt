@@ -8,7 +8,7 @@ pub returns-then-not-is_backed : goal.returns-then-not-is_backed
 unfolding GotsStand
 returns-then-not-is_backed c =
     let did = c.index-kept-i.result in
-    let P : List Did → Type 0 = λ before. IsBacked c.args.closed.now did before in
+    let P : List Did → Type 0 = λ before. IsBacked c.args.chain.now did before in
     let at = slice_get_read c.args.kept.now _ c.loop-i.i did refl c.loop-i-test.true c.index-kept-i.is in (
       (λ t. absurd (let e : ⊥ = cc in e)),
       (λ g. absurd (let t = c.is_backed.ensures.1 (subst P (sym c.split_at.ensures.front) (g c.loop-i.i did at)) in let e : ⊥ = cc in e)),

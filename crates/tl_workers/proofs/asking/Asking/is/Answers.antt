@@ -13,4 +13,4 @@ pub returns : goal.returns
 returns c =
     let test = not_false _ (sym c.ne.ensures ∙ c.if-ne.false) in
     let names = (slice_eq-Decides Decides-eqb c.as_str.result.now c.args.name.now _ refl).0 test in
-    same_but_args c.args.self.now c.args.call c.args.name.now c.args.args.now c.as_slice.result.now c.eq.result c.if-self-call.false (sym c.as_str.ensures.same ∙ names) c.as_slice.ensures.value c.eq.ensures
+    same_but_args c.args.self.now c.args.epoch c.args.call c.args.name.now c.args.args.now c.as_slice.result.now c.eq.result c.if-self-epoch.false c.if-self-call.false (sym c.as_str.ensures.same ∙ names) c.as_slice.ensures.value c.eq.ensures

@@ -1,0 +1,95 @@
+-- A chain of trails, one an epoch: what is wrong with it first, and what an auditor's answer says of it.
+use Rattle.std.specs.Prelude.{◌≡◌, ◌⊎◌, ℕ, zero, suc, ◌+◌, ◌<◌, List, [], ◌∷◌, ◌++◌, length, map, Option, Some, None, slice_get}
+use Rattle.tl_tree.specs.Records.{Records}
+use Rattle.tl_protocol.specs.Epochs.{run_each, joined, joined_replies}
+use Rattle.tl_protocol.specs.Order.{placed}
+use Rattle.tl_protocol.specs.World.{reply_of}
+use Rattle.tl_procedures.specs.Names.{Named}
+use Rattle.tl_order.specs.Order.{OrderValue}
+use Rattle.tl_trail.specs.Trails.{TrailValue, IsTrail, call_at, world_of}
+use Rattle.tl_trail.specs.Clean.{Clean}
+use Rattle.tl_audit.specs.Findings.{IsFirstFault}
+use Rattle.tl_audit.specs.declared.fault.AuditFault.{AuditFault}
+use Rattle.tl_audit.specs.declared.chain.ChainFault.{ChainFault}
+use Rattle.tl_audit.specs.declared.chain.ChainFault.TheVariants.{Broken, InEpoch}
+
+-- the second list begins with the first
+abbrev pub BeginsWith : List Named → List Named → Type 0
+BeginsWith xs ys = (more : List Named) × (ys ≡ xs ++ more)
+
+-- the second trail opens with the tree that the first ends with, and its procedures begin with those of the first
+pub record TakesOver (t u : TrailValue) : Type 0 where
+  pub parents : u.parents ≡ t.parents
+  pub opening : u.opening ≡ t.ends
+  pub procedures : BeginsWith t.procedures u.procedures
+
+-- the same after the trail before, if there is one
+abbrev pub TakesOverFrom : Option TrailValue → TrailValue → Type 0
+TakesOverFrom None u = Unit {0}
+TakesOverFrom (Some t) u = TakesOver t u
+
+-- each trail takes over from the one before it, and is clean
+abbrev pub CleanAfter : Option TrailValue → List TrailValue → Type 0
+CleanAfter before [] = Unit {0}
+CleanAfter before (t ∷ ts) = TakesOverFrom before t × Clean t × CleanAfter (Some t) ts
+
+abbrev pub IsCleanChain : List TrailValue → Type 0
+IsCleanChain ts = CleanAfter None ts
+
+-- What is wrong first, where these trails have the numbers from n on: a trail doesn't take over, or else this is wrong with it
+-- first.
+abbrev pub IsFirstAfter : ℕ → Option TrailValue → List TrailValue → ChainFault → Type 0
+IsFirstAfter n before [] f = ⊥
+IsFirstAfter n before (t ∷ ts) f =
+    ((f ≡ Broken n) × ¬ TakesOverFrom before t)
+    ⊎ (TakesOverFrom before t
+    × (((g : AuditFault) × (f ≡ InEpoch n g) × IsFirstFault t g) ⊎ (Clean t × IsFirstAfter (n + 1) (Some t) ts f)))
+
+abbrev pub IsFirstChainFault : List TrailValue → ChainFault → Type 0
+IsFirstChainFault ts f = IsFirstAfter 0 None ts f
+
+-- ---- what follows
+
+-- the order that a trail's events give
+abbrev pub order_of : TrailValue → List ℕ
+order_of t = placed t.parents t.past
+
+abbrev pub opening_of : List TrailValue → Records
+opening_of [] = []
+opening_of (t ∷ ts) = t.opening
+
+-- the records in the end of the last trail
+abbrev pub ends_of : List TrailValue → Records
+ends_of [] = []
+ends_of (t ∷ []) = t.ends
+ends_of (t ∷ u ∷ ts) = ends_of (u ∷ ts)
+
+-- each call has the reply that it gives in that order
+abbrev pub TellTheReplies : List TrailValue → Type 0
+TellTheReplies [] = Unit {0}
+TellTheReplies (t ∷ ts) = ((c : ℕ) → c < length t.calls → (call_at t c).reply ≡ Some (reply_of (world_of t) c)) × TellTheReplies ts
+
+abbrev pub AreTrails : List TrailValue → Type 0
+AreTrails [] = Unit {0}
+AreTrails (t ∷ ts) = IsTrail t × AreTrails ts
+
+-- all calls run alone along these orders joined, from the first opening tree, leave the last records in the end and give their
+-- replies
+pub record AreSerial (ts : List TrailValue) (orders : List (List ℕ)) : Type 0 where
+  pub tree : (run_each (joined (map world_of ts) orders) (opening_of ts)).tree ≡ ends_of ts
+  pub replies : (run_each (joined (map world_of ts) orders) (opening_of ts)).replies ≡ joined_replies (map world_of ts) orders
+  pub told : TellTheReplies ts
+
+-- the trail before that number, if there is one
+abbrev pub before_at : List TrailValue → ℕ → Option TrailValue
+before_at ts zero = None
+before_at ts (suc n) = slice_get ts n
+
+-- why the trail of that number ends the audit of a chain whose trails before it are clean
+abbrev pub IsFaultAt : ℕ → Option TrailValue → TrailValue → ChainFault → Type 0
+IsFaultAt n before t f =
+    ((f ≡ Broken n) × ¬ TakesOverFrom before t)
+    ⊎ (TakesOverFrom before t × ((g : AuditFault) × (f ≡ InEpoch n g) × IsFirstFault t g))
+
+abbrev pub calls_in : OrderValue → List ℕ
+calls_in o = o.calls

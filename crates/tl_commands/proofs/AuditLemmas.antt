@@ -1,0 +1,60 @@
+-- Which texts begin with a list.
+use Rattle.std.proofs.Common.{◌≡◌, ◌+◌, ◌<◌, ◌≤◌, ◌==◌, ◌||◌, ◌&&◌, ℕ, nat_le, zero, suc, List, [], ◌∷◌, length, get_or, drop, true, false, if◌then◌else◌, Some, IsUtf8, inr, refl, sym, ap, ◌∙◌, subst, arith}
+use Rattle.std.proofs.lemmas.Bool.{leb-true, and_parts}
+use Rattle.std.proofs.lemmas.List.{drop_more}
+use Rattle.std.proofs.lemmas.Option.{cond_some, option_and_then_some}
+use Rattle.serde_json.specs.Data.{Data}
+use Rattle.serde_json.specs.Read.{read}
+use Rattle.tl_forms.specs.Lists.{list_of}
+use Rattle.tl_trail.specs.Trails.{TrailValue}
+use Rattle.tl_trail.specs.Chains.{AreEach, IsChainText, if_chain, chain_of}
+use Rattle.tl_trail.proofs.ChainTokenLemmas.{as_many}
+use Rattle.tl_commands.specs.declared.fault.CliFault.{CliFault}
+use Rattle.tl_commands.specs.Audit.{begins_with_list, AuditsTrail, AuditsChain, AuditsText, Audits, IsFirstTextFault, IsFirstTrailAuditFault, IsFirstChainAuditFault, IsFirstAuditFault}
+
+module _ (bs : List ℕ) (i b : ℕ) (inside : i < length bs) (is : get_or bs i b ≡ b) where
+  here : begins_with_list (drop i bs) ≡ (if (b == 32) || (b == 9) || (b == 10) || (b == 13) then begins_with_list (drop (i + 1) bs) else b == 91)
+  here = ap begins_with_list (drop_more bs i b inside ∙ ap (λ x. x ∷ drop (i + 1) bs) is)
+
+  pub space_passed : ((b == 32) || (b == 9) || (b == 10) || (b == 13)) ≡ true → begins_with_list (drop (i + 1) bs) ≡ begins_with_list (drop i bs)
+  space_passed space = sym (here ∙ ap (λ t. if t then begins_with_list (drop (i + 1) bs) else b == 91) space)
+
+  pub other_first : ((b == 32) || (b == 9) || (b == 10) || (b == 13)) ≡ false → (b == 91) ≡ begins_with_list (drop i bs)
+  other_first other = sym (here ∙ ap (λ t. if t then begins_with_list (drop (i + 1) bs) else b == 91) other)
+
+pub none_left : (bs : List ℕ) (i : ℕ) → length bs ≤ i → false ≡ begins_with_list (drop i bs)
+none_left [] zero le = refl
+none_left [] (suc i) le = refl
+none_left (b ∷ bs) zero le = absurd (omega (arith, le))
+none_left (b ∷ bs) (suc i) le = none_left bs i (omega (arith, le))
+
+-- ---- a chain has 1 to 256 trails
+
+so_many : (ds items : List Data) (ts : List TrailValue) → AreEach items ts → if_chain ds ≡ Some items → (0 < length ts) × (length ts ≤ 256)
+so_many ds items ts each is =
+    let h = cond_some (nat_le 1 (length ds) && nat_le (length ds) 256) ds items is in
+    let b = and_parts (nat_le 1 (length ds)) (nat_le (length ds) 256) h.0 in
+    let some = leb-true 1 (length ds) b.0 in
+    let few = leb-true (length ds) 256 b.1 in
+    let same = ap length h.1 in
+    let many = as_many items ts each in
+    (omega (arith, some, same, many), omega (arith, few, same, many))
+
+pub chain_count : (text : List ℕ) (ts : List TrailValue) → IsChainText text ts → (0 < length ts) × (length ts ≤ 256)
+chain_count text ts h =
+    option_and_then_some chain_of (read text) h.items h.items_are
+    (λ d found listed. option_and_then_some if_chain (list_of d) h.items listed (λ ds seen few. so_many ds h.items ts h.each few))
+
+-- ---- the fault of a file
+
+pub of_chain : (bytes : List ℕ) (e : CliFault) → IsUtf8 bytes → begins_with_list bytes ≡ true → IsFirstChainAuditFault bytes e → IsFirstAuditFault bytes e
+of_chain bytes e utf8 list wrong = inr (utf8, subst (λ b. IsFirstTextFault b bytes e) (sym list) wrong)
+
+pub of_trail : (bytes : List ℕ) (e : CliFault) → IsUtf8 bytes → begins_with_list bytes ≡ false → IsFirstTrailAuditFault bytes e → IsFirstAuditFault bytes e
+of_trail bytes e utf8 other wrong = inr (utf8, subst (λ b. IsFirstTextFault b bytes e) (sym other) wrong)
+
+pub prints_chain : (bytes out : List ℕ) → IsUtf8 bytes → begins_with_list bytes ≡ true → AuditsChain bytes out → Audits bytes out
+prints_chain bytes out utf8 list done = record { utf8 = utf8; answer = subst (λ b. AuditsText b bytes out) (sym list) done }
+
+pub prints_trail : (bytes out : List ℕ) → IsUtf8 bytes → begins_with_list bytes ≡ false → AuditsTrail bytes out → Audits bytes out
+prints_trail bytes out utf8 other done = record { utf8 = utf8; answer = subst (λ b. AuditsText b bytes out) (sym other) done }

@@ -1,0 +1,65 @@
+-- What a sink has after pieces that were put there one after another.
+use Rattle.std.proofs.Common.{◌≡◌, ◌≢◌, ◌⊎◌, inl, inr, ◌+◌, ◌<◌, ℕ, zero, suc, nat_lt, List, [], ◌∷◌, ◌++◌, length, get_or, take, map, codes, false, true, Option, Some, None, if◌then◌else◌, refl, sym, ap, ◌∙◌, subst, arith, append_assoc, append-nil}
+use Rattle.std.proofs.lemmas.Bool.{lt-ltb, ne_eqb}
+use Rattle.std.specs.List.{join_with_byte}
+use Rattle.serde_json.specs.Data.{Data}
+use Rattle.serde_json.specs.Written.{comma_if, compact_text}
+use Rattle.serde_json.proofs.OnLiterals.{serde_json_on_literals}
+use Rattle.tl_tree.proofs.Texts.{list_written, map-map}
+use Rattle.tl_forms.proofs.Texts.{joined, joined_more, list_whole}
+use Rattle.tl_table.specs.Epochs.{EpochValue}
+use Rattle.tl_trail.specs.Chains.{chain_text}
+use Rattle.tl_trail.specs.Writing.{trail_data, trail_text}
+use Rattle.tl_commands.specs.declared.fault.CliFault.{CliFault}
+use Rattle.tl_commands.specs.declared.fault.CliFault.TheVariants.{Unwritable}
+use Rattle.tl_commands.specs.Faults.{status_of}
+use Rattle.tl_commands.specs.Sinks.{Adds, IsSinkFault, comma_before, epoch_trail, trails_text, trails_file}
+
+pub added_then : (old now new : Option (List ℕ)) (xs ys : List ℕ) → Adds old xs now → Adds now ys new → Adds old (xs ++ ys) new
+added_then None now new xs ys h k = tt
+added_then (Some old) now new xs ys h k =
+    let e : new ≡ Some ((old ++ xs) ++ ys) = subst (λ o. Adds o ys new) h k in
+    e ∙ ap Some (append_assoc old xs ys)
+
+pub added_nothing : (o : Option (List ℕ)) → Adds o [] o
+added_nothing None = tt
+added_nothing (Some old) = ap Some (sym (append-nil old))
+
+pub sink_fault : (e : CliFault) → IsSinkFault e → (status_of e ≡ 4) ⊎ (e ≡ Unwritable)
+sink_fault e (inl is) = inr is
+sink_fault e (inr is) = inl (ap status_of is)
+
+-- ---- a list of trails
+
+abbrev pub epoch_data : EpochValue → Data
+epoch_data e = trail_data (epoch_trail e)
+
+comma_same : (i : ℕ) → comma_before i ≡ comma_if (nat_lt 0 i)
+unfolding serde_json_on_literals
+comma_same zero = refl
+comma_same (suc i) = rw (ne_eqb (suc i) 0 (λ e. absurd (omega (arith, e))), lt-ltb 0 (suc i) (omega arith)) refl
+
+-- the list so far, with its bracket
+abbrev pub list_begun : List EpochValue → List ℕ
+list_begun es = 91 ∷ joined false (map epoch_data es)
+
+pub one_more : (es : List EpochValue) (i : ℕ) (d : EpochValue) → i < length es → (list_begun (take i es) ++ comma_before i) ++ trail_text (epoch_trail (get_or es i d)) ≡ list_begun (take (i + 1) es)
+one_more es i d inside =
+    ap (λ l. (list_begun (take i es) ++ l) ++ trail_text (epoch_trail (get_or es i d))) (comma_same i) ∙ joined_more epoch_data [] es i d inside
+
+pub list_ended : (es : List EpochValue) → list_begun es ++ codes "]" ≡ chain_text (map epoch_trail es)
+list_ended es =
+    list_whole [] (map epoch_data es) ∙ list_written epoch_data (λ e. trail_text (epoch_trail e)) (λ e. refl) es
+    ∙ ap (λ l. codes "[" ++ join_with_byte 44 l ++ codes "]") (sym (map-map trail_text epoch_trail es))
+
+-- ---- the file
+
+pub file_of_one : (es : List EpochValue) (e : EpochValue) → length es ≡ 1 → get_or es 0 e ≡ e → trails_text es ≡ trail_text (epoch_trail e)
+file_of_one [] e one first = absurd (omega (arith, one))
+file_of_one (x ∷ []) e one first = ap (λ y. trail_text (epoch_trail y)) first
+file_of_one (x ∷ y ∷ es) e one first = absurd (omega (arith, one))
+
+pub file_of_list : (es : List EpochValue) → length es ≢ 1 → trails_text es ≡ chain_text (map epoch_trail es)
+file_of_list [] other = refl
+file_of_list (x ∷ []) other = absurd (other refl)
+file_of_list (x ∷ y ∷ es) other = refl

@@ -1,0 +1,33 @@
+-- What is printed of calls that are all done.
+use Rattle.std.specs.Prelude.{◌≡◌, ℕ, Bool, true, false, List, [], ◌∷◌, map}
+use Rattle.serde_json.specs.Data.{Data}
+use Rattle.tl_tree.specs.Trees.{TreeValue}
+use Rattle.tl_forms.specs.Lists.{order_data, orders_data}
+use Rattle.tl_table.specs.Epochs.{EpochValue, seen}
+use Rattle.tl_table.specs.Tables.{IsChain}
+use Rattle.tl_table.specs.Chains.{epoch_order, IsSerial}
+use Rattle.tl_commands.specs.Scripted.{tree_now, two_lines_text}
+
+-- The epochs follow on one another, and are at rest. All their calls, run alone one after another along these orders joined, leave the
+-- records that there are in the end, and give the replies that they gave.
+pub record AreOrders (es : List EpochValue) (orders : List (List ℕ)) : Type 0 where
+  pub chain : IsChain es
+  pub same : orders ≡ map epoch_order es
+  pub serial : IsSerial es orders
+
+-- the orders of all epochs, or the order of the first
+abbrev pub orders_form : Bool → List (List ℕ) → Data
+orders_form false (order ∷ orders) = order_data order
+orders_form has_epochs orders = orders_data orders
+
+-- the tree in the end
+abbrev pub tree_after : List EpochValue → TreeValue
+tree_after [] = record { parents = []; records = [] }
+tree_after (e ∷ []) = tree_now (seen e)
+tree_after (e ∷ f ∷ es) = tree_after (f ∷ es)
+
+-- two lines: the orders, and the tree in the end
+pub record IsClosing (has_epochs : Bool) (es : List EpochValue) (out : List ℕ) : Type 0 where
+  pub orders : List (List ℕ)
+  pub ordered : AreOrders es orders
+  pub same : out ≡ two_lines_text (orders_form has_epochs orders) (tree_after es)

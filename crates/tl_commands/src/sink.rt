@@ -1,0 +1,30 @@
+// Where the text of trails goes.
+
+ghost use Rattle.std.specs.Prelude.{◌≡◌, List, ℕ, Option, IfErr, OnOk};
+ghost use Rattle.tl_commands.specs.Sinks.{Adds, IsSinkFault};
+
+use crate::fault::CliFault;
+
+/// Takes the text of trails, piece by piece, so that the text of only one trail has to be in memory.
+pub trait TrailSink {
+    // What it has, where that is known.
+    ghost text: { Self → Option (List ℕ) };
+
+    /// Puts the piece last. 32 where it can't be written, 990 where memory is refused.
+    fn put(&mut self, piece: &str) -> Result<(), CliFault>
+        ensures put { OnOk result (Adds (text self.old) piece.now (text self.new)) }
+        ensures fault { IfErr result (λ e. IsSinkFault e) };
+}
+
+impl TrailSink for String {
+    ghost use Rattle.std.specs.Prelude.{Some, string_bytes};
+
+    ghost text = { λ s. Some (string_bytes s) };
+
+    fn put(&mut self, piece: &str) -> Result<(), CliFault> {
+        match self.push_str(piece) {
+            Ok(()) => Ok(()),
+            Err(_) => Err(CliFault::Memory),
+        }
+    }
+}

@@ -1,0 +1,81 @@
+-- What callers see of one epoch of a table, and which receipts stand.
+use Rattle.std.specs.Prelude.{◌≡◌, ℕ, ◌+◌, ◌<◌, true, List, [], ◌∷◌, ◌++◌, length, get_or, Option, Some, option_map, if◌then◌else◌, nat_lt, ℤ}
+use Rattle.tl_protocol.specs.History.{is_done, AllDone}
+use Rattle.tl_protocol.specs.World.{reply_of}
+use Rattle.tl_procedures.specs.Names.{Named}
+use Rattle.tl_core.specs.Cores.{CoreState, CoreValue, IsSealFault, opened_after, kept_turn, call_of, world_of}
+use Rattle.tl_core.specs.Entries.{admission_refusal, after_admission}
+use Rattle.tl_table.specs.declared.fault.TableFault.{TableFault}
+use Rattle.tl_table.specs.declared.fault.TableFault.TheVariants as fault
+use Rattle.tl_table.specs.declared.receipt.Receipt.{Receipt}
+
+-- its number, its core, how many sessions the table had given by then, and of each call its session
+pub record EpochValue : Type 0 where
+  pub number : ℕ
+  pub core : CoreState
+  pub sessions : ℕ
+  pub owners : List ℕ
+
+-- the core as its callers see it
+abbrev pub seen : EpochValue → CoreValue
+seen t = t.core.seen
+
+abbrev pub owner_of : EpochValue → ℕ → ℕ
+owner_of t c = get_or t.owners c 0
+
+-- a call of that number was admitted
+abbrev pub IsKnown : EpochValue → ℕ → Type 0
+IsKnown t c = c < length (seen t).calls
+
+-- each call has a session that was given
+pub record AreOwned (t : EpochValue) : Type 0 where
+  pub each : length t.owners ≡ length (seen t).calls
+  pub given : (c : ℕ) → IsKnown t c → owner_of t c < t.sessions
+
+-- the receipt is of this epoch; its call is done, and has its session, procedure, arguments and reply
+pub record Stands (t : EpochValue) (r : Receipt) : Type 0 where
+  pub epoch : r.epoch ≡ t.number
+  pub known : IsKnown t r.call
+  pub done : is_done r.call (seen t).past ≡ true
+  pub session : r.session ≡ owner_of t r.call
+  pub procedure : r.procedure ≡ (call_of (seen t) r.call).procedure
+  pub args : r.args.items ≡ (call_of (seen t) r.call).args
+  pub reply : r.reply.items ≡ reply_of (world_of (seen t)) r.call
+
+-- every call is done
+abbrev pub IsAtRest : EpochValue → Type 0
+IsAtRest t = AllDone (seen t).past
+
+-- why a call isn't admitted: its session wasn't given, or the core refuses
+abbrev pub table_refusal : EpochValue → ℕ → List ℕ → List ℤ → Option TableFault
+table_refusal t session name args =
+    if nat_lt session t.sessions then option_map fault.Core (admission_refusal (seen t) name args) else Some fault.NoSession
+
+-- the second table has a call of that session more
+pub record IsAdmittedTo (t : EpochValue) (session : ℕ) (name : List ℕ) (args : List ℤ) (u : EpochValue) : Type 0 where
+  pub core : seen u ≡ after_admission (seen t) name args
+  pub turns : (c : ℕ) → IsKnown t c → kept_turn u.core c ≡ kept_turn t.core c
+  pub owners : u.owners ≡ t.owners ++ session ∷ []
+  pub sessions : u.sessions ≡ t.sessions
+  pub number : u.number ≡ t.number
+
+-- the second list begins with the first
+abbrev pub BeginsWith : List Named → List Named → Type 0
+BeginsWith xs ys = (more : List Named) × (ys ≡ xs ++ more)
+
+-- It is the same epoch some time later: it has the same opening tree, and maybe more procedures.
+pub record GoesOn (t u : EpochValue) : Type 0 where
+  pub number : u.number ≡ t.number
+  pub parents : (seen u).parents ≡ (seen t).parents
+  pub opening : (seen u).opening ≡ (seen t).opening
+  pub procedures : BeginsWith (seen t).procedures (seen u).procedures
+
+-- the epoch that takes over from one that is at rest
+abbrev pub epoch_after : EpochValue → EpochValue
+epoch_after t = record { number = t.number + 1; core = opened_after (seen t); sessions = t.sessions; owners = [] }
+
+-- why an epoch isn't sealed: a call isn't done; or memory was refused
+abbrev pub IsEpochSealFault : EpochValue → TableFault → Type 0
+IsEpochSealFault t (fault.Core f) = IsSealFault (seen t) f
+IsEpochSealFault t fault.Memory = IsAtRest t
+IsEpochSealFault t _ = ⊥

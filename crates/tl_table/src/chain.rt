@@ -1,0 +1,26 @@
+// The epochs of a closed table as one run.
+
+ghost use Rattle.std.specs.Prelude.{◌≡◌, map, IfOk, IfErr};
+ghost use Rattle.tl_table.specs.Tables.{IsChain};
+ghost use Rattle.tl_table.specs.Chains.{calls_in, epoch_order, AreReached, IsSerial};
+
+use crate::closed::Closed;
+use std::alloc::Global;
+use tl_order::{Order, SerialFault};
+
+/// The order of each epoch of a closed table, to which admissions, steps and seals led. All calls, run alone one after another along
+/// these orders joined, from the tree before any call, leave the records that there are now, and each gives the reply that it gave.
+/// 690 where memory is refused.
+pub fn conclude_all(alloc: Global, chain: &[Closed]) -> Result<Vec<Order>, SerialFault>
+    requires { IsChain chain.now }
+    ensures reached { AreReached chain.now }
+    ensures orders { IfOk result (λ os. map calls_in os.items ≡ map epoch_order chain.now) }
+    ensures serial { IfOk result (λ os. IsSerial chain.now (map calls_in os.items)) }
+    ensures err { IfErr result (λ e. e ≡ SerialFault.Memory) }
+{
+    let mut orders = Vec::with_capacity(alloc, chain.len())?;
+    for closed in chain {
+        orders.push_reserved(closed.order().copy(alloc)?);
+    }
+    Ok(orders)
+}

@@ -1,0 +1,389 @@
+// One epoch of a table: a core, and which call is whose.
+
+ghost use Rattle.std.specs.Prelude.{◌≡◌, ◌≢◌, ℕ, ◌+◌, ◌<◌, ◌≤◌, ◌↔◌, ◌⊎◌, All, map, [], ◌∷◌, ◌++◌, length, true, false, IsTrue, IsOk, IfOk, IfErr, OnOk, OnErr, MatchOption, Some, None};
+ghost use Rattle.tl_instr.specs.declared.operand.TheConstants.{MAX_ARGS};
+ghost use Rattle.tl_protocol.specs.History.{is_done, records_now, IsOpen};
+ghost use Rattle.tl_protocol.specs.Order.{placed, Agrees};
+ghost use Rattle.tl_protocol.specs.Holders.{holder_of};
+ghost use Rattle.tl_procedures.specs.Names.{naming_refusal};
+ghost use Rattle.tl_procedures.specs.declared.fault.NamingFault.TheVariants as naming;
+ghost use Rattle.tl_procedures.specs.declared.procedures.TheConstants.{MAX_NAME};
+ghost use Rattle.tl_core.specs.declared.fault.CoreFault.TheVariants as core_fault;
+ghost use Rattle.tl_protocol.specs.World.{reply_of};
+ghost use Rattle.tl_machine.specs.Turns.{IsTurn, IsSegment, Stops, segment_of, with_call};
+ghost use Rattle.tl_machine.specs.declared.want.Stop.TheVariants as stop;
+ghost use Rattle.tl_core.specs.Cores.{kept_turn, world_of};
+ghost use Rattle.tl_table.specs.declared.fault.TableFault.TheVariants as fault;
+ghost use Rattle.tl_table.specs.declared.receipt.Outcome.TheVariants as outcome;
+ghost use Rattle.tl_table.specs.Ends.{begun_by_end};
+ghost use Rattle.tl_table.specs.declared.epoch.TheConstants.{MAX_EPOCHS, MAX_SESSIONS};
+ghost use Rattle.tl_table.specs.Epochs.{seen, Stands, IsAtRest, IsKnown, AreOwned, IsEpochSealFault, GoesOn, epoch_after, table_refusal, IsAdmittedTo};
+ghost use Rattle.tl_table.specs.Sent.{IsSentTo, IsSentFreely, IsSent, IsUnblocked, IsSubmitFault, IsOfCall};
+
+use crate::fault::TableFault;
+use crate::receipt::{Outcome, Receipt, Sent};
+use arrayvec::ArrayVec;
+use std::alloc::Global;
+use std::marker::Model;
+use tl_core::{Core, CoreFault, Led};
+use tl_history::MAX_CALLS;
+use tl_machine::{CallState, Reply, Segment, Stop, Turn};
+use tl_order::Order;
+use tl_procedures::NamingFault;
+use tl_serial::Running;
+use tl_verify::Proc;
+
+/// How many sessions a table gives at most.
+pub const MAX_SESSIONS: u32 = 65_535;
+
+/// How many epochs a table has at most.
+pub const MAX_EPOCHS: usize = 256;
+
+/// One epoch: a core, and of each call its session.
+///
+/// A contract sees its number, the core, how many sessions were given, and of each call its session.
+#[derive(Debug, Drop)]
+pub struct Epoch {
+    number: u32,
+    running: Running,
+    sessions: u32,
+    // By call. Here and below there is memory for 4,096 from the start.
+    owners: Vec<u32>,
+    // Of each done call how many calls had been admitted when it ended.
+    begun: Vec<u32>,
+}
+
+impl Model for Epoch {
+    ghost use Rattle.std.specs.Prelude.{vec_capacity};
+    ghost use Rattle.tl_table.specs.Epochs.{EpochValue};
+    ghost use Rattle.tl_table.specs.Stored.{IsEpoch};
+
+    ghost Value = { EpochValue };
+
+    ghost view = { λ t. record { number = t.number; core = t.running; sessions = t.sessions; owners = t.owners.items } };
+
+    ghost invariant = { λ t. IsEpoch (record { number = t.number; core = t.running; sessions = t.sessions; owners = t.owners.items }) t.begun.items (vec_capacity t.owners) (vec_capacity t.begun) };
+}
+
+impl Epoch {
+    /// The epoch of that number, of a core that has no calls yet, where so many sessions were given. 890 where memory is refused.
+    pub fn new(
+        alloc: Global,
+        number: u32,
+        running: Running,
+        sessions: u32,
+    ) -> Result<Epoch, TableFault>
+        requires calls { running.seen.calls ≡ [] }
+        requires few { sessions ≤ MAX_SESSIONS }
+        ensures ok { IfOk result (λ e. e ≡ record { number = number; core = running; sessions = sessions; owners = [] }) }
+        ensures err { IfErr result (λ e. e ≡ fault.Memory) }
+    {
+        let Ok(owners) = Vec::with_capacity(alloc, MAX_CALLS) else {
+            return Err(TableFault::Memory);
+        };
+        let Ok(begun) = Vec::with_capacity(alloc, MAX_CALLS) else {
+            return Err(TableFault::Memory);
+        };
+        Ok(Epoch {
+            number,
+            running,
+            sessions,
+            owners,
+            begun,
+        })
+    }
+
+    /// The epoch that takes over from this one, once every call is done. 606 with the least unfinished call where there is one;
+    /// else 690 or 890 where memory is refused.
+    pub fn successor(&self, alloc: Global) -> Result<Epoch, TableFault>
+        requires { self.now.number < MAX_EPOCHS }
+        ensures done { IfOk result (λ _. IsAtRest self.now) }
+        ensures next { IfOk result (λ e. e ≡ epoch_after self.now) }
+        ensures fault { IfErr result (λ e. IsEpochSealFault self.now e) }
+    {
+        match self.running.successor(alloc) {
+            Ok(running) => Epoch::new(alloc, self.number + 1, running, self.sessions),
+            Err(fault) => Err(TableFault::Core(fault)),
+        }
+    }
+
+    // The same epoch, whose history has no more memory than its events need.
+    pub(crate) fn cut(self) -> Epoch
+        ensures { result ≡ self }
+    {
+        let mut epoch = self;
+        epoch.running.cut_history();
+        epoch
+    }
+
+    /// Its number.
+    pub fn number(&self) -> u32
+        ensures { result ≡ self.now.number }
+    {
+        self.number
+    }
+
+    /// A new session's number: sessions are numbered from 0. 821 where 65,535 were given. Takes no memory.
+    pub fn session(&mut self) -> Result<u32, TableFault>
+        ensures number { IfOk result (λ n. n ≡ self.old.sessions) }
+        ensures counted { OnOk result (self.new ≡ record self.old { sessions = self.old.sessions + 1 }) }
+        ensures full { IsOk result ↔ (self.old.sessions < MAX_SESSIONS) }
+        ensures goes_on { GoesOn self.old self.new }
+        ensures fault { IfErr result (λ e. e ≡ fault.TooManySessions) }
+        ensures err { OnErr result (self.new ≡ self.old) }
+    {
+        if self.sessions >= MAX_SESSIONS {
+            return Err(TableFault::TooManySessions);
+        }
+        let number = self.sessions;
+        self.sessions += 1;
+        Ok(number)
+    }
+
+    /// Takes up a procedure under a name, as the core does: 612, 611, 613, 690.
+    pub fn add_proc(
+        &mut self,
+        alloc: Global,
+        name: &str,
+        procedure: Proc,
+    ) -> Result<u32, NamingFault>
+        ensures number { IfOk result (λ n. n ≡ length (seen self.old).procedures) }
+        ensures free { IfOk result (λ _. naming_refusal (seen self.old).procedures name.now ≡ None) }
+        ensures last { OnOk result (self.new ≡ record self.old { core = record self.old.core { seen = record (seen self.old) { procedures = (seen self.old).procedures ++ record { name = name.now; code = procedure } ∷ [] } } }) }
+        ensures goes_on { GoesOn self.old self.new }
+        ensures fault { IfErr result (λ e. e ≢ naming.Memory → naming_refusal (seen self.old).procedures name.now ≡ Some e) }
+        ensures memory { IfErr result (λ e. e ≡ naming.Memory → naming_refusal (seen self.old).procedures name.now ≡ None) }
+        ensures err { OnErr result (self.new ≡ self.old) }
+    {
+        self.running.add_proc(alloc, name, procedure)
+    }
+
+    /// Admits a call for a session, and answers its number. 803 where no session of that number was given; then what the
+    /// core refuses, 601, 501, 603, 604, 605 in this order; else 890 where memory is refused. A refusal changes nothing.
+    pub fn admit(
+        &mut self,
+        alloc: Global,
+        session: u32,
+        name: &str,
+        args: &[i64],
+    ) -> Result<u32, TableFault>
+        ensures number { IfOk result (λ n. n ≡ length (seen self.old).calls) }
+        ensures free { IfOk result (λ _. table_refusal self.old session name.now args.now ≡ None) }
+        ensures after { OnOk result (IsAdmittedTo self.old session name.now args.now self.new) }
+        ensures short { OnOk result (length name.now ≤ MAX_NAME) }
+        ensures few { OnOk result (length args.now ≤ MAX_ARGS) }
+        ensures goes_on { GoesOn self.old self.new }
+        ensures fault { IfErr result (λ e. e ≢ fault.Memory → table_refusal self.old session name.now args.now ≡ Some e) }
+        ensures memory { IfErr result (λ e. e ≡ fault.Memory → table_refusal self.old session name.now args.now ≡ None) }
+        ensures err { OnErr result (self.new ≡ self.old) }
+    {
+        if session >= self.sessions {
+            return Err(TableFault::NoSession);
+        }
+        // The calls are those that were admitted, and each name was free, so it is short: here a proof learns that.
+        self.running.core().is_sound();
+        let _count = self.running.core().procedures().len();
+        match self.running.admit(alloc, name, args) {
+            Ok(call) => {
+                // At most so many calls: here a proof learns that.
+                let _calls = self.running.core().calls();
+                let _request = self.running.core().request(call);
+                self.owners.push_reserved(session);
+                self.begun.push_reserved(0);
+                Ok(call)
+            }
+            Err(CoreFault::Memory) => Err(TableFault::Memory),
+            Err(fault) => Err(TableFault::Core(fault)),
+        }
+    }
+
+    /// The receipt of a call, once it is done. 602 where no call of that number was admitted. Takes no memory.
+    pub fn receipt(&self, call: u32) -> Result<Option<Receipt>, TableFault>
+        ensures known { IsOk result ↔ IsKnown self.now call }
+        ensures receipt { IfOk result (λ o. MatchOption o (is_done call (seen self.now).past ≡ false) (λ r. (r.call ≡ call) × Stands self.now r)) }
+        ensures fault { IfErr result (λ e. e ≡ fault.Core core_fault.NoCall) }
+    {
+        if call as usize >= self.running.core().calls() {
+            return Err(TableFault::Core(CoreFault::NoCall));
+        }
+        Ok(self.receipt_of(call))
+    }
+
+    // The receipt of a call that was admitted, once it is done.
+    fn receipt_of(&self, call: u32) -> Option<Receipt>
+        requires { IsKnown self.now call }
+        ensures { MatchOption result (is_done call (seen self.now).past ≡ false) (λ r. (r.call ≡ call) × Stands self.now r) }
+    {
+        let reply = self.running.core().reply(call)?;
+        Some(self.receipt_with(call, reply))
+    }
+
+    // The receipt of a call that is done and has this reply.
+    fn receipt_with(&self, call: u32, answered: &Reply) -> Receipt
+        requires known { IsKnown self.now call }
+        requires done { is_done call (seen self.now).past ≡ true }
+        requires reply { answered.now ≡ reply_of (world_of (seen self.now)) call }
+        ensures { (result.call ≡ call) × Stands self.now result }
+    {
+        let (procedure, given) = self.running.core().request(call);
+        let mut args = ArrayVec::new();
+        let Ok(()) = args.try_extend_from_slice(given) else {
+            unreachable!()
+        };
+        let mut reply = ArrayVec::new();
+        let Ok(()) = reply.try_extend_from_slice(answered.values()) else {
+            unreachable!()
+        };
+        Receipt {
+            session: self.owners[call as usize],
+            epoch: self.number,
+            call,
+            procedure,
+            args,
+            reply,
+        }
+    }
+
+    /// The turn at which a call is; that of a call that is done wants nothing more. 602 where no call of that number was
+    /// admitted; else 890 where memory is refused.
+    pub fn state(&self, call: u32) -> Result<Turn, TableFault>
+        ensures known { IfOk result (λ _. IsKnown self.now call) }
+        ensures kept { IfOk result (λ t. is_done call (seen self.now).past ≡ false → kept_turn self.now.core call ≡ Some t) }
+        ensures over { IfOk result (λ t. is_done call (seen self.now).past ≡ true → Stops t stop.Over) }
+        ensures fault { IfErr result (λ e. e ≢ fault.Memory → (e ≡ fault.Core core_fault.NoCall) × (length (seen self.now).calls ≤ call)) }
+        ensures memory { IfErr result (λ e. e ≡ fault.Memory → IsKnown self.now call) }
+    {
+        // The calls are those that were admitted: here a proof learns that.
+        let _calls = self.running.core().calls();
+        match self.running.core().turn(call) {
+            Ok(turn) => Ok(turn),
+            Err(CoreFault::Memory) => Err(TableFault::Memory),
+            Err(fault) => Err(TableFault::Core(fault)),
+        }
+    }
+
+    /// Lets a call do the instructions of a segment, which were done elsewhere, and then the lock, free or return where the
+    /// segment stops. 602 where no call of that number was admitted; 801 where the segment doesn't begin at the turn at which
+    /// the call is, or the call is done. Blocked, and nothing changed, where the stop is a lock of a node that another call
+    /// holds. Takes no memory.
+    pub fn submit(&mut self, call: u32, segment: Segment) -> Result<Sent, TableFault>
+        ensures from { IfOk result (λ _. kept_turn self.old.core call ≡ Some segment.from) }
+        ensures sent { IfOk result (λ s. IsSent self.old call segment s self.new) }
+        ensures unhindered { IfOk result (λ s. IsUnblocked self.old segment s) }
+        ensures turns { (c : ℕ) → c ≢ call → kept_turn self.new.core c ≡ kept_turn self.old.core c }
+        ensures sessions { (self.new.sessions ≡ self.old.sessions) × (self.new.owners ≡ self.old.owners) }
+        ensures goes_on { GoesOn self.old self.new }
+        ensures call { IfOk result (IsOfCall call) }
+        ensures fault { IfErr result (λ e. IsSubmitFault self.old call segment e) }
+        ensures err { OnErr result (self.new ≡ self.old) }
+    {
+        let (mut turn, mut state, stop) = segment.into_parts();
+        match self.lead(call, &turn, &mut state, stop)? {
+            Outcome::Went => {
+                turn.put_at(&state);
+                Ok(Sent::Went(turn))
+            }
+            Outcome::Blocked => Ok(Sent::Blocked),
+            Outcome::Finished => match self.receipt_of(call) {
+                Some(receipt) => Ok(Sent::Finished(receipt)),
+                // A call that has ended has its receipt.
+                None => unreachable!(),
+            },
+        }
+    }
+
+    /// The same for a caller that keeps the parts of a segment: the turn where it begins, the state to which it led, and where the
+    /// call stops there. Where the call went, the state is the one behind the stop; else it stays. 602, 801. Takes no memory.
+    pub fn lead(
+        &mut self,
+        call: u32,
+        from: &Turn,
+        state: &mut CallState,
+        stop: Stop,
+    ) -> Result<Outcome, TableFault>
+        requires { IsSegment (segment_of from.now state.old stop) }
+        ensures turn { IsTurn from.now.code.instrs from.now.parents state.new }
+        ensures blocked { IfOk result (λ o. o ≡ outcome.Blocked → state.new ≡ state.old) }
+        ensures stays { OnErr result (state.new ≡ state.old) }
+        ensures from { IfOk result (λ _. kept_turn self.old.core call ≡ Some from.now) }
+        ensures sent { IfOk result (λ o. IsSentTo self.old call (segment_of from.now state.old stop) (with_call from.now state.new) o self.new) }
+        ensures unhindered { IfOk result (λ o. IsSentFreely self.old (segment_of from.now state.old stop) o) }
+        ensures turns { (c : ℕ) → c ≢ call → kept_turn self.new.core c ≡ kept_turn self.old.core c }
+        ensures sessions { (self.new.sessions ≡ self.old.sessions) × (self.new.owners ≡ self.old.owners) }
+        ensures goes_on { GoesOn self.old self.new }
+        ensures fault { IfErr result (λ e. IsSubmitFault self.old call (segment_of from.now state.old stop) e) }
+        ensures err { OnErr result (self.new ≡ self.old) }
+    {
+        // What is so of the call before: here a proof learns that.
+        self.running.core().is_sound();
+        let _calls = self.running.core().calls();
+        match self.running.lead(call, from, state, stop) {
+            Ok(Led::Went) => {
+                // And what is so of it now.
+                self.running.core().is_sound();
+                Ok(Outcome::Went)
+            }
+            Ok(Led::Blocked { .. }) => Ok(Outcome::Blocked),
+            Ok(Led::Finished) => {
+                self.begun[call as usize] = self.running.core().calls() as u32;
+                Ok(Outcome::Finished)
+            }
+            Err(CoreFault::NotFrom) => Err(TableFault::Stale),
+            Err(fault) => Err(TableFault::Core(fault)),
+        }
+    }
+
+    /// Whether the call was admitted and isn't done. Takes no memory.
+    pub fn is_unfinished(&self, call: u32) -> bool
+        ensures { IsTrue result ↔ IsOpen call (seen self.now).past }
+    {
+        // The calls are those that were admitted: here a proof learns that.
+        (call as usize) < self.running.core().calls() && self.running.core().reply(call).is_none()
+    }
+
+    /// Whether a call holds the node. Takes no memory.
+    pub fn is_held(&self, node: u16) -> bool
+        ensures { node < length (seen self.now).parents → IsTrue result ↔ (holder_of (seen self.now).past node ≢ None) }
+    {
+        node < self.running.core().opening().shape().node_count()
+            && self.running.core().holder(node).is_some()
+    }
+
+    /// The core.
+    pub fn core(&self) -> &Core
+        ensures { result.now ≡ self.now.core }
+    {
+        self.running.core()
+    }
+
+    // The order that the history so far gives.
+    pub fn order(&self) -> &Order
+        ensures { result.now.calls ≡ placed (seen self.now).parents (seen self.now).past }
+    {
+        self.running.order()
+    }
+
+    // How many calls had been admitted when this one ended.
+    pub fn begun_by_end(&self, call: u32) -> u32
+        requires known { IsKnown self.now call }
+        requires done { is_done call (seen self.now).past ≡ true }
+        ensures number { result ≡ begun_by_end call (seen self.now).past }
+    {
+        self.begun[call as usize]
+    }
+
+    /// How many sessions were given.
+    pub fn sessions(&self) -> u32
+        ensures { result ≡ self.now.sessions }
+    {
+        self.sessions
+    }
+
+    /// Of each call its session.
+    pub fn owners(&self) -> &[u32]
+        ensures same { result.now ≡ self.now.owners }
+        ensures owned { AreOwned self.now }
+    {
+        self.owners.as_slice()
+    }
+}

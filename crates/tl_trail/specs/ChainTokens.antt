@@ -1,0 +1,56 @@
+-- The trails of a chain, as tokens.
+use Rattle.std.specs.Prelude.{◌≡◌, ◌≢◌, ◌+◌, ◌<◌, nat_le, ℕ, List, length, Some, if◌then◌else◌}
+use Rattle.json.specs.Token.{Token}
+use Rattle.json.specs.Json.{items, value}
+use Rattle.serde_json.specs.Data.{Data, Items}
+use Rattle.serde_json.specs.Read.{of_json, of_items, converted}
+use Rattle.tl_forms.specs.Lists.{items_of_list}
+use Rattle.tl_trail.specs.Trails.{TrailValue}
+use Rattle.tl_trail.specs.Reading.{form_of_data, IsFound}
+use Rattle.tl_trail.specs.Chains.{AreEach, IsChainText, IsFirstChainFault, IsFaultOfChain, if_chain}
+use Rattle.tl_trail.specs.declared.chain.TheConstants.{MAX_TRAILS}
+use Rattle.tl_trail.specs.declared.chain.Listed.{Listed}
+use Rattle.tl_trail.specs.declared.chain.Listed.TheVariants.{Trails, Faulty, Unread}
+use Rattle.tl_trail.specs.declared.fault.TrailFault.{TrailFault}
+use Rattle.tl_trail.specs.declared.fault.TrailFault.TheVariants.{NotTrail, Memory}
+use Rattle.tl_trail.specs.Tokens.{trail_depth}
+
+-- first comes the value of a trail; the rest follows
+pub record BeginsWithTrail (ts : List Token) (t : TrailValue) (rest : List Token) : Type 0 where
+  pub found : Data
+  pub is_value : converted of_json (value trail_depth ts) ≡ Some (found, rest)
+  pub is_trail : IsFound (form_of_data found) t
+  pub shorter : length rest < length ts
+
+-- first come the values of these trails, up to the end of their list
+pub record BeginsWithTrails (ts : List Token) (each : List TrailValue) (rest : List Token) : Type 0 where
+  pub found : Items
+  pub are_items : converted of_items (items (value trail_depth) (length ts) ts) ≡ Some (found, rest)
+  pub are_trails : AreEach (items_of_list found) each
+  pub shorter : length rest < length ts
+
+-- first come values up to the end of their list, with which this is wrong first
+pub record BeginsWithFault (ts : List Token) (e : TrailFault) (rest : List Token) : Type 0 where
+  pub found : Items
+  pub are_items : converted of_items (items (value trail_depth) (length ts) ts) ≡ Some (found, rest)
+  pub is_fault : IsFaultOfChain (if_chain (items_of_list found)) e
+
+-- what is said of the values up to the end of their list; nothing, where one of them isn't read
+abbrev pub IsListed : List Token → Listed → List Token → Type 0
+IsListed ts (Trails v) rest = BeginsWithTrails ts v.items rest × (0 < length v.items) × (length v.items < MAX_TRAILS + 1)
+IsListed ts (Faulty e) rest = e ≢ Memory → BeginsWithFault ts e rest
+IsListed ts Unread rest = Unit {0}
+
+-- the same of the list that a text is
+abbrev pub IsListedIn : List ℕ → Listed → Type 0
+IsListedIn text (Trails v) = IsChainText text v.items
+IsListedIn text (Faulty e) = e ≢ Memory → IsFirstChainFault text e
+IsListedIn text Unread = Unit {0}
+
+-- So many values were read, with which that is wrong. What follows up to the end of the list is read, and too many values are worse.
+abbrev pub IsLeftBehind : List Token → ℕ → TrailFault → Listed → List Token → Type 0
+IsLeftBehind ts count fault (Trails v) rest = ⊥
+IsLeftBehind ts count fault (Faulty e) rest =
+    (found : Items) × (converted of_items (items (value trail_depth) (length ts) ts) ≡ Some (found, rest))
+    × (e ≡ (if nat_le (count + length (items_of_list found)) MAX_TRAILS then fault else NotTrail))
+IsLeftBehind ts count fault Unread rest = Unit {0}

@@ -1,0 +1,60 @@
+-- What a text of a chain of trails is, and what is wrong with it first.
+use Rattle.std.specs.Prelude.{◌≡◌, ◌⊎◌, ℕ, nat_le, ◌&&◌, List, [], ◌∷◌, length, Option, Some, None, option_and_then, if◌then◌else◌}
+use Rattle.serde_json.specs.Data.{Data}
+use Rattle.serde_json.specs.Read.{read}
+use Rattle.tl_tree.specs.Writing.{list_text}
+use Rattle.tl_forms.specs.Lists.{list_of}
+use Rattle.tl_trail.specs.declared.chain.TheConstants.{MAX_TRAILS}
+use Rattle.tl_trail.specs.declared.fault.TrailFault.{TrailFault}
+use Rattle.tl_trail.specs.declared.fault.TrailFault.TheVariants.{NotTrail}
+use Rattle.tl_trail.specs.Trails.{TrailValue}
+use Rattle.tl_trail.specs.Reading.{form_of_data, IsFound, IsFaultFound}
+use Rattle.tl_trail.specs.Writing.{trail_text}
+
+-- 1 to 256 items
+abbrev pub if_chain : List Data → Option (List Data)
+if_chain ds = if nat_le 1 (length ds) && nat_le (length ds) MAX_TRAILS then Some ds else None
+
+-- the items of a list of 1 to 256
+abbrev pub chain_of : Data → Option (List Data)
+chain_of d = option_and_then if_chain (list_of d)
+
+-- the same of the list that a text is
+abbrev pub chain_in : List ℕ → Option (List Data)
+chain_in text = option_and_then chain_of (read text)
+
+-- each value is that of the trail at its place
+abbrev pub AreEach : List Data → List TrailValue → Type 0
+AreEach [] [] = Unit {0}
+AreEach [] (t ∷ ts) = ⊥
+AreEach (d ∷ ds) [] = ⊥
+AreEach (d ∷ ds) (t ∷ ts) = IsFound (form_of_data d) t × AreEach ds ts
+
+-- the first value that isn't a trail's has that fault first
+abbrev pub IsFirstOf : List Data → TrailFault → Type 0
+IsFirstOf [] e = ⊥
+IsFirstOf (d ∷ ds) e = IsFaultFound (form_of_data d) e ⊎ ((t : TrailValue) × IsFound (form_of_data d) t × IsFirstOf ds e)
+
+-- The values that were found are those of the trails at their places.
+pub record IsChain (found : Option (List Data)) (ts : List TrailValue) : Type 0 where
+  pub items : List Data
+  pub items_are : found ≡ Some items
+  pub each : AreEach items ts
+
+-- what is wrong first with what was found: there are no such values; else what is wrong with the first that isn't a trail's
+abbrev pub IsFaultOfChain : Option (List Data) → TrailFault → Type 0
+IsFaultOfChain found e =
+    ((e ≡ NotTrail) × (found ≡ None))
+    ⊎ ((items : List Data) × (found ≡ Some items) × IsFirstOf items e)
+
+-- the text is a list of 1 to 256 values, each that of the trail at its place
+abbrev pub IsChainText : List ℕ → List TrailValue → Type 0
+IsChainText text ts = IsChain (chain_in text) ts
+
+-- what is wrong with a text first
+abbrev pub IsFirstChainFault : List ℕ → TrailFault → Type 0
+IsFirstChainFault text e = IsFaultOfChain (chain_in text) e
+
+-- the trails' texts in brackets, with a comma between
+abbrev pub chain_text : List TrailValue → List ℕ
+chain_text ts = list_text trail_text ts

@@ -1,0 +1,238 @@
+// Chains of trails, one an epoch, from their text and as text.
+//
+// The trails of a chain may be many, so no value is made of the whole. Where the members of each trail stand in the order in which
+// they are written, they are read from their tokens; else of one trail at a time a value is made. Of a text with a number that is no
+// integer of 64 bits, in which something is wrong, there is a value of the whole: nothing else tells whether it is JSON.
+
+ghost use Rattle.std.specs.Prelude.{◌≡◌, ◌≢◌, ◌≤◌, List, length, string_bytes, IfOk, IfErr, IfSome, MatchResult};
+ghost use Rattle.serde_json.specs.View.{view, items_view};
+ghost use Rattle.tl_forms.specs.Lists.{items_of_list};
+ghost use Rattle.tl_trail.specs.Chains.{AreEach, IsFirstOf, IsChain, IsFaultOfChain, IsChainText, IsFirstChainFault, chain_of, chain_text};
+ghost use Rattle.tl_trail.specs.ChainTokens.{BeginsWithTrail, BeginsWithTrails, IsLeftBehind, IsListed, IsListedIn};
+ghost use Rattle.tl_trail.specs.Trails.{TrailValue};
+
+use crate::fault::TrailFault;
+use crate::reading::{checked_trail, trail_of_value};
+use crate::tokens::{TRAIL_DEPTH, trail_members, value};
+use crate::trail::Trail;
+use crate::writing::push_trail;
+use json::{Reader, Scratch, Token};
+use serde_json::Value;
+use std::alloc::{AllocError, Global};
+use tl_forms::parse_text;
+
+/// How many trails a chain has at most.
+pub const MAX_TRAILS: usize = 256;
+
+// ---- each trail from its tokens
+
+// The trail that is next, if its members stand in their order and nothing is wrong with it.
+fn next_in_order(alloc: Global, reader: &mut Reader<'_>) -> Result<Option<Trail>, TrailFault>
+    ensures some { IfOk result (λ found. IfSome found (λ t. BeginsWithTrail reader.old t reader.new)) }
+    ensures err { IfErr result (λ e. e ≡ TrailFault.Memory) }
+{
+    let Some(Token::BeginObject) = reader.next() else {
+        return Ok(None);
+    };
+    let Some((tree, raw)) = trail_members(alloc, reader)? else {
+        return Ok(None);
+    };
+    match checked_trail(alloc, tree, raw) {
+        Ok(trail) => Ok(Some(trail)),
+        Err(TrailFault::Memory) => Err(TrailFault::Memory),
+        Err(_) => Ok(None),
+    }
+}
+
+// The trails up to the end of their list, if each is read so and they are no more than a chain has.
+fn each_in_order(alloc: Global, reader: &mut Reader<'_>) -> Result<Option<Vec<Trail>>, TrailFault>
+    ensures some { IfOk result (λ found. IfSome found (λ ts. BeginsWithTrails reader.old ts.items reader.new)) }
+    ensures few { IfOk result (λ found. IfSome found (λ ts. length ts.items ≤ MAX_TRAILS)) }
+    ensures err { IfErr result (λ e. e ≡ TrailFault.Memory) }
+{
+    let mut trails = Vec::new(alloc);
+    while !reader.take_end_array() {
+        if trails.len() == MAX_TRAILS {
+            return Ok(None);
+        }
+        let Some(trail) = next_in_order(alloc, reader)? else {
+            return Ok(None);
+        };
+        trails.push(trail)?;
+    }
+    Ok(Some(trails))
+}
+
+// The trails of a text, if each is read so.
+fn chain_in_order(alloc: Global, text: &str) -> Result<Option<Vec<Trail>>, TrailFault>
+    ensures some { IfOk result (λ found. IfSome found (λ ts. IsChainText text.now ts.items)) }
+    ensures err { IfErr result (λ e. e ≡ TrailFault.Memory) }
+{
+    let mut scratch = Scratch::new(alloc);
+    let mut reader = Reader::new(text, &mut scratch)?;
+    let Some(Token::BeginArray) = reader.next() else {
+        return Ok(None);
+    };
+    let Some(trails) = each_in_order(alloc, &mut reader)? else {
+        return Ok(None);
+    };
+    if reader.next().is_some() || trails.is_empty() {
+        return Ok(None);
+    }
+    Ok(Some(trails))
+}
+
+// ---- each trail from a value of its own
+
+/// What the trails of a list are, or what is wrong with the first that has a fault. Nothing is known of a list with a value that
+/// isn't read here.
+#[derive(Drop)]
+pub(crate) enum Listed {
+    Trails(Vec<Trail>),
+    Faulty(TrailFault),
+    Unread,
+}
+
+// That fault, if there are no more than 256 trails: so many were read, and what follows up to the end of their list can be read.
+fn faulty(
+    alloc: Global,
+    reader: &mut Reader<'_>,
+    count: usize,
+    fault: TrailFault,
+) -> Result<Listed, AllocError>
+    ensures { IfOk result (λ listed. IsLeftBehind reader.old count fault listed reader.new) }
+{
+    let mut count = count;
+    while !reader.take_end_array() {
+        let Some(_later) = value(alloc, reader, TRAIL_DEPTH)? else {
+            return Ok(Listed::Unread);
+        };
+        count = count.saturating_add(1);
+    }
+    if count > MAX_TRAILS {
+        return Ok(Listed::Faulty(TrailFault::NotTrail));
+    }
+    Ok(Listed::Faulty(fault))
+}
+
+// What the trails up to the end of their list are.
+fn each_by_value(alloc: Global, reader: &mut Reader<'_>) -> Result<Listed, AllocError>
+    ensures { IfOk result (λ listed. IsListed reader.old listed reader.new) }
+{
+    let mut trails = Vec::new(alloc);
+    while !reader.take_end_array() {
+        let Some(one) = value(alloc, reader, TRAIL_DEPTH)? else {
+            return Ok(Listed::Unread);
+        };
+        if trails.len() == MAX_TRAILS {
+            return faulty(alloc, reader, MAX_TRAILS + 1, TrailFault::NotTrail);
+        }
+        match trail_of_value(alloc, &one) {
+            Ok(trail) => trails.push(trail)?,
+            Err(fault) => return faulty(alloc, reader, trails.len().saturating_add(1), fault),
+        }
+    }
+    if trails.is_empty() {
+        return Ok(Listed::Faulty(TrailFault::NotTrail));
+    }
+    Ok(Listed::Trails(trails))
+}
+
+// What the trails of a text are.
+fn chain_by_values(alloc: Global, text: &str) -> Result<Listed, AllocError>
+    ensures { IfOk result (λ listed. IsListedIn text.now listed) }
+{
+    let mut scratch = Scratch::new(alloc);
+    let mut reader = Reader::new(text, &mut scratch)?;
+    let Some(Token::BeginArray) = reader.next() else {
+        return Ok(Listed::Unread);
+    };
+    let listed = each_by_value(alloc, &mut reader)?;
+    if reader.next().is_some() {
+        return Ok(Listed::Unread);
+    }
+    Ok(listed)
+}
+
+// ---- from a value of the whole
+
+fn trails_of_items(alloc: Global, items: &[Value]) -> Result<Vec<Trail>, TrailFault>
+    ensures ok { IfOk result (λ ts. AreEach (items_of_list (items_view items.now)) ts.items) }
+    ensures fault { IfErr result (λ e. e ≢ TrailFault.Memory → IsFirstOf (items_of_list (items_view items.now)) e) }
+{
+    let mut trails = Vec::with_capacity(alloc, items.len())?;
+    for item in items {
+        match trail_of_value(alloc, item) {
+            Ok(trail) => trails.push_reserved(trail),
+            Err(fault) => return Err(fault),
+        }
+    }
+    Ok(trails)
+}
+
+fn chain_of_value(alloc: Global, value: &Value) -> Result<Vec<Trail>, TrailFault>
+    ensures ok { IfOk result (λ ts. IsChain (chain_of (view value.now)) ts.items) }
+    ensures fault { IfErr result (λ e. e ≢ TrailFault.Memory → IsFaultOfChain (chain_of (view value.now)) e) }
+{
+    match value.as_array() {
+        Some(items) if !items.is_empty() && items.len() <= MAX_TRAILS => {
+            trails_of_items(alloc, items)
+        }
+        _ => Err(TrailFault::NotTrail),
+    }
+}
+
+// The same as below, said by what a text is alone.
+fn chain_of_text(alloc: Global, text: &str) -> Result<Vec<Trail>, TrailFault>
+    ensures ok { IfOk result (λ ts. IsChainText text.now ts.items) }
+    ensures fault { IfErr result (λ e. e ≢ TrailFault.Memory → IsFirstChainFault text.now e) }
+{
+    if let Some(trails) = chain_in_order(alloc, text)? {
+        return Ok(trails);
+    }
+    match chain_by_values(alloc, text)? {
+        Listed::Trails(trails) => return Ok(trails),
+        Listed::Faulty(fault) => return Err(fault),
+        Listed::Unread => {}
+    }
+    match parse_text(alloc, text)? {
+        Some(value) => chain_of_value(alloc, &value),
+        None => Err(TrailFault::NotTrail),
+    }
+}
+
+/// The trails that a text is: a list of 1 to 256 trails, each as `read_trail` reads one.
+///
+/// What is wrong first: 701 where it isn't such a list; else what `read_trail` says of the first trail with a fault. Of one trail
+/// the records may have four fields, and of the next eight. 790 where memory is refused.
+pub fn read_chain(alloc: Global, text: &str) -> Result<Vec<Trail>, TrailFault>
+    // What is read is the text's.
+    ensures ok { IfOk result (λ ts. IsChainText text.now ts.items) }
+    // Which fault it is.
+    ensures fault { IfErr result (λ e. e ≢ TrailFault.Memory → IsFirstChainFault text.now e) }
+    // The trails of a text are read, unless memory is refused.
+    ensures taken { (ts : List TrailValue) → IsChainText text.now ts
+        → MatchResult result (λ r. r.items ≡ ts) (λ e. e ≡ TrailFault.Memory) }
+{
+    chain_of_text(alloc, text)
+}
+
+// ---- as text
+
+/// The text of a chain, with no space: a list of the texts that `write_trail` gives. 790 where memory is refused.
+pub fn write_chain(alloc: Global, trails: &[Trail]) -> Result<String, TrailFault>
+    ensures text { IfOk result (λ s. string_bytes s ≡ chain_text trails.now) }
+    ensures reads_back { IfOk result (λ s. 1 ≤ length trails.now → length trails.now ≤ MAX_TRAILS → IsChainText (string_bytes s) trails.now) }
+    ensures err { IfErr result (λ e. e ≡ TrailFault.Memory) }
+{
+    let mut text = String::new(alloc);
+    text.push_str("[")?;
+    for (number, trail) in trails.iter().enumerate() {
+        if number > 0 {
+            text.push_str(",")?;
+        }
+        push_trail(alloc, &mut text, trail)?;
+    }
+    text.push_str("]")?;
+    Ok(text)
+}
