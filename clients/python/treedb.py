@@ -150,14 +150,19 @@ class Client:
     def batch(self, calls, workers=1):
         """Runs 1 to 256 calls, given as (procedure, argument, ..), on 1 to 16 threads at once.
 
-        Returns a list with an `Answer` for each, in order, or a `Refused` where one was refused.
+        Returns a list with an `Answer` for each, in order, or a `Refused` where one was refused. Where the last epoch is full, an
+        `Exhausted` stands in the place of each call for which there was no room.
         """
         wanted = [[procedure, list(arguments)] for procedure, *arguments in calls]
         answers = self._batch(wanted, workers)
         began = time.monotonic()
         while places := [place for place, answer in enumerate(answers) if self._is_to_seal(answer)]:
-            self._go_on(answers[places[0]], began)
-            for place, answer in zip(places, self._batch([wanted[place] for place in places], workers)):
+            try:
+                self._go_on(answers[places[0]], began)
+                later = self._batch([wanted[place] for place in places], workers)
+            except Exhausted as end:
+                later = [end] * len(places)
+            for place, answer in zip(places, later):
                 answers[place] = answer
         return answers
 
