@@ -1,7 +1,7 @@
 //! The instruction that a line's words are.
 
 ghost use Rattle.std.specs.Prelude.{◌≡◌, IfSome};
-ghost use Rattle.tl_fields.specs.Fields.{field_count};
+ghost use Rattle.tl_width.specs.Fields.{field_count};
 ghost use Rattle.tl_instr.specs.declared.version.Version.TheVariants.{Two};
 ghost use Rattle.tl_instr.specs.Instructions.{GoesWithin, IsInstr};
 ghost use Rattle.tl_asm.specs.Words.{words_of, Finds};

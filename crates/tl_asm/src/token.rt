@@ -3,12 +3,12 @@
 ghost use Rattle.std.specs.Prelude.{◌≡◌, ◌<◌, IfSome};
 ghost use Rattle.std.specs.List.{list_all};
 ghost use Rattle.std.specs.Str.{all_ascii_digits};
-ghost use Rattle.tl_fields.specs.Fields.{field_count};
+ghost use Rattle.tl_width.specs.Fields.{field_count};
 ghost use Rattle.tl_asm.specs.Tokens.{is_number, number_in, register_in, value_register, node_register, signed_in, begins_label, continues_label, is_label};
 
 use std::str;
-use tl_fields::FIELD_COUNT;
 use tl_instr::{Arity, Field, NODE_REGISTERS, NodeRegister, VALUE_REGISTERS, ValueRegister};
+use tl_width::FIELD_COUNT;
 
 fn all_digits(word: &[u8]) -> bool
     ensures { result ≡ all_ascii_digits word.now }

@@ -4,10 +4,10 @@ use Rattle.std.specs.Prelude.{slice_get, Result, Ok, Err, IfErr}
 use Rattle.std.proofs.lemmas.Option.{none-some, same_Some}
 use Rattle.std.proofs.lemmas.List.{append-nil}
 use Rattle.tl_tree.specs.Records.{Records}
-use Rattle.tl_protocol.specs.History.{records_now}
-use Rattle.tl_protocol.specs.Epochs.{left_by, FollowOn, AreAtRest, AgreeEach}
-use Rattle.tl_protocol.proofs.EpochsJoined.{epochs-serial}
-use Rattle.tl_order.specs.Order.{OrderValue}
+use Rattle.tl_tree_locking.specs.History.{records_now}
+use Rattle.tl_tree_locking.specs.Epochs.{left_by, FollowOn, AreAtRest, AgreeEach}
+use Rattle.tl_tree_locking.proofs.EpochsJoined.{epochs-serial}
+use Rattle.tl_serial_order.specs.Order.{OrderValue}
 use Rattle.tl_trail.specs.Trails.{TrailValue, IsTrail, world_of}
 use Rattle.tl_trail.specs.Clean.{Clean}
 use Rattle.tl_audit.specs.declared.chain.ChainFault.{ChainFault}

@@ -5,23 +5,23 @@ use Rattle.std.proofs.lemmas.Bool.{cases_Bool, cases_eq, both_ways, false_from_n
 use Rattle.std.proofs.lemmas.List.{ext_get_or}
 use Rattle.std.proofs.lemmas.List.Elements.{All-head, All-tail, All-get_or}
 use Rattle.tl_tree.specs.Records.{Records}
-use Rattle.tl_protocol.specs.declared.action.Action.{Action}
-use Rattle.tl_protocol.specs.declared.action.Action.TheVariants as A
-use Rattle.tl_protocol.specs.declared.event.Event.{Event}
-use Rattle.tl_protocol.specs.declared.event.Event.TheVariants.{Admit, Lock, Free, Done}
-use Rattle.tl_protocol.specs.Actions.{held, has_ended, with_found, shared_actions, locks_and_frees, taken, Permitted, EachPermitted}
-use Rattle.tl_protocol.specs.Alone.{IsAlone, EndsOnce, all_taken, serial}
-use Rattle.tl_protocol.specs.History.{caller, part_of, is_done, admits, AllDone, IsOpen, InTurn, Apart, Follows, IsLegalHistory, records_now}
-use Rattle.tl_protocol.specs.Obeys.{Obeys}
-use Rattle.tl_protocol.specs.Order.{placed, Agrees}
-use Rattle.tl_protocol.specs.World.{Genuine, Legal, IsSound, reply_of}
-use Rattle.tl_protocol.proofs.Alone.{obeys_taken}
-use Rattle.tl_protocol.proofs.MayComeLemmas.{held-locked}
-use Rattle.tl_protocol.proofs.Permitted.{has_ended-part_of}
-use Rattle.tl_protocol.proofs.PlacedAgrees.{placed-agrees}
-use Rattle.tl_protocol.proofs.ObeysByPlaces.{obeys_alone}
-use Rattle.tl_protocol.proofs.ReachedWorlds.{serial-placed}
-use Rattle.tl_protocol.proofs.Records.{length-records_now, record_at-records_now, length-with_found}
+use Rattle.tl_tree_locking.specs.declared.action.Action.{Action}
+use Rattle.tl_tree_locking.specs.declared.action.Action.TheVariants as A
+use Rattle.tl_tree_locking.specs.declared.event.Event.{Event}
+use Rattle.tl_tree_locking.specs.declared.event.Event.TheVariants.{Admit, Lock, Free, Done}
+use Rattle.tl_tree_locking.specs.Actions.{held, has_ended, with_found, shared_actions, locks_and_frees, taken, Permitted, EachPermitted}
+use Rattle.tl_tree_locking.specs.Alone.{IsAlone, EndsOnce, all_taken, serial}
+use Rattle.tl_tree_locking.specs.History.{caller, part_of, is_done, admits, AllDone, IsOpen, InTurn, Apart, Follows, IsLegalHistory, records_now}
+use Rattle.tl_tree_locking.specs.Obeys.{Obeys}
+use Rattle.tl_tree_locking.specs.Order.{placed, Agrees}
+use Rattle.tl_tree_locking.specs.World.{Genuine, Legal, IsSound, reply_of}
+use Rattle.tl_tree_locking.proofs.Alone.{obeys_taken}
+use Rattle.tl_tree_locking.proofs.MayComeLemmas.{held-locked}
+use Rattle.tl_tree_locking.proofs.Permitted.{has_ended-part_of}
+use Rattle.tl_tree_locking.proofs.PlacedAgrees.{placed-agrees}
+use Rattle.tl_tree_locking.proofs.ObeysByPlaces.{obeys_alone}
+use Rattle.tl_tree_locking.proofs.ReachedWorlds.{serial-placed}
+use Rattle.tl_tree_locking.proofs.Records.{length-records_now, record_at-records_now, length-with_found}
 use Rattle.tl_machine.proofs.StartLemmas.{is_alone}
 use Rattle.tl_audit.specs.declared.fault.AuditFault.{AuditFault}
 use Rattle.tl_audit.specs.declared.fault.AuditFault.TheVariants.{RuleBroken, Overlap, WrongFound, NotGenuine, Unfinished, WrongEnd, WrongReply, Memory}

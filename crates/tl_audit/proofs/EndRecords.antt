@@ -5,8 +5,8 @@ use Rattle.std.specs.Cmp.Lexicographic.{pointwise}
 use Rattle.std.specs.Cmp.Rules.{signed_items}
 use Rattle.std.specs.Ordering.{int_eq}
 use Rattle.tl_tree.specs.Records.{Records, record_at}
-use Rattle.tl_protocol.specs.History.{record_now, records_now}
-use Rattle.tl_protocol.proofs.Records.{record_at-records_now}
+use Rattle.tl_tree_locking.specs.History.{record_now, records_now}
+use Rattle.tl_tree_locking.proofs.Records.{record_at-records_now}
 use Rattle.tl_trail.specs.Trails.{TrailValue, IsTrail}
 use Rattle.tl_trail.specs.Clean.{EndsSo}
 

@@ -5,18 +5,18 @@ use Rattle.std.specs.declared.alloc.Global.{Global}
 use Rattle.std.proofs.lemmas.Bool.{cases_Bool, cases_eq, cases_lt, both_ways, ne_eqb, eq-eqb}
 use Rattle.std.proofs.lemmas.List.{get_or-set_same, get_or-set_other, length-set}
 use Rattle.tl_tree.specs.Records.{Record, Records, record_at}
-use Rattle.tl_protocol.specs.declared.action.Action.{Action}
-use Rattle.tl_protocol.specs.declared.action.Action.TheVariants as did
-use Rattle.tl_protocol.specs.declared.event.Event.{Event}
-use Rattle.tl_protocol.specs.declared.event.Event.TheVariants.{Admit, Lock, Free, Done}
-use Rattle.tl_protocol.specs.Actions.{locked, freed, found_in, locks_and_frees, EachPermitted}
-use Rattle.tl_protocol.specs.Alone.{EndsOnce, all_taken}
-use Rattle.tl_protocol.specs.History.{caller, part_of, is_done, admits, InTurn}
-use Rattle.tl_protocol.proofs.PartLemmas.{part_of-other, part_of-lock, part_of-free, part_of-done}
-use Rattle.tl_protocol.proofs.RecordsAlongOrder.{freed-locked}
-use Rattle.tl_protocol.proofs.Records.{length-with_found, record_at-with_found}
-use Rattle.tl_protocol.proofs.ReachedWorlds.{unadmitted_done}
-use Rattle.tl_protocol.proofs.WorldSteps.{unadmitted}
+use Rattle.tl_tree_locking.specs.declared.action.Action.{Action}
+use Rattle.tl_tree_locking.specs.declared.action.Action.TheVariants as did
+use Rattle.tl_tree_locking.specs.declared.event.Event.{Event}
+use Rattle.tl_tree_locking.specs.declared.event.Event.TheVariants.{Admit, Lock, Free, Done}
+use Rattle.tl_tree_locking.specs.Actions.{locked, freed, found_in, locks_and_frees, EachPermitted}
+use Rattle.tl_tree_locking.specs.Alone.{EndsOnce, all_taken}
+use Rattle.tl_tree_locking.specs.History.{caller, part_of, is_done, admits, InTurn}
+use Rattle.tl_tree_locking.proofs.PartLemmas.{part_of-other, part_of-lock, part_of-free, part_of-done}
+use Rattle.tl_tree_locking.proofs.RecordsAlongOrder.{freed-locked}
+use Rattle.tl_tree_locking.proofs.Records.{length-with_found, record_at-with_found}
+use Rattle.tl_tree_locking.proofs.ReachedWorlds.{unadmitted_done}
+use Rattle.tl_tree_locking.proofs.WorldSteps.{unadmitted}
 use Rattle.tl_machine.specs.Call.{reply_so_far}
 use Rattle.tl_machine.specs.Runs.{Run, actions, emits_of}
 use Rattle.tl_machine.specs.Alone.{alone as run_alone}
@@ -32,7 +32,7 @@ use Rattle.tl_audit.specs.declared.replays.Replays.{Replays}
 use Rattle.tl_audit.specs.Genuine.{AreFit, IsOn}
 use Rattle.tl_audit.specs.Findings.{AreSo, IsFirstFault}
 use Rattle.tl_audit.specs.Replaying.{AllRight, Differs, IsAt, IsAtMost, IsFollowed, IsLed, IsOther, IsSettled, IsTaken, fault_of, found_run, found_tree}
-use Rattle.tl_protocol.proofs.RulesLemmas.{locked_inside}
+use Rattle.tl_tree_locking.proofs.RulesLemmas.{locked_inside}
 use Rattle.tl_audit.proofs.RightEvents.{right_legal}
 use Rattle.tl_audit.proofs.ReplayLemmas.{freed-locks_and_frees, locks_and_frees-append, on_start}
 

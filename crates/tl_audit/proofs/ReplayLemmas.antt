@@ -4,11 +4,11 @@ use Rattle.std.proofs.lemmas.Bool.{or_parts}
 use Rattle.std.proofs.lemmas.List.{reverse-append, reverse-reverse, append-nil, append_assoc, take_all}
 use Rattle.std.proofs.Math.Seq.{drop-append_seam}
 use Rattle.tl_tree.specs.Records.{Record, Records, put_record}
-use Rattle.tl_protocol.specs.declared.action.Action.{Action}
-use Rattle.tl_protocol.specs.declared.action.Action.TheVariants as did
-use Rattle.tl_protocol.specs.Actions.{freed, emitted, has_ended, is_end, locks_and_frees}
-use Rattle.tl_protocol.specs.Alone.{EndsOnce, all_taken}
-use Rattle.tl_protocol.proofs.ObeysByPlaces.{reverse-taken}
+use Rattle.tl_tree_locking.specs.declared.action.Action.{Action}
+use Rattle.tl_tree_locking.specs.declared.action.Action.TheVariants as did
+use Rattle.tl_tree_locking.specs.Actions.{freed, emitted, has_ended, is_end, locks_and_frees}
+use Rattle.tl_tree_locking.specs.Alone.{EndsOnce, all_taken}
+use Rattle.tl_tree_locking.proofs.ObeysByPlaces.{reverse-taken}
 use Rattle.tl_machine.specs.Runs.{Run, Then, At, Ended, actions, emits_of}
 use Rattle.tl_machine.specs.Call.{reply_so_far}
 use Rattle.tl_machine.specs.BetweenSteps.{run_left, Steps, Locks, Frees, Counts}

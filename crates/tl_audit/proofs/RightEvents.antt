@@ -1,9 +1,9 @@
 -- Right events are a legal history.
 use Rattle.std.proofs.Common.{ℕ, List, [], ◌∷◌}
 use Rattle.tl_tree.specs.Records.{Records}
-use Rattle.tl_protocol.specs.declared.event.Event.{Event}
-use Rattle.tl_protocol.specs.History.{IsLegalHistory}
-use Rattle.tl_protocol.proofs.RulesLemmas.{legal_next}
+use Rattle.tl_tree_locking.specs.declared.event.Event.{Event}
+use Rattle.tl_tree_locking.specs.History.{IsLegalHistory}
+use Rattle.tl_tree_locking.proofs.RulesLemmas.{legal_next}
 use Rattle.tl_trail.specs.Clean.{AreRight}
 
 pub right_legal : (parents : List ℕ) (opening : Records) (past : List Event) → AreRight parents opening past → IsLegalHistory parents past

@@ -5,11 +5,11 @@ use Rattle.tl_instr.specs.declared.instr.Instr.TheVariants as instr
 use Rattle.tl_instr.specs.declared.version.Version.TheVariants.{One}
 use Rattle.tl_budget.specs.Loops.{loop_at}
 use Rattle.tl_tree.specs.Records.{Record}
-use Rattle.tl_protocol.specs.Actions.{held}
-use Rattle.tl_protocol.specs.History.{is_done}
-use Rattle.tl_protocol.specs.declared.action.Action.TheVariants as did
-use Rattle.tl_protocol.specs.declared.event.Event.{Event}
-use Rattle.tl_protocol.specs.declared.event.Event.TheVariants.{Admit, Lock, Free, Done}
+use Rattle.tl_tree_locking.specs.Actions.{held}
+use Rattle.tl_tree_locking.specs.History.{is_done}
+use Rattle.tl_tree_locking.specs.declared.action.Action.TheVariants as did
+use Rattle.tl_tree_locking.specs.declared.event.Event.{Event}
+use Rattle.tl_tree_locking.specs.declared.event.Event.TheVariants.{Admit, Lock, Free, Done}
 use Rattle.tl_trail.specs.Clean.{Clean, AreRight, IsGenuine, RepliesSo, EndsSo}
 use Rattle.tl_trail.specs.Trails.{TrailValue, found_alone}
 use Rattle.tl_audit.specs.Findings.{IsFirstFault}

@@ -2,12 +2,12 @@
 use Rattle.std.proofs.Common.{◌≡◌, ℕ, ◌+◌, ◌<◌, List, ◌∷◌, ◌++◌, length, get_or, take, drop, reverse, sym, ap, ◌∙◌, subst}
 use Rattle.std.proofs.lemmas.List.{reverse-append, take-append-drop}
 use Rattle.std.specs.Prelude.{All}
-use Rattle.tl_protocol.specs.declared.event.Event.{Event}
-use Rattle.tl_protocol.specs.declared.event.Event.TheVariants.{Admit}
-use Rattle.tl_protocol.specs.History.{caller, past_of}
-use Rattle.tl_protocol.specs.Nodes.{IsOfNodes}
-use Rattle.tl_protocol.proofs.Pasts.{past_one_more, All-unreverse}
-use Rattle.tl_order.specs.Checked.{IsEventOf}
+use Rattle.tl_tree_locking.specs.declared.event.Event.{Event}
+use Rattle.tl_tree_locking.specs.declared.event.Event.TheVariants.{Admit}
+use Rattle.tl_tree_locking.specs.History.{caller, past_of}
+use Rattle.tl_tree_locking.specs.Nodes.{IsOfNodes}
+use Rattle.tl_tree_locking.proofs.Pasts.{past_one_more, All-unreverse}
+use Rattle.tl_serial_order.specs.Checked.{IsEventOf}
 use Rattle.tl_trail.specs.Trails.{TrailValue, IsTrail}
 use Rattle.tl_trail.specs.Clean.{AreRight}
 use Rattle.tl_audit.specs.Findings.{IsWrong, IsFirstEventFault}

@@ -1,11 +1,11 @@
 -- A chain of trails, one an epoch: what is wrong with it first, and what an auditor's answer says of it.
 use Rattle.std.specs.Prelude.{◌≡◌, ◌⊎◌, ℕ, zero, suc, ◌+◌, ◌<◌, List, [], ◌∷◌, ◌++◌, length, map, Option, Some, None, slice_get}
 use Rattle.tl_tree.specs.Records.{Records}
-use Rattle.tl_protocol.specs.Epochs.{run_each, joined, joined_replies}
-use Rattle.tl_protocol.specs.Order.{placed}
-use Rattle.tl_protocol.specs.World.{reply_of}
+use Rattle.tl_tree_locking.specs.Epochs.{run_each, joined, joined_replies}
+use Rattle.tl_tree_locking.specs.Order.{placed}
+use Rattle.tl_tree_locking.specs.World.{reply_of}
 use Rattle.tl_procedures.specs.Names.{Named}
-use Rattle.tl_order.specs.Order.{OrderValue}
+use Rattle.tl_serial_order.specs.Order.{OrderValue}
 use Rattle.tl_trail.specs.Trails.{TrailValue, IsTrail, call_at, world_of}
 use Rattle.tl_trail.specs.Clean.{Clean}
 use Rattle.tl_audit.specs.Findings.{IsFirstFault}

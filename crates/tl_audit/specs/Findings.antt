@@ -1,9 +1,9 @@
 -- What is wrong with a trail, first.
 use Rattle.std.specs.Prelude.{◌≡◌, ℕ, ◌<◌, true, false, List, ◌∷◌, ◌++◌, length}
 use Rattle.tl_tree.specs.Records.{Records}
-use Rattle.tl_protocol.specs.declared.event.Event.{Event}
-use Rattle.tl_protocol.specs.History.{is_done}
-use Rattle.tl_protocol.specs.Rules.{KeepsRules, IsApart}
+use Rattle.tl_tree_locking.specs.declared.event.Event.{Event}
+use Rattle.tl_tree_locking.specs.History.{is_done}
+use Rattle.tl_tree_locking.specs.Rules.{KeepsRules, IsApart}
 use Rattle.tl_trail.specs.Trails.{TrailValue}
 use Rattle.tl_trail.specs.Clean.{FindsNow, AreRight, AreDone, IsGenuine, RepliesSo, EndsSo}
 use Rattle.tl_audit.specs.declared.fault.AuditFault.{AuditFault}

@@ -1,10 +1,10 @@
 -- A call's run alone, led along its own locks and frees.
 use Rattle.std.specs.Prelude.{◌≡◌, ◌<◌, false, List, [], ◌∷◌, length}
 use Rattle.tl_tree.specs.Records.{Records, record_at}
-use Rattle.tl_protocol.specs.declared.action.Action.{Action}
-use Rattle.tl_protocol.specs.declared.action.Action.TheVariants.{Lock}
-use Rattle.tl_protocol.specs.Actions.{freed, emitted, has_ended, locks_and_frees}
-use Rattle.tl_protocol.specs.Alone.{EndsOnce}
+use Rattle.tl_tree_locking.specs.declared.action.Action.{Action}
+use Rattle.tl_tree_locking.specs.declared.action.Action.TheVariants.{Lock}
+use Rattle.tl_tree_locking.specs.Actions.{freed, emitted, has_ended, locks_and_frees}
+use Rattle.tl_tree_locking.specs.Alone.{EndsOnce}
 use Rattle.tl_machine.specs.Runs.{Run, actions}
 use Rattle.tl_machine.specs.Call.{reply_so_far}
 use Rattle.tl_machine.specs.BetweenSteps.{run_left}

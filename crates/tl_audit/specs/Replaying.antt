@@ -3,9 +3,9 @@ use Rattle.std.specs.Prelude.{◌≡◌, ◌⊎◌, ℕ, ◌<◌, ◌≤◌, tru
 use Rattle.std.specs.Prelude.{Box}
 use Rattle.std.specs.declared.alloc.Global.{Global}
 use Rattle.tl_tree.specs.Records.{Records}
-use Rattle.tl_protocol.specs.declared.event.Event.{Event}
-use Rattle.tl_protocol.specs.Actions.{with_found, locks_and_frees}
-use Rattle.tl_protocol.specs.History.{part_of, is_done, admits}
+use Rattle.tl_tree_locking.specs.declared.event.Event.{Event}
+use Rattle.tl_tree_locking.specs.Actions.{with_found, locks_and_frees}
+use Rattle.tl_tree_locking.specs.History.{part_of, is_done, admits}
 use Rattle.tl_machine.specs.Runs.{Run}
 use Rattle.tl_machine.specs.Alone.{alone}
 use Rattle.tl_machine.specs.Turns.{TurnValue}

@@ -1,10 +1,10 @@
 -- What an auditor's answer says of a trail.
 use Rattle.std.specs.Prelude.{◌≡◌, ◌≢◌, ℕ, ◌<◌, length, map, Some, Result, IfOk, IfErr, MatchResult}
-use Rattle.tl_protocol.specs.Alone.{serial}
-use Rattle.tl_protocol.specs.Obeys.{Obeys}
-use Rattle.tl_protocol.specs.Order.{placed, Agrees}
-use Rattle.tl_protocol.specs.World.{Legal, reply_of}
-use Rattle.tl_order.specs.Order.{OrderValue}
+use Rattle.tl_tree_locking.specs.Alone.{serial}
+use Rattle.tl_tree_locking.specs.Obeys.{Obeys}
+use Rattle.tl_tree_locking.specs.Order.{placed, Agrees}
+use Rattle.tl_tree_locking.specs.World.{Legal, reply_of}
+use Rattle.tl_serial_order.specs.Order.{OrderValue}
 use Rattle.tl_trail.specs.Trails.{TrailValue, call_at, found_alone, meaning_of, world_of}
 use Rattle.tl_trail.specs.Clean.{Clean}
 use Rattle.tl_audit.specs.Findings.{IsFirstFault}

@@ -1,9 +1,9 @@
 -- What the events so far came to, as an auditor keeps it.
 use Rattle.std.specs.Prelude.{◌≡◌, ℕ, List, ◌∷◌, length}
 use Rattle.tl_tree.specs.Records.{Records}
-use Rattle.tl_protocol.specs.declared.event.Event.{Event}
-use Rattle.tl_protocol.specs.History.{records_now}
-use Rattle.tl_order.specs.Checked.{calls_of, IsEventOf, IsEven as IsEvenOrder, IsChecked}
+use Rattle.tl_tree_locking.specs.declared.event.Event.{Event}
+use Rattle.tl_tree_locking.specs.History.{records_now}
+use Rattle.tl_serial_order.specs.Checked.{calls_of, IsEventOf, IsEven as IsEvenOrder, IsChecked}
 use Rattle.tl_trail.specs.Clean.{AreRight}
 use Rattle.tl_audit.specs.declared.watch.Watch.{Watch}
 

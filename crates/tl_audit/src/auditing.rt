@@ -1,8 +1,8 @@
 // Whether a trail is clean.
 
 ghost use Rattle.std.specs.Prelude.{◌≡◌, ◌≢◌, ℕ, ◌<◌, [], length, IfOk, IfErr, OnOk};
-ghost use Rattle.tl_protocol.specs.History.{records_now};
-ghost use Rattle.tl_protocol.specs.Order.{placed};
+ghost use Rattle.tl_tree_locking.specs.History.{records_now};
+ghost use Rattle.tl_tree_locking.specs.Order.{placed};
 ghost use Rattle.tl_trail.specs.Trails.{IsTrail};
 ghost use Rattle.tl_trail.specs.Clean.{Clean, AreRight, AreDone, EndsSo};
 ghost use Rattle.tl_audit.specs.Findings.{AreSo, IsFirstFault, IsFirstEventFault};
@@ -15,7 +15,7 @@ use crate::progress::{EVENTS_BETWEEN, Progress, Silent};
 use crate::replays::Replays;
 use crate::watch::Watch;
 use std::alloc::Global;
-use tl_order::Order;
+use tl_serial_order::Order;
 use tl_trail::Trail;
 use tl_tree::Record;
 

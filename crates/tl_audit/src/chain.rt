@@ -15,8 +15,8 @@ use crate::progress::{Progress, Silent};
 use arrayvec::ArrayVec;
 use std::alloc::{AllocError, Global};
 use thiserror::Error;
-use tl_order::Order;
 use tl_procedures::Procedures;
+use tl_serial_order::Order;
 use tl_trail::{MAX_TRAILS, Trail};
 use tl_tree::Record;
 

@@ -3,10 +3,10 @@
 ghost use Rattle.std.specs.Prelude.{◌≡◌, ◌≢◌, ◌↔◌, ◌<◌, List, ◌∷◌, ◌++◌, [], length, IsTrue, IfOk, IfSome, None, Some, true, false};
 ghost use Rattle.std.specs.Arc.{arc_value};
 ghost use Rattle.tl_tree.specs.Records.{Records};
-ghost use Rattle.tl_protocol.specs.declared.action.Action.{Action};
-ghost use Rattle.tl_protocol.specs.declared.action.Action.TheVariants as did;
-ghost use Rattle.tl_protocol.specs.Actions.{locks_and_frees};
-ghost use Rattle.tl_protocol.specs.Alone.{all_taken};
+ghost use Rattle.tl_tree_locking.specs.declared.action.Action.{Action};
+ghost use Rattle.tl_tree_locking.specs.declared.action.Action.TheVariants as did;
+ghost use Rattle.tl_tree_locking.specs.Actions.{locks_and_frees};
+ghost use Rattle.tl_tree_locking.specs.Alone.{all_taken};
 ghost use Rattle.tl_machine.specs.Call.{reply_so_far};
 ghost use Rattle.tl_machine.specs.Runs.{Run, actions, emits_of};
 ghost use Rattle.tl_machine.specs.Turns.{Stops, left_of};

@@ -1,10 +1,10 @@
 // What follows of a clean trail.
 
 ghost use Rattle.std.specs.Prelude.{◌≡◌, ◌<◌, ◌≤◌, ℕ, length, map, Some};
-ghost use Rattle.tl_protocol.specs.Alone.{serial};
-ghost use Rattle.tl_protocol.specs.Obeys.{Obeys};
-ghost use Rattle.tl_protocol.specs.Order.{placed, Agrees};
-ghost use Rattle.tl_protocol.specs.World.{Legal, IsSound, reply_of};
+ghost use Rattle.tl_tree_locking.specs.Alone.{serial};
+ghost use Rattle.tl_tree_locking.specs.Obeys.{Obeys};
+ghost use Rattle.tl_tree_locking.specs.Order.{placed, Agrees};
+ghost use Rattle.tl_tree_locking.specs.World.{Legal, IsSound, reply_of};
 ghost use Rattle.tl_trail.specs.Trails.{TrailValue, IsTrail, found_alone, world_of, meaning_of, call_at};
 ghost use Rattle.tl_trail.specs.Clean.{Clean};
 ghost use Rattle.tl_audit.specs.Findings.{IsFirstFault};

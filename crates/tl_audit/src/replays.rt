@@ -1,9 +1,9 @@
 // The calls as they go on, each along its own events, and the least with which something is wrong.
 
 ghost use Rattle.std.specs.Prelude.{◌≡◌, ◌<◌, List, [], ◌∷◌, length, IfOk, IfErr, OnOk};
-ghost use Rattle.tl_protocol.specs.declared.event.Event.{Event as EventValue};
-ghost use Rattle.tl_protocol.specs.declared.event.Event.TheVariants as event;
-ghost use Rattle.tl_protocol.specs.History.{caller};
+ghost use Rattle.tl_tree_locking.specs.declared.event.Event.{Event as EventValue};
+ghost use Rattle.tl_tree_locking.specs.declared.event.Event.TheVariants as event;
+ghost use Rattle.tl_tree_locking.specs.History.{caller};
 ghost use Rattle.tl_trail.specs.Trails.{TrailValue, IsTrail};
 ghost use Rattle.tl_trail.specs.Clean.{AreRight, AreDone};
 ghost use Rattle.tl_audit.specs.Findings.{AreSo, IsFirstFault};
@@ -13,9 +13,9 @@ use crate::fault::AuditFault;
 use crate::genuine::{ends, frees, locks, replies, start};
 use std::alloc::{AllocError, Global};
 use tl_machine::Turn;
-use tl_protocol::Event;
 use tl_trail::Trail;
 use tl_tree::Record;
+use tl_tree_locking::Event;
 
 /// In what a call differs from its run alone.
 #[derive(Clone, Copy, Debug, PartialEq, Eq)]

@@ -3,19 +3,19 @@
 ghost use Rattle.std.specs.Prelude.{◌≡◌, ◌↔◌, ℕ, ◌<◌, List, [], ◌∷◌, length, IsTrue, IfOk, IfErr, OnOk};
 ghost use Rattle.tl_tree.specs.Records.{Records};
 ghost use Rattle.tl_tree.specs.Shape.{IsTree};
-ghost use Rattle.tl_protocol.specs.declared.event.Event.{Event as EventValue};
-ghost use Rattle.tl_protocol.specs.History.{is_done, records_now};
-ghost use Rattle.tl_protocol.specs.Order.{placed};
-ghost use Rattle.tl_order.specs.Checked.{calls_of, IsEventOf};
+ghost use Rattle.tl_tree_locking.specs.declared.event.Event.{Event as EventValue};
+ghost use Rattle.tl_tree_locking.specs.History.{is_done, records_now};
+ghost use Rattle.tl_tree_locking.specs.Order.{placed};
+ghost use Rattle.tl_serial_order.specs.Checked.{calls_of, IsEventOf};
 ghost use Rattle.tl_trail.specs.Clean.{FindsNow, IsRight, AreRight};
 ghost use Rattle.tl_audit.specs.Findings.{IsWrong};
 ghost use Rattle.tl_audit.specs.Watching.{IsEven, IsNext, Shows};
 
 use crate::fault::AuditFault;
 use std::alloc::{AllocError, Global};
-use tl_order::{CheckedOrder, Order};
-use tl_protocol::Event;
+use tl_serial_order::{CheckedOrder, Order};
 use tl_tree::{Record, Shape, Tree};
+use tl_tree_locking::Event;
 
 /// What the events so far came to.
 #[derive(Drop)]

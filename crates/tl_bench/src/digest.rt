@@ -5,10 +5,10 @@ use std::alloc::Global;
 use tl_asm::disassemble;
 use tl_core::Core;
 use tl_instr::Code;
-use tl_order::Order;
-use tl_protocol::Event;
+use tl_serial_order::Order;
 use tl_trail::Trail;
 use tl_tree::Record;
+use tl_tree_locking::Event;
 
 fn mix_record(record: &Record, measured: &mut Measured) {
     for field in record {

@@ -6,7 +6,7 @@ use crate::measured::Measured;
 use serde_json::Value;
 use std::alloc::Global;
 use tl_audit::{AuditFault, audit};
-use tl_order::{Order, order_of};
+use tl_serial_order::{Order, order_of};
 use tl_trail::{Trail, read_trail, write_trail};
 
 fn trail_in(alloc: Global, text: &[u8]) -> Option<Trail> {

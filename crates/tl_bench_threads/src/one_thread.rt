@@ -8,8 +8,8 @@ use std::rt::Clock;
 use std::time::Instant;
 use tl_core::{Core, Stepped};
 use tl_history::MAX_CALLS;
-use tl_protocol::Action;
 use tl_serial::Running;
+use tl_tree_locking::Action;
 
 // The name of the procedure.
 const NAME: &str = "call";

@@ -6,7 +6,7 @@ use Rattle.serde_json.specs.Written.{has_float, compact_text}
 use Rattle.serde_json.proofs.OnLiterals.{serde_json_on_literals}
 use Rattle.tl_tree.specs.Writing.{integer_data, integers_data, list_text, tree_text}
 use Rattle.tl_tree.specs.Trees.{TreeValue}
-use Rattle.tl_protocol.specs.Alone.{Outcome}
+use Rattle.tl_tree_locking.specs.Alone.{Outcome}
 use Rattle.tl_machine.specs.Outcomes.{IsAnswer}
 use Rattle.tl_tree.proofs.Texts.{integers_whole, record_written}
 use Rattle.tl_commands.specs.Alone.{answer_text, printed}

@@ -5,7 +5,7 @@ use Rattle.std.proofs.lemmas.List.{drop_more}
 use Rattle.std.proofs.lemmas.Option.{cond_some, option_and_then_some}
 use Rattle.serde_json.specs.Data.{Data}
 use Rattle.serde_json.specs.Read.{read}
-use Rattle.tl_forms.specs.Lists.{list_of}
+use Rattle.tl_json.specs.Lists.{list_of}
 use Rattle.tl_trail.specs.Trails.{TrailValue}
 use Rattle.tl_trail.specs.Chains.{AreEach, IsChainText, if_chain, chain_of}
 use Rattle.tl_trail.proofs.ChainTokenLemmas.{as_many}

@@ -3,8 +3,8 @@ use Rattle.std.proofs.Common.{◌≡◌, ◌-◌, ◌<◌, ℕ, zero, suc, List,
 use Rattle.std.specs.Prelude.{slice_get}
 use Rattle.std.proofs.lemmas.Option.{none-some, same_Some}
 use Rattle.serde_json.specs.Data.{Data}
-use Rattle.tl_order.specs.Order.{OrderValue}
-use Rattle.tl_forms.specs.Lists.{calls_data, orders_data}
+use Rattle.tl_serial_order.specs.Order.{OrderValue}
+use Rattle.tl_json.specs.Lists.{calls_data, orders_data}
 use Rattle.tl_table.specs.Chains.{calls_in}
 use Rattle.tl_table.specs.Epochs.{EpochValue, seen}
 use Rattle.tl_commands.specs.Closing.{orders_form, tree_after}

@@ -3,8 +3,8 @@ use Rattle.std.proofs.Common.{◌≡◌, ℕ, List, [], map, ap, ◌∙◌, subs
 use Rattle.serde_json.specs.Data.{Data}
 use Rattle.tl_tree.specs.Trees.{TreeValue}
 use Rattle.tl_tree.specs.Reading.{tree_of_text}
-use Rattle.tl_forms.specs.declared.procedure.ProcedureText.{ProcedureText}
-use Rattle.tl_forms.specs.Procedures.{procedure_form}
+use Rattle.tl_json.specs.declared.procedure.ProcedureText.{ProcedureText}
+use Rattle.tl_json.specs.Procedures.{procedure_form}
 use Rattle.tl_core.specs.Cores.{CoreValue}
 use Rattle.tl_core.specs.Entries.{Traced, after_moves}
 use Rattle.tl_core.specs.declared.moves.Move.{Move}
@@ -13,7 +13,7 @@ use Rattle.tl_commands.specs.declared.script.Script.{Script}
 use Rattle.tl_commands.specs.Script.{IsScript, move_view, script_view, script_of_moves}
 use Rattle.tl_commands.specs.Scripted.{core_with, tree_now, lines_text}
 use Rattle.tl_commands.specs.Trace.{trace_data}
-use Rattle.tl_forms.specs.Registering.{TakenUp}
+use Rattle.tl_json.specs.Registering.{TakenUp}
 use Rattle.tl_commands.specs.Drive.{IsConclusion, IsDriven, Prints}
 
 pub driven : (t s : List ℕ) (tree : TreeValue) (script : Script Move) (core after : CoreValue) (texts : List ProcedureText) (moves : List Move) (entries : List Entry)

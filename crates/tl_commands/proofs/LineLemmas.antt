@@ -9,21 +9,21 @@ use Rattle.serde_json.specs.declared.value.Value.{Value}
 use Rattle.tl_tree.specs.Trees.{TreeValue}
 use Rattle.tl_tree.specs.Writing.{tree_text, integers_data}
 use Rattle.tl_tree.proofs.Texts.{whole_items, integer_whole, integers_whole}
-use Rattle.tl_protocol.specs.declared.action.Action.{Action}
-use Rattle.tl_protocol.specs.declared.action.Action.TheVariants.{Plain, Lock, Read, Write, Free, Emit, End}
+use Rattle.tl_tree_locking.specs.declared.action.Action.{Action}
+use Rattle.tl_tree_locking.specs.declared.action.Action.TheVariants.{Plain, Lock, Read, Write, Free, Emit, End}
 use Rattle.tl_core.specs.Cores.{CoreValue}
 use Rattle.tl_core.specs.Faults.{numbers_of}
 use Rattle.tl_core.specs.declared.stepped.Stepped.{Stepped}
 use Rattle.tl_core.specs.declared.stepped.Stepped.TheVariants.{Moved, Blocked, Over}
 use Rattle.tl_core.specs.declared.moves.Entry.{Entry}
 use Rattle.tl_core.specs.declared.moves.Entry.TheVariants as entry
-use Rattle.tl_protocol.specs.Order.{placed}
-use Rattle.tl_forms.specs.Lists.{natural}
+use Rattle.tl_tree_locking.specs.Order.{placed}
+use Rattle.tl_json.specs.Lists.{natural}
 use Rattle.tl_table.specs.declared.receipt.Receipt.{Receipt}
 use Rattle.tl_workers.specs.Refusals.{numbers_of as refusal_numbers_of}
 use Rattle.tl_workers.specs.declared.refusal.Refusal.{Refusal}
 use Rattle.tl_commands.specs.Trace.{action_data, stepped_data, entry_data, trace_data, error_data}
-use Rattle.tl_forms.specs.Lists.{calls_data, order_data, orders_data}
+use Rattle.tl_json.specs.Lists.{calls_data, order_data, orders_data}
 use Rattle.tl_commands.specs.Closing.{orders_form}
 use Rattle.tl_commands.specs.Drive.{IsConclusion}
 use Rattle.tl_commands.specs.Run.{answer_data, batch_data}

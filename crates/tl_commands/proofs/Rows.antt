@@ -3,12 +3,12 @@ use Rattle.std.proofs.Common.{◌≡◌, [], ◌∷◌, codes, pos, negsuc, refl
 use Rattle.std.specs.Fmt.{digits}
 use Rattle.serde_json.specs.Written.{compact_text}
 use Rattle.serde_json.proofs.OnLiterals.{serde_json_on_literals}
-use Rattle.tl_protocol.specs.declared.action.Action.TheVariants.{Plain, Lock, Read, Write, Free, Emit, End}
+use Rattle.tl_tree_locking.specs.declared.action.Action.TheVariants.{Plain, Lock, Read, Write, Free, Emit, End}
 use Rattle.tl_core.specs.declared.fault.CoreFault.TheVariants.{NoCall}
 use Rattle.tl_core.specs.declared.stepped.Stepped.TheVariants.{Moved, Blocked, Over}
 use Rattle.tl_core.specs.declared.moves.Entry.TheVariants.{Admitted, Stepped, Refused}
 use Rattle.tl_commands.specs.Trace.{trace_data, unfinished_data}
-use Rattle.tl_forms.specs.Lists.{order_data}
+use Rattle.tl_json.specs.Lists.{order_data}
 
 done : compact_text (trace_data (Admitted 0 ∷ Stepped 0 (Moved Plain) ∷ Stepped 0 (Moved (Lock 2 (pos 20 ∷ pos 0 ∷ pos 0 ∷ negsuc 0 ∷ []))) ∷ Stepped 0 (Moved (Read 2 0 (pos 20))) ∷ []))
     ≡ codes "{\"trace\":[[\"a\",0],[\"s\",0],[\"l\",0,2,[20,0,0,-1]],[\"r\",0,2,0,20]]}"

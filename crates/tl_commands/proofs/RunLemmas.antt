@@ -10,10 +10,10 @@ use Rattle.tl_tree.specs.Trees.{TreeValue}
 use Rattle.tl_tree.specs.Reading.{tree_of_text}
 use Rattle.tl_procedures.specs.declared.request.Request.{Request}
 use Rattle.tl_core.specs.Cores.{CoreValue}
-use Rattle.tl_forms.specs.declared.procedure.ProcedureText.{ProcedureText}
-use Rattle.tl_forms.specs.Procedures.{procedure_form}
-use Rattle.tl_forms.specs.Registering.{TakenUp}
-use Rattle.tl_forms.specs.Requests.{request_form}
+use Rattle.tl_json.specs.declared.procedure.ProcedureText.{ProcedureText}
+use Rattle.tl_json.specs.Procedures.{procedure_form}
+use Rattle.tl_json.specs.Registering.{TakenUp}
+use Rattle.tl_json.specs.Requests.{request_form}
 use Rattle.tl_commands.specs.declared.script.Script.{Script}
 use Rattle.tl_commands.specs.Script.{IsScript, script_view, batch_form, script_of_run}
 use Rattle.tl_table.specs.Epochs.{EpochValue}

@@ -12,9 +12,9 @@ use Rattle.serde_json.specs.Data.{Data, Items, no_items, item}
 use Rattle.serde_json.specs.Find.{as_array}
 use Rattle.tl_tree.specs.Reading.{each_item, both}
 use Rattle.tl_procedures.specs.declared.request.Request.{Request}
-use Rattle.tl_forms.specs.Lists.{each_of}
-use Rattle.tl_forms.specs.Procedures.{procedure_of}
-use Rattle.tl_forms.specs.Requests.{request_form, request_of}
+use Rattle.tl_json.specs.Lists.{each_of}
+use Rattle.tl_json.specs.Procedures.{procedure_of}
+use Rattle.tl_json.specs.Requests.{request_form, request_of}
 use Rattle.tl_commands.specs.declared.script.Script.{Script}
 use Rattle.tl_commands.specs.Script.{ScriptValue, BatchesValue, script_view, parts_of, script_of, if_few, batch_form, batch_of, script_of_calls, script_of_epochs, script_of_run}
 

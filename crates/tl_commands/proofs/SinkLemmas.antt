@@ -6,7 +6,7 @@ use Rattle.serde_json.specs.Data.{Data}
 use Rattle.serde_json.specs.Written.{comma_if, compact_text}
 use Rattle.serde_json.proofs.OnLiterals.{serde_json_on_literals}
 use Rattle.tl_tree.proofs.Texts.{list_written, map-map}
-use Rattle.tl_forms.proofs.Texts.{joined, joined_more, list_whole}
+use Rattle.tl_json.proofs.Texts.{joined, joined_more, list_whole}
 use Rattle.tl_table.specs.Epochs.{EpochValue}
 use Rattle.tl_trail.specs.Chains.{chain_text}
 use Rattle.tl_trail.specs.Writing.{trail_data, trail_text}

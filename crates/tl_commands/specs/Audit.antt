@@ -1,7 +1,7 @@
 -- What the command `audit` prints, and when it answers which fault.
 use Rattle.std.specs.Prelude.{◌≡◌, ◌≢◌, ◌⊎◌, ℕ, ◌==◌, ◌||◌, Bool, true, false, List, [], ◌∷◌, ◌++◌, map, if◌then◌else◌, IsTrue, IsUtf8}
 use Rattle.serde_json.specs.Written.{compact_text}
-use Rattle.tl_protocol.specs.Order.{placed}
+use Rattle.tl_tree_locking.specs.Order.{placed}
 use Rattle.tl_trail.specs.Trails.{TrailValue}
 use Rattle.tl_trail.specs.Reading.{IsTrailText, IsFirstTrailFault}
 use Rattle.tl_trail.specs.Chains.{IsChainText}
@@ -16,7 +16,7 @@ use Rattle.tl_audit.specs.declared.chain.ChainFault.{ChainFault}
 use Rattle.tl_commands.specs.declared.fault.CliFault.{CliFault}
 use Rattle.tl_commands.specs.declared.fault.CliFault.TheVariants.{Trail, Audit, Chain}
 use Rattle.tl_commands.specs.Faults.{status_of}
-use Rattle.tl_forms.specs.Lists.{order_data, orders_data}
+use Rattle.tl_json.specs.Lists.{order_data, orders_data}
 
 -- a bracket comes first, but for white space
 abbrev pub begins_with_list : List ℕ → Bool

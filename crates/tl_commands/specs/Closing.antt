@@ -2,7 +2,7 @@
 use Rattle.std.specs.Prelude.{◌≡◌, ℕ, Bool, true, false, List, [], ◌∷◌, map}
 use Rattle.serde_json.specs.Data.{Data}
 use Rattle.tl_tree.specs.Trees.{TreeValue}
-use Rattle.tl_forms.specs.Lists.{order_data, orders_data}
+use Rattle.tl_json.specs.Lists.{order_data, orders_data}
 use Rattle.tl_table.specs.Epochs.{EpochValue, seen}
 use Rattle.tl_table.specs.Tables.{IsChain}
 use Rattle.tl_table.specs.Chains.{epoch_order, IsSerial}

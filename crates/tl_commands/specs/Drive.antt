@@ -3,15 +3,15 @@ use Rattle.std.specs.Prelude.{◌≡◌, ◌≢◌, ◌⊎◌, ℕ, List, [], �
 use Rattle.serde_json.specs.Data.{Data}
 use Rattle.tl_tree.specs.Trees.{TreeValue}
 use Rattle.tl_tree.specs.Reading.{tree_of_text}
-use Rattle.tl_protocol.specs.History.{AllDone}
-use Rattle.tl_protocol.specs.Order.{placed}
+use Rattle.tl_tree_locking.specs.History.{AllDone}
+use Rattle.tl_tree_locking.specs.Order.{placed}
 use Rattle.tl_procedures.specs.Names.{Named}
 use Rattle.tl_core.specs.Cores.{CoreValue, IsLeastUnfinished}
 use Rattle.tl_core.specs.Entries.{Traced, after_moves}
 use Rattle.tl_core.specs.declared.moves.Move.{Move}
 use Rattle.tl_core.specs.declared.moves.Entry.{Entry}
-use Rattle.tl_forms.specs.Lists.{order_data}
-use Rattle.tl_forms.specs.Registering.{TakenUp}
+use Rattle.tl_json.specs.Lists.{order_data}
+use Rattle.tl_json.specs.Registering.{TakenUp}
 use Rattle.tl_record.specs.Recording.{trail_value}
 use Rattle.tl_trail.specs.Writing.{trail_text}
 use Rattle.tl_commands.specs.declared.fault.CliFault.{CliFault}

@@ -8,7 +8,7 @@ use Rattle.tl_instr.specs.Faults.{numbers_of as code_numbers_of}
 use Rattle.tl_instr.specs.declared.fault.CodeFault.TheVariants as code
 use Rattle.tl_verify.specs.Faults.{numbers_of as verify_numbers_of}
 use Rattle.tl_verify.specs.declared.fault.VerifyFault.TheVariants as verify
-use Rattle.tl_forms.specs.Faults.{numbers_of as register_numbers_of, is_memory}
+use Rattle.tl_json.specs.Faults.{numbers_of as register_numbers_of, is_memory}
 use Rattle.tl_core.specs.Faults.{numbers_of as core_numbers_of}
 use Rattle.tl_core.specs.declared.fault.CoreFault.TheVariants as core
 use Rattle.tl_trail.specs.Faults.{numbers_of as trail_numbers_of}

@@ -6,9 +6,9 @@ use Rattle.serde_json.specs.Written.{compact_text}
 use Rattle.tl_tree.specs.Writing.{integers_data}
 use Rattle.tl_procedures.specs.Names.{Named}
 use Rattle.tl_procedures.specs.declared.request.Request.{Request}
-use Rattle.tl_forms.specs.Lists.{list_data, natural}
-use Rattle.tl_forms.specs.Registering.{TakenUp}
-use Rattle.tl_forms.specs.Requests.{request_form}
+use Rattle.tl_json.specs.Lists.{list_data, natural}
+use Rattle.tl_json.specs.Registering.{TakenUp}
+use Rattle.tl_json.specs.Requests.{request_form}
 use Rattle.tl_table.specs.Epochs.{EpochValue}
 use Rattle.tl_table.specs.Tables.{TableValue, IsChain}
 use Rattle.tl_table.specs.declared.fault.TableFault.TheVariants.{TooManySessions}

@@ -7,9 +7,9 @@ use Rattle.serde_json.specs.Events.{members_len}
 use Rattle.serde_json.specs.Find.{as_number, as_u64, as_object, get_member}
 use Rattle.serde_json.specs.Read.{read}
 use Rattle.tl_tree.specs.Reading.{both}
-use Rattle.tl_forms.specs.Lists.{each_of}
-use Rattle.tl_forms.specs.Procedures.{procedure_form, procedure_of}
-use Rattle.tl_forms.specs.Requests.{request_form, request_of}
+use Rattle.tl_json.specs.Lists.{each_of}
+use Rattle.tl_json.specs.Procedures.{procedure_form, procedure_of}
+use Rattle.tl_json.specs.Requests.{request_form, request_of}
 use Rattle.tl_procedures.specs.declared.request.Request.{Request}
 use Rattle.tl_core.specs.declared.moves.Move.{Move}
 use Rattle.tl_core.specs.declared.moves.Move.TheVariants as a_move

@@ -5,12 +5,12 @@ use Rattle.serde_json.specs.Written.{compact_text}
 use Rattle.tl_tree.specs.Trees.{TreeValue}
 use Rattle.tl_tree.specs.Writing.{tree_text}
 use Rattle.tl_tree.specs.declared.fault.TreeFault.{TreeFault}
-use Rattle.tl_protocol.specs.History.{records_now}
+use Rattle.tl_tree_locking.specs.History.{records_now}
 use Rattle.tl_history.specs.declared.history.TheConstants.{MAX_EVENTS}
 use Rattle.tl_procedures.specs.Names.{Named}
 use Rattle.tl_core.specs.Cores.{CoreValue}
-use Rattle.tl_forms.specs.Registering.{IsFirstUnfit}
-use Rattle.tl_forms.specs.declared.fault.RegisterFault.{RegisterFault}
+use Rattle.tl_json.specs.Registering.{IsFirstUnfit}
+use Rattle.tl_json.specs.declared.fault.RegisterFault.{RegisterFault}
 use Rattle.tl_commands.specs.declared.fault.CliFault.{CliFault}
 use Rattle.tl_commands.specs.declared.fault.CliFault.TheVariants.{Tree, Register, NotScript}
 use Rattle.tl_commands.specs.Alone.{IsTreeFile, IsTreeFault}

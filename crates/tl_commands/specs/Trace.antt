@@ -3,11 +3,11 @@ use Rattle.std.specs.Prelude.{ℕ, List, [], ◌∷◌, map, codes}
 use Rattle.serde_json.specs.Data.{Data, array, object, member, no_members}
 use Rattle.serde_json.specs.View.{items_of}
 use Rattle.tl_tree.specs.Writing.{integer_data, integers_data}
-use Rattle.tl_protocol.specs.declared.action.Action.{Action}
-use Rattle.tl_protocol.specs.declared.action.Action.TheVariants.{Plain, Lock, Read, Write, Free, Emit, End}
-use Rattle.tl_forms.specs.Lists.{natural}
-use Rattle.tl_forms.specs.Letters.{lettered}
-use Rattle.tl_forms.specs.declared.letter.Letter.TheVariants as letter
+use Rattle.tl_tree_locking.specs.declared.action.Action.{Action}
+use Rattle.tl_tree_locking.specs.declared.action.Action.TheVariants.{Plain, Lock, Read, Write, Free, Emit, End}
+use Rattle.tl_json.specs.Lists.{natural}
+use Rattle.tl_json.specs.Letters.{lettered}
+use Rattle.tl_json.specs.declared.letter.Letter.TheVariants as letter
 use Rattle.tl_core.specs.Faults.{numbers_of}
 use Rattle.tl_core.specs.declared.stepped.Stepped.{Stepped}
 use Rattle.tl_core.specs.declared.stepped.Stepped.TheVariants.{Moved, Blocked, Over}

@@ -3,7 +3,7 @@
 ghost use Rattle.std.specs.Prelude.{◌≡◌, codes, map, IfOk};
 ghost use Rattle.serde_json.specs.Data.{object, member, no_members};
 ghost use Rattle.serde_json.specs.View.{view};
-ghost use Rattle.tl_forms.specs.Lists.{list_data, natural};
+ghost use Rattle.tl_json.specs.Lists.{list_data, natural};
 ghost use Rattle.tl_commands.specs.Run.{with_epoch, answer_data, batch_data};
 
 use crate::trace::error_to_value;

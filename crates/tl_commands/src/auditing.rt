@@ -2,7 +2,7 @@
 
 ghost use Rattle.std.specs.Prelude.{◌≡◌, ◌≢◌, [], ◌∷◌, ◌++◌, map, string_bytes, IfOk, IfErr};
 ghost use Rattle.serde_json.specs.Written.{compact_text};
-ghost use Rattle.tl_forms.specs.Lists.{order_data, orders_data};
+ghost use Rattle.tl_json.specs.Lists.{order_data, orders_data};
 ghost use Rattle.tl_table.specs.Chains.{calls_in};
 ghost use Rattle.tl_commands.specs.Audit.{begins_with_list, Audits, AuditsTrail, AuditsChain, IsFirstAuditFault, IsFirstTrailAuditFault, IsFirstChainAuditFault};
 
@@ -11,8 +11,8 @@ use crate::fault::CliFault;
 use crate::outputs::line_of;
 use std::alloc::{AllocError, Global};
 use tl_audit::{Progress, audit_chain_with, audit_with};
-use tl_forms::order_to_value;
-use tl_order::Order;
+use tl_json::order_to_value;
+use tl_serial_order::Order;
 use tl_trail::{TrailFault, read_chain, read_trail};
 
 // Whether a text is a list, if it is one of JSON: whether it begins with a bracket, but for white space.

@@ -3,8 +3,8 @@
 ghost use Rattle.std.specs.Prelude.{◌≡◌, ◌∷◌, ◌++◌, [], map, string_bytes, IfOk, IfErr};
 ghost use Rattle.serde_json.specs.View.{view, items_view};
 ghost use Rattle.serde_json.specs.Written.{compact_text};
-ghost use Rattle.tl_order.specs.Order.{OrderValue};
-ghost use Rattle.tl_forms.specs.Lists.{orders_data};
+ghost use Rattle.tl_serial_order.specs.Order.{OrderValue};
+ghost use Rattle.tl_json.specs.Lists.{orders_data};
 ghost use Rattle.tl_table.specs.Chains.{calls_in};
 ghost use Rattle.tl_table.specs.Tables.{IsChain};
 ghost use Rattle.tl_commands.specs.Closing.{AreOrders, IsClosing, orders_form};
@@ -15,8 +15,8 @@ use crate::outputs::two_lines;
 use serde_json::Value;
 use std::alloc::{AllocError, Global};
 use tl_core::CoreFault;
-use tl_forms::{calls_to_value, order_to_value, orders_to_value};
-use tl_order::Order;
+use tl_json::{calls_to_value, order_to_value, orders_to_value};
+use tl_serial_order::Order;
 use tl_table::{Closed, conclude_all};
 
 /// `{"orders":[..]}`, with the order of each epoch.

@@ -16,9 +16,9 @@ use crate::trace::{trace_to_value, unfinished_to_value};
 use serde_json::Value;
 use std::alloc::Global;
 use tl_core::{Core, CoreFault, Entry};
-use tl_forms::order_to_value;
-use tl_order::SerialFault;
+use tl_json::order_to_value;
 use tl_serial::conclude;
+use tl_serial_order::SerialFault;
 
 // The value of the second line.
 fn conclusion(alloc: Global, core: &Core) -> Result<Value, CliFault>

@@ -3,9 +3,9 @@
 ghost use Rattle.std.specs.Prelude.{◌≡◌, ◌≢◌, [], map, IfOk, IfErr, Ok};
 ghost use Rattle.tl_tree.specs.Reading.{tree_of_text};
 ghost use Rattle.tl_procedures.specs.Names.{Named};
-ghost use Rattle.tl_forms.specs.Procedures.{procedure_form};
-ghost use Rattle.tl_forms.specs.Registering.{TakenUp, IsFirstUnfit};
-ghost use Rattle.tl_forms.specs.declared.fault.RegisterFault.{RegisterFault};
+ghost use Rattle.tl_json.specs.Procedures.{procedure_form};
+ghost use Rattle.tl_json.specs.Registering.{TakenUp, IsFirstUnfit};
+ghost use Rattle.tl_json.specs.declared.fault.RegisterFault.{RegisterFault};
 ghost use Rattle.tl_commands.specs.declared.fault.CliFault.TheVariants.{Register};
 ghost use Rattle.tl_commands.specs.Alone.{IsTreeFault};
 ghost use Rattle.tl_commands.specs.Faults.{status_of};
@@ -14,8 +14,8 @@ ghost use Rattle.tl_commands.specs.Scripted.{core_with};
 use crate::fault::CliFault;
 use std::alloc::Global;
 use tl_core::Core;
-use tl_forms::{ProcedureText, register_all};
 use tl_history::MAX_EVENTS;
+use tl_json::{ProcedureText, register_all};
 use tl_tree::{Tree, TreeFault, read_tree};
 
 /// The tree that a file has. 106 where it is no UTF-8 or has another form, then 101 to 105.

@@ -19,7 +19,7 @@ use crate::sink::TrailSink;
 use std::alloc::Global;
 use std::sync::Wait;
 use std::thread::Threads;
-use tl_forms::Request;
+use tl_json::Request;
 use tl_table::{Closed, Receipt};
 use tl_workers::{Engine, Gate, MAX_WORKERS, Refusal, Session};
 

@@ -10,7 +10,7 @@ use crate::fault::CliFault;
 use serde_json::Value;
 use std::alloc::{AllocError, Global};
 use tl_core::Move;
-use tl_forms::{FromValue, ProcedureText, Request, each_of, parse};
+use tl_json::{FromValue, ProcedureText, Request, each_of, parse};
 use tl_table::MAX_EPOCHS;
 use tl_workers::MAX_REQUESTS;
 
@@ -121,7 +121,7 @@ impl FromValue for BatchForm {
     type Item = Vec<Request>;
 
     ghost use Rattle.std.specs.Prelude.{ℕ, ℤ, List, map};
-    ghost use Rattle.tl_forms.specs.Requests.{request_form};
+    ghost use Rattle.tl_json.specs.Requests.{request_form};
     ghost use Rattle.tl_commands.specs.Script.{batch_of};
 
     ghost Form = { List (List ℕ × List ℤ) };

@@ -3,16 +3,16 @@
 ghost use Rattle.std.specs.Prelude.{◌≡◌, ◌∷◌, ◌++◌, [], codes, map, IfOk, OnOk};
 ghost use Rattle.serde_json.specs.Data.{array, object, member, no_members};
 ghost use Rattle.serde_json.specs.View.{view, items_of};
-ghost use Rattle.tl_forms.specs.Lists.{natural};
-ghost use Rattle.tl_forms.specs.Letters.{lettered};
-ghost use Rattle.tl_forms.specs.declared.letter.Letter.TheVariants as letter;
+ghost use Rattle.tl_json.specs.Lists.{natural};
+ghost use Rattle.tl_json.specs.Letters.{lettered};
+ghost use Rattle.tl_json.specs.declared.letter.Letter.TheVariants as letter;
 ghost use Rattle.tl_commands.specs.Trace.{action_data, stepped_data, entry_data, trace_data, error_data, unfinished_data};
 
 use serde_json::{Value, json};
 use std::alloc::{AllocError, Global};
 use tl_core::{Entry, Stepped};
-use tl_forms::{Letter, call_to_value, node_to_value};
-use tl_protocol::Action;
+use tl_json::{Letter, call_to_value, node_to_value};
+use tl_tree_locking::Action;
 
 // A call, a node, a field, and its value.
 fn field_to_value(

@@ -1,14 +1,14 @@
 -- What an action adds to a history.
 use Rattle.std.proofs.Common.{◌≡◌, ◌≢◌, ℕ, zero, suc, ◌+◌, ◌≤◌, ◌||◌, false, List, [], ◌∷◌, length, refl, ap, ◌∙◌, arith}
 use Rattle.std.proofs.lemmas.Bool.{ne_eqb, eq-eqb}
-use Rattle.tl_protocol.specs.declared.action.Action.{Action}
-use Rattle.tl_protocol.specs.declared.action.Action.TheVariants as did
-use Rattle.tl_protocol.specs.declared.event.Event.{Event}
-use Rattle.tl_protocol.specs.declared.event.Event.TheVariants.{Lock, Free, Done}
-use Rattle.tl_protocol.specs.Actions.{is_end, has_ended, shared_actions, lock_count, free_count, taken}
-use Rattle.tl_protocol.specs.History.{part_of, is_done}
-use Rattle.tl_protocol.specs.World.{past_after}
-use Rattle.tl_protocol.proofs.PartLemmas.{part_of-lock, part_of-free, part_of-done, part_of-other}
+use Rattle.tl_tree_locking.specs.declared.action.Action.{Action}
+use Rattle.tl_tree_locking.specs.declared.action.Action.TheVariants as did
+use Rattle.tl_tree_locking.specs.declared.event.Event.{Event}
+use Rattle.tl_tree_locking.specs.declared.event.Event.TheVariants.{Lock, Free, Done}
+use Rattle.tl_tree_locking.specs.Actions.{is_end, has_ended, shared_actions, lock_count, free_count, taken}
+use Rattle.tl_tree_locking.specs.History.{part_of, is_done}
+use Rattle.tl_tree_locking.specs.World.{past_after}
+use Rattle.tl_tree_locking.proofs.PartLemmas.{part_of-lock, part_of-free, part_of-done, part_of-other}
 
 pub part_after : (c : ℕ) (a : Action) (past : List Event) (done : List Action) → part_of c past ≡ shared_actions done
     → part_of c (past_after c a past) ≡ shared_actions (a ∷ done)

@@ -7,13 +7,13 @@ use Rattle.tl_tree.specs.Records.{Records}
 use Rattle.tl_tree.specs.Trees.{TreeValue}
 use Rattle.tl_instr.specs.Codes.{CodeValue, IsCode}
 use Rattle.tl_verify.specs.Acceptable.{Acceptable}
-use Rattle.tl_protocol.specs.declared.event.Event.{Event}
-use Rattle.tl_protocol.specs.declared.event.Event.TheVariants as event
-use Rattle.tl_protocol.specs.Alone.{Outcome, EndsOnce, IsAlone}
-use Rattle.tl_protocol.specs.History.{part_of, is_done, admits}
-use Rattle.tl_protocol.specs.World.{IsSound, Reached, Admits, after_admission}
-use Rattle.tl_protocol.proofs.ReachedWorlds.{sound_after_admission, unadmitted_done}
-use Rattle.tl_protocol.proofs.WorldSteps.{unadmitted}
+use Rattle.tl_tree_locking.specs.declared.event.Event.{Event}
+use Rattle.tl_tree_locking.specs.declared.event.Event.TheVariants as event
+use Rattle.tl_tree_locking.specs.Alone.{Outcome, EndsOnce, IsAlone}
+use Rattle.tl_tree_locking.specs.History.{part_of, is_done, admits}
+use Rattle.tl_tree_locking.specs.World.{IsSound, Reached, Admits, after_admission}
+use Rattle.tl_tree_locking.proofs.ReachedWorlds.{sound_after_admission, unadmitted_done}
+use Rattle.tl_tree_locking.proofs.WorldSteps.{unadmitted}
 use Rattle.tl_history.specs.Stored.{Stored}
 use Rattle.tl_machine.specs.Runs.{Run, actions}
 use Rattle.tl_machine.specs.Alone.{alone}

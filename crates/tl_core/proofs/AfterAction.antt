@@ -4,13 +4,13 @@ use Rattle.std.proofs.lemmas.Bool.{cases_eq, ne_eqb, eq-eqb}
 use Rattle.std.proofs.lemmas.List.{length-set, map-set}
 use Rattle.std.proofs.lemmas.Option.{slice_get_within}
 use Rattle.tl_tree.specs.Trees.{TreeValue}
-use Rattle.tl_protocol.specs.declared.action.Action.{Action}
-use Rattle.tl_protocol.specs.declared.event.Event.{Event}
-use Rattle.tl_protocol.specs.Actions.{emitted}
-use Rattle.tl_protocol.specs.History.{is_done, records_now}
-use Rattle.tl_protocol.specs.Holders.{holder_of}
-use Rattle.tl_protocol.specs.World.{MayTake, as_found}
-use Rattle.tl_protocol.proofs.WorldSteps.{admits-past_after}
+use Rattle.tl_tree_locking.specs.declared.action.Action.{Action}
+use Rattle.tl_tree_locking.specs.declared.event.Event.{Event}
+use Rattle.tl_tree_locking.specs.Actions.{emitted}
+use Rattle.tl_tree_locking.specs.History.{is_done, records_now}
+use Rattle.tl_tree_locking.specs.Holders.{holder_of}
+use Rattle.tl_tree_locking.specs.World.{MayTake, as_found}
+use Rattle.tl_tree_locking.proofs.WorldSteps.{admits-past_after}
 use Rattle.tl_machine.specs.Turns.{TurnValue, IsTurn, with_call}
 use Rattle.tl_core.specs.Stored.{Kept}
 use Rattle.tl_core.specs.Cores.{CoreValue, call_of, world_of, total, owed_to, places}

@@ -5,15 +5,15 @@ use Rattle.std.proofs.lemmas.List.{length-map}
 use Rattle.std.proofs.lemmas.Option.{slice_get-map, slice_get_within, get_or_from_slice_get}
 use Rattle.tl_tree.specs.Records.{Record, Records}
 use Rattle.tl_tree.specs.Trees.{TreeValue}
-use Rattle.tl_protocol.specs.declared.action.Action.{Action}
-use Rattle.tl_protocol.specs.declared.action.Action.TheVariants as did
-use Rattle.tl_protocol.specs.Actions.{with_found}
-use Rattle.tl_protocol.specs.History.{part_of, is_done, admits, IsOpen}
-use Rattle.tl_protocol.specs.Holders.{holder_of}
-use Rattle.tl_protocol.specs.World.{IsSound, Reached, Moves, MayTake, alone_of, next_of}
-use Rattle.tl_protocol.proofs.Records.{length-with_found}
-use Rattle.tl_protocol.proofs.Holders.{holderless_may_take}
-use Rattle.tl_protocol.proofs.ReachedWorlds.{sound_after_step}
+use Rattle.tl_tree_locking.specs.declared.action.Action.{Action}
+use Rattle.tl_tree_locking.specs.declared.action.Action.TheVariants as did
+use Rattle.tl_tree_locking.specs.Actions.{with_found}
+use Rattle.tl_tree_locking.specs.History.{part_of, is_done, admits, IsOpen}
+use Rattle.tl_tree_locking.specs.Holders.{holder_of}
+use Rattle.tl_tree_locking.specs.World.{IsSound, Reached, Moves, MayTake, alone_of, next_of}
+use Rattle.tl_tree_locking.proofs.Records.{length-with_found}
+use Rattle.tl_tree_locking.proofs.Holders.{holderless_may_take}
+use Rattle.tl_tree_locking.proofs.ReachedWorlds.{sound_after_step}
 use Rattle.tl_machine.specs.Runs.{Run, Then, actions}
 use Rattle.tl_machine.specs.Outcomes.{meaning}
 use Rattle.tl_machine.specs.BetweenSteps.{run_left}

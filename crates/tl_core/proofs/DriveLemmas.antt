@@ -5,10 +5,10 @@ use Rattle.std.specs.Option.{option_map_or}
 use Rattle.std.proofs.lemmas.Bool.{ne_eqb, eq-eqb, ltb-true}
 use Rattle.std.proofs.lemmas.List.{length-set, length-append, get_or-set_same, get_or-set_other}
 use Rattle.tl_budget.specs.Loops.{budget}
-use Rattle.tl_protocol.specs.declared.action.Action.{Action}
-use Rattle.tl_protocol.specs.History.{admits, is_done}
-use Rattle.tl_protocol.specs.World.{next_of}
-use Rattle.tl_protocol.proofs.WorldSteps.{admits-past_after}
+use Rattle.tl_tree_locking.specs.declared.action.Action.{Action}
+use Rattle.tl_tree_locking.specs.History.{admits, is_done}
+use Rattle.tl_tree_locking.specs.World.{next_of}
+use Rattle.tl_tree_locking.proofs.WorldSteps.{admits-past_after}
 use Rattle.tl_core.specs.declared.fault.CoreFault.{CoreFault}
 use Rattle.tl_core.specs.declared.stepped.Stepped.{Stepped}
 use Rattle.tl_core.specs.declared.stepped.Stepped.TheVariants.{Moved, Blocked, Over}

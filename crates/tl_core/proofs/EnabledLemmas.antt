@@ -6,16 +6,16 @@ use Rattle.tl_core.specs.declared.fault.CoreFault.{CoreFault}
 use Rattle.std.specs.Option.{is_some}
 use Rattle.std.proofs.lemmas.Bool.{cases_eq, both_ways, cases_Bool}
 use Rattle.tl_tree.specs.Trees.{TreeValue}
-use Rattle.tl_protocol.specs.declared.action.Action.{Action}
-use Rattle.tl_protocol.specs.declared.action.Action.TheVariants as did
-use Rattle.tl_protocol.specs.History.{is_done, admits, AllDone}
-use Rattle.tl_protocol.specs.Holders.{holder_of}
-use Rattle.tl_protocol.specs.World.{World, IsEnabled}
+use Rattle.tl_tree_locking.specs.declared.action.Action.{Action}
+use Rattle.tl_tree_locking.specs.declared.action.Action.TheVariants as did
+use Rattle.tl_tree_locking.specs.History.{is_done, admits, AllDone}
+use Rattle.tl_tree_locking.specs.Holders.{holder_of}
+use Rattle.tl_tree_locking.specs.World.{World, IsEnabled}
 use Rattle.std.proofs.lemmas.Option.{slice_get_within}
 use Rattle.tl_core.specs.declared.call.Call.{Call}
 use Rattle.tl_core.specs.declared.call.OpenCall.{OpenCall}
-use Rattle.tl_protocol.proofs.Holders.{holder_stuck}
-use Rattle.tl_protocol.proofs.NoStandstill.{may_take_enabled, some_enabled}
+use Rattle.tl_tree_locking.proofs.Holders.{holder_stuck}
+use Rattle.tl_tree_locking.proofs.NoStandstill.{may_take_enabled, some_enabled}
 use Rattle.tl_machine.specs.Runs.{Run, Then, At, Ended}
 use Rattle.tl_machine.specs.Turns.{Wants, Stops}
 use Rattle.tl_machine.specs.Wants.{want_of}

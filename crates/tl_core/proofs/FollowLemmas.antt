@@ -3,9 +3,9 @@ use Rattle.std.proofs.Common.{◌≡◌, ◌≢◌, ℕ, zero, suc, ◌<◌, fal
 use Rattle.std.proofs.lemmas.Bool.{both_ways}
 use Rattle.std.proofs.lemmas.Option.{slice_get_within}
 use Rattle.tl_tree.specs.Trees.{TreeValue}
-use Rattle.tl_protocol.specs.declared.action.Action.{Action}
-use Rattle.tl_protocol.specs.declared.action.Action.TheVariants as did
-use Rattle.tl_protocol.specs.History.{is_done}
+use Rattle.tl_tree_locking.specs.declared.action.Action.{Action}
+use Rattle.tl_tree_locking.specs.declared.action.Action.TheVariants as did
+use Rattle.tl_tree_locking.specs.History.{is_done}
 use Rattle.tl_machine.specs.Runs.{Run, Then, At, Ended}
 use Rattle.tl_machine.specs.BetweenSteps.{IsLocal}
 use Rattle.tl_machine.specs.Turns.{ComesByLocal, here, onward, Stops, with_call}

@@ -4,8 +4,8 @@ use Rattle.std.proofs.lemmas.Bool.{cases_lt}
 use Rattle.std.proofs.lemmas.List.{length-map, get_or_past}
 use Rattle.std.proofs.lemmas.Option.{slice_get-map, get_or_from_slice_get}
 use Rattle.tl_tree.specs.Trees.{TreeValue}
-use Rattle.tl_protocol.specs.History.{part_of, is_done, IsOpen}
-use Rattle.tl_protocol.specs.declared.action.Action.{Action}
+use Rattle.tl_tree_locking.specs.History.{part_of, is_done, IsOpen}
+use Rattle.tl_tree_locking.specs.declared.action.Action.{Action}
 use Rattle.tl_machine.specs.Stopped.{after_action}
 use Rattle.tl_machine.specs.Turns.{TurnValue, Stops, left_of, with_call}
 use Rattle.tl_machine.specs.declared.want.Stop.{Stop}

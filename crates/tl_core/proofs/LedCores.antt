@@ -1,7 +1,7 @@
 -- A core one of whose calls is led to the end of a segment.
 use Rattle.std.proofs.Common.{◌≡◌, ℕ, ◌<◌, List, length, map, sym, ap, ◌∙◌, subst, arith, Option, Some, None, slice_get, get_or, set}
 use Rattle.tl_tree.specs.Trees.{TreeValue}
-use Rattle.tl_protocol.specs.declared.action.Action.{Action}
+use Rattle.tl_tree_locking.specs.declared.action.Action.{Action}
 use Rattle.tl_machine.specs.Turns.{TurnValue, SegmentValue, IsSegment, ComesByLocal, Stops, with_call, end_of}
 use Rattle.tl_machine.specs.declared.want.Stop.TheVariants as stop
 use Rattle.tl_core.specs.declared.call.Call.{Call}
@@ -10,7 +10,7 @@ use Rattle.tl_core.specs.Stored.{Kept, seen_call, seen_turn}
 use Rattle.tl_core.specs.Cores.{CoreValue}
 use Rattle.tl_core.specs.Followed.{Goes, EachLocal, IsInTheWay}
 use Rattle.tl_core.specs.Kept.{IsCore, IsWholeCore, call_value}
-use Rattle.tl_protocol.specs.Holders.{holder_of}
+use Rattle.tl_tree_locking.specs.Holders.{holder_of}
 use Rattle.tl_core.proofs.StoredCalls.{same_item}
 use Rattle.tl_core.proofs.OpenCall.{IsAt, in_place, kept_here, turn_same, whole_then, seen_on}
 use Rattle.tl_core.proofs.KeptTurns.{kept_with}

@@ -3,8 +3,8 @@ use Rattle.std.proofs.Common.{◌≡◌, ℕ, List, [], length, replicate, map, 
 use Rattle.std.proofs.lemmas.List.{get_or-replicate, length-replicate}
 use Rattle.std.proofs.lemmas.Option.{slice_get-get_or}
 use Rattle.tl_tree.specs.Trees.{TreeValue, IsWhole}
-use Rattle.tl_protocol.specs.World.{Opens}
-use Rattle.tl_protocol.proofs.ReachedWorlds.{sound_opening}
+use Rattle.tl_tree_locking.specs.World.{Opens}
+use Rattle.tl_tree_locking.proofs.ReachedWorlds.{sound_opening}
 use Rattle.tl_core.specs.Stored.{seen_call, AreStored}
 use Rattle.tl_history.specs.Stored.{Stored}
 use Rattle.tl_procedures.specs.Names.{Named}

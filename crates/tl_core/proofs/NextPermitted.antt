@@ -6,18 +6,18 @@ use Rattle.std.proofs.Math.Nat.{le-min}
 use Rattle.tl_tree.specs.Records.{Record}
 use Rattle.tl_tree.specs.Trees.{TreeValue}
 use Rattle.tl_budget.specs.Loops.{lock_bound}
-use Rattle.tl_protocol.specs.declared.action.Action.{Action}
-use Rattle.tl_protocol.specs.declared.action.Action.TheVariants as did
-use Rattle.tl_protocol.specs.Actions.{locked, freed, taken, lock_count, free_count, EachPermitted}
-use Rattle.tl_protocol.specs.Alone.{all_taken}
-use Rattle.tl_protocol.specs.History.{part_of}
-use Rattle.tl_protocol.specs.World.{alone_of}
-use Rattle.tl_protocol.proofs.Alone.{taken-next, obeys_taken, finds_at}
-use Rattle.tl_protocol.proofs.MayComeLemmas.{held-locked}
-use Rattle.tl_protocol.proofs.Counts.{frees_within, part_locks_within}
-use Rattle.tl_protocol.proofs.RecordsAlongOrder.{freed-locked}
-use Rattle.tl_protocol.proofs.SharedActions.{locked-shared_actions}
-use Rattle.tl_protocol.proofs.WorldSteps.{part_inside}
+use Rattle.tl_tree_locking.specs.declared.action.Action.{Action}
+use Rattle.tl_tree_locking.specs.declared.action.Action.TheVariants as did
+use Rattle.tl_tree_locking.specs.Actions.{locked, freed, taken, lock_count, free_count, EachPermitted}
+use Rattle.tl_tree_locking.specs.Alone.{all_taken}
+use Rattle.tl_tree_locking.specs.History.{part_of}
+use Rattle.tl_tree_locking.specs.World.{alone_of}
+use Rattle.tl_tree_locking.proofs.Alone.{taken-next, obeys_taken, finds_at}
+use Rattle.tl_tree_locking.proofs.MayComeLemmas.{held-locked}
+use Rattle.tl_tree_locking.proofs.Counts.{frees_within, part_locks_within}
+use Rattle.tl_tree_locking.proofs.RecordsAlongOrder.{freed-locked}
+use Rattle.tl_tree_locking.proofs.SharedActions.{locked-shared_actions}
+use Rattle.tl_tree_locking.proofs.WorldSteps.{part_inside}
 use Rattle.tl_machine.specs.Runs.{Run, Then, actions}
 use Rattle.tl_core.specs.Stored.{Kept}
 use Rattle.tl_core.specs.Cores.{CoreValue, call_of, code_of, world_of, places}

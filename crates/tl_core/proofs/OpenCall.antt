@@ -4,8 +4,8 @@ use Rattle.std.proofs.lemmas.Bool.{lt-ltb, both_ways, cases_lt}
 use Rattle.std.proofs.lemmas.List.{length-map, length-set, get_or_past}
 use Rattle.std.proofs.lemmas.Option.{slice_get-map, slice_get_read, slice_get_within, get_or_from_slice_get}
 use Rattle.tl_tree.specs.Trees.{TreeValue}
-use Rattle.tl_protocol.specs.declared.event.Event.{Event}
-use Rattle.tl_protocol.specs.History.{is_done, admits}
+use Rattle.tl_tree_locking.specs.declared.event.Event.{Event}
+use Rattle.tl_tree_locking.specs.History.{is_done, admits}
 use Rattle.tl_machine.specs.Turns.{TurnValue, Stops}
 use Rattle.tl_core.specs.declared.call.Call.{Call}
 use Rattle.tl_core.specs.declared.call.OpenCall.{OpenCall}
@@ -16,10 +16,10 @@ use Rattle.tl_core.specs.declared.interleaving.TheConstants.{MAX_OPEN}
 use Rattle.tl_core.specs.Cores.{CoreValue, call_of, world_of}
 use Rattle.tl_core.specs.Entries.{step_answer}
 use Rattle.tl_core.proofs.CallInWorld.{admitted, over_done}
-use Rattle.tl_protocol.specs.Actions.{emitted}
+use Rattle.tl_tree_locking.specs.Actions.{emitted}
 use Rattle.tl_machine.specs.declared.want.Stop.TheVariants as stop
 use Rattle.tl_core.proofs.ReaderLemmas.{kept_at, request_known, request_arity, reply_is}
-use Rattle.tl_protocol.specs.World.{IsEnabled, reply_of}
+use Rattle.tl_tree_locking.specs.World.{IsEnabled, reply_of}
 use Rattle.tl_core.specs.Stored.{Kept, slot_of, reply_in, turn_in, seen_call, seen_turn, open_call, IsStored, AreStored}
 use Rattle.tl_core.specs.Kept.{IsCore, IsWholeCore, call_value}
 use Rattle.tl_core.proofs.StoredCalls.{IsWithout, same_item, slice_get-set_same, kept_of, stored_of, seen_are, turns_are, other_turn, no_reply, stored_turn, stored_last, stored_moved}

@@ -5,18 +5,18 @@ use Rattle.std.proofs.lemmas.List.{length-map}
 use Rattle.tl_tree.specs.Records.{record_at}
 use Rattle.tl_tree.specs.Trees.{TreeValue}
 use Rattle.tl_budget.specs.Loops.{budget, lock_bound, emit_bound}
-use Rattle.tl_protocol.specs.declared.action.Action.{Action}
-use Rattle.tl_protocol.specs.declared.action.Action.TheVariants as did
-use Rattle.tl_protocol.specs.Actions.{held, emitted, taken, lock_count}
-use Rattle.tl_protocol.specs.Holders.{holder_of}
-use Rattle.tl_protocol.proofs.Holders.{held-holder, holder-held}
-use Rattle.tl_protocol.proofs.NoStandstill.{sound_history}
-use Rattle.tl_protocol.specs.Alone.{all_taken}
-use Rattle.tl_protocol.specs.History.{part_of, is_done, admits, record_now}
-use Rattle.tl_protocol.specs.Obeys.{Obeys}
-use Rattle.tl_protocol.specs.World.{alone_of, reply_of}
-use Rattle.tl_protocol.proofs.Records.{record_at-records_now, length-records_now}
-use Rattle.tl_protocol.proofs.ObeysByPlaces.{obeys_first}
+use Rattle.tl_tree_locking.specs.declared.action.Action.{Action}
+use Rattle.tl_tree_locking.specs.declared.action.Action.TheVariants as did
+use Rattle.tl_tree_locking.specs.Actions.{held, emitted, taken, lock_count}
+use Rattle.tl_tree_locking.specs.Holders.{holder_of}
+use Rattle.tl_tree_locking.proofs.Holders.{held-holder, holder-held}
+use Rattle.tl_tree_locking.proofs.NoStandstill.{sound_history}
+use Rattle.tl_tree_locking.specs.Alone.{all_taken}
+use Rattle.tl_tree_locking.specs.History.{part_of, is_done, admits, record_now}
+use Rattle.tl_tree_locking.specs.Obeys.{Obeys}
+use Rattle.tl_tree_locking.specs.World.{alone_of, reply_of}
+use Rattle.tl_tree_locking.proofs.Records.{record_at-records_now, length-records_now}
+use Rattle.tl_tree_locking.proofs.ObeysByPlaces.{obeys_first}
 use Rattle.tl_machine.specs.Runs.{actions, emits_of}
 use Rattle.tl_machine.specs.Outcomes.{meaning}
 use Rattle.tl_machine.proofs.StartLemmas.{few_steps, few_locks, few_values}

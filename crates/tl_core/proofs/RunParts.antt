@@ -4,13 +4,13 @@ use Rattle.std.specs.Prelude.{Result}
 use Rattle.std.proofs.lemmas.Bool.{cases_eq, ne_eqb, eq-eqb, ltb-true, lt-ltb, both_ways}
 use Rattle.std.proofs.lemmas.List.{append-nil, append_assoc, get_or_past}
 use Rattle.tl_tree.specs.Records.{Record}
-use Rattle.tl_protocol.specs.declared.action.Action.{Action}
-use Rattle.tl_protocol.specs.declared.action.Action.TheVariants as did
-use Rattle.tl_protocol.specs.History.{is_done, admits}
-use Rattle.tl_protocol.specs.Holders.{holder_of}
-use Rattle.tl_protocol.specs.World.{IsSound, IsStuck, MayTake, alone_of, next_of, as_found, done_of, after_step as world_after}
-use Rattle.tl_protocol.proofs.DoneSteps.{done_own, done_others}
-use Rattle.tl_protocol.proofs.Holders.{holder_stuck, stuck_holder, holderless_may_take}
+use Rattle.tl_tree_locking.specs.declared.action.Action.{Action}
+use Rattle.tl_tree_locking.specs.declared.action.Action.TheVariants as did
+use Rattle.tl_tree_locking.specs.History.{is_done, admits}
+use Rattle.tl_tree_locking.specs.Holders.{holder_of}
+use Rattle.tl_tree_locking.specs.World.{IsSound, IsStuck, MayTake, alone_of, next_of, as_found, done_of, after_step as world_after}
+use Rattle.tl_tree_locking.proofs.DoneSteps.{done_own, done_others}
+use Rattle.tl_tree_locking.proofs.Holders.{holder_stuck, stuck_holder, holderless_may_take}
 use Rattle.tl_core.specs.declared.fault.CoreFault.TheVariants as fault
 use Rattle.tl_core.specs.declared.fault.CoreFault.{CoreFault}
 use Rattle.tl_core.specs.declared.stepped.Stepped.{Stepped}

@@ -6,16 +6,16 @@ use Rattle.tl_tree.specs.Records.{Record, Records, record_at, put_record}
 use Rattle.tl_tree.specs.Trees.{TreeValue}
 use Rattle.tl_instr.specs.declared.instr.Instr.{Instr}
 use Rattle.tl_budget.specs.Loops.{lock_bound}
-use Rattle.tl_protocol.specs.declared.action.Action.{Action}
-use Rattle.tl_protocol.specs.declared.action.Action.TheVariants as did
-use Rattle.tl_protocol.specs.declared.event.Event.{Event}
-use Rattle.tl_protocol.specs.declared.event.Event.TheVariants as event
-use Rattle.tl_protocol.specs.Actions.{is_end, emitted, lock_count, shared_actions}
-use Rattle.tl_protocol.specs.Alone.{all_taken}
-use Rattle.tl_protocol.specs.History.{record_now, records_now}
-use Rattle.tl_protocol.specs.Holders.{holder_of}
-use Rattle.tl_protocol.specs.World.{World, as_found, past_after, alone_of}
-use Rattle.tl_protocol.proofs.Records.{record_at-records_now, length-records_now}
+use Rattle.tl_tree_locking.specs.declared.action.Action.{Action}
+use Rattle.tl_tree_locking.specs.declared.action.Action.TheVariants as did
+use Rattle.tl_tree_locking.specs.declared.event.Event.{Event}
+use Rattle.tl_tree_locking.specs.declared.event.Event.TheVariants as event
+use Rattle.tl_tree_locking.specs.Actions.{is_end, emitted, lock_count, shared_actions}
+use Rattle.tl_tree_locking.specs.Alone.{all_taken}
+use Rattle.tl_tree_locking.specs.History.{record_now, records_now}
+use Rattle.tl_tree_locking.specs.Holders.{holder_of}
+use Rattle.tl_tree_locking.specs.World.{World, as_found, past_after, alone_of}
+use Rattle.tl_tree_locking.proofs.Records.{record_at-records_now, length-records_now}
 use Rattle.tl_history.specs.Stored.{Stored}
 use Rattle.tl_machine.specs.Runs.{Run, Then}
 use Rattle.tl_machine.specs.Outcomes.{meaning}

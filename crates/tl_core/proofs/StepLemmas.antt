@@ -4,13 +4,13 @@ use Rattle.std.proofs.Math.Bool.{or-false}
 use Rattle.std.proofs.lemmas.Bool.{cases_Bool}
 use Rattle.tl_tree.specs.Records.{Record}
 use Rattle.tl_tree.specs.Trees.{TreeValue}
-use Rattle.tl_protocol.specs.declared.action.Action.{Action}
-use Rattle.tl_protocol.specs.declared.action.Action.TheVariants as did
-use Rattle.tl_protocol.specs.declared.event.Event.{Event}
-use Rattle.tl_protocol.specs.Actions.{is_end, shared_actions, emitted}
-use Rattle.tl_protocol.specs.History.{part_of, is_done, records_now}
-use Rattle.tl_protocol.specs.Holders.{holder_of}
-use Rattle.tl_protocol.specs.World.{World, as_found}
+use Rattle.tl_tree_locking.specs.declared.action.Action.{Action}
+use Rattle.tl_tree_locking.specs.declared.action.Action.TheVariants as did
+use Rattle.tl_tree_locking.specs.declared.event.Event.{Event}
+use Rattle.tl_tree_locking.specs.Actions.{is_end, shared_actions, emitted}
+use Rattle.tl_tree_locking.specs.History.{part_of, is_done, records_now}
+use Rattle.tl_tree_locking.specs.Holders.{holder_of}
+use Rattle.tl_tree_locking.specs.World.{World, as_found}
 use Rattle.tl_history.specs.Stored.{Stored}
 use Rattle.tl_machine.specs.Runs.{Run, Then}
 use Rattle.tl_machine.specs.Turns.{TurnValue, IsTurn, with_call}

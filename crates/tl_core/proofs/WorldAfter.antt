@@ -2,8 +2,8 @@
 use Rattle.std.proofs.Common.{◌≡◌, ℕ, suc, ◌+◌, ◌<◌, ◌==◌, List, length, sym, ap, ◌∙◌, subst, inl, inr, arith, get_or, set, if◌then◌else◌}
 use Rattle.std.proofs.lemmas.Bool.{cases_eq, ne_eqb, eq-eqb}
 use Rattle.std.proofs.lemmas.List.{get_or-set_same, get_or-set_other}
-use Rattle.tl_protocol.specs.declared.action.Action.{Action}
-use Rattle.tl_protocol.specs.World.{as_found, past_after, after_step as world_after}
+use Rattle.tl_tree_locking.specs.declared.action.Action.{Action}
+use Rattle.tl_tree_locking.specs.World.{as_found, past_after, after_step as world_after}
 use Rattle.tl_machine.specs.Outcomes.{meaning}
 use Rattle.tl_core.specs.Cores.{CallValue, CoreValue, no_call, call_of, world_of}
 use Rattle.tl_core.specs.Entries.{one_more}

@@ -5,12 +5,12 @@ use Rattle.tl_instr.specs.declared.instr.Instr.{Instr}
 use Rattle.tl_instr.specs.declared.version.Version.TheVariants.{One}
 use Rattle.tl_instr.specs.Codes.{CodeValue}
 use Rattle.tl_budget.specs.Loops.{budget, lock_bound}
-use Rattle.tl_protocol.specs.declared.action.Action.{Action}
-use Rattle.tl_protocol.specs.declared.event.Event.{Event}
-use Rattle.tl_protocol.specs.History.{part_of, is_done, IsOpen, AllDone, records_now}
-use Rattle.tl_protocol.specs.World.{World, alone_of, done_of}
+use Rattle.tl_tree_locking.specs.declared.action.Action.{Action}
+use Rattle.tl_tree_locking.specs.declared.event.Event.{Event}
+use Rattle.tl_tree_locking.specs.History.{part_of, is_done, IsOpen, AllDone, records_now}
+use Rattle.tl_tree_locking.specs.World.{World, alone_of, done_of}
 use Rattle.tl_machine.specs.Outcomes.{meaning}
-use Rattle.tl_protocol.specs.Actions.{with_found}
+use Rattle.tl_tree_locking.specs.Actions.{with_found}
 use Rattle.tl_machine.specs.Runs.{actions}
 use Rattle.tl_machine.specs.Turns.{TurnValue, left_of}
 use Rattle.tl_procedures.specs.Names.{Named}

@@ -3,12 +3,12 @@ use Rattle.std.specs.Prelude.{◌≡◌, ◌≢◌, ℕ, ◌+◌, List, [], ◌�
 use Rattle.std.specs.Option.{option_map_or}
 use Rattle.tl_history.specs.declared.history.TheConstants.{MAX_CALLS}
 use Rattle.tl_core.specs.declared.interleaving.TheConstants.{MAX_OPEN}
-use Rattle.tl_protocol.specs.declared.action.Action.{Action}
-use Rattle.tl_protocol.specs.declared.action.Action.TheVariants.{Lock}
-use Rattle.tl_protocol.specs.declared.event.Event.TheVariants.{Admit as Admission}
-use Rattle.tl_protocol.specs.History.{is_done, admits}
-use Rattle.tl_protocol.specs.Holders.{holder_of}
-use Rattle.tl_protocol.specs.World.{World, next_of, as_found, past_after}
+use Rattle.tl_tree_locking.specs.declared.action.Action.{Action}
+use Rattle.tl_tree_locking.specs.declared.action.Action.TheVariants.{Lock}
+use Rattle.tl_tree_locking.specs.declared.event.Event.TheVariants.{Admit as Admission}
+use Rattle.tl_tree_locking.specs.History.{is_done, admits}
+use Rattle.tl_tree_locking.specs.Holders.{holder_of}
+use Rattle.tl_tree_locking.specs.World.{World, next_of, as_found, past_after}
 use Rattle.tl_core.specs.declared.fault.CoreFault.{CoreFault}
 use Rattle.tl_core.specs.declared.fault.CoreFault.TheVariants as fault
 use Rattle.tl_core.specs.declared.stepped.Stepped.{Stepped}

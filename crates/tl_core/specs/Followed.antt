@@ -1,10 +1,10 @@
 -- A call that follows a segment: its local actions, and the one of its stop.
 use Rattle.std.specs.Prelude.{◌≡◌, ◌≢◌, ℕ, ◌<◌, ◌≤◌, ◌⊎◌, true, List, [], ◌∷◌, ◌++◌, Some, Ok}
-use Rattle.tl_protocol.specs.declared.action.Action.{Action}
-use Rattle.tl_protocol.specs.declared.action.Action.TheVariants as did
-use Rattle.tl_protocol.specs.History.{is_done, admits, IsOpen}
-use Rattle.tl_protocol.specs.Holders.{holder_of}
-use Rattle.tl_protocol.specs.World.{next_of, reply_of}
+use Rattle.tl_tree_locking.specs.declared.action.Action.{Action}
+use Rattle.tl_tree_locking.specs.declared.action.Action.TheVariants as did
+use Rattle.tl_tree_locking.specs.History.{is_done, admits, IsOpen}
+use Rattle.tl_tree_locking.specs.Holders.{holder_of}
+use Rattle.tl_tree_locking.specs.World.{next_of, reply_of}
 use Rattle.tl_machine.specs.BetweenSteps.{IsLocal}
 use Rattle.tl_machine.specs.Stopped.{after_action}
 use Rattle.tl_machine.specs.Turns.{TurnValue, SegmentValue, Stops, with_call}

@@ -3,11 +3,11 @@
 ghost use Rattle.std.specs.Prelude.{◌≡◌, ◌≢◌, ℕ, ◌+◌, ◌<◌, ◌≤◌, ◌↔◌, List, [], ◌∷◌, ◌++◌, length, true, false, IsTrue, IsOk, IsNone, IfOk, OnOk, OnErr, IfErr, IfSome, None, Some, Ok, option_copied, if◌then◌else◌};
 ghost use Rattle.std.specs.Arc.{arc_value};
 ghost use Rattle.tl_budget.specs.Loops.{budget, lock_bound, emit_bound};
-ghost use Rattle.tl_protocol.specs.Actions.{held, lock_count};
-ghost use Rattle.tl_protocol.specs.History.{part_of, admits, is_done, IsOpen, AllDone, record_now, records_now};
-ghost use Rattle.tl_protocol.specs.Holders.{holder_of};
-ghost use Rattle.tl_protocol.specs.Obeys.{Obeys};
-ghost use Rattle.tl_protocol.specs.World.{Legal, IsSound, Reached, IsStuck, IsEnabled, reply_of};
+ghost use Rattle.tl_tree_locking.specs.Actions.{held, lock_count};
+ghost use Rattle.tl_tree_locking.specs.History.{part_of, admits, is_done, IsOpen, AllDone, record_now, records_now};
+ghost use Rattle.tl_tree_locking.specs.Holders.{holder_of};
+ghost use Rattle.tl_tree_locking.specs.Obeys.{Obeys};
+ghost use Rattle.tl_tree_locking.specs.World.{Legal, IsSound, Reached, IsStuck, IsEnabled, reply_of};
 ghost use Rattle.tl_procedures.specs.Names.{number_of, naming_refusal};
 ghost use Rattle.tl_procedures.specs.declared.fault.NamingFault.TheVariants as naming;
 ghost use Rattle.tl_core.specs.Cores.{world_of, call_of, code_of, opened, opened_after, IsSealFault, kept_turn, places, room, owed, open_calls, all_budgets, done_by, IsLeastUnfinished, IsTurnOf};
@@ -32,8 +32,8 @@ use tl_history::{History, MAX_CALLS, MAX_EVENTS};
 use tl_instr::MAX_ARGS;
 use tl_machine::{Advance, CallState, Reply, Segment, Stop, Turn, Want};
 use tl_procedures::{NamingFault, Procedures};
-use tl_protocol::{Action, Event};
 use tl_tree::{Record, Tree};
+use tl_tree_locking::{Action, Event};
 use tl_verify::Proc;
 
 /// How many calls may be open at once.

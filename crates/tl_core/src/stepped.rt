@@ -1,6 +1,6 @@
 // What a step of a call comes to.
 
-use tl_protocol::Action;
+use tl_tree_locking::Action;
 
 /// What a step of a call came to.
 #[derive(Clone, Copy, Debug, PartialEq, Eq)]

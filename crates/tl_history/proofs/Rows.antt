@@ -1,6 +1,6 @@
 -- Worked examples, by computation.
 use Rattle.std.proofs.Common.{◌≡◌, ℕ, [], ◌∷◌, refl}
-use Rattle.tl_protocol.specs.declared.event.Event.TheVariants.{Admit}
+use Rattle.tl_tree_locking.specs.declared.event.Event.TheVariants.{Admit}
 use Rattle.tl_history.specs.Stored.{Stored, room_of}
 
 -- two events are stored

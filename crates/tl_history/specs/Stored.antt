@@ -1,6 +1,6 @@
 -- What a history stores, as its callers see it.
 use Rattle.std.specs.Prelude.{ℕ, ◌+◌, ◌-◌, ◌≤◌, List, length}
-use Rattle.tl_protocol.specs.declared.event.Event.{Event}
+use Rattle.tl_tree_locking.specs.declared.event.Event.{Event}
 use Rattle.tl_history.specs.declared.history.TheConstants.{MAX_EVENTS}
 
 -- the events, the latest first; how many there may be; and how many places are reserved for events to come

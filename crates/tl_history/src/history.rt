@@ -2,14 +2,14 @@
 
 ghost use Rattle.std.specs.Prelude.{◌≡◌, ◌+◌, ◌-◌, ◌<◌, ◌≤◌, ◌↔◌, [], ◌∷◌, length, reverse, unwrap_or, vec_len, vec_capacity, IsTrue, IsOk, IsErrOf, OnOk, OnErr};
 ghost use Rattle.tl_tree.specs.Records.{Record as RecordValue};
-ghost use Rattle.tl_protocol.specs.History.{past_of, last_left};
+ghost use Rattle.tl_tree_locking.specs.History.{past_of, last_left};
 ghost use Rattle.tl_history.specs.Stored.{room_of, IsWithinLimit};
 
 use crate::fault::HistoryFault;
 use std::alloc::{AllocError, Global};
 use std::marker::Model;
-use tl_protocol::Event;
 use tl_tree::Record;
+use tl_tree_locking::Event;
 
 /// The most events that a history may be made for.
 pub const MAX_EVENTS: usize = 1_048_576;
@@ -31,7 +31,7 @@ pub struct History {
 
 impl Model for History {
     ghost use Rattle.std.specs.Prelude.{◌+◌, ◌≤◌, vec_len, vec_capacity};
-    ghost use Rattle.tl_protocol.specs.History.{past_of};
+    ghost use Rattle.tl_tree_locking.specs.History.{past_of};
     ghost use Rattle.tl_history.specs.Stored.{Stored, IsWithinLimit};
 
     ghost Value = { Stored };

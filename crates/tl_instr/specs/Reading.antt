@@ -1,7 +1,7 @@
 -- The instruction that a cell's opcode and the operands which that opcode uses name.
 use Rattle.std.specs.Prelude.{ℕ, ◌^◌, Option, Some, None, option_and_then, nat_lt, ◌==◌, if◌then◌else◌}
 use Rattle.std.specs.Int.{w32, cast_signed}
-use Rattle.tl_fields.specs.Fields.{field_count}
+use Rattle.tl_width.specs.Fields.{field_count}
 use Rattle.tl_instr.specs.declared.operand.TheConstants.{VALUE_REGISTERS, NODE_REGISTERS}
 use Rattle.tl_instr.specs.declared.cell.Cell.{Cell}
 use Rattle.tl_instr.specs.declared.instr.Instr.{Instr}

@@ -1,6 +1,6 @@
 -- What belongs to which version of the language.
 use Rattle.std.specs.Prelude.{ℕ, ◌<◌, List, [], ◌∷◌, Bool, true, false}
-use Rattle.tl_fields.specs.Fields.{narrow_field_count}
+use Rattle.tl_width.specs.Fields.{narrow_field_count}
 use Rattle.tl_instr.specs.declared.version.Version.{Version}
 use Rattle.tl_instr.specs.declared.version.Version.TheVariants.{One, Two}
 use Rattle.tl_instr.specs.declared.instr.Instr.{Instr}

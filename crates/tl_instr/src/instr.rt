@@ -3,7 +3,7 @@
 use crate::cell::Cell;
 use crate::operand::{Field, NodeRegister, ValueRegister};
 use crate::version::Version;
-use tl_fields::NARROW_FIELD_COUNT;
+use tl_width::NARROW_FIELD_COUNT;
 
 /// One instruction. A target is the position that control goes to, counted from 0.
 #[derive(Clone, Copy, Debug, PartialEq, Eq)]

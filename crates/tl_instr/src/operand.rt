@@ -1,10 +1,10 @@
 // The operands of instructions: numbers that can't be out of range.
 
 ghost use Rattle.std.specs.Prelude.{◌≡◌, ℕ, ◌<◌, ◌≤◌, ◌↔◌, IsSome, IfSome};
-ghost use Rattle.tl_fields.specs.Fields.{field_count};
+ghost use Rattle.tl_width.specs.Fields.{field_count};
 
 use std::marker::Model;
-use tl_fields::FIELD_COUNT;
+use tl_width::FIELD_COUNT;
 
 /// How many value registers a call has.
 pub const VALUE_REGISTERS: usize = 16;

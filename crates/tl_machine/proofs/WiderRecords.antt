@@ -8,15 +8,15 @@ use Rattle.tl_tree.specs.Shape.{IsTree, kids}
 use Rattle.tl_instr.specs.declared.instr.Instr.{Instr}
 use Rattle.tl_instr.specs.declared.instr.Instr.TheVariants.{Set, Copy, Add, Subtract, Multiply, Divide, Jump, JumpIfLess, JumpIfEqual, Repeat, RepeatBy, End, First, Child, Move, Release, Get, Put, Kids, Emit, Return}
 use Rattle.std.proofs.lemmas.Option.{slice_get_within, get_or_from_slice_get}
-use Rattle.tl_fields.specs.Fields.{narrow_field_count}
+use Rattle.tl_width.specs.Fields.{narrow_field_count}
 use Rattle.tl_instr.specs.declared.version.Version.{Version}
 use Rattle.tl_instr.specs.declared.version.Version.TheVariants.{One}
 use Rattle.tl_instr.specs.Versions.{HasInstr}
 use Rattle.tl_instr.specs.Codes.{CodeValue, IsCode}
 use Rattle.tl_instr.specs.Instructions.{IsInstr, field_of}
-use Rattle.tl_protocol.specs.declared.action.Action.{Action}
-use Rattle.tl_protocol.specs.declared.action.Action.TheVariants as did
-use Rattle.tl_protocol.specs.Alone.{Outcome}
+use Rattle.tl_tree_locking.specs.declared.action.Action.{Action}
+use Rattle.tl_tree_locking.specs.declared.action.Action.TheVariants as did
+use Rattle.tl_tree_locking.specs.Alone.{Outcome}
 use Rattle.tl_budget.specs.Loops.{Kind, Opens, Closes, Returns, Acts, kind, Loop, loop_at}
 use Rattle.tl_machine.specs.Runs.{Held, State, Run, Then, At, Ended, go_on, turn, turns, actions, last_state, emits_of}
 use Rattle.tl_machine.specs.Alone.{Step, effect, value, node, with_value, with_node, holding, checked, jump_if, first, child, lock, numbered, open_kid, act_by, act_at, block, turn_count, start, alone}

@@ -4,9 +4,9 @@ use Rattle.std.specs.List.{All}
 use Rattle.tl_tree.specs.Records.{Record, Records}
 use Rattle.tl_instr.specs.declared.instr.Instr.{Instr}
 use Rattle.tl_instr.specs.Instructions.{field_of}
-use Rattle.tl_protocol.specs.declared.action.Action.{Action}
-use Rattle.tl_protocol.specs.declared.action.Action.TheVariants.{Lock, Free}
-use Rattle.tl_protocol.specs.Alone.{Outcome}
+use Rattle.tl_tree_locking.specs.declared.action.Action.{Action}
+use Rattle.tl_tree_locking.specs.declared.action.Action.TheVariants.{Lock, Free}
+use Rattle.tl_tree_locking.specs.Alone.{Outcome}
 
 -- a record with so many zeros behind it
 abbrev pub with_zeros : ℕ → Record → Record

@@ -3,9 +3,9 @@
 ghost use Rattle.std.specs.Prelude.{◌≡◌, ◌≢◌, ◌↔◌, ℕ, List, length, IsErr, IsOk, IfOk, OnErr, ◌≤◌, Option};
 ghost use Rattle.std.specs.Arc.{arc_value};
 ghost use Rattle.tl_budget.specs.Loops.{budget, lock_bound, emit_bound};
-ghost use Rattle.tl_protocol.specs.Actions.{lock_count};
-ghost use Rattle.tl_protocol.specs.Alone.{all_taken};
-ghost use Rattle.tl_protocol.specs.Obeys.{Obeys};
+ghost use Rattle.tl_tree_locking.specs.Actions.{lock_count};
+ghost use Rattle.tl_tree_locking.specs.Alone.{all_taken};
+ghost use Rattle.tl_tree_locking.specs.Obeys.{Obeys};
 ghost use Rattle.tl_machine.specs.BetweenSteps.{IsBetweenSteps, run_left};
 ghost use Rattle.tl_machine.specs.Outcomes.{IsAnswer, outcome_of, meaning};
 ghost use Rattle.tl_machine.specs.Alone.{alone as run_alone};

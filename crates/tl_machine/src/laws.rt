@@ -1,15 +1,15 @@
 // What is so of every call alone.
 
 ghost use Rattle.std.specs.Prelude.{◌≡◌, ℕ, ◌≤◌, ℤ, List, [], length, drop, map};
-ghost use Rattle.tl_fields.specs.Fields.{narrow_field_count};
+ghost use Rattle.tl_width.specs.Fields.{narrow_field_count};
 ghost use Rattle.tl_tree.specs.Records.{Records, record_at};
 ghost use Rattle.tl_tree.specs.Shape.{IsTree};
 ghost use Rattle.tl_instr.specs.Codes.{CodeValue, IsCode, migrated};
 ghost use Rattle.tl_instr.specs.declared.version.Version.TheVariants.{One};
-ghost use Rattle.tl_protocol.specs.declared.action.Action.{Action};
-ghost use Rattle.tl_protocol.specs.Actions.{shared_actions, with_found, left_in, emitted as replies, lock_count, PermittedAfter};
-ghost use Rattle.tl_protocol.specs.Obeys.{Obeys};
-ghost use Rattle.tl_protocol.specs.Alone.{EndsOnce, Finds, IsAlone, all_taken};
+ghost use Rattle.tl_tree_locking.specs.declared.action.Action.{Action};
+ghost use Rattle.tl_tree_locking.specs.Actions.{shared_actions, with_found, left_in, emitted as replies, lock_count, PermittedAfter};
+ghost use Rattle.tl_tree_locking.specs.Obeys.{Obeys};
+ghost use Rattle.tl_tree_locking.specs.Alone.{EndsOnce, Finds, IsAlone, all_taken};
 ghost use Rattle.tl_budget.specs.Loops.{budget, lock_bound, emit_bound};
 ghost use Rattle.tl_verify.specs.Acceptable.{Acceptable};
 ghost use Rattle.tl_machine.specs.Runs.{actions};

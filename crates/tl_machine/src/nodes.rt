@@ -9,8 +9,8 @@ ghost use Rattle.tl_machine.specs.Call.{in_tree, held_view, Distinct, AreIn, IsH
 
 use crate::call::{CallState, Control};
 use tl_instr::{Field, NodeRegister, ValueRegister};
-use tl_protocol::Action;
 use tl_tree::Shape;
+use tl_tree_locking::Action;
 
 /// `get`
 #[inline(always)]

@@ -3,7 +3,7 @@
 ghost use Rattle.std.specs.Prelude.{◌≡◌, ◌≢◌, ◌↔◌, ℕ, List, [], length, take, IsTrue, IsOk, IfOk};
 ghost use Rattle.std.specs.Arc.{arc_value};
 ghost use Rattle.tl_tree.specs.Records.{Record as RecordValue, Records, record_at, put_record};
-ghost use Rattle.tl_protocol.specs.declared.action.Action.TheVariants as did;
+ghost use Rattle.tl_tree_locking.specs.declared.action.Action.TheVariants as did;
 ghost use Rattle.tl_machine.specs.Runs.{Then, Ended};
 ghost use Rattle.tl_machine.specs.Alone.{alone as run_alone};
 ghost use Rattle.tl_machine.specs.Call.{in_tree, reply_so_far};
@@ -21,8 +21,8 @@ use crate::want::{Advance, Stop, Want};
 use std::alloc::AllocError;
 use std::marker::Model;
 use std::sync::Arc;
-use tl_protocol::Action;
 use tl_tree::{Record, Shape};
+use tl_tree_locking::Action;
 use tl_verify::Proc;
 
 /// A call of a procedure on trees of a shape, somewhere between its start and its end. By its type its state is one of

@@ -1,6 +1,6 @@
 // Where a call stands before its next instruction, and what came of going on.
 
-use tl_protocol::Action;
+use tl_tree_locking::Action;
 
 /// An instruction that a call can't do by itself, and why it stops there.
 #[derive(Clone, Copy, Debug, PartialEq, Eq)]

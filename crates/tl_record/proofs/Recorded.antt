@@ -5,19 +5,19 @@ use Rattle.std.proofs.lemmas.Bool.{eqb-true}
 use Rattle.std.proofs.lemmas.List.Elements.{All-nil, All-cons, All-from_get_or}
 use Rattle.std.proofs.lemmas.List.FromFn.{length-map-range_with_len, get_or-map-range_with_len}
 use Rattle.tl_tree.specs.Records.{Records}
-use Rattle.tl_protocol.specs.declared.event.Event.{Event}
-use Rattle.tl_protocol.specs.declared.event.Event.TheVariants.{Admit, Lock, Free, Done}
-use Rattle.tl_protocol.specs.Actions.{with_found, locks_and_frees, taken}
-use Rattle.tl_protocol.specs.Alone.{all_taken}
-use Rattle.tl_protocol.specs.History.{caller, part_of, is_done, admits, AllDone, InTurn, Follows, IsLegalHistory}
-use Rattle.tl_protocol.specs.World.{IsSound, alone_of}
-use Rattle.tl_protocol.proofs.PartLemmas.{legal_before}
-use Rattle.tl_protocol.proofs.RulesLemmas.{event_permitted}
-use Rattle.tl_protocol.proofs.Records.{length-records_now, record_at-records_now}
-use Rattle.tl_protocol.proofs.SharedActions.{locks_and_frees-shared_actions}
-use Rattle.tl_protocol.proofs.NoStandstill.{sound_history}
+use Rattle.tl_tree_locking.specs.declared.event.Event.{Event}
+use Rattle.tl_tree_locking.specs.declared.event.Event.TheVariants.{Admit, Lock, Free, Done}
+use Rattle.tl_tree_locking.specs.Actions.{with_found, locks_and_frees, taken}
+use Rattle.tl_tree_locking.specs.Alone.{all_taken}
+use Rattle.tl_tree_locking.specs.History.{caller, part_of, is_done, admits, AllDone, InTurn, Follows, IsLegalHistory}
+use Rattle.tl_tree_locking.specs.World.{IsSound, alone_of}
+use Rattle.tl_tree_locking.proofs.PartLemmas.{legal_before}
+use Rattle.tl_tree_locking.proofs.RulesLemmas.{event_permitted}
+use Rattle.tl_tree_locking.proofs.Records.{length-records_now, record_at-records_now}
+use Rattle.tl_tree_locking.proofs.SharedActions.{locks_and_frees-shared_actions}
+use Rattle.tl_tree_locking.proofs.NoStandstill.{sound_history}
 use Rattle.tl_machine.specs.Outcomes.{meaning}
-use Rattle.tl_protocol.proofs.Inside.{sound_inside}
+use Rattle.tl_tree_locking.proofs.Inside.{sound_inside}
 use Rattle.tl_core.specs.Cores.{CoreValue, call_of, world_of}
 use Rattle.tl_trail.specs.Trails.{IsTrail, IsCallOf, call_at, no_call, code_of, found_alone}
 use Rattle.tl_trail.specs.Clean.{AreRight, Clean}

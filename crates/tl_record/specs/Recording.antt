@@ -1,8 +1,8 @@
 -- The trail of a core: what it tells of the calls so far.
 use Rattle.std.specs.Prelude.{◌≡◌, ℕ, length, map, Some, None, if◌then◌else◌}
 use Rattle.std.specs.List.{range_with_len}
-use Rattle.tl_protocol.specs.History.{is_done, records_now}
-use Rattle.tl_protocol.specs.World.{reply_of}
+use Rattle.tl_tree_locking.specs.History.{is_done, records_now}
+use Rattle.tl_tree_locking.specs.World.{reply_of}
 use Rattle.tl_core.specs.Cores.{CoreValue, call_of, world_of}
 use Rattle.tl_core.specs.Entries.{procedure_at}
 use Rattle.tl_trail.specs.Trails.{CallValue, TrailValue, IsCallOf}

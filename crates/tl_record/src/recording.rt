@@ -1,7 +1,7 @@
 // The trail of a core.
 
 ghost use Rattle.std.specs.Prelude.{◌≡◌, ℕ, ◌<◌, ◌≤◌, ◌↔◌, length, map, option_map, IfOk, IfErr};
-ghost use Rattle.tl_protocol.specs.History.{AllDone, records_now};
+ghost use Rattle.tl_tree_locking.specs.History.{AllDone, records_now};
 ghost use Rattle.tl_trail.specs.Trails.{call_value};
 ghost use Rattle.tl_trail.specs.Clean.{Clean};
 ghost use Rattle.tl_record.specs.Recording.{told_call, trail_value, IsCoreCall};

@@ -1,14 +1,14 @@
 -- What the order of a core's history promises.
 use Rattle.std.proofs.Common.{◌≡◌, ℕ, ◌<◌, List, length, map, sym, subst, arith}
 use Rattle.std.specs.Prelude.{All}
-use Rattle.tl_protocol.specs.Alone.{serial}
-use Rattle.tl_protocol.specs.History.{admits, AllDone, records_now}
-use Rattle.tl_protocol.specs.Order.{placed, Agrees}
-use Rattle.tl_protocol.specs.World.{IsSound, reply_of}
-use Rattle.tl_protocol.proofs.Inside.{order_known}
-use Rattle.tl_protocol.proofs.NoStandstill.{sound_history}
-use Rattle.tl_protocol.proofs.PlacedAgrees.{placed-agrees}
-use Rattle.tl_protocol.proofs.ReachedWorlds.{serial-agreeing}
+use Rattle.tl_tree_locking.specs.Alone.{serial}
+use Rattle.tl_tree_locking.specs.History.{admits, AllDone, records_now}
+use Rattle.tl_tree_locking.specs.Order.{placed, Agrees}
+use Rattle.tl_tree_locking.specs.World.{IsSound, reply_of}
+use Rattle.tl_tree_locking.proofs.Inside.{order_known}
+use Rattle.tl_tree_locking.proofs.NoStandstill.{sound_history}
+use Rattle.tl_tree_locking.proofs.PlacedAgrees.{placed-agrees}
+use Rattle.tl_tree_locking.proofs.ReachedWorlds.{serial-agreeing}
 use Rattle.tl_core.specs.Cores.{CoreValue, world_of}
 
 module _ (v : CoreValue) (sound : IsSound (world_of v)) where

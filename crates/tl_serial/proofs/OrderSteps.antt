@@ -3,13 +3,13 @@ use Rattle.std.proofs.Common.{◌≡◌, ℕ, ◌<◌, List, [], ◌∷◌, ◌+
 use Rattle.std.specs.Prelude.{All, Result, Err, IfOk, OnErr}
 use Rattle.tl_tree.specs.Records.{Record}
 use Rattle.tl_tree.specs.Shape.{IsTree}
-use Rattle.tl_protocol.specs.declared.action.Action.{Action}
-use Rattle.tl_protocol.specs.declared.action.Action.TheVariants as did
-use Rattle.tl_protocol.specs.declared.event.Event.{Event}
-use Rattle.tl_protocol.specs.declared.event.Event.TheVariants.{Admit, Lock, Free, Done}
-use Rattle.tl_protocol.specs.History.{admits, IsLegalHistory}
-use Rattle.tl_protocol.specs.Nodes.{IsOfNodes}
-use Rattle.tl_protocol.specs.World.{past_after}
+use Rattle.tl_tree_locking.specs.declared.action.Action.{Action}
+use Rattle.tl_tree_locking.specs.declared.action.Action.TheVariants as did
+use Rattle.tl_tree_locking.specs.declared.event.Event.{Event}
+use Rattle.tl_tree_locking.specs.declared.event.Event.TheVariants.{Admit, Lock, Free, Done}
+use Rattle.tl_tree_locking.specs.History.{admits, IsLegalHistory}
+use Rattle.tl_tree_locking.specs.Nodes.{IsOfNodes}
+use Rattle.tl_tree_locking.specs.World.{past_after}
 use Rattle.tl_machine.specs.BetweenSteps.{IsLocal}
 use Rattle.tl_machine.specs.declared.want.Stop.{Stop}
 use Rattle.tl_machine.specs.declared.want.Stop.TheVariants as stop
@@ -20,8 +20,8 @@ use Rattle.tl_core.specs.Followed.{Goes, HasGone, EachLocal, EndsStop, Proceeds}
 use Rattle.tl_core.specs.declared.fault.CoreFault.{CoreFault}
 use Rattle.tl_core.specs.declared.stepped.Stepped.{Stepped}
 use Rattle.tl_core.specs.declared.stepped.Stepped.TheVariants.{Moved, Blocked, Over}
-use Rattle.tl_order.proofs.LegalEvents.{caller_known}
-use Rattle.tl_order.specs.Kept.{KeptValue, IsOfSize}
+use Rattle.tl_serial_order.proofs.LegalEvents.{caller_known}
+use Rattle.tl_serial_order.specs.Kept.{KeptValue, IsOfSize}
 use Rattle.tl_serial.specs.Running.{IsStopInside, HasStopped}
 
 -- a local action is no event

@@ -1,14 +1,14 @@
 -- A core and the order of its history.
 use Rattle.std.specs.Prelude.{◌≡◌, ℕ, ◌<◌, List, length}
-use Rattle.tl_protocol.specs.declared.action.Action.{Action}
-use Rattle.tl_protocol.specs.declared.event.Event.{Event}
-use Rattle.tl_protocol.specs.World.{past_after}
+use Rattle.tl_tree_locking.specs.declared.action.Action.{Action}
+use Rattle.tl_tree_locking.specs.declared.event.Event.{Event}
+use Rattle.tl_tree_locking.specs.World.{past_after}
 use Rattle.tl_history.specs.declared.history.TheConstants.{MAX_CALLS}
 use Rattle.tl_machine.specs.declared.want.Stop.{Stop}
 use Rattle.tl_machine.specs.declared.want.Stop.TheVariants.{Lock, Free, Return, Over}
 use Rattle.tl_core.specs.Cores.{CoreValue}
 use Rattle.tl_core.specs.Followed.{EndsStop}
-use Rattle.tl_order.specs.Kept.{KeptValue, IsOfSize, IsKept}
+use Rattle.tl_serial_order.specs.Kept.{KeptValue, IsOfSize, IsKept}
 
 -- what is kept is of the core's history, and there is memory for as many calls as a core may have
 pub record IsOrderOf (k : KeptValue) (v : CoreValue) : Type 0 where

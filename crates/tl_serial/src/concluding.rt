@@ -1,16 +1,16 @@
 // What follows from a core's history, once every call is done.
 
 ghost use Rattle.std.specs.Prelude.{◌≡◌, ◌≢◌, ◌<◌, ℕ, All, IfOk, IfErr, length, map};
-ghost use Rattle.tl_protocol.specs.Alone.{serial};
-ghost use Rattle.tl_protocol.specs.History.{AllDone, records_now};
-ghost use Rattle.tl_protocol.specs.Order.{placed, Agrees};
-ghost use Rattle.tl_protocol.specs.World.{reply_of};
+ghost use Rattle.tl_tree_locking.specs.Alone.{serial};
+ghost use Rattle.tl_tree_locking.specs.History.{AllDone, records_now};
+ghost use Rattle.tl_tree_locking.specs.Order.{placed, Agrees};
+ghost use Rattle.tl_tree_locking.specs.World.{reply_of};
 ghost use Rattle.tl_core.specs.Cores.{world_of, IsLeastUnfinished};
 
 use crate::running::order_of_core;
 use std::alloc::Global;
 use tl_core::Core;
-use tl_order::{Order, SerialFault};
+use tl_serial_order::{Order, SerialFault};
 
 /// The order that the core's history gives, once every call is done. Run alone, one after another along it, the calls
 /// leave the records that there are now, and each gives the reply that it gave.

@@ -11,4 +11,4 @@ mod running;
 pub use concluding::conclude;
 pub use replaying::replay;
 pub use running::Running;
-pub use tl_order::{Order, SerialFault, is_of_shape, order_of};
+pub use tl_serial_order::{Order, SerialFault, is_of_shape, order_of};

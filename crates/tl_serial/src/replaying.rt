@@ -1,13 +1,13 @@
 // The calls of an order, run again.
 
 ghost use Rattle.std.specs.Prelude.{◌≡◌, ◌<◌, All, IfOk, IfErr, length};
-ghost use Rattle.tl_protocol.specs.Alone.{serial};
+ghost use Rattle.tl_tree_locking.specs.Alone.{serial};
 ghost use Rattle.tl_core.specs.Cores.{world_of};
 
 use std::alloc::Global;
 use tl_core::Core;
 use tl_machine::{Reply, alone};
-use tl_order::{Order, SerialFault};
+use tl_serial_order::{Order, SerialFault};
 use tl_tree::Tree;
 
 /// The calls of the order run alone, one after another, from the opening tree: the tree that they leave, and their

@@ -2,12 +2,12 @@
 
 ghost use Rattle.std.specs.Prelude.{◌≡◌, ◌≢◌, ◌<◌, ◌↔◌, ℕ, List, ◌∷◌, ◌++◌, [], All, IsOk, IfOk, IfErr, IfSome, IsNone, OnOk, OnErr, None, true, false, length, map, Ok};
 ghost use Rattle.tl_tree.specs.Shape.{IsTree};
-ghost use Rattle.tl_protocol.specs.declared.action.Action.{Action as ActionValue};
-ghost use Rattle.tl_protocol.specs.declared.event.Event.{Event as EventValue};
-ghost use Rattle.tl_protocol.specs.Alone.{serial};
-ghost use Rattle.tl_protocol.specs.History.{AllDone, admits, records_now, IsLegalHistory};
-ghost use Rattle.tl_protocol.specs.Order.{placed, Agrees};
-ghost use Rattle.tl_protocol.specs.World.{IsStuck, reply_of, past_after};
+ghost use Rattle.tl_tree_locking.specs.declared.action.Action.{Action as ActionValue};
+ghost use Rattle.tl_tree_locking.specs.declared.event.Event.{Event as EventValue};
+ghost use Rattle.tl_tree_locking.specs.Alone.{serial};
+ghost use Rattle.tl_tree_locking.specs.History.{AllDone, admits, records_now, IsLegalHistory};
+ghost use Rattle.tl_tree_locking.specs.Order.{placed, Agrees};
+ghost use Rattle.tl_tree_locking.specs.World.{IsStuck, reply_of, past_after};
 ghost use Rattle.tl_procedures.specs.Names.{naming_refusal};
 ghost use Rattle.tl_procedures.specs.declared.fault.NamingFault.TheVariants as naming;
 ghost use Rattle.tl_core.specs.Cores.{CoreState, world_of, opened_after, IsSealFault, done_by, kept_turn, IsLeastUnfinished};
@@ -17,7 +17,7 @@ ghost use Rattle.tl_core.specs.declared.stepped.Stepped.TheVariants.{Moved};
 ghost use Rattle.tl_machine.specs.Turns.{TurnValue, SegmentValue, IsTurn, IsSegment, segment_of, with_call};
 ghost use Rattle.tl_core.specs.declared.fault.CoreFault.TheVariants as fault;
 ghost use Rattle.tl_machine.specs.BetweenSteps.{IsLocal};
-ghost use Rattle.tl_order.specs.Kept.{IsOfSize, IsKept};
+ghost use Rattle.tl_serial_order.specs.Kept.{IsOfSize, IsKept};
 ghost use Rattle.tl_serial.specs.Running.{IsOrderOf, IsStopInside, HasStopped};
 ghost use Rattle.tl_history.specs.declared.history.TheConstants.{MAX_CALLS};
 
@@ -26,10 +26,10 @@ use std::marker::Model;
 use tl_core::{Core, CoreFault, Followed, Led, Stepped};
 use tl_history::MAX_CALLS;
 use tl_machine::{CallState, Segment, Stop, Turn};
-use tl_order::{KeptOrder, Order, SerialFault};
 use tl_procedures::NamingFault;
-use tl_protocol::Action;
+use tl_serial_order::{KeptOrder, Order, SerialFault};
 use tl_tree::Shape;
+use tl_tree_locking::Action;
 use tl_verify::Proc;
 
 /// A core whose order is kept up to date: by its type it is the order that the core's history gives. A contract sees the

@@ -4,8 +4,8 @@ use Rattle.std.specs.Fmt.{signed_decimal}
 use Rattle.tl_tree.specs.Writing.{list_text}
 use Rattle.tl_table.specs.declared.receipt.Receipt.{Receipt}
 use Rattle.tl_budget.specs.declared.limits.Bounds.{Bounds}
-use Rattle.tl_forms.specs.declared.fault.RegisterFault.{RegisterFault}
-use Rattle.tl_forms.specs.Faults.{numbers_of as register_numbers_of}
+use Rattle.tl_json.specs.declared.fault.RegisterFault.{RegisterFault}
+use Rattle.tl_json.specs.Faults.{numbers_of as register_numbers_of}
 use Rattle.tl_workers.specs.declared.refusal.Refusal.{Refusal}
 use Rattle.tl_workers.specs.Refusals.{numbers_of}
 

@@ -6,8 +6,8 @@ use Rattle.serde_json.specs.Events.{members_len}
 use Rattle.serde_json.specs.Find.{as_object, as_str, get}
 use Rattle.serde_json.specs.Read.{read}
 use Rattle.tl_tree.specs.Reading.{both, integer_of, integers_of}
-use Rattle.tl_forms.specs.Lists.{each_of}
-use Rattle.tl_forms.specs.Requests.{request_form, request_of}
+use Rattle.tl_json.specs.Lists.{each_of}
+use Rattle.tl_json.specs.Requests.{request_form, request_of}
 use Rattle.tl_workers.specs.declared.batch.TheConstants.{MAX_REQUESTS, MAX_WORKERS}
 use Rattle.tl_server.specs.declared.request.TheConstants.{MAX_LINE}
 use Rattle.tl_server.specs.declared.request.LineRequest.{LineRequest}

@@ -6,11 +6,11 @@ use Rattle.tl_verify.specs.Procedure.{AreBounds}
 use Rattle.tl_procedures.specs.Names.{is_name}
 use Rattle.tl_procedures.specs.declared.fault.NamingFault.TheVariants.{BadName}
 use Rattle.tl_procedures.specs.declared.request.Request.{Request}
-use Rattle.tl_forms.specs.Faults.{is_memory}
-use Rattle.tl_forms.specs.Registering.{IsCodeText, IsTextFault}
-use Rattle.tl_forms.specs.Requests.{request_form}
-use Rattle.tl_forms.specs.declared.fault.RegisterFault.{RegisterFault}
-use Rattle.tl_forms.specs.declared.fault.RegisterFault.TheVariants.{Text, Name}
+use Rattle.tl_json.specs.Faults.{is_memory}
+use Rattle.tl_json.specs.Registering.{IsCodeText, IsTextFault}
+use Rattle.tl_json.specs.Requests.{request_form}
+use Rattle.tl_json.specs.declared.fault.RegisterFault.{RegisterFault}
+use Rattle.tl_json.specs.declared.fault.RegisterFault.TheVariants.{Text, Name}
 use Rattle.tl_table.specs.declared.receipt.Receipt.{Receipt}
 use Rattle.tl_workers.specs.declared.refusal.Refusal.{Refusal}
 use Rattle.tl_workers.specs.declared.session.Did.{Did}

@@ -10,7 +10,7 @@ use crate::device::Sink;
 use crate::outbox::Outbox;
 use itoa::{Buffer, Integer};
 use tl_budget::Bounds;
-use tl_forms::RegisterFault;
+use tl_json::RegisterFault;
 use tl_table::Receipt;
 use tl_workers::Refusal;
 

@@ -3,8 +3,8 @@
 ghost use Rattle.std.specs.Prelude.{◌≡◌, ℕ, List, [], string_bytes};
 ghost use Rattle.tl_workers.specs.declared.session.Did.{Did};
 ghost use Rattle.tl_workers.specs.Kept.{Gains};
-ghost use Rattle.tl_forms.specs.Procedures.{procedure_form};
-ghost use Rattle.tl_forms.specs.Requests.{request_form};
+ghost use Rattle.tl_json.specs.Procedures.{procedure_form};
+ghost use Rattle.tl_json.specs.Requests.{request_form};
 ghost use Rattle.tl_server.specs.Requests.{IsRequest};
 ghost use Rattle.tl_server.specs.Sending.{sending, Writes};
 ghost use Rattle.tl_server.specs.Served.{RegisterOutcome, IsCallAnswer, IsBatchAnswer, IsAnswer};
@@ -18,7 +18,7 @@ use std::alloc::Global;
 use std::sync::Wait;
 use std::thread::Threads;
 use tl_budget::Bounds;
-use tl_forms::{ProcedureText, RegisterFault, Request, procedure_of_text};
+use tl_json::{ProcedureText, RegisterFault, Request, procedure_of_text};
 use tl_workers::{Engine, NoGate, Session};
 
 /// Registers a procedure. What is wrong first: the assembler's fault, the verifier's, 612, and then 611 or 613.

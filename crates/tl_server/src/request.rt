@@ -10,7 +10,7 @@ use crate::batch::BatchRequest;
 use crate::fault::LineFault;
 use serde_json::Value;
 use std::alloc::{AllocError, Global};
-use tl_forms::{ProcedureText, Request, each_of, parse_text};
+use tl_json::{ProcedureText, Request, each_of, parse_text};
 use tl_tree::integers_from_value;
 use tl_workers::{MAX_REQUESTS, MAX_WORKERS};
 

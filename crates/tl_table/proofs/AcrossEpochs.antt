@@ -4,14 +4,14 @@ use Rattle.std.specs.Prelude.{Some, slice_get, if◌then◌else◌, ◌==◌}
 use Rattle.std.proofs.lemmas.List.{append-nil}
 use Rattle.std.proofs.lemmas.Option.{none-some, same_Some}
 use Rattle.tl_tree.specs.Records.{Record, Records, record_at}
-use Rattle.tl_protocol.specs.Actions.{locked}
-use Rattle.tl_protocol.specs.declared.event.Event.{Event}
-use Rattle.tl_protocol.specs.declared.event.Event.TheVariants.{Admit, Lock, Free, Done}
-use Rattle.tl_protocol.specs.History.{part_of, last_left, records_now, Follows}
-use Rattle.tl_protocol.proofs.MayComeLemmas.{locked-any}
-use Rattle.tl_protocol.proofs.NoStandstill.{done_free, any_admitted, sound_history}
-use Rattle.tl_protocol.proofs.Records.{record_at-records_now}
-use Rattle.tl_protocol.proofs.WorldSteps.{part_inside}
+use Rattle.tl_tree_locking.specs.Actions.{locked}
+use Rattle.tl_tree_locking.specs.declared.event.Event.{Event}
+use Rattle.tl_tree_locking.specs.declared.event.Event.TheVariants.{Admit, Lock, Free, Done}
+use Rattle.tl_tree_locking.specs.History.{part_of, last_left, records_now, Follows}
+use Rattle.tl_tree_locking.proofs.MayComeLemmas.{locked-any}
+use Rattle.tl_tree_locking.proofs.NoStandstill.{done_free, any_admitted, sound_history}
+use Rattle.tl_tree_locking.proofs.Records.{record_at-records_now}
+use Rattle.tl_tree_locking.proofs.WorldSteps.{part_inside}
 use Rattle.tl_procedures.specs.Names.{Named}
 use Rattle.tl_table.specs.Across.{events_of, LockedIn, FindsAcross}
 use Rattle.tl_table.specs.Epochs.{EpochValue, seen}

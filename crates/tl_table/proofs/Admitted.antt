@@ -11,9 +11,9 @@ use Rattle.std.proofs.lemmas.List.Quantifiers.{position-Some}
 use Rattle.std.proofs.lemmas.Option.{none-some}
 use Rattle.std.proofs.lemmas.Slice.Eq.{bytes_eq-Decides}
 use Rattle.tl_history.specs.declared.history.TheConstants.{MAX_CALLS}
-use Rattle.tl_protocol.specs.declared.event.Event.TheVariants.{Admit}
-use Rattle.tl_protocol.specs.History.{is_done, admits, InTurn}
-use Rattle.tl_protocol.proofs.ReachedWorlds.{unadmitted_done}
+use Rattle.tl_tree_locking.specs.declared.event.Event.TheVariants.{Admit}
+use Rattle.tl_tree_locking.specs.History.{is_done, admits, InTurn}
+use Rattle.tl_tree_locking.proofs.ReachedWorlds.{unadmitted_done}
 use Rattle.tl_procedures.specs.Names.{Named, no_procedure, number_of, is_name, taken_by, AreFreeAfter}
 use Rattle.tl_procedures.specs.declared.fault.NamingFault.TheVariants as naming
 use Rattle.tl_procedures.specs.declared.procedures.TheConstants.{MAX_NAME}

@@ -1,9 +1,9 @@
 -- What the orders of a closed table's epochs promise together.
 use Rattle.std.proofs.Common.{◌≡◌, ℕ, ◌+◌, List, [], ◌∷◌, map, refl, ap, ◌∙◌}
 use Rattle.tl_tree.specs.Records.{Records}
-use Rattle.tl_protocol.specs.Epochs.{run_each, joined, left_by, AgreeEach}
-use Rattle.tl_protocol.specs.History.{records_now}
-use Rattle.tl_protocol.proofs.EpochsJoined.{epochs-serial}
+use Rattle.tl_tree_locking.specs.Epochs.{run_each, joined, left_by, AgreeEach}
+use Rattle.tl_tree_locking.specs.History.{records_now}
+use Rattle.tl_tree_locking.proofs.EpochsJoined.{epochs-serial}
 use Rattle.tl_procedures.specs.Names.{Named}
 use Rattle.tl_serial.proofs.OrderOfCore.{order_agrees}
 use Rattle.tl_table.specs.Epochs.{EpochValue, seen}

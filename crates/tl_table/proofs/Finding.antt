@@ -3,15 +3,15 @@ use Rattle.std.proofs.Common.{◌≡◌, ℕ, true, false, List, [], ◌∷◌, 
 use Rattle.std.specs.Prelude.{◌==◌, ◌||◌, if◌then◌else◌}
 use Rattle.std.proofs.lemmas.Bool.{cases_Bool, cases_eq, both_ways, eq-eqb, ne_eqb}
 use Rattle.tl_tree.specs.Records.{Record, Records, record_at}
-use Rattle.tl_protocol.specs.declared.action.Action.TheVariants as A
-use Rattle.tl_protocol.specs.declared.event.Event.{Event}
-use Rattle.tl_protocol.specs.declared.event.Event.TheVariants.{Admit, Lock, Free, Done}
-use Rattle.tl_protocol.specs.Actions.{locked, held}
-use Rattle.tl_protocol.specs.History.{part_of, is_done, admits, InTurn, last_left, record_now, Follows, IsLegalHistory}
-use Rattle.tl_protocol.specs.World.{World, IsSound}
-use Rattle.tl_protocol.proofs.NoStandstill.{done_free, sound_history}
-use Rattle.tl_protocol.proofs.PartLemmas.{part_of-other, legal_before, locked-lock, locked-free, locked-done}
-use Rattle.tl_protocol.proofs.WorldSteps.{unadmitted}
+use Rattle.tl_tree_locking.specs.declared.action.Action.TheVariants as A
+use Rattle.tl_tree_locking.specs.declared.event.Event.{Event}
+use Rattle.tl_tree_locking.specs.declared.event.Event.TheVariants.{Admit, Lock, Free, Done}
+use Rattle.tl_tree_locking.specs.Actions.{locked, held}
+use Rattle.tl_tree_locking.specs.History.{part_of, is_done, admits, InTurn, last_left, record_now, Follows, IsLegalHistory}
+use Rattle.tl_tree_locking.specs.World.{World, IsSound}
+use Rattle.tl_tree_locking.proofs.NoStandstill.{done_free, sound_history}
+use Rattle.tl_tree_locking.proofs.PartLemmas.{part_of-other, legal_before, locked-lock, locked-free, locked-done}
+use Rattle.tl_tree_locking.proofs.WorldSteps.{unadmitted}
 use Rattle.tl_table.specs.Ends.{EndsBefore}
 use Rattle.tl_table.specs.Finding.{FindsWhatWasLeft}
 use Rattle.tl_table.proofs.Ended.{done_stays}

@@ -2,7 +2,7 @@
 use Rattle.std.proofs.Common.{◌≡◌, ℕ, List, [], ◌∷◌, ◌++◌, refl, sym, ap, subst, Result, Ok, Err, ℤ, Option, Some, None}
 use Rattle.std.specs.Prelude.{OnOk, OnErr}
 use Rattle.std.specs.Option.{option_map_or}
-use Rattle.tl_protocol.specs.declared.action.Action.{Action}
+use Rattle.tl_tree_locking.specs.declared.action.Action.{Action}
 use Rattle.tl_procedures.specs.Names.{Named, number_of}
 use Rattle.tl_machine.specs.Turns.{SegmentValue}
 use Rattle.tl_core.specs.declared.stepped.Stepped.TheVariants.{Moved}

@@ -2,12 +2,12 @@
 use Rattle.std.proofs.Common.{◌≡◌, ℕ, ◌+◌, ◌<◌, List, [], ◌∷◌, ◌++◌, map, refl, sym, ap, subst, append_assoc, arith}
 use Rattle.std.proofs.lemmas.List.{append-nil}
 use Rattle.tl_tree.specs.Records.{Records}
-use Rattle.tl_protocol.specs.Alone.{Outcome}
-use Rattle.tl_protocol.specs.Epochs.{ReachedEpochs}
-use Rattle.tl_protocol.specs.Epochs as E
-use Rattle.tl_protocol.specs.History.{records_now}
-use Rattle.tl_protocol.specs.World.{World, Reached, opening_world}
-use Rattle.tl_protocol.specs.World as W
+use Rattle.tl_tree_locking.specs.Alone.{Outcome}
+use Rattle.tl_tree_locking.specs.Epochs.{ReachedEpochs}
+use Rattle.tl_tree_locking.specs.Epochs as E
+use Rattle.tl_tree_locking.specs.History.{records_now}
+use Rattle.tl_tree_locking.specs.World.{World, Reached, opening_world}
+use Rattle.tl_tree_locking.specs.World as W
 use Rattle.tl_procedures.specs.Names.{Named}
 use Rattle.tl_table.specs.Epochs.{EpochValue, seen}
 use Rattle.tl_table.specs.Tables.{epoch_world, InLine, IsChain}

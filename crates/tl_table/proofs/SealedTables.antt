@@ -2,7 +2,7 @@
 use Rattle.std.proofs.Common.{◌≡◌, ℕ, ◌+◌, ◌<◌, ◌≤◌, List, [], ◌∷◌, ◌++◌, length, refl, sym, subst, arith}
 use Rattle.std.proofs.lemmas.List.{length-append}
 use Rattle.tl_tree.specs.Records.{Records}
-use Rattle.tl_protocol.specs.History.{records_now}
+use Rattle.tl_tree_locking.specs.History.{records_now}
 use Rattle.tl_procedures.specs.Names.{Named}
 use Rattle.tl_table.specs.declared.epoch.TheConstants.{MAX_EPOCHS}
 use Rattle.tl_table.specs.Epochs.{EpochValue, seen, GoesOn, epoch_after}

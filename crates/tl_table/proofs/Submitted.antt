@@ -3,12 +3,12 @@ use Rattle.std.proofs.Common.{◌≡◌, ◌≢◌, ◌⊎◌, ⊎_elim, inl, in
 use Rattle.std.specs.Prelude.{◌||◌, if◌then◌else◌, slice_set, Ok}
 use Rattle.std.proofs.lemmas.Bool.{cases_eq, eq-eqb, ne_eqb}
 use Rattle.tl_history.specs.declared.history.TheConstants.{MAX_CALLS}
-use Rattle.tl_protocol.specs.declared.action.Action.{Action}
-use Rattle.tl_protocol.specs.declared.action.Action.TheVariants as did
-use Rattle.tl_protocol.specs.declared.event.Event.{Event}
-use Rattle.tl_protocol.specs.declared.event.Event.TheVariants.{Done}
-use Rattle.tl_protocol.specs.History.{is_done, admits}
-use Rattle.tl_protocol.specs.World.{past_after}
+use Rattle.tl_tree_locking.specs.declared.action.Action.{Action}
+use Rattle.tl_tree_locking.specs.declared.action.Action.TheVariants as did
+use Rattle.tl_tree_locking.specs.declared.event.Event.{Event}
+use Rattle.tl_tree_locking.specs.declared.event.Event.TheVariants.{Done}
+use Rattle.tl_tree_locking.specs.History.{is_done, admits}
+use Rattle.tl_tree_locking.specs.World.{past_after}
 use Rattle.tl_machine.specs.Turns.{SegmentValue}
 use Rattle.tl_machine.specs.declared.want.Stop.{Stop}
 use Rattle.tl_core.specs.declared.stepped.Stepped.TheVariants.{Moved}

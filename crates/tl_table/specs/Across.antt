@@ -1,10 +1,10 @@
 -- What a call finds at a node that a call of an earlier epoch left.
 use Rattle.std.specs.Prelude.{◌≡◌, ℕ, ◌+◌, true, List, [], ◌∷◌, ◌++◌, length, Some, slice_get}
 use Rattle.tl_tree.specs.Records.{Record}
-use Rattle.tl_protocol.specs.Actions.{locked}
-use Rattle.tl_protocol.specs.declared.event.Event.{Event}
-use Rattle.tl_protocol.specs.declared.event.Event.TheVariants.{Lock, Free}
-use Rattle.tl_protocol.specs.History.{part_of, last_left}
+use Rattle.tl_tree_locking.specs.Actions.{locked}
+use Rattle.tl_tree_locking.specs.declared.event.Event.{Event}
+use Rattle.tl_tree_locking.specs.declared.event.Event.TheVariants.{Lock, Free}
+use Rattle.tl_tree_locking.specs.History.{part_of, last_left}
 use Rattle.tl_table.specs.Epochs.{EpochValue, seen}
 
 -- all that happened in these epochs, the latest event first

@@ -1,10 +1,10 @@
 -- The epochs of a closed table as one run: their orders joined.
 use Rattle.std.specs.Prelude.{◌≡◌, ℕ, List, [], ◌∷◌, ◌++◌, map}
 use Rattle.tl_tree.specs.Records.{Records}
-use Rattle.tl_protocol.specs.Epochs.{run_each, joined, joined_replies, ReachedEpochs}
-use Rattle.tl_protocol.specs.History.{records_now}
-use Rattle.tl_protocol.specs.Order.{placed}
-use Rattle.tl_order.specs.Order.{OrderValue}
+use Rattle.tl_tree_locking.specs.Epochs.{run_each, joined, joined_replies, ReachedEpochs}
+use Rattle.tl_tree_locking.specs.History.{records_now}
+use Rattle.tl_tree_locking.specs.Order.{placed}
+use Rattle.tl_serial_order.specs.Order.{OrderValue}
 use Rattle.tl_table.specs.Epochs.{EpochValue, seen}
 use Rattle.tl_table.specs.Tables.{epoch_world}
 

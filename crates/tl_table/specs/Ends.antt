@@ -1,8 +1,8 @@
 -- Which call was done when another was admitted.
 use Rattle.std.specs.Prelude.{◌≡◌, ℕ, true, List, [], ◌∷◌, ◌++◌, ◌==◌, if◌then◌else◌}
-use Rattle.tl_protocol.specs.declared.event.Event.{Event}
-use Rattle.tl_protocol.specs.declared.event.Event.TheVariants.{Admit, Done}
-use Rattle.tl_protocol.specs.History.{is_done, admits}
+use Rattle.tl_tree_locking.specs.declared.event.Event.{Event}
+use Rattle.tl_tree_locking.specs.declared.event.Event.TheVariants.{Admit, Done}
+use Rattle.tl_tree_locking.specs.History.{is_done, admits}
 
 -- The end of call a stands before the admission of call b. As ever, a history has its latest event first.
 pub record EndsBefore (past : List Event) (a b : ℕ) : Type 0 where

@@ -1,7 +1,7 @@
 -- What callers see of one epoch of a table, and which receipts stand.
 use Rattle.std.specs.Prelude.{◌≡◌, ℕ, ◌+◌, ◌<◌, true, List, [], ◌∷◌, ◌++◌, length, get_or, Option, Some, option_map, if◌then◌else◌, nat_lt, ℤ}
-use Rattle.tl_protocol.specs.History.{is_done, AllDone}
-use Rattle.tl_protocol.specs.World.{reply_of}
+use Rattle.tl_tree_locking.specs.History.{is_done, AllDone}
+use Rattle.tl_tree_locking.specs.World.{reply_of}
 use Rattle.tl_procedures.specs.Names.{Named}
 use Rattle.tl_core.specs.Cores.{CoreState, CoreValue, IsSealFault, opened_after, kept_turn, call_of, world_of}
 use Rattle.tl_core.specs.Entries.{admission_refusal, after_admission}

@@ -1,9 +1,9 @@
 -- What a call finds at a node that an earlier call left.
 use Rattle.std.specs.Prelude.{◌≡◌, ℕ, List, ◌∷◌, ◌++◌}
 use Rattle.tl_tree.specs.Records.{Record}
-use Rattle.tl_protocol.specs.declared.event.Event.{Event}
-use Rattle.tl_protocol.specs.declared.event.Event.TheVariants.{Lock, Free}
-use Rattle.tl_protocol.specs.History.{last_left}
+use Rattle.tl_tree_locking.specs.declared.event.Event.{Event}
+use Rattle.tl_tree_locking.specs.declared.event.Event.TheVariants.{Lock, Free}
+use Rattle.tl_tree_locking.specs.History.{last_left}
 
 -- Call b locked x after call a had freed it, and found what was left there last since then: by another call, or else by a.
 -- As ever, a history has its latest event first.

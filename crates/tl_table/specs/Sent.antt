@@ -1,6 +1,6 @@
 -- What comes of a segment that is submitted to a table.
 use Rattle.std.specs.Prelude.{◌≡◌, ◌≢◌, ℕ, ◌≤◌, ◌⊎◌, Some, length, true}
-use Rattle.tl_protocol.specs.History.{is_done}
+use Rattle.tl_tree_locking.specs.History.{is_done}
 use Rattle.tl_machine.specs.Turns.{TurnValue, SegmentValue}
 use Rattle.tl_core.specs.declared.fault.CoreFault.TheVariants.{NoCall}
 use Rattle.tl_core.specs.Cores.{kept_turn}

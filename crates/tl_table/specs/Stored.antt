@@ -1,7 +1,7 @@
 -- How an epoch stores its calls' sessions and ends, and a table its epochs.
 use Rattle.std.specs.Prelude.{◌≡◌, ℕ, ◌+◌, ◌<◌, ◌≤◌, true, List, [], length, get_or}
 use Rattle.tl_history.specs.declared.history.TheConstants.{MAX_CALLS}
-use Rattle.tl_protocol.specs.History.{is_done}
+use Rattle.tl_tree_locking.specs.History.{is_done}
 use Rattle.tl_table.specs.declared.epoch.TheConstants.{MAX_EPOCHS, MAX_SESSIONS}
 use Rattle.tl_table.specs.Ends.{begun_by_end}
 use Rattle.tl_tree.specs.Records.{Records}

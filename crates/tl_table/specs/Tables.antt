@@ -2,8 +2,8 @@
 use Rattle.std.specs.Prelude.{◌≡◌, ℕ, ◌+◌, ◌<◌, ◌≤◌, List, [], ◌∷◌, ◌++◌, length}
 use Rattle.tl_history.specs.declared.history.TheConstants.{MAX_CALLS}
 use Rattle.tl_tree.specs.Records.{Records}
-use Rattle.tl_protocol.specs.History.{AllDone, admits, records_now}
-use Rattle.tl_protocol.specs.World.{World, IsSound, Reached}
+use Rattle.tl_tree_locking.specs.History.{AllDone, admits, records_now}
+use Rattle.tl_tree_locking.specs.World.{World, IsSound, Reached}
 use Rattle.tl_procedures.specs.Names.{Named}
 use Rattle.tl_core.specs.declared.fault.CoreFault.TheVariants as core_fault
 use Rattle.tl_core.specs.Cores.{IsSealFault, world_of}

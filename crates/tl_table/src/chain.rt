@@ -6,7 +6,7 @@ ghost use Rattle.tl_table.specs.Chains.{calls_in, epoch_order, AreReached, IsSer
 
 use crate::closed::Closed;
 use std::alloc::Global;
-use tl_order::{Order, SerialFault};
+use tl_serial_order::{Order, SerialFault};
 
 /// The order of each epoch of a closed table, to which admissions, steps and seals led. All calls, run alone one after another along
 /// these orders joined, from the tree before any call, leave the records that there are now, and each gives the reply that it gave.

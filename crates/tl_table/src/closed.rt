@@ -1,10 +1,10 @@
 // An epoch at rest, and what follows of its order.
 
 ghost use Rattle.std.specs.Prelude.{◌≡◌, ◌<◌, ◌≤◌, ◌↔◌, All, map, length, false, IsTrue, IsOk, IfOk, IfErr, MatchOption};
-ghost use Rattle.tl_protocol.specs.Alone.{serial};
-ghost use Rattle.tl_protocol.specs.History.{is_done, records_now};
-ghost use Rattle.tl_protocol.specs.Order.{placed, Agrees};
-ghost use Rattle.tl_protocol.specs.World.{reply_of};
+ghost use Rattle.tl_tree_locking.specs.Alone.{serial};
+ghost use Rattle.tl_tree_locking.specs.History.{is_done, records_now};
+ghost use Rattle.tl_tree_locking.specs.Order.{placed, Agrees};
+ghost use Rattle.tl_tree_locking.specs.World.{reply_of};
 ghost use Rattle.tl_core.specs.declared.fault.CoreFault.TheVariants as core_fault;
 ghost use Rattle.tl_history.specs.declared.history.TheConstants.{MAX_CALLS};
 ghost use Rattle.tl_core.specs.Cores.{world_of};
@@ -17,7 +17,7 @@ use crate::fault::TableFault;
 use crate::receipt::Receipt;
 use std::marker::Model;
 use tl_core::Core;
-use tl_order::Order;
+use tl_serial_order::Order;
 
 /// An epoch whose calls are all done.
 #[derive(Debug, Drop)]

@@ -2,14 +2,14 @@
 
 ghost use Rattle.std.specs.Prelude.{◌≡◌, ◌≢◌, ℕ, ◌+◌, ◌<◌, ◌≤◌, ◌↔◌, ◌⊎◌, All, map, [], ◌∷◌, ◌++◌, length, true, false, IsTrue, IsOk, IfOk, IfErr, OnOk, OnErr, MatchOption, Some, None};
 ghost use Rattle.tl_instr.specs.declared.operand.TheConstants.{MAX_ARGS};
-ghost use Rattle.tl_protocol.specs.History.{is_done, records_now, IsOpen};
-ghost use Rattle.tl_protocol.specs.Order.{placed, Agrees};
-ghost use Rattle.tl_protocol.specs.Holders.{holder_of};
+ghost use Rattle.tl_tree_locking.specs.History.{is_done, records_now, IsOpen};
+ghost use Rattle.tl_tree_locking.specs.Order.{placed, Agrees};
+ghost use Rattle.tl_tree_locking.specs.Holders.{holder_of};
 ghost use Rattle.tl_procedures.specs.Names.{naming_refusal};
 ghost use Rattle.tl_procedures.specs.declared.fault.NamingFault.TheVariants as naming;
 ghost use Rattle.tl_procedures.specs.declared.procedures.TheConstants.{MAX_NAME};
 ghost use Rattle.tl_core.specs.declared.fault.CoreFault.TheVariants as core_fault;
-ghost use Rattle.tl_protocol.specs.World.{reply_of};
+ghost use Rattle.tl_tree_locking.specs.World.{reply_of};
 ghost use Rattle.tl_machine.specs.Turns.{IsTurn, IsSegment, Stops, segment_of, with_call};
 ghost use Rattle.tl_machine.specs.declared.want.Stop.TheVariants as stop;
 ghost use Rattle.tl_core.specs.Cores.{kept_turn, world_of};
@@ -28,9 +28,9 @@ use std::marker::Model;
 use tl_core::{Core, CoreFault, Led};
 use tl_history::MAX_CALLS;
 use tl_machine::{CallState, Reply, Segment, Stop, Turn};
-use tl_order::Order;
 use tl_procedures::NamingFault;
 use tl_serial::Running;
+use tl_serial_order::Order;
 use tl_verify::Proc;
 
 /// How many sessions a table gives at most.

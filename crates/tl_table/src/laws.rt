@@ -1,9 +1,9 @@
 // What is so of every table.
 
 ghost use Rattle.std.specs.Prelude.{◌≡◌, ◌<◌, ℕ, List, true};
-ghost use Rattle.tl_protocol.specs.Actions.{locked};
-ghost use Rattle.tl_protocol.specs.History.{part_of};
-ghost use Rattle.tl_protocol.specs.World.{World, IsSound};
+ghost use Rattle.tl_tree_locking.specs.Actions.{locked};
+ghost use Rattle.tl_tree_locking.specs.History.{part_of};
+ghost use Rattle.tl_tree_locking.specs.World.{World, IsSound};
 ghost use Rattle.tl_table.specs.Across.{LockedIn, FindsAcross};
 ghost use Rattle.tl_table.specs.Ends.{EndsBefore};
 ghost use Rattle.tl_table.specs.Epochs.{EpochValue};

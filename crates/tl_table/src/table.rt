@@ -2,8 +2,8 @@
 
 ghost use Rattle.std.specs.Prelude.{◌≡◌, ◌≢◌, ℕ, ◌+◌, ◌<◌, ◌≤◌, ◌↔◌, ◌⊎◌, [], ◌∷◌, ◌++◌, length, slice_get, true, false, IsTrue, IsOk, IfOk, IfErr, IfSome, OnOk, OnErr, MatchOption, Some, None};
 ghost use Rattle.tl_instr.specs.declared.operand.TheConstants.{MAX_ARGS};
-ghost use Rattle.tl_protocol.specs.History.{is_done, IsOpen};
-ghost use Rattle.tl_protocol.specs.Holders.{holder_of};
+ghost use Rattle.tl_tree_locking.specs.History.{is_done, IsOpen};
+ghost use Rattle.tl_tree_locking.specs.Holders.{holder_of};
 ghost use Rattle.tl_procedures.specs.Names.{naming_refusal};
 ghost use Rattle.tl_procedures.specs.declared.fault.NamingFault.TheVariants as naming;
 ghost use Rattle.tl_procedures.specs.declared.procedures.TheConstants.{MAX_NAME};

@@ -13,7 +13,7 @@ use Rattle.serde_json.specs.declared.value.Value.{Value}
 use Rattle.serde_json.specs.Read.{of_json, of_items, converted, read}
 use Rattle.tl_tree.specs.Records.{Records}
 use Rattle.tl_tree.specs.Trees.{TreeValue}
-use Rattle.tl_forms.specs.Lists.{items_of_list}
+use Rattle.tl_json.specs.Lists.{items_of_list}
 use Rattle.tl_trail.specs.declared.chain.Listed.{Listed}
 use Rattle.tl_trail.specs.declared.chain.Listed.TheVariants.{Trails, Faulty, Unread}
 use Rattle.tl_trail.specs.declared.fault.TrailFault.{TrailFault}

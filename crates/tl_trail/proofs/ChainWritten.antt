@@ -8,7 +8,7 @@ use Rattle.serde_json.specs.Read.{max_depth, read}
 use Rattle.serde_json.specs.View.{items_of}
 use Rattle.serde_json.specs.Written.{comma_if, compact_text}
 use Rattle.tl_tree.proofs.Texts.{shallow_items, list_written}
-use Rattle.tl_forms.specs.Lists.{items_of_list, list_data}
+use Rattle.tl_json.specs.Lists.{items_of_list, list_data}
 use Rattle.tl_trail.specs.Trails.{TrailValue}
 use Rattle.tl_trail.specs.Writing.{trail_data, trail_text, IsWritable}
 use Rattle.tl_trail.specs.Chains.{AreEach, IsChain, IsChainText, if_chain, chain_of, chain_in, chain_text}

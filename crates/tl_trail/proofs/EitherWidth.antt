@@ -5,7 +5,7 @@ use Rattle.tl_tree.specs.declared.record.Width.{Width}
 use Rattle.tl_tree.specs.declared.record.Width.TheVariants.{Wide, Narrow}
 use Rattle.tl_tree.specs.Trees.{TreeValue}
 use Rattle.tl_tree.specs.Reading.{records_of}
-use Rattle.tl_forms.specs.Lists.{each_of}
+use Rattle.tl_json.specs.Lists.{each_of}
 use Rattle.tl_trail.specs.declared.fault.TrailFault.{TrailFault}
 use Rattle.tl_trail.specs.declared.fault.TrailFault.TheVariants.{NotTrail}
 use Rattle.tl_trail.specs.declared.raw.RawTrail.{RawTrail}

@@ -1,8 +1,8 @@
 -- There are as many events as forms of them.
 use Rattle.std.proofs.Common.{◌≡◌, ℕ, suc, List, [], ◌∷◌, length, Option, Some, None, option_map, refl, sym, ap, ◌∙◌}
 use Rattle.tl_tree.specs.Reading.{both}
-use Rattle.tl_protocol.specs.declared.event.Event.{Event}
-use Rattle.tl_forms.specs.declared.event.RawEvent.{RawEvent}
+use Rattle.tl_tree_locking.specs.declared.event.Event.{Event}
+use Rattle.tl_json.specs.declared.event.RawEvent.{RawEvent}
 use Rattle.tl_trail.specs.Reading.{event_as, events_as}
 
 abbrev pub and_event : Option Event → Option (List Event) → Option (List Event)

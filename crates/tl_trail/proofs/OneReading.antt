@@ -6,8 +6,8 @@ use Rattle.tl_procedures.specs.Names.{Named}
 use Rattle.tl_trail.specs.declared.fault.TrailFault.{TrailFault}
 use Rattle.tl_trail.specs.declared.fault.TrailFault.TheVariants.{NotTrail, Tree, Procedure, NoProcedure, WrongArgs, TooManyCalls, Memory}
 use Rattle.tl_trail.specs.Trails.{TrailValue}
-use Rattle.tl_forms.specs.Registering.{TakenUp}
-use Rattle.tl_forms.proofs.Registered.{one_taking, none_unfit}
+use Rattle.tl_json.specs.Registering.{TakenUp}
+use Rattle.tl_json.proofs.Registered.{one_taking, none_unfit}
 use Rattle.tl_trail.specs.Reading.{TrailForm, trail_of_form, IsFound, IsFormFault, IsFaultFound, IsTrailText, IsFirstTrailFault, form_in}
 
 -- ---- what was found

@@ -18,7 +18,7 @@ use Rattle.serde_json.specs.Written.{outline, items_outline, members_outline, ha
 use Rattle.serde_json.proofs.Numbers.{number_of-decimal, number_of-negative}
 use Rattle.serde_json.proofs.Texts.{tokens_from_order, print-outline}
 use Rattle.tl_tree.specs.Writing.{integer_data, integers_data}
-use Rattle.tl_forms.specs.Lists.{natural, list_data}
+use Rattle.tl_json.specs.Lists.{natural, list_data}
 use Rattle.tl_trail.specs.ReadsBack.{IsReadBack, Adds}
 
 -- the same of items

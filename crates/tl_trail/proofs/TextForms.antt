@@ -6,7 +6,7 @@ use Rattle.serde_json.specs.Find.{as_array, as_object, get, get_member}
 use Rattle.serde_json.specs.View.{items_view}
 use Rattle.serde_json.specs.declared.value.Value.{Value}
 use Rattle.tl_trail.specs.Reading.{Parts, parts_of, call_in, call_of}
-use Rattle.tl_forms.specs.Lists.{items_of_list}
+use Rattle.tl_json.specs.Lists.{items_of_list}
 
 -- ---- the members
 

@@ -3,9 +3,9 @@ use Rattle.std.proofs.Common.{◌≡◌, ℕ, List, ◌++◌, codes, map, revers
 use Rattle.serde_json.specs.Written.{compact_text}
 use Rattle.serde_json.proofs.OnLiterals.{serde_json_on_literals}
 use Rattle.tl_tree.specs.Writing.{records_data, tree_data}
-use Rattle.tl_forms.specs.Lists.{list_data}
-use Rattle.tl_forms.specs.Procedures.{procedure_data}
-use Rattle.tl_forms.specs.Events.{event_data}
+use Rattle.tl_json.specs.Lists.{list_data}
+use Rattle.tl_json.specs.Procedures.{procedure_data}
+use Rattle.tl_json.specs.Events.{event_data}
 use Rattle.tl_trail.specs.Trails.{TrailValue}
 use Rattle.tl_trail.specs.Writing.{call_data, trail_text}
 

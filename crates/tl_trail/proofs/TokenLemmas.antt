@@ -10,7 +10,7 @@ use Rattle.serde_json.specs.Read.{number_of, of_json, of_items, of_members, conv
 use Rattle.serde_json.specs.View.{view, items_view}
 use Rattle.serde_json.specs.declared.value.Value.{Value}
 use Rattle.tl_tree.specs.Reading.{each_item}
-use Rattle.tl_forms.specs.Lists.{each_of}
+use Rattle.tl_json.specs.Lists.{each_of}
 use Rattle.tl_trail.specs.Tokens.{member_depth, BeginsWith, BeginsWithItems}
 
 -- ---- what was read is of a value of JSON

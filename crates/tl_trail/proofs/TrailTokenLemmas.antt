@@ -8,9 +8,9 @@ use Rattle.serde_json.specs.Read.{of_members, converted}
 use Rattle.tl_tree.specs.declared.record.Width.{Width}
 use Rattle.tl_tree.specs.Trees.{TreeValue}
 use Rattle.tl_tree.specs.Reading.{records_of, tree_from, form_at as tree_form_at}
-use Rattle.tl_forms.specs.Lists.{each_of}
-use Rattle.tl_forms.specs.Procedures.{procedure_form, procedure_of}
-use Rattle.tl_forms.specs.Events.{event_of}
+use Rattle.tl_json.specs.Lists.{each_of}
+use Rattle.tl_json.specs.Procedures.{procedure_form, procedure_of}
+use Rattle.tl_json.specs.Events.{event_of}
 use Rattle.tl_trail.specs.declared.raw.RawTrail.{RawTrail}
 use Rattle.tl_trail.specs.Raw.{call_form, form_with, IsHalfRead}
 use Rattle.tl_trail.specs.Reading.{Parts, call_of, parts_of, form_at, form_of_parts}

@@ -4,18 +4,18 @@ use Rattle.std.proofs.lemmas.Bool.{le-leb, lt-leb}
 use Rattle.std.proofs.lemmas.List.{reverse-reverse, length-reverse}
 use Rattle.tl_tree.specs.Records.{Records}
 use Rattle.tl_tree.specs.Trees.{TreeValue}
-use Rattle.tl_protocol.specs.declared.event.Event.{Event}
+use Rattle.tl_tree_locking.specs.declared.event.Event.{Event}
 use Rattle.tl_procedures.specs.Names.{Named}
 use Rattle.tl_trail.specs.declared.fault.TrailFault.{TrailFault}
 use Rattle.tl_trail.specs.declared.fault.TrailFault.TheVariants.{NotTrail, Procedure, Memory}
-use Rattle.tl_forms.specs.declared.event.RawEvent.{RawEvent}
+use Rattle.tl_json.specs.declared.event.RawEvent.{RawEvent}
 use Rattle.tl_trail.specs.declared.raw.RawTrail.{RawTrail}
-use Rattle.tl_forms.specs.declared.fault.RegisterFault.{RegisterFault}
-use Rattle.tl_forms.specs.Faults.{is_memory}
+use Rattle.tl_json.specs.declared.fault.RegisterFault.{RegisterFault}
+use Rattle.tl_json.specs.Faults.{is_memory}
 use Rattle.tl_trail.specs.Faults.{of_register}
 use Rattle.tl_trail.specs.Trails.{CallValue, TrailValue}
-use Rattle.tl_forms.specs.Registering.{TakenUp, IsFirstUnfit}
-use Rattle.tl_forms.specs.Procedures.{procedure_form}
+use Rattle.tl_json.specs.Registering.{TakenUp, IsFirstUnfit}
+use Rattle.tl_json.specs.Procedures.{procedure_form}
 use Rattle.tl_trail.specs.Reading.{TrailForm, calls_as, events_as, trail_of_events, trail_of_form, IsFound, IsFaultFound}
 use Rattle.tl_trail.specs.Raw.{call_form, form_with, IsHalfRead, IsTrailOf, IsFaultOf}
 

@@ -18,31 +18,31 @@ use Rattle.tl_tree.specs.Writing.{integers_data, records_data, tree_data}
 use Rattle.tl_tree.proofs.RoundTrip.{integer_back, integers_back as integers_same, record_back, records_back as records_same}
 use Rattle.tl_tree.proofs.Texts.{integers_whole, whole_items, integers_shallow, shallow_items}
 use Rattle.tl_asm.specs.Listing.{listing}
-use Rattle.tl_protocol.specs.declared.event.Event.{Event}
-use Rattle.tl_protocol.specs.declared.event.Event.TheVariants.{Admit, Lock, Free, Done}
-use Rattle.tl_protocol.specs.History.{caller}
-use Rattle.tl_protocol.specs.Nodes.{IsOfNodes}
-use Rattle.tl_protocol.proofs.Pasts.{All-reverse}
+use Rattle.tl_tree_locking.specs.declared.event.Event.{Event}
+use Rattle.tl_tree_locking.specs.declared.event.Event.TheVariants.{Admit, Lock, Free, Done}
+use Rattle.tl_tree_locking.specs.History.{caller}
+use Rattle.tl_tree_locking.specs.Nodes.{IsOfNodes}
+use Rattle.tl_tree_locking.proofs.Pasts.{All-reverse}
 use Rattle.tl_asm.proofs.StatementLists.{same_bytes}
 use Rattle.tl_asm.proofs.CanonicalText.{canonical}
 use Rattle.tl_procedures.proofs.Naming.{free_number}
 use Rattle.tl_trail.specs.declared.fault.TrailFault.TheVariants.{WrongArgs, TooManyCalls}
 use Rattle.tl_procedures.specs.Names.{Named, number_of, AreFreeAfter, no_procedure}
 use Rattle.tl_trail.specs.Trails.{CallValue, TrailValue, IsCallOf}
-use Rattle.tl_forms.specs.declared.event.RawEvent.{RawEvent}
-use Rattle.tl_forms.specs.declared.event.RawEvent.TheVariants.{Admitted, Locked, Freed, Ended}
-use Rattle.tl_forms.specs.Registering.{TakenUp}
+use Rattle.tl_json.specs.declared.event.RawEvent.{RawEvent}
+use Rattle.tl_json.specs.declared.event.RawEvent.TheVariants.{Admitted, Locked, Freed, Ended}
+use Rattle.tl_json.specs.Registering.{TakenUp}
 use Rattle.tl_trail.specs.Reading.{CallForm, TrailForm, call_of, form_in, form_of_parts, parts_of, called, and_calls, trail_of_calls, trail_of_events, call_as, each_call, calls_as, event_as, events_as, trail_of_form, form_of_data, IsFound, IsTrailText}
-use Rattle.tl_forms.specs.Events.{event_of}
-use Rattle.tl_forms.specs.Procedures.{procedure_of}
-use Rattle.tl_forms.specs.Replies.{reply_of}
-use Rattle.tl_forms.specs.Lists.{list_data, natural}
-use Rattle.tl_forms.specs.Replies.{reply_data}
+use Rattle.tl_json.specs.Events.{event_of}
+use Rattle.tl_json.specs.Procedures.{procedure_of}
+use Rattle.tl_json.specs.Replies.{reply_of}
+use Rattle.tl_json.specs.Lists.{list_data, natural}
+use Rattle.tl_json.specs.Replies.{reply_data}
 use Rattle.tl_trail.specs.Writing.{call_data, trail_data, trail_text, FitsText, IsWritable}
 use Rattle.tl_trail.specs.ReadsBack.{IsReadBack}
 use Rattle.tl_trail.proofs.ReadsBack.{text_read, natural_back, string_back, no_items_back, item_back, array_back, list_back, integers_back}
-use Rattle.tl_forms.specs.Events.{event_data, HasRecord}
-use Rattle.tl_forms.specs.Procedures.{procedure_data, AreAccepted}
+use Rattle.tl_json.specs.Events.{event_data, HasRecord}
+use Rattle.tl_json.specs.Procedures.{procedure_data, AreAccepted}
 
 -- ---- no float, and not deep
 

@@ -4,7 +4,7 @@ use Rattle.json.specs.Token.{Token}
 use Rattle.json.specs.Json.{items, value}
 use Rattle.serde_json.specs.Data.{Data, Items}
 use Rattle.serde_json.specs.Read.{of_json, of_items, converted}
-use Rattle.tl_forms.specs.Lists.{items_of_list}
+use Rattle.tl_json.specs.Lists.{items_of_list}
 use Rattle.tl_trail.specs.Trails.{TrailValue}
 use Rattle.tl_trail.specs.Reading.{form_of_data, IsFound}
 use Rattle.tl_trail.specs.Chains.{AreEach, IsChainText, IsFirstChainFault, IsFaultOfChain, if_chain}

@@ -3,7 +3,7 @@ use Rattle.std.specs.Prelude.{◌≡◌, ◌⊎◌, ℕ, nat_le, ◌&&◌, List,
 use Rattle.serde_json.specs.Data.{Data}
 use Rattle.serde_json.specs.Read.{read}
 use Rattle.tl_tree.specs.Writing.{list_text}
-use Rattle.tl_forms.specs.Lists.{list_of}
+use Rattle.tl_json.specs.Lists.{list_of}
 use Rattle.tl_trail.specs.declared.chain.TheConstants.{MAX_TRAILS}
 use Rattle.tl_trail.specs.declared.fault.TrailFault.{TrailFault}
 use Rattle.tl_trail.specs.declared.fault.TrailFault.TheVariants.{NotTrail}

@@ -1,12 +1,12 @@
 -- What it is for a trail to have nothing wrong.
 use Rattle.std.specs.Prelude.{◌≡◌, ℕ, ◌<◌, true, List, [], ◌∷◌, length, Some}
 use Rattle.tl_tree.specs.Records.{Records, record_at}
-use Rattle.tl_protocol.specs.declared.event.Event.{Event}
-use Rattle.tl_protocol.specs.declared.event.Event.TheVariants.{Lock}
-use Rattle.tl_protocol.specs.Actions.{locks_and_frees}
-use Rattle.tl_protocol.specs.Alone.{all_taken}
-use Rattle.tl_protocol.specs.History.{part_of, is_done, record_now}
-use Rattle.tl_protocol.specs.Rules.{KeepsRules, IsApart}
+use Rattle.tl_tree_locking.specs.declared.event.Event.{Event}
+use Rattle.tl_tree_locking.specs.declared.event.Event.TheVariants.{Lock}
+use Rattle.tl_tree_locking.specs.Actions.{locks_and_frees}
+use Rattle.tl_tree_locking.specs.Alone.{all_taken}
+use Rattle.tl_tree_locking.specs.History.{part_of, is_done, record_now}
+use Rattle.tl_tree_locking.specs.Rules.{KeepsRules, IsApart}
 use Rattle.tl_trail.specs.Trails.{TrailValue, call_at, found_alone}
 
 -- ---- one event, after those before it

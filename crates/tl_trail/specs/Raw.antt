@@ -12,8 +12,8 @@ use Rattle.tl_trail.specs.declared.raw.Members.{Members}
 use Rattle.tl_trail.specs.declared.raw.RawCall.{RawCall}
 use Rattle.tl_trail.specs.declared.raw.RawTrail.{RawTrail}
 use Rattle.tl_trail.specs.Trails.{TrailValue}
-use Rattle.tl_forms.specs.Procedures.{procedure_form}
-use Rattle.tl_forms.specs.Registering.{TakenUp}
+use Rattle.tl_json.specs.Procedures.{procedure_form}
+use Rattle.tl_json.specs.Registering.{TakenUp}
 use Rattle.tl_trail.specs.Reading.{CallForm, Parts, TrailForm, trail_of_form, IsUnregistered}
 
 abbrev pub call_form : RawCall → CallForm

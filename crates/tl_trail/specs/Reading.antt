@@ -12,20 +12,20 @@ use Rattle.tl_tree.specs.Records.{Records}
 use Rattle.tl_tree.specs.Trees.{TreeValue}
 use Rattle.tl_tree.specs.Reading.{both, integers_of, records_of, tree_from, form_at as tree_form_at}
 use Rattle.tl_tree.specs.declared.fault.TreeFault.{TreeFault}
-use Rattle.tl_protocol.specs.declared.event.Event.{Event}
-use Rattle.tl_protocol.specs.declared.event.Event.TheVariants as event
-use Rattle.tl_protocol.specs.History.{past_of}
+use Rattle.tl_tree_locking.specs.declared.event.Event.{Event}
+use Rattle.tl_tree_locking.specs.declared.event.Event.TheVariants as event
+use Rattle.tl_tree_locking.specs.History.{past_of}
 use Rattle.tl_procedures.specs.Names.{Named, number_of, no_procedure}
-use Rattle.tl_forms.specs.declared.event.RawEvent.{RawEvent}
-use Rattle.tl_forms.specs.declared.event.RawEvent.TheVariants.{Admitted, Locked, Freed, Ended}
+use Rattle.tl_json.specs.declared.event.RawEvent.{RawEvent}
+use Rattle.tl_json.specs.declared.event.RawEvent.TheVariants.{Admitted, Locked, Freed, Ended}
 use Rattle.tl_trail.specs.declared.fault.TrailFault.{TrailFault}
 use Rattle.tl_trail.specs.declared.fault.TrailFault.TheVariants.{NotTrail, Tree, Procedure, NoProcedure, WrongArgs, TooManyCalls}
-use Rattle.tl_forms.specs.Lists.{list_of, each_of}
-use Rattle.tl_forms.specs.Procedures.{procedure_of}
-use Rattle.tl_forms.specs.Replies.{reply_of}
-use Rattle.tl_forms.specs.Events.{event_of}
-use Rattle.tl_forms.specs.Registering.{TakenUp, IsFirstUnfit}
-use Rattle.tl_forms.specs.declared.fault.RegisterFault.{RegisterFault}
+use Rattle.tl_json.specs.Lists.{list_of, each_of}
+use Rattle.tl_json.specs.Procedures.{procedure_of}
+use Rattle.tl_json.specs.Replies.{reply_of}
+use Rattle.tl_json.specs.Events.{event_of}
+use Rattle.tl_json.specs.Registering.{TakenUp, IsFirstUnfit}
+use Rattle.tl_json.specs.declared.fault.RegisterFault.{RegisterFault}
 use Rattle.tl_trail.specs.Trails.{CallValue, TrailValue}
 
 -- ---- the form

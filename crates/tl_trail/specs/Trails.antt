@@ -6,13 +6,13 @@ use Rattle.tl_tree.specs.Shape.{IsTree}
 use Rattle.tl_instr.specs.declared.instr.Instr.{Instr}
 use Rattle.tl_instr.specs.Codes.{IsCode}
 use Rattle.tl_verify.specs.Acceptable.{Acceptable}
-use Rattle.tl_protocol.specs.declared.event.Event.{Event}
-use Rattle.tl_protocol.specs.Alone.{Outcome}
-use Rattle.tl_protocol.specs.History.{caller}
-use Rattle.tl_protocol.specs.World.{World, alone_of}
+use Rattle.tl_tree_locking.specs.declared.event.Event.{Event}
+use Rattle.tl_tree_locking.specs.Alone.{Outcome}
+use Rattle.tl_tree_locking.specs.History.{caller}
+use Rattle.tl_tree_locking.specs.World.{World, alone_of}
 use Rattle.tl_machine.specs.Outcomes.{meaning}
 use Rattle.tl_procedures.specs.Names.{Named, no_procedure}
-use Rattle.tl_protocol.specs.Nodes.{IsOfNodes}
+use Rattle.tl_tree_locking.specs.Nodes.{IsOfNodes}
 use Rattle.tl_trail.specs.declared.trail.TrailCall.{TrailCall}
 
 -- a call: the number of its procedure, its arguments, and its reply, if any

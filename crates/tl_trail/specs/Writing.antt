@@ -8,10 +8,10 @@ use Rattle.tl_tree.specs.Trees.{IsRecord}
 use Rattle.tl_tree.specs.declared.record.Width.TheVariants.{Wide}
 use Rattle.tl_tree.specs.Reading.{tree_at}
 use Rattle.tl_tree.specs.Writing.{integers_data, records_data, tree_data}
-use Rattle.tl_forms.specs.Lists.{list_data}
-use Rattle.tl_forms.specs.Procedures.{procedure_data, AreAccepted}
-use Rattle.tl_forms.specs.Replies.{reply_data}
-use Rattle.tl_forms.specs.Events.{event_data, HasRecord}
+use Rattle.tl_json.specs.Lists.{list_data}
+use Rattle.tl_json.specs.Procedures.{procedure_data, AreAccepted}
+use Rattle.tl_json.specs.Replies.{reply_data}
+use Rattle.tl_json.specs.Events.{event_data, HasRecord}
 use Rattle.tl_procedures.specs.Names.{Named, no_procedure, AreFreeAfter}
 use Rattle.tl_trail.specs.ReadsBack.{IsReadBack}
 use Rattle.tl_trail.specs.Trails.{CallValue, TrailValue, IsTrail}

@@ -6,7 +6,7 @@
 
 ghost use Rattle.std.specs.Prelude.{◌≡◌, ◌≢◌, ◌≤◌, List, length, string_bytes, IfOk, IfErr, IfSome, MatchResult};
 ghost use Rattle.serde_json.specs.View.{view, items_view};
-ghost use Rattle.tl_forms.specs.Lists.{items_of_list};
+ghost use Rattle.tl_json.specs.Lists.{items_of_list};
 ghost use Rattle.tl_trail.specs.Chains.{AreEach, IsFirstOf, IsChain, IsFaultOfChain, IsChainText, IsFirstChainFault, chain_of, chain_text};
 ghost use Rattle.tl_trail.specs.ChainTokens.{BeginsWithTrail, BeginsWithTrails, IsLeftBehind, IsListed, IsListedIn};
 ghost use Rattle.tl_trail.specs.Trails.{TrailValue};
@@ -19,7 +19,7 @@ use crate::writing::push_trail;
 use json::{Reader, Scratch, Token};
 use serde_json::Value;
 use std::alloc::{AllocError, Global};
-use tl_forms::parse_text;
+use tl_json::parse_text;
 
 /// How many trails a chain has at most.
 pub const MAX_TRAILS: usize = 256;

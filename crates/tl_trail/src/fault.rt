@@ -7,7 +7,7 @@ ghost use Rattle.tl_trail.specs.Faults.{numbers_of, of_tree, of_register};
 use arrayvec::ArrayVec;
 use std::alloc::{AllocError, AllocFailed};
 use thiserror::Error;
-use tl_forms::RegisterFault;
+use tl_json::RegisterFault;
 use tl_tree::TreeFault;
 
 /// Why no trail was read, or none was made.

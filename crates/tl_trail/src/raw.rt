@@ -10,7 +10,7 @@ use arrayvec::ArrayVec;
 use serde_json::Value;
 use std::alloc::{AllocError, Global};
 use tl_budget::MAX_EMITS;
-use tl_forms::{
+use tl_json::{
     FromValue, ProcedureText, RawEvent, each_of, events_from_value, reply_from_value, three_of,
 };
 use tl_tree::{Record, Width, integers_from_value, records_from_value};

@@ -3,9 +3,9 @@
 ghost use Rattle.std.specs.Prelude.{◌≡◌, ◌≢◌, ◌<◌, ◌≤◌, ℤ, List, [], Some, Ok, Err, length, map, reverse, option_map, string_bytes, All, IfSome, IfOk, IfErr, OnOk, MatchResult};
 ghost use Rattle.serde_json.specs.View.{view};
 ghost use Rattle.tl_tree.specs.Records.{Records};
-ghost use Rattle.tl_protocol.specs.declared.event.Event.{Event as EventValue};
-ghost use Rattle.tl_protocol.specs.History.{caller};
-ghost use Rattle.tl_protocol.specs.Nodes.{IsOfNodes};
+ghost use Rattle.tl_tree_locking.specs.declared.event.Event.{Event as EventValue};
+ghost use Rattle.tl_tree_locking.specs.History.{caller};
+ghost use Rattle.tl_tree_locking.specs.Nodes.{IsOfNodes};
 ghost use Rattle.tl_trail.specs.Trails.{TrailValue, IsCallOf, call_value};
 ghost use Rattle.tl_trail.specs.Reading.{parts_of, form_at, form_of_parts, form_of_data, form_in, call_as, each_call, calls_as, below, event_as, events_as, IsFound, IsFaultFound, IsTrailText, IsFirstTrailFault};
 ghost use Rattle.tl_trail.specs.Raw.{call_form, form_with, parts_in, IsHalfRead, IsUnread, IsTrailOf, IsFaultOf};
@@ -18,11 +18,11 @@ use arrayvec::ArrayVec;
 use serde_json::Value;
 use std::alloc::Global;
 use tl_budget::MAX_EMITS;
-use tl_forms::{RawEvent, parse_text, register_all};
 use tl_history::{History, HistoryFault, MAX_CALLS, MAX_EVENTS};
+use tl_json::{RawEvent, parse_text, register_all};
 use tl_procedures::Procedures;
-use tl_protocol::Event;
 use tl_tree::{Tree, Width, tree_from_value};
+use tl_tree_locking::Event;
 
 // ---- the tree, and what else there is
 

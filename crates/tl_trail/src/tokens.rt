@@ -9,8 +9,8 @@ ghost use Rattle.serde_json.specs.Data.{no_members};
 ghost use Rattle.serde_json.specs.Read.{number_of, number_from, of_items, of_members, converted};
 ghost use Rattle.serde_json.specs.View.{view, number_view, items_view, members_view};
 ghost use Rattle.tl_tree.specs.Reading.{records_of};
-ghost use Rattle.tl_forms.specs.Lists.{each_of};
-ghost use Rattle.tl_forms.specs.Events.{event_of};
+ghost use Rattle.tl_json.specs.Lists.{each_of};
+ghost use Rattle.tl_json.specs.Events.{event_of};
 ghost use Rattle.tl_trail.specs.Raw.{IsHalfRead};
 ghost use Rattle.tl_trail.specs.Reading.{form_in};
 ghost use Rattle.tl_trail.specs.Tokens.{member_depth, item_depth, BeginsWith, BeginsWithItems, BeginsWithMember};
@@ -21,7 +21,7 @@ use fast_float::Numeral;
 use json::{Reader, Scratch, Token};
 use serde_json::{Map, Number, Value};
 use std::alloc::{AllocError, Global};
-use tl_forms::{FromValue, NarrowEvent, ProcedureText, RawEvent, WideEvent};
+use tl_json::{FromValue, NarrowEvent, ProcedureText, RawEvent, WideEvent};
 use tl_tree::{Record, Tree, Width, records_from_value, tree_from_value};
 
 /// How deep a trail of a chain nests at most: a text nests at most 127 deep.

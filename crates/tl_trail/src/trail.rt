@@ -9,8 +9,8 @@ use tl_budget::MAX_EMITS;
 use tl_history::{History, MAX_CALLS};
 use tl_instr::MAX_ARGS;
 use tl_procedures::Procedures;
-use tl_protocol::Event;
 use tl_tree::{Record, Tree};
+use tl_tree_locking::Event;
 
 /// A call of a trail: the number of its procedure, its arguments, and its reply, if any.
 #[derive(Debug, Drop)]

@@ -5,7 +5,7 @@ use Rattle.std.specs.Int.{w64}
 use Rattle.std.proofs.lemmas.List.{length-map, get_or-map, append-nil}
 use Rattle.serde_json.specs.Data.{Data}
 use Rattle.serde_json.specs.View.{items_of}
-use Rattle.tl_fields.specs.Fields.{field_count}
+use Rattle.tl_width.specs.Fields.{field_count}
 use Rattle.tl_tree.specs.declared.record.Width.TheVariants.{Wide}
 use Rattle.tl_tree.specs.Records.{Record, Records, widened}
 use Rattle.tl_tree.specs.Shape.{IsTree}

@@ -3,7 +3,7 @@ use Rattle.std.proofs.Common.{◌≡◌, ℕ, ◌+◌, ◌-◌, ◌<◌, ◌≤�
 use Rattle.std.proofs.lemmas.List.{append-nil, drop-drop, drop_more, drop-set-lt, drop-replicate, length-take-le, take-append-drop, take_more_set}
 use Rattle.serde_json.specs.View.{view, items_view}
 use Rattle.serde_json.specs.declared.value.Value.{Value}
-use Rattle.tl_fields.specs.Fields.{field_count}
+use Rattle.tl_width.specs.Fields.{field_count}
 use Rattle.tl_tree.specs.declared.record.Width.{Width}
 use Rattle.tl_tree.specs.Records.{width_of, widened}
 use Rattle.tl_tree.specs.Reading.{each_item, integer_of, if_record}

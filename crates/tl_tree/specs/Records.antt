@@ -1,6 +1,6 @@
 -- The records of a tree: one list of numbers a node. How many numbers, `field_count` says.
 use Rattle.std.specs.Prelude.{ℕ, ◌-◌, List, [], ◌++◌, length, replicate, get_or, slice_set, ℤ, pos}
-use Rattle.tl_fields.specs.Fields.{field_count, narrow_field_count}
+use Rattle.tl_width.specs.Fields.{field_count, narrow_field_count}
 use Rattle.tl_tree.specs.declared.record.Width.{Width}
 use Rattle.tl_tree.specs.declared.record.Width.TheVariants.{Wide, Narrow}
 

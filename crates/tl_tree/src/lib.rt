@@ -12,7 +12,7 @@ pub use fault::TreeFault;
 pub use record::{Record, Width};
 pub use shape::{MAX_NODES, Shape};
 pub use text::{read_tree, write_tree};
-pub use tl_fields::FIELD_COUNT;
+pub use tl_width::FIELD_COUNT;
 pub use tree::Tree;
 pub use value::{
     integers_from_value, integers_to_value, record_from_value, record_to_value, records_from_value,

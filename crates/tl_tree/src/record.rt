@@ -3,7 +3,7 @@
 ghost use Rattle.std.specs.Prelude.{◌≡◌, ◌≤◌};
 ghost use Rattle.tl_tree.specs.Records.{width_of};
 
-use tl_fields::{FIELD_COUNT, NARROW_FIELD_COUNT};
+use tl_width::{FIELD_COUNT, NARROW_FIELD_COUNT};
 
 /// The record of a node: signed 64-bit fields.
 pub type Record = [i64; FIELD_COUNT];

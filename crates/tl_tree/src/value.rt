@@ -15,7 +15,7 @@ use crate::tree::Tree;
 use serde_json::{Value, json};
 use std::alloc::{AllocError, Global};
 use std::sync::Arc;
-use tl_fields::FIELD_COUNT;
+use tl_width::FIELD_COUNT;
 
 /// The numbers of a list of integers of 64 bits, or `None` for another value.
 pub fn integers_from_value(alloc: Global, value: &Value) -> Result<Option<Vec<i64>>, AllocError>

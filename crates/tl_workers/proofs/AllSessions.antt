@@ -6,8 +6,8 @@ use Rattle.std.proofs.lemmas.List.Elements.{All-head, All-tail}
 use Rattle.std.proofs.lemmas.List.Sums.{sum_by-cons, sum_by-append}
 use Rattle.std.proofs.lemmas.Option.{none-some, same_Some}
 use Rattle.tl_tree.specs.Records.{Records}
-use Rattle.tl_protocol.specs.Actions.{locked}
-use Rattle.tl_protocol.specs.History.{part_of, records_now}
+use Rattle.tl_tree_locking.specs.Actions.{locked}
+use Rattle.tl_tree_locking.specs.History.{part_of, records_now}
 use Rattle.tl_procedures.specs.Names.{Named}
 use Rattle.tl_table.specs.Ends.{EndsBefore}
 use Rattle.tl_table.specs.Epochs.{EpochValue, seen, owner_of, IsKnown}

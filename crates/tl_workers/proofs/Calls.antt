@@ -3,7 +3,7 @@ use Rattle.std.proofs.Common.{◌≡◌, ◌⊎◌, ⊎_elim, inl, inr, ℕ, zer
 use Rattle.std.specs.Prelude.{◌==◌, if◌then◌else◌, Some, slice_get}
 use Rattle.std.proofs.lemmas.Option.{none-some}
 use Rattle.tl_tree.specs.Records.{Records}
-use Rattle.tl_protocol.specs.History.{records_now}
+use Rattle.tl_tree_locking.specs.History.{records_now}
 use Rattle.tl_procedures.specs.Names.{Named}
 use Rattle.tl_table.specs.Epochs.{EpochValue, seen, IsKnown}
 use Rattle.tl_table.specs.Tables.{InLine, IsChain}

@@ -6,7 +6,7 @@ use Rattle.std.proofs.lemmas.Option.{none-some, same_Some, slice_get_within}
 use Rattle.std.proofs.Math.Nat.{eq-or-lt_of_le}
 use Rattle.std.specs.Option.{option_map_or}
 use Rattle.tl_tree.specs.Records.{Records}
-use Rattle.tl_protocol.specs.History.{admits, records_now}
+use Rattle.tl_tree_locking.specs.History.{admits, records_now}
 use Rattle.tl_procedures.specs.Names.{Named}
 use Rattle.tl_table.specs.Ends.{EndsBefore, begun_by_end}
 use Rattle.tl_table.specs.Epochs.{EpochValue, seen}

@@ -2,7 +2,7 @@
 use Rattle.std.specs.Prelude.{◌≡◌, ◌≢◌, ℕ, ◌+◌, ◌*◌, ◌<◌, ◌==◌, ◌⊎◌, if◌then◌else◌, List, [], ◌∷◌, ◌++◌, Option, Some, None, take, slice_get, max, nat_lt}
 use Rattle.std.specs.Option.{option_map_or}
 use Rattle.tl_history.specs.declared.history.TheConstants.{MAX_CALLS}
-use Rattle.tl_protocol.specs.declared.event.Event.{Event}
+use Rattle.tl_tree_locking.specs.declared.event.Event.{Event}
 use Rattle.tl_core.specs.Cores.{call_of}
 use Rattle.tl_core.specs.Entries.{procedure_at}
 use Rattle.tl_table.specs.Ends.{EndsBefore, begun_by_end}

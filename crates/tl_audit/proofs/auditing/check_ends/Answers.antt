@@ -1,7 +1,7 @@
 use Rattle.std.proofs.Common.{rules, ◌≡◌, ◌<◌, [], true, false, length, get_or, ap, ◌∙◌, arith}
 use Rattle.std.specs.Cmp.Lexicographic.{pointwise}
 use Rattle.std.specs.Ordering.{int_eq}
-use Rattle.tl_protocol.proofs.Records.{length-records_now}
+use Rattle.tl_tree_locking.proofs.Records.{length-records_now}
 use Rattle.tl_audit.proofs.EndRecords.{ends_so, ends_other, ends_more}
 use Rattle.tl_audit.proofs.auditing.check_ends.Goals as goal
 

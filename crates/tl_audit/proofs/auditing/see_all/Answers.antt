@@ -2,8 +2,8 @@ use Rattle.std.proofs.Common.{rules, ◌≡◌, ◌≢◌, ◌+◌, ◌∷◌, l
 use Rattle.std.specs.Prelude.{IfErr}
 use Rattle.std.proofs.lemmas.Result.{IfErr-weaker}
 use Rattle.std.proofs.lemmas.List.{length-reverse, length-take-le}
-use Rattle.tl_protocol.specs.declared.event.Event.TheVariants.{Admit}
-use Rattle.tl_protocol.proofs.Pasts.{past_one_more}
+use Rattle.tl_tree_locking.specs.declared.event.Event.TheVariants.{Admit}
+use Rattle.tl_tree_locking.proofs.Pasts.{past_one_more}
 use Rattle.tl_trail.specs.Clean.{AreRight, IsRight}
 use Rattle.tl_audit.specs.declared.fault.AuditFault.TheVariants.{Memory}
 use Rattle.tl_audit.specs.Findings.{IsWrong, IsFirstEventFault}

@@ -1,7 +1,7 @@
 use Rattle.std.proofs.Common.{◌≡◌, false, ◌∷◌, refl, sym, ap, ◌∙◌, subst}
 use Rattle.std.specs.Cmp.Rules.{signed_items}
 use Rattle.std.proofs.lemmas.Bool.{both_ways}
-use Rattle.tl_protocol.specs.declared.action.Action.TheVariants as did
+use Rattle.tl_tree_locking.specs.declared.action.Action.TheVariants as did
 use Rattle.tl_machine.specs.BetweenSteps.{Frees}
 use Rattle.tl_machine.specs.Turns.{Stops}
 use Rattle.tl_machine.specs.declared.want.Stop.TheVariants as stop

@@ -1,7 +1,7 @@
 -- The turn is still on each run that it was on.
 use Rattle.std.proofs.Common.{◌≡◌, ◌-◌, List}
 use Rattle.tl_tree.specs.Records.{Records}
-use Rattle.tl_protocol.specs.declared.action.Action.{Action}
+use Rattle.tl_tree_locking.specs.declared.action.Action.{Action}
 use Rattle.tl_budget.specs.Loops.{budget}
 use Rattle.tl_machine.specs.Runs.{Run}
 use Rattle.tl_audit.specs.Genuine.{IsOn}

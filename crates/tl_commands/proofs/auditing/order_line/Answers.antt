@@ -1,7 +1,7 @@
 use Rattle.std.proofs.Common.{◌≡◌, ◌++◌, ◌∷◌, [], ap, ◌∙◌, string_bytes}
 use Rattle.std.proofs.lemmas.Result.{IfOk-weaker}
 use Rattle.serde_json.specs.Written.{compact_text, has_float}
-use Rattle.tl_forms.specs.Lists.{order_data}
+use Rattle.tl_json.specs.Lists.{order_data}
 use Rattle.tl_commands.proofs.LineLemmas.{order_whole}
 use Rattle.tl_commands.proofs.auditing.order_line.Goals as goal
 

@@ -1,7 +1,7 @@
 use Rattle.std.proofs.Common.{◌≡◌, ◌++◌, ◌∷◌, [], map, ap, ◌∙◌, string_bytes}
 use Rattle.std.proofs.lemmas.Result.{IfOk-weaker}
 use Rattle.serde_json.specs.Written.{compact_text, has_float}
-use Rattle.tl_forms.specs.Lists.{orders_data}
+use Rattle.tl_json.specs.Lists.{orders_data}
 use Rattle.tl_table.specs.Chains.{calls_in}
 use Rattle.tl_commands.proofs.LineLemmas.{orders_whole}
 use Rattle.tl_commands.proofs.auditing.orders_line.Goals as goal

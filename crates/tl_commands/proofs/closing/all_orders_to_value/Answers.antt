@@ -5,7 +5,7 @@ use Rattle.serde_json.specs.Data.{array, object, member, no_members}
 use Rattle.serde_json.specs.View.{view, items_of}
 use Rattle.tl_tree.proofs.Items.{views_more}
 use Rattle.tl_tree.proofs.Texts.{map-map}
-use Rattle.tl_forms.specs.Lists.{calls_data, orders_data}
+use Rattle.tl_json.specs.Lists.{calls_data, orders_data}
 use Rattle.tl_table.specs.Chains.{calls_in}
 use Rattle.tl_commands.proofs.ClosingLemmas.{order_form}
 use Rattle.tl_commands.proofs.closing.all_orders_to_value.Goals as goal

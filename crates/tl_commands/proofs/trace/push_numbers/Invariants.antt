@@ -1,6 +1,6 @@
 use Rattle.std.proofs.Common.{◌≡◌, ◌++◌, map, take}
 use Rattle.serde_json.specs.View.{view}
-use Rattle.tl_forms.specs.Lists.{natural}
+use Rattle.tl_json.specs.Lists.{natural}
 use Rattle.tl_commands.proofs.trace.push_numbers.Given as goal
 
 abbrev pub invariant-loop-number : goal.invariant-loop-number

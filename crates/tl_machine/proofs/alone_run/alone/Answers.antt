@@ -4,7 +4,7 @@ use Rattle.tl_tree.specs.Shape.{IsTree}
 use Rattle.tl_instr.specs.Codes.{CodeValue, IsCode}
 use Rattle.tl_budget.specs.Loops.{emit_bound}
 use Rattle.tl_verify.specs.Acceptable.{Acceptable}
-use Rattle.tl_protocol.proofs.ObeysByPlaces.{obeys_alone}
+use Rattle.tl_tree_locking.proofs.ObeysByPlaces.{obeys_alone}
 use Rattle.tl_machine.specs.BetweenSteps.{IsBetweenSteps}
 use Rattle.tl_machine.specs.Outcomes.{meaning}
 use Rattle.tl_machine.proofs.StartLemmas.{is_alone, few_locks, few_values}

@@ -1,4 +1,4 @@
-use Rattle.tl_protocol.proofs.ObeysByPlaces.{obeys_alone}
+use Rattle.tl_tree_locking.proofs.ObeysByPlaces.{obeys_alone}
 use Rattle.tl_machine.specs.Outcomes.{meaning}
 use Rattle.tl_machine.proofs.StartLemmas.{obeys, ends, is_alone}
 use Rattle.tl_machine.proofs.laws.alone_obeys.Goals as goal

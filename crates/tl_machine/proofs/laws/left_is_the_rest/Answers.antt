@@ -1,6 +1,6 @@
 use Rattle.std.proofs.Common.{◌∙◌}
-use Rattle.tl_protocol.specs.Actions.{with_found}
-use Rattle.tl_protocol.proofs.Records.{length-with_found}
+use Rattle.tl_tree_locking.specs.Actions.{with_found}
+use Rattle.tl_tree_locking.proofs.Records.{length-with_found}
 use Rattle.tl_machine.proofs.Along.{has_found}
 use Rattle.tl_machine.proofs.RestOfCall.{is_rest}
 use Rattle.tl_machine.proofs.laws.left_is_the_rest.Goals as goal

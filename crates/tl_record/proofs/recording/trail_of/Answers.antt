@@ -1,6 +1,6 @@
 use Rattle.std.proofs.Common.{rules, ◌≡◌, map, sym, subst}
 use Rattle.std.specs.Prelude.{◌↔◌}
-use Rattle.tl_protocol.specs.History.{AllDone}
+use Rattle.tl_tree_locking.specs.History.{AllDone}
 use Rattle.tl_trail.specs.Trails.{TrailValue, IsTrail, call_value}
 use Rattle.tl_trail.specs.Clean.{Clean}
 use Rattle.tl_record.specs.Recording.{trail_value}

@@ -1,5 +1,5 @@
 use Rattle.std.proofs.Common.{◌≡◌, ◌≤◌, ◌++◌, length, drop}
-use Rattle.tl_protocol.specs.Alone.{serial}
+use Rattle.tl_tree_locking.specs.Alone.{serial}
 use Rattle.tl_core.specs.Cores.{world_of}
 use Rattle.tl_serial.proofs.replaying.replay.Given as goal
 

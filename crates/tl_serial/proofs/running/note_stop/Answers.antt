@@ -1,7 +1,7 @@
 use Rattle.std.proofs.Common.{List}
-use Rattle.tl_protocol.specs.declared.event.Event.{Event}
-use Rattle.tl_protocol.specs.History.{IsLegalHistory}
-use Rattle.tl_order.specs.Kept.{IsKept}
+use Rattle.tl_tree_locking.specs.declared.event.Event.{Event}
+use Rattle.tl_tree_locking.specs.History.{IsLegalHistory}
+use Rattle.tl_serial_order.specs.Kept.{IsKept}
 use Rattle.tl_serial.proofs.OrderSteps.{at_lock, at_free}
 use Rattle.tl_serial.proofs.running.note_stop.Goals as goal
 

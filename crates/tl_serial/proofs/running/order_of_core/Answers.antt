@@ -1,10 +1,10 @@
 use Rattle.std.proofs.Common.{◌≡◌, length, sym, ap, ◌∙◌, subst}
 use Rattle.std.specs.Prelude.{All}
-use Rattle.tl_protocol.specs.History.{past_of}
-use Rattle.tl_protocol.specs.Nodes.{IsOfNodes}
-use Rattle.tl_protocol.proofs.Inside.{sound_inside}
-use Rattle.tl_protocol.proofs.NoStandstill.{sound_history}
-use Rattle.tl_protocol.proofs.Pasts.{All-unreverse}
+use Rattle.tl_tree_locking.specs.History.{past_of}
+use Rattle.tl_tree_locking.specs.Nodes.{IsOfNodes}
+use Rattle.tl_tree_locking.proofs.Inside.{sound_inside}
+use Rattle.tl_tree_locking.proofs.NoStandstill.{sound_history}
+use Rattle.tl_tree_locking.proofs.Pasts.{All-unreverse}
 use Rattle.tl_core.specs.Cores.{world_of}
 use Rattle.tl_serial.proofs.running.order_of_core.Goals as goal
 

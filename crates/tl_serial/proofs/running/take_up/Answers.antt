@@ -1,12 +1,12 @@
 use Rattle.std.proofs.Common.{◌≡◌, length, sym, ap, ◌∙◌, subst, arith}
 use Rattle.std.specs.Prelude.{All}
-use Rattle.tl_protocol.specs.History.{admits, IsLegalHistory}
-use Rattle.tl_protocol.specs.Nodes.{IsOfNodes}
-use Rattle.tl_protocol.specs.World.{past_after}
-use Rattle.tl_protocol.proofs.Inside.{sound_inside}
-use Rattle.tl_protocol.proofs.NoStandstill.{sound_history}
+use Rattle.tl_tree_locking.specs.History.{admits, IsLegalHistory}
+use Rattle.tl_tree_locking.specs.Nodes.{IsOfNodes}
+use Rattle.tl_tree_locking.specs.World.{past_after}
+use Rattle.tl_tree_locking.proofs.Inside.{sound_inside}
+use Rattle.tl_tree_locking.proofs.NoStandstill.{sound_history}
 use Rattle.tl_core.specs.Cores.{world_of}
-use Rattle.tl_order.specs.Kept.{IsKept, IsOfSize}
+use Rattle.tl_serial_order.specs.Kept.{IsKept, IsOfSize}
 use Rattle.tl_serial.proofs.OrderSteps.{stopped_known, stop_inside}
 use Rattle.tl_serial.proofs.running.take_up.Goals as goal
 

@@ -2,7 +2,7 @@ use Rattle.std.proofs.Common.{rules, ◌≡◌, ◌≢◌, ◌<◌, ◌≤◌, S
 use Rattle.std.proofs.lemmas.Result.{IfOk-weaker, IfErr-weaker}
 use Rattle.serde_json.specs.Find.{as_array}
 use Rattle.serde_json.specs.View.{view, items_view}
-use Rattle.tl_forms.specs.Lists.{items_of_list}
+use Rattle.tl_json.specs.Lists.{items_of_list}
 use Rattle.tl_trail.specs.declared.fault.TrailFault.TheVariants.{Memory}
 use Rattle.tl_trail.specs.Chains.{AreEach, IsFirstOf, IsChain, IsFaultOfChain, chain_of}
 use Rattle.tl_trail.proofs.ChainTokenLemmas.{value_stands, value_wrong, value_none, value_other}

@@ -3,7 +3,7 @@ use Rattle.std.specs.Prelude.{All}
 use Rattle.std.proofs.lemmas.List.{take_all}
 use Rattle.std.proofs.lemmas.List.Elements.{All-more}
 use Rattle.serde_json.specs.Written.{comma_if}
-use Rattle.tl_forms.proofs.Texts.{joined, joined_more, list_whole}
+use Rattle.tl_json.proofs.Texts.{joined, joined_more, list_whole}
 use Rattle.tl_trail.specs.Chains.{IsChainText, chain_text}
 use Rattle.tl_trail.specs.Writing.{trail_data, trail_text, IsWritable}
 use Rattle.tl_trail.proofs.ChainWritten.{chain_written, chain_read, comma_put, no_comma}

@@ -1,6 +1,6 @@
 use Rattle.std.proofs.Common.{◌≡◌, ◌∷◌, false, map, take, string_bytes}
 use Rattle.std.specs.Prelude.{All}
-use Rattle.tl_forms.proofs.Texts.{joined}
+use Rattle.tl_json.proofs.Texts.{joined}
 use Rattle.tl_trail.specs.Writing.{trail_data, IsWritable}
 use Rattle.tl_trail.proofs.chain.write_chain.Given as goal
 

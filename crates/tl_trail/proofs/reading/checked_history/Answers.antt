@@ -1,5 +1,5 @@
 use Rattle.std.proofs.Common.{rules, ◌≡◌, ◌≢◌, ◌<◌, List, Some, length, arith}
-use Rattle.tl_protocol.specs.declared.event.Event.{Event}
+use Rattle.tl_tree_locking.specs.declared.event.Event.{Event}
 use Rattle.tl_trail.specs.declared.fault.TrailFault.TheVariants.{NotTrail, Memory}
 use Rattle.tl_trail.specs.Reading.{events_as}
 use Rattle.tl_trail.proofs.EventCount.{length-events_as}

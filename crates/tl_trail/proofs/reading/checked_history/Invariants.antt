@@ -1,8 +1,8 @@
 use Rattle.std.proofs.Common.{◌≡◌, ◌+◌, ◌<◌, drop, length, reverse}
 use Rattle.std.specs.Prelude.{All}
 use Rattle.tl_tree.proofs.Items.{onto}
-use Rattle.tl_protocol.specs.History.{caller}
-use Rattle.tl_protocol.specs.Nodes.{IsOfNodes}
+use Rattle.tl_tree_locking.specs.History.{caller}
+use Rattle.tl_tree_locking.specs.Nodes.{IsOfNodes}
 use Rattle.tl_trail.specs.Reading.{events_as}
 use Rattle.tl_trail.proofs.reading.checked_history.Given as goal
 

@@ -3,13 +3,13 @@ use Rattle.std.specs.Prelude.{All}
 use Rattle.std.proofs.lemmas.List.{length-map}
 use Rattle.std.proofs.lemmas.Result.{err_from_is_err_and}
 use Rattle.tl_tree.specs.Records.{Records}
-use Rattle.tl_protocol.specs.History.{caller}
-use Rattle.tl_protocol.specs.Nodes.{IsOfNodes}
+use Rattle.tl_tree_locking.specs.History.{caller}
+use Rattle.tl_tree_locking.specs.Nodes.{IsOfNodes}
 use Rattle.tl_trail.specs.declared.fault.TrailFault.TheVariants.{Memory}
 use Rattle.tl_trail.specs.Trails.{TrailValue, call_value}
-use Rattle.tl_forms.specs.Faults.{is_memory}
-use Rattle.tl_forms.specs.Registering.{TakenUp, IsFirstUnfit}
-use Rattle.tl_forms.specs.Procedures.{procedure_form}
+use Rattle.tl_json.specs.Faults.{is_memory}
+use Rattle.tl_json.specs.Registering.{TakenUp, IsFirstUnfit}
+use Rattle.tl_json.specs.Procedures.{procedure_form}
 use Rattle.tl_trail.specs.Reading.{calls_as}
 use Rattle.tl_trail.specs.Raw.{call_form, form_with, IsTrailOf, IsFaultOf}
 use Rattle.tl_trail.proofs.WholeTrail.{procedures_fault, calls_fault, ends_fault, events_fault, trail_stands}

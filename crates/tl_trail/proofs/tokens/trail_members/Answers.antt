@@ -2,9 +2,9 @@ use Rattle.std.proofs.Common.{◌≡◌, codes, map, Some, None}
 use Rattle.json.specs.Json.{read_key}
 use Rattle.serde_json.specs.View.{view}
 use Rattle.tl_tree.specs.Reading.{records_of}
-use Rattle.tl_forms.specs.Lists.{each_of}
-use Rattle.tl_forms.specs.Procedures.{procedure_form, procedure_of}
-use Rattle.tl_forms.specs.Events.{event_of}
+use Rattle.tl_json.specs.Lists.{each_of}
+use Rattle.tl_json.specs.Procedures.{procedure_form, procedure_of}
+use Rattle.tl_json.specs.Events.{event_of}
 use Rattle.tl_trail.specs.Raw.{call_form}
 use Rattle.tl_trail.specs.Reading.{call_of}
 use Rattle.tl_trail.specs.Tokens.{BeginsWithMember}

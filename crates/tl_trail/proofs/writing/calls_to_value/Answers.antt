@@ -5,7 +5,7 @@ use Rattle.serde_json.specs.View.{view}
 use Rattle.serde_json.proofs.Views.{view-Array}
 use Rattle.tl_tree.proofs.Items.{views_more}
 use Rattle.tl_trail.specs.Trails.{no_call}
-use Rattle.tl_forms.specs.Lists.{list_data}
+use Rattle.tl_json.specs.Lists.{list_data}
 use Rattle.tl_trail.specs.Writing.{call_data, FitsText}
 use Rattle.tl_trail.proofs.writing.calls_to_value.Goals as goal
 

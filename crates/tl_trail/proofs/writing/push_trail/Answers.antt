@@ -6,10 +6,10 @@ use Rattle.tl_tree.specs.declared.record.Width.TheVariants.{Wide}
 use Rattle.tl_tree.specs.Reading.{tree_at}
 use Rattle.tl_tree.specs.Writing.{records_data, tree_data}
 use Rattle.tl_procedures.specs.Names.{AreFreeAfter}
-use Rattle.tl_forms.specs.Lists.{list_data}
-use Rattle.tl_forms.specs.Events.{event_data, HasRecord}
-use Rattle.tl_forms.specs.Procedures.{procedure_data, AreAccepted}
-use Rattle.tl_forms.proofs.Texts.{pushed, ok_so}
+use Rattle.tl_json.specs.Lists.{list_data}
+use Rattle.tl_json.specs.Events.{event_data, HasRecord}
+use Rattle.tl_json.specs.Procedures.{procedure_data, AreAccepted}
+use Rattle.tl_json.proofs.Texts.{pushed, ok_so}
 use Rattle.tl_trail.specs.ReadsBack.{IsReadBack}
 use Rattle.tl_trail.proofs.TextParts.{calls_text, ends_text, events_text, procedures_text, tree_text, whole}
 use Rattle.tl_trail.proofs.writing.push_trail.Goals as goal

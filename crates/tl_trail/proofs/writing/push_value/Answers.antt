@@ -1,7 +1,7 @@
 use Rattle.std.proofs.Common.{◌++◌, ap, ◌∙◌, string_bytes}
 use Rattle.std.proofs.lemmas.Result.{on_ok_weaker}
 use Rattle.serde_json.specs.View.{view}
-use Rattle.tl_forms.proofs.Texts.{pushed}
+use Rattle.tl_json.proofs.Texts.{pushed}
 use Rattle.tl_trail.proofs.ReadsBack.{text_back}
 use Rattle.tl_trail.proofs.writing.push_value.Goals as goal
 

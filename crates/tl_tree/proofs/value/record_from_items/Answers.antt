@@ -1,7 +1,7 @@
 use Rattle.std.proofs.Common.{◌≡◌, ◌≢◌, ◌∙◌, ap, length, take, get_or, [], Some, rules, sym, arith}
 use Rattle.std.proofs.lemmas.List.{drop_all}
 use Rattle.serde_json.specs.View.{view, items_view}
-use Rattle.tl_fields.specs.Fields.{field_count}
+use Rattle.tl_width.specs.Fields.{field_count}
 use Rattle.tl_tree.specs.Records.{width_of}
 use Rattle.tl_tree.specs.Reading.{each_item, integer_of}
 use Rattle.tl_tree.proofs.Items.{onto, other_width}

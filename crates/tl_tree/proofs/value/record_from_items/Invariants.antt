@@ -2,7 +2,7 @@ use Rattle.std.proofs.Common.{◌≡◌, ◌-◌, length, take, drop, pos}
 use Rattle.std.specs.Prelude.{replicate}
 use Rattle.serde_json.specs.View.{items_view}
 use Rattle.tl_tree.specs.Reading.{each_item, integer_of}
-use Rattle.tl_fields.specs.Fields.{field_count}
+use Rattle.tl_width.specs.Fields.{field_count}
 use Rattle.tl_tree.proofs.Items.{onto}
 use Rattle.tl_tree.proofs.value.record_from_items.Given as goal
 

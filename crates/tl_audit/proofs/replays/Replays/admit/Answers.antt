@@ -1,5 +1,5 @@
 use Rattle.std.proofs.Common.{◌<◌, ◌∷◌, refl, sym, subst}
-use Rattle.tl_protocol.specs.declared.event.Event.TheVariants as event
+use Rattle.tl_tree_locking.specs.declared.event.Event.TheVariants as event
 use Rattle.tl_audit.specs.Replaying.{IsLed}
 use Rattle.tl_audit.proofs.LedCalls.{goes_on, put_one, led_start, open_start}
 use Rattle.tl_audit.proofs.replays.Replays.admit.Goals as goal

@@ -1,7 +1,7 @@
 use Rattle.std.proofs.Common.{◌≡◌, ◌<◌, get_or, None, refl, sym, ◌∙◌, subst}
 use Rattle.std.proofs.lemmas.Bool.{both_ways}
 use Rattle.std.proofs.lemmas.List.{get_or_read}
-use Rattle.tl_protocol.specs.declared.event.Event.TheVariants as event
+use Rattle.tl_tree_locking.specs.declared.event.Event.TheVariants as event
 use Rattle.tl_audit.specs.Replaying.{IsLed}
 use Rattle.tl_audit.proofs.LedCalls.{is_over, differs, put_one, other_end, settled_end, other_reply}
 use Rattle.tl_audit.proofs.replays.Replays.end.Goals as goal

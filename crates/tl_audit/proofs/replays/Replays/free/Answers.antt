@@ -1,6 +1,6 @@
 use Rattle.std.proofs.Common.{◌≡◌, get_or, None, refl, sym, ◌∙◌, subst}
 use Rattle.std.proofs.lemmas.List.{get_or_read}
-use Rattle.tl_protocol.specs.declared.event.Event.TheVariants as event
+use Rattle.tl_tree_locking.specs.declared.event.Event.TheVariants as event
 use Rattle.tl_audit.specs.Replaying.{IsLed}
 use Rattle.tl_audit.proofs.LedCalls.{goes_on, is_over, differs, put_one, put_two, led_free, other_free}
 use Rattle.tl_audit.proofs.replays.Replays.free.Goals as goal

@@ -3,9 +3,9 @@ use Rattle.std.specs.Prelude.{IsTrue, ◌↔◌}
 use Rattle.std.specs.Cmp.Rules.{signed_items}
 use Rattle.std.proofs.lemmas.List.{get_or_read}
 use Rattle.tl_tree.specs.Records.{record_at}
-use Rattle.tl_protocol.specs.History.{record_now}
-use Rattle.tl_protocol.proofs.Records.{record_at-records_now, length-records_now}
-use Rattle.tl_order.specs.Checked.{calls_of, IsEventOf}
+use Rattle.tl_tree_locking.specs.History.{record_now}
+use Rattle.tl_tree_locking.proofs.Records.{record_at-records_now, length-records_now}
+use Rattle.tl_serial_order.specs.Checked.{calls_of, IsEventOf}
 use Rattle.tl_trail.specs.Clean.{FindsNow}
 use Rattle.tl_audit.proofs.watch.Watch.finds_now.Goals as goal
 

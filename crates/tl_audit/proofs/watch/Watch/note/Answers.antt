@@ -1,5 +1,5 @@
 use Rattle.std.proofs.Common.{length, sym, subst}
-use Rattle.tl_order.specs.Checked.{IsEventOf}
+use Rattle.tl_serial_order.specs.Checked.{IsEventOf}
 use Rattle.tl_audit.proofs.watch.Watch.note.Goals as goal
 
 pub note-requires-clause-next : goal.note-requires-clause-next

@@ -1,5 +1,5 @@
 use Rattle.std.proofs.Common.{◌≡◌, ◌-◌, sym, ap, ◌∙◌, subst, arith, Some}
-use Rattle.tl_protocol.specs.declared.action.Action.TheVariants as did
+use Rattle.tl_tree_locking.specs.declared.action.Action.TheVariants as did
 use Rattle.tl_machine.specs.Turns.{Stops}
 use Rattle.tl_machine.specs.declared.want.Stop.TheVariants as stop
 use Rattle.tl_core.proofs.OpenCall.{at_read, slot_read, turned_inside, turn_same, kept_here, whole_then, seen_on, turn_then, turns_then}

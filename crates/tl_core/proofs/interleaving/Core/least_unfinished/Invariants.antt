@@ -1,5 +1,5 @@
 use Rattle.std.proofs.Common.{◌≡◌, ◌<◌, ℕ, true}
-use Rattle.tl_protocol.specs.History.{is_done}
+use Rattle.tl_tree_locking.specs.History.{is_done}
 use Rattle.tl_core.proofs.interleaving.Core.least_unfinished.Given as goal
 
 -- each call before this one is done

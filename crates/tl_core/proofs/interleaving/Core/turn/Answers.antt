@@ -1,7 +1,7 @@
 use Rattle.std.proofs.Common.{sym, ap, ◌∙◌, arith, Some}
 use Rattle.std.proofs.lemmas.Bool.{both_ways}
 use Rattle.std.proofs.lemmas.List.{length-map}
-use Rattle.tl_protocol.specs.History.{is_done}
+use Rattle.tl_tree_locking.specs.History.{is_done}
 use Rattle.tl_core.specs.Stored.{seen_call}
 use Rattle.tl_core.proofs.OpenCall.{at_read, slot_read, done_read, known_read, turn_here}
 use Rattle.tl_core.proofs.KeptTurns.{turn_of}

@@ -1,6 +1,6 @@
 use Rattle.std.proofs.Common.{◌≡◌, refl, sym, ◌∙◌}
-use Rattle.tl_protocol.specs.History.{AllDone}
-use Rattle.tl_protocol.specs.Order.{placed}
+use Rattle.tl_tree_locking.specs.History.{AllDone}
+use Rattle.tl_tree_locking.specs.Order.{placed}
 use Rattle.tl_serial.proofs.OrderOfCore.{order_agrees, order_admitted, order_tree, order_replies}
 use Rattle.tl_serial.proofs.running.Running.conclude.Goals as goal
 

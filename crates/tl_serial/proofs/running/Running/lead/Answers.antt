@@ -2,7 +2,7 @@ use Rattle.std.proofs.Common.{◌≡◌, sym, subst}
 use Rattle.std.specs.Prelude.{IfOk}
 use Rattle.tl_machine.specs.Turns.{SegmentValue, segment_of, with_call}
 use Rattle.tl_core.specs.Followed.{HasGone, IsLedTo}
-use Rattle.tl_order.specs.Kept.{IsKept}
+use Rattle.tl_serial_order.specs.Kept.{IsKept}
 use Rattle.tl_serial.specs.Running.{HasStopped}
 use Rattle.tl_serial.proofs.OrderSteps.{gone_stopped, gone_parents, same_size}
 use Rattle.tl_serial.proofs.running.Running.lead.Goals as goal

@@ -1,7 +1,7 @@
 use Rattle.std.proofs.Common.{sym, subst, refl}
 use Rattle.std.specs.Prelude.{IfOk}
 use Rattle.tl_core.specs.Followed.{Proceeds}
-use Rattle.tl_order.specs.Kept.{IsKept}
+use Rattle.tl_serial_order.specs.Kept.{IsKept}
 use Rattle.tl_serial.proofs.OrderSteps.{proceeds_parents, proceeds_stopped, proceeds_still, same_size}
 use Rattle.tl_serial.proofs.running.Running.proceed.Goals as goal
 

@@ -1,5 +1,5 @@
 use Rattle.std.proofs.Common.{◌≡◌, ◌∙◌, ap, arith}
-use Rattle.tl_protocol.specs.History.{admits}
+use Rattle.tl_tree_locking.specs.History.{admits}
 use Rattle.tl_table.specs.Epochs.{seen}
 use Rattle.tl_table.proofs.Ended.{begun_few}
 use Rattle.tl_table.proofs.closed.Closed.begun_by_end.Goals as goal

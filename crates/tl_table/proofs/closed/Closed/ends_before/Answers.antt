@@ -1,6 +1,6 @@
 use Rattle.std.proofs.Common.{◌≡◌, ◌∙◌, ap, subst, ◌<◌, length, true, arith}
 use Rattle.std.proofs.lemmas.Bool.{leb-true, le-leb}
-use Rattle.tl_protocol.specs.History.{admits, is_done, InTurn}
+use Rattle.tl_tree_locking.specs.History.{admits, is_done, InTurn}
 use Rattle.tl_table.specs.Epochs.{seen}
 use Rattle.tl_table.proofs.Ended.{ended-iff}
 use Rattle.tl_table.proofs.closed.Closed.ends_before.Goals as goal

@@ -1,7 +1,0 @@
-use Rattle.std.proofs.Common.{◌≡◌, map, take}
-use Rattle.serde_json.specs.View.{view}
-use Rattle.tl_forms.specs.Lists.{natural}
-use Rattle.tl_forms.proofs.order.calls_to_value.Given as goal
-
-abbrev pub invariant-loop-call : goal.invariant-loop-call
-invariant-loop-call l = map view l.items.items ≡ map natural (take l.call-index l.calls)

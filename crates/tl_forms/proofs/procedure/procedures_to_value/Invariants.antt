@@ -1,8 +1,0 @@
-use Rattle.std.proofs.Common.{◌≡◌, map, take}
-use Rattle.serde_json.specs.View.{view}
-use Rattle.tl_forms.specs.Procedures.{procedure_data, AreAccepted}
-use Rattle.tl_forms.proofs.procedure.procedures_to_value.Given as goal
-
-abbrev pub invariant-loop-number : goal.invariant-loop-number
-invariant-loop-number l =
-    (map view l.items.items ≡ map procedure_data (take l.number l.procedures)) × AreAccepted (take l.number l.procedures)

@@ -1,8 +1,0 @@
-use Rattle.tl_protocol.proofs.ReachedWorlds.{serial-agreeing}
-use Rattle.tl_protocol.proofs.laws.serial_along.Goals as goal
-
-pub returns-clause-tree : goal.returns-clause-tree
-returns-clause-tree c = λ w order sound over agrees. (serial-agreeing w sound over order agrees).0
-
-pub returns-clause-replies : goal.returns-clause-replies
-returns-clause-replies c = λ w order sound over agrees. (serial-agreeing w sound over order agrees).1

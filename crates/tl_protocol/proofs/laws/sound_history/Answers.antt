@@ -1,5 +1,0 @@
-use Rattle.tl_protocol.proofs.NoStandstill.{sound_history}
-use Rattle.tl_protocol.proofs.laws.sound_history.Goals as goal
-
-pub returns : goal.returns
-returns c = λ w sound. sound_history w sound

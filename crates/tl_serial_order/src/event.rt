@@ -1,0 +1,29 @@
+// Of which call and of which node an event is.
+
+ghost use Rattle.std.specs.Prelude.{◌≡◌, IsTrue, ◌↔◌};
+ghost use Rattle.tl_tree_locking.specs.History.{caller};
+ghost use Rattle.tl_tree_locking.specs.Nodes.{IsOfNodes};
+
+use tl_tree_locking::Event;
+
+/// The call whose event it is.
+pub(crate) fn caller(event: &Event) -> u32
+    ensures { result ≡ caller event.now }
+{
+    match *event {
+        Event::Admit { call }
+        | Event::Lock { call, .. }
+        | Event::Free { call, .. }
+        | Event::Done { call } => call,
+    }
+}
+
+/// Whether the node of the event, where it has one, is one of the first so many.
+pub(crate) fn is_of_nodes(event: &Event, nodes: u16) -> bool
+    ensures { IsTrue result ↔ IsOfNodes nodes event.now }
+{
+    match *event {
+        Event::Lock { node, .. } | Event::Free { node, .. } => node < nodes,
+        Event::Admit { .. } | Event::Done { .. } => true,
+    }
+}

@@ -1,0 +1,141 @@
+//! Turns and segments, which no command shows.
+
+use crate::texts::{LOOK, procedure_of};
+use std::alloc::{AllocError, Global};
+use std::process::Abort;
+use std::sync::Arc;
+use std::test::Fail;
+use tl_machine::{Stop, Turn, Want, local};
+use tl_tree::Shape;
+use tl_tree_locking::Action;
+
+/// A call that looks at this node of a root with two children, at its start.
+fn turn_at(alloc: Global, node: i64) -> Result<Turn, Fail> {
+    let procedure = Arc::new(alloc, procedure_of(alloc, LOOK)?)?;
+    let shape = Arc::new(alloc, Shape::new(alloc, &[0, 0, 0])?)?;
+    Ok(Turn::start(procedure, shape, &[node])?)
+}
+
+/// What a call wants, again and again, and what it gives, a line each; and how many steps that were.
+const WANTS: &str =
+    "Stop(Lock(2))\nLocal\nLocal\nStop(Free(2))\n[20, 0, 0, 0, 0, 0, 0, 0]\nStop(Return)\n[20] true\nStop(Over)\n5\n";
+
+fn drive(rt: &(impl Abort + AllocGlobal), turn: &mut Turn) -> Result<(), Fail> {
+    let alloc = rt.alloc();
+    let mut text = String::new(alloc);
+    for _ in 0..6 {
+        let want = turn.want();
+        text.push_str(&format!(in alloc; "{want:?}\n")?)?;
+        match want {
+            Want::Local => {
+                turn.step();
+            }
+            Want::Stop(Stop::Lock(_)) => turn.lock([20, 0, 0, 0, 0, 0, 0, 0]),
+            Want::Stop(Stop::Free(_)) => {
+                let left = turn.free();
+                text.push_str(&format!(in alloc; "{left:?}\n")?)?;
+            }
+            Want::Stop(Stop::Return) => {
+                let reply = turn.finish();
+                let is_same = reply.copy() == reply;
+                let values = reply.values();
+                text.push_str(&format!(in alloc; "{values:?} {is_same}\n")?)?;
+            }
+            Want::Stop(Stop::Over) => {}
+        }
+    }
+    let steps = turn.call().steps;
+    text.push_str(&format!(in alloc; "{steps}\n")?)?;
+    assert_eq!(rt; text.as_str(), WANTS);
+    Ok(())
+}
+
+#[test]
+fn a_turn_is_driven_by_what_it_wants(rt: HostRuntime) -> Result<(), Fail> {
+    let mut turn = turn_at(rt.alloc(), 2)?;
+    drive(&rt, &mut turn)
+}
+
+/// How many instructions are done before a segment and behind it, and where it stops.
+fn segment(turn: Turn) -> (u32, u32, Stop) {
+    let segment = local(turn);
+    let from = segment.from().call().steps;
+    (from, segment.to().steps, segment.stop())
+}
+
+/// The same, by the segment's parts.
+fn parts(turn: Turn) -> (u32, u32, Stop) {
+    let (from, to, stop) = local(turn).into_parts();
+    (from.call().steps, to.steps, stop)
+}
+
+/// The same, of a state that is led on beside its turn, which then is put there.
+fn beside(mut turn: Turn) -> (u32, u32, Stop) {
+    let mut state = *turn.call();
+    let stop = turn.run_on(&mut state);
+    let from = turn.call().steps;
+    turn.put_at(&state);
+    (from, turn.call().steps, stop)
+}
+
+/// The same, of a state at which the turn's lock is repeated.
+fn repeated(turn: Turn) -> (u32, u32, Stop) {
+    let mut state = *turn.call();
+    let stop = turn.run_on(&mut state);
+    let found = [1, 2, 3, 4, 0, 0, 0, 0];
+    if stop == Stop::Lock(0) {
+        turn.repeat(&mut state, &Action::Lock { node: 0, found });
+    }
+    (turn.call().steps, state.steps, stop)
+}
+
+#[test]
+fn a_segment_is_what_a_call_does_by_itself(rt: HostRuntime) -> Result<(), Fail> {
+    let alloc = rt.alloc();
+    let found = [
+        segment(turn_at(alloc, -1)?),
+        parts(turn_at(alloc, -1)?),
+        beside(turn_at(alloc, -1)?),
+        repeated(turn_at(alloc, 0)?),
+    ];
+    let expected = [
+        (0, 1, Stop::Return),
+        (0, 1, Stop::Return),
+        (0, 1, Stop::Return),
+        (0, 1, Stop::Lock(0)),
+    ];
+    assert_eq!(rt; found, expected);
+    Ok(())
+}
+
+/// Whether a kept turn is where a segment begins, whether it is where that ends, and the same once it has followed.
+fn follow(kept: &mut Turn) -> Result<[bool; 3], AllocError> {
+    let segment = local(kept.try_clone()?);
+    let is_begin = kept.is(segment.from());
+    let end = segment.into_turn();
+    let is_end = kept.is(&end);
+    kept.follow(&end);
+    Ok([is_begin, is_end, kept.is(&end)])
+}
+
+#[test]
+fn a_kept_turn_follows_to_the_end_of_a_segment(rt: HostRuntime) -> Result<(), Fail> {
+    let mut kept = turn_at(rt.alloc(), -1)?;
+    let found = follow(&mut kept);
+    assert_eq!(rt; found.ok(), Some([true, false, true]));
+    assert_eq!(rt; kept.want(), Want::Stop(Stop::Return));
+    Ok(())
+}
+
+/// What a turn wants that is over from the start.
+fn over(begun: &Turn) -> Result<Want, AllocError> {
+    let procedure = Arc::try_clone(begun.procedure())?;
+    Ok(Turn::over(procedure, Arc::try_clone(begun.shape())?).want())
+}
+
+#[test]
+fn a_turn_that_is_over_wants_nothing(rt: HostRuntime) -> Result<(), Fail> {
+    let begun = turn_at(rt.alloc(), 0)?;
+    assert_eq!(rt; over(&begun).ok(), Some(Want::Stop(Stop::Over)));
+    Ok(())
+}

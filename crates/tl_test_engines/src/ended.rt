@@ -1,0 +1,122 @@
+// What a closed table says.
+
+use std::alloc::Global;
+use std::test::Fail;
+use tl_audit::{MAX_TRAILS, Trail, audit_chain};
+use tl_record::trail_of;
+use tl_serial_order::Order;
+use tl_table::{Closed, Receipt};
+use tl_tree::Record;
+use tl_tree_locking::Event;
+use tl_workers::Session;
+
+/// The epochs of a closed table, and the sessions that it was closed with. What its calls have done is clean.
+#[derive(Drop)]
+pub struct Ended {
+    chain: Vec<Closed>,
+    sessions: Vec<Session>,
+    audited: Vec<Order>,
+}
+
+impl Ended {
+    // An `Err` where an audit of what the calls have done finds something wrong.
+    pub(crate) fn of(
+        alloc: Global,
+        chain: Vec<Closed>,
+        sessions: Vec<Session>,
+    ) -> Result<Ended, Fail> {
+        match audited(alloc, chain.as_slice()) {
+            Ok(audited) => Ok(Ended {
+                chain,
+                sessions,
+                audited,
+            }),
+            Err(fail) => Err(fail),
+        }
+    }
+
+    /// The sessions that it was closed with.
+    pub fn sessions(&self) -> &[Session] {
+        self.sessions.as_slice()
+    }
+
+    /// How many epochs there were.
+    pub fn epochs(&self) -> usize {
+        self.chain.len()
+    }
+
+    /// The records that the calls have left.
+    pub fn records(&self) -> &[Record] {
+        match self.chain.last() {
+            Some(closed) => closed.core().tree().records(),
+            None => &[],
+        }
+    }
+
+    /// What the calls of the last epoch have done.
+    pub fn events(&self) -> &[Event] {
+        match self.chain.last() {
+            Some(closed) => closed.core().history().events(),
+            None => &[],
+        }
+    }
+
+    /// The order that the closed table keeps of the calls of an epoch.
+    pub fn order_in(&self, epoch: usize) -> &[u32] {
+        match self.chain.get(epoch) {
+            Some(closed) => closed.order().calls(),
+            None => &[],
+        }
+    }
+
+    /// The order that an audit of the trails finds for an epoch.
+    pub fn audited_in(&self, epoch: usize) -> &[u32] {
+        match self.audited.get(epoch) {
+            Some(order) => order.calls(),
+            None => &[],
+        }
+    }
+
+    /// The order that the closed table keeps, of the first epoch.
+    pub fn order(&self) -> &[u32] {
+        self.order_in(0)
+    }
+
+    /// The order that an audit of the trail finds, of the first epoch.
+    pub fn audited(&self) -> &[u32] {
+        self.audited_in(0)
+    }
+
+    /// Whether the receipt stands in the epoch that it names.
+    pub fn stands(&self, receipt: &Receipt) -> bool {
+        match self.chain.get(receipt.epoch as usize) {
+            Some(closed) => closed.stands(receipt),
+            None => false,
+        }
+    }
+
+    /// Whether the receipt stands in that epoch.
+    pub fn stands_in(&self, epoch: usize, receipt: &Receipt) -> bool {
+        match self.chain.get(epoch) {
+            Some(closed) => closed.stands(receipt),
+            None => false,
+        }
+    }
+}
+
+// The orders that an audit finds in what the calls of the epochs have done. An `Err` where that isn't clean.
+fn audited(alloc: Global, chain: &[Closed]) -> Result<Vec<Order>, Fail> {
+    let trails = trails_of(alloc, chain)?;
+    if trails.is_empty() || trails.len() > MAX_TRAILS {
+        return Err("no chain".into());
+    }
+    Ok(audit_chain(alloc, &trails)?)
+}
+
+fn trails_of(alloc: Global, chain: &[Closed]) -> Result<Vec<Trail>, Fail> {
+    let mut trails = Vec::with_capacity(alloc, chain.len())?;
+    for closed in chain {
+        trails.push(trail_of(alloc, closed.core())?)?;
+    }
+    Ok(trails)
+}

@@ -1,0 +1,258 @@
+//! Two calls that a gate lets cross: each is held in the midst of its turns until the other one has gone on.
+
+use std::alloc::Global;
+use std::process::Abort;
+use std::sync::Wait;
+use std::test::Fail;
+use std::thread::Threads;
+use tl_commands::run_cmd;
+use tl_table::Receipt;
+use tl_test_data::{FORK, LOOK};
+use tl_test_engines::{Asked, Ended, Signal, batch, with_engine, with_engine_on_threads};
+use tl_tree_locking::Event;
+use tl_workers::{Engine, Gate, Refusal, Session};
+
+/// How often two calls cross.
+const RUNS: u32 = 20;
+
+/// Where in its second turn call 0 is held: before it, or after its local instructions.
+#[derive(Clone, Copy, Debug, PartialEq, Eq)]
+enum Point {
+    Pass,
+    Ready,
+}
+
+/// Holds call 1 before its first turn until call 0 has come to that point of its second, and call 0 there until call 1 was
+/// answered.
+#[derive(Drop)]
+struct Crossing {
+    point: Point,
+    has_come: Signal,
+    was_answered: Signal,
+}
+
+impl Crossing {
+    fn new(point: Point) -> Crossing {
+        Crossing {
+            point,
+            has_come: Signal::new(),
+            was_answered: Signal::new(),
+        }
+    }
+
+    // Call 0 has come to a point of its second turn.
+    fn come_to(&self, point: Point) {
+        if point == self.point {
+            self.has_come.tell();
+            self.was_answered.wait();
+        }
+    }
+
+    // Neither call was held for too long.
+    fn came_in_time(&self) -> bool {
+        self.has_come.came_in_time() && self.was_answered.came_in_time()
+    }
+}
+
+impl Gate for Crossing {
+    fn pass(&self, call: u32, turn: u64) {
+        match (call, turn) {
+            (1, 1) => self.has_come.wait(),
+            (0, 2) => self.come_to(Point::Pass),
+            _ => {}
+        }
+    }
+
+    fn ready(&self, call: u32, turn: u64) {
+        if (call, turn) == (0, 2) {
+            self.come_to(Point::Ready);
+        }
+    }
+
+    fn answered(&self, call: u32) {
+        if call == 1 {
+            self.was_answered.tell();
+        }
+    }
+}
+
+/// Locks, frees and ends, each with its call: call 1 locks, frees and ends while call 0 holds its node.
+const CROSSED: [(char, u32); 6] = [('l', 0), ('l', 1), ('f', 1), ('d', 1), ('f', 0), ('d', 0)];
+
+/// A lock, a free or an end, with its call.
+fn told(event: &Event) -> Option<(char, u32)> {
+    match *event {
+        Event::Admit { .. } => None,
+        Event::Lock { call, .. } => Some(('l', call)),
+        Event::Free { call, .. } => Some(('f', call)),
+        Event::Done { call } => Some(('d', call)),
+    }
+}
+
+/// The calls have crossed.
+fn crossed(rt: &impl Abort, ended: &Ended) {
+    let mut left = CROSSED.as_slice();
+    for event in ended.events() {
+        if let Some(step) = told(event) {
+            let Some((next, later)) = left.split_first() else {
+                assert!(rt; false, "a step more");
+                return;
+            };
+            assert_eq!(rt; step, *next);
+            left = later;
+        }
+    }
+    assert!(rt; left.is_empty());
+}
+
+/// A look at that node of the fork finds ten times its number.
+fn found(rt: &impl Abort, node: i64, answer: &Result<Receipt, Refusal>) {
+    let Ok(receipt) = answer else {
+        assert!(rt; false, "a look is refused");
+        return;
+    };
+    assert_eq!(rt; receipt.args.as_slice(), [node].as_slice());
+    assert_eq!(rt;
+        receipt.reply.as_slice(),
+        [node.saturating_mul(10)].as_slice()
+    );
+}
+
+/// Looks at nodes 1 and 2.
+const LOOKED: [Asked<'static>; 2] = [(1, "look", &[1]), (1, "look", &[2])];
+
+/// Two looks cross in a batch of this session.
+fn cross_in_a_batch<R: Threads + Wait + Abort + Sync>(
+    rt: &R,
+    alloc: Global,
+    engine: &Engine,
+    sessions: &mut [Session],
+    point: Point,
+) -> Result<(), Fail> {
+    let [session] = sessions else {
+        return Err("not one session".into());
+    };
+    let gate = Crossing::new(point);
+    let answers = batch(rt, alloc, engine, session, &LOOKED, 2, &gate)?;
+    assert!(rt; gate.came_in_time());
+    assert_eq!(rt; answers.len(), 2);
+    found(rt, 1, &answers[0]);
+    found(rt, 2, &answers[1]);
+    Ok(())
+}
+
+/// Two workers of a new engine run a look each.
+fn two_workers_cross<R: Threads + Wait + Abort + Sync>(
+    rt: &R,
+    alloc: Global,
+    point: Point,
+) -> Result<(), Fail> {
+    with_engine(
+        rt,
+        alloc,
+        FORK,
+        &[("look", LOOK)],
+        1,
+        |engine, sessions| cross_in_a_batch(rt, alloc, engine, sessions, point),
+        |_, ended| {
+            crossed(rt, ended);
+            Ok(())
+        },
+    )
+}
+
+#[test]
+fn a_gate_shows_two_workers(rt: HostRuntime) -> Result<(), Fail> {
+    for _ in 0..RUNS {
+        two_workers_cross(&rt, rt.alloc(), Point::Pass)?;
+    }
+    Ok(())
+}
+
+#[test]
+fn a_gate_shows_local_parts_of_two_workers(rt: HostRuntime) -> Result<(), Fail> {
+    for _ in 0..RUNS {
+        two_workers_cross(&rt, rt.alloc(), Point::Ready)?;
+    }
+    Ok(())
+}
+
+/// Looks at the node on this thread.
+fn look(
+    rt: &(impl Wait + Abort),
+    alloc: Global,
+    engine: &Engine,
+    session: &mut Session,
+    node: i64,
+    gate: &Crossing,
+) {
+    let answer = engine.call(rt, alloc, session, "look", &[node], gate);
+    found(rt, node, &answer);
+}
+
+/// Two threads of their own ask a new engine for a look each.
+fn two_calls_cross<R: Threads + Wait + Abort + Sync>(
+    rt: &R,
+    alloc: Global,
+    point: Point,
+) -> Result<(), Fail> {
+    let gate = Crossing::new(point);
+    with_engine_on_threads(
+        rt,
+        alloc,
+        FORK,
+        &[("look", LOOK)],
+        |engine, session| look(rt, alloc, engine, session, 1, &gate),
+        |engine, session| look(rt, alloc, engine, session, 2, &gate),
+        |_, _, ended| {
+            assert!(rt; gate.came_in_time());
+            crossed(rt, ended);
+            Ok(())
+        },
+    )
+}
+
+#[test]
+fn a_gate_shows_two_calls_on_threads(rt: HostRuntime) -> Result<(), Fail> {
+    for _ in 0..RUNS {
+        two_calls_cross(&rt, rt.alloc(), Point::Pass)?;
+    }
+    Ok(())
+}
+
+#[test]
+fn a_gate_shows_local_parts_of_two_calls(rt: HostRuntime) -> Result<(), Fail> {
+    for _ in 0..RUNS {
+        two_calls_cross(&rt, rt.alloc(), Point::Ready)?;
+    }
+    Ok(())
+}
+
+/// The two looks as a script.
+const SCRIPT: &[u8] =
+    b"{\"calls\":[[\"look\",[1]],[\"look\",[2]]],\"procs\":[[\"look\",\"arity 1\\nfirst n0 v0 else L4\\nget v1 n0 0\\nemit v1\\nrel n0\\nL4:\\nret\"]]}";
+
+/// What a run of it prints.
+const PRINTED: &str =
+    "{\"batch\":[{\"call\":0,\"reply\":[10]},{\"call\":1,\"reply\":[20]}]}\n{\"order\":[0,1]}\n{\"parents\":[0,0,0],\"records\":[[0,0,0,0,0,0,0,0],[10,0,0,0,0,0,0,0],[20,0,0,0,0,0,0,0]]}\n";
+
+/// Two workers run a look each of the script.
+fn two_workers_of_a_run_cross<R: Threads + Wait + Abort + Sync>(
+    rt: &R,
+    alloc: Global,
+    point: Point,
+) -> Result<(), Fail> {
+    let gate = Crossing::new(point);
+    let printed = run_cmd(rt, alloc, FORK.as_bytes(), SCRIPT, 2, &gate)?;
+    assert_eq!(rt; printed.as_str(), PRINTED);
+    assert!(rt; gate.came_in_time());
+    Ok(())
+}
+
+#[test]
+fn a_gate_shows_two_workers_of_a_run(rt: HostRuntime) -> Result<(), Fail> {
+    for _ in 0..RUNS {
+        two_workers_of_a_run_cross(&rt, rt.alloc(), Point::Pass)?;
+    }
+    Ok(())
+}

@@ -1,0 +1,250 @@
+//! Engines on one node: what sessions keep, and with which sessions an engine closes.
+
+use std::alloc::Global;
+use std::process::Abort;
+use std::sync::Wait;
+use std::test::Fail;
+use std::thread::Threads;
+use tl_audit::Silent;
+use tl_commands::{CliFault, audit_cmd, conclude_engine, conclude_engine_with_trail, open_engine};
+use tl_table::{Receipt, Table};
+use tl_test_data::{ADD, ONE_NODE};
+use tl_test_engines::{
+    Ended, batch, end_exchanged, end_opened, with_engine, with_engine_on_threads,
+    with_exchanged_sessions,
+};
+use tl_workers::{Did, Engine, NoGate, Refusal, Session};
+
+/// The procedure `add`, on a node whose field 0 is 5.
+const PROCEDURES: [(&str, &str); 1] = [("add", ADD)];
+
+/// The record of the node is that.
+fn ends_at(rt: &impl Abort, ended: &Ended, sum: i64) {
+    assert_eq!(rt; ended.records(), [[sum, 0, 0, 0, 0, 0, 0, 0]].as_slice());
+}
+
+// ---- one session
+
+/// The sum of what the receipts tell: each call of a batch found what another one left.
+fn sum(answers: &[Result<Receipt, Refusal>]) -> i64 {
+    let mut sum: i64 = 0;
+    for answer in answers {
+        if let Ok(receipt) = answer {
+            for value in &receipt.reply {
+                sum = sum.saturating_add(*value);
+            }
+        }
+    }
+    sum
+}
+
+/// A call, and then a batch of four.
+fn five_calls<R: Threads + Wait + Abort + Sync>(
+    rt: &R,
+    alloc: Global,
+    engine: &Engine,
+    sessions: &mut [Session],
+) -> Result<(), Fail> {
+    let [session] = sessions else {
+        return Err("not one session".into());
+    };
+    let first = engine.call(rt, alloc, session, "add", &[0, 1], &NoGate)?;
+    assert_eq!(rt; first.reply.as_slice(), [6].as_slice());
+    let answers = batch(
+        rt,
+        alloc,
+        engine,
+        session,
+        &[(4, "add", &[0, 1])],
+        2,
+        &NoGate,
+    )?;
+    assert_eq!(rt; sum(&answers), 34);
+    assert_eq!(rt; session.kept().len(), 10);
+    Ok(())
+}
+
+#[test]
+fn calls_and_a_batch_are_kept_by_their_session(rt: HostRuntime) -> Result<(), Fail> {
+    with_engine(
+        &rt,
+        rt.alloc(),
+        ONE_NODE,
+        &PROCEDURES,
+        1,
+        |engine, sessions| five_calls(&rt, rt.alloc(), engine, sessions),
+        |_, ended| {
+            ends_at(&rt, ended, 10);
+            Ok(())
+        },
+    )
+}
+
+// ---- a session of another engine
+
+/// The table has one call, with these arguments.
+fn has_one_call(rt: &impl Abort, table: &Table, given: &[i64]) {
+    assert_eq!(rt; table.core().calls(), 1);
+    let (_, args) = table.core().request(0);
+    assert_eq!(rt; args, given);
+}
+
+#[test]
+fn an_engine_closes_with_its_own_sessions_alone(rt: HostRuntime) -> Result<(), Fail> {
+    with_exchanged_sessions(
+        &rt,
+        rt.alloc(),
+        ONE_NODE,
+        &PROCEDURES,
+        |own, session, other, other_session| {
+            own.call(&rt, rt.alloc(), session, "add", &[0, 1], &NoGate)?;
+            other.call(&rt, rt.alloc(), other_session, "add", &[0, 2], &NoGate)?;
+            Ok(())
+        },
+        |own, other| {
+            has_one_call(&rt, own, &[0, 1]);
+            has_one_call(&rt, other, &[0, 2]);
+            Ok(())
+        },
+    )
+}
+
+/// 831, and the exit status of a refusal.
+fn is_not_closed(rt: &impl Abort, concluded: &Result<String, CliFault>) {
+    let Err(fault) = concluded else {
+        assert!(rt; false, "closed with another engine's session");
+        return;
+    };
+    assert_eq!(rt; fault.numbers().as_slice(), [831].as_slice());
+    assert_eq!(rt; fault.status(), 1);
+}
+
+// One engine has a call, and the other one none.
+#[test]
+fn nothing_is_concluded_with_another_session(rt: HostRuntime) -> Result<(), Fail> {
+    let (busy, quiet) = end_exchanged(
+        &rt,
+        rt.alloc(),
+        ONE_NODE,
+        &PROCEDURES,
+        |own, session, _, _| {
+            own.call(&rt, rt.alloc(), session, "add", &[0, 1], &NoGate)?;
+            Ok(())
+        },
+        |engine, sessions| conclude_engine(rt.alloc(), engine, sessions),
+    )?;
+    is_not_closed(&rt, &busy);
+    is_not_closed(&rt, &quiet);
+    Ok(())
+}
+
+// ---- an engine on the tree of a file
+
+/// The order of one call, and what it leaves.
+const CONCLUSION: &str = "{\"order\":[0]}\n{\"parents\":[0],\"records\":[[6,0,0,0,0,0,0,0]]}\n";
+
+/// What `end` answers of an engine on one node, after a call.
+fn concluded<R: Wait + Abort + AllocGlobal, U, E: FnOnce(Engine, Vec<Session>) -> U>(
+    rt: &R,
+    end: E,
+) -> Result<U, Fail>
+    requires { E.IsAlwaysCallable end }
+{
+    end_opened(
+        rt,
+        rt.alloc(),
+        || Ok(open_engine(rt.alloc(), ONE_NODE.as_bytes())?),
+        &PROCEDURES,
+        |engine, session| {
+            let receipt = engine.call(rt, rt.alloc(), session, "add", &[0, 1], &NoGate)?;
+            assert_eq!(rt; receipt.reply.as_slice(), [6].as_slice());
+            Ok(())
+        },
+        end,
+    )
+}
+
+#[test]
+fn an_engine_is_opened_and_concluded(rt: HostRuntime) -> Result<(), Fail> {
+    let lines = concluded(&rt, |engine, sessions| {
+        conclude_engine(rt.alloc(), engine, sessions)
+    })??;
+    assert_eq!(rt; lines.as_str(), CONCLUSION);
+    Ok(())
+}
+
+#[test]
+fn an_engine_is_concluded_to_its_trail(rt: HostRuntime) -> Result<(), Fail> {
+    let mut trail = String::new(rt.alloc());
+    let lines = concluded(&rt, |engine, sessions| {
+        conclude_engine_with_trail(rt.alloc(), engine, sessions, &mut trail)
+    })??;
+    assert_eq!(rt; lines.as_str(), CONCLUSION);
+    let order = audit_cmd(rt.alloc(), trail.as_bytes(), &mut Silent)?;
+    assert_eq!(rt; order.as_str(), "{\"order\":[0]}\n");
+    Ok(())
+}
+
+// ---- two sessions on threads of their own
+
+/// Asks for a hundred calls, one after another, each of which finds more than the one before.
+fn a_hundred_calls(
+    rt: &(impl Wait + Abort),
+    alloc: Global,
+    engine: &Engine,
+    session: &mut Session,
+) {
+    let mut last = 5;
+    for _ in 0..100 {
+        let answer = engine.call(rt, alloc, session, "add", &[0, 1], &NoGate);
+        last = found_more(rt, last, &answer);
+    }
+}
+
+/// What the call found and added to, which is more than that.
+fn found_more(rt: &impl Abort, last: i64, answer: &Result<Receipt, Refusal>) -> i64 {
+    let Ok(receipt) = answer else {
+        assert!(rt; false, "a call is refused");
+        return last;
+    };
+    let [found] = receipt.reply.as_slice() else {
+        assert!(rt; false, "not one value");
+        return last;
+    };
+    assert!(rt; *found > last);
+    *found
+}
+
+/// The session asked for a hundred calls, and each receipt that it got stands.
+fn stand(rt: &impl Abort, ended: &Ended, session: &Session) {
+    assert_eq!(rt; session.kept().len(), 200);
+    for did in session.kept() {
+        if let Did::Got(receipt) = did {
+            assert!(rt; ended.stands(receipt));
+        }
+    }
+}
+
+fn all_stand(rt: &impl Abort, ended: &Ended) {
+    assert_eq!(rt; ended.sessions().len(), 2);
+    for session in ended.sessions() {
+        stand(rt, ended, session);
+    }
+    ends_at(rt, ended, 205);
+}
+
+#[test]
+fn two_sessions_ask_on_threads_of_their_own(rt: HostRuntime) -> Result<(), Fail> {
+    with_engine_on_threads(
+        &rt,
+        rt.alloc(),
+        ONE_NODE,
+        &PROCEDURES,
+        |engine, session| a_hundred_calls(&rt, rt.alloc(), engine, session),
+        |engine, session| a_hundred_calls(&rt, rt.alloc(), engine, session),
+        |_, _, ended| {
+            all_stand(&rt, ended);
+            Ok(())
+        },
+    )
+}
