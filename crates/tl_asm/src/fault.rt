@@ -20,7 +20,7 @@ pub enum AsmFault {
     #[error("line {0}: the label is defined before")]
     LabelTwice(u64),
     /// 254: there are more than 1,024 instructions.
-    #[error("a code has at most 1024 instructions")]
+    #[error("the code has more than 1,024 instructions")]
     TooLong,
     /// 290: memory was refused.
     #[error("out of memory")]

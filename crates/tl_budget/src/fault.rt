@@ -24,10 +24,10 @@ pub enum NestFault {
     #[error("instruction {0}: a loop of no turns")]
     ZeroCount(u16),
     /// 305: the code may do more than 1,000,000 instructions.
-    #[error("more than 1000000 steps")]
+    #[error("more than 1,000,000 steps")]
     StepsOver,
     /// 306: the code may lock more than 4,096 nodes.
-    #[error("more than 4096 locks")]
+    #[error("more than 4,096 locks")]
     LocksOver,
     /// 307: the code may emit more than 32 values.
     #[error("more than 32 emitted values")]

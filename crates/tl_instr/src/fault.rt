@@ -23,10 +23,10 @@ pub enum CodeFault {
     #[error("a bad operand at position {0}")]
     BadOperand(u16),
     /// 205: there are not 1 to 1,024 instructions.
-    #[error("a code has 1 to 1024 instructions")]
+    #[error("the code has no instruction, or more than 1,024")]
     BadCount,
     /// 206: the arity is above 8, or the byte after it isn't 0.
-    #[error("a procedure takes 0 to 8 arguments")]
+    #[error("the procedure takes more than 8 arguments")]
     BadArity,
     /// 207: the code isn't of the first version.
     #[error("the code is of version 2 already")]

@@ -15,7 +15,7 @@ pub enum LineFault {
     #[error("not a request")]
     NotRequest,
     /// 902: it has more than 65,536 bytes.
-    #[error("a line has at most 65536 bytes")]
+    #[error("the line has more than 65,536 bytes")]
     TooLong,
     /// 903: it isn't UTF-8.
     #[error("not UTF-8")]

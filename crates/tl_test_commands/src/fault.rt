@@ -129,11 +129,11 @@ const FAULTS: [(CliFault, &str); 35] = [
     ),
     (
         CliFault::Verify(VerifyFault::Nest(NestFault::StepsOver)),
-        "[305] 1: the procedure: more than 1000000 steps",
+        "[305] 1: the procedure: more than 1,000,000 steps",
     ),
     (
         CliFault::Verify(VerifyFault::Nest(NestFault::LocksOver)),
-        "[306] 1: the procedure: more than 4096 locks",
+        "[306] 1: the procedure: more than 4,096 locks",
     ),
     (
         CliFault::Verify(VerifyFault::Nest(NestFault::EmitsOver)),

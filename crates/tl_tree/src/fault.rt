@@ -11,19 +11,19 @@ use thiserror::Error;
 #[derive(Clone, Copy, Debug, PartialEq, Eq, Error)]
 pub enum TreeFault {
     /// 101: there is no node.
-    #[error("a tree has at least one node")]
+    #[error("the tree has no node")]
     Empty,
     /// 102: there are more than 4,096 nodes.
-    #[error("a tree has at most 4,096 nodes")]
+    #[error("the tree has more than 4,096 nodes")]
     TooMany,
     /// 103: the root's parent is not the root.
-    #[error("the root is its own parent")]
+    #[error("the first parent must be 0, for the root has no other")]
     BadRoot,
     /// 104 and the node: the least node from 1 on whose parent is no node of a lower number.
-    #[error("the parent of node {0} is no node of a lower number")]
+    #[error("the parent of node {0} must have a lower number")]
     BadParent(u16),
     /// 105: there are more or fewer records than nodes.
-    #[error("there is one record for each node")]
+    #[error("there are not as many records as nodes")]
     WrongCount,
     /// 106: a text or a value is no tree's at all.
     #[error("not the text of a tree")]

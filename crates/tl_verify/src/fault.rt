@@ -16,16 +16,16 @@ pub enum VerifyFault {
     #[error(transparent)]
     Nest(NestFault),
     /// 401: the target is at or before the jump.
-    #[error("instruction {0}: the target is not ahead")]
+    #[error("instruction {0}: the jump goes back")]
     BackJump(u16),
     /// 402: the target is in a loop that the jump isn't in.
-    #[error("instruction {0}: the target is in a loop that the jump is not in")]
+    #[error("instruction {0}: the jump goes into a loop")]
     IntoLoop(u16),
     /// 403: the target, or the next position, is past the end.
     #[error("instruction {0}: control goes past the end of the code")]
     OffEnd(u16),
     /// 404: `first` where a call may have locked a node already.
-    #[error("instruction {0}: first comes only before all other locks")]
+    #[error("instruction {0}: first comes after another lock")]
     FirstSpent(u16),
     /// 405: the register, named last, is empty.
     #[error("instruction {0}: register n{1} holds no node")]
@@ -37,7 +37,7 @@ pub enum VerifyFault {
     #[error("instruction {0}: register n{1} still holds a node at the end")]
     HeldAtReturn(u16, u8),
     /// 408: control comes here with a register held, and with the same register empty.
-    #[error("instruction {0}: ways that join here differ in what they hold")]
+    #[error("instruction {0}: paths that join here hold different registers")]
     Joins(u16),
     /// 409: a turn of the loop that ends here changes which registers are held, or spends `first`.
     #[error("instruction {0}: a turn of the loop changes what is held")]
