@@ -99,7 +99,7 @@ export class Client {
 
   // Requests may be sent one after another without waiting: their answers come in the same order.
   #ask(request) {
-    if (this.#socket.destroyed) return Promise.reject(new Disconnected("the connection is closed"));
+    if (this.#socket.destroyed || this.#socket.writableEnded) return Promise.reject(new Disconnected("the connection is closed"));
     return new Promise((answered, failed) => {
       this.#waiting.push({ answered, failed });
       this.#socket.write(lineOf(request));

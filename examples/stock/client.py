@@ -1,17 +1,27 @@
-"""Moves stock over a server: python3 examples/stock/client.py PORT, from the top of the repository."""
+"""Moves stock over a server: python3 examples/stock/client.py PORT. The package `treedb` of clients/python has to be installed, or on Python's path."""
 
 import pathlib
 import sys
 
+from treedb import Answer, Client, Refused
+
 HERE = pathlib.Path(__file__).resolve().parent
-sys.path.insert(0, str(HERE.parent.parent / "clients/python"))
+# A procedure of this name was registered before: this script has run on the server already.
+NAME_TAKEN = 611
 
-from treedb import Client, Refused
 
-with Client(int(sys.argv[1])) as db:
-    for name in ("transfer", "shift", "visit", "stock"):
+def register(db, name):
+    try:
         bounds = db.register_file(name, HERE / f"{name}.asm")
         print(f"{name} locks at most {bounds.locks} nodes")
+    except Refused as refusal:
+        if refusal.number != NAME_TAKEN:
+            raise
+
+
+with Client(int(sys.argv[1]), timeout=60) as db:
+    for procedure in ("transfer", "shift", "visit", "stock"):
+        register(db, procedure)
 
     # Eight calls at once, on four threads.
     answers = db.batch(
@@ -27,7 +37,7 @@ with Client(int(sys.argv[1])) as db:
         ],
         workers=4,
     )
-    print("moved", [answer.reply[0] for answer in answers])
+    print("moved", [answer.reply[0] if isinstance(answer, Answer) else answer for answer in answers])
 
     total = sum(db.call("stock", warehouse).reply[0] for warehouse in (1, 2, 3))
     print("in stock", total)

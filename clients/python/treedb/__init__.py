@@ -1,4 +1,4 @@
-"""A client of a treedb server, in one file that needs nothing but Python's standard library.
+"""A client of a treedb server. It needs nothing but Python's standard library.
 
     from treedb import Client, Refused
 
@@ -9,16 +9,27 @@
         for answer in db.batch([("transfer", 5, 0, 0, 0, 1, 0, 0), ("stock", 2)], workers=4):
             print(answer)
 
-A refusal of one request raises `Refused`, which has the numbers and says what they mean; within a batch it stands in the
-place of the answer. The connection stays open after a refusal. An epoch of a server has room for 4,096 calls: `Client(7878, seals=True)`
+A refusal of one request raises `Refused`, which has the numbers and says what they mean and what to do; within a batch it stands in the
+place of the answer. The connection stays open after a refusal. After a timeout it is closed: the answer may still come, and would be taken for that of
+the next request. An epoch of a server has room for 4,096 calls: `Client(7878, seals=True)`
 seals it where that has to be done, and goes on, until `Exhausted` says that the server has no epoch left. `docs/formats.md` has the lines that go to and fro, so that a
 client in another language can do the same; `docs/faults.md` has all numbers.
 """
 
+from __future__ import annotations
+
 import json
+import os
 import socket
 import time
-from typing import NamedTuple
+from collections.abc import Iterable, Sequence
+from typing import Any, NamedTuple, Optional, Union
+
+from .faults import FAULTS
+from .names import Names
+
+__all__ = ["Answer", "Bounds", "Client", "Disconnected", "Exhausted", "Names", "Refused", "script"]
+__version__ = "0.1.0"
 
 # The last call of an epoch: there are 4,096.
 LAST_CALL = 4_095
@@ -26,61 +37,32 @@ LAST_CALL = 4_095
 PATIENCE = 5.0
 PAUSE = 0.01
 
-# What a server may refuse with, by number: the words of `docs/faults.md`.
-MEANINGS = {
-    251: "the line is no label, no instruction of the text's version and no comment, or stands at the wrong place",
-    252: "no line defines the label that this line uses",
-    253: "an earlier line defines the same label",
-    254: "there are more than 1,024 instructions",
-    290: "memory was refused for a container or a text",
-    301: "the `rep` or `repv` has no `end`",
-    302: "no loop is open at the `end`",
-    303: "a `rep` or `repv` stands in four loops",
-    304: "the count of the `rep` or `repv` is 0",
-    305: "the code may do more than 1,000,000 instructions",
-    306: "the code may lock more than 4,096 nodes",
-    307: "the code may emit more than 32 values",
-    401: "the target is at or before the instruction",
-    402: "a loop is around the target and not around the instruction",
-    403: "control can go on past the last instruction, as it does behind the `end` of a `repv` that makes no turn",
-    404: "a way leads here on which `first` was done before",
-    405: "the register holds no node here",
-    406: "the register that is to be filled holds a node here",
-    407: "the call would end while it holds a node",
-    408: "two ways that meet here hold different registers",
-    409: "a turn of the loop ends with other registers than it began with",
-    490: "memory was refused to the verifier",
-    501: "there are more or fewer arguments than the procedure takes",
-    601: "no procedure has this name",
-    603: "4,096 calls of this epoch were admitted",
-    604: "64 calls are open",
-    605: "there is no room in the epoch for all the events that the call may have",
-    606: "the call isn't done, so the epoch isn't sealed; it is the least such call",
-    611: "a procedure of this name was registered before",
-    612: "a name isn't 1 to 32 of ASCII letters, digits and `_`",
-    613: "256 procedures were registered",
-    690: "memory was refused for a call, a procedure or the order",
-    808: "the last of 256 epochs is the current one, so it isn't sealed",
-    890: "memory was refused for what is kept of a call",
-    901: "the line is none of the requests",
-    902: "the line has more than 65,536 bytes; it is passed over",
-    903: "the line isn't UTF-8",
-    990: "memory was refused for a line, a batch or the program itself; nothing was done",
-}
+# The procedure by which a client reads records: it emits the eight fields of a node.
+READER = "treedb_read"
+READER_TEXT = "version 2\narity 1\nfirst n0 v0 else L18\n" + "".join(f"get v1 n0 {field}\nemit v1\n" for field in range(8)) + "rel n0\nL18:\nret\n"
+# How many calls a batch has at most.
+BATCH = 256
+# Names a text that isn't accepted by position or by line.
+BY_LINE, BY_POSITION = {251, 252, 253}, {301, 302, 303, 304, 401, 402, 403, 404, 405, 406, 407, 408, 409}
 
 
 class Refused(Exception):
     """The server refused a request, and nothing was changed.
 
-    `numbers` are the fault's number and then its parts, as `[405, 3, 1]`; `number` is the first, and `meaning` its words.
+    `numbers` are the fault's number and then its parts, as `[405, 3, 1]`; `number` is the first, `meaning` says when it is answered, and `advice` what
+    to do. Where a text was refused, `line` is the number of its line, from 1.
     """
 
-    def __init__(self, numbers):
+    def __init__(self, numbers: Iterable[int], line: Optional[int] = None):
         self.numbers = list(numbers)
         self.number = self.numbers[0]
-        self.meaning = MEANINGS.get(self.number, "a number that this client doesn't know")
+        fault = FAULTS.get(self.number)
+        self.meaning = fault.meaning if fault else "a number that this client doesn't know"
+        self.advice = fault.advice if fault else "see docs/faults.md of the server's version"
+        self.line = line
         parts = "".join(f", {part}" for part in self.numbers[1:])
-        super().__init__(f"[{self.number}{parts}] {self.meaning}")
+        where = "" if line is None else f" (line {line})"
+        super().__init__(f"[{self.number}{parts}] {self.meaning}{where}")
 
 
 class Exhausted(Exception):
@@ -103,36 +85,44 @@ class Answer(NamedTuple):
     """A call that was admitted and is done: its number among the calls of its epoch, its reply, and the number of the epoch."""
 
     call: int
-    reply: list
+    reply: list[int]
     epoch: int = 0
+
+
+# A call as (procedure, argument, ..).
+Call = Sequence[Any]
 
 
 class Client:
     """A connection to a server on a port of this machine. It can be used in a `with`, which closes it."""
 
-    def __init__(self, port, host="127.0.0.1", timeout=None, seals=False):
-        """Connects. `timeout` is in seconds, for each answer; None waits as long as it takes.
+    def __init__(self, port: int, host: str = "127.0.0.1", timeout: Optional[float] = None, seals: bool = False):
+        """Connects. `timeout` is in seconds, for each answer; None waits as long as it takes. After a `TimeoutError` the connection is closed.
 
         With `seals`, the client that gets the last call of an epoch seals the epoch. Exactly one client gets it, so no two seal at once where
         all clients of a server do so. A client that finds an epoch full waits for that, and asks again. Where nobody seals for
         seconds, or the epoch has room for calls but not for all that this one may do, it seals the epoch itself.
         """
         self._seals = seals
-        self._socket = socket.create_connection((host, port), timeout=timeout)
+        self._reads = False
+        self._socket: Optional[socket.socket] = socket.create_connection((host, port), timeout=timeout)
         self._socket.setsockopt(socket.IPPROTO_TCP, socket.TCP_NODELAY, 1)
         self._answers = self._socket.makefile("rb")
 
-    def register(self, name, text):
+    def register(self, name: str, text: str) -> Bounds:
         """Registers a procedure's text under a name, and returns its `Bounds`."""
-        bounds = self._ask({"op": "register", "name": name, "asm": text})["bounds"]
+        try:
+            bounds = self._ask({"op": "register", "name": name, "asm": text})["bounds"]
+        except Refused as refusal:
+            raise Refused(refusal.numbers, _line(text, refusal.numbers)) from None
         return Bounds(bounds["steps"], bounds["locks"], bounds["emits"])
 
-    def register_file(self, name, path):
+    def register_file(self, name: str, path: Union[str, os.PathLike[str]]) -> Bounds:
         """Registers the text of a file under a name, and returns its `Bounds`."""
         with open(path, encoding="utf-8") as file:
             return self.register(name, file.read())
 
-    def call(self, procedure, *arguments):
+    def call(self, procedure: str, *arguments: int) -> Answer:
         """Runs a call to its end, and returns its `Answer`."""
         request = {"op": "call", "proc": procedure, "args": list(arguments)}
         began = time.monotonic()
@@ -147,7 +137,7 @@ class Client:
                 self._seal_behind([answer])
                 return answer
 
-    def batch(self, calls, workers=1):
+    def batch(self, calls: Iterable[Call], workers: int = 1) -> list[Union[Answer, Refused, Exhausted]]:
         """Runs 1 to 256 calls, given as (procedure, argument, ..), on 1 to 16 threads at once.
 
         Returns a list with an `Answer` for each, in order, or a `Refused` where one was refused. Where the last epoch is full, an
@@ -166,17 +156,44 @@ class Client:
                 answers[place] = answer
         return answers
 
-    def _batch(self, wanted, workers):
+    def read(self, node: int) -> list[int]:
+        """The record of a node, eight integers. It registers the procedure `treedb_read` when it is first asked, and is a call as others are.
+
+        A node that isn't there is an `IndexError`.
+        """
+        return self.read_all([node])[0]
+
+    def read_all(self, nodes: Iterable[int]) -> list[list[int]]:
+        """The records of these nodes, each read by a call of its own: what others write meanwhile may stand in a later one and not in an earlier one."""
+        if not self._reads:
+            try:
+                self.register(READER, READER_TEXT)
+            except Refused as refusal:
+                # Another client has registered it.
+                if refusal.number != 611:
+                    raise
+            self._reads = True
+        wanted, records = list(nodes), []
+        for start in range(0, len(wanted), BATCH):
+            for answer in self.batch([(READER, node) for node in wanted[start : start + BATCH]]):
+                if not isinstance(answer, Answer):
+                    raise answer
+                if not answer.reply:
+                    raise IndexError(f"no node {wanted[len(records)]}")
+                records.append(answer.reply)
+        return records
+
+    def _batch(self, wanted: list[Any], workers: int) -> list[Any]:
         answers = self._ask({"op": "batch", "workers": workers, "calls": wanted})["batch"]
         answers = [Refused(answer["error"]) if "error" in answer else _answer(answer) for answer in answers]
         self._seal_behind(answers)
         return answers
 
-    def _is_to_seal(self, answer):
+    def _is_to_seal(self, answer: Any) -> bool:
         """Whether the request was refused since the epoch is full, and this client seals."""
         return self._seals and isinstance(answer, Refused) and answer.number in (603, 605)
 
-    def _go_on(self, refusal, began):
+    def _go_on(self, refusal: Refused, began: float) -> None:
         """Waits for the seal of the client that got the epoch's last call, or seals the epoch."""
         if refusal.number == 603 and time.monotonic() < began + PATIENCE:
             time.sleep(PAUSE)
@@ -190,7 +207,7 @@ class Client:
                 raise
             time.sleep(PAUSE)
 
-    def _seal_behind(self, answers):
+    def _seal_behind(self, answers: list[Any]) -> None:
         """Seals the epoch where one of these calls was its last, once the calls of others are done."""
         is_last = any(isinstance(answer, Answer) and answer.call == LAST_CALL for answer in answers)
         while self._seals and is_last:
@@ -205,14 +222,14 @@ class Client:
                     raise
                 time.sleep(PAUSE)
 
-    def seal(self):
+    def seal(self) -> int:
         """Seals the current epoch, and returns its number. Calls go on in the next one, on the tree as it is.
 
         It is refused with 606 while a call is unfinished, and with 808 in the last epoch.
         """
         return self._ask({"op": "seal"})["sealed"]
 
-    def close(self):
+    def close(self) -> None:
         """Ends the connection. A connection that is closed stays so."""
         if self._socket is None:
             return
@@ -221,29 +238,33 @@ class Client:
         finally:
             self._hang_up()
 
-    def __enter__(self):
+    def __enter__(self) -> Client:
         return self
 
-    def __exit__(self, kind, value, trace):
+    def __exit__(self, kind: Any, value: Any, trace: Any) -> None:
         # After another exception the connection may be in the middle of a line.
         if kind is None:
             self.close()
         else:
             self._hang_up()
 
-    def _hang_up(self):
+    def _hang_up(self) -> None:
         if self._socket is not None:
             self._answers.close()
             self._socket.close()
             self._socket = None
 
-    def _ask(self, request):
-        """Sends a request, and returns its answer; raises `Refused` for a refusal."""
+    def _ask(self, request: dict[str, Any]) -> dict[str, Any]:
+        """Sends a request, and returns its answer; raises `Refused` for a refusal. After a timeout it hangs up."""
         if self._socket is None:
             raise Disconnected("the connection is closed")
         line = json.dumps(request, separators=(",", ":"), ensure_ascii=False)
-        self._socket.sendall(line.encode("utf-8", "surrogatepass") + b"\n")
-        answer = self._answers.readline()
+        try:
+            self._socket.sendall(line.encode("utf-8", "surrogatepass") + b"\n")
+            answer = self._answers.readline()
+        except OSError:
+            self._hang_up()
+            raise
         if not answer.endswith(b"\n"):
             raise Disconnected("the server ended the connection")
         answer = json.loads(answer)
@@ -252,11 +273,22 @@ class Client:
         return answer
 
 
-def script(procedures, calls):
+def script(procedures: dict[str, str], calls: Iterable[Call]) -> str:
     """The text of a script for `treedb run`: procedures as {name: text}, calls as [(procedure, argument, ..), ..]."""
     wanted = [[procedure, list(arguments)] for procedure, *arguments in calls]
     return json.dumps({"calls": wanted, "procs": [[name, text] for name, text in procedures.items()]}, indent=2) + "\n"
 
 
-def _answer(answer):
+def _line(text: str, numbers: list[int]) -> Optional[int]:
+    """The number of the line that a refusal of an assembler text names, by its number or by the position of its instruction."""
+    if numbers[0] in BY_LINE:
+        return numbers[1]
+    if numbers[0] not in BY_POSITION:
+        return None
+    said = [line.partition(";")[0].split() for line in text.split("\n")]
+    instructions = [number for number, words in enumerate(said, 1) if words and words[0] not in ("version", "arity") and not words[0].endswith(":")]
+    return instructions[numbers[1]] if numbers[1] < len(instructions) else None
+
+
+def _answer(answer: dict[str, Any]) -> Answer:
     return Answer(answer["call"], answer["reply"], answer.get("epoch", 0))

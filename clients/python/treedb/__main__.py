@@ -1,0 +1,71 @@
+"""Trees and tables: python3 -m treedb --help."""
+
+import argparse
+import json
+import sys
+
+from . import __version__
+from .names import read_table, shown, write_table
+
+
+def from_table(words: argparse.Namespace) -> None:
+    with open(words.table, encoding="utf-8", newline="") as table:
+        tree, names = read_table(table)
+    with open(words.tree, "w", encoding="utf-8") as file:
+        json.dump(tree, file, separators=(",", ":"))
+        file.write("\n")
+    with open(words.names, "w", encoding="utf-8") as file:
+        json.dump(names, file, ensure_ascii=False)
+        file.write("\n")
+    print(f"{len(names)} nodes")
+
+
+def to_table(words: argparse.Namespace) -> None:
+    tree, names = _loaded(words)
+    with open(words.table, "w", encoding="utf-8", newline="") as table:
+        write_table(table, tree, names, words.fields.split(",") if words.fields else ())
+
+
+def show(words: argparse.Namespace) -> None:
+    tree, names = _loaded(words)
+    if not 0 <= words.node < len(tree["parents"]):
+        raise ValueError(f"no node {words.node}")
+    for line in shown(tree, names, words.node):
+        print(line)
+
+
+def _loaded(words: argparse.Namespace):
+    with open(words.tree, encoding="utf-8") as file:
+        tree = json.load(file)
+    if words.names is None:
+        return tree, None
+    with open(words.names, encoding="utf-8") as file:
+        return tree, json.load(file)
+
+
+def main() -> int:
+    parser = argparse.ArgumentParser(prog="python3 -m treedb", description="Trees and tables, with names for nodes.")
+    parser.add_argument("--version", action="version", version=__version__)
+    commands = parser.add_subparsers(required=True)
+    command = commands.add_parser("tree", help="make a tree and its names of a table (CSV) of paths and fields")
+    command.add_argument("table"), command.add_argument("tree"), command.add_argument("names")
+    command.set_defaults(do=from_table)
+    command = commands.add_parser("table", help="make a table (CSV) of a tree and its names")
+    command.add_argument("tree"), command.add_argument("names"), command.add_argument("table")
+    command.add_argument("--fields", help="the names of the fields, with commas between")
+    command.set_defaults(do=to_table)
+    command = commands.add_parser("show", help="print a tree, or what is below a node, indented")
+    command.add_argument("tree"), command.add_argument("node", nargs="?", type=int, default=0)
+    command.add_argument("--names")
+    command.set_defaults(do=show)
+    words = parser.parse_args()
+    try:
+        words.do(words)
+    except (OSError, ValueError, KeyError) as fault:
+        print(f"treedb: {fault}", file=sys.stderr)
+        return 1
+    return 0
+
+
+if __name__ == "__main__":
+    sys.exit(main())
