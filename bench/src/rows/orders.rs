@@ -31,7 +31,7 @@ const LONG: u64 = 1_000_000;
 const PLAN: Plan = Plan { round: Duration::from_millis(40), ..USUAL };
 
 /// What the twin does that looks at no rule.
-const TRUSTING: &str = "the twin takes it that the rules are kept";
+const TRUSTING: &str = "the twin assumes a legal history";
 
 /// What is asked of `order_of` and `audit` beside the twin.
 const LEAST: Goal = Goal::AtLeast(0.8);
