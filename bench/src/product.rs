@@ -38,6 +38,7 @@ mod c {
         pub fn treedb_admit(code: *const u8, size: usize, parents: *const u16, nodes: usize, args: *const i64, calls: usize) -> Measured;
         pub fn treedb_keep(code: *const u8, size: usize, parents: *const u16, nodes: usize, args: *const i64, calls: usize) -> Measured;
         pub fn treedb_replay(code: *const u8, size: usize, parents: *const u16, nodes: usize, args: *const i64, calls: usize) -> Measured;
+        pub fn treedb_seal(code: *const u8, size: usize, parents: *const u16, nodes: usize, args: *const i64, calls: usize) -> Measured;
         pub fn treedb_block(code: *const u8, size: usize, times: u32) -> Measured;
         pub fn treedb_read(text: *const u8, size: usize, times: u32) -> Measured;
         pub fn treedb_parse(text: *const u8, size: usize, times: u32) -> Measured;
@@ -87,6 +88,7 @@ of_calls! {
     admit is treedb_admit;
     keep is treedb_keep;
     replay is treedb_replay;
+    seal is treedb_seal;
 }
 
 pub fn run(code: &[u8], nodes: u16, args: &[i64], times: u32) -> Measured {

@@ -153,6 +153,13 @@ pub fn others() -> Result<Part, String> {
             || twin::replay(&code, &parents, &args),
         )?,
         counted_row(
+            "a seal: 4,096 calls that locked a node each are done, 4,096 nodes",
+            "ns a seal",
+            Goal::Speed,
+            || product::seal(&touch, &parents, &nodes),
+            || twin::seal(&touch, &parents, &nodes),
+        )?,
+        counted_row(
             "a step that is blocked",
             "ns a step",
             Goal::Speed,

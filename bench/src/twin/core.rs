@@ -207,6 +207,17 @@ impl Core {
         Ok(number)
     }
 
+    /// A core without calls that opens with the records now and has the same procedures.
+    pub fn successor(&self) -> Core {
+        let tree = Tree { shape: Arc::clone(&self.opening.shape), records: self.nodes.records.clone() };
+        Core { procedures: self.procedures.clone(), ..Core::new(tree) }
+    }
+
+    /// Gives back memory that the history doesn't need.
+    pub fn cut_history(&mut self) {
+        self.nodes.history.shrink_to_fit();
+    }
+
     /// The place of a call among the open ones, where it isn't over.
     fn place_of(&self, number: u32) -> Result<Option<usize>, Fault> {
         match self.calls.get(number as usize).ok_or(Fault::plain(602))?.progress {

@@ -36,6 +36,15 @@ impl Running {
         Ok(call)
     }
 
+    /// The one that takes over once all calls are done.
+    pub fn successor(&self) -> Running {
+        Running::new(self.core.successor())
+    }
+
+    pub fn cut_history(&mut self) {
+        self.core.cut_history();
+    }
+
     #[inline(always)]
     pub fn step(&mut self, call: u32) -> Result<Stepped, Fault> {
         let stepped = self.core.step(call)?;

@@ -151,6 +151,20 @@ pub fn replay(code: &[u8], parents: &[u16], args: &[i64]) -> Measured {
     measured
 }
 
+/// The calls, and then a seal.
+pub fn seal(code: &[u8], parents: &[u16], args: &[i64]) -> Measured {
+    let Ok((mut running, _)) = running(code, parents, args) else { return Measured::REFUSED };
+    let mut measured = Measured { count: 1, ..Measured::default() };
+    let next = timed(&mut measured.nanos, || {
+        let next = running.successor();
+        running.cut_history();
+        next
+    });
+    mix_core(&mut measured, running.core());
+    mix_core(&mut measured, next.core());
+    measured
+}
+
 /// A call that waits for the node of another is asked so many times.
 pub fn block(code: &[u8], times: u32) -> Measured {
     blocked(code, times).unwrap_or(Measured::REFUSED)

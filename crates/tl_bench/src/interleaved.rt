@@ -256,6 +256,31 @@ pub extern "C" fn treedb_replay(
     Measured::or_refused(replayed(alloc, code, parents, args))
 }
 
+fn sealed(alloc: Global, code: &[u8], parents: &[u16], args: &[i64]) -> Option<Measured> {
+    let (mut running, _) = running_of(alloc, code, parents, args)?;
+    let mut measured = Measured::none();
+    measured.add_count(1);
+    let begin = now();
+    let next = running.successor(alloc).ok()?;
+    running.cut_history();
+    measured.add_since(begin);
+    mix_core(running.core(), &mut measured);
+    mix_core(next.core(), &mut measured);
+    Some(measured)
+}
+
+/// The same calls, and then what a table does at a seal: the time is that of the seal, of which there is one. What came of the calls
+/// and of the core that takes over is mixed.
+#[unsafe(no_mangle)]
+pub extern "C" fn treedb_seal(
+    alloc: Global,
+    code: &[u8],
+    parents: &[u16],
+    args: &[i64],
+) -> Measured {
+    Measured::or_refused(sealed(alloc, code, parents, args))
+}
+
 fn blocked(alloc: Global, code: &[u8], times: u32) -> Option<Measured> {
     let mut core = core_of(alloc, code, &[0])?;
     let first = core.admit(alloc, NAME, &[0]).ok()?;
