@@ -6,6 +6,7 @@ use tl_audit::{MAX_TRAILS, Trail, audit_chain};
 use tl_record::trail_of;
 use tl_serial_order::Order;
 use tl_table::{Closed, Receipt};
+use tl_trail::write_chain;
 use tl_tree::Record;
 use tl_tree_locking::Event;
 use tl_workers::Session;
@@ -85,6 +86,12 @@ impl Ended {
     /// The order that an audit of the trail finds, of the first epoch.
     pub fn audited(&self) -> &[u32] {
         self.audited_in(0)
+    }
+
+    /// The text of the chain of the epochs' trails.
+    pub fn chain_text(&self, alloc: Global) -> Result<String, Fail> {
+        let trails = trails_of(alloc, self.chain.as_slice())?;
+        Ok(write_chain(alloc, &trails)?)
     }
 
     /// Whether the receipt stands in the epoch that it names.

@@ -97,6 +97,33 @@ where
     judge(answer, &ended)
 }
 
+/// Lends an engine on the tree of a text, with procedures, and one session to `body`. Then it closes the engine with this session, and
+/// lends what it says to `judge`, as `with_engine` does.
+pub fn with_one_session<R, T, U, F, G>(
+    rt: &R,
+    alloc: Global,
+    tree: &str,
+    procedures: &[(&str, &str)],
+    body: F,
+    judge: G,
+) -> Result<U, Fail>
+where
+    R: Wait,
+    T: Drop,
+    F: FnOnce(&Engine, &mut Session) -> Result<T, Fail>,
+    G: FnOnce(T, &Ended) -> Result<U, Fail>,
+    requires body { F.IsAlwaysCallable body }
+    requires judge { G.IsAlwaysCallable judge }
+{
+    let engine = engine_of(rt, alloc, tree, procedures)?;
+    let mut session = engine.session(rt, alloc)?;
+    let answer = body(&engine, &mut session)?;
+    let mut sessions = Vec::new(alloc);
+    sessions.push(session)?;
+    let ended = closed(alloc, engine, sessions)?;
+    judge(answer, &ended)
+}
+
 // Lends the session, and gives it back.
 fn lent<A, F: FnOnce(&Engine, &mut Session) -> A>(
     engine: &Engine,

@@ -13,14 +13,18 @@ mod engine;
 mod exchange;
 mod opened;
 mod ready;
+mod sealed;
 mod signal;
 mod table;
 
 pub use asking::{Answers, Asked, batch, done};
 pub use ended::Ended;
-pub use engine::{use_up_sessions, with_callers, with_engine, with_engine_on_threads};
+pub use engine::{
+    use_up_sessions, with_callers, with_engine, with_engine_on_threads, with_one_session,
+};
 pub use exchange::{end_exchanged, with_exchanged_sessions};
 pub use opened::end_opened;
 pub use ready::with_ready;
+pub use sealed::{with_sealed_core, with_sealed_running};
 pub use signal::Signal;
 pub use table::{receipt_of, with_table};

@@ -9,7 +9,9 @@ use tl_core::CoreFault;
 use tl_history::MAX_CALLS;
 use tl_table::{Receipt, TableFault};
 use tl_test_data::{FORK, LOOK, ONE_NODE, QUO};
-use tl_test_engines::{Asked, Ended, Signal, batch, done, with_engine, with_engine_on_threads};
+use tl_test_engines::{
+    Asked, Ended, Signal, batch, done, with_engine_on_threads, with_one_session,
+};
 use tl_workers::{Engine, Gate, NoGate, Refusal, Session};
 
 /// The refusal of a call.
@@ -38,11 +40,8 @@ fn fill<R: Wait + Abort>(
     rt: &R,
     alloc: Global,
     engine: &Engine,
-    sessions: &mut [Session],
+    session: &mut Session,
 ) -> Result<(), Fail> {
-    let [session] = sessions else {
-        return Err("not one session".into());
-    };
     for call in 0..MAX_CALLS as u32 {
         let answer = engine.call(rt, alloc, session, "quo", &[6, 3], &NoGate);
         is_of(rt, &answer, 0, call, 2);
@@ -57,13 +56,12 @@ fn fill<R: Wait + Abort>(
 
 #[test]
 fn a_full_epoch_is_sealed(rt: HostRuntime) -> Result<(), Fail> {
-    with_engine(
+    with_one_session(
         &rt,
         rt.alloc(),
         ONE_NODE,
         &[("quo", QUO)],
-        1,
-        |engine, sessions| fill(&rt, rt.alloc(), engine, sessions),
+        |engine, session| fill(&rt, rt.alloc(), engine, session),
         |(), ended| {
             assert_eq!(rt; ended.epochs(), 2);
             assert_eq!(rt; ended.order_in(0).len(), MAX_CALLS);

@@ -109,7 +109,7 @@ fn use_session<R: Print + Threads + Wait + Sync>(
     println!(rt; "sealed {sealed}")?;
     let receipt = call(rt, alloc, engine, session, &[0, 1])?;
     print_receipt(rt, &receipt)?;
-    let kept = session.kept().len();
+    let kept = session.len();
     println!(rt; "kept {kept}")?;
     Ok(())
 }
@@ -140,11 +140,11 @@ fn call(
     session: &mut Session,
     args: &[i64],
 ) -> Result<Receipt, Halt> {
-    let before = session.kept().len();
+    let before = session.len();
     if let Ok(receipt) = engine.call(rt, alloc, session, "add", args, &NoGate) {
         return Ok(receipt);
     }
-    if session.kept().len() != before {
+    if session.len() != before {
         return Err(Halt::Changed);
     }
     engine
@@ -202,11 +202,11 @@ fn batch_twice<R: Threads + Wait + Sync>(
     session: &mut Session,
     requests: &[Request],
 ) -> Result<Answers, Halt> {
-    let before = session.kept().len();
+    let before = session.len();
     if let Ok(answers) = batch(rt, alloc, engine, session, requests) {
         return Ok(answers);
     }
-    if session.kept().len() != before {
+    if session.len() != before {
         return Err(Halt::Changed);
     }
     batch(rt, alloc, engine, session, requests)

@@ -1,15 +1,15 @@
 //! Devices that fail at each place in turn.
 
 use crate::device::{Failing, Written};
-use crate::lines::{ANSWERS, BOUNDS, LINES, serve_alone, served, split_lines};
+use crate::lines::{ANSWERS, BOUNDS, LINES, served, split_lines};
 use std::alloc::Global;
 use std::process::Abort;
 use std::sync::Wait;
 use std::test::Fail;
 use std::thread::Threads;
-use tl_server::{Bytes, ServeFault};
+use tl_server::{Bytes, ServeFault, serve};
 use tl_test_data::ONE_NODE;
-use tl_test_engines::with_engine;
+use tl_test_engines::with_one_session;
 use tl_workers::{Engine, Session};
 
 /// How many bytes end a line.
@@ -116,11 +116,11 @@ fn loses_an_answer<R: Threads + Wait + Sync + Abort>(
     rt: &R,
     alloc: Global,
     engine: &Engine,
-    sessions: &mut [Session],
+    session: &mut Session,
     source: &mut Failing<'_>,
 ) -> Result<(), Fail> {
     let mut sink = Written::new(rt, alloc, BOUNDS.len(), 1);
-    let served = serve_alone(rt, alloc, source, &mut sink, engine, sessions)?;
+    let served = serve(rt, alloc, source, &mut sink, engine, session);
     assert_eq!(rt; served, Err(ServeFault::WriteFailed));
     assert_eq!(rt; sink.text.as_slice(), BOUNDS);
     let mut source = Bytes::new(
@@ -128,7 +128,7 @@ fn loses_an_answer<R: Threads + Wait + Sync + Abort>(
         65_536,
     );
     let mut sink = Written::new(rt, alloc, 65_536, u32::MAX);
-    let served = serve_alone(rt, alloc, &mut source, &mut sink, engine, sessions)?;
+    let served = serve(rt, alloc, &mut source, &mut sink, engine, session);
     assert_eq!(rt; served, Ok(1));
     assert_eq!(rt;
         sink.text.as_slice(),
@@ -144,13 +144,12 @@ fn a_call_whose_answer_was_lost_is_done(rt: HostRuntime) -> Result<(), Fail> {
         Failing::by_line(lines, u32::MAX),
         Failing::new(lines, 65_536, u32::MAX),
     ] {
-        with_engine(
+        with_one_session(
             &rt,
             rt.alloc(),
             ONE_NODE,
             &[],
-            1,
-            |engine, sessions| loses_an_answer(&rt, rt.alloc(), engine, sessions, &mut source),
+            |engine, session| loses_an_answer(&rt, rt.alloc(), engine, session, &mut source),
             |_, _| Ok(()),
         )?;
     }

@@ -8,8 +8,7 @@ use std::test::Fail;
 use std::thread::Threads;
 use tl_server::{Bytes, ServeFault, Sink, Source, serve};
 use tl_test_data::ONE_NODE;
-use tl_test_engines::with_engine;
-use tl_workers::{Engine, Session};
+use tl_test_engines::with_one_session;
 
 /// A `register`, calls, what is refused, a batch, and a `close` without an LF.
 pub const LINES: &[u8] =
@@ -39,30 +38,14 @@ pub fn served<R: Threads + Wait + Sync, S: Source, K: Sink>(
     source: &mut S,
     sink: &mut K,
 ) -> Result<Result<u64, ServeFault>, Fail> {
-    with_engine(
+    with_one_session(
         rt,
         alloc,
         ONE_NODE,
         &[],
-        1,
-        |engine, sessions| serve_alone(rt, alloc, source, sink, engine, sessions),
+        |engine, session| Ok(serve(rt, alloc, source, sink, engine, session)),
         |served, _| Ok(served),
     )
-}
-
-/// Serves the lines of the source in the one session.
-pub fn serve_alone<R: Threads + Wait + Sync, S: Source, K: Sink>(
-    rt: &R,
-    alloc: Global,
-    source: &mut S,
-    sink: &mut K,
-    engine: &Engine,
-    sessions: &mut [Session],
-) -> Result<Result<u64, ServeFault>, Fail> {
-    let [session] = sessions else {
-        return Err("not one session".into());
-    };
-    Ok(serve(rt, alloc, source, sink, engine, session))
 }
 
 /// How many bytes of the lines come at a time, and how many bytes of the answers are taken at a time.

@@ -8,7 +8,7 @@ use std::thread::Threads;
 use tl_commands::run_cmd;
 use tl_table::Receipt;
 use tl_test_data::{FORK, LOOK};
-use tl_test_engines::{Asked, Ended, Signal, batch, with_engine, with_engine_on_threads};
+use tl_test_engines::{Asked, Ended, Signal, batch, with_engine_on_threads, with_one_session};
 use tl_tree_locking::Event;
 use tl_workers::{Engine, Gate, Refusal, Session};
 
@@ -126,12 +126,9 @@ fn cross_in_a_batch<R: Threads + Wait + Abort + Sync>(
     rt: &R,
     alloc: Global,
     engine: &Engine,
-    sessions: &mut [Session],
+    session: &mut Session,
     point: Point,
 ) -> Result<(), Fail> {
-    let [session] = sessions else {
-        return Err("not one session".into());
-    };
     let gate = Crossing::new(point);
     let answers = batch(rt, alloc, engine, session, &LOOKED, 2, &gate)?;
     assert!(rt; gate.came_in_time());
@@ -147,13 +144,12 @@ fn two_workers_cross<R: Threads + Wait + Abort + Sync>(
     alloc: Global,
     point: Point,
 ) -> Result<(), Fail> {
-    with_engine(
+    with_one_session(
         rt,
         alloc,
         FORK,
         &[("look", LOOK)],
-        1,
-        |engine, sessions| cross_in_a_batch(rt, alloc, engine, sessions, point),
+        |engine, session| cross_in_a_batch(rt, alloc, engine, session, point),
         |_, ended| {
             crossed(rt, ended);
             Ok(())

@@ -10,8 +10,8 @@ use tl_commands::{CliFault, audit_cmd, conclude_engine, conclude_engine_with_tra
 use tl_table::{Receipt, Table};
 use tl_test_data::{ADD, ONE_NODE};
 use tl_test_engines::{
-    Ended, batch, end_exchanged, end_opened, with_engine, with_engine_on_threads,
-    with_exchanged_sessions,
+    Ended, batch, end_exchanged, end_opened, with_engine_on_threads, with_exchanged_sessions,
+    with_one_session,
 };
 use tl_workers::{Did, Engine, NoGate, Refusal, Session};
 
@@ -43,11 +43,8 @@ fn five_calls<R: Threads + Wait + Abort + Sync>(
     rt: &R,
     alloc: Global,
     engine: &Engine,
-    sessions: &mut [Session],
+    session: &mut Session,
 ) -> Result<(), Fail> {
-    let [session] = sessions else {
-        return Err("not one session".into());
-    };
     let first = engine.call(rt, alloc, session, "add", &[0, 1], &NoGate)?;
     assert_eq!(rt; first.reply.as_slice(), [6].as_slice());
     let answers = batch(
@@ -60,19 +57,18 @@ fn five_calls<R: Threads + Wait + Abort + Sync>(
         &NoGate,
     )?;
     assert_eq!(rt; sum(&answers), 34);
-    assert_eq!(rt; session.kept().len(), 10);
+    assert_eq!(rt; session.len(), 10);
     Ok(())
 }
 
 #[test]
 fn calls_and_a_batch_are_kept_by_their_session(rt: HostRuntime) -> Result<(), Fail> {
-    with_engine(
+    with_one_session(
         &rt,
         rt.alloc(),
         ONE_NODE,
         &PROCEDURES,
-        1,
-        |engine, sessions| five_calls(&rt, rt.alloc(), engine, sessions),
+        |engine, session| five_calls(&rt, rt.alloc(), engine, session),
         |_, ended| {
             ends_at(&rt, ended, 10);
             Ok(())
@@ -217,10 +213,10 @@ fn found_more(rt: &impl Abort, last: i64, answer: &Result<Receipt, Refusal>) -> 
 
 /// The session asked for a hundred calls, and each receipt that it got stands.
 fn stand(rt: &impl Abort, ended: &Ended, session: &Session) {
-    assert_eq!(rt; session.kept().len(), 200);
-    for did in session.kept() {
-        if let Did::Got(receipt) = did {
-            assert!(rt; ended.stands(receipt));
+    assert_eq!(rt; session.len(), 200);
+    for i in 0..session.len() {
+        if let Did::Got(receipt) = session.entry(i) {
+            assert!(rt; ended.stands(&receipt));
         }
     }
 }

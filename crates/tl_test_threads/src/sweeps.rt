@@ -8,7 +8,7 @@ use std::thread::Threads;
 use tl_core::CoreFault;
 use tl_table::{Receipt, TableFault};
 use tl_test_data::SWEEP;
-use tl_test_engines::{Asked, Ended, batch, done, with_engine, with_engine_on_threads};
+use tl_test_engines::{Asked, Ended, batch, done, with_engine_on_threads, with_one_session};
 use tl_workers::{Engine, NoGate, Refusal, Session};
 
 /// How often two calls sweep at once.
@@ -44,11 +44,8 @@ fn sweep_twice<R: Threads + Wait + Abort + Sync>(
     rt: &R,
     alloc: Global,
     engine: &Engine,
-    sessions: &mut [Session],
+    session: &mut Session,
 ) -> Result<(), Fail> {
-    let [session] = sessions else {
-        return Err("not one session".into());
-    };
     let answers = batch(rt, alloc, engine, session, &TWO, 2, &NoGate)?;
     assert_eq!(rt; answers.len(), 2);
     for answer in &answers {
@@ -66,13 +63,12 @@ fn swept_twice(rt: &impl Abort, ended: &Ended) {
 #[test]
 fn two_calls_sweep_at_once(rt: HostRuntime) -> Result<(), Fail> {
     for _ in 0..RUNS {
-        with_engine(
+        with_one_session(
             &rt,
             rt.alloc(),
             PATH,
             &PROCEDURES,
-            1,
-            |engine, sessions| sweep_twice(&rt, rt.alloc(), engine, sessions),
+            |engine, session| sweep_twice(&rt, rt.alloc(), engine, session),
             |_, ended| {
                 swept_twice(&rt, ended);
                 Ok(())
@@ -103,31 +99,27 @@ fn sweep_often<R: Threads + Wait + Abort + Sync>(
     rt: &R,
     alloc: Global,
     engine: &Engine,
-    sessions: &mut [Session],
+    session: &mut Session,
     workers: usize,
 ) -> Result<(), Fail> {
-    let [session] = sessions else {
-        return Err("not one session".into());
-    };
     let answers = batch(rt, alloc, engine, session, &MANY, workers, &NoGate)?;
     assert_eq!(rt; answers.len(), 252);
     assert_eq!(rt; done(&answers), 250);
     refused(rt, &answers[250], CoreFault::NoProcedure);
     refused(rt, &answers[251], CoreFault::WrongArgs);
-    assert_eq!(rt; session.kept().len(), 500);
+    assert_eq!(rt; session.len(), 500);
     Ok(())
 }
 
 #[test]
 fn many_workers_sweep(rt: HostRuntime) -> Result<(), Fail> {
     for workers in 1..17 {
-        with_engine(
+        with_one_session(
             &rt,
             rt.alloc(),
             PATH,
             &PROCEDURES,
-            1,
-            |engine, sessions| sweep_often(&rt, rt.alloc(), engine, sessions, workers),
+            |engine, session| sweep_often(&rt, rt.alloc(), engine, session, workers),
             |_, ended| {
                 swept(&rt, ended, 250);
                 Ok(())

@@ -10,7 +10,9 @@ use std::thread::Threads;
 use tl_core::CoreFault;
 use tl_table::TableFault;
 use tl_test_data::{FORK, LOOK};
-use tl_test_engines::{Asked, Ended, Signal, batch, done, with_engine, with_engine_on_threads};
+use tl_test_engines::{
+    Asked, Ended, Signal, batch, done, with_engine_on_threads, with_one_session,
+};
 use tl_workers::{Engine, Gate, NoGate, Refusal, Session};
 
 const PROCEDURES: [(&str, &str); 1] = [("look", LOOK)];
@@ -83,11 +85,8 @@ fn meet<R: Threads + Wait + Abort + Sync>(
     rt: &R,
     alloc: Global,
     engine: &Engine,
-    sessions: &mut [Session],
+    session: &mut Session,
 ) -> Result<u64, Fail> {
-    let [session] = sessions else {
-        return Err("not one session".into());
-    };
     let gate = Meeting::new();
     let answers = batch(rt, alloc, engine, session, &MET, 2, &gate)?;
     assert_eq!(rt; done(&answers), 2);
@@ -99,13 +98,12 @@ fn meet<R: Threads + Wait + Abort + Sync>(
 fn a_turn_that_was_blocked_counts(rt: HostRuntime) -> Result<(), Fail> {
     let mut turns = TURNS;
     for _ in 0..MEETINGS {
-        turns = with_engine(
+        turns = with_one_session(
             &rt,
             rt.alloc(),
             FORK,
             &PROCEDURES,
-            1,
-            |engine, sessions| meet(&rt, rt.alloc(), engine, sessions),
+            |engine, session| meet(&rt, rt.alloc(), engine, session),
             |turns, _| Ok(turns),
         )?;
         if turns != TURNS {
@@ -185,8 +183,8 @@ fn are_all_of_the_first(rt: &impl Abort, ended: &Ended) -> Result<(), Fail> {
     let [one, other] = ended.sessions() else {
         return Err("not two sessions".into());
     };
-    assert_eq!(rt; one.kept().len(), 128);
-    assert!(rt; other.kept().is_empty());
+    assert_eq!(rt; one.len(), 128);
+    assert!(rt; other.is_empty());
     Ok(())
 }
 

@@ -2,4 +2,5 @@ pub mod AllSessions
 pub mod Askings
 pub mod Batches
 pub mod Calls
+pub mod Notings
 pub mod Turns

@@ -1,5 +1,5 @@
 -- What a session's holder did.
-use Rattle.std.specs.Prelude.{◌≡◌, ℕ, List, [], ◌∷◌, ◌++◌, Ok, Err, Result, ℤ, string_bytes}
+use Rattle.std.specs.Prelude.{◌≡◌, ℕ, List, [], ◌∷◌, ◌++◌, Ok, Err, Result, Some, slice_get, ℤ, string_bytes}
 use Rattle.tl_table.specs.declared.receipt.Receipt.{Receipt}
 use Rattle.tl_workers.specs.declared.asking.Asking.{Asking}
 use Rattle.tl_procedures.specs.declared.request.Request.{Request}
@@ -7,11 +7,12 @@ use Rattle.tl_workers.specs.declared.refusal.Refusal.{Refusal}
 use Rattle.tl_workers.specs.declared.session.Did.{Did}
 use Rattle.tl_workers.specs.declared.session.Did.TheVariants.{Asked, Got}
 
--- a session: its number, what its holder asked for and got, and for how much more there is room
+-- a session: its number, what its holder asked for and got, and for how many more calls and receipts there is room
 pub record SessionValue : Type 0 where
   pub number : ℕ
   pub kept : List Did
-  pub room : ℕ
+  pub asks : ℕ
+  pub gots : ℕ
 
 -- the same session, whose holder did this more
 pub record Gains (old new : SessionValue) (more : List Did) : Type 0 where
@@ -20,6 +21,10 @@ pub record Gains (old new : SessionValue) (more : List Did) : Type 0 where
 
 abbrev pub asking : ℕ → ℕ → List ℕ → List ℤ → Asking
 asking epoch call name args = record { epoch = epoch; call = call; name = name; args = record { items = args } }
+
+-- at place i that call was asked for
+abbrev pub AsksAt : List Did → ℕ → ℕ → ℕ → Type 0
+AsksAt dids i e c = (a : Asking) × (slice_get dids i ≡ Some (Asked a)) × (a.epoch ≡ e) × (a.call ≡ c)
 
 -- one call: asked for, then got
 abbrev pub call_of : List ℕ → List ℤ → Receipt → List Did

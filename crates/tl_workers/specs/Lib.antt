@@ -1,5 +1,6 @@
 pub mod Kept
 pub mod Lending
 pub mod Matching
+pub mod Noted
 pub mod Refusals
 pub mod Sessions

@@ -1,5 +1,5 @@
 -- A session's list beside the epochs of a table.
-use Rattle.std.specs.Prelude.{◌≡◌, ◌≢◌, ℕ, ◌+◌, ◌*◌, ◌<◌, ◌==◌, ◌⊎◌, if◌then◌else◌, List, [], ◌∷◌, ◌++◌, Option, Some, None, take, slice_get, max, nat_lt}
+use Rattle.std.specs.Prelude.{◌≡◌, ◌≢◌, ℕ, ◌+◌, ◌*◌, ◌<◌, ◌==◌, ◌⊎◌, if◌then◌else◌, List, [], ◌∷◌, ◌++◌, Option, Some, None, take, drop, slice_get, max, nat_lt}
 use Rattle.std.specs.Option.{option_map_or}
 use Rattle.tl_history.specs.declared.history.TheConstants.{MAX_CALLS}
 use Rattle.tl_tree_locking.specs.declared.event.Event.{Event}
@@ -19,6 +19,10 @@ abbrev pub asked_in : List Did → List Asking
 asked_in [] = []
 asked_in (Asked a ∷ dids) = a ∷ asked_in dids
 asked_in (Got r ∷ dids) = asked_in dids
+
+-- that from a place on
+abbrev pub asked_from : List Did → ℕ → List Asking
+asked_from dids place = asked_in (drop place dids)
 
 -- a call of an epoch, as one asks for it: by its procedure's name, with its arguments
 abbrev pub asking_of : EpochValue → ℕ → Asking

@@ -43,6 +43,13 @@ impl Name {
     {
         self.text.as_str()
     }
+
+    /// The same again. Takes no memory.
+    pub fn copy(&self) -> Name
+        ensures { result ≡ self.now }
+    {
+        Name::new(self.as_str())
+    }
 }
 
 /// A call that was admitted, as its session's holder asked for it: plain data.
@@ -87,18 +94,6 @@ impl Asking {
             return false;
         }
         self.args.as_slice() == args
-    }
-
-    /// The same again. Takes no memory.
-    pub fn copy(&self) -> Asking
-        ensures { result ≡ self.now }
-    {
-        Asking::new(
-            self.epoch,
-            self.call,
-            self.name.as_str(),
-            self.args.as_slice(),
-        )
     }
 }
 

@@ -67,7 +67,7 @@ impl Engine {
         let Ok(admitted) = Vec::with_capacity(alloc, count) else {
             return Err(Refusal::Memory);
         };
-        let Ok(()) = session.reserve(2 * count) else {
+        let Ok(()) = session.reserve(count) else {
             return Err(Refusal::Memory);
         };
         let number = session.number();

@@ -11,6 +11,7 @@ mod engine;
 mod gate;
 pub mod laws;
 mod matching;
+mod notes;
 mod refusal;
 mod running;
 mod session;

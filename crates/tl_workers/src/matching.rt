@@ -8,7 +8,7 @@ ghost use Rattle.tl_table.specs.declared.epoch.TheConstants.{MAX_EPOCHS};
 ghost use Rattle.tl_workers.specs.declared.asking.Asking.{Asking};
 ghost use Rattle.tl_workers.specs.declared.session.Did.TheVariants.{Asked, Got};
 ghost use Rattle.tl_workers.specs.Kept.{SessionValue};
-ghost use Rattle.tl_workers.specs.Matching.{asked_in, asking_of, calls_of, all_calls_of, IsNotFirst, WasAsked, IsBacked, StandsIn, GotsStand, GoInTurn, AreKnown, IsKnownEntry, begun_after, mark, Matches};
+ghost use Rattle.tl_workers.specs.Matching.{asked_in, asked_from, asking_of, calls_of, all_calls_of, IsNotFirst, WasAsked, IsBacked, StandsIn, GotsStand, GoInTurn, AreKnown, IsKnownEntry, begun_after, mark, Matches};
 
 use crate::asking::Asking;
 use crate::session::{Did, Session};
@@ -20,14 +20,13 @@ pub fn matches(chain: &[Closed], session: &Session) -> bool
     requires { IsChain chain.now }
     ensures { IsTrue result ↔ Matches chain.now session.now }
 {
-    let kept = session.kept();
-    if !asks_its_calls(chain, session.number(), kept) {
+    if !asks_its_calls(chain, session) {
         return false;
     }
-    if !gots_stand(chain, kept) {
+    if !gots_stand(chain, session) {
         return false;
     }
-    go_in_turn(chain, kept)
+    go_in_turn(chain, session)
 }
 
 /// Whether each session's list is what the epochs say.
@@ -44,45 +43,46 @@ pub(crate) fn all_match(chain: &[Closed], sessions: &[Session]) -> bool
 }
 
 // Whether what was asked for are exactly the session's calls, epoch by epoch.
-fn asks_its_calls(chain: &[Closed], session: u32, all: &[Did]) -> bool
-    ensures { IsTrue result ↔ (asked_in all.now ≡ all_calls_of chain.now session) }
+fn asks_its_calls(chain: &[Closed], session: &Session) -> bool
+    ensures { IsTrue result ↔ (asked_in session.now.kept ≡ all_calls_of chain.now session.now.number) }
 {
-    let mut kept = all;
+    let mut from = 0;
     for closed in chain {
-        let Some(left) = after_calls(closed, session, kept) else {
+        let Some(left) = after_calls(closed, session, from) else {
             return false;
         };
-        kept = left;
+        from = left;
     }
-    next_asked(kept).is_none()
+    next_asked(session, from).is_none()
 }
 
-// What came after the asking for the session's calls of that epoch, if these are the first.
-fn after_calls<'a>(closed: &Closed, session: u32, all: &'a [Did]) -> Option<&'a [Did]>
-    ensures none { IfNone result ((rest : List Asking) → asked_in all.now ≢ calls_of closed.now session ++ rest) }
-    ensures some { IfSome result (λ left. (rest : List Asking) → (asked_in all.now ≡ calls_of closed.now session ++ rest) ↔ (asked_in left.now ≡ rest)) }
+// The place after the asking for the session's calls of that epoch, if these are the first from a place on.
+fn after_calls(closed: &Closed, session: &Session, from: usize) -> Option<usize>
+    ensures none { IfNone result ((rest : List Asking) → asked_from session.now.kept from ≢ calls_of closed.now session.now.number ++ rest) }
+    ensures some { IfSome result (λ left. (rest : List Asking) → (asked_from session.now.kept from ≡ calls_of closed.now session.now.number ++ rest) ↔ (asked_from session.now.kept left ≡ rest)) }
 {
-    let mut kept = all;
+    let number = session.number();
+    let mut place = from;
     // The calls are at most 4,096: here a proof learns that.
     let _calls = closed.core().calls();
     for (i, owner) in closed.owners().iter().enumerate() {
-        if *owner == session {
-            let Some(left) = next_call(closed, i as u32, kept) else {
+        if *owner == number {
+            let Some(left) = next_call(closed, i as u32, session, place) else {
                 return None;
             };
-            kept = left;
+            place = left;
         }
     }
-    Some(kept)
+    Some(place)
 }
 
-// What came after the asking for that call, if it is the first.
-fn next_call<'a>(closed: &Closed, call: u32, kept: &'a [Did]) -> Option<&'a [Did]>
+// The place after the asking for that call, if it is the first from a place on.
+fn next_call(closed: &Closed, call: u32, session: &Session, from: usize) -> Option<usize>
     requires { IsKnown closed.now call }
-    ensures none { IfNone result (IsNotFirst (asked_in kept.now) (asking_of closed.now call)) }
-    ensures some { IfSome result (λ left. asked_in kept.now ≡ asking_of closed.now call ∷ asked_in left.now) }
+    ensures none { IfNone result (IsNotFirst (asked_from session.now.kept from) (asking_of closed.now call)) }
+    ensures some { IfSome result (λ left. asked_from session.now.kept from ≡ asking_of closed.now call ∷ asked_from session.now.kept left) }
 {
-    let (asked, left) = next_asked(kept)?;
+    let (asked, left) = next_asked(session, from)?;
     let (procedure, args) = closed.core().request(call);
     if !asked.is(closed.number(), call, closed.core().name(procedure), args) {
         return None;
@@ -90,41 +90,39 @@ fn next_call<'a>(closed: &Closed, call: u32, kept: &'a [Did]) -> Option<&'a [Did
     Some(left)
 }
 
-// What was asked for first, and what came after.
-fn next_asked(kept: &[Did]) -> Option<(&Asking, &[Did])>
-    ensures { MatchOption result (asked_in kept.now ≡ []) (λ x. asked_in kept.now ≡ x.0.now ∷ asked_in x.1.now) }
+// What was asked for first from a place on, and the place after it.
+fn next_asked(session: &Session, from: usize) -> Option<(Asking, usize)>
+    ensures { MatchOption result (asked_from session.now.kept from ≡ []) (λ x. asked_from session.now.kept from ≡ x.0 ∷ asked_from session.now.kept x.1) }
 {
-    let mut rest = kept;
-    while let Some((did, left)) = rest.split_first() {
-        if let Did::Asked(asked) = did {
-            return Some((asked, left));
+    for i in from..session.len() {
+        if let Did::Asked(asked) = session.entry(i) {
+            return Some((asked, i + 1));
         }
-        rest = left;
     }
     None
 }
 
 // Whether each receipt stands, and its call was asked for before.
-fn gots_stand(chain: &[Closed], kept: &[Did]) -> bool
-    ensures { IsTrue result ↔ GotsStand chain.now kept.now }
+fn gots_stand(chain: &[Closed], session: &Session) -> bool
+    ensures { IsTrue result ↔ GotsStand chain.now session.now.kept }
 {
-    for i in 0..kept.len() {
-        let (before, _) = kept.split_at(i);
-        if !is_backed(chain, &kept[i], before) {
+    for i in 0..session.len() {
+        if !is_backed(chain, &session.entry(i), session, i) {
             return false;
         }
     }
     true
 }
 
-// Whether an entry, if it is a receipt, stands, and its call was asked for before.
-fn is_backed(chain: &[Closed], did: &Did, before: &[Did]) -> bool
-    ensures { IsTrue result ↔ IsBacked chain.now did.now before.now }
+// Whether what was done, if it is a receipt, stands, and its call was asked for before that place.
+fn is_backed(chain: &[Closed], did: &Did, session: &Session, place: usize) -> bool
+    requires { place ≤ length session.now.kept }
+    ensures { IsTrue result ↔ IsBacked chain.now did.now (take place session.now.kept) }
 {
     match did {
         Did::Asked(_) => true,
         Did::Got(receipt) => {
-            stands(chain, receipt) && was_asked(before, receipt.epoch, receipt.call)
+            stands(chain, receipt) && was_asked(session, place, receipt.epoch, receipt.call)
         }
     }
 }
@@ -139,40 +137,31 @@ fn stands(chain: &[Closed], receipt: &Receipt) -> bool
     }
 }
 
-// Whether the call was asked for. The latest are looked at first, since mostly it is one of them.
-fn was_asked(kept: &[Did], epoch: u32, call: u32) -> bool
-    ensures { IsTrue result ↔ WasAsked kept.now epoch call }
+// Whether the call was asked for before that place. The latest are looked at first, since mostly it is one of them.
+fn was_asked(session: &Session, place: usize, epoch: u32, call: u32) -> bool
+    requires { place ≤ length session.now.kept }
+    ensures { IsTrue result ↔ WasAsked (take place session.now.kept) epoch call }
 {
-    let mut rest = kept;
-    while let Some((did, before)) = rest.split_last() {
-        if is_of_call(did, epoch, call) {
+    let mut left = place;
+    while left > 0 {
+        left -= 1;
+        if session.asks_at(left, epoch, call) {
             return true;
         }
-        rest = before;
     }
     false
 }
 
-// Whether the entry asks for that call.
-fn is_of_call(did: &Did, epoch: u32, call: u32) -> bool
-    ensures { IsTrue result ↔ ((a : Asking) × (did.now ≡ Asked a) × (a.epoch ≡ epoch) × (a.call ≡ call)) }
-{
-    match did {
-        Did::Asked(asked) => asked.epoch == epoch && asked.call == call,
-        Did::Got(_) => false,
-    }
-}
-
 // Whether what was got before something was asked for had ended before that was admitted. Of all that was got it is enough
 // to know how far the calls at most had begun when one of them ended.
-fn go_in_turn(chain: &[Closed], kept: &[Did]) -> bool
+fn go_in_turn(chain: &[Closed], session: &Session) -> bool
     requires chain { IsChain chain.now }
-    requires known { AreKnown chain.now kept.now }
-    ensures { IsTrue result ↔ GoInTurn chain.now kept.now }
+    requires known { AreKnown chain.now session.now.kept }
+    ensures { IsTrue result ↔ GoInTurn chain.now session.now.kept }
 {
     let mut begun = 0;
-    for did in kept {
-        let Some(now_begun) = begun_after(chain, did, begun) else {
+    for i in 0..session.len() {
+        let Some(now_begun) = begun_after(chain, &session.entry(i), begun) else {
             return false;
         };
         begun = now_begun;

@@ -32,7 +32,7 @@ impl Engine {
         ensures kept { IfOk result (λ r. Gains session.old session.new (call_of name.now args.now r)) }
         ensures err { OnErr result (Gains session.old session.new []) }
     {
-        session.reserve(2)?;
+        session.reserve(1)?;
         let mut table = self.table.lock(rt);
         let epoch = table.epoch();
         let admitted = table.admit(alloc, session.number(), name, args);
@@ -52,7 +52,7 @@ impl Engine {
             args: values_of(args),
             ..told
         };
-        session.record(Asking::new(epoch, call, name, args), receipt.copy());
+        session.record(&Asking::new(epoch, call, name, args), &receipt);
         Ok(receipt)
     }
 

@@ -1,12 +1,15 @@
 // A session, and what its holder did with it.
 
-ghost use Rattle.std.specs.Prelude.{◌≡◌, ◌+◌, ◌*◌, ◌≤◌, ◌<◌, [], ◌∷◌, ◌++◌, length, OnOk};
+ghost use Rattle.std.specs.Prelude.{◌≡◌, ◌↔◌, ◌≤◌, ◌<◌, [], ◌∷◌, ◌++◌, length, Some, slice_get, IsTrue, OnOk};
 ghost use Rattle.std.specs.Borrow.{sem};
 ghost use Rattle.tl_workers.specs.Lending.{LendsPass};
+ghost use Rattle.tl_workers.specs.declared.batch.TheConstants.{MAX_REQUESTS};
 ghost use Rattle.tl_workers.specs.declared.session.Did.TheVariants.{Asked, Got};
-ghost use Rattle.tl_workers.specs.Kept.{Gains, askings_of, gots_of};
+ghost use Rattle.tl_workers.specs.Kept.{Gains, AsksAt, askings_of, gots_of};
 
 use crate::asking::Asking;
+use crate::batch::MAX_REQUESTS;
+use crate::notes::Notes;
 use crate::refusal::Refusal;
 use std::alloc::{AllocError, Global};
 use std::marker::Model;
@@ -24,23 +27,22 @@ pub enum Did {
 
 /// A session of an engine. It can't be copied, so what its holder did is one list.
 ///
-/// A contract sees its number, what its holder asked for and got, in the order in which that was done, and for how much more
-/// there is room.
+/// A contract sees its number, what its holder asked for and got, in the order in which that was done, and for how many more
+/// calls and receipts there is room.
 #[derive(Drop)]
 pub struct Session {
     number: u32,
-    kept: Vec<Did>,
+    notes: Notes,
     // With which its holder's batches make calls ready and take them up.
     pass: ReadyPass,
 }
 
 impl Model for Session {
-    ghost use Rattle.std.specs.Prelude.{◌-◌, vec_len, vec_capacity};
     ghost use Rattle.tl_workers.specs.Kept.{SessionValue};
 
     ghost Value = { SessionValue };
 
-    ghost view = { λ s. record { number = s.number; kept = s.kept.items; room = vec_capacity s.kept - vec_len s.kept } };
+    ghost view = { λ s. record { number = s.number; kept = s.notes.kept; asks = s.notes.asks; gots = s.notes.gots } };
 }
 
 impl Session {
@@ -49,7 +51,7 @@ impl Session {
     {
         Session {
             number,
-            kept: Vec::new(alloc),
+            notes: Notes::new(alloc),
             pass,
         }
     }
@@ -61,11 +63,34 @@ impl Session {
         self.number
     }
 
-    /// What its holder asked for and got, in the order in which that was done.
-    pub fn kept(&self) -> &[Did]
-        ensures { result.now ≡ self.now.kept }
+    /// How often its holder asked for a call or got a receipt.
+    pub fn len(&self) -> usize
+        ensures { result ≡ length self.now.kept }
     {
-        self.kept.as_slice()
+        self.notes.len()
+    }
+
+    /// Whether its holder did nothing yet.
+    pub fn is_empty(&self) -> bool
+        ensures { IsTrue result ↔ (self.now.kept ≡ []) }
+    {
+        self.notes.len() == 0
+    }
+
+    /// What its holder asked for or got at that place, in the order in which that was done. Takes no memory.
+    pub fn entry(&self, i: usize) -> Did
+        requires { i < length self.now.kept }
+        ensures { slice_get self.now.kept i ≡ Some result }
+    {
+        self.notes.entry(i)
+    }
+
+    // Whether its holder asked for that call at that place.
+    pub(crate) fn asks_at(&self, i: usize, epoch: u32, call: u32) -> bool
+        requires { i < length self.now.kept }
+        ensures { IsTrue result ↔ AsksAt self.now.kept i epoch call }
+    {
+        self.notes.asks_at(i, epoch, call)
     }
 
     // Its pass of the queue of ready calls.
@@ -75,21 +100,23 @@ impl Session {
         &mut self.pass
     }
 
-    // Makes room for that many entries.
-    pub(crate) fn reserve(&mut self, more: usize) -> Result<(), AllocError>
+    // Makes room for that many calls and their receipts.
+    pub(crate) fn reserve(&mut self, calls: usize) -> Result<(), AllocError>
+        requires { calls ≤ MAX_REQUESTS }
         ensures same { Gains self.old self.new [] }
-        ensures room { OnOk result (more ≤ self.new.room) }
+        ensures room { OnOk result ((calls ≤ self.new.asks) × (calls ≤ self.new.gots)) }
     {
-        self.kept.reserve(more)
+        self.notes.reserve(calls)
     }
 
     // Writes a call down, in room made before.
-    pub(crate) fn record(&mut self, asked: Asking, receipt: Receipt)
-        requires { 2 ≤ self.old.room }
-        ensures { Gains self.old self.new (Asked asked ∷ Got receipt ∷ []) }
+    pub(crate) fn record(&mut self, asked: &Asking, receipt: &Receipt)
+        requires asks { 1 ≤ self.old.asks }
+        requires gots { 1 ≤ self.old.gots }
+        ensures { Gains self.old self.new (Asked asked.now ∷ Got receipt.now ∷ []) }
     {
-        self.kept.push_reserved(Did::Asked(asked));
-        self.kept.push_reserved(Did::Got(receipt));
+        self.notes.asked(asked);
+        self.notes.got(receipt);
     }
 
     // Writes a batch down, in room made before: what was asked for, and then the receipts.
@@ -98,17 +125,18 @@ impl Session {
         admitted: &[Result<Asking, Refusal>],
         answers: &[Result<Receipt, Refusal>],
     )
-        requires { length admitted.now + length answers.now ≤ self.old.room }
+        requires asks { length admitted.now ≤ self.old.asks }
+        requires gots { length answers.now ≤ self.old.gots }
         ensures { Gains self.old self.new (askings_of admitted.now ++ gots_of answers.now) }
     {
         for one in admitted {
             if let Ok(asked) = one {
-                self.kept.push_reserved(Did::Asked(asked.copy()));
+                self.notes.asked(asked);
             }
         }
         for answer in answers {
             if let Ok(receipt) = answer {
-                self.kept.push_reserved(Did::Got(receipt.copy()));
+                self.notes.got(receipt);
             }
         }
     }

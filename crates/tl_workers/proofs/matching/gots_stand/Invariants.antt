@@ -5,4 +5,4 @@ use Rattle.tl_workers.specs.Matching.{IsBacked}
 use Rattle.tl_workers.proofs.matching.gots_stand.Given as goal
 
 abbrev pub invariant-loop-i : goal.invariant-loop-i
-invariant-loop-i l = (k : ℕ) (did : Did) → k < l.i → slice_get l.kept k ≡ Some did → IsBacked l.chain did (take k l.kept)
+invariant-loop-i l = (k : ℕ) (did : Did) → k < l.i → slice_get l.session.kept k ≡ Some did → IsBacked l.chain did (take k l.session.kept)

@@ -1,19 +1,24 @@
-use Rattle.std.proofs.Common.{sym, subst, List, refl}
-use Rattle.tl_workers.specs.declared.session.Did.{Did}
-use Rattle.tl_workers.specs.Matching.{WasAsked}
-use Rattle.tl_workers.proofs.Askings.{asked_more, asked_last, asked_before}
+use Rattle.std.proofs.Common.{◌≡◌, ⊎_elim, ◌<◌, ◌-◌, refl, sym, subst, arith}
+use Rattle.std.proofs.Math.Nat.{eq-or-lt_of_le}
+use Rattle.tl_workers.specs.Kept.{AsksAt}
+use Rattle.tl_workers.proofs.Askings.{was_asked_at, asked_before}
 use Rattle.tl_workers.proofs.matching.was_asked.Goals as goal
 
-pub returns-then-is_of_call : goal.returns-then-is_of_call
-returns-then-is_of_call c =
-    let rest = c.in-Some.ensures.cases.0 in
-    let P : List Did → Type 0 = λ dids. WasAsked dids c.args.epoch c.args.call in
-    ((λ t. c.loop-did.invariant.1 (subst P (sym rest) (asked_last c.in-Some.before.now c.in-Some.did.now c.args.epoch c.args.call (c.is_of_call.ensures.0 c.if-is_of_call.true)))), (λ h. refl))
+pub returns-then-asks_at : goal.returns-then-asks_at
+returns-then-asks_at c =
+    ((λ t. was_asked_at c.args.session.now.kept c.args.place (c.loop-left.left - 1) c.args.epoch c.args.call (omega (arith, c.loop-left.invariant.0, c.loop-left-test.true)) (c.asks_at.ensures.0 c.if-asks_at.true)), (λ h. refl))
 
-pub loop-did-preserved : goal.loop-did-preserved
-loop-did-preserved c =
-    let rest = c.in-Some.ensures.cases.0 in
-    let P : List Did → Type 0 = λ dids. WasAsked dids c.args.epoch c.args.call in (
-      (λ h. asked_before c.in-Some.before.now c.in-Some.did.now c.args.epoch c.args.call (λ w. absurd (let t = c.is_of_call.ensures.1 w in let f = c.if-is_of_call.false in let e : ⊥ = cc in e)) (subst P rest (c.loop-did.invariant.0 h))),
-      (λ h. c.loop-did.invariant.1 (subst P (sym rest) (asked_more c.in-Some.before.now c.in-Some.did.now c.args.epoch c.args.call h))),
-    )
+pub loop-left-preserved : goal.loop-left-preserved
+loop-left-preserved c = (
+  omega (arith, c.loop-left.invariant.0),
+  (λ i le lt asks. ⊎_elim
+      (λ (e : c.loop-left.left - 1 ≡ i). let h = c.asks_at.ensures.1 (subst (λ k. AsksAt c.args.session.now.kept k c.args.epoch c.args.call) (sym e) asks) in let f = c.if-asks_at.false in let r : ⊥ = cc in r)
+      (λ (l : c.loop-left.left - 1 < i). c.loop-left.invariant.1 i (omega (arith, l)) lt asks)
+      (eq-or-lt_of_le le)),
+)
+
+pub returns : goal.returns
+returns c = (
+  (λ t. absurd (let e : ⊥ = cc in e)),
+  (λ h. let w = asked_before c.args.session.now.kept c.args.place c.args.epoch c.args.call h in absurd (c.loop-left.invariant.1 w.0 (omega (arith, c.loop-left-test.false)) w.1 w.2)),
+)

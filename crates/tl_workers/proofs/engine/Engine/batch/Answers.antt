@@ -11,12 +11,16 @@ take_all-answers-requires g c =
     let long : length c.as_slice.result.now ≡ length c.args.requests.now = ap length c.as_slice.ensures.value ∙ admitted_long c.args.requests.now c.run_all-admitted.result.items c.run_all-admitted.ensures in
     (c.in-Ok.ensures.items, c.in-Ok.ensures.len, omega (arith, long, c.in-Ok.ensures.capacity))
 
-pub record_all-requires : goal.record_all-requires
-record_all-requires g c =
+pub record_all-requires-clause-asks : goal.record_all-requires-clause-asks
+record_all-requires-clause-asks g c =
     let admitted = ap length c.as_slice-2.ensures.value ∙ admitted_long c.args.requests.now c.run_all-admitted.result.items c.run_all-admitted.ensures in
+    omega (arith, admitted, c.in-Ok-reserve.ensures.room)
+
+pub record_all-requires-clause-gots : goal.record_all-requires-clause-gots
+record_all-requires-clause-gots g c =
     let answered = ap length c.as_slice-3.ensures.value ∙ receipts_long c.as_slice.result.now c.take_all-answers.result.items c.take_all-answers.ensures.each in
     let same = ap length c.as_slice.ensures.value ∙ admitted_long c.args.requests.now c.run_all-admitted.result.items c.run_all-admitted.ensures in
-    omega (arith, admitted, answered, same, c.in-Ok-reserve.ensures.room)
+    omega (arith, answered, same, c.in-Ok-reserve.ensures.room)
 
 pub returns-clause-each : goal.returns-clause-each
 returns-clause-each g c =
