@@ -5,6 +5,7 @@ pub mod SketchSteps
 pub mod ResolvingLemmas
 pub mod SketchToCode
 pub mod OneCode
+pub mod InstructionLines
 pub mod LineWords
 pub mod ListingLines
 pub mod SpacedWords

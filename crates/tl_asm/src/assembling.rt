@@ -5,14 +5,14 @@ ghost use Rattle.tl_instr.specs.Codes.{CodeValue, IsCode};
 ghost use Rattle.tl_asm.specs.Words.{Word, lines_of};
 ghost use Rattle.tl_asm.specs.Statements.{DraftValue, draft_in};
 ghost use Rattle.tl_asm.specs.Lines.{IsLineOf};
-ghost use Rattle.tl_asm.specs.Texts.{Written};
+ghost use Rattle.tl_asm.specs.Texts.{Written, lines_of_instrs};
 ghost use Rattle.tl_asm.specs.Faults.{IsFirstFault};
 ghost use Rattle.tl_asm.specs.Listing.{listing};
 
 use crate::fault::AsmFault;
 use crate::resolving::resolved;
-use crate::sketch::sketch_of;
-use std::alloc::Global;
+use crate::sketch::{Origin, sketch_of};
+use std::alloc::{AllocError, Global};
 use tl_instr::{Code, CodeFault};
 
 fn lines_of(alloc: Global, text: &str) -> Result<Vec<&str>, AsmFault>
@@ -64,6 +64,30 @@ pub fn assemble(alloc: Global, text: &str) -> Result<Code, AsmFault>
     ensures fault { IfErr result (λ f. f ≢ AsmFault.Memory → IsFirstFault text.now f) }
 {
     code_of(alloc, text)
+}
+
+// The number of each instruction's line.
+fn lines_in(alloc: Global, origins: &[Origin<'_>]) -> Result<Vec<u64>, AllocError>
+    ensures { IfOk result (λ v. v.items ≡ map (λ origin. origin.line) origins.now) }
+{
+    let mut lines = Vec::with_capacity(alloc, origins.len())?;
+    for index in 0..origins.len() {
+        lines.push(origins[index].line)?;
+    }
+    Ok(lines)
+}
+
+/// Of each instruction of a text the number of its line, counted from 1. So a position that a fault of the code names becomes a
+/// line of the text.
+///
+/// 251, 253 and 254 line by line, as `assemble` answers them. 290 where memory is refused.
+pub fn instruction_lines(alloc: Global, text: &str) -> Result<Vec<u64>, AsmFault>
+    ensures lines { IfOk result (λ v. v.items ≡ lines_of_instrs text.now) }
+    ensures fault { IfErr result (λ f. f ≢ AsmFault.Memory → IsFirstFault text.now f) }
+{
+    let lines = lines_of(alloc, text)?;
+    let sketch = sketch_of(alloc, &lines)?;
+    Ok(lines_in(alloc, &sketch.origins)?)
 }
 
 /// The laws of texts: the canonical text of a code is that code's, no text is that of two codes, a text has a first

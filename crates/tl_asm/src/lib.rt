@@ -12,7 +12,7 @@ mod statement;
 mod token;
 mod word;
 
-pub use assembling::{assemble, one_line, one_reading};
+pub use assembling::{assemble, instruction_lines, one_line, one_reading};
 pub use fault::AsmFault;
 pub use listing::disassemble;
 pub use token::MAX_LABEL;

@@ -1,65 +1,79 @@
 // The command line.
 
+use crate::help::{
+    ALONE_HELP, ASM_HELP, AUDIT_HELP, CHECK_HELP, DIS_HELP, DRIVE_HELP, EXPLAIN_HELP, HELP,
+    MIGRATE_HELP, RUN_HELP, SERVE_HELP, VERIFY_HELP, WIDEN_HELP,
+};
 use clap::error::ErrorKind;
-use clap::{Arg, ArgMatches, Command, Error, value_parser};
+use clap::{Arg, ArgAction, ArgMatches, Command, Error, value_parser};
 use std::alloc::{AllocError, Global};
 
-/// What the program is asked to do.
+/// The files that are written beside what is printed, where they are named: the trail, and the tree as it is in the end.
 #[derive(Clone, Copy)]
-pub enum Request<'a> {
-    /// Run a procedure alone on a tree.
+pub struct Outputs<'a> {
+    pub trail: Option<&'a str>,
+    pub tree: Option<&'a str>,
+}
+
+/// A script's file, and the procedures beside it, each as `NAME=FILE`.
+#[derive(Drop)]
+pub struct ScriptFiles<'a> {
+    pub script: &'a str,
+    pub procedures: Vec<&'a str>,
+}
+
+/// A command that runs calls on a tree.
+#[derive(Drop)]
+pub enum CallCommand<'a> {
+    /// Run a procedure alone.
     Alone {
-        tree: &'a str,
         procedure: &'a str,
         args: &'a str,
     },
-    /// Say whether the calls of a trail may have done what it tells.
-    Audit {
-        trail: &'a str,
-    },
-    /// Carry out a script on a tree, and write the trail to a file where one is named.
+    /// Carry out a script, move by move.
     Drive {
-        tree: &'a str,
-        script: &'a str,
-        trail: Option<&'a str>,
+        script: ScriptFiles<'a>,
     },
-    /// Run the calls of a script on a tree, on up to so many threads, and write the trail to a file where one is named.
+    /// Run the calls of a script, on up to `workers` threads.
     Run {
-        tree: &'a str,
         workers: usize,
-        script: &'a str,
-        trail: Option<&'a str>,
+        script: ScriptFiles<'a>,
     },
-    /// Serve so many connections on a local port, and write the trail to a file where one is named.
+    /// Serve `connections` connections on a local port.
     Serve {
-        tree: &'a str,
         port: u16,
         connections: u16,
-        trail: Option<&'a str>,
     },
+}
+
+/// A command that turns a file into another, or tells what is in it.
+#[derive(Clone, Copy)]
+pub enum FileCommand<'a> {
     /// Write the container of an assembler text.
-    Assemble {
-        text: &'a str,
-        container: &'a str,
-    },
+    Assemble { text: &'a str, container: &'a str },
+    /// Say whether the calls of a trail may have done what it tells.
+    Audit { trail: &'a str },
+    /// Say what a procedure does at most, or where its text is wrong.
+    Check { file: &'a str },
     /// Print the text of a container.
-    Disassemble {
-        container: &'a str,
-    },
+    Disassemble { container: &'a str },
     /// Write a container in the second version of the language.
-    Migrate {
-        old: &'a str,
-        new: &'a str,
-    },
+    Migrate { old: &'a str, new: &'a str },
     /// Print the bounds of a container's procedure.
-    Verify {
-        container: &'a str,
-    },
+    Verify { container: &'a str },
     /// Write a tree whose records have eight fields.
-    Widen {
-        old: &'a str,
-        new: &'a str,
+    Widen { old: &'a str, new: &'a str },
+}
+
+/// What the program is asked to do.
+#[derive(Drop)]
+pub enum Request<'a> {
+    Calls {
+        tree: &'a str,
+        command: CallCommand<'a>,
+        outputs: Outputs<'a>,
     },
+    Files(FileCommand<'a>),
 }
 
 /// The parsed command line: a request, a number to explain, or a text to show (help, or a mistake).
@@ -70,88 +84,8 @@ pub enum Asked<'a> {
     Told(Error),
 }
 
-const HELP: &str = "\
-A refusal is one line on standard output, {\"error\":[number,..]}, and a message on standard error.
-Exit status: 0 done, 1 refused, 2 a mistake on the command line, 3 a file that can't be read or written, or a port
-that can't be had, 4 memory.
-Help on a command: treedb COMMAND --help. What a number means: treedb explain NUMBER";
-
-const ALONE_HELP: &str = "\
-Example: treedb alone --tree one-node.json --proc add.tlp --args '[0,3]'
-prints {\"reply\":[8],\"steps\":7}, and then the tree as JSON. The files are not changed.
-Exit status: 0 done, 1 refused, 2 a mistake on the command line, 3 a file that can't be read, 4 memory.";
-
-const ASM_HELP: &str = "\
-Example: treedb asm walk.asm walk.tlp
-prints {\"count\":10}. A text that is refused is told by its line, and nothing is written.
-Exit status: 0 done, 1 refused, 2 a mistake on the command line, 3 a file that can't be read or written, 4 memory.";
-
-const AUDIT_HELP: &str = "\
-Example: treedb audit trail.json
-prints {\"order\":[..]}, the order in which the calls would do the same alone, where nothing is wrong with the trail.
-Else it prints what is wrong first: {\"error\":[711,event]}, a rule broken; 712, a lock of a node that another call holds;
-713, another record found than was left; {\"error\":[714,call]}, a call that does not do what its procedure does; 715, one
-that isn't done; 717, another reply; {\"error\":[716,node]}, another record in the end. On a terminal its progress is shown.
-A file that is a list is a chain, one trail an epoch: this prints {\"orders\":[..]}, or {\"error\":[718,trail]} where a trail
-doesn't take over where the one before it ends, or {\"error\":[719,trail,..]} with what is wrong with a trail.
-Exit status: 0 done, 1 refused, 2 a mistake on the command line, 3 a file that can't be read, 4 memory.";
-
-const DIS_HELP: &str = "\
-Example: treedb dis walk.tlp
-prints a text that asm turns into the same container.
-Exit status: 0 done, 1 refused, 2 a mistake on the command line, 3 a file that can't be read, 4 memory.";
-
-const DRIVE_HELP: &str = "\
-Example: treedb drive --tree three.json moves.json
-prints {\"trace\":[..]}, what came of each move; {\"order\":[..]}, the order in which the calls would do the same alone,
-or {\"error\":[651,call]} where a call is unfinished; and then the tree as JSON. With --trail the calls, what they did and
-the records in the end are written to a file, which treedb audit checks. The other files are not changed.
-Exit status: 0 done, 1 refused, 2 a mistake on the command line, 3 a file that can't be read or written, 4 memory.";
-
-const EXPLAIN_HELP: &str = "\
-Example: treedb explain 407
-prints when the verifier refuses a procedure with [407,position,register], and what to do then.
-Exit status: 0 done, 2 a number that no fault has, or another mistake on the command line, 3 standard output can't be
-written, 4 memory.";
-
-const MIGRATE_HELP: &str = "\
-Example: treedb migrate add.tlp add2.tlp
-prints {\"count\":7}, and writes the same procedure as one of version 2. A container that is of version 2 already is refused.
-Exit status: 0 done, 1 refused, 2 a mistake on the command line, 3 a file that can't be read or written, 4 memory.";
-
-const RUN_HELP: &str = "\
-Example: treedb run --tree fork.json --workers 2 calls.json
-prints {\"batch\":[..]}, what came of each call, {\"call\":0,\"reply\":[8]} or {\"error\":[601]}; {\"order\":[..]}, the order in
-which the calls would do the same alone; and then the tree as JSON. Two runs may take the calls in another order. With
---trail the calls, what they did and the records in the end are written to a file, which treedb audit checks. The other
-files are not changed. A script {\"epochs\":[[call,..],..],\"procs\":[..]} runs one list of calls after another, and seals
-the epoch between two: then there is a {\"batch\":[..]} for each, {\"orders\":[..]} tells the order in each epoch, and the file
-is the list of the epochs' trails.
-Exit status: 0 done, 1 refused, 2 a mistake on the command line, 3 a file that can't be read or written, 4 memory.";
-
-const SERVE_HELP: &str = "\
-Example: treedb serve --tree one-node.json --port 7878 --connections 1
-says on standard error that it listens on 127.0.0.1:7878. Then, from another terminal,
-    nc -N 127.0.0.1 7878 < requests.txt
-sends the lines of a file, each a request: {\"op\":\"register\",\"name\":\"add\",\"asm\":\"arity 2\\n..\"},
-{\"op\":\"call\",\"proc\":\"add\",\"args\":[0,3]}, {\"op\":\"batch\",\"calls\":[[\"add\",[0,3]],..],\"workers\":2}, {\"op\":\"seal\"} or
-{\"op\":\"close\"}. Each is answered by a line, in order. When all connections have ended, this prints {\"order\":[..]}, the
-order in which their calls would do the same alone, and then the tree as JSON. With --trail the calls, what they did and the
-records in the end are written to a file, which treedb audit checks. At most 8 connections are open at once.
-After 4,096 calls a seal begins a new epoch, which goes on with the tree as it is; then this prints {\"orders\":[..]}, the order
-in each epoch, and the file is the list of the epochs' trails.
-Exit status: 0 done, 1 refused, 2 a mistake on the command line, 3 a file that can't be read or written, or a port
-that can't be had, 4 memory.";
-
-const VERIFY_HELP: &str = "\
-Example: treedb verify walk.tlp
-prints {\"bounds\":{\"emits\":1,\"locks\":13,\"steps\":54}}, whatever the arguments and the tree.
-Exit status: 0 done, 1 refused, 2 a mistake on the command line, 3 a file that can't be read, 4 memory.";
-
-const WIDEN_HELP: &str = "\
-Example: treedb widen old.json new.json
-prints {\"nodes\":1}, and writes the tree with eight fields a record. Where each record has four, the others are 0.
-Exit status: 0 done, 1 refused, 2 a mistake on the command line, 3 a file that can't be read or written, 4 memory.";
+/// The program's version, and the kit with which it was proved.
+pub const VERSION: &str = "0.1.0 (proved with rattle-kit-13f logic dac8208d650f15bf)";
 
 fn tree_arg<'a>(alloc: Global) -> Arg<'a> {
     Arg::new(alloc, "tree")
@@ -159,6 +93,22 @@ fn tree_arg<'a>(alloc: Global) -> Arg<'a> {
         .value_name("T")
         .required(true)
         .help("The file of the tree, as JSON")
+}
+
+fn save_arg<'a>(alloc: Global) -> Arg<'a> {
+    Arg::new(alloc, "save").long("save").value_name("F").help(
+        "The file that the tree is written to, as it is in the end",
+    )
+}
+
+fn script_procedures_arg<'a>(alloc: Global) -> Arg<'a> {
+    Arg::new(alloc, "proc")
+        .long("proc")
+        .value_name("NAME=FILE")
+        .action(ArgAction::Append)
+        .help(
+            "A procedure behind the script's own: its name and the file of its text. May be given again",
+        )
 }
 
 fn alone_command<'a>(alloc: Global) -> Result<Command<'a>, AllocError> {
@@ -177,7 +127,8 @@ fn alone_command<'a>(alloc: Global) -> Result<Command<'a>, AllocError> {
         .after_help(ALONE_HELP)
         .arg(tree_arg(alloc))?
         .arg(procedure)?
-        .arg(args)
+        .arg(args)?
+        .arg(save_arg(alloc))
 }
 
 // A file that has to be named.
@@ -194,6 +145,17 @@ fn asm_command<'a>(alloc: Global) -> Result<Command<'a>, AllocError> {
         .after_help(ASM_HELP)
         .arg(file_arg(alloc, "IN", "The file of the assembler text"))?
         .arg(file_arg(alloc, "OUT", "The file that the container is written to"))
+}
+
+fn check_command<'a>(alloc: Global) -> Result<Command<'a>, AllocError> {
+    Command::new(alloc, "check")
+        .about("Says what a procedure does at most, or shows where its text is wrong")
+        .after_help(CHECK_HELP)
+        .arg(file_arg(
+            alloc,
+            "FILE",
+            "The file of an assembler text or of a container",
+        ))
 }
 
 fn dis_command<'a>(alloc: Global) -> Result<Command<'a>, AllocError> {
@@ -257,7 +219,9 @@ fn drive_command<'a>(alloc: Global) -> Result<Command<'a>, AllocError> {
         )
         .after_help(DRIVE_HELP)
         .arg(tree_arg(alloc))?
+        .arg(script_procedures_arg(alloc))?
         .arg(trail_arg(alloc))?
+        .arg(save_arg(alloc))?
         .arg(file_arg(alloc, "SCRIPT", "The file of the script, as JSON"))
 }
 
@@ -273,7 +237,9 @@ fn run_command<'a>(alloc: Global) -> Result<Command<'a>, AllocError> {
         .after_help(RUN_HELP)
         .arg(tree_arg(alloc))?
         .arg(workers)?
+        .arg(script_procedures_arg(alloc))?
         .arg(trail_arg(alloc))?
+        .arg(save_arg(alloc))?
         .arg(file_arg(alloc, "SCRIPT", "The file of the script, as JSON"))
 }
 
@@ -298,7 +264,8 @@ fn serve_command<'a>(alloc: Global) -> Result<Command<'a>, AllocError> {
         .arg(tree_arg(alloc))?
         .arg(port)?
         .arg(connections)?
-        .arg(trail_arg(alloc))
+        .arg(trail_arg(alloc))?
+        .arg(save_arg(alloc))
 }
 
 fn explain_command<'a>(alloc: Global) -> Result<Command<'a>, AllocError> {
@@ -316,6 +283,7 @@ fn explain_command<'a>(alloc: Global) -> Result<Command<'a>, AllocError> {
 fn command<'a>(alloc: Global) -> Result<Command<'a>, AllocError> {
     Command::new(alloc, "treedb")
         .about("A database of trees, whose procedures are verified before they run")
+        .version(VERSION)
         .after_help(HELP)
         .subcommand_required(true)
         .arg_required_else_help(true)
@@ -324,6 +292,7 @@ fn command<'a>(alloc: Global) -> Result<Command<'a>, AllocError> {
         .subcommand(run_command(alloc)?)?
         .subcommand(serve_command(alloc)?)?
         .subcommand(audit_command(alloc)?)?
+        .subcommand(check_command(alloc)?)?
         .subcommand(asm_command(alloc)?)?
         .subcommand(dis_command(alloc)?)?
         .subcommand(verify_command(alloc)?)?
@@ -332,49 +301,61 @@ fn command<'a>(alloc: Global) -> Result<Command<'a>, AllocError> {
         .subcommand(explain_command(alloc)?)
 }
 
-fn request_of<'a>(matches: &ArgMatches<'a>) -> Option<Request<'a>> {
-    let (name, words) = matches.subcommand()?;
+fn script_of<'a>(alloc: Global, words: &ArgMatches<'a>) -> Option<ScriptFiles<'a>> {
+    let mut procedures = Vec::new(alloc);
+    for named in words.get_strs("proc").unwrap_or(&[]) {
+        procedures.push(*named).ok()?;
+    }
+    Some(ScriptFiles {
+        script: words.get_str("SCRIPT")?,
+        procedures,
+    })
+}
+
+fn call_command<'a>(alloc: Global, name: &str, words: &ArgMatches<'a>) -> Option<CallCommand<'a>> {
     match name {
-        "alone" => Some(Request::Alone {
-            tree: words.get_str("tree")?,
+        "alone" => Some(CallCommand::Alone {
             procedure: words.get_str("proc")?,
             args: words.get_str("args")?,
         }),
-        "asm" => Some(Request::Assemble {
+        "drive" => Some(CallCommand::Drive {
+            script: script_of(alloc, words)?,
+        }),
+        "run" => Some(CallCommand::Run {
+            workers: words.get_one("workers")?,
+            script: script_of(alloc, words)?,
+        }),
+        "serve" => Some(CallCommand::Serve {
+            port: words.get_one("port")?,
+            connections: words.get_one("connections")?,
+        }),
+        _ => None,
+    }
+}
+
+fn file_command<'a>(name: &str, words: &ArgMatches<'a>) -> Option<FileCommand<'a>> {
+    match name {
+        "asm" => Some(FileCommand::Assemble {
             text: words.get_str("IN")?,
             container: words.get_str("OUT")?,
         }),
-        "audit" => Some(Request::Audit {
+        "audit" => Some(FileCommand::Audit {
             trail: words.get_str("TRAIL")?,
         }),
-        "dis" => Some(Request::Disassemble {
+        "check" => Some(FileCommand::Check {
+            file: words.get_str("FILE")?,
+        }),
+        "dis" => Some(FileCommand::Disassemble {
             container: words.get_str("IN")?,
         }),
-        "drive" => Some(Request::Drive {
-            tree: words.get_str("tree")?,
-            script: words.get_str("SCRIPT")?,
-            trail: words.get_str("trail"),
-        }),
-        "run" => Some(Request::Run {
-            tree: words.get_str("tree")?,
-            workers: words.get_one("workers")?,
-            script: words.get_str("SCRIPT")?,
-            trail: words.get_str("trail"),
-        }),
-        "serve" => Some(Request::Serve {
-            tree: words.get_str("tree")?,
-            port: words.get_one("port")?,
-            connections: words.get_one("connections")?,
-            trail: words.get_str("trail"),
-        }),
-        "migrate" => Some(Request::Migrate {
+        "migrate" => Some(FileCommand::Migrate {
             old: words.get_str("IN")?,
             new: words.get_str("OUT")?,
         }),
-        "verify" => Some(Request::Verify {
+        "verify" => Some(FileCommand::Verify {
             container: words.get_str("IN")?,
         }),
-        "widen" => Some(Request::Widen {
+        "widen" => Some(FileCommand::Widen {
             old: words.get_str("IN")?,
             new: words.get_str("OUT")?,
         }),
@@ -382,23 +363,36 @@ fn request_of<'a>(matches: &ArgMatches<'a>) -> Option<Request<'a>> {
     }
 }
 
-fn number_of(matches: &ArgMatches<'_>) -> Option<u16> {
+// What is asked for. None where memory is refused, since each command has an arm.
+fn asked_of<'a>(alloc: Global, matches: &ArgMatches<'a>) -> Option<Asked<'a>> {
     let (name, words) = matches.subcommand()?;
     if name == "explain" {
-        words.get_one("NUMBER")
-    } else {
-        None
+        return Some(Asked::Explanation {
+            number: words.get_one("NUMBER")?,
+        });
     }
+    if let Some(command) = file_command(name, words) {
+        return Some(Asked::Request(Request::Files(command)));
+    }
+    Some(Asked::Request(Request::Calls {
+        tree: words.get_str("tree")?,
+        command: call_command(alloc, name, words)?,
+        outputs: Outputs {
+            // `alone` has no trail.
+            trail: if name == "alone" {
+                None
+            } else {
+                words.get_str("trail")
+            },
+            tree: words.get_str("save"),
+        },
+    }))
 }
 
 /// Reads a command line, the program's name first.
 pub fn parse<'a>(alloc: Global, words: &'a [String]) -> Result<Asked<'a>, AllocError> {
     match command(alloc)?.try_get_matches_from(words) {
-        Ok(matches) => match (request_of(&matches), number_of(&matches)) {
-            (Some(request), _) => Ok(Asked::Request(request)),
-            (None, Some(number)) => Ok(Asked::Explanation { number }),
-            (None, None) => Err(AllocError),
-        },
+        Ok(matches) => asked_of(alloc, &matches).ok_or(AllocError),
         Err(error) => Ok(Asked::Told(error)),
     }
 }

@@ -1,5 +1,6 @@
 // Why the program has nothing to print.
 
+use std::alloc::{AllocError, AllocFailed};
 use std::{fmt, io};
 use tl_commands::CliFault;
 
@@ -27,6 +28,18 @@ impl Failure<'_> {
 impl From<CliFault> for Failure<'_> {
     fn from(fault: CliFault) -> Self {
         Failure::Refused(fault)
+    }
+}
+
+impl From<AllocError> for Failure<'_> {
+    fn from(_refused: AllocError) -> Self {
+        Failure::Refused(CliFault::Memory)
+    }
+}
+
+impl<T: Drop> From<AllocFailed<T>> for Failure<'_> {
+    fn from(_refused: AllocFailed<T>) -> Self {
+        Failure::Refused(CliFault::Memory)
     }
 }
 

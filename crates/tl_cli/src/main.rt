@@ -4,9 +4,11 @@
 mod command_line;
 mod explain;
 mod failure;
+mod help;
 mod output;
 mod program;
 mod progress;
+mod script;
 mod trail_file;
 
 use clap::Error;
@@ -19,9 +21,9 @@ use std::rt::Files;
 use std::sync::Wait;
 use std::thread::Threads;
 pub use tl_commands::{
-    CliFault, alone_cmd, asm_cmd, audit_cmd, conclude_engine, conclude_engine_with_trail, dis_cmd,
-    drive_cmd, drive_with_trail_cmd, migrate_cmd, open_engine, run_cmd, run_with_trail_cmd,
-    verify_cmd, widen_cmd,
+    CliFault, alone_cmd, asm_cmd, audit_cmd, check_cmd, conclude_engine,
+    conclude_engine_with_trail, dis_cmd, drive_cmd, drive_with_trail_cmd, migrate_cmd, open_engine,
+    run_cmd, run_with_trail_cmd, verify_cmd, widen_cmd,
 };
 
 /// The exit status where memory is refused before a command is known. Nothing is printed then.

@@ -1,8 +1,9 @@
 // Failures, printed.
 
 use crate::failure::Failure;
+use std::alloc::Global;
 use std::io;
-use tl_asm::AsmFault;
+use tl_asm::{AsmFault, instruction_lines};
 use tl_commands::CliFault;
 
 /// Prints a failure: its numbers on standard output, `{"error":[..]}`, and its message for people on standard error.
@@ -32,18 +33,72 @@ pub fn status_after<R: Eprint>(rt: &R, printed: io::Result<()>, status: u8) -> u
     }
 }
 
-/// Shows people the line that an assembler text was refused for, on standard error. What can't be shown is left out.
-pub fn quote_line<R: Eprint>(rt: &R, text: &[u8], fault: &CliFault) {
-    let CliFault::Asm(
-        AsmFault::BadLine(number) | AsmFault::NoLabel(number) | AsmFault::LabelTwice(number),
-    ) = *fault
+/// A place in a text: a line, and a column where it is known, both counted from 1.
+#[derive(Clone, Copy)]
+pub struct Place {
+    pub line: u64,
+    pub column: Option<u64>,
+}
+
+// The line of the instruction at a position of an assembler text.
+fn line_of_position(alloc: Global, text: &str, position: u64) -> Option<u64> {
+    let lines = instruction_lines(alloc, text).ok()?;
+    lines.get(usize::try_from(position).ok()?).copied()
+}
+
+/// Where the fault of a text lies, where it lies at one place. A position of the code is the line of that instruction.
+pub fn place_of(alloc: Global, text: &str, fault: &CliFault) -> Option<Place> {
+    match fault {
+        CliFault::Asm(
+            AsmFault::BadLine(line) | AsmFault::NoLabel(line) | AsmFault::LabelTwice(line),
+        ) => Some(Place {
+            line: *line,
+            column: None,
+        }),
+        CliFault::Verify(fault) => {
+            let position = *fault.numbers().as_slice().get(1)?;
+            Some(Place {
+                line: line_of_position(alloc, text, position)?,
+                column: None,
+            })
+        }
+        _ => None,
+    }
+}
+
+// How many bytes of the line stand before the place. Where the column isn't known, these are the blanks in front.
+fn bytes_before(line: &str, column: Option<u64>) -> usize {
+    match column {
+        Some(column) => usize::try_from(column)
+            .unwrap_or(usize::MAX)
+            .saturating_sub(1),
+        None => line
+            .bytes()
+            .take_while(|byte| *byte == b' ' || *byte == b'\t')
+            .count(),
+    }
+}
+
+/// Shows people the line of a text that is refused, under the file's name, with a caret under the place, on standard error. What
+/// can't be shown is left out.
+pub fn point_at<R: Eprint>(rt: &R, path: &str, text: &str, place: Place) {
+    let Place { line, column } = place;
+    let Some(quoted) = text.split('\n').nth(
+        usize::try_from(line)
+            .unwrap_or(usize::MAX)
+            .saturating_sub(1),
+    )
     else {
         return;
     };
-    let Ok(text) = std::str::from_utf8(text) else {
-        return;
+    let _shown = match column {
+        Some(column) => eprintln!(rt; "{path}:{line}:{column}"),
+        None => eprintln!(rt; "{path}:{line}"),
     };
-    if let Some(line) = text.split('\n').nth((number as usize).saturating_sub(1)) {
-        let _shown = eprintln!(rt; "{number} | {line}");
+    let _shown = eprintln!(rt; "    {quoted}");
+    let _shown = eprint!(rt; "    ");
+    for byte in quoted.bytes().take(bytes_before(quoted, column)) {
+        let _shown = eprint!(rt; "{}", if byte == b'\t' { '\t' } else { ' ' });
     }
+    let _shown = eprintln!(rt; "^");
 }

@@ -1,13 +1,14 @@
 // The commands with their files: each is read, a command of `tl_commands` answers, and what that says is written and printed.
 
-use crate::command_line::Request;
+use crate::command_line::{CallCommand, FileCommand, Outputs, Request, ScriptFiles};
 use crate::failure::Failure;
 use crate::progress::Shown;
+use crate::script::{NamedText, first_refused, with_procedures};
 use crate::trail_file::TrailFile;
 use crate::{
-    CliFault, alone_cmd, asm_cmd, audit_cmd, conclude_engine, conclude_engine_with_trail, dis_cmd,
-    drive_cmd, drive_with_trail_cmd, migrate_cmd, open_engine, output, run_cmd, run_with_trail_cmd,
-    verify_cmd, widen_cmd,
+    CliFault, alone_cmd, asm_cmd, audit_cmd, check_cmd, conclude_engine,
+    conclude_engine_with_trail, dis_cmd, drive_cmd, drive_with_trail_cmd, migrate_cmd, open_engine,
+    output, run_cmd, run_with_trail_cmd, verify_cmd, widen_cmd,
 };
 use std::io::ErrorKind;
 use std::net::{Net, TcpListener, TcpStream};
@@ -59,17 +60,32 @@ impl<'a, R: Files + Print + Eprint + AllocGlobal> Program<'a, R> {
         Ok(alone_cmd(self.rt.alloc(), &tree, &procedure, args)?)
     }
 
-    fn assemble<'p>(&self, text: &'p str, container: &'p str) -> Result<String, Failure<'p>> {
-        let text = self.read_file(text)?;
+    // Answers the fault of a text, and shows people where it is.
+    fn misread<'p>(&self, path: &str, text: &[u8], fault: CliFault) -> Failure<'p> {
+        if let Ok(text) = std::str::from_utf8(text) {
+            if let Some(place) = output::place_of(self.rt.alloc(), text, &fault) {
+                output::point_at(self.rt, path, text, place);
+            }
+        }
+        Failure::Refused(fault)
+    }
+
+    fn assemble<'p>(&self, path: &'p str, container: &'p str) -> Result<String, Failure<'p>> {
+        let text = self.read_file(path)?;
         let (line, bytes) = match asm_cmd(self.rt.alloc(), &text) {
             Ok(answer) => answer,
-            Err(fault) => {
-                output::quote_line(self.rt, &text, &fault);
-                return Err(Failure::Refused(fault));
-            }
+            Err(fault) => return Err(self.misread(path, &text, fault)),
         };
         self.write_file(container, &bytes)?;
         Ok(line)
+    }
+
+    fn check<'p>(&self, path: &'p str) -> Result<String, Failure<'p>> {
+        let file = self.read_file(path)?;
+        match check_cmd(self.rt.alloc(), &file) {
+            Ok(line) => Ok(line),
+            Err(fault) => Err(self.misread(path, &file, fault)),
+        }
     }
 
     fn migrate<'p>(&self, old: &'p str, new: &'p str) -> Result<String, Failure<'p>> {
@@ -86,21 +102,71 @@ impl<'a, R: Files + Print + Eprint + AllocGlobal> Program<'a, R> {
         Ok(line)
     }
 
+    // A procedure that the command line names as `NAME=FILE`.
+    fn named_text<'p>(&self, named: &'p str) -> Result<NamedText<'p>, Failure<'p>> {
+        let (name, path) = named.split_once('=').unwrap_or((named, named));
+        match String::from_utf8(self.read_file(path)?) {
+            Ok(text) => Ok(NamedText { name, text }),
+            Err(_) => Err(Failure::Refused(CliFault::NotUtf8)),
+        }
+    }
+
+    // A script, with the procedures that the command line names behind its own.
+    fn read_script<'p>(&self, files: &ScriptFiles<'p>) -> Result<Vec<u8>, Failure<'p>> {
+        let script = self.read_file(files.script)?;
+        if files.procedures.is_empty() {
+            return Ok(script);
+        }
+        let mut texts = Vec::new(self.rt.alloc());
+        for named in &files.procedures {
+            texts.push(self.named_text(named)?)?;
+        }
+        Ok(with_procedures(self.rt.alloc(), script, &texts)?)
+    }
+
+    // Answers the fault of a script. Where one of its procedures is refused, people are shown which, and where.
+    fn misread_script<'p>(&self, script: &[u8], fault: CliFault) -> Failure<'p> {
+        if let CliFault::Register(_) = fault {
+            if let Some(refused) = first_refused(self.rt.alloc(), script) {
+                let _shown = eprintln!(self.rt; "treedb: the procedure {}", refused.name);
+                let _failure = self.misread(&refused.name, refused.text.as_bytes(), refused.fault);
+            }
+        }
+        Failure::Refused(fault)
+    }
+
     // The trail is written to a file, where one is named.
     fn drive<'p>(
         &self,
         tree: &'p str,
-        script: &'p str,
+        script: &ScriptFiles<'p>,
         trail: Option<&'p str>,
     ) -> Result<String, Failure<'p>> {
         let tree = self.read_file(tree)?;
-        let script = self.read_file(script)?;
+        let script = self.read_script(script)?;
         let Some(path) = trail else {
-            return Ok(drive_cmd(self.rt.alloc(), &tree, &script)?);
+            let driven = drive_cmd(self.rt.alloc(), &tree, &script);
+            return driven.map_err(|fault| self.misread_script(&script, fault));
         };
-        let (lines, trail) = drive_with_trail_cmd(self.rt.alloc(), &tree, &script)?;
+        let (lines, trail) = match drive_with_trail_cmd(self.rt.alloc(), &tree, &script) {
+            Ok(driven) => driven,
+            Err(fault) => return Err(self.misread_script(&script, fault)),
+        };
         self.write_file(path, trail.as_bytes())?;
         Ok(lines)
+    }
+
+    // Writes the tree, which is the last of the printed lines, with a LF behind it. It is written beside the file and then renamed, so
+    // that the file never has a part of a tree.
+    fn save<'p>(&self, path: &'p str, lines: &str) -> Result<(), Failure<'p>> {
+        let tree = lines.trim_end().split('\n').last().unwrap_or(lines);
+        let text = format!(in self.rt.alloc(); "{tree}\n")?;
+        let part = format!(in self.rt.alloc(); "{path}.part")?;
+        let written = std::fs::write(self.rt, part.as_str(), text.as_bytes());
+        match written.and_then(|()| std::fs::rename(self.rt, part.as_str(), path)) {
+            Ok(()) => Ok(()),
+            Err(reason) => Err(Failure::Unwritable { path, reason }),
+        }
     }
 
     fn audit<'p>(&self, trail: &'p str) -> Result<String, Failure<'p>> {
@@ -131,16 +197,17 @@ impl<'a, R: Files + Print + Eprint + AllocGlobal + Threads + Wait + Sync> Progra
         &self,
         tree: &'p str,
         workers: usize,
-        script: &'p str,
+        script: &ScriptFiles<'p>,
         trail: Option<&'p str>,
     ) -> Result<String, Failure<'p>> {
         let tree = self.read_file(tree)?;
-        let script = self.read_file(script)?;
+        let script = self.read_script(script)?;
         let alloc = self.rt.alloc();
         // The command line takes no other numbers.
         let workers = workers.clamp(1, MAX_WORKERS);
         let Some(path) = trail else {
-            return Ok(run_cmd(self.rt, alloc, &tree, &script, workers, &NoGate)?);
+            let ran = run_cmd(self.rt, alloc, &tree, &script, workers, &NoGate);
+            return ran.map_err(|fault| self.misread_script(&script, fault));
         };
         let mut file = TrailFile::new(self.rt, path);
         let ran = run_with_trail_cmd(self.rt, alloc, &tree, &script, workers, &NoGate, &mut file);
@@ -192,41 +259,54 @@ where
         printed(path, file, concluded)
     }
 
-    // What the program prints for a request.
-    fn answer<'p>(&self, request: &Request<'p>) -> Result<String, Failure<'p>> {
-        match *request {
-            Request::Alone {
-                tree,
-                procedure,
-                args,
-            } => self.alone(tree, procedure, args),
-            Request::Assemble { text, container } => self.assemble(text, container),
-            Request::Audit { trail } => self.audit(trail),
-            Request::Disassemble { container } => {
+    // What a command that runs calls prints. A file that is named for the tree in the end is written before that.
+    fn answer_calls<'p>(
+        &self,
+        tree: &'p str,
+        command: &CallCommand<'p>,
+        outputs: Outputs<'p>,
+    ) -> Result<String, Failure<'p>> {
+        let trail = outputs.trail;
+        let lines = match command {
+            CallCommand::Alone { procedure, args } => self.alone(tree, procedure, args)?,
+            CallCommand::Drive { script } => self.drive(tree, script, trail)?,
+            CallCommand::Run { workers, script } => self.run(tree, *workers, script, trail)?,
+            CallCommand::Serve { port, connections } => {
+                self.serve(tree, *port, *connections, trail)?
+            }
+        };
+        if let Some(path) = outputs.tree {
+            self.save(path, &lines)?;
+        }
+        Ok(lines)
+    }
+
+    // What a command on files alone prints.
+    fn answer_files<'p>(&self, command: FileCommand<'p>) -> Result<String, Failure<'p>> {
+        match command {
+            FileCommand::Assemble { text, container } => self.assemble(text, container),
+            FileCommand::Audit { trail } => self.audit(trail),
+            FileCommand::Check { file } => self.check(file),
+            FileCommand::Disassemble { container } => {
                 Ok(dis_cmd(self.rt.alloc(), &self.read_file(container)?)?)
             }
-            Request::Drive {
-                tree,
-                script,
-                trail,
-            } => self.drive(tree, script, trail),
-            Request::Migrate { old, new } => self.migrate(old, new),
-            Request::Run {
-                tree,
-                workers,
-                script,
-                trail,
-            } => self.run(tree, workers, script, trail),
-            Request::Serve {
-                tree,
-                port,
-                connections,
-                trail,
-            } => self.serve(tree, port, connections, trail),
-            Request::Verify { container } => {
+            FileCommand::Migrate { old, new } => self.migrate(old, new),
+            FileCommand::Verify { container } => {
                 Ok(verify_cmd(self.rt.alloc(), &self.read_file(container)?)?)
             }
-            Request::Widen { old, new } => self.widen(old, new),
+            FileCommand::Widen { old, new } => self.widen(old, new),
+        }
+    }
+
+    // What the program prints for a request.
+    fn answer<'p>(&self, request: &Request<'p>) -> Result<String, Failure<'p>> {
+        match request {
+            Request::Calls {
+                tree,
+                command,
+                outputs,
+            } => self.answer_calls(tree, command, *outputs),
+            Request::Files(command) => self.answer_files(*command),
         }
     }
 

@@ -86,3 +86,19 @@ abbrev pub IsFirstVerifyingFault : List ℕ → CliFault → Type 0
 IsFirstVerifyingFault container e = status_of e ≢ 4 →
     ((f : CodeFault) × (e ≡ Code f) × IsFirstCodeFault container f)
     ⊎ ((f : VerifyFault) × (code : CodeValue) × (e ≡ Verify f) × Spelled container code × IsFirstFault code.instrs f)
+
+-- ---- `check`, of a text
+
+-- The text is that of a code that is accepted, and what is printed tells its bounds.
+pub record VerifiesText (text out : List ℕ) : Type 0 where
+  pub code : CodeValue
+  pub utf8 : IsUtf8 text
+  pub written : Written text code
+  pub accepted : Acceptable code.instrs
+  pub same : out ≡ bounds_text (emit_bound code.instrs) (lock_bound code.instrs) (budget code.instrs)
+
+-- the text isn't UTF-8, else its first fault, else the first of its code; or want of memory
+abbrev pub IsFirstCheckingFault : List ℕ → CliFault → Type 0
+IsFirstCheckingFault text e = status_of e ≢ 4 →
+    (((e ≡ NotUtf8) × (IsUtf8 text → ⊥)) ⊎ ((f : AsmFault) × (e ≡ Asm f) × IsFirstTextFault text f))
+    ⊎ ((f : VerifyFault) × (code : CodeValue) × (e ≡ Verify f) × Written text code × IsFirstFault code.instrs f)

@@ -7,6 +7,7 @@
 mod alone;
 mod answers;
 mod auditing;
+mod checking;
 mod closing;
 mod driving;
 mod fault;
@@ -22,6 +23,7 @@ mod widening;
 
 pub use alone::alone_cmd;
 pub use auditing::audit_cmd;
+pub use checking::check_cmd;
 pub use driving::{drive_cmd, drive_with_trail_cmd};
 pub use fault::CliFault;
 pub use procedures::{asm_cmd, dis_cmd, migrate_cmd, verify_cmd};

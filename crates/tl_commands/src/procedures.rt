@@ -20,8 +20,8 @@ use tl_budget::Bounds;
 use tl_instr::{Code, CodeFault, decode, encode, migrate_code};
 use tl_verify::verify;
 
-// The code of an assembler text.
-fn code_of_text(alloc: Global, text: &[u8]) -> Result<Code, CliFault>
+/// The code of an assembler text.
+pub fn code_of_text(alloc: Global, text: &[u8]) -> Result<Code, CliFault>
     ensures utf8 { IfOk result (λ _. IsUtf8 text.now) }
     ensures written { IfOk result (λ code. Written text.now code) }
     ensures fault { IfErr result (λ e. IsFirstAssemblingFault text.now e) }
@@ -72,8 +72,8 @@ fn count_line(alloc: Global, code: &Code) -> Result<String, AllocError>
     line_of(alloc, &value)
 }
 
-// The line of what a procedure does at most.
-fn bounds_line(alloc: Global, bounds: Bounds) -> Result<String, AllocError>
+/// The line of what a procedure does at most.
+pub fn bounds_line(alloc: Global, bounds: Bounds) -> Result<String, AllocError>
     ensures { IfOk result (λ s. string_bytes s ≡ bounds_text bounds.emits bounds.locks bounds.steps) }
 {
     let emits = Value::from(bounds.emits);

@@ -9,8 +9,8 @@ use std::test::Fail;
 use std::thread::Threads;
 use tl_audit::Silent;
 use tl_commands::{
-    CliFault, alone_cmd, asm_cmd, audit_cmd, dis_cmd, drive_cmd, drive_with_trail_cmd, run_cmd,
-    run_with_trail_cmd, verify_cmd,
+    CliFault, alone_cmd, asm_cmd, audit_cmd, check_cmd, dis_cmd, drive_cmd, drive_with_trail_cmd,
+    run_cmd, run_with_trail_cmd, verify_cmd,
 };
 use tl_workers::NoGate;
 
@@ -23,7 +23,7 @@ pub enum Command {
     Asm(Parts),
     /// `asm` of a text, and then `dis` of its container.
     Listed(&'static str),
-    /// `asm` of a text, and then `verify` of its container: its line alone.
+    /// `check` of a text: its line, where `verify` of its container prints the same.
     Verify(&'static str),
     /// `dis` of a container.
     Dis(Parts),
@@ -70,7 +70,10 @@ fn listed(alloc: Global, text: &str) -> Result<String, CliFault> {
 }
 
 fn verified(alloc: Global, text: &str) -> Result<String, CliFault> {
-    verify_cmd(alloc, &container_of(alloc, text)?)
+    let checked = check_cmd(alloc, text.as_bytes())?;
+    let verified = verify_cmd(alloc, &container_of(alloc, text)?)?;
+    let is_same = checked.as_str() == verified.as_str();
+    Ok(if is_same { checked } else { String::new(alloc) })
 }
 
 fn done_alone(alloc: Global, tree: &str, text: &str, args: &str) -> Result<String, CliFault> {

@@ -12,6 +12,8 @@ mod refused_nodes;
 mod refused_operands;
 
 use crate::commands::Table;
+use std::test::Fail;
+use tl_asm::instruction_lines;
 
 /// A text that isn't the one that is written for its code.
 const SPACED: &str = "arity 1 ; one\n\nstart:\n  jmp  end_\nend_:\nret\n";
@@ -34,4 +36,11 @@ pub fn tables() -> [Table; 10] {
         ("procedures, labels", labels::rows()),
         ("procedures, refused operands", refused_operands::rows()),
     ]
+}
+
+#[test]
+fn instructions_have_their_lines(rt: HostRuntime) -> Result<(), Fail> {
+    let lines = instruction_lines(rt.alloc(), SPACED)?;
+    assert_eq!(rt; lines.as_slice(), [4, 6].as_slice());
+    Ok(())
 }

@@ -1,0 +1,78 @@
+// Procedures that the command line names beside a script's own, and the procedure of a script that is refused.
+
+use crate::{CliFault, check_cmd};
+use serde_json::{Value, json};
+use std::alloc::{AllocError, Global};
+use tl_json::parse;
+
+/// A procedure that the command line names: its name, and the text of its file.
+#[derive(Drop)]
+pub struct NamedText<'a> {
+    pub name: &'a str,
+    pub text: String,
+}
+
+// `[name,text]`
+fn pair_value(alloc: Global, procedure: &NamedText<'_>) -> Result<Value, AllocError> {
+    json!(in alloc; [procedure.name, procedure.text.as_str()])
+}
+
+/// The script with these procedures behind its own, as JSON; a script without `procs` gets that list. What is no JSON object, or has
+/// something else there, stays as it is: whoever reads it says that it isn't a script.
+pub fn with_procedures(
+    alloc: Global,
+    script: Vec<u8>,
+    procedures: &[NamedText<'_>],
+) -> Result<Vec<u8>, AllocError> {
+    let Some(mut value) = parse(alloc, &script)? else {
+        return Ok(script);
+    };
+    let Some(members) = value.as_object_mut() else {
+        return Ok(script);
+    };
+    if !members.contains_key("procs") {
+        members.insert(
+            String::from_str(alloc, "procs")?,
+            Value::Array(Vec::new(alloc)),
+        )?;
+    }
+    let Some(found) = value.get_mut("procs") else {
+        return Ok(script);
+    };
+    let Some(list) = found.as_array_mut() else {
+        return Ok(script);
+    };
+    for procedure in procedures {
+        list.push(pair_value(alloc, procedure)?)?;
+    }
+    Ok(value.to_string(alloc)?.into_bytes())
+}
+
+/// A procedure of a script that isn't accepted: its name, its text, and what is wrong with it.
+#[derive(Drop)]
+pub struct RefusedProcedure {
+    pub name: String,
+    pub text: String,
+    pub fault: CliFault,
+}
+
+// The procedure of a pair `[name,text]`, where it isn't accepted.
+fn refused_in_pair(alloc: Global, pair: &Value) -> Option<RefusedProcedure> {
+    let name = pair.get(0)?.as_str()?;
+    let text = pair.get(1)?.as_str()?;
+    let Err(fault) = check_cmd(alloc, text.as_bytes()) else {
+        return None;
+    };
+    Some(RefusedProcedure {
+        name: String::from_str(alloc, name).ok()?,
+        text: String::from_str(alloc, text).ok()?,
+        fault,
+    })
+}
+
+/// The first procedure of a script that isn't accepted. None where there is none, or memory is refused: this is for a message.
+pub fn first_refused(alloc: Global, script: &[u8]) -> Option<RefusedProcedure> {
+    let value = parse(alloc, script).ok()??;
+    let list = value.get("procs")?.as_array()?;
+    list.iter().find_map(|pair| refused_in_pair(alloc, pair))
+}
