@@ -1,5 +1,5 @@
 -- What came of a segment.
-use Rattle.std.proofs.Common.{◌≡◌, ◌≢◌, ℕ, Bool, true, false, refl, sym, ap, ◌∙◌, subst, Option, Some, None, Ok, if◌then◌else◌}
+use Rattle.std.proofs.Common.{◌≡◌, ◌≢◌, ℕ, List, [], ◌∷◌, ◌++◌, Bool, true, false, refl, sym, ap, ◌∙◌, subst, Option, Some, None, Ok, if◌then◌else◌}
 use Rattle.std.specs.Prelude.{Result}
 use Rattle.std.proofs.lemmas.Bool.{lt-ltb, both_ways, eq-eqb}
 use Rattle.tl_tree_locking.specs.declared.action.Action.{Action}
@@ -16,7 +16,7 @@ use Rattle.tl_core.specs.declared.stepped.Stepped.{Stepped}
 use Rattle.tl_core.specs.declared.stepped.Stepped.TheVariants.{Moved}
 use Rattle.tl_core.specs.Cores.{CoreValue, CoreState, world_of}
 use Rattle.tl_core.specs.Entries.{node_of, stepped_by, step_answer, after_step}
-use Rattle.tl_core.specs.Followed.{EndsStop, NextEndsStop, IsInTheWay, IsLed, HasGone}
+use Rattle.tl_core.specs.Followed.{Goes, EndsStop, NextEndsStop, IsInTheWay, IsLed, HasGone}
 use Rattle.tl_core.proofs.FollowLemmas.{goes_more}
 use Rattle.tl_core.proofs.StoredCalls.{same_item}
 
@@ -102,3 +102,29 @@ pub is_no_end : (v w : CoreValue) (c : ℕ) (a : Action) → w ≡ after_step v 
 is_no_end v w c a after goes_on ends =
     let ended : is_done c (after_step v c (Ok (Moved did.End))).past ≡ true = rw (eq-eqb c c refl) refl in
     both_ways (is_done c w.past) goes_on (ap (λ u. is_done c u.past) (after ∙ ap (λ b. after_step v c (Ok (Moved b))) ends) ∙ ended)
+
+-- and one that is done behind what it did has ended by that
+pub is_end : (v : CoreValue) (c : ℕ) (a : Action) → is_done c v.past ≡ false → is_done c (after_step v c (Ok (Moved a))).past ≡ true → a ≡ did.End
+is_end v c did.End goes_on done = refl
+is_end v c (did.Lock x found) goes_on done = absurd (both_ways (is_done c v.past) goes_on done)
+is_end v c (did.Free x left) goes_on done = absurd (both_ways (is_done c v.past) goes_on done)
+is_end v c did.Plain goes_on done = absurd (both_ways (is_done c v.past) goes_on done)
+is_end v c (did.Read x f n) goes_on done = absurd (both_ways (is_done c v.past) goes_on done)
+is_end v c (did.Write x f n) goes_on done = absurd (both_ways (is_done c v.past) goes_on done)
+is_end v c (did.Emit n) goes_on done = absurd (both_ways (is_done c v.past) goes_on done)
+
+-- so a call that is done behind its stop has returned there
+pub returned : (v w : CoreValue) (c : ℕ) (s : Stop) → NextEndsStop v c s → ((x d : ℕ) → IsInTheWay v s x d → ⊥) → (r : Result Stepped CoreFault) → r ≡ step_answer (world_of v) c → w ≡ after_step v c r
+    → is_done c w.past ≡ true → s ≡ stop.Return
+returned v w c s next free r answer after done =
+    let b = stop_step v c s next free in
+    let behind : w ≡ after_step v c (Ok (Moved b.0)) = after ∙ ap (after_step v c) (answer ∙ b.1) in
+    subst (EndsStop s) (is_end v c b.0 next.is_open.1 (ap (λ u. is_done c u.past) (sym behind) ∙ done)) b.2
+
+-- steps leave the shape as it is
+goes_parents : (v w : CoreValue) (c : ℕ) (actions : List Action) → Goes v c actions w → w.parents ≡ v.parents
+goes_parents v w c [] goes = ap (λ u. u.parents) (sym goes)
+goes_parents v w c (a ∷ actions) goes = goes_parents (after_step v c (Ok (Moved a))) w c actions goes.1
+
+pub gone_parents : (v w : CoreState) (c : ℕ) (segment : SegmentValue) → HasGone v c segment w → w.seen.parents ≡ v.seen.parents
+gone_parents v w c segment gone = goes_parents v.seen w.seen c (gone.local ++ gone.last ∷ []) gone.goes

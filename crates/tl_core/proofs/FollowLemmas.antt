@@ -8,7 +8,7 @@ use Rattle.tl_tree_locking.specs.declared.action.Action.TheVariants as did
 use Rattle.tl_tree_locking.specs.History.{is_done}
 use Rattle.tl_machine.specs.Runs.{Run, Then, At, Ended}
 use Rattle.tl_machine.specs.BetweenSteps.{IsLocal}
-use Rattle.tl_machine.specs.Turns.{ComesByLocal, here, onward, Stops, with_call}
+use Rattle.tl_machine.specs.Turns.{ComesByLocal, here, onward, IsTurn, Stops, with_call}
 use Rattle.tl_machine.specs.Wants.{want_of}
 use Rattle.tl_machine.specs.declared.call.CallState.{CallState}
 use Rattle.tl_machine.specs.declared.want.Want.TheVariants as want
@@ -20,6 +20,7 @@ use Rattle.tl_core.specs.Cores.{CoreValue, world_of}
 use Rattle.tl_core.specs.Entries.{step_answer, after_step}
 use Rattle.tl_core.specs.Followed.{Goes, EachLocal, EndsStop, NextEndsStop}
 use Rattle.tl_core.specs.Kept.{IsCore, call_value}
+use Rattle.tl_machine.proofs.TurnLemmas.{stands_running}
 use Rattle.tl_core.proofs.StoredCalls.{slice_get-set_same}
 use Rattle.tl_core.proofs.CallInWorld.{rest, wants_here, next_first, open_first, over_done}
 use Rattle.tl_core.proofs.StepExits.{local_answer, local_seen, local_kept, inside_tree}
@@ -65,7 +66,7 @@ module _ (v : CoreValue) (now : TreeValue) (kept : List Kept) (holders : List (O
     core : IsCore (core_led d) now (kept_led d) holders open_count reserved
     goes : Goes v c local (core_led d)
 
-  there : (d : CallState) → ComesByLocal k.turn.code.instrs k.turn.parents k.turn.call d → IsThere d
+  there : (d : CallState) → ComesByLocal k.turn.code.instrs k.turn.call d → IsThere d
   there d here =
       let same = set_same kept c k at in
       let seen : v ≡ core_led d = λ i. record v { calls = (h.calls ∙ ap (map call_value) (sym same)) i } in
@@ -75,10 +76,13 @@ module _ (v : CoreValue) (now : TreeValue) (kept : List Kept) (holders : List (O
         core = subst (λ l. IsCore (record v { calls = map call_value l }) now l holders open_count reserved) (sym same) (subst (λ l. IsCore (record v { calls = l }) now kept holders open_count reserved) h.calls h);
         goes = seen;
       }
-  there d (onward {c = d1} follows act steps) =
+  there d (onward {c = d1} follows act step) =
       let before = there d1 follows in
       let inside = slice_get_within kept c k at in
       let at1 : slice_get (kept_led d1) c ≡ Some (kept_on d1) = slice_get-set_same kept c (kept_on d1) inside in
+      let own = before.core.each c (kept_on d1) at1 in
+      let turn = subst (λ ps. IsTurn k.turn.code.instrs ps d1) (sym own.shape) own.turn in
+      let steps = step.steps k.turn.parents (stands_running k.turn.code.instrs k.turn.parents d1 turn step.running) in
       let again : set (kept_led d1) c (kept_on d) ≡ kept_led d = set_again kept c (kept_on d1) (kept_on d) in
       record {
         local = before.local ++ act ∷ [];
@@ -92,7 +96,7 @@ module _ (v : CoreValue) (now : TreeValue) (kept : List Kept) (holders : List (O
             (sym (local_seen (core_led d1) now (kept_led d1) holders open_count reserved before.core c (kept_on d1) at1 act (with_call k.turn d) refl steps) ∙ ap (λ l. record v { calls = map call_value l }) again);
       }
 
-  module _ (d : CallState) (follows : ComesByLocal k.turn.code.instrs k.turn.parents k.turn.call d) where
+  module _ (d : CallState) (follows : ComesByLocal k.turn.code.instrs k.turn.call d) where
     pub led_core : IsCore (core_led d) now (kept_led d) holders open_count reserved
     led_core = (there d follows).core
 

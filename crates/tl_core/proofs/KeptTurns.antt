@@ -92,9 +92,9 @@ module _ (v : CoreValue) (now : TreeValue) (calls : List Call) (slots : List Ope
 -- ---- a turn behind what its call did
 
 -- the action done is a lock or a free, and so is the change to the turn
-pub turned_by : (before t after : TurnValue) (b a : Action) → before ≡ t → after ≡ with_call before after.call → after.call ≡ after_action before.code.instrs before.call b → b ≡ a
-    → after ≡ with_call t (after_action t.code.instrs t.call a)
+pub turned_by : (before t after : TurnValue) (b a : Action) → before ≡ t → after ≡ with_call before after.call → after.call ≡ after_action before.code.instrs before.parents before.call b → b ≡ a
+    → after ≡ with_call t (after_action t.code.instrs t.parents t.call a)
 turned_by before t after b a same_turn same exact is =
     same ∙ ap (with_call before) exact
-    ∙ ap (λ d. with_call before (after_action before.code.instrs before.call d)) is
-    ∙ ap (λ u. with_call u (after_action u.code.instrs u.call a)) same_turn
+    ∙ ap (λ d. with_call before (after_action before.code.instrs before.parents before.call d)) is
+    ∙ ap (λ u. with_call u (after_action u.code.instrs u.parents u.call a)) same_turn

@@ -22,7 +22,7 @@ module _ (v : CoreValue) (now : TreeValue) (calls : List Call) (slots : List Ope
   pub segment_inside : (x : ℕ) → seg.stop ≡ stop.Lock x → x < length v.parents
   segment_inside x locks =
       let k = kept_with v now calls slots holders reserved capacity w c seg.from kept in
-      led_inside v now w.kept holders (length slots) reserved w.core c k.call k.there seg.to (subst (λ t. ComesByLocal t.code.instrs t.parents t.call seg.to) (sym k.turn) is.follows) x
+      led_inside v now w.kept holders (length slots) reserved w.core c k.call k.there seg.to (subst (λ t. ComesByLocal t.code.instrs t.call seg.to) (sym k.turn) is.follows) x
       (subst (λ t. Stops (with_call t seg.to) (stop.Lock x)) (sym k.turn) (subst (Stops (end_of seg)) locks is.stop))
 
   pub segment_slot : (x : ℕ) → seg.stop ≡ stop.Lock x → x < length holders
@@ -50,8 +50,8 @@ module _ (v : CoreValue) (now : TreeValue) (calls : List Call) (slots : List Ope
     pub same_code : turn2.code ≡ o.turn.code
     same_code = ap (λ t. t.code) at_end ∙ ap (λ t. t.code) (sym begins)
 
-    comes : ComesByLocal o.turn.code.instrs o.turn.parents o.turn.call seg.to
-    comes = subst (λ t. ComesByLocal t.code.instrs t.parents t.call seg.to) (sym begins) is.follows
+    comes : ComesByLocal o.turn.code.instrs o.turn.call seg.to
+    comes = subst (λ t. ComesByLocal t.code.instrs t.call seg.to) (sym begins) is.follows
 
     led_turn : with_call o.turn seg.to ≡ turn2
     led_turn = ap (λ t. with_call t seg.to) begins ∙ sym at_end

@@ -19,3 +19,4 @@ pub mod FollowAnswers
 pub mod KeptTurns
 pub mod LedCores
 pub mod DriveLemmas
+pub mod Submitted

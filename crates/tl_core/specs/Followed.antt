@@ -7,7 +7,7 @@ use Rattle.tl_tree_locking.specs.Holders.{holder_of}
 use Rattle.tl_tree_locking.specs.World.{next_of, reply_of}
 use Rattle.tl_machine.specs.BetweenSteps.{IsLocal}
 use Rattle.tl_machine.specs.Stopped.{after_action}
-use Rattle.tl_machine.specs.Turns.{TurnValue, SegmentValue, Stops, with_call}
+use Rattle.tl_machine.specs.Turns.{TurnValue, SegmentValue, LentValue, IsTurn, IsSegment, IsFrom, Stops, with_call}
 use Rattle.tl_machine.specs.declared.want.Stop.{Stop}
 use Rattle.tl_machine.specs.declared.want.Stop.TheVariants as stop
 use Rattle.tl_core.specs.declared.fault.CoreFault.{CoreFault}
@@ -17,8 +17,8 @@ use Rattle.tl_core.specs.declared.stepped.Stepped.TheVariants.{Moved}
 use Rattle.tl_core.specs.declared.stepped.Stepped.TheVariants as stepped
 use Rattle.tl_core.specs.declared.followed.Followed.{Followed}
 use Rattle.tl_core.specs.declared.followed.Followed.TheVariants.{Went, Blocked, Finished}
-use Rattle.tl_core.specs.declared.followed.Led.{Led}
-use Rattle.tl_core.specs.declared.followed.Led.TheVariants as led
+use Rattle.tl_core.specs.declared.followed.TurnOutcome.{TurnOutcome}
+use Rattle.tl_core.specs.declared.followed.TurnOutcome.TheVariants as outcome
 use Rattle.tl_core.specs.Cores.{CoreState, CoreValue, kept_turn, world_of}
 use Rattle.tl_core.specs.Entries.{step_answer, after_step}
 
@@ -76,7 +76,7 @@ pub record ReachesStop (before : CoreState) (c : ℕ) (s : Stop) (after : CoreSt
 -- the turn of a call that did something, and didn't end, is the one behind that action
 abbrev pub HasTurned : CoreState → ℕ → Stepped → CoreState → Type 0
 HasTurned v c s w = (a : Action) → s ≡ Moved a → a ≢ did.End → (t : TurnValue) → kept_turn v c ≡ Some t
-    → kept_turn w c ≡ Some (with_call t (after_action t.code.instrs t.call a))
+    → kept_turn w c ≡ Some (with_call t (after_action t.code.instrs t.parents t.call a))
 
 -- a step that isn't local: a lock, a free or an end, or nothing, where another call is in the way or this one is done
 abbrev pub IsNoLocal : Stepped → Type 0
@@ -113,24 +113,54 @@ IsFollowFault v c segment e =
     ((e ≡ fault.NoCall) × (admits v.seen.past ≤ c))
     ⊎ ((e ≡ fault.NotFrom) × (c < admits v.seen.past) × (kept_turn v c ≢ Some segment.from))
 
--- the same of a caller that keeps the segment: the call went on to that turn, or is done
-abbrev pub IsLedTo : CoreState → ℕ → SegmentValue → TurnValue → Led → CoreState → Type 0
-IsLedTo v c segment turn (led.Blocked x d) w = IsInTheWay v.seen segment.stop x d × (w ≡ v)
-IsLedTo v c segment turn led.Went w = HasGone v c segment w × (kept_turn w c ≡ Some turn)
-IsLedTo v c segment turn led.Finished w = HasGone v c segment w × (is_done c w.seen.past ≡ true)
+-- ---- a turn of a call that was lent
 
--- the fact, where the call has ended
-abbrev pub IfFinished : Led → Type 0 → Type 0
-IfFinished led.Finished P = P
-IfFinished led.Went P = Unit {0}
-IfFinished (led.Blocked x d) P = Unit {0}
+-- the call was lent where it is, and no instruction of it was done yet
+pub record IsLentOf (v : CoreState) (c : ℕ) (lent : LentValue) : Type 0 where
+  pub turn : TurnValue
+  pub kept : kept_turn v c ≡ Some turn
+  pub is_lent : lent ≡ record { code = turn.code; from = turn.call; to = turn.call }
+
+-- blocked where another call is in the way, and nothing is changed; else the call has done the segment's local actions and that of its
+-- stop, and goes on at a turn, or is done
+abbrev pub IsLedTo : CoreState → ℕ → SegmentValue → TurnValue → TurnOutcome → CoreState → Type 0
+IsLedTo v c segment turn (outcome.Blocked x d) w = IsInTheWay v.seen segment.stop x d × (w ≡ v)
+IsLedTo v c segment turn (outcome.Advanced s) w = HasGone v c segment w × (segment.stop ≡ s) × (kept_turn w c ≡ Some turn)
+IsLedTo v c segment turn outcome.Finished w = HasGone v c segment w × (segment.stop ≡ stop.Return) × (is_done c w.seen.past ≡ true)
+
+-- nobody is in the way of a call that wasn't blocked
+abbrev pub IsLedFreely : CoreState → SegmentValue → TurnOutcome → Type 0
+IsLedFreely v segment (outcome.Blocked x d) = Unit {0}
+IsLedFreely v segment o = (x d : ℕ) → IsInTheWay v.seen segment.stop x d → ⊥
 
 -- the fact, where the call is blocked
-abbrev pub IfBlocked : Led → Type 0 → Type 0
-IfBlocked (led.Blocked x d) P = P
-IfBlocked led.Went P = Unit {0}
-IfBlocked led.Finished P = Unit {0}
+abbrev pub IfBlocked : TurnOutcome → Type 0 → Type 0
+IfBlocked (outcome.Blocked x d) P = P
+IfBlocked (outcome.Advanced s) P = Unit {0}
+IfBlocked outcome.Finished P = Unit {0}
 
-abbrev pub IsLedFreely : CoreState → SegmentValue → Led → Type 0
-IsLedFreely v segment (led.Blocked x d) = Unit {0}
-IsLedFreely v segment led = (x d : ℕ) → IsInTheWay v.seen segment.stop x d → ⊥
+-- the fact, where the call has ended
+abbrev pub IfFinished : TurnOutcome → Type 0 → Type 0
+IfFinished outcome.Finished P = P
+IfFinished (outcome.Blocked x d) P = Unit {0}
+IfFinished (outcome.Advanced s) P = Unit {0}
+
+-- The segment begins at the turn that is kept of the call, which was lent, and leads to where the lent call was led. This came of it,
+-- and the lent call is behind it, where it goes on.
+pub record Submits (before : CoreState) (c : ℕ) (lent after_it : LentValue) (o : TurnOutcome) (after : CoreState) : Type 0 where
+  pub segment : SegmentValue
+  pub kept : kept_turn before c ≡ Some segment.from
+  pub is_from : IsFrom lent segment.from
+  pub to : segment.to ≡ lent.to
+  pub is_segment : IsSegment segment
+  pub led : IsLedTo before c segment (with_call segment.from after_it.to) o after
+  pub free : IsLedFreely before segment o
+  pub turn : IsTurn segment.from.code.instrs segment.from.parents after_it.to
+  pub same : after_it ≡ record lent { to = after_it.to }
+  pub stays : IfBlocked o (after_it ≡ lent)
+
+-- 602 where the call wasn't admitted, 607 where it wasn't lent from the turn that is kept of it
+abbrev pub IsLeadFault : CoreState → ℕ → LentValue → CoreFault → Type 0
+IsLeadFault v c lent e =
+    ((e ≡ fault.NoCall) × (admits v.seen.past ≤ c))
+    ⊎ ((e ≡ fault.NotFrom) × (c < admits v.seen.past) × ((t : TurnValue) → kept_turn v c ≡ Some t → IsFrom lent t → ⊥))

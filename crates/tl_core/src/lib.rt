@@ -5,15 +5,19 @@
 //! do to the tree is stored as a history. Its world is legal, whatever is asked of it.
 #![tactic(auto)]
 
+mod admission;
 mod call;
 mod fault;
 mod followed;
 mod interleaving;
 mod moves;
+mod readers;
+mod scheduler;
 mod stepped;
+mod submission;
 
 pub use fault::CoreFault;
-pub use followed::{Followed, Led};
+pub use followed::{Followed, TurnOutcome};
 pub use interleaving::{Core, MAX_OPEN};
 pub use moves::{Entry, Move};
 pub use stepped::Stepped;

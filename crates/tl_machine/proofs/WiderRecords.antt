@@ -1,8 +1,8 @@
 -- One call does on records with zeros behind them what it does without.
-use Rattle.std.proofs.Common.{◌≡◌, ℕ, zero, suc, ◌+◌, ◌<◌, List, [], ◌∷◌, ◌++◌, length, get_or, map, replicate, Option, Some, None, Bool, true, false, refl, sym, ap, ◌∙◌, subst, arith, ◌⊎◌, inl, inr}
+use Rattle.std.proofs.Common.{◌≡◌, ℕ, zero, suc, ◌+◌, ◌<◌, List, [], ◌∷◌, length, get_or, map, replicate, Option, Some, None, Bool, true, false, refl, sym, ap, ◌∙◌, subst, arith, inl, inr}
 use Rattle.std.specs.Prelude.{slice_get, slice_set, slice_index, nat_eq, nat_lt, ℤ, pos}
 use Rattle.std.proofs.lemmas.Bool.{cases_eq}
-use Rattle.std.proofs.lemmas.List.{length-map, length-set, map-set, get_or-map, get_or-set_same, get_or-set_other, get_or_append_left, set-append_left}
+use Rattle.std.proofs.lemmas.List.{length-set, map-set, get_or-map, get_or-set_same, get_or-set_other, get_or_append_left, set-append_left}
 use Rattle.tl_tree.specs.Records.{Record, Records, record_at, put_record}
 use Rattle.tl_tree.specs.Shape.{IsTree, kids}
 use Rattle.tl_instr.specs.declared.instr.Instr.{Instr}
@@ -20,7 +20,7 @@ use Rattle.tl_tree_locking.specs.Alone.{Outcome}
 use Rattle.tl_budget.specs.Loops.{Kind, Opens, Closes, Returns, Acts, kind, Loop, loop_at}
 use Rattle.tl_machine.specs.Runs.{Held, State, Run, Then, At, Ended, go_on, turn, turns, actions, last_state, emits_of}
 use Rattle.tl_machine.specs.Alone.{Step, effect, value, node, with_value, with_node, holding, checked, jump_if, first, child, lock, numbered, open_kid, act_by, act_at, block, turn_count, start, alone}
-use Rattle.tl_machine.specs.Outcomes.{outcome_of, meaning}
+use Rattle.tl_machine.specs.Outcomes.{meaning}
 use Rattle.tl_machine.specs.Widths.{with_zeros, HasWidth, NamesBelow, TellsWidth, KeepsWidth, action_with_zeros, outcome_with_zeros}
 use Rattle.tl_machine.proofs.Slots.{after_set}
 use Rattle.tl_machine.proofs.Children.{is_kid}

@@ -36,7 +36,8 @@ fn run(procedure: &Proc, mut call: CallState, tree: &mut Tree) -> Answer
     ensures tree { tree.new ≡ record tree.old { records = (outcome_of (run_left procedure.now.instrs tree.old.parents call tree.old.records)).tree } }
 {
     loop {
-        match call.run_local(procedure, tree.shape()) {
+        let pending = call.run_local(procedure);
+        match call.stop_at(procedure, tree.shape(), pending) {
             Stop::Lock(node) => {
                 let found = tree.record_at(node);
                 call.lock(procedure, tree.shape(), node, found);

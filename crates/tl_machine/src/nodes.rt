@@ -5,11 +5,10 @@ ghost use Rattle.tl_instr.specs.declared.instr.Instr.TheVariants as instr;
 ghost use Rattle.tl_tree.specs.Records.{Records};
 ghost use Rattle.tl_machine.specs.Alone.{effect};
 ghost use Rattle.tl_machine.specs.declared.call.HeldNode.{HeldNode as HeldNode'};
-ghost use Rattle.tl_machine.specs.Call.{in_tree, held_view, Distinct, AreIn, IsHeld, Takes, MayGoOn, with_control};
+ghost use Rattle.tl_machine.specs.Call.{in_tree, held_view, Distinct, AreIn, AreCounted, IsHeld, Takes, MayGoOn, with_control};
 
 use crate::call::{CallState, Control};
 use tl_instr::{Field, NodeRegister, ValueRegister};
-use tl_tree::Shape;
 use tl_tree_locking::Action;
 
 /// `get`
@@ -70,22 +69,15 @@ pub fn put(
 
 /// `kids`
 #[inline(always)]
-pub fn kids(
-    call: &mut CallState,
-    at: &mut Control,
-    shape: &Shape,
-    to: ValueRegister,
-    node: NodeRegister,
-) -> Action
+pub fn kids(call: &mut CallState, at: &mut Control, to: ValueRegister, node: NodeRegister) -> Action
     requires node { (h : HeldNode') × IsHeld call.old.nodes node h }
-    requires inside { AreIn (length shape.now) (held_view call.old.nodes) }
     requires on { MayGoOn (with_control call.old at.old) }
-    ensures { (t : Records) → Takes (effect shape.now (instr.Kids to node) at.old.position (in_tree call.old t)) (with_control call.old at.old) result (with_control call.new at.new) t }
+    ensures { (parents : List ℕ) (t : Records) → AreCounted parents call.old.nodes → Takes (effect parents (instr.Kids to node) at.old.position (in_tree call.old t)) (with_control call.old at.old) result (with_control call.new at.new) t }
 {
     let Some(held) = &call.nodes[node.index()] else {
         unreachable!()
     };
-    call.values[to.index()] = i64::from(shape.kids(held.node));
+    call.values[to.index()] = i64::from(held.child_count);
     at.go_to(at.position + 1);
     Action::Plain
 }

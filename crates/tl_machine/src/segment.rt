@@ -1,14 +1,16 @@
 // What a call does by itself.
 
 ghost use Rattle.std.specs.Prelude.{◌≡◌};
-ghost use Rattle.tl_machine.specs.Turns.{IsTurn, IsSegment, Stops, ComesByLocal, with_call, end_of};
+ghost use Rattle.std.specs.Arc.{arc_value};
+ghost use Rattle.tl_machine.specs.Turns.{IsSegment, HasRun, end_of};
 
 use crate::call::CallState;
+use crate::lent::LentTurn;
 use crate::turn::Turn;
 use crate::want::Stop;
 use std::marker::Model;
+use std::sync::Arc;
 use tl_tree::Shape;
-use tl_verify::Proc;
 
 /// The local instructions that a call did in a row: the turn from which it did them, the state to which they led, and where
 /// it stops then. By its type the state comes from the turn's by local instructions. Only `local` makes one.
@@ -62,6 +64,18 @@ impl Segment {
         (self.from, self.to, self.stop)
     }
 
+    /// The call as a worker has it that has done them, and the shape.
+    pub fn into_lent(self) -> (LentTurn, Arc<Shape>)
+        ensures lent { result.0 ≡ record { code = self.from.code; from = self.from.call; to = self.to } }
+        ensures shape { arc_value result.1 ≡ self.from.parents }
+        ensures run { HasRun result.0 }
+        ensures segment { IsSegment self }
+    {
+        let (procedure, shape, from) = self.from.into_parts();
+        let lent = LentTurn::new(procedure, &shape, &from, &self.to);
+        (lent, shape)
+    }
+
     /// The turn behind the last of them, on the procedure and the shape of the first. Takes no memory.
     pub fn into_turn(self) -> Turn
         ensures turn { result ≡ end_of self }
@@ -73,40 +87,16 @@ impl Segment {
     }
 }
 
-impl Turn {
-    /// Does the call's local instructions at a second state, which is where the turn is, and answers where the call stops then.
-    /// So whoever takes turn after turn moves no turn. Takes no memory.
-    pub fn run_on(&self, state: &mut CallState) -> Stop
-        requires { state.old ≡ self.now.call }
-        ensures { IsSegment (record { from = self.now; to = state.new; stop = result }) }
-    {
-        // What is so of the turn's state: here a proof learns that.
-        let _call = self.call();
-        do_local(state, self.procedure(), self.shape())
-    }
-}
-
 /// Does a call's local instructions from where it stands, up to the first that isn't local. Takes no memory.
 pub fn local(turn: Turn) -> Segment
     ensures { result.from ≡ turn }
 {
     let mut to = *turn.call();
-    let stop = turn.run_on(&mut to);
+    let pending = to.run_local(turn.procedure());
+    let stop = to.stop_at(turn.procedure(), turn.shape(), pending);
     Segment {
         from: turn,
         to,
         stop,
     }
-}
-
-// Does the local instructions of a state, and says where the call stops then. This loop is a function of its own: in a caller that
-// copies whole states its position and its count didn't stay in registers.
-#[inline(never)]
-fn do_local(state: &mut CallState, procedure: &Proc, shape: &Shape) -> Stop
-    requires { IsTurn procedure.now.instrs shape.now state.old }
-    ensures turn { IsTurn procedure.now.instrs shape.now state.new }
-    ensures follows { ComesByLocal procedure.now.instrs shape.now state.old state.new }
-    ensures stop { Stops (record { code = procedure.now; parents = shape.now; call = state.new }) result }
-{
-    state.run_local(procedure, shape)
 }

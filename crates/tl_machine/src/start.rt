@@ -17,9 +17,8 @@ pub fn at_start(procedure: &Proc, shape: &Shape, args: &[i64]) -> CallState
     ensures start { IsStart args.now result }
     ensures stands { IsBetweenSteps procedure.now.instrs shape.now result }
 {
-    // The code was accepted, and the shape is a tree's by its type: here a proof learns that.
+    // The code was accepted: here a proof learns that.
     let _code = procedure.code();
-    let _node_count = shape.node_count();
     let mut values = [0; VALUE_REGISTERS];
     values[..args.len()].copy_from_slice(args);
     CallState {
@@ -27,6 +26,7 @@ pub fn at_start(procedure: &Proc, shape: &Shape, args: &[i64]) -> CallState
         is_over: false,
         emit_count: 0,
         steps: 0,
+        node_count: shape.node_count(),
         counters: [0; MAX_DEPTH],
         values,
         nodes: [None; NODE_REGISTERS],

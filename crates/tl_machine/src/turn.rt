@@ -2,19 +2,19 @@
 
 ghost use Rattle.std.specs.Prelude.{◌≡◌, ◌≢◌, ◌↔◌, ℕ, List, [], length, take, IsTrue, IsOk, IfOk};
 ghost use Rattle.std.specs.Arc.{arc_value};
-ghost use Rattle.tl_tree.specs.Records.{Record as RecordValue, Records, record_at, put_record};
-ghost use Rattle.tl_tree_locking.specs.declared.action.Action.TheVariants as did;
+ghost use Rattle.tl_tree.specs.Records.{Records, record_at, put_record};
 ghost use Rattle.tl_machine.specs.Runs.{Then, Ended};
 ghost use Rattle.tl_machine.specs.Alone.{alone as run_alone};
 ghost use Rattle.tl_machine.specs.Call.{in_tree, reply_so_far};
 ghost use Rattle.tl_machine.specs.BetweenSteps.{Steps, Locks, Frees, Ends};
-ghost use Rattle.tl_machine.specs.Stopped.{after_lock, after_free, after_action};
+ghost use Rattle.tl_machine.specs.Stopped.{after_lock, after_free};
 ghost use Rattle.tl_machine.specs.Turns.{IsTurn, IsSegment, Wants, Stops, IfDid, IfStopped, left_of, with_call};
 ghost use Rattle.tl_machine.specs.declared.want.Want.TheVariants as want;
 ghost use Rattle.tl_machine.specs.declared.want.Stop.TheVariants as stop;
 
 use crate::call::CallState;
 use crate::fault::WrongArgs;
+use crate::lent::LentTurn;
 use crate::reply::Reply;
 use crate::start;
 use crate::want::{Advance, Stop, Want};
@@ -80,6 +80,26 @@ impl Turn {
         }
     }
 
+    // A call at this state.
+    pub(crate) fn at(procedure: Arc<Proc>, shape: Arc<Shape>, call: &CallState) -> Turn
+        requires { IsTurn (arc_value procedure).instrs (arc_value shape) call.now }
+        ensures { result ≡ record { code = arc_value procedure; parents = arc_value shape; call = call.now } }
+    {
+        Turn {
+            procedure,
+            shape,
+            call: *call,
+        }
+    }
+
+    // The call's procedure and shape, and its state.
+    pub(crate) fn into_parts(self) -> (Arc<Proc>, Arc<Shape>, CallState)
+        ensures parts { record { code = arc_value result.0; parents = arc_value result.1; call = result.2 } ≡ self }
+        ensures turn { IsTurn self.code.instrs self.parents self.call }
+    {
+        (self.procedure, self.shape, self.call)
+    }
+
     /// A call that is done. Takes no memory.
     pub fn over(procedure: Arc<Proc>, shape: Arc<Shape>) -> Turn
         ensures code { result.code ≡ arc_value procedure }
@@ -111,7 +131,7 @@ impl Turn {
     pub fn is(&self, other: &Turn) -> bool
         ensures { IsTrue result ↔ (self.now ≡ other.now) }
     {
-        self.call == other.call && self.is_alike(other)
+        self.call.is(&other.call) && self.is_alike(other)
     }
 
     // Whether both are of one code on trees of one shape.
@@ -121,23 +141,11 @@ impl Turn {
         self.procedure.is(&other.procedure) && self.shape.is(&other.shape)
     }
 
-    /// Goes where the other is, which is a turn of the same code on trees of the same shape. Takes no memory.
-    pub fn follow(&mut self, other: &Turn)
-        requires code { self.old.code ≡ other.now.code }
-        requires parents { self.old.parents ≡ other.now.parents }
-        ensures { self.new ≡ other.now }
-    {
-        self.call = other.call;
-    }
-
     /// What the next instruction needs.
     pub fn want(&self) -> Want
         ensures { Wants self.now result }
     {
-        if self.call.is_over {
-            return Want::Stop(Stop::Over);
-        }
-        self.call.next_want(&self.procedure, &self.shape)
+        self.call.want(&self.procedure, &self.shape)
     }
 
     /// Does the next instruction, if it is local. Else it says where the call stops, and changes nothing.
@@ -148,7 +156,12 @@ impl Turn {
         ensures stops { IfStopped result (Stops self.old) }
         ensures unchanged { IfStopped result (λ _. self.new ≡ self.old) }
     {
-        self.call.advance(&self.procedure, &self.shape)
+        match self.call.advance(&self.procedure) {
+            Ok(action) => Advance::Did(action),
+            Err(pending) => {
+                Advance::Stopped(self.call.stop_at(&self.procedure, &self.shape, pending))
+            }
+        }
     }
 
     /// Does the next instruction, which is local.
@@ -157,9 +170,9 @@ impl Turn {
         ensures same { self.new ≡ with_call self.old self.new.call }
         ensures steps { Steps self.old.code.instrs self.old.parents self.old.call result self.new.call }
     {
-        match self.call.advance(&self.procedure, &self.shape) {
-            Advance::Did(action) => action,
-            Advance::Stopped(_) => unreachable!(),
+        match self.call.advance(&self.procedure) {
+            Ok(action) => action,
+            Err(_) => unreachable!(),
         }
     }
 
@@ -169,7 +182,16 @@ impl Turn {
         ensures same { self.new ≡ with_call self.old self.new.call }
         ensures segment { IsSegment (record { from = self.old; to = self.new.call; stop = result }) }
     {
-        self.call.run_local(&self.procedure, &self.shape)
+        let pending = self.call.run_local(&self.procedure);
+        self.call.stop_at(&self.procedure, &self.shape, pending)
+    }
+
+    /// The call as a worker has it, who does its local instructions elsewhere.
+    pub fn lend(&self) -> Result<LentTurn, AllocError>
+        ensures { IfOk result (λ l. l ≡ record { code = self.now.code; from = self.now.call; to = self.now.call }) }
+    {
+        let procedure = Arc::try_clone(&self.procedure)?;
+        Ok(LentTurn::new(procedure, &self.shape, &self.call, &self.call))
     }
 
     /// Locks the node that the next instruction locks, which has this record.
@@ -193,7 +215,7 @@ impl Turn {
         requires { Stops self.old (stop.Lock node) }
         ensures same { self.new ≡ with_call self.old self.new.call }
         ensures locks { Locks self.old.code.instrs self.old.parents self.old.call node found self.new.call }
-        ensures exact { self.new.call ≡ after_lock self.old.code.instrs self.old.call node found }
+        ensures exact { self.new.call ≡ after_lock self.old.code.instrs self.old.parents self.old.call node found }
     {
         self.call.lock(&self.procedure, &self.shape, node, found);
     }
@@ -206,25 +228,6 @@ impl Turn {
         ensures exact { self.new.call ≡ after_free self.old.code.instrs self.old.call }
     {
         self.call.free(&self.procedure, &self.shape)
-    }
-
-    /// Does the lock or the free of this action at a state of the same call that stops there, in place; where the action is
-    /// another, the state stays as it is. So whoever holds a second state of a call that did the action needn't copy the first.
-    #[inline(always)]
-    pub fn repeat(&self, state: &mut CallState, action: &Action)
-        requires turn { IsTurn self.now.code.instrs self.now.parents state.old }
-        requires lock { (x : ℕ) (found : RecordValue) → action.now ≡ did.Lock x found → Stops (with_call self.now state.old) (stop.Lock x) }
-        requires free { (x : ℕ) (left : RecordValue) → action.now ≡ did.Free x left → Stops (with_call self.now state.old) (stop.Free x) }
-        ensures turn { IsTurn self.now.code.instrs self.now.parents state.new }
-        ensures exact { state.new ≡ after_action self.now.code.instrs state.old action.now }
-    {
-        match *action {
-            Action::Lock { node, found } => state.lock(&self.procedure, &self.shape, node, found),
-            Action::Free { .. } => {
-                let _left = state.free(&self.procedure, &self.shape);
-            }
-            _ => {}
-        }
     }
 
     /// Ends the call, and gives the values that it emitted.

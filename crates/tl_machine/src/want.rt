@@ -1,5 +1,9 @@
 // Where a call stands before its next instruction, and what came of going on.
 
+ghost use Rattle.std.specs.Prelude.{◌≡◌};
+ghost use Rattle.tl_machine.specs.BetweenSteps.{stop_on, IsThere};
+
+use tl_tree::Shape;
 use tl_tree_locking::Action;
 
 /// An instruction that a call can't do by itself, and why it stops there.
@@ -13,6 +17,29 @@ pub enum Stop {
     Return,
     /// There is none: the call is done.
     Over,
+}
+
+/// Where a call stops, as far as it is known without the tree's shape.
+#[derive(Clone, Copy, Debug)]
+pub(crate) enum Pending {
+    /// There, on each shape.
+    Known(Stop),
+    /// At the lock of the child of that number.
+    Child { parent: u16, number: u16 },
+}
+
+impl Pending {
+    // Where the call stops on trees of the shape.
+    #[inline(always)]
+    pub(crate) fn on(self, shape: &Shape) -> Stop
+        requires { IsThere shape.now self }
+        ensures { result ≡ stop_on shape.now self }
+    {
+        match self {
+            Pending::Known(stop) => stop,
+            Pending::Child { parent, number } => Stop::Lock(shape.kid(parent, number)),
+        }
+    }
 }
 
 /// What must happen before a call's next instruction.

@@ -12,9 +12,9 @@ ghost use Rattle.tl_procedures.specs.Names.{naming_refusal};
 ghost use Rattle.tl_procedures.specs.declared.fault.NamingFault.TheVariants as naming;
 ghost use Rattle.tl_core.specs.Cores.{CoreState, world_of, opened_after, IsSealFault, done_by, kept_turn, IsLeastUnfinished};
 ghost use Rattle.tl_core.specs.Entries.{step_answer, after_step, admission_refusal, after_admission, part_of_run, entry_of, IsBlocked};
-ghost use Rattle.tl_core.specs.Followed.{IsLedTo, IsLedFreely, IfFinished, IfBlocked, IsFollowed, HasGone, IsUnhindered, IsFollowFault, EndsStop, Proceeds};
+ghost use Rattle.tl_core.specs.Followed.{IsLedTo, Submits, IfFinished, IsLeadFault, IsFollowed, HasGone, IsUnhindered, IsFollowFault, EndsStop, Proceeds};
 ghost use Rattle.tl_core.specs.declared.stepped.Stepped.TheVariants.{Moved};
-ghost use Rattle.tl_machine.specs.Turns.{TurnValue, SegmentValue, IsTurn, IsSegment, segment_of, with_call};
+ghost use Rattle.tl_machine.specs.Turns.{TurnValue, SegmentValue, HasRun};
 ghost use Rattle.tl_core.specs.declared.fault.CoreFault.TheVariants as fault;
 ghost use Rattle.tl_machine.specs.BetweenSteps.{IsLocal};
 ghost use Rattle.tl_serial_order.specs.Kept.{IsOfSize, IsKept};
@@ -23,9 +23,9 @@ ghost use Rattle.tl_history.specs.declared.history.TheConstants.{MAX_CALLS};
 
 use std::alloc::{AllocError, Global};
 use std::marker::Model;
-use tl_core::{Core, CoreFault, Followed, Led, Stepped};
+use tl_core::{Core, CoreFault, Followed, Stepped, TurnOutcome};
 use tl_history::MAX_CALLS;
-use tl_machine::{CallState, Segment, Stop, Turn};
+use tl_machine::{LentTurn, Segment, Stop};
 use tl_procedures::NamingFault;
 use tl_serial_order::{KeptOrder, Order, SerialFault};
 use tl_tree::Shape;
@@ -182,44 +182,28 @@ impl Running {
         ensures fault { IfErr result (λ e. IsFollowFault self.old call segment e) }
         ensures err { OnErr result (self.new ≡ self.old) }
     {
-        let (mut turn, mut state, stop) = segment.into_parts();
-        match self.lead(call, &turn, &mut state, stop)? {
-            Led::Went => {
-                turn.put_at(&state);
-                Ok(Followed::Went(turn))
+        let stop = segment.stop();
+        let followed = self.core.follow(call, segment);
+        if let Ok(outcome) = &followed {
+            if has_gone(outcome) {
+                take_up(&mut self.order, &self.core, call, stop);
             }
-            Led::Blocked { node, holder } => Ok(Followed::Blocked { node, holder }),
-            Led::Finished => match self.core.reply(call) {
-                Some(reply) => Ok(Followed::Finished(reply.copy())),
-                // A call that has ended has replied.
-                None => unreachable!(),
-            },
         }
+        followed
     }
 
-    /// The same for a caller that keeps the parts of a segment, as the core does: 602, 607. Takes no memory.
-    pub fn lead(
-        &mut self,
-        call: u32,
-        from: &Turn,
-        state: &mut CallState,
-        stop: Stop,
-    ) -> Result<Led, CoreFault>
-        requires { IsSegment (segment_of from.now state.old stop) }
-        ensures turn { IsTurn from.now.code.instrs from.now.parents state.new }
-        ensures blocked { IfOk result (λ l. IfBlocked l (state.new ≡ state.old)) }
-        ensures stays { OnErr result (state.new ≡ state.old) }
-        ensures from { IfOk result (λ _. kept_turn self.old call ≡ Some from.now) }
-        ensures known { IfOk result (λ l. IfFinished l (call < length self.new.seen.calls)) }
-        ensures followed { IfOk result (λ l. IsLedTo self.old call (segment_of from.now state.old stop) (with_call from.now state.new) l self.new) }
-        ensures unhindered { IfOk result (λ l. IsLedFreely self.old (segment_of from.now state.old stop) l) }
+    /// Does a turn of a call that was lent, as the core does: 602, 607. Takes no memory.
+    pub fn lead(&mut self, call: u32, lent: &mut LentTurn) -> Result<TurnOutcome, CoreFault>
+        requires { HasRun lent.old }
+        ensures ok { IfOk result (λ o. Submits self.old call lent.old lent.new o self.new) }
+        ensures known { IfOk result (λ o. IfFinished o (call < length self.new.seen.calls)) }
         ensures turns { (c : ℕ) → c ≢ call → kept_turn self.new c ≡ kept_turn self.old c }
-        ensures fault { IfErr result (λ e. IsFollowFault self.old call (segment_of from.now state.old stop) e) }
-        ensures err { OnErr result (self.new ≡ self.old) }
+        ensures fault { IfErr result (λ e. IsLeadFault self.old call lent.old e) }
+        ensures err { OnErr result ((self.new ≡ self.old) × (lent.new ≡ lent.old)) }
     {
-        let led = self.core.lead(call, from, state, stop);
+        let led = self.core.lead(call, lent);
         if let Ok(outcome) = &led {
-            if has_gone(*outcome) {
+            if let Some(stop) = stop_behind(*outcome) {
                 take_up(&mut self.order, &self.core, call, stop);
             }
         }
@@ -287,17 +271,29 @@ fn stop_passed(stepped: &Result<Stepped, CoreFault>) -> Option<Stop>
     }
 }
 
-// Whether the call did what the segment ends with.
-fn has_gone(outcome: Led) -> bool
-    ensures gone { (v w : CoreState) (c : ℕ) (segment : SegmentValue) (turn : TurnValue) → IsLedTo v c segment turn outcome w
-        → result ≡ true → HasGone v c segment w }
-    ensures blocked { (v w : CoreState) (c : ℕ) (segment : SegmentValue) (turn : TurnValue) → IsLedTo v c segment turn outcome w
-        → result ≡ false → w ≡ v }
+// The stop that a call passed, if it went on.
+fn stop_behind(outcome: TurnOutcome) -> Option<Stop>
+    ensures some { IfSome result (λ s. (v w : CoreState) (c : ℕ) (segment : SegmentValue) (turn : TurnValue) → IsLedTo v c segment turn outcome w
+        → HasGone v c segment w × (segment.stop ≡ s)) }
+    ensures none { IsNone result → (v w : CoreState) (c : ℕ) (segment : SegmentValue) (turn : TurnValue) → IsLedTo v c segment turn outcome w
+        → w ≡ v }
 {
     match outcome {
-        Led::Went => true,
-        Led::Finished => true,
-        Led::Blocked { .. } => false,
+        TurnOutcome::Advanced { stop } => Some(stop),
+        TurnOutcome::Finished => Some(Stop::Return),
+        TurnOutcome::Blocked { .. } => None,
+    }
+}
+
+// Whether the call did what the segment ends with.
+fn has_gone(outcome: &Followed) -> bool
+    ensures gone { (v w : CoreState) (c : ℕ) (segment : SegmentValue) → IsFollowed v c segment outcome.now w → result ≡ true → HasGone v c segment w }
+    ensures blocked { (v w : CoreState) (c : ℕ) (segment : SegmentValue) → IsFollowed v c segment outcome.now w → result ≡ false → w ≡ v }
+{
+    match outcome {
+        Followed::Went(_) => true,
+        Followed::Finished(_) => true,
+        Followed::Blocked { .. } => false,
     }
 }
 

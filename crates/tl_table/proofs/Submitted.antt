@@ -14,7 +14,12 @@ use Rattle.tl_machine.specs.declared.want.Stop.{Stop}
 use Rattle.tl_core.specs.declared.stepped.Stepped.TheVariants.{Moved}
 use Rattle.tl_core.specs.Cores.{CoreState, CoreValue}
 use Rattle.tl_core.specs.Entries.{after_step}
-use Rattle.tl_core.specs.Followed.{Goes, EachLocal, EndsStop, HasGone}
+use Rattle.tl_core.specs.declared.fault.CoreFault.{CoreFault}
+use Rattle.tl_core.specs.declared.fault.CoreFault.TheVariants as core_fault
+use Rattle.tl_core.specs.Followed.{Goes, EachLocal, EndsStop, HasGone, IsFollowFault}
+use Rattle.tl_table.specs.declared.fault.TableFault.{TableFault}
+use Rattle.tl_table.specs.declared.fault.TableFault.TheVariants as fault
+use Rattle.tl_table.specs.Sent.{IsSubmitFault}
 use Rattle.tl_table.specs.Ends.{begun_by_end}
 use Rattle.tl_table.specs.Epochs.{EpochValue, seen, IsKnown}
 use Rattle.tl_table.specs.Stored.{IsEpoch}
@@ -142,3 +147,11 @@ table_finished t begun ro rb h w c later known_c counted was_open done_c n n_is 
       begun_fit = subst (λ k. MAX_CALLS ≤ k) (sym s_is) h.begun_fit;
     })
     later.passes
+
+-- a core's refusal of a segment, as the table tells it
+pub submit_fault : (t : EpochValue) (c : ℕ) (seg : SegmentValue) (e : CoreFault) (f : TableFault) → length (seen t).calls ≡ admits (seen t).past
+    → (e ≡ core_fault.NotFrom → f ≡ fault.Stale) → (e ≢ core_fault.NotFrom → f ≡ fault.Core e) → IsFollowFault t.core c seg e → IsSubmitFault t c seg f
+submit_fault t c seg e f counted stale other (inl unknown) =
+    let unlike : e ≢ core_fault.NotFrom = λ same. let a : core_fault.NoCall ≡ core_fault.NotFrom = sym unknown.0 ∙ same in cc in
+    inl (other unlike ∙ ap (λ g. fault.Core g) unknown.0, let le = unknown.1 in omega arith)
+submit_fault t c seg e f counted stale other (inr elsewhere) = inr (stale elsewhere.0, let lt = elsewhere.1 in omega arith, elsewhere.2)

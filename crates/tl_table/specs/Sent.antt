@@ -1,7 +1,6 @@
 -- What comes of a segment that is submitted to a table.
-use Rattle.std.specs.Prelude.{◌≡◌, ◌≢◌, ℕ, ◌≤◌, ◌⊎◌, Some, length, true}
-use Rattle.tl_tree_locking.specs.History.{is_done}
-use Rattle.tl_machine.specs.Turns.{TurnValue, SegmentValue}
+use Rattle.std.specs.Prelude.{◌≡◌, ◌≢◌, ℕ, ◌≤◌, ◌⊎◌, Some, length}
+use Rattle.tl_machine.specs.Turns.{TurnValue, SegmentValue, LentValue, IsFrom}
 use Rattle.tl_core.specs.declared.fault.CoreFault.TheVariants.{NoCall}
 use Rattle.tl_core.specs.Cores.{kept_turn}
 use Rattle.tl_core.specs.Followed.{HasGone, IsInTheWay}
@@ -9,8 +8,6 @@ use Rattle.tl_table.specs.declared.fault.TableFault.{TableFault}
 use Rattle.tl_table.specs.declared.fault.TableFault.TheVariants as fault
 use Rattle.tl_table.specs.declared.receipt.Sent.{Sent}
 use Rattle.tl_table.specs.declared.receipt.Sent.TheVariants.{Went, Blocked, Finished}
-use Rattle.tl_table.specs.declared.receipt.Outcome.{Outcome}
-use Rattle.tl_table.specs.declared.receipt.Outcome.TheVariants as outcome
 use Rattle.tl_table.specs.Epochs.{EpochValue, seen, IsKnown, Stands}
 
 -- blocked where another call is in the way, and nothing is changed; else the call has done the segment's local actions and
@@ -36,12 +33,8 @@ IsSubmitFault t c segment e =
     ((e ≡ fault.Core NoCall) × (length (seen t).calls ≤ c))
     ⊎ ((e ≡ fault.Stale) × IsKnown t c × (kept_turn t.core c ≢ Some segment.from))
 
--- the same of a caller that keeps the segment: the call went on to that turn, or is done
-abbrev pub IsSentTo : EpochValue → ℕ → SegmentValue → TurnValue → Outcome → EpochValue → Type 0
-IsSentTo t c segment turn outcome.Went u = HasGone t.core c segment u.core × (kept_turn u.core c ≡ Some turn)
-IsSentTo t c segment turn outcome.Blocked u = ((x : ℕ) × (d : ℕ) × IsInTheWay (seen t) segment.stop x d) × (u ≡ t)
-IsSentTo t c segment turn outcome.Finished u = HasGone t.core c segment u.core × (is_done c (seen u).past ≡ true) × IsKnown u c
-
-abbrev pub IsSentFreely : EpochValue → SegmentValue → Outcome → Type 0
-IsSentFreely t segment outcome.Blocked = Unit {0}
-IsSentFreely t segment _ = (x d : ℕ) → IsInTheWay (seen t) segment.stop x d → ⊥
+-- 602 where the call wasn't admitted, 801 where it wasn't lent from the turn that is kept of it
+abbrev pub IsLeadFault : EpochValue → ℕ → LentValue → TableFault → Type 0
+IsLeadFault t c lent e =
+    ((e ≡ fault.Core NoCall) × (length (seen t).calls ≤ c))
+    ⊎ ((e ≡ fault.Stale) × IsKnown t c × ((turn : TurnValue) → kept_turn t.core c ≡ Some turn → IsFrom lent turn → ⊥))

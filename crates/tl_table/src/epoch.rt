@@ -10,24 +10,24 @@ ghost use Rattle.tl_procedures.specs.declared.fault.NamingFault.TheVariants as n
 ghost use Rattle.tl_procedures.specs.declared.procedures.TheConstants.{MAX_NAME};
 ghost use Rattle.tl_core.specs.declared.fault.CoreFault.TheVariants as core_fault;
 ghost use Rattle.tl_tree_locking.specs.World.{reply_of};
-ghost use Rattle.tl_machine.specs.Turns.{IsTurn, IsSegment, Stops, segment_of, with_call};
+ghost use Rattle.tl_machine.specs.Turns.{HasRun, Stops};
 ghost use Rattle.tl_machine.specs.declared.want.Stop.TheVariants as stop;
 ghost use Rattle.tl_core.specs.Cores.{kept_turn, world_of};
 ghost use Rattle.tl_table.specs.declared.fault.TableFault.TheVariants as fault;
-ghost use Rattle.tl_table.specs.declared.receipt.Outcome.TheVariants as outcome;
+ghost use Rattle.tl_core.specs.Followed.{IsLentOf, Submits, IfBlocked, IfFinished};
 ghost use Rattle.tl_table.specs.Ends.{begun_by_end};
 ghost use Rattle.tl_table.specs.declared.epoch.TheConstants.{MAX_EPOCHS, MAX_SESSIONS};
 ghost use Rattle.tl_table.specs.Epochs.{seen, Stands, IsAtRest, IsKnown, AreOwned, IsEpochSealFault, GoesOn, epoch_after, table_refusal, IsAdmittedTo};
-ghost use Rattle.tl_table.specs.Sent.{IsSentTo, IsSentFreely, IsSent, IsUnblocked, IsSubmitFault, IsOfCall};
+ghost use Rattle.tl_table.specs.Sent.{IsSent, IsUnblocked, IsSubmitFault, IsLeadFault, IsOfCall};
 
 use crate::fault::TableFault;
-use crate::receipt::{Outcome, Receipt, Sent};
+use crate::receipt::{Receipt, Sent};
 use arrayvec::ArrayVec;
 use std::alloc::Global;
 use std::marker::Model;
-use tl_core::{Core, CoreFault, Led};
+use tl_core::{Core, CoreFault, TurnOutcome};
 use tl_history::MAX_CALLS;
-use tl_machine::{CallState, Reply, Segment, Stop, Turn};
+use tl_machine::{LentTurn, Reply, Segment, Turn};
 use tl_procedures::NamingFault;
 use tl_serial::Running;
 use tl_serial_order::Order;
@@ -277,14 +277,16 @@ impl Epoch {
         ensures fault { IfErr result (λ e. IsSubmitFault self.old call segment e) }
         ensures err { OnErr result (self.new ≡ self.old) }
     {
-        let (mut turn, mut state, stop) = segment.into_parts();
-        match self.lead(call, &turn, &mut state, stop)? {
-            Outcome::Went => {
-                turn.put_at(&state);
-                Ok(Sent::Went(turn))
-            }
-            Outcome::Blocked => Ok(Sent::Blocked),
-            Outcome::Finished => match self.receipt_of(call) {
+        // The calls are those that were admitted: here a proof learns that.
+        let _calls = self.running.core().calls();
+        let (mut lent, shape) = match self.running.core().taken(call, segment) {
+            Ok(taken) => taken,
+            Err(fault) => return Err(fault_of(fault)),
+        };
+        match self.lead(call, &mut lent)? {
+            TurnOutcome::Advanced { .. } => Ok(Sent::Went(lent.into_turn(shape))),
+            TurnOutcome::Blocked { .. } => Ok(Sent::Blocked),
+            TurnOutcome::Finished => match self.receipt_of(call) {
                 Some(receipt) => Ok(Sent::Finished(receipt)),
                 // A call that has ended has its receipt.
                 None => unreachable!(),
@@ -292,41 +294,50 @@ impl Epoch {
         }
     }
 
-    /// The same for a caller that keeps the parts of a segment: the turn where it begins, the state to which it led, and where the
-    /// call stops there. Where the call went, the state is the one behind the stop; else it stays. 602, 801. Takes no memory.
-    pub fn lead(
-        &mut self,
-        call: u32,
-        from: &Turn,
-        state: &mut CallState,
-        stop: Stop,
-    ) -> Result<Outcome, TableFault>
-        requires { IsSegment (segment_of from.now state.old stop) }
-        ensures turn { IsTurn from.now.code.instrs from.now.parents state.new }
-        ensures blocked { IfOk result (λ o. o ≡ outcome.Blocked → state.new ≡ state.old) }
-        ensures stays { OnErr result (state.new ≡ state.old) }
-        ensures from { IfOk result (λ _. kept_turn self.old.core call ≡ Some from.now) }
-        ensures sent { IfOk result (λ o. IsSentTo self.old call (segment_of from.now state.old stop) (with_call from.now state.new) o self.new) }
-        ensures unhindered { IfOk result (λ o. IsSentFreely self.old (segment_of from.now state.old stop) o) }
+    /// The call as it is lent to whoever does its local instructions; none of a call that is done. 602 where no call of that number
+    /// was admitted; else 890 where memory is refused.
+    pub fn lend(&self, call: u32) -> Result<Option<LentTurn>, TableFault>
+        ensures known { IfOk result (λ _. IsKnown self.now call) }
+        ensures lent { IfOk result (λ o. MatchOption o (is_done call (seen self.now).past ≡ true) (λ l. IsLentOf self.now.core call l)) }
+        ensures fault { IfErr result (λ e. e ≢ fault.Memory → (e ≡ fault.Core core_fault.NoCall) × (length (seen self.now).calls ≤ call)) }
+        ensures memory { IfErr result (λ e. e ≡ fault.Memory → IsKnown self.now call) }
+    {
+        // The calls are those that were admitted: here a proof learns that.
+        let _calls = self.running.core().calls();
+        match self.running.core().lend(call) {
+            Ok(lent) => Ok(lent),
+            Err(CoreFault::Memory) => Err(TableFault::Memory),
+            Err(fault) => Err(TableFault::Core(fault)),
+        }
+    }
+
+    /// Does a turn of a call: the instructions that were done of it as it was lent, and then the lock, free or return at which it
+    /// stops. Where the call goes on, the lent state is the one behind that too; else it stays. No shapes are compared. 602 where no
+    /// call of that number was admitted; 801 where they didn't begin where the call is. Takes no memory.
+    pub fn lead(&mut self, call: u32, lent: &mut LentTurn) -> Result<TurnOutcome, TableFault>
+        requires { HasRun lent.old }
+        ensures ok { IfOk result (λ o. Submits self.old.core call lent.old lent.new o self.new.core) }
+        ensures blocked { IfOk result (λ o. IfBlocked o (self.new ≡ self.old)) }
+        ensures known { IfOk result (λ o. IfFinished o (IsKnown self.new call)) }
         ensures turns { (c : ℕ) → c ≢ call → kept_turn self.new.core c ≡ kept_turn self.old.core c }
         ensures sessions { (self.new.sessions ≡ self.old.sessions) × (self.new.owners ≡ self.old.owners) }
         ensures goes_on { GoesOn self.old self.new }
-        ensures fault { IfErr result (λ e. IsSubmitFault self.old call (segment_of from.now state.old stop) e) }
-        ensures err { OnErr result (self.new ≡ self.old) }
+        ensures fault { IfErr result (λ e. IsLeadFault self.old call lent.old e) }
+        ensures err { OnErr result ((self.new ≡ self.old) × (lent.new ≡ lent.old)) }
     {
         // What is so of the call before: here a proof learns that.
         self.running.core().is_sound();
         let _calls = self.running.core().calls();
-        match self.running.lead(call, from, state, stop) {
-            Ok(Led::Went) => {
+        match self.running.lead(call, lent) {
+            Ok(TurnOutcome::Advanced { stop }) => {
                 // And what is so of it now.
                 self.running.core().is_sound();
-                Ok(Outcome::Went)
+                Ok(TurnOutcome::Advanced { stop })
             }
-            Ok(Led::Blocked { .. }) => Ok(Outcome::Blocked),
-            Ok(Led::Finished) => {
+            Ok(TurnOutcome::Blocked { node, holder }) => Ok(TurnOutcome::Blocked { node, holder }),
+            Ok(TurnOutcome::Finished) => {
                 self.begun[call as usize] = self.running.core().calls() as u32;
-                Ok(Outcome::Finished)
+                Ok(TurnOutcome::Finished)
             }
             Err(CoreFault::NotFrom) => Err(TableFault::Stale),
             Err(fault) => Err(TableFault::Core(fault)),
@@ -385,5 +396,16 @@ impl Epoch {
         ensures owned { AreOwned self.now }
     {
         self.owners.as_slice()
+    }
+}
+
+// A core's refusal of a turn, as the table tells it.
+fn fault_of(refusal: CoreFault) -> TableFault
+    ensures stale { refusal ≡ core_fault.NotFrom → result ≡ fault.Stale }
+    ensures other { refusal ≢ core_fault.NotFrom → result ≡ fault.Core refusal }
+{
+    match refusal {
+        CoreFault::NotFrom => TableFault::Stale,
+        other => TableFault::Core(other),
     }
 }

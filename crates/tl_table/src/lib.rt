@@ -17,5 +17,5 @@ pub use chain::conclude_all;
 pub use closed::Closed;
 pub use epoch::{MAX_EPOCHS, MAX_SESSIONS};
 pub use fault::TableFault;
-pub use receipt::{Outcome, Receipt, Sent};
+pub use receipt::{Receipt, Sent};
 pub use table::Table;

@@ -68,14 +68,3 @@ pub enum Sent {
     /// The segment's instructions are done, and the call has ended.
     Finished(Receipt),
 }
-
-/// What came of a segment that was submitted, where the caller keeps the segment. It is small: at each turn one is moved.
-#[derive(Clone, Copy, Debug, PartialEq, Eq)]
-pub enum Outcome {
-    /// The segment's instructions and the lock or free behind them are done.
-    Went,
-    /// The call is about to lock a node that another call holds. Nothing was done.
-    Blocked,
-    /// The segment's instructions are done, and the call has ended.
-    Finished,
-}

@@ -8,25 +8,25 @@ ghost use Rattle.tl_procedures.specs.Names.{naming_refusal};
 ghost use Rattle.tl_procedures.specs.declared.fault.NamingFault.TheVariants as naming;
 ghost use Rattle.tl_procedures.specs.declared.procedures.TheConstants.{MAX_NAME};
 ghost use Rattle.tl_core.specs.declared.fault.CoreFault.TheVariants as core_fault;
-ghost use Rattle.tl_machine.specs.Turns.{IsTurn, IsSegment, Stops, segment_of, with_call};
+ghost use Rattle.tl_machine.specs.Turns.{HasRun, Stops};
 ghost use Rattle.tl_machine.specs.declared.want.Stop.TheVariants as stop;
 ghost use Rattle.tl_core.specs.Cores.{kept_turn};
 ghost use Rattle.tl_table.specs.declared.fault.TableFault.TheVariants as fault;
-ghost use Rattle.tl_table.specs.declared.receipt.Outcome.TheVariants as outcome;
+ghost use Rattle.tl_core.specs.Followed.{IsLentOf, Submits, IfBlocked, IfFinished};
 ghost use Rattle.tl_table.specs.declared.epoch.TheConstants.{MAX_SESSIONS};
 ghost use Rattle.tl_table.specs.Epochs.{EpochValue, seen, Stands, IsAtRest, IsKnown, AreOwned, GoesOn, epoch_after, table_refusal, IsAdmittedTo};
 ghost use Rattle.tl_table.specs.Tables.{all_epochs, IsChain, IsSealRefusal};
-ghost use Rattle.tl_table.specs.Sent.{IsSentTo, IsSentFreely, IsSent, IsUnblocked, IsSubmitFault, IsOfCall};
+ghost use Rattle.tl_table.specs.Sent.{IsSent, IsUnblocked, IsSubmitFault, IsLeadFault, IsOfCall};
 
 use crate::closed::Closed;
 use crate::epoch::{Epoch, MAX_EPOCHS};
 use crate::fault::TableFault;
-use crate::receipt::{Outcome, Receipt, Sent};
+use crate::receipt::{Receipt, Sent};
 use std::alloc::Global;
 use std::marker::Model;
 use std::mem;
-use tl_core::{Core, CoreFault};
-use tl_machine::{CallState, Segment, Stop, Turn};
+use tl_core::{Core, CoreFault, TurnOutcome};
+use tl_machine::{LentTurn, Segment, Turn};
 use tl_procedures::NamingFault;
 use tl_serial::Running;
 use tl_verify::Proc;
@@ -200,30 +200,33 @@ impl Table {
         self.current.submit(call, segment)
     }
 
-    /// The same for a caller that keeps the parts of a segment: the turn where it begins, the state to which it led, and where the
-    /// call stops there. Where the call went, the state is the one behind the stop; else it stays. 602, 801. Takes no memory.
-    pub fn lead(
-        &mut self,
-        call: u32,
-        from: &Turn,
-        state: &mut CallState,
-        stop: Stop,
-    ) -> Result<Outcome, TableFault>
-        requires { IsSegment (segment_of from.now state.old stop) }
-        ensures turn { IsTurn from.now.code.instrs from.now.parents state.new }
-        ensures blocked { IfOk result (λ o. o ≡ outcome.Blocked → state.new ≡ state.old) }
-        ensures stays { OnErr result (state.new ≡ state.old) }
-        ensures from { IfOk result (λ _. kept_turn self.old.current.core call ≡ Some from.now) }
-        ensures sent { IfOk result (λ o. IsSentTo self.old.current call (segment_of from.now state.old stop) (with_call from.now state.new) o self.new.current) }
-        ensures unhindered { IfOk result (λ o. IsSentFreely self.old.current (segment_of from.now state.old stop) o) }
+    /// The call as it is lent to whoever does its local instructions; none of a call that is done. 602 where no call of that number
+    /// was admitted; else 890 where memory is refused.
+    pub fn lend(&self, call: u32) -> Result<Option<LentTurn>, TableFault>
+        ensures known { IfOk result (λ _. IsKnown self.now.current call) }
+        ensures lent { IfOk result (λ o. MatchOption o (is_done call (seen self.now.current).past ≡ true) (λ l. IsLentOf self.now.current.core call l)) }
+        ensures fault { IfErr result (λ e. e ≢ fault.Memory → (e ≡ fault.Core core_fault.NoCall) × (length (seen self.now.current).calls ≤ call)) }
+        ensures memory { IfErr result (λ e. e ≡ fault.Memory → IsKnown self.now.current call) }
+    {
+        self.current.lend(call)
+    }
+
+    /// Does a turn of a call: the instructions that were done of it as it was lent, and then the lock, free or return at which it
+    /// stops. Where the call goes on, the lent state is the one behind that too; else it stays. No shapes are compared. 602 where no
+    /// call of that number was admitted; 801 where they didn't begin where the call is. Takes no memory.
+    pub fn lead(&mut self, call: u32, lent: &mut LentTurn) -> Result<TurnOutcome, TableFault>
+        requires { HasRun lent.old }
+        ensures ok { IfOk result (λ o. Submits self.old.current.core call lent.old lent.new o self.new.current.core) }
+        ensures blocked { IfOk result (λ o. IfBlocked o (self.new.current ≡ self.old.current)) }
+        ensures known { IfOk result (λ o. IfFinished o (IsKnown self.new.current call)) }
         ensures turns { (c : ℕ) → c ≢ call → kept_turn self.new.current.core c ≡ kept_turn self.old.current.core c }
         ensures sessions { (self.new.current.sessions ≡ self.old.current.sessions) × (self.new.current.owners ≡ self.old.current.owners) }
         ensures goes_on { GoesOn self.old.current self.new.current }
-        ensures fault { IfErr result (λ e. IsSubmitFault self.old.current call (segment_of from.now state.old stop) e) }
-        ensures err { OnErr result (self.new.current ≡ self.old.current) }
+        ensures fault { IfErr result (λ e. IsLeadFault self.old.current call lent.old e) }
+        ensures err { OnErr result ((self.new.current ≡ self.old.current) × (lent.new ≡ lent.old)) }
         ensures sealed { self.new.sealed ≡ self.old.sealed }
     {
-        self.current.lead(call, from, state, stop)
+        self.current.lead(call, lent)
     }
 
     /// Whether the call was admitted and isn't done. Takes no memory.

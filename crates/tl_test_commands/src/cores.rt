@@ -4,7 +4,7 @@ use crate::texts::{ADD, BOTH, CHAIN, FORK, LOOK, ONE_NODE, STORE, WALK, procedur
 use std::alloc::Global;
 use std::process::Abort;
 use std::test::Fail;
-use tl_core::{Core, CoreFault, Followed};
+use tl_core::{Core, CoreFault, Followed, TurnOutcome};
 use tl_machine::local;
 
 /// What is asked of a core.
@@ -17,6 +17,10 @@ enum Ask {
     Steps(&'static [u32]),
     /// To let a call follow its next segment, which is done outside of the core.
     Follow(u32),
+    /// To lend a call and to take the turn that is done of it outside of the core.
+    Lead(u32),
+    /// The same, where the call has done a step in between.
+    LeadLate(u32),
     /// Whether a call is where another call's next segment begins.
     IsAt(u32, u32),
     Enabled(u32),
@@ -56,6 +60,21 @@ fn follow(core: &mut Core, call: u32) -> Result<&'static str, CoreFault> {
     }
 }
 
+fn lead(core: &mut Core, call: u32, is_late: bool) -> Result<&'static str, CoreFault> {
+    let Some(mut lent) = core.lend(call)? else {
+        return Ok("done");
+    };
+    lent.run_local();
+    if is_late {
+        core.step(call)?;
+    }
+    match core.lead(call, &mut lent)? {
+        TurnOutcome::Advanced { .. } => Ok("advanced"),
+        TurnOutcome::Blocked { .. } => Ok("blocked"),
+        TurnOutcome::Finished => Ok("finished"),
+    }
+}
+
 fn is_at(core: &Core, call: u32, other: u32) -> Result<bool, CoreFault> {
     let segment = local(core.turn(other)?);
     core.is_at(call, segment.from())
@@ -81,6 +100,8 @@ fn answer(alloc: Global, core: &mut Core, ask: &Ask) -> Result<String, Fail> {
         Ask::Step(call) => format!(in alloc; "{:?}", core.step(*call))?,
         Ask::Steps(calls) => steps(alloc, core, calls)?,
         Ask::Follow(call) => format!(in alloc; "{:?}", follow(core, *call))?,
+        Ask::Lead(call) => format!(in alloc; "{:?}", lead(core, *call, false))?,
+        Ask::LeadLate(call) => format!(in alloc; "{:?}", lead(core, *call, true))?,
         Ask::IsAt(call, other) => format!(in alloc; "{:?}", is_at(core, *call, *other))?,
         Ask::Enabled(call) => format!(in alloc; "{:?}", core.enabled(*call))?,
         Ask::SomeEnabled => format!(in alloc; "{:?}", core.some_enabled())?,
@@ -92,7 +113,7 @@ fn answer(alloc: Global, core: &mut Core, ask: &Ask) -> Result<String, Fail> {
 type Asks = &'static [(Ask, &'static str)];
 
 /// A tree, room for so many events, and what is asked.
-static CORES: [(&str, usize, Asks); 7] = [
+static CORES: [(&str, usize, Asks); 8] = [
     // A call waits for another.
     (
         FORK,
@@ -205,6 +226,26 @@ static CORES: [(&str, usize, Asks); 7] = [
             (Ask::Follow(0), "Err(NotFrom)"),
             (Ask::Follow(1), "Ok(\"went\")"),
             (Ask::Follow(2), "Err(NoCall)"),
+            (Ask::Node(2), "[33, 0, 0, 0, 0, 0, 0, 0] None"),
+        ],
+    ),
+    // The same of calls that are lent.
+    (
+        FORK,
+        16,
+        &[
+            (Ask::AddProc("store", STORE), "Ok(0)"),
+            (Ask::Admit("store", &[2, 22]), "Ok(0)"),
+            (Ask::Admit("store", &[2, 33]), "Ok(1)"),
+            (Ask::Lead(0), "Ok(\"advanced\")"),
+            (Ask::Lead(1), "Ok(\"blocked\")"),
+            (Ask::LeadLate(0), "Err(NotFrom)"),
+            (Ask::Lead(0), "Ok(\"advanced\")"),
+            (Ask::Lead(1), "Ok(\"advanced\")"),
+            (Ask::Lead(0), "Ok(\"finished\")"),
+            (Ask::Lead(0), "Ok(\"done\")"),
+            (Ask::Lead(1), "Ok(\"advanced\")"),
+            (Ask::Lead(2), "Err(NoCall)"),
             (Ask::Node(2), "[33, 0, 0, 0, 0, 0, 0, 0] None"),
         ],
     ),

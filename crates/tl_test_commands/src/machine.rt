@@ -7,7 +7,6 @@ use std::sync::Arc;
 use std::test::Fail;
 use tl_machine::{Stop, Turn, Want, local};
 use tl_tree::Shape;
-use tl_tree_locking::Action;
 
 /// A call that looks at this node of a root with two children, at its start.
 fn turn_at(alloc: Global, node: i64) -> Result<Turn, Fail> {
@@ -69,24 +68,26 @@ fn parts(turn: Turn) -> (u32, u32, Stop) {
     (from.call().steps, to.steps, stop)
 }
 
-/// The same, of a state that is led on beside its turn, which then is put there.
-fn beside(mut turn: Turn) -> (u32, u32, Stop) {
-    let mut state = *turn.call();
-    let stop = turn.run_on(&mut state);
-    let from = turn.call().steps;
-    turn.put_at(&state);
-    (from, turn.call().steps, stop)
+/// The same, by the segment as it is lent.
+fn lent_segment(turn: Turn) -> (u32, u32, Stop) {
+    let segment = local(turn);
+    let from = segment.from().call().steps;
+    let stop = segment.stop();
+    let (lent, _shape) = segment.into_lent();
+    (from, lent.to().steps, stop)
 }
 
-/// The same, of a state at which the turn's lock is repeated.
-fn repeated(turn: Turn) -> (u32, u32, Stop) {
-    let mut state = *turn.call();
-    let stop = turn.run_on(&mut state);
-    let found = [1, 2, 3, 4, 0, 0, 0, 0];
-    if stop == Stop::Lock(0) {
-        turn.repeat(&mut state, &Action::Lock { node: 0, found });
-    }
-    (turn.call().steps, state.steps, stop)
+/// The same, of a call that is lent where its turn is, and of the turn, which goes on by itself.
+fn lent(mut turn: Turn) -> Result<(u32, u32, Stop), AllocError> {
+    let mut lent = turn.lend()?;
+    let from = if lent.is_from(&turn) {
+        turn.call().steps
+    } else {
+        9
+    };
+    lent.run_local();
+    let stop = turn.run_local();
+    Ok((from, lent.to().steps, stop))
 }
 
 #[test]
@@ -95,33 +96,35 @@ fn a_segment_is_what_a_call_does_by_itself(rt: HostRuntime) -> Result<(), Fail> 
     let found = [
         segment(turn_at(alloc, -1)?),
         parts(turn_at(alloc, -1)?),
-        beside(turn_at(alloc, -1)?),
-        repeated(turn_at(alloc, 0)?),
+        lent_segment(turn_at(alloc, -1)?),
+        lent(turn_at(alloc, -1)?)?,
+        lent(turn_at(alloc, 0)?)?,
     ];
     let expected = [
         (0, 1, Stop::Return),
         (0, 1, Stop::Return),
         (0, 1, Stop::Return),
-        (0, 1, Stop::Lock(0)),
+        (0, 1, Stop::Return),
+        (0, 0, Stop::Lock(0)),
     ];
     assert_eq!(rt; found, expected);
     Ok(())
 }
 
-/// Whether a kept turn is where a segment begins, whether it is where that ends, and the same once it has followed.
-fn follow(kept: &mut Turn) -> Result<[bool; 3], AllocError> {
+/// Whether a kept turn is where a segment begins, whether it is where that ends, and the same once it has gone on too.
+fn go_on(kept: &mut Turn) -> Result<[bool; 3], AllocError> {
     let segment = local(kept.try_clone()?);
     let is_begin = kept.is(segment.from());
     let end = segment.into_turn();
     let is_end = kept.is(&end);
-    kept.follow(&end);
+    kept.run_local();
     Ok([is_begin, is_end, kept.is(&end)])
 }
 
 #[test]
-fn a_kept_turn_follows_to_the_end_of_a_segment(rt: HostRuntime) -> Result<(), Fail> {
+fn a_kept_turn_goes_on_to_the_end_of_a_segment(rt: HostRuntime) -> Result<(), Fail> {
     let mut kept = turn_at(rt.alloc(), -1)?;
-    let found = follow(&mut kept);
+    let found = go_on(&mut kept);
     assert_eq!(rt; found.ok(), Some([true, false, true]));
     assert_eq!(rt; kept.want(), Want::Stop(Stop::Return));
     Ok(())

@@ -162,7 +162,7 @@ impl Engine {
                 Handed::NoPlace(call) => {
                     drop(table);
                     self.moved.notify_all();
-                    self.run(rt, call, gate);
+                    self.run(rt, call, None, gate);
                 }
                 Handed::All => {
                     drop(table);
@@ -186,7 +186,7 @@ impl Engine {
             Some(call) => {
                 drop(table);
                 self.moved.notify_all();
-                self.run(rt, call, gate);
+                self.run(rt, call, None, gate);
             }
             None => drop(self.moved.wait(rt, table)),
         }
@@ -245,7 +245,7 @@ impl Engine {
     ) {
         for _ in rt.forever() {
             match self.next_ready(rt, pass, is_handed_out) {
-                Some(call) => self.run(rt, call, gate),
+                Some(call) => self.run(rt, call, None, gate),
                 None => return,
             }
         }

@@ -1,8 +1,8 @@
 // A call that is run to its end.
 
 ghost use Rattle.std.specs.Prelude.{◌≡◌, [], IfOk, IfSome, OnErr};
-ghost use Rattle.tl_machine.specs.Turns.{IsTurn, IsSegment, segment_of};
-ghost use Rattle.tl_table.specs.declared.receipt.Outcome.TheVariants.{Blocked};
+ghost use Rattle.tl_machine.specs.Turns.{HasRun};
+ghost use Rattle.tl_core.specs.Followed.{IfBlocked};
 ghost use Rattle.tl_workers.specs.Kept.{Gains, call_of};
 
 use crate::asking::{Asking, values_of};
@@ -12,9 +12,9 @@ use crate::refusal::Refusal;
 use crate::session::Session;
 use std::alloc::Global;
 use std::sync::{MutexGuard, Wait};
-use tl_core::CoreFault;
-use tl_machine::{CallState, Stop, Turn};
-use tl_table::{Outcome, Receipt, Table, TableFault};
+use tl_core::{CoreFault, TurnOutcome};
+use tl_machine::{LentTurn, Stop};
+use tl_table::{Receipt, Table, TableFault};
 
 impl Engine {
     /// Runs a call on this thread, to its end. 601, 501, 603, 604, 605, 890, and 990 where there is no memory for what the
@@ -36,12 +36,17 @@ impl Engine {
         let mut table = self.table.lock(rt);
         let epoch = table.epoch();
         let admitted = table.admit(alloc, session.number(), name, args);
+        // The call is lent under the lock that admitted it. Where memory is refused for that, `run` asks once more.
+        let lent = match &admitted {
+            Ok(call) => table.lend(*call).unwrap_or(None),
+            Err(_) => None,
+        };
         drop(table);
         let call = match admitted {
             Ok(call) => call,
             Err(fault) => return Err(Refusal::Table(fault)),
         };
-        self.run(rt, call, gate);
+        self.run(rt, call, lent, gate);
         // A call that was admitted is known, and has ended.
         let Some(told) = self.receipt(rt, epoch, call) else {
             return Err(Refusal::Table(TableFault::Core(CoreFault::NoCall)));
@@ -56,22 +61,26 @@ impl Engine {
         Ok(receipt)
     }
 
-    // Takes the turns of a call, to its end; none where no call of that number was admitted. Where the call is, is asked at its
-    // first turn, and anew where a segment was stale.
-    pub(crate) fn run<G: Gate>(&self, rt: &impl Wait, call: u32, gate: &G) {
+    // Takes the turns of a call from where it was lent to its end; none where no call of that number was admitted. Where the call is,
+    // is asked where it wasn't lent, and anew where a turn was stale.
+    pub(crate) fn run<G: Gate>(&self, rt: &impl Wait, call: u32, lent: Option<LentTurn>, gate: &G) {
+        let mut lent = lent;
         let mut passed = 0;
         for _ in rt.forever() {
             passed = pass(gate, call, passed);
-            let known = self.table.lock(rt).state(call);
-            match known {
-                Ok(turn) => {
-                    if self.run_from(rt, call, turn, &mut passed, gate) {
+            let next = match lent.take() {
+                Some(lent) => Ok(Some(lent)),
+                None => self.table.lock(rt).lend(call),
+            };
+            match next {
+                Ok(Some(lent)) => {
+                    if self.run_from(rt, call, lent, &mut passed, gate) {
                         gate.answered(call);
                         return;
                     }
                 }
                 Err(TableFault::Core(CoreFault::NoCall)) => return,
-                Err(_) => {}
+                _ => {}
             }
         }
         unreachable!()
@@ -82,24 +91,22 @@ impl Engine {
         &self,
         rt: &impl Wait,
         call: u32,
-        turn: Turn,
+        lent: LentTurn,
         passed: &mut u64,
         gate: &G,
     ) -> bool {
-        let mut from = turn;
-        let mut state = *from.call();
-        let mut stop = from.run_on(&mut state);
+        let mut lent = lent;
+        lent.run_local();
         for _ in rt.forever() {
             gate.ready(call, *passed);
-            match self.send(rt, call, &from, &mut state, stop) {
-                Ok(Outcome::Finished) => return true,
-                Ok(Outcome::Went) => {
+            match self.send(rt, call, &mut lent) {
+                Ok(TurnOutcome::Finished) => return true,
+                Ok(TurnOutcome::Advanced { .. }) => {
                     *passed = pass(gate, call, *passed);
-                    from.put_at(&state);
-                    stop = from.run_on(&mut state);
+                    lent.run_local();
                 }
                 // The instructions up to the lock are done: it is asked for once more.
-                Ok(Outcome::Blocked) => *passed = pass(gate, call, *passed),
+                Ok(TurnOutcome::Blocked { .. }) => *passed = pass(gate, call, *passed),
                 Err(_) => return false,
             }
         }
@@ -118,19 +125,21 @@ impl Engine {
         &self,
         rt: &impl Wait,
         call: u32,
-        from: &Turn,
-        state: &mut CallState,
-        stop: Stop,
-    ) -> Result<Outcome, TableFault>
-        requires { IsSegment (segment_of from.now state.old stop) }
-        ensures turn { IsTurn from.now.code.instrs from.now.parents state.new }
-        ensures stays { IfOk result (λ o. o ≡ Blocked → state.new ≡ state.old) }
+        lent: &mut LentTurn,
+    ) -> Result<TurnOutcome, TableFault>
+        requires { HasRun lent.old }
+        ensures { IfOk result (λ o. IfBlocked o (lent.new ≡ lent.old)) }
     {
         let mut table = self.table.lock(rt);
-        let sent = table.lead(call, from, state, stop);
-        match (&sent, stop) {
-            (Ok(Outcome::Blocked), Stop::Lock(node)) => self.wait_for(rt, table, node),
-            (Ok(_), Stop::Free(_) | Stop::Return) => {
+        let sent = table.lead(call, lent);
+        match &sent {
+            Ok(TurnOutcome::Blocked { node, .. }) => self.wait_for(rt, table, *node),
+            Ok(
+                TurnOutcome::Advanced {
+                    stop: Stop::Free(_),
+                }
+                | TurnOutcome::Finished,
+            ) => {
                 drop(table);
                 self.moved.notify_all();
             }

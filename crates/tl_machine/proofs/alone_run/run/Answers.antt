@@ -2,7 +2,7 @@ use Rattle.std.proofs.Common.{refl, sym, ap, ◌∙◌, ℕ, List, [], take}
 use Rattle.tl_tree.specs.Trees.{TreeValue}
 use Rattle.tl_tree.specs.Records.{Records}
 use Rattle.tl_machine.specs.declared.want.Stop.TheVariants as stop
-use Rattle.tl_machine.proofs.RunFromStart.{still, is_turn, stands_at, follows_on, follows_steps, lock_at, lock_inside, lock_on, free_at, free_inside, free_on, return_at, return_on, more_left, all_done, stop_is}
+use Rattle.tl_machine.proofs.RunFromStart.{still, turn_of, stands_at, follows_on, follows_steps, lock_at, lock_inside, lock_on, free_at, free_inside, free_on, return_at, return_on, more_left, all_done, stop_is}
 use Rattle.tl_machine.proofs.alone_run.run.Goals as goal
 
 pub loop-node-init : goal.loop-node-init
@@ -11,22 +11,27 @@ loop-node-init c = record {
   shape = refl;
 }
 
-pub run_local-requires : goal.run_local-requires
-run_local-requires c = rw (c.deref.ensures ∙ c.shape.ensures.shape) (is_turn _ _ _ _ _ c.shape.ensures.whole.count c.loop-node.invariant.under_way)
+pub run_local-pending-requires : goal.run_local-pending-requires
+run_local-pending-requires c = (c.loop-node.tree.parents, turn_of _ _ _ _ _ c.loop-node.invariant.under_way)
+
+pub stop_at-requires-clause-turn : goal.stop_at-requires-clause-turn
+stop_at-requires-clause-turn c =
+    rw (c.deref.ensures ∙ c.shape.ensures.shape)
+    (turn_of _ _ _ _ _ (follows_on _ _ _ _ _ c.shape.ensures.whole.count c.loop-node.invariant.under_way c.run_local-pending.new.self c.run_local-pending.ensures.follows))
 
 pub record_at-found-requires : goal.record_at-found-requires
 record_at-found-requires c =
     let same = c.deref.ensures ∙ c.shape.ensures.shape in
-    let u = follows_on _ _ _ _ _ c.shape.ensures.whole.count c.loop-node.invariant.under_way c.run_local.new.self (rw same at c.run_local.ensures.follows) in
-    let wants = stop_is c.args.procedure.now.instrs c.loop-node.tree.parents c.run_local.new.self (stop.Lock c.in-Lock.node) _ c.in-Lock.is (rw same at c.run_local.ensures.stop) in
+    let u = follows_on _ _ _ _ _ c.shape.ensures.whole.count c.loop-node.invariant.under_way c.run_local-pending.new.self c.run_local-pending.ensures.follows in
+    let wants = stop_is c.args.procedure.now.instrs c.loop-node.tree.parents c.run_local-pending.new.self (stop.Lock c.in-Lock.node) _ c.in-Lock.is (rw same at c.stop_at.ensures) in
     let st = stands_at _ _ _ _ _ c.shape.ensures.whole.count (stop.Lock c.in-Lock.node) u (λ e. cc) wants in
     lock_inside _ _ _ _ _ c.shape.ensures.whole.count u st _ wants
 
 pub lock-requires-clause-stands : goal.lock-requires-clause-stands
 lock-requires-clause-stands c =
     let same = c.deref.ensures ∙ c.shape.ensures.shape in
-    let u = follows_on _ _ _ _ _ c.shape.ensures.whole.count c.loop-node.invariant.under_way c.run_local.new.self (rw same at c.run_local.ensures.follows) in
-    let wants = stop_is c.args.procedure.now.instrs c.loop-node.tree.parents c.run_local.new.self (stop.Lock c.in-Lock.node) _ c.in-Lock.is (rw same at c.run_local.ensures.stop) in
+    let u = follows_on _ _ _ _ _ c.shape.ensures.whole.count c.loop-node.invariant.under_way c.run_local-pending.new.self c.run_local-pending.ensures.follows in
+    let wants = stop_is c.args.procedure.now.instrs c.loop-node.tree.parents c.run_local-pending.new.self (stop.Lock c.in-Lock.node) _ c.in-Lock.is (rw same at c.stop_at.ensures) in
     let st = stands_at _ _ _ _ _ c.shape.ensures.whole.count (stop.Lock c.in-Lock.node) u (λ e. cc) wants in
     let again = c.deref-in-Lock.ensures ∙ c.shape-in-Lock.ensures.shape in
     rw again st
@@ -34,8 +39,8 @@ lock-requires-clause-stands c =
 pub lock-requires-clause-lock : goal.lock-requires-clause-lock
 lock-requires-clause-lock c =
     let same = c.deref.ensures ∙ c.shape.ensures.shape in
-    let u = follows_on _ _ _ _ _ c.shape.ensures.whole.count c.loop-node.invariant.under_way c.run_local.new.self (rw same at c.run_local.ensures.follows) in
-    let wants = stop_is c.args.procedure.now.instrs c.loop-node.tree.parents c.run_local.new.self (stop.Lock c.in-Lock.node) _ c.in-Lock.is (rw same at c.run_local.ensures.stop) in
+    let u = follows_on _ _ _ _ _ c.shape.ensures.whole.count c.loop-node.invariant.under_way c.run_local-pending.new.self c.run_local-pending.ensures.follows in
+    let wants = stop_is c.args.procedure.now.instrs c.loop-node.tree.parents c.run_local-pending.new.self (stop.Lock c.in-Lock.node) _ c.in-Lock.is (rw same at c.stop_at.ensures) in
     let st = stands_at _ _ _ _ _ c.shape.ensures.whole.count (stop.Lock c.in-Lock.node) u (λ e. cc) wants in
     let again = c.deref-in-Lock.ensures ∙ c.shape-in-Lock.ensures.shape in
     rw again (lock_at _ _ _ _ _ c.shape.ensures.whole.count u st _ wants)
@@ -43,17 +48,17 @@ lock-requires-clause-lock c =
 pub loop-node-smaller-in-Lock : goal.loop-node-smaller-in-Lock
 loop-node-smaller-in-Lock c =
     let same = c.deref.ensures ∙ c.shape.ensures.shape in
-    let u = follows_on _ _ _ _ _ c.shape.ensures.whole.count c.loop-node.invariant.under_way c.run_local.new.self (rw same at c.run_local.ensures.follows) in
-    let wants = stop_is c.args.procedure.now.instrs c.loop-node.tree.parents c.run_local.new.self (stop.Lock c.in-Lock.node) _ c.in-Lock.is (rw same at c.run_local.ensures.stop) in
+    let u = follows_on _ _ _ _ _ c.shape.ensures.whole.count c.loop-node.invariant.under_way c.run_local-pending.new.self c.run_local-pending.ensures.follows in
+    let wants = stop_is c.args.procedure.now.instrs c.loop-node.tree.parents c.run_local-pending.new.self (stop.Lock c.in-Lock.node) _ c.in-Lock.is (rw same at c.stop_at.ensures) in
     let st = stands_at _ _ _ _ _ c.shape.ensures.whole.count (stop.Lock c.in-Lock.node) u (λ e. cc) wants in
     let again = c.deref-in-Lock.ensures ∙ c.shape-in-Lock.ensures.shape in
-    more_left _ _ _ _ _ c.shape.ensures.whole.count u st c.loop-node.call c.lock.new.self (follows_steps _ _ _ _ c.run_local.ensures.follows) c.lock.ensures.locks.counts.steps
+    more_left _ _ _ _ _ c.shape.ensures.whole.count u st c.loop-node.call c.lock.new.self (follows_steps _ _ _ _ (turn_of _ _ _ _ _ c.loop-node.invariant.under_way) c.run_local-pending.ensures.follows) c.lock.ensures.locks.counts.steps
 
 pub loop-node-preserved-in-Lock : goal.loop-node-preserved-in-Lock
 loop-node-preserved-in-Lock c =
     let same = c.deref.ensures ∙ c.shape.ensures.shape in
-    let u = follows_on _ _ _ _ _ c.shape.ensures.whole.count c.loop-node.invariant.under_way c.run_local.new.self (rw same at c.run_local.ensures.follows) in
-    let wants = stop_is c.args.procedure.now.instrs c.loop-node.tree.parents c.run_local.new.self (stop.Lock c.in-Lock.node) _ c.in-Lock.is (rw same at c.run_local.ensures.stop) in
+    let u = follows_on _ _ _ _ _ c.shape.ensures.whole.count c.loop-node.invariant.under_way c.run_local-pending.new.self c.run_local-pending.ensures.follows in
+    let wants = stop_is c.args.procedure.now.instrs c.loop-node.tree.parents c.run_local-pending.new.self (stop.Lock c.in-Lock.node) _ c.in-Lock.is (rw same at c.stop_at.ensures) in
     let st = stands_at _ _ _ _ _ c.shape.ensures.whole.count (stop.Lock c.in-Lock.node) u (λ e. cc) wants in
     let again = c.deref-in-Lock.ensures ∙ c.shape-in-Lock.ensures.shape in
     record {
@@ -64,8 +69,8 @@ loop-node-preserved-in-Lock c =
 pub free-left-requires-clause-stands : goal.free-left-requires-clause-stands
 free-left-requires-clause-stands c =
     let same = c.deref.ensures ∙ c.shape.ensures.shape in
-    let u = follows_on _ _ _ _ _ c.shape.ensures.whole.count c.loop-node.invariant.under_way c.run_local.new.self (rw same at c.run_local.ensures.follows) in
-    let wants = stop_is c.args.procedure.now.instrs c.loop-node.tree.parents c.run_local.new.self (stop.Free c.in-Free.node) _ c.in-Free.is (rw same at c.run_local.ensures.stop) in
+    let u = follows_on _ _ _ _ _ c.shape.ensures.whole.count c.loop-node.invariant.under_way c.run_local-pending.new.self c.run_local-pending.ensures.follows in
+    let wants = stop_is c.args.procedure.now.instrs c.loop-node.tree.parents c.run_local-pending.new.self (stop.Free c.in-Free.node) _ c.in-Free.is (rw same at c.stop_at.ensures) in
     let st = stands_at _ _ _ _ _ c.shape.ensures.whole.count (stop.Free c.in-Free.node) u (λ e. cc) wants in
     let again = c.deref-in-Free.ensures ∙ c.shape-in-Free.ensures.shape in
     rw again st
@@ -73,8 +78,8 @@ free-left-requires-clause-stands c =
 pub free-left-requires-clause-free : goal.free-left-requires-clause-free
 free-left-requires-clause-free c =
     let same = c.deref.ensures ∙ c.shape.ensures.shape in
-    let u = follows_on _ _ _ _ _ c.shape.ensures.whole.count c.loop-node.invariant.under_way c.run_local.new.self (rw same at c.run_local.ensures.follows) in
-    let wants = stop_is c.args.procedure.now.instrs c.loop-node.tree.parents c.run_local.new.self (stop.Free c.in-Free.node) _ c.in-Free.is (rw same at c.run_local.ensures.stop) in
+    let u = follows_on _ _ _ _ _ c.shape.ensures.whole.count c.loop-node.invariant.under_way c.run_local-pending.new.self c.run_local-pending.ensures.follows in
+    let wants = stop_is c.args.procedure.now.instrs c.loop-node.tree.parents c.run_local-pending.new.self (stop.Free c.in-Free.node) _ c.in-Free.is (rw same at c.stop_at.ensures) in
     let st = stands_at _ _ _ _ _ c.shape.ensures.whole.count (stop.Free c.in-Free.node) u (λ e. cc) wants in
     let at = free_at _ _ _ _ _ c.shape.ensures.whole.count u st _ wants in
     (at.0, at.1)
@@ -82,25 +87,25 @@ free-left-requires-clause-free c =
 pub put_at-requires : goal.put_at-requires
 put_at-requires c =
     let same = c.deref.ensures ∙ c.shape.ensures.shape in
-    let u = follows_on _ _ _ _ _ c.shape.ensures.whole.count c.loop-node.invariant.under_way c.run_local.new.self (rw same at c.run_local.ensures.follows) in
-    let wants = stop_is c.args.procedure.now.instrs c.loop-node.tree.parents c.run_local.new.self (stop.Free c.in-Free.node) _ c.in-Free.is (rw same at c.run_local.ensures.stop) in
+    let u = follows_on _ _ _ _ _ c.shape.ensures.whole.count c.loop-node.invariant.under_way c.run_local-pending.new.self c.run_local-pending.ensures.follows in
+    let wants = stop_is c.args.procedure.now.instrs c.loop-node.tree.parents c.run_local-pending.new.self (stop.Free c.in-Free.node) _ c.in-Free.is (rw same at c.stop_at.ensures) in
     let st = stands_at _ _ _ _ _ c.shape.ensures.whole.count (stop.Free c.in-Free.node) u (λ e. cc) wants in
     free_inside _ _ _ _ _ c.shape.ensures.whole.count u st _ wants
 
 pub loop-node-smaller-in-Free : goal.loop-node-smaller-in-Free
 loop-node-smaller-in-Free c =
     let same = c.deref.ensures ∙ c.shape.ensures.shape in
-    let u = follows_on _ _ _ _ _ c.shape.ensures.whole.count c.loop-node.invariant.under_way c.run_local.new.self (rw same at c.run_local.ensures.follows) in
-    let wants = stop_is c.args.procedure.now.instrs c.loop-node.tree.parents c.run_local.new.self (stop.Free c.in-Free.node) _ c.in-Free.is (rw same at c.run_local.ensures.stop) in
+    let u = follows_on _ _ _ _ _ c.shape.ensures.whole.count c.loop-node.invariant.under_way c.run_local-pending.new.self c.run_local-pending.ensures.follows in
+    let wants = stop_is c.args.procedure.now.instrs c.loop-node.tree.parents c.run_local-pending.new.self (stop.Free c.in-Free.node) _ c.in-Free.is (rw same at c.stop_at.ensures) in
     let st = stands_at _ _ _ _ _ c.shape.ensures.whole.count (stop.Free c.in-Free.node) u (λ e. cc) wants in
     let again = c.deref-in-Free.ensures ∙ c.shape-in-Free.ensures.shape in
-    more_left _ _ _ _ _ c.shape.ensures.whole.count u st c.loop-node.call c.free-left.new.self (follows_steps _ _ _ _ c.run_local.ensures.follows) c.free-left.ensures.frees.2.counts.steps
+    more_left _ _ _ _ _ c.shape.ensures.whole.count u st c.loop-node.call c.free-left.new.self (follows_steps _ _ _ _ (turn_of _ _ _ _ _ c.loop-node.invariant.under_way) c.run_local-pending.ensures.follows) c.free-left.ensures.frees.2.counts.steps
 
 pub loop-node-preserved-in-Free : goal.loop-node-preserved-in-Free
 loop-node-preserved-in-Free c =
     let same = c.deref.ensures ∙ c.shape.ensures.shape in
-    let u = follows_on _ _ _ _ _ c.shape.ensures.whole.count c.loop-node.invariant.under_way c.run_local.new.self (rw same at c.run_local.ensures.follows) in
-    let wants = stop_is c.args.procedure.now.instrs c.loop-node.tree.parents c.run_local.new.self (stop.Free c.in-Free.node) _ c.in-Free.is (rw same at c.run_local.ensures.stop) in
+    let u = follows_on _ _ _ _ _ c.shape.ensures.whole.count c.loop-node.invariant.under_way c.run_local-pending.new.self c.run_local-pending.ensures.follows in
+    let wants = stop_is c.args.procedure.now.instrs c.loop-node.tree.parents c.run_local-pending.new.self (stop.Free c.in-Free.node) _ c.in-Free.is (rw same at c.stop_at.ensures) in
     let st = stands_at _ _ _ _ _ c.shape.ensures.whole.count (stop.Free c.in-Free.node) u (λ e. cc) wants in
     let again = c.deref-in-Free.ensures ∙ c.shape-in-Free.ensures.shape in
     let freed = rw again at c.free-left.ensures.frees in
@@ -112,8 +117,8 @@ loop-node-preserved-in-Free c =
 pub finish-requires-clause-stands : goal.finish-requires-clause-stands
 finish-requires-clause-stands c =
     let same = c.deref.ensures ∙ c.shape.ensures.shape in
-    let u = follows_on _ _ _ _ _ c.shape.ensures.whole.count c.loop-node.invariant.under_way c.run_local.new.self (rw same at c.run_local.ensures.follows) in
-    let wants = stop_is c.args.procedure.now.instrs c.loop-node.tree.parents c.run_local.new.self stop.Return _ c.in-Return.is (rw same at c.run_local.ensures.stop) in
+    let u = follows_on _ _ _ _ _ c.shape.ensures.whole.count c.loop-node.invariant.under_way c.run_local-pending.new.self c.run_local-pending.ensures.follows in
+    let wants = stop_is c.args.procedure.now.instrs c.loop-node.tree.parents c.run_local-pending.new.self stop.Return _ c.in-Return.is (rw same at c.stop_at.ensures) in
     let st = stands_at _ _ _ _ _ c.shape.ensures.whole.count stop.Return u (λ e. cc) wants in
     let again = c.deref-in-Return.ensures ∙ c.shape-in-Return.ensures.shape in
     rw again st
@@ -121,24 +126,24 @@ finish-requires-clause-stands c =
 pub finish-requires-clause-end : goal.finish-requires-clause-end
 finish-requires-clause-end c =
     let same = c.deref.ensures ∙ c.shape.ensures.shape in
-    let u = follows_on _ _ _ _ _ c.shape.ensures.whole.count c.loop-node.invariant.under_way c.run_local.new.self (rw same at c.run_local.ensures.follows) in
-    let wants = stop_is c.args.procedure.now.instrs c.loop-node.tree.parents c.run_local.new.self stop.Return _ c.in-Return.is (rw same at c.run_local.ensures.stop) in
+    let u = follows_on _ _ _ _ _ c.shape.ensures.whole.count c.loop-node.invariant.under_way c.run_local-pending.new.self c.run_local-pending.ensures.follows in
+    let wants = stop_is c.args.procedure.now.instrs c.loop-node.tree.parents c.run_local-pending.new.self stop.Return _ c.in-Return.is (rw same at c.stop_at.ensures) in
     let st = stands_at _ _ _ _ _ c.shape.ensures.whole.count stop.Return u (λ e. cc) wants in
     return_at _ _ _ _ _ c.shape.ensures.whole.count u st wants
 
 pub loop-node-smaller : goal.loop-node-smaller
 loop-node-smaller c =
     let same = c.deref.ensures ∙ c.shape.ensures.shape in
-    let u = follows_on _ _ _ _ _ c.shape.ensures.whole.count c.loop-node.invariant.under_way c.run_local.new.self (rw same at c.run_local.ensures.follows) in
-    let wants = stop_is c.args.procedure.now.instrs c.loop-node.tree.parents c.run_local.new.self stop.Return _ c.in-Return.is (rw same at c.run_local.ensures.stop) in
+    let u = follows_on _ _ _ _ _ c.shape.ensures.whole.count c.loop-node.invariant.under_way c.run_local-pending.new.self c.run_local-pending.ensures.follows in
+    let wants = stop_is c.args.procedure.now.instrs c.loop-node.tree.parents c.run_local-pending.new.self stop.Return _ c.in-Return.is (rw same at c.stop_at.ensures) in
     let st = stands_at _ _ _ _ _ c.shape.ensures.whole.count stop.Return u (λ e. cc) wants in
-    more_left _ _ _ _ _ c.shape.ensures.whole.count u st c.loop-node.call c.finish.new.self (follows_steps _ _ _ _ c.run_local.ensures.follows) c.finish.ensures.counts.steps
+    more_left _ _ _ _ _ c.shape.ensures.whole.count u st c.loop-node.call c.finish.new.self (follows_steps _ _ _ _ (turn_of _ _ _ _ _ c.loop-node.invariant.under_way) c.run_local-pending.ensures.follows) c.finish.ensures.counts.steps
 
 pub loop-node-preserved : goal.loop-node-preserved
 loop-node-preserved c =
     let same = c.deref.ensures ∙ c.shape.ensures.shape in
-    let u = follows_on _ _ _ _ _ c.shape.ensures.whole.count c.loop-node.invariant.under_way c.run_local.new.self (rw same at c.run_local.ensures.follows) in
-    let wants = stop_is c.args.procedure.now.instrs c.loop-node.tree.parents c.run_local.new.self stop.Return _ c.in-Return.is (rw same at c.run_local.ensures.stop) in
+    let u = follows_on _ _ _ _ _ c.shape.ensures.whole.count c.loop-node.invariant.under_way c.run_local-pending.new.self c.run_local-pending.ensures.follows in
+    let wants = stop_is c.args.procedure.now.instrs c.loop-node.tree.parents c.run_local-pending.new.self stop.Return _ c.in-Return.is (rw same at c.stop_at.ensures) in
     let st = stands_at _ _ _ _ _ c.shape.ensures.whole.count stop.Return u (λ e. cc) wants in
     let again = c.deref-in-Return.ensures ∙ c.shape-in-Return.ensures.shape in
     record {
@@ -149,24 +154,24 @@ loop-node-preserved c =
 pub of-requires : goal.of-requires
 of-requires c =
     let same = c.deref.ensures ∙ c.shape.ensures.shape in
-    let u = follows_on _ _ _ _ _ c.shape.ensures.whole.count c.loop-node.invariant.under_way c.run_local.new.self (rw same at c.run_local.ensures.follows) in
-    let wants = stop_is c.args.procedure.now.instrs c.loop-node.tree.parents c.run_local.new.self stop.Over _ c.in-Over.is (rw same at c.run_local.ensures.stop) in
+    let u = follows_on _ _ _ _ _ c.shape.ensures.whole.count c.loop-node.invariant.under_way c.run_local-pending.new.self c.run_local-pending.ensures.follows in
+    let wants = stop_is c.args.procedure.now.instrs c.loop-node.tree.parents c.run_local-pending.new.self stop.Over _ c.in-Over.is (rw same at c.stop_at.ensures) in
     let d = all_done _ _ _ _ _ c.shape.ensures.whole.count u wants in
     d.over.emits
 
 pub returns-in-Over-clause-answer : goal.returns-in-Over-clause-answer
 returns-in-Over-clause-answer c =
     let same = c.deref.ensures ∙ c.shape.ensures.shape in
-    let u = follows_on _ _ _ _ _ c.shape.ensures.whole.count c.loop-node.invariant.under_way c.run_local.new.self (rw same at c.run_local.ensures.follows) in
-    let wants = stop_is c.args.procedure.now.instrs c.loop-node.tree.parents c.run_local.new.self stop.Over _ c.in-Over.is (rw same at c.run_local.ensures.stop) in
+    let u = follows_on _ _ _ _ _ c.shape.ensures.whole.count c.loop-node.invariant.under_way c.run_local-pending.new.self c.run_local-pending.ensures.follows in
+    let wants = stop_is c.args.procedure.now.instrs c.loop-node.tree.parents c.run_local-pending.new.self stop.Over _ c.in-Over.is (rw same at c.stop_at.ensures) in
     let d = all_done _ _ _ _ _ c.shape.ensures.whole.count u wants in
     rw c.of.ensures d.answer
 
 pub returns-in-Over-clause-tree : goal.returns-in-Over-clause-tree
 returns-in-Over-clause-tree c =
     let same = c.deref.ensures ∙ c.shape.ensures.shape in
-    let u = follows_on _ _ _ _ _ c.shape.ensures.whole.count c.loop-node.invariant.under_way c.run_local.new.self (rw same at c.run_local.ensures.follows) in
-    let wants = stop_is c.args.procedure.now.instrs c.loop-node.tree.parents c.run_local.new.self stop.Over _ c.in-Over.is (rw same at c.run_local.ensures.stop) in
+    let u = follows_on _ _ _ _ _ c.shape.ensures.whole.count c.loop-node.invariant.under_way c.run_local-pending.new.self c.run_local-pending.ensures.follows in
+    let wants = stop_is c.args.procedure.now.instrs c.loop-node.tree.parents c.run_local-pending.new.self stop.Over _ c.in-Over.is (rw same at c.stop_at.ensures) in
     let d = all_done _ _ _ _ _ c.shape.ensures.whole.count u wants in
     let tree = λ (ps : List ℕ) (rs : Records). let t : TreeValue = record { parents = ps; records = rs } in t in
     ap (λ ps. tree ps c.loop-node.tree.records) c.loop-node.invariant.shape ∙ ap (tree c.args.tree.now.parents) d.tree
@@ -174,7 +179,7 @@ returns-in-Over-clause-tree c =
 pub returns-in-Over-clause-within : goal.returns-in-Over-clause-within
 returns-in-Over-clause-within c =
     let same = c.deref.ensures ∙ c.shape.ensures.shape in
-    let u = follows_on _ _ _ _ _ c.shape.ensures.whole.count c.loop-node.invariant.under_way c.run_local.new.self (rw same at c.run_local.ensures.follows) in
-    let wants = stop_is c.args.procedure.now.instrs c.loop-node.tree.parents c.run_local.new.self stop.Over _ c.in-Over.is (rw same at c.run_local.ensures.stop) in
+    let u = follows_on _ _ _ _ _ c.shape.ensures.whole.count c.loop-node.invariant.under_way c.run_local-pending.new.self c.run_local-pending.ensures.follows in
+    let wants = stop_is c.args.procedure.now.instrs c.loop-node.tree.parents c.run_local-pending.new.self stop.Over _ c.in-Over.is (rw same at c.stop_at.ensures) in
     let d = all_done _ _ _ _ _ c.shape.ensures.whole.count u wants in
     d.within

@@ -1,72 +1,217 @@
-use Rattle.std.proofs.Common.{◌≡◌, false, refl, sym, ap, ◌∙◌, subst, Some, Ok}
+use Rattle.std.proofs.Common.{◌≡◌, false, refl, sym, ap, ◌∙◌, subst, Some, Ok, List, ℕ}
 use Rattle.std.specs.Prelude.{option_copied}
 use Rattle.tl_tree_locking.specs.declared.action.Action.TheVariants as did
 use Rattle.tl_tree_locking.specs.History.{is_done}
-use Rattle.tl_machine.specs.Turns.{Stops, segment_of, with_call, end_of}
+use Rattle.tl_instr.specs.Codes.{CodeValue}
+use Rattle.tl_machine.specs.Stopped.{after_action}
+use Rattle.tl_machine.specs.Turns.{IsTurn, LentValue, Stops, with_call}
 use Rattle.tl_machine.specs.declared.want.Stop.TheVariants as stop
 use Rattle.tl_core.specs.declared.stepped.Stepped.TheVariants.{Moved}
 use Rattle.tl_core.specs.Entries.{after_step}
-use Rattle.tl_core.specs.Followed.{NextEndsStop}
-use Rattle.tl_core.proofs.FollowAnswers.{has_gone, stop_step, ends_by, is_no_end, some_reply, none_reply, still_free}
+use Rattle.tl_core.specs.Followed.{NextEndsStop, HasGone}
+use Rattle.tl_core.proofs.FollowAnswers.{has_gone, stop_step, ends_by, is_no_end, some_reply, none_reply, still_free, returned, gone_parents}
+use Rattle.tl_core.proofs.Submitted.{led_to, led_on, begun_on, stops_there, stops_here, segment_to, its_segment}
 use Rattle.tl_core.proofs.interleaving.Core.lead.Goals as goal
 
-pub take_end-requires-clause-segment : goal.take_end-requires-clause-segment
-take_end-requires-clause-segment c = (c.args.stop, c.requires)
+-- the turn's shape is the core's
+pub stop-stop-requires-clause-turn : goal.stop-stop-requires-clause-turn
+stop-stop-requires-clause-turn c =
+    let k = c.in_ok-check_lent.ensures.ok in
+    let same : k.0.parents ≡ c.deref.result.now = (c.is_sound.ensures.turn_of c.args.call k.0 k.1).parents ∙ ap (λ s. s.seen.parents) (sym c.self.view_is) ∙ sym (c.deref.ensures ∙ c.shape.ensures.shape) in
+    led_on c.args.lent.now c.requires k.0 k.2 k.3 c.deref.result.now same
 
-pub returns-in-Some-reply-clause-followed : goal.returns-in-Some-reply-clause-followed
-returns-in-Some-reply-clause-followed c =
-    let seg = segment_of c.args.from.now c.args.state.now c.args.stop in
-    let next : NextEndsStop c.take_end.new.self.seen c.args.call c.args.stop = c.at_stop.ensures (end_of seg) c.args.stop c.take_end.ensures.turn c.requires.stop in
+pub in_the_way-requires : goal.in_the_way-requires
+in_the_way-requires c =
+    let k = c.in_ok-check_lent.ensures.ok in
+    let same : k.0.parents ≡ c.deref.result.now = (c.is_sound.ensures.turn_of c.args.call k.0 k.1).parents ∙ ap (λ s. s.seen.parents) (sym c.self.view_is) ∙ sym (c.deref.ensures ∙ c.shape.ensures.shape) in
+    let stops = stops_there c.args.lent.now c.requires k.0 k.2 k.3 c.deref.result.now c.stop-stop.result same c.stop-stop.ensures in
+    (segment_to c.args.lent.now c.requires k.0 k.2 k.3 c.stop-stop.result, its_segment c.args.lent.now c.requires k.0 k.2 k.3 c.stop-stop.result stops, refl, k.1)
+
+pub returns-in-Some-clause-ok : goal.returns-in-Some-clause-ok
+returns-in-Some-clause-ok c =
+    let k = c.in_ok-check_lent.ensures.ok in
+    let same : k.0.parents ≡ c.deref.result.now = (c.is_sound.ensures.turn_of c.args.call k.0 k.1).parents ∙ ap (λ s. s.seen.parents) (sym c.self.view_is) ∙ sym (c.deref.ensures ∙ c.shape.ensures.shape) in
+    let stops = stops_there c.args.lent.now c.requires k.0 k.2 k.3 c.deref.result.now c.stop-stop.result same c.stop-stop.ensures in
+    record {
+      segment = segment_to c.args.lent.now c.requires k.0 k.2 k.3 c.stop-stop.result;
+      kept = k.1;
+      is_from = k.2;
+      to = refl;
+      is_segment = its_segment c.args.lent.now c.requires k.0 k.2 k.3 c.stop-stop.result stops;
+      led = (c.in-Some.ensures.some, refl);
+      free = tt;
+      turn = led_to c.args.lent.now c.requires k.0 k.2 k.3;
+      same = refl;
+      stays = refl;
+    }
+
+pub take_end-requires : goal.take_end-requires
+take_end-requires c =
+    let k = c.in_ok-check_lent.ensures.ok in
+    let same : k.0.parents ≡ c.deref.result.now = (c.is_sound.ensures.turn_of c.args.call k.0 k.1).parents ∙ ap (λ s. s.seen.parents) (sym c.self.view_is) ∙ sym (c.deref.ensures ∙ c.shape.ensures.shape) in
+    let stops = stops_there c.args.lent.now c.requires k.0 k.2 k.3 c.deref.result.now c.stop-stop.result same c.stop-stop.ensures in
+    (segment_to c.args.lent.now c.requires k.0 k.2 k.3 c.stop-stop.result, its_segment c.args.lent.now c.requires k.0 k.2 k.3 c.stop-stop.result stops, sym c.to.ensures, k.1)
+
+pub pass_stop-stepped-requires : goal.pass_stop-stepped-requires
+pass_stop-stepped-requires c =
+    let k = c.in_ok-check_lent.ensures.ok in
+    let same : k.0.parents ≡ c.deref.result.now = (c.is_sound.ensures.turn_of c.args.call k.0 k.1).parents ∙ ap (λ s. s.seen.parents) (sym c.self.view_is) ∙ sym (c.deref.ensures ∙ c.shape.ensures.shape) in
+    let stops = stops_there c.args.lent.now c.requires k.0 k.2 k.3 c.deref.result.now c.stop-stop.result same c.stop-stop.ensures in
+    (with_call k.0 c.args.lent.now.to, c.take_end.ensures.turn k.0 k.1 ∙ ap (λ d. Some (with_call k.0 d)) c.to.ensures, stops)
+
+pub returns-in-Some-reply-clause-ok : goal.returns-in-Some-reply-clause-ok
+returns-in-Some-reply-clause-ok c =
+    let k = c.in_ok-check_lent.ensures.ok in
+    let s = c.stop-stop.result in
+    let same : k.0.parents ≡ c.deref.result.now = (c.is_sound.ensures.turn_of c.args.call k.0 k.1).parents ∙ ap (λ s. s.seen.parents) (sym c.self.view_is) ∙ sym (c.deref.ensures ∙ c.shape.ensures.shape) in
+    let stops = stops_there c.args.lent.now c.requires k.0 k.2 k.3 c.deref.result.now s same c.stop-stop.ensures in
+    let kept = c.take_end.ensures.turn k.0 k.1 ∙ ap (λ d. Some (with_call k.0 d)) c.to.ensures in
+    let next : NextEndsStop c.take_end.new.self.seen c.args.call s = c.at_stop.ensures (with_call k.0 c.args.lent.now.to) s kept stops in
     let none = (rw c.in_default.is at c.in_the_way.ensures.none) refl in
-    let free = still_free c.args.self.now.seen c.take_end.new.self.seen c.args.stop c.take_end.ensures.past none in (
-      has_gone c.args.self.now c.take_end.new.self c.pass_stop-stepped.new.self c.args.call seg c.take_end.ensures.led next free (Ok c.pass_stop-stepped.result) c.pass_stop-stepped.ensures.answer c.pass_stop-stepped.ensures.after,
-      (some_reply _ _ _ c.in-Some-reply.ensures).0,
-    )
+    let free = still_free c.args.self.now.seen c.take_end.new.self.seen s c.take_end.ensures.past none in
+    let seg = segment_to c.args.lent.now c.requires k.0 k.2 k.3 s in
+    let gone : HasGone c.args.self.now c.args.call seg c.pass_stop-stepped.new.self =
+    has_gone c.args.self.now c.take_end.new.self c.pass_stop-stepped.new.self c.args.call seg c.take_end.ensures.led next free (Ok c.pass_stop-stepped.result) c.pass_stop-stepped.ensures.answer c.pass_stop-stepped.ensures.after in
+    let done = (some_reply _ _ _ c.in-Some-reply.ensures).0 in
+    let stop_is = returned c.take_end.new.self.seen c.pass_stop-stepped.new.self.seen c.args.call s next free (Ok c.pass_stop-stepped.result) c.pass_stop-stepped.ensures.answer c.pass_stop-stepped.ensures.after done in
+    record {
+      segment = seg;
+      kept = k.1;
+      is_from = k.2;
+      to = refl;
+      is_segment = its_segment c.args.lent.now c.requires k.0 k.2 k.3 s stops;
+      led = (gone, stop_is, done);
+      free = none;
+      turn = led_to c.args.lent.now c.requires k.0 k.2 k.3;
+      same = refl;
+      stays = tt;
+    }
+
+pub repeat-requires-clause-from : goal.repeat-requires-clause-from
+repeat-requires-clause-from c =
+    let k = c.in_ok-check_lent.ensures.ok in
+    let s = c.stop-stop.result in
+    let same : k.0.parents ≡ c.deref.result.now = (c.is_sound.ensures.turn_of c.args.call k.0 k.1).parents ∙ ap (λ s. s.seen.parents) (sym c.self.view_is) ∙ sym (c.deref.ensures ∙ c.shape.ensures.shape) in
+    let stops = stops_there c.args.lent.now c.requires k.0 k.2 k.3 c.deref.result.now s same c.stop-stop.ensures in
+    let kept = c.take_end.ensures.turn k.0 k.1 ∙ ap (λ d. Some (with_call k.0 d)) c.to.ensures in
+    let next : NextEndsStop c.take_end.new.self.seen c.args.call s = c.at_stop.ensures (with_call k.0 c.args.lent.now.to) s kept stops in
+    let none = (rw c.in_default.is at c.in_the_way.ensures.none) refl in
+    let free = still_free c.args.self.now.seen c.take_end.new.self.seen s c.take_end.ensures.past none in
+    let seg = segment_to c.args.lent.now c.requires k.0 k.2 k.3 s in
+    let gone : HasGone c.args.self.now c.args.call seg c.pass_stop-stepped.new.self =
+    has_gone c.args.self.now c.take_end.new.self c.pass_stop-stepped.new.self c.args.call seg c.take_end.ensures.led next free (Ok c.pass_stop-stepped.result) c.pass_stop-stepped.ensures.answer c.pass_stop-stepped.ensures.after in
+    let parents = gone_parents c.args.self.now c.pass_stop-stepped.new.self c.args.call seg gone in
+    let here : k.0.parents ≡ c.deref-in-Moved.result.now =
+    (c.is_sound.ensures.turn_of c.args.call k.0 k.1).parents ∙ sym parents ∙ ap (λ s. s.seen.parents) (sym c.self-2.view_is) ∙ sym (c.deref-in-Moved.ensures ∙ c.shape-in-Moved.ensures.shape) in
+    begun_on c.args.lent.now c.requires k.0 k.2 k.3 c.deref-in-Moved.result.now here
+
+pub repeat-requires-clause-to : goal.repeat-requires-clause-to
+repeat-requires-clause-to c =
+    let k = c.in_ok-check_lent.ensures.ok in
+    let s = c.stop-stop.result in
+    let same : k.0.parents ≡ c.deref.result.now = (c.is_sound.ensures.turn_of c.args.call k.0 k.1).parents ∙ ap (λ s. s.seen.parents) (sym c.self.view_is) ∙ sym (c.deref.ensures ∙ c.shape.ensures.shape) in
+    let stops = stops_there c.args.lent.now c.requires k.0 k.2 k.3 c.deref.result.now s same c.stop-stop.ensures in
+    let kept = c.take_end.ensures.turn k.0 k.1 ∙ ap (λ d. Some (with_call k.0 d)) c.to.ensures in
+    let next : NextEndsStop c.take_end.new.self.seen c.args.call s = c.at_stop.ensures (with_call k.0 c.args.lent.now.to) s kept stops in
+    let none = (rw c.in_default.is at c.in_the_way.ensures.none) refl in
+    let free = still_free c.args.self.now.seen c.take_end.new.self.seen s c.take_end.ensures.past none in
+    let seg = segment_to c.args.lent.now c.requires k.0 k.2 k.3 s in
+    let gone : HasGone c.args.self.now c.args.call seg c.pass_stop-stepped.new.self =
+    has_gone c.args.self.now c.take_end.new.self c.pass_stop-stepped.new.self c.args.call seg c.take_end.ensures.led next free (Ok c.pass_stop-stepped.result) c.pass_stop-stepped.ensures.answer c.pass_stop-stepped.ensures.after in
+    let parents = gone_parents c.args.self.now c.pass_stop-stepped.new.self c.args.call seg gone in
+    let here : k.0.parents ≡ c.deref-in-Moved.result.now =
+    (c.is_sound.ensures.turn_of c.args.call k.0 k.1).parents ∙ sym parents ∙ ap (λ s. s.seen.parents) (sym c.self-2.view_is) ∙ sym (c.deref-in-Moved.ensures ∙ c.shape-in-Moved.ensures.shape) in
+    led_on c.args.lent.now c.requires k.0 k.2 k.3 c.deref-in-Moved.result.now here
 
 -- the action is that of the stop, so the state stops at it
 pub repeat-requires-clause-lock : goal.repeat-requires-clause-lock
 repeat-requires-clause-lock c x found is =
-    let seg = segment_of c.args.from.now c.args.state.now c.args.stop in
-    let next : NextEndsStop c.take_end.new.self.seen c.args.call c.args.stop = c.at_stop.ensures (end_of seg) c.args.stop c.take_end.ensures.turn c.requires.stop in
+    let k = c.in_ok-check_lent.ensures.ok in
+    let s = c.stop-stop.result in
+    let same : k.0.parents ≡ c.deref.result.now = (c.is_sound.ensures.turn_of c.args.call k.0 k.1).parents ∙ ap (λ s. s.seen.parents) (sym c.self.view_is) ∙ sym (c.deref.ensures ∙ c.shape.ensures.shape) in
+    let stops = stops_there c.args.lent.now c.requires k.0 k.2 k.3 c.deref.result.now s same c.stop-stop.ensures in
+    let kept = c.take_end.ensures.turn k.0 k.1 ∙ ap (λ d. Some (with_call k.0 d)) c.to.ensures in
+    let next : NextEndsStop c.take_end.new.self.seen c.args.call s = c.at_stop.ensures (with_call k.0 c.args.lent.now.to) s kept stops in
     let none = (rw c.in_default.is at c.in_the_way.ensures.none) refl in
-    let free = still_free c.args.self.now.seen c.take_end.new.self.seen c.args.stop c.take_end.ensures.past none in
+    let free = still_free c.args.self.now.seen c.take_end.new.self.seen s c.take_end.ensures.past none in
+    let seg = segment_to c.args.lent.now c.requires k.0 k.2 k.3 s in
+    let gone : HasGone c.args.self.now c.args.call seg c.pass_stop-stepped.new.self =
+    has_gone c.args.self.now c.take_end.new.self c.pass_stop-stepped.new.self c.args.call seg c.take_end.ensures.led next free (Ok c.pass_stop-stepped.result) c.pass_stop-stepped.ensures.answer c.pass_stop-stepped.ensures.after in
+    let parents = gone_parents c.args.self.now c.pass_stop-stepped.new.self c.args.call seg gone in
+    let here : k.0.parents ≡ c.deref-in-Moved.result.now =
+    (c.is_sound.ensures.turn_of c.args.call k.0 k.1).parents ∙ sym parents ∙ ap (λ s. s.seen.parents) (sym c.self-2.view_is) ∙ sym (c.deref-in-Moved.ensures ∙ c.shape-in-Moved.ensures.shape) in
     let answer = ap (λ s. Ok s) (sym (c.in-Moved.is ∙ ap (λ a. Moved a) is)) ∙ c.pass_stop-stepped.ensures.answer in
-    let locks : c.args.stop ≡ stop.Lock x = ends_by c.take_end.new.self.seen c.args.call c.args.stop next free (did.Lock x found) answer in
-    subst (Stops (end_of seg)) locks c.requires.stop
+    let locks : s ≡ stop.Lock x = ends_by c.take_end.new.self.seen c.args.call s next free (did.Lock x found) answer in
+    stops_here c.args.lent.now c.requires k.0 k.2 k.3 c.deref-in-Moved.result.now (stop.Lock x) here (subst (Stops (with_call k.0 c.args.lent.now.to)) locks stops)
 
 pub repeat-requires-clause-free : goal.repeat-requires-clause-free
 repeat-requires-clause-free c x left is =
-    let seg = segment_of c.args.from.now c.args.state.now c.args.stop in
-    let next : NextEndsStop c.take_end.new.self.seen c.args.call c.args.stop = c.at_stop.ensures (end_of seg) c.args.stop c.take_end.ensures.turn c.requires.stop in
+    let k = c.in_ok-check_lent.ensures.ok in
+    let s = c.stop-stop.result in
+    let same : k.0.parents ≡ c.deref.result.now = (c.is_sound.ensures.turn_of c.args.call k.0 k.1).parents ∙ ap (λ s. s.seen.parents) (sym c.self.view_is) ∙ sym (c.deref.ensures ∙ c.shape.ensures.shape) in
+    let stops = stops_there c.args.lent.now c.requires k.0 k.2 k.3 c.deref.result.now s same c.stop-stop.ensures in
+    let kept = c.take_end.ensures.turn k.0 k.1 ∙ ap (λ d. Some (with_call k.0 d)) c.to.ensures in
+    let next : NextEndsStop c.take_end.new.self.seen c.args.call s = c.at_stop.ensures (with_call k.0 c.args.lent.now.to) s kept stops in
     let none = (rw c.in_default.is at c.in_the_way.ensures.none) refl in
-    let free = still_free c.args.self.now.seen c.take_end.new.self.seen c.args.stop c.take_end.ensures.past none in
+    let free = still_free c.args.self.now.seen c.take_end.new.self.seen s c.take_end.ensures.past none in
+    let seg = segment_to c.args.lent.now c.requires k.0 k.2 k.3 s in
+    let gone : HasGone c.args.self.now c.args.call seg c.pass_stop-stepped.new.self =
+    has_gone c.args.self.now c.take_end.new.self c.pass_stop-stepped.new.self c.args.call seg c.take_end.ensures.led next free (Ok c.pass_stop-stepped.result) c.pass_stop-stepped.ensures.answer c.pass_stop-stepped.ensures.after in
+    let parents = gone_parents c.args.self.now c.pass_stop-stepped.new.self c.args.call seg gone in
+    let here : k.0.parents ≡ c.deref-in-Moved.result.now =
+    (c.is_sound.ensures.turn_of c.args.call k.0 k.1).parents ∙ sym parents ∙ ap (λ s. s.seen.parents) (sym c.self-2.view_is) ∙ sym (c.deref-in-Moved.ensures ∙ c.shape-in-Moved.ensures.shape) in
     let answer = ap (λ s. Ok s) (sym (c.in-Moved.is ∙ ap (λ a. Moved a) is)) ∙ c.pass_stop-stepped.ensures.answer in
-    let frees : c.args.stop ≡ stop.Free x = ends_by c.take_end.new.self.seen c.args.call c.args.stop next free (did.Free x left) answer in
-    subst (Stops (end_of seg)) frees c.requires.stop
+    let frees : s ≡ stop.Free x = ends_by c.take_end.new.self.seen c.args.call s next free (did.Free x left) answer in
+    stops_here c.args.lent.now c.requires k.0 k.2 k.3 c.deref-in-Moved.result.now (stop.Free x) here (subst (Stops (with_call k.0 c.args.lent.now.to)) frees stops)
 
 -- both states were the same before the action, which was done to both
-pub returns-in-Moved-clause-followed : goal.returns-in-Moved-clause-followed
-returns-in-Moved-clause-followed c =
-    let seg = segment_of c.args.from.now c.args.state.now c.args.stop in
-    let next : NextEndsStop c.take_end.new.self.seen c.args.call c.args.stop = c.at_stop.ensures (end_of seg) c.args.stop c.take_end.ensures.turn c.requires.stop in
+pub returns-in-Moved-clause-ok : goal.returns-in-Moved-clause-ok
+returns-in-Moved-clause-ok c =
+    let k = c.in_ok-check_lent.ensures.ok in
+    let s = c.stop-stop.result in
+    let same : k.0.parents ≡ c.deref.result.now = (c.is_sound.ensures.turn_of c.args.call k.0 k.1).parents ∙ ap (λ s. s.seen.parents) (sym c.self.view_is) ∙ sym (c.deref.ensures ∙ c.shape.ensures.shape) in
+    let stops = stops_there c.args.lent.now c.requires k.0 k.2 k.3 c.deref.result.now s same c.stop-stop.ensures in
+    let kept = c.take_end.ensures.turn k.0 k.1 ∙ ap (λ d. Some (with_call k.0 d)) c.to.ensures in
+    let next : NextEndsStop c.take_end.new.self.seen c.args.call s = c.at_stop.ensures (with_call k.0 c.args.lent.now.to) s kept stops in
     let none = (rw c.in_default.is at c.in_the_way.ensures.none) refl in
-    let free = still_free c.args.self.now.seen c.take_end.new.self.seen c.args.stop c.take_end.ensures.past none in
+    let free = still_free c.args.self.now.seen c.take_end.new.self.seen s c.take_end.ensures.past none in
+    let seg = segment_to c.args.lent.now c.requires k.0 k.2 k.3 s in
+    let gone : HasGone c.args.self.now c.args.call seg c.pass_stop-stepped.new.self =
+    has_gone c.args.self.now c.take_end.new.self c.pass_stop-stepped.new.self c.args.call seg c.take_end.ensures.led next free (Ok c.pass_stop-stepped.result) c.pass_stop-stepped.ensures.answer c.pass_stop-stepped.ensures.after in
+    let parents = gone_parents c.args.self.now c.pass_stop-stepped.new.self c.args.call seg gone in
+    let here : k.0.parents ≡ c.deref-in-Moved.result.now =
+    (c.is_sound.ensures.turn_of c.args.call k.0 k.1).parents ∙ sym parents ∙ ap (λ s. s.seen.parents) (sym c.self-2.view_is) ∙ sym (c.deref-in-Moved.ensures ∙ c.shape-in-Moved.ensures.shape) in
     let goes_on : is_done c.args.call c.pass_stop-stepped.new.self.seen.past ≡ false = none_reply _ _ (sym (ap option_copied c.in_default-reply.is) ∙ c.reply.ensures) in
     let after = c.pass_stop-stepped.ensures.after ∙ ap (λ s. after_step c.take_end.new.self.seen c.args.call (Ok s)) c.in-Moved.is in
-    let no_end = is_no_end c.take_end.new.self.seen c.pass_stop-stepped.new.self.seen c.args.call c.in-Moved.action after goes_on in (
-      has_gone c.args.self.now c.take_end.new.self c.pass_stop-stepped.new.self c.args.call seg c.take_end.ensures.led next free (Ok c.pass_stop-stepped.result) c.pass_stop-stepped.ensures.answer c.pass_stop-stepped.ensures.after,
-      c.pass_stop-stepped.ensures.turned c.in-Moved.action c.in-Moved.is no_end (end_of seg) c.take_end.ensures.turn
-          ∙ ap (λ s. Some (with_call c.args.from.now s)) (sym c.repeat.ensures.exact),
-    )
+    let no_end = is_no_end c.take_end.new.self.seen c.pass_stop-stepped.new.self.seen c.args.call c.in-Moved.action after goes_on in
+    let turned = c.pass_stop-stepped.ensures.turned c.in-Moved.action c.in-Moved.is no_end (with_call k.0 c.args.lent.now.to) kept in
+    let act = λ (code : CodeValue) (ps : List ℕ). after_action code.instrs ps c.args.lent.now.to c.in-Moved.action in
+    let state : act k.0.code k.0.parents ≡ c.repeat.new.self.to = ap (λ code. act code k.0.parents) k.2.0 ∙ ap (act c.args.lent.now.code) here ∙ ap (λ l. l.to) (sym c.repeat.ensures.exact) in
+    record {
+      segment = seg;
+      kept = k.1;
+      is_from = k.2;
+      to = refl;
+      is_segment = its_segment c.args.lent.now c.requires k.0 k.2 k.3 s stops;
+      led = (gone, refl, turned ∙ ap (λ d. Some (with_call k.0 d)) state);
+      free = none;
+      turn = subst (λ ps. IsTurn k.0.code.instrs ps c.repeat.new.self.to) (sym here) (subst (λ code. IsTurn code.instrs c.deref-in-Moved.result.now c.repeat.new.self.to) (sym k.2.0) c.repeat.ensures.turn);
+      same = c.repeat.ensures.exact ∙ ap (λ d. let l : LentValue = record { code = c.args.lent.now.code; from = c.args.lent.now.from; to = d } in l) (ap (λ l. l.to) (sym c.repeat.ensures.exact));
+      stays = tt;
+    }
 
 -- a call that nobody is in the way of does something
-pub returns-in_default-stepped : goal.returns-in_default-stepped
-returns-in_default-stepped c =
-    let seg = segment_of c.args.from.now c.args.state.now c.args.stop in
-    let next : NextEndsStop c.take_end.new.self.seen c.args.call c.args.stop = c.at_stop.ensures (end_of seg) c.args.stop c.take_end.ensures.turn c.requires.stop in
+pub unreachable-requires : goal.unreachable-requires
+unreachable-requires c =
+    let k = c.in_ok-check_lent.ensures.ok in
+    let s = c.stop-stop.result in
+    let same : k.0.parents ≡ c.deref.result.now = (c.is_sound.ensures.turn_of c.args.call k.0 k.1).parents ∙ ap (λ s. s.seen.parents) (sym c.self.view_is) ∙ sym (c.deref.ensures ∙ c.shape.ensures.shape) in
+    let stops = stops_there c.args.lent.now c.requires k.0 k.2 k.3 c.deref.result.now s same c.stop-stop.ensures in
+    let kept = c.take_end.ensures.turn k.0 k.1 ∙ ap (λ d. Some (with_call k.0 d)) c.to.ensures in
+    let next : NextEndsStop c.take_end.new.self.seen c.args.call s = c.at_stop.ensures (with_call k.0 c.args.lent.now.to) s kept stops in
     let none = (rw c.in_default.is at c.in_the_way.ensures.none) refl in
-    let free = still_free c.args.self.now.seen c.take_end.new.self.seen c.args.stop c.take_end.ensures.past none in
-    let b = stop_step c.take_end.new.self.seen c.args.call c.args.stop next free in
+    let free = still_free c.args.self.now.seen c.take_end.new.self.seen s c.take_end.ensures.past none in
+    let b = stop_step c.take_end.new.self.seen c.args.call s next free in
     let both : Ok c.pass_stop-stepped.result ≡ Ok (Moved b.0) = c.pass_stop-stepped.ensures.answer ∙ b.1 in
-    let same : c.pass_stop-stepped.result ≡ Moved b.0 = cc in
-    absurd (c.in_default-stepped.not-Moved b.0 same)
+    let same_step : c.pass_stop-stepped.result ≡ Moved b.0 = cc in
+    c.in_default-stepped.not-Moved b.0 same_step

@@ -1,16 +1,48 @@
-use Rattle.std.proofs.Common.{sym, ap, subst}
-use Rattle.tl_machine.specs.Turns.{segment_of}
-use Rattle.tl_machine.specs.declared.want.Stop.{Stop}
-use Rattle.tl_core.specs.Followed.{IsInTheWay}
-use Rattle.tl_table.specs.declared.receipt.Outcome.{Outcome}
-use Rattle.tl_table.specs.declared.receipt.Outcome.TheVariants.{Finished}
-use Rattle.tl_table.specs.Epochs.{seen}
-use Rattle.tl_table.specs.Sent.{IsSentFreely}
+use Rattle.std.proofs.Common.{◌≡◌, length, sym, ap, ◌∙◌, subst, Some}
+use Rattle.tl_tree_locking.specs.History.{admits}
+use Rattle.tl_core.specs.Cores.{CoreState, kept_turn}
+use Rattle.tl_core.specs.Followed.{IsFollowFault}
+use Rattle.tl_core.proofs.Submitted.{led_as, free_as, turn_behind}
+use Rattle.tl_table.proofs.Submitted.{submit_fault}
 use Rattle.tl_table.proofs.epoch.Epoch.submit.Goals as goal
+
+pub returns-in-Err-clause-fault : goal.returns-in-Err-clause-fault
+returns-in-Err-clause-fault c =
+    let refused = subst (λ (k : CoreState). IsFollowFault k c.args.call c.args.segment c.in-Err.fault) (c.core-2.ensures ∙ ap (λ t. t.core) c.self.view_is) c.in-Err.ensures.fault in
+    submit_fault c.args.self.now c.args.call c.args.segment c.in-Err.fault c.fault_of.result
+    (ap (λ (k : CoreState). length k.seen.calls) (sym (c.core.ensures ∙ ap (λ t. t.core) c.self.view_is)) ∙ sym c.calls-calls.ensures.count ∙ c.calls-calls.ensures.admitted ∙ ap (λ (k : CoreState). admits k.seen.past) (c.core.ensures ∙ ap (λ t. t.core) c.self.view_is))
+    c.fault_of.ensures.stale c.fault_of.ensures.other refused
+
+pub returns-in-Advanced-clause-sent : goal.returns-in-Advanced-clause-sent
+returns-in-Advanced-clause-sent c =
+    let t = c.in-Ok.ensures in
+    let kept = subst (λ (k : CoreState). kept_turn k c.args.call ≡ Some c.args.segment.from) (c.core-2.ensures ∙ ap (λ t. t.core) c.self.view_is) t.from in
+    let led = rw c.in-Advanced.is at (led_as c.args.self.now.core c.args.call c.args.segment t.segment kept _ _ _ _ t.lent c.in_ok-lead.ensures.ok) in
+    let turn = turn_behind c.args.self.now.core c.args.call c.args.segment t.segment kept _ _ _ _ t.lent c.in_ok-lead.ensures.ok _ t.shape in
+    (led.0, led.2 ∙ ap Some (sym turn ∙ sym c.into_turn.ensures))
+
+pub returns-in-Advanced-clause-unhindered : goal.returns-in-Advanced-clause-unhindered
+returns-in-Advanced-clause-unhindered c =
+    let t = c.in-Ok.ensures in
+    let kept = subst (λ (k : CoreState). kept_turn k c.args.call ≡ Some c.args.segment.from) (c.core-2.ensures ∙ ap (λ t. t.core) c.self.view_is) t.from in
+    rw c.in-Advanced.is at (free_as c.args.self.now.core c.args.call c.args.segment t.segment kept _ _ _ _ t.lent c.in_ok-lead.ensures.ok)
+
+pub returns-in-Blocked-clause-sent : goal.returns-in-Blocked-clause-sent
+returns-in-Blocked-clause-sent c =
+    let t = c.in-Ok.ensures in
+    let kept = subst (λ (k : CoreState). kept_turn k c.args.call ≡ Some c.args.segment.from) (c.core-2.ensures ∙ ap (λ t. t.core) c.self.view_is) t.from in
+    let led = rw c.in-Blocked.is at (led_as c.args.self.now.core c.args.call c.args.segment t.segment kept _ _ _ _ t.lent c.in_ok-lead.ensures.ok) in
+    ((c.in-Blocked.node, c.in-Blocked.holder, led.0), rw c.in-Blocked.is at c.in_ok-lead.ensures.blocked)
+
+pub returns-in-Some-clause-sent : goal.returns-in-Some-clause-sent
+returns-in-Some-clause-sent c =
+    let t = c.in-Ok.ensures in
+    let kept = subst (λ (k : CoreState). kept_turn k c.args.call ≡ Some c.args.segment.from) (c.core-2.ensures ∙ ap (λ t. t.core) c.self.view_is) t.from in
+    let led = rw c.in-Finished.is at (led_as c.args.self.now.core c.args.call c.args.segment t.segment kept _ _ _ _ t.lent c.in_ok-lead.ensures.ok) in
+    (led.0, c.in-Some.ensures.0, c.in-Some.ensures.1)
 
 pub returns-in-Some-clause-unhindered : goal.returns-in-Some-clause-unhindered
 returns-in-Some-clause-unhindered c =
-    let parts = c.into_parts-turn.result in
-    let F : Outcome → Type 0 = λ o. IsSentFreely c.args.self.now (segment_of parts.0 parts.1 parts.2) o in
-    let free : F Finished = subst F c.in-Finished.is c.in_ok-lead.ensures.unhindered in
-    λ x d way. free x d (subst (λ (stop : Stop). IsInTheWay (seen c.args.self.now) stop x d) (sym (ap (λ s. s.stop) c.into_parts-turn.ensures.parts)) way)
+    let t = c.in-Ok.ensures in
+    let kept = subst (λ (k : CoreState). kept_turn k c.args.call ≡ Some c.args.segment.from) (c.core-2.ensures ∙ ap (λ t. t.core) c.self.view_is) t.from in
+    rw c.in-Finished.is at (free_as c.args.self.now.core c.args.call c.args.segment t.segment kept _ _ _ _ t.lent c.in_ok-lead.ensures.ok)

@@ -1,6 +1,6 @@
-use Rattle.tl_machine.specs.Turns.{IsSegment, segment_of}
+use Rattle.tl_machine.specs.Turns.{HasRun}
 use Rattle.tl_workers.proofs.engine.Engine.run_from.Given as goal
 
--- the state comes from the turn by local instructions, and the call stops there
+-- the local instructions are done, up to where the call stops
 abbrev pub invariant-loop : goal.invariant-loop
-invariant-loop g l = IsSegment (segment_of l.from l.state l.stop)
+invariant-loop g l = HasRun l.lent

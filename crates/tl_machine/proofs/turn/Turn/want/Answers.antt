@@ -1,9 +1,0 @@
-use Rattle.std.proofs.Common.{sym}
-use Rattle.tl_machine.proofs.TurnLemmas.{stands_running, wants_waits}
-use Rattle.tl_machine.proofs.turn.Turn.want.Goals as goal
-
-pub returns : goal.returns
-returns c =
-    let st = stands_running _ _ _ c.self.invariant c.if-self.false in
-    let next = rw (c.deref.ensures, c.deref-2.ensures) at c.next_want.ensures in
-    rw (sym c.self.view_is) (wants_waits _ _ _ st st.counters next.0 c.next_want.result next.1 (sym next.2))
