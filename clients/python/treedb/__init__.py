@@ -21,6 +21,7 @@ from __future__ import annotations
 import json
 import os
 import socket
+import subprocess
 import time
 from collections.abc import Iterable, Sequence
 from typing import Any, NamedTuple, Optional, Union
@@ -28,7 +29,7 @@ from typing import Any, NamedTuple, Optional, Union
 from .faults import FAULTS
 from .names import Names
 
-__all__ = ["Answer", "Bounds", "Client", "Disconnected", "Exhausted", "Names", "Refused", "script"]
+__all__ = ["Answer", "Bounds", "Client", "Disconnected", "Exhausted", "Names", "Refused", "Unreadable", "script"]
 __version__ = "0.1.0"
 
 # The last call of an epoch: there are 4,096.
@@ -63,6 +64,10 @@ class Refused(Exception):
         parts = "".join(f", {part}" for part in self.numbers[1:])
         where = "" if line is None else f" (line {line})"
         super().__init__(f"[{self.number}{parts}] {self.meaning}{where}")
+
+
+class Unreadable(Exception):
+    """A text of the procedure language that is refused, with its line and a caret under the place, or one that lacks a procedure."""
 
 
 class Exhausted(Exception):
@@ -117,10 +122,12 @@ class Client:
             raise Refused(refusal.numbers, _line(text, refusal.numbers)) from None
         return Bounds(bounds["steps"], bounds["locks"], bounds["emits"])
 
-    def register_file(self, name: str, path: Union[str, os.PathLike[str]]) -> Bounds:
-        """Registers the text of a file under a name, and returns its `Bounds`."""
-        with open(path, encoding="utf-8") as file:
-            return self.register(name, file.read())
+    def register_file(self, name: str, path: Union[str, os.PathLike[str]], program: str = "./treedb") -> Bounds:
+        """Registers the text of a file under a name, and returns its `Bounds`.
+
+        Of a file `.tdb` it is the procedure of that name, which the program compiles; any other file has an assembler text.
+        """
+        return self.register(name, text_of(name, path, program))
 
     def call(self, procedure: str, *arguments: int) -> Answer:
         """Runs a call to its end, and returns its `Answer`."""
@@ -273,8 +280,31 @@ class Client:
         return answer
 
 
-def script(procedures: dict[str, str], calls: Iterable[Call]) -> str:
-    """The text of a script for `treedb run`: procedures as {name: text}, calls as [(procedure, argument, ..), ..]."""
+def procedures_of(path: Union[str, os.PathLike[str]], program: str = "./treedb") -> dict[str, str]:
+    """The procedures of a file in the procedure language as {name: assembler text}, as `treedb procs` prints them. A text that is refused
+    raises `Unreadable`, whose message has the line and a caret under the place."""
+    done = subprocess.run([program, "procs", str(path)], capture_output=True, encoding="utf-8", check=False)
+    if done.returncode != 0:
+        raise Unreadable(done.stderr.rstrip("\n"))
+    return dict(json.loads(done.stdout))
+
+
+def text_of(name: str, path: Union[str, os.PathLike[str]], program: str = "./treedb") -> str:
+    """The assembler text of a procedure: the one of that name of a file `.tdb`, or the whole text of another file."""
+    if not str(path).endswith(".tdb"):
+        with open(path, encoding="utf-8") as file:
+            return file.read()
+    procedures = procedures_of(path, program)
+    if name not in procedures:
+        raise Unreadable(f"{path}: no procedure {name}")
+    return procedures[name]
+
+
+def script(procedures: Union[dict[str, str], str], calls: Iterable[Call], program: str = "./treedb") -> str:
+    """The text of a script for `treedb run`: procedures as {name: text} or as the path of a file `.tdb`, calls as
+    [(procedure, argument, ..), ..]."""
+    if not isinstance(procedures, dict):
+        procedures = procedures_of(procedures, program)
     wanted = [[procedure, list(arguments)] for procedure, *arguments in calls]
     return json.dumps({"calls": wanted, "procs": [[name, text] for name, text in procedures.items()]}, indent=2) + "\n"
 

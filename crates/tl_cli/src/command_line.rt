@@ -1,8 +1,8 @@
 // The command line.
 
 use crate::help::{
-    ALONE_HELP, ASM_HELP, AUDIT_HELP, CHECK_HELP, DIS_HELP, DRIVE_HELP, EXPLAIN_HELP, HELP,
-    MIGRATE_HELP, RUN_HELP, SERVE_HELP, VERIFY_HELP, WIDEN_HELP,
+    ALONE_HELP, ASM_HELP, AUDIT_HELP, CHECK_HELP, COMPILE_HELP, DIS_HELP, DRIVE_HELP, EXPLAIN_HELP,
+    HELP, MIGRATE_HELP, PROCS_HELP, RUN_HELP, SERVE_HELP, VERIFY_HELP, WIDEN_HELP,
 };
 use clap::error::ErrorKind;
 use clap::{Arg, ArgAction, ArgMatches, Command, Error, value_parser};
@@ -50,19 +50,46 @@ pub enum CallCommand<'a> {
 #[derive(Clone, Copy)]
 pub enum FileCommand<'a> {
     /// Write the container of an assembler text.
-    Assemble { text: &'a str, container: &'a str },
+    Assemble {
+        text: &'a str,
+        container: &'a str,
+    },
     /// Say whether the calls of a trail may have done what it tells.
-    Audit { trail: &'a str },
+    Audit {
+        trail: &'a str,
+    },
     /// Say what a procedure does at most, or where its text is wrong.
-    Check { file: &'a str },
+    Check {
+        file: &'a str,
+    },
+    /// Write the container of a procedure of a text, the one of that name where there are several.
+    Compile {
+        text: &'a str,
+        container: &'a str,
+        procedure: Option<&'a str>,
+    },
     /// Print the text of a container.
-    Disassemble { container: &'a str },
+    Disassemble {
+        container: &'a str,
+    },
     /// Write a container in the second version of the language.
-    Migrate { old: &'a str, new: &'a str },
+    Migrate {
+        old: &'a str,
+        new: &'a str,
+    },
+    /// Print the procedures of a text, each with its assembler text.
+    Procedures {
+        text: &'a str,
+    },
     /// Print the bounds of a container's procedure.
-    Verify { container: &'a str },
+    Verify {
+        container: &'a str,
+    },
     /// Write a tree whose records have eight fields.
-    Widen { old: &'a str, new: &'a str },
+    Widen {
+        old: &'a str,
+        new: &'a str,
+    },
 }
 
 /// What the program is asked to do.
@@ -156,6 +183,26 @@ fn check_command<'a>(alloc: Global) -> Result<Command<'a>, AllocError> {
             "FILE",
             "The file of an assembler text or of a container",
         ))
+}
+
+fn compile_command<'a>(alloc: Global) -> Result<Command<'a>, AllocError> {
+    let procedure = Arg::new(alloc, "proc")
+        .long("proc")
+        .value_name("NAME")
+        .help("The name of the procedure, where the text has several");
+    Command::new(alloc, "compile")
+        .about("Writes the container of a procedure of a text, and prints what it does at most")
+        .after_help(COMPILE_HELP)
+        .arg(file_arg(alloc, "IN", "The file of the text"))?
+        .arg(file_arg(alloc, "OUT", "The file that the container is written to"))?
+        .arg(procedure)
+}
+
+fn procs_command<'a>(alloc: Global) -> Result<Command<'a>, AllocError> {
+    Command::new(alloc, "procs")
+        .about("Prints the procedures of a text, each with its assembler text")
+        .after_help(PROCS_HELP)
+        .arg(file_arg(alloc, "IN", "The file of the text"))
 }
 
 fn dis_command<'a>(alloc: Global) -> Result<Command<'a>, AllocError> {
@@ -293,6 +340,8 @@ fn command<'a>(alloc: Global) -> Result<Command<'a>, AllocError> {
         .subcommand(serve_command(alloc)?)?
         .subcommand(audit_command(alloc)?)?
         .subcommand(check_command(alloc)?)?
+        .subcommand(compile_command(alloc)?)?
+        .subcommand(procs_command(alloc)?)?
         .subcommand(asm_command(alloc)?)?
         .subcommand(dis_command(alloc)?)?
         .subcommand(verify_command(alloc)?)?
@@ -345,12 +394,20 @@ fn file_command<'a>(name: &str, words: &ArgMatches<'a>) -> Option<FileCommand<'a
         "check" => Some(FileCommand::Check {
             file: words.get_str("FILE")?,
         }),
+        "compile" => Some(FileCommand::Compile {
+            text: words.get_str("IN")?,
+            container: words.get_str("OUT")?,
+            procedure: words.get_str("proc"),
+        }),
         "dis" => Some(FileCommand::Disassemble {
             container: words.get_str("IN")?,
         }),
         "migrate" => Some(FileCommand::Migrate {
             old: words.get_str("IN")?,
             new: words.get_str("OUT")?,
+        }),
+        "procs" => Some(FileCommand::Procedures {
+            text: words.get_str("IN")?,
         }),
         "verify" => Some(FileCommand::Verify {
             container: words.get_str("IN")?,

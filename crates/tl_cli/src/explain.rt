@@ -28,7 +28,9 @@ fn meaning_of(number: u16) -> Option<Meaning> {
     match number {
         0..=99 => file_meaning(number),
         100..=199 => tree_meaning(number),
-        200..=299 => text_meaning(number),
+        200..=269 | 290 => text_meaning(number),
+        270..=284 => language_meaning(number),
+        285..=299 => limit_meaning(number),
         300..=399 => loop_meaning(number),
         400..=499 => register_meaning(number),
         500..=649 => call_meaning(number),
@@ -183,7 +185,7 @@ fn text_meaning(number: u16) -> Option<Meaning> {
         255 => Some((
             "",
             "not UTF-8",
-            "the text that is to be assembled isn't UTF-8",
+            "the text that is to be assembled or compiled isn't UTF-8",
             "save the text as UTF-8",
         )),
         290 => Some((
@@ -191,6 +193,188 @@ fn text_meaning(number: u16) -> Option<Meaning> {
             "memory, text",
             "memory was refused for a container or a text",
             "try again with more memory",
+        )),
+        _ => None,
+    }
+}
+
+// What is wrong with a text of the procedure language.
+fn language_meaning(number: u16) -> Option<Meaning> {
+    match number {
+        270 => Some((
+            ", line, column",
+            "unknown character",
+            "the character begins no word, number or sign",
+            "look at the character; texts and their signs are ASCII, outside of comments",
+        )),
+        271 => Some((
+            ", line, column",
+            "bad number",
+            "the number has a leading zero or a letter, or is too large",
+            "numbers are decimal, from -2147483648 to 2147483647",
+        )),
+        272 => Some((
+            ", line, column",
+            "long name",
+            "the name has more than 32 characters",
+            "take a shorter name",
+        )),
+        273 => Some((
+            ", line, column",
+            "misplaced",
+            "the word, number or sign can't stand here",
+            "look at what stands before it; `language.md` has the grammar",
+        )),
+        274 => Some((
+            ", line, column",
+            "too deep",
+            "this would open a 65th level of blocks, parentheses and operators",
+            "give a part of the expression a name by `let`, or take blocks apart",
+        )),
+        275 => Some((
+            ", line, column",
+            "unknown name",
+            "no such name or field is known here",
+            "declare it before it is used; a name is known up to the end of its block",
+        )),
+        276 => Some((
+            ", line, column",
+            "name twice",
+            "the name is declared already",
+            "take another name: nothing is shadowed",
+        )),
+        277 => Some((
+            ", line, column",
+            "wrong kind",
+            "a number, a condition, a value or a node stands where something else is wanted",
+            "see the rules in `language.md`",
+        )),
+        278 => Some((
+            ", line, column",
+            "field above 7",
+            "a field has a number above 7",
+            "a record has the fields 0 to 7",
+        )),
+        279 => Some((
+            ", line, column",
+            "ninth argument",
+            "the procedure has more than 8 arguments",
+            "a call takes at most 8 arguments",
+        )),
+        280 => Some((
+            ", line, column",
+            "turns not constant",
+            "how often the loop turns is no constant from 1 to 65,535",
+            "write a number or a constant, or `repeat e at most w`",
+        )),
+        281 => Some((
+            ", line, column",
+            "not held",
+            "the node isn't held on every path to here",
+            "lock it on every path, or use it before it is freed",
+        )),
+        282 => Some((
+            ", line, column",
+            "entered again",
+            "`node(..)` may have locked a node before",
+            "enter the tree once, by `node(..)`, and go on by `child(..)`",
+        )),
+        283 => Some((
+            ", line, column",
+            "turn changes held",
+            "a turn of the loop ends with other nodes held than it began with, or enters the tree",
+            "lock and free the same nodes in each turn",
+        )),
+        284 => Some((
+            ", line, column",
+            "loop without turns",
+            "the node's children were locked or gone through before, so the loop would find none",
+            "go through the children once",
+        )),
+        _ => None,
+    }
+}
+
+// What a text of the procedure language asks too much of, and the like.
+fn limit_meaning(number: u16) -> Option<Meaning> {
+    match number {
+        285 => Some((
+            ", line, column",
+            "other parent",
+            "the second of two children that are locked at once is a child of another node",
+            "lock them one after the other",
+        )),
+        286 => Some((
+            ", line, column",
+            "else goes on",
+            "the `else` of a `let` or a `lock` comes to its end, where the name would stand for nothing",
+            "end it with `return`, `fail` or `break`, or use `if lock`",
+        )),
+        287 => Some((
+            ", line, column",
+            "unreachable",
+            "no path leads to the statement",
+            "remove it, or what leaves before it",
+        )),
+        288 => Some((
+            ", line, column",
+            "no loop",
+            "`break` stands outside a loop",
+            "use `return` or `fail`",
+        )),
+        289 => Some((
+            "",
+            "not one procedure",
+            "the text has no procedure of that name, or without a name not exactly one",
+            "name one of its procedures by `--proc`",
+        )),
+        291 => Some((
+            ", line, column",
+            "too many values",
+            "more than 16 value registers are needed",
+            "end blocks earlier, or use fewer names and shorter expressions",
+        )),
+        292 => Some((
+            ", line, column",
+            "too many nodes",
+            "more than 8 node registers are needed",
+            "end blocks earlier, or go down by `descend`",
+        )),
+        293 => Some((
+            ", line, column",
+            "too many loops",
+            "a loop stands in four others",
+            "take the procedure apart",
+        )),
+        294 => Some((
+            ", line, column",
+            "text too long",
+            "the procedure has more than 1,024 instructions; the place is where most of them come from",
+            "split the procedure",
+        )),
+        295 => Some((
+            ", line, column",
+            "too many steps",
+            "the procedure may do more than 1,000,000 instructions; the place is where most of them come from",
+            "let loops turn less often",
+        )),
+        296 => Some((
+            ", line, column",
+            "too many locks",
+            "the procedure may lock more than 4,096 nodes; the place is where most of them come from",
+            "let loops turn less often",
+        )),
+        297 => Some((
+            ", line, column",
+            "too many emits",
+            "the procedure may emit more than 32 values; the place is where most of them come from",
+            "emit fewer values, or let loops turn less often",
+        )),
+        298 => Some((
+            ", line, column",
+            "compiled and refused",
+            "the verifier refuses what was compiled",
+            "report the text: this is a fault of the compiler",
         )),
         _ => None,
     }

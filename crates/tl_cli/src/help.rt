@@ -32,6 +32,17 @@ A file that is a list is a chain, one trail an epoch: this prints {\"orders\":[.
 doesn't take over where the one before it ends, or {\"error\":[719,trail,..]} with what is wrong with a trail.
 Exit status: 0 done, 1 refused, 2 a mistake on the command line, 3 a file that can't be read, 4 memory.";
 
+pub const COMPILE_HELP: &str = "\
+Example: treedb compile stock.tdb shift.tlp --proc shift
+prints {\"bounds\":{\"emits\":1,\"locks\":3,\"steps\":33},\"count\":36}. A text that is refused is told by line and column, with a
+caret under the place, and nothing is written.
+Exit status: 0 done, 1 refused, 2 a mistake on the command line, 3 a file that can't be read or written, 4 memory.";
+
+pub const PROCS_HELP: &str = "\
+Example: treedb procs stock.tdb
+prints [[\"shift\",\"version 2\\narity 4\\n..\"],..], each procedure with its assembler text, as a script's procs takes them.
+Exit status: 0 done, 1 refused, 2 a mistake on the command line, 3 a file that can't be read, 4 memory.";
+
 pub const DIS_HELP: &str = "\
 Example: treedb dis walk.tlp
 prints a text that asm turns into the same container.

@@ -21,9 +21,9 @@ use std::rt::Files;
 use std::sync::Wait;
 use std::thread::Threads;
 pub use tl_commands::{
-    CliFault, alone_cmd, asm_cmd, audit_cmd, check_cmd, conclude_engine,
+    CliFault, alone_cmd, asm_cmd, audit_cmd, check_cmd, compile_cmd, conclude_engine,
     conclude_engine_with_trail, dis_cmd, drive_cmd, drive_with_trail_cmd, migrate_cmd, open_engine,
-    run_cmd, run_with_trail_cmd, verify_cmd, widen_cmd,
+    procs_cmd, run_cmd, run_with_trail_cmd, verify_cmd, widen_cmd,
 };
 
 /// The exit status where memory is refused before a command is known. Nothing is printed then.

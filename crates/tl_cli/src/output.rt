@@ -1,10 +1,17 @@
 // Failures, printed.
 
 use crate::failure::Failure;
+use serde_json::Value;
 use std::alloc::Global;
 use std::io;
 use tl_asm::{AsmFault, instruction_lines};
 use tl_commands::CliFault;
+use tl_compiler::Position;
+use tl_trail::TrailFault;
+use tl_tree::TreeFault;
+
+/// The longest line that is quoted.
+const MAX_QUOTED: usize = 400;
 
 /// Prints a failure: its numbers on standard output, `{"error":[..]}`, and its message for people on standard error.
 pub fn print_failure<R: Print + Eprint>(rt: &R, failure: &Failure<'_>) -> io::Result<()> {
@@ -46,7 +53,19 @@ fn line_of_position(alloc: Global, text: &str, position: u64) -> Option<u64> {
     lines.get(usize::try_from(position).ok()?).copied()
 }
 
-/// Where the fault of a text lies, where it lies at one place. A position of the code is the line of that instruction.
+// Where a text stops being JSON, if it is none.
+fn place_in_json(alloc: Global, text: &str) -> Option<Place> {
+    match Value::from_str(alloc, text) {
+        Err(error) if !error.is_memory() => Some(Place {
+            line: error.line() as u64,
+            column: Some(error.column() as u64),
+        }),
+        _ => None,
+    }
+}
+
+/// Where the fault of a text lies, where it lies at one place. A position of the code is the line of that instruction, and a text that is no
+/// JSON is wrong where that shows.
 pub fn place_of(alloc: Global, text: &str, fault: &CliFault) -> Option<Place> {
     match fault {
         CliFault::Asm(
@@ -55,6 +74,13 @@ pub fn place_of(alloc: Global, text: &str, fault: &CliFault) -> Option<Place> {
             line: *line,
             column: None,
         }),
+        CliFault::Compile(fault) => {
+            let Position { line, column } = fault.position()?;
+            Some(Place {
+                line,
+                column: Some(column),
+            })
+        }
         CliFault::Verify(fault) => {
             let position = *fault.numbers().as_slice().get(1)?;
             Some(Place {
@@ -62,6 +88,9 @@ pub fn place_of(alloc: Global, text: &str, fault: &CliFault) -> Option<Place> {
                 column: None,
             })
         }
+        CliFault::Tree(TreeFault::NotTree)
+        | CliFault::Trail(TrailFault::NotTrail)
+        | CliFault::NotScript => place_in_json(alloc, text),
         _ => None,
     }
 }
@@ -95,6 +124,9 @@ pub fn point_at<R: Eprint>(rt: &R, path: &str, text: &str, place: Place) {
         Some(column) => eprintln!(rt; "{path}:{line}:{column}"),
         None => eprintln!(rt; "{path}:{line}"),
     };
+    if quoted.len() > MAX_QUOTED {
+        return;
+    }
     let _shown = eprintln!(rt; "    {quoted}");
     let _shown = eprint!(rt; "    ");
     for byte in quoted.bytes().take(bytes_before(quoted, column)) {

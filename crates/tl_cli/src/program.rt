@@ -6,9 +6,9 @@ use crate::progress::Shown;
 use crate::script::{NamedText, first_refused, with_procedures};
 use crate::trail_file::TrailFile;
 use crate::{
-    CliFault, alone_cmd, asm_cmd, audit_cmd, check_cmd, conclude_engine,
+    CliFault, alone_cmd, asm_cmd, audit_cmd, check_cmd, compile_cmd, conclude_engine,
     conclude_engine_with_trail, dis_cmd, drive_cmd, drive_with_trail_cmd, migrate_cmd, open_engine,
-    output, run_cmd, run_with_trail_cmd, verify_cmd, widen_cmd,
+    output, procs_cmd, run_cmd, run_with_trail_cmd, verify_cmd, widen_cmd,
 };
 use std::io::ErrorKind;
 use std::net::{Net, TcpListener, TcpStream};
@@ -17,6 +17,13 @@ use std::sync::Wait;
 use std::thread::Threads;
 use tl_server::{ListenFault, Server};
 use tl_workers::{MAX_WORKERS, NoGate};
+
+// A file that was read: its path, and its bytes.
+#[derive(Drop)]
+struct Named<'a> {
+    path: &'a str,
+    bytes: Vec<u8>,
+}
 
 /// Where commands find their files, and whether people see on a terminal how far they are.
 #[derive(Drop)]
@@ -51,13 +58,14 @@ impl<'a, R: Files + Print + Eprint + AllocGlobal> Program<'a, R> {
 
     fn alone<'p>(
         &self,
-        tree: &'p str,
+        path: &'p str,
         procedure: &'p str,
         args: &str,
     ) -> Result<String, Failure<'p>> {
-        let tree = self.read_file(tree)?;
+        let tree = self.read_file(path)?;
         let procedure = self.read_file(procedure)?;
-        Ok(alone_cmd(self.rt.alloc(), &tree, &procedure, args)?)
+        let done = alone_cmd(self.rt.alloc(), &tree, &procedure, args);
+        done.map_err(|fault| self.misread(path, &tree, fault))
     }
 
     // Answers the fault of a text, and shows people where it is.
@@ -88,6 +96,29 @@ impl<'a, R: Files + Print + Eprint + AllocGlobal> Program<'a, R> {
         }
     }
 
+    fn compile<'p>(
+        &self,
+        path: &'p str,
+        container: &'p str,
+        procedure: Option<&str>,
+    ) -> Result<String, Failure<'p>> {
+        let text = self.read_file(path)?;
+        let (line, bytes) = match compile_cmd(self.rt.alloc(), &text, procedure) {
+            Ok(answer) => answer,
+            Err(fault) => return Err(self.misread(path, &text, fault)),
+        };
+        self.write_file(container, &bytes)?;
+        Ok(line)
+    }
+
+    fn procedures<'p>(&self, path: &'p str) -> Result<String, Failure<'p>> {
+        let text = self.read_file(path)?;
+        match procs_cmd(self.rt.alloc(), &text) {
+            Ok(line) => Ok(line),
+            Err(fault) => Err(self.misread(path, &text, fault)),
+        }
+    }
+
     fn migrate<'p>(&self, old: &'p str, new: &'p str) -> Result<String, Failure<'p>> {
         let old = self.read_file(old)?;
         let (line, bytes) = migrate_cmd(self.rt.alloc(), &old)?;
@@ -102,6 +133,14 @@ impl<'a, R: Files + Print + Eprint + AllocGlobal> Program<'a, R> {
         Ok(line)
     }
 
+    // A file that has been read, with its path.
+    fn read_named<'p>(&self, path: &'p str) -> Result<Named<'p>, Failure<'p>> {
+        Ok(Named {
+            path,
+            bytes: self.read_file(path)?,
+        })
+    }
+
     // A procedure that the command line names as `NAME=FILE`.
     fn named_text<'p>(&self, named: &'p str) -> Result<NamedText<'p>, Failure<'p>> {
         let (name, path) = named.split_once('=').unwrap_or((named, named));
@@ -112,8 +151,8 @@ impl<'a, R: Files + Print + Eprint + AllocGlobal> Program<'a, R> {
     }
 
     // A script, with the procedures that the command line names behind its own.
-    fn read_script<'p>(&self, files: &ScriptFiles<'p>) -> Result<Vec<u8>, Failure<'p>> {
-        let script = self.read_file(files.script)?;
+    fn read_script<'p>(&self, files: &ScriptFiles<'p>) -> Result<Named<'p>, Failure<'p>> {
+        let mut script = self.read_named(files.script)?;
         if files.procedures.is_empty() {
             return Ok(script);
         }
@@ -121,18 +160,32 @@ impl<'a, R: Files + Print + Eprint + AllocGlobal> Program<'a, R> {
         for named in &files.procedures {
             texts.push(self.named_text(named)?)?;
         }
-        Ok(with_procedures(self.rt.alloc(), script, &texts)?)
+        script.bytes = with_procedures(self.rt.alloc(), script.bytes, &texts)?;
+        Ok(script)
     }
 
-    // Answers the fault of a script. Where one of its procedures is refused, people are shown which, and where.
-    fn misread_script<'p>(&self, script: &[u8], fault: CliFault) -> Failure<'p> {
-        if let CliFault::Register(_) = fault {
-            if let Some(refused) = first_refused(self.rt.alloc(), script) {
-                let _shown = eprintln!(self.rt; "treedb: the procedure {}", refused.name);
-                let _failure = self.misread(&refused.name, refused.text.as_bytes(), refused.fault);
+    // Answers the fault of a script on a tree. Where one of its procedures is refused, people are shown which, and where.
+    fn misread_script<'p>(
+        &self,
+        tree: &Named<'_>,
+        script: &Named<'_>,
+        fault: CliFault,
+    ) -> Failure<'p> {
+        match fault {
+            CliFault::Tree(_) => self.misread(tree.path, &tree.bytes, fault),
+            CliFault::Register(_) => {
+                if let Some(refused) = first_refused(self.rt.alloc(), &script.bytes) {
+                    let _shown = eprintln!(self.rt; "treedb: the procedure {}", refused.name);
+                    let _failure = self.misread(
+                        &refused.name,
+                        refused.text.as_bytes(),
+                        refused.fault,
+                    );
+                }
+                Failure::Refused(fault)
             }
+            fault => self.misread(script.path, &script.bytes, fault),
         }
-        Failure::Refused(fault)
     }
 
     // The trail is written to a file, where one is named.
@@ -142,15 +195,16 @@ impl<'a, R: Files + Print + Eprint + AllocGlobal> Program<'a, R> {
         script: &ScriptFiles<'p>,
         trail: Option<&'p str>,
     ) -> Result<String, Failure<'p>> {
-        let tree = self.read_file(tree)?;
+        let tree = self.read_named(tree)?;
         let script = self.read_script(script)?;
         let Some(path) = trail else {
-            let driven = drive_cmd(self.rt.alloc(), &tree, &script);
-            return driven.map_err(|fault| self.misread_script(&script, fault));
+            let driven = drive_cmd(self.rt.alloc(), &tree.bytes, &script.bytes);
+            return driven.map_err(|fault| self.misread_script(&tree, &script, fault));
         };
-        let (lines, trail) = match drive_with_trail_cmd(self.rt.alloc(), &tree, &script) {
+        let driven = drive_with_trail_cmd(self.rt.alloc(), &tree.bytes, &script.bytes);
+        let (lines, trail) = match driven {
             Ok(driven) => driven,
-            Err(fault) => return Err(self.misread_script(&script, fault)),
+            Err(fault) => return Err(self.misread_script(&tree, &script, fault)),
         };
         self.write_file(path, trail.as_bytes())?;
         Ok(lines)
@@ -169,12 +223,12 @@ impl<'a, R: Files + Print + Eprint + AllocGlobal> Program<'a, R> {
         }
     }
 
-    fn audit<'p>(&self, trail: &'p str) -> Result<String, Failure<'p>> {
-        let trail = self.read_file(trail)?;
+    fn audit<'p>(&self, path: &'p str) -> Result<String, Failure<'p>> {
+        let trail = self.read_file(path)?;
         let mut shown = Shown::new(self.rt, self.is_terminal);
         let answer = audit_cmd(self.rt.alloc(), &trail, &mut shown);
         shown.end();
-        Ok(answer?)
+        answer.map_err(|fault| self.misread(path, &trail, fault))
     }
 }
 
@@ -200,17 +254,26 @@ impl<'a, R: Files + Print + Eprint + AllocGlobal + Threads + Wait + Sync> Progra
         script: &ScriptFiles<'p>,
         trail: Option<&'p str>,
     ) -> Result<String, Failure<'p>> {
-        let tree = self.read_file(tree)?;
+        let tree = self.read_named(tree)?;
         let script = self.read_script(script)?;
         let alloc = self.rt.alloc();
         // The command line takes no other numbers.
         let workers = workers.clamp(1, MAX_WORKERS);
         let Some(path) = trail else {
-            let ran = run_cmd(self.rt, alloc, &tree, &script, workers, &NoGate);
-            return ran.map_err(|fault| self.misread_script(&script, fault));
+            let ran = run_cmd(self.rt, alloc, &tree.bytes, &script.bytes, workers, &NoGate);
+            return ran.map_err(|fault| self.misread_script(&tree, &script, fault));
         };
         let mut file = TrailFile::new(self.rt, path);
-        let ran = run_with_trail_cmd(self.rt, alloc, &tree, &script, workers, &NoGate, &mut file);
+        let (tree_bytes, script_bytes) = (&tree.bytes, &script.bytes);
+        let ran = run_with_trail_cmd(
+            self.rt,
+            alloc,
+            tree_bytes,
+            script_bytes,
+            workers,
+            &NoGate,
+            &mut file,
+        );
         printed(path, file, ran)
     }
 }
@@ -287,10 +350,16 @@ where
             FileCommand::Assemble { text, container } => self.assemble(text, container),
             FileCommand::Audit { trail } => self.audit(trail),
             FileCommand::Check { file } => self.check(file),
+            FileCommand::Compile {
+                text,
+                container,
+                procedure,
+            } => self.compile(text, container, procedure),
             FileCommand::Disassemble { container } => {
                 Ok(dis_cmd(self.rt.alloc(), &self.read_file(container)?)?)
             }
             FileCommand::Migrate { old, new } => self.migrate(old, new),
+            FileCommand::Procedures { text } => self.procedures(text),
             FileCommand::Verify { container } => {
                 Ok(verify_cmd(self.rt.alloc(), &self.read_file(container)?)?)
             }

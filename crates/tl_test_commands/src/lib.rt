@@ -27,6 +27,8 @@ mod drive;
 #[cfg(test)]
 mod fault;
 #[cfg(test)]
+mod language;
+#[cfg(test)]
 mod limits;
 #[cfg(test)]
 mod machine;

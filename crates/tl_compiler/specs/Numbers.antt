@@ -1,0 +1,81 @@
+-- The code of numbers and conditions. Code is put before the code that follows it, k, and a label is how many instructions stand
+-- from there to the end. So t is the first free value register, and f the label that a failure leads to.
+use Rattle.std.specs.Prelude.{ℕ, ◌+◌, List, ◌∷◌, Bool, true, false, not, Option, Some, None, is_some, unwrap_or, length, if◌then◌else◌}
+use Rattle.tl_instr.specs.declared.instr.Instr.{Instr}
+use Rattle.tl_instr.specs.declared.instr.Instr.TheVariants as I
+use Rattle.tl_syntax.specs.declared.operator.Operator.{Operator}
+use Rattle.tl_syntax.specs.declared.operator.Operator.TheVariants as O
+use Rattle.tl_lowering.specs.declared.program.Expression.{Expression}
+use Rattle.tl_lowering.specs.declared.program.Expression.TheVariants as E
+use Rattle.tl_lowering.specs.declared.program.Condition.{Condition}
+use Rattle.tl_lowering.specs.declared.program.Condition.TheVariants as C
+use Rattle.tl_compiler.specs.Labels.{target_of}
+use Rattle.tl_compiler.specs.declared.values.Test.{Test}
+use Rattle.tl_compiler.specs.declared.values.Test.TheVariants as T
+
+-- the register that a value is in; another number is in none
+abbrev pub own_register : Expression → Option ℕ
+own_register (E.Value x) = Some x
+own_register e = None
+
+-- the register that an operand is in: a value is in its own
+abbrev pub register_of : Expression → ℕ → ℕ
+register_of e t = unwrap_or (own_register e) t
+
+-- the first free register behind an operand
+abbrev pub behind : Expression → ℕ → ℕ
+behind e t = if is_some (own_register e) then t else t + 1
+
+-- the instruction of an operation
+abbrev pub calculation : Operator → ℕ → ℕ → ℕ → ℕ → Instr
+calculation O.Add x y z f = I.Add x y z (target_of f)
+calculation O.Subtract x y z f = I.Subtract x y z (target_of f)
+calculation O.Multiply x y z f = I.Multiply x y z (target_of f)
+calculation O.Divide x y z f = I.Divide x y z (target_of f)
+
+-- an operand needs its code, but for a value
+abbrev pub unless_value : Expression → (List Instr → List Instr) → List Instr → List Instr
+unless_value e code k = if is_some (own_register e) then k else code k
+
+-- a number into the register x
+abbrev pub into_code : Expression → ℕ → ℕ → ℕ → List Instr → List Instr
+into_code (E.Constant w) x t f k = I.Set x w ∷ k
+into_code (E.Value y) x t f k = I.Copy x y ∷ k
+into_code (E.Field n z) x t f k = I.Get x n z ∷ k
+into_code (E.Children n) x t f k = I.Kids x n ∷ k
+into_code (E.Calculated' o p a q b) x t f k =
+    unless_value a (into_code a t t f)
+    (unless_value b (into_code b (behind a t) (behind a t) f)
+    (calculation o x (register_of a t) (register_of b (behind a t)) f ∷ k))
+
+-- an operand
+abbrev pub operand_code : Expression → ℕ → ℕ → List Instr → List Instr
+operand_code e t f k = unless_value e (into_code e t t f) k
+
+-- two operands, one behind the other
+abbrev pub operands_code : Expression → Expression → ℕ → ℕ → List Instr → List Instr
+operands_code a b t f k = operand_code a t f (operand_code b (behind a t) f k)
+
+-- a jump to the label where the instruction jumps, if `sense` is true, and else where it doesn't
+abbrev pub jump_code : (ℕ → Instr) → Bool → ℕ → List Instr → List Instr
+jump_code jump true label k = jump (target_of label) ∷ k
+jump_code jump false label k = jump (target_of (length k)) ∷ I.Jump (target_of label) ∷ k
+
+-- a comparison: its instruction, from the registers of both operands and a target
+abbrev pub comparison_code : (ℕ → ℕ → ℕ → Instr) → Expression → Expression → Bool → ℕ → ℕ → ℕ → List Instr → List Instr
+comparison_code jump a b sense label t f k =
+    operands_code a b t f (jump_code (jump (register_of a t) (register_of b (behind a t))) sense label k)
+
+-- the instruction that jumps to a target where a test of two registers holds
+abbrev pub test_jump : Test → ℕ → ℕ → ℕ → Instr
+test_jump T.Less x y l = I.JumpIfLess x y l
+test_jump T.Equal x y l = I.JumpIfEqual x y l
+
+-- a jump to the label where the condition is what `sense` says, and else on
+abbrev pub branch_code : Condition → Bool → ℕ → ℕ → ℕ → List Instr → List Instr
+branch_code (C.Less a b) sense label t f k = comparison_code (λ x y l. I.JumpIfLess x y l) a b sense label t f k
+branch_code (C.Greater a b) sense label t f k = comparison_code (λ x y l. I.JumpIfLess y x l) a b sense label t f k
+branch_code (C.Equal a b) sense label t f k = comparison_code (λ x y l. I.JumpIfEqual x y l) a b sense label t f k
+branch_code (C.Not' p c) sense label t f k = branch_code c (not sense) label t f k
+branch_code (C.And' p c q d) sense label t f k =
+    branch_code c false (if sense then length k else label) t f (branch_code d sense label t f k)

@@ -1,0 +1,58 @@
+-- Which node registers hold a node: at n of the list, whether register n does.
+use Rattle.std.specs.Prelude.{ℕ, List, [], ◌∷◌, Bool, true, false, not, ◌&&◌, ◌||◌, Option, Some, None, slice_set, get_or, replicate, map}
+use Rattle.std.specs.List.{range_with_len}
+use Rattle.std.specs.Bool.{beq}
+use Rattle.tl_instr.specs.declared.operand.TheConstants.{NODE_REGISTERS}
+use Rattle.tl_verify.specs.Bits.{bits_of}
+
+abbrev pub Nodes : Type 0
+Nodes = List Bool
+
+abbrev pub none_held : Nodes
+none_held = replicate NODE_REGISTERS false
+
+abbrev pub holds : Nodes → ℕ → Bool
+holds held n = get_or held n false
+
+abbrev pub with_node : Nodes → ℕ → Nodes
+with_node held n = slice_set held n true
+
+abbrev pub without_node : Nodes → ℕ → Nodes
+without_node held n = slice_set held n false
+
+-- what is held in both
+abbrev pub both : Nodes → Nodes → Nodes
+both [] more = []
+both (x ∷ xs) [] = []
+both (x ∷ xs) (y ∷ ys) = (x && y) ∷ both xs ys
+
+-- what is held in the first alone
+abbrev pub minus : Nodes → Nodes → Nodes
+minus [] more = []
+minus (x ∷ xs) [] = []
+minus (x ∷ xs) (y ∷ ys) = (x && not y) ∷ minus xs ys
+
+-- what is held at two places of which there may be one or none
+abbrev pub both_of : Option Nodes → Option Nodes → Option Nodes
+both_of None other = other
+both_of (Some held) None = Some held
+both_of (Some held) (Some more) = Some (both held more)
+
+-- what is held at all of these places, if there is one
+abbrev pub all_of : List Nodes → Option Nodes
+all_of [] = None
+all_of (held ∷ others) = both_of (Some held) (all_of others)
+
+abbrev pub same : Nodes → Nodes → Bool
+same [] [] = true
+same [] (y ∷ ys) = false
+same (x ∷ xs) [] = false
+same (x ∷ xs) (y ∷ ys) = beq x y && same xs ys
+
+abbrev pub is_among : Nodes → List Nodes → Bool
+is_among held [] = false
+is_among held (other ∷ others) = same held other || is_among held others
+
+-- all sets of registers, by the number whose bits they are
+abbrev pub all_sets : List Nodes
+all_sets = map (bits_of NODE_REGISTERS) (range_with_len 0 256)

@@ -1,0 +1,134 @@
+// From a text to its procedures.
+
+use crate::aiming::aimed;
+use crate::context::{Context, Pads};
+use crate::costs::heaviest;
+use crate::draft::{Draft, DraftFault};
+use crate::fault::{CompileFault, Excess};
+use crate::node_set::NodeSet;
+use std::alloc::Global;
+use tl_budget::NestFault;
+use tl_instr::{Code, Instr, MAX_COUNT};
+use tl_lowering::{Procedure, read};
+use tl_syntax::Position;
+use tl_verify::{Proc, VerifyFault, verify};
+
+/// A procedure that was compiled: its name, which is ASCII, and its code.
+#[derive(Drop)]
+pub struct Compiled {
+    pub name: Vec<u8>,
+    pub procedure: Proc,
+}
+
+// The code of a procedure. What belongs to no statement belongs to its name.
+fn draft_of(alloc: Global, procedure: &Procedure) -> Result<Draft, DraftFault> {
+    let mut draft = Draft::new(alloc);
+    draft.put(procedure.offset, Instr::Return)?;
+    let pads = Pads::all(draft.here());
+    let context = Context {
+        held: NodeSet::EMPTY,
+        values: usize::from(procedure.arity),
+        nodes: 0,
+        pads: &pads,
+        exit: None,
+        origin: procedure.offset,
+    };
+    draft.statement(&procedure.body, context)?;
+    Ok(draft)
+}
+
+// The instructions from the first one on, with positions in the place of labels.
+fn instrs_of(alloc: Global, draft: &Draft) -> Result<Vec<Instr>, CompileFault> {
+    let count = u16::try_from(draft.instrs.len()).unwrap_or(u16::MAX);
+    let mut instrs = Vec::with_capacity(alloc, draft.instrs.len())?;
+    for instr in draft.instrs.iter().rev() {
+        instrs.push(aimed(instr, count))?;
+    }
+    Ok(instrs)
+}
+
+// Too much of something, and the statement that most of it is for.
+fn over(alloc: Global, text: &[u8], draft: &Draft, excess: Excess) -> CompileFault {
+    match heaviest(alloc, draft, excess) {
+        Ok((offset, sum)) => CompileFault::Over(excess, sum, Position::of(text, offset)),
+        Err(_) => CompileFault::Memory,
+    }
+}
+
+// Why the verifier refuses a code.
+fn refused(
+    alloc: Global,
+    text: &[u8],
+    draft: &Draft,
+    offset: usize,
+    fault: VerifyFault,
+) -> CompileFault {
+    let excess = match fault {
+        VerifyFault::Nest(NestFault::StepsOver) => Excess::Steps,
+        VerifyFault::Nest(NestFault::LocksOver) => Excess::Locks,
+        VerifyFault::Nest(NestFault::EmitsOver) => Excess::Emits,
+        VerifyFault::Memory | VerifyFault::Nest(NestFault::Memory) => return CompileFault::Memory,
+        _ => return CompileFault::Refused(Position::of(text, offset)),
+    };
+    over(alloc, text, draft, excess)
+}
+
+// The procedure. 294 to 298, or 290.
+fn compile_one(alloc: Global, text: &[u8], source: Procedure) -> Result<Compiled, CompileFault> {
+    let name_place = Position::of(text, source.offset);
+    let draft = match draft_of(alloc, &source) {
+        Ok(draft) => draft,
+        Err(DraftFault::NoRegister) => return Err(CompileFault::Refused(name_place)),
+        Err(DraftFault::Memory) => return Err(CompileFault::Memory),
+    };
+    if draft.instrs.len() > MAX_COUNT {
+        return Err(over(alloc, text, &draft, Excess::Instructions));
+    }
+    let instrs = instrs_of(alloc, &draft)?;
+    let code = match Code::new2(alloc, source.arity, instrs) {
+        Ok(code) => code,
+        Err(tl_instr::CodeFault::Memory) => return Err(CompileFault::Memory),
+        Err(_) => return Err(CompileFault::Refused(name_place)),
+    };
+    match verify(alloc, code) {
+        Ok(procedure) => Ok(Compiled {
+            name: source.name,
+            procedure,
+        }),
+        Err((_code, fault)) => Err(refused(alloc, text, &draft, source.offset, fault)),
+    }
+}
+
+/// The procedures of a text, in order, each accepted by the verifier.
+///
+/// Else what is wrong first: 255 where the text is no UTF-8; 270 to 293 of the text; procedure by procedure 294 to 298. 290 where
+/// memory was refused.
+pub fn compile(alloc: Global, text: &[u8]) -> Result<Vec<Compiled>, CompileFault> {
+    if std::str::from_utf8(text).is_err() {
+        return Err(CompileFault::NotUtf8);
+    }
+    let program = match read(alloc, text) {
+        Ok(program) => program,
+        Err(fault) => return Err(CompileFault::of_syntax(text, fault)),
+    };
+    let mut compiled = Vec::new(alloc);
+    for procedure in program.procedures {
+        compiled.push(compile_one(alloc, text, procedure)?)?;
+    }
+    Ok(compiled)
+}
+
+/// The procedure of that name, or the one that there is. 289 where there isn't one.
+pub fn one_of(procedures: Vec<Compiled>, name: Option<&str>) -> Result<Compiled, CompileFault> {
+    let is_one = procedures.len() == 1;
+    for compiled in procedures {
+        let is_meant = match name {
+            Some(name) => compiled.name.as_slice() == name.as_bytes(),
+            None => is_one,
+        };
+        if is_meant {
+            return Ok(compiled);
+        }
+    }
+    Err(CompileFault::NotOne)
+}

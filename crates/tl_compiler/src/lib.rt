@@ -1,0 +1,21 @@
+//! The compiler: from the text of procedures to codes that the verifier accepts.
+//!
+//! A construct is translated at a time, without an optimiser. Code is written from its end to its start. So each label is known
+//! where a jump to it is written, since all jumps go ahead.
+#![tactic(auto)]
+
+mod aiming;
+mod compiler;
+mod context;
+mod costs;
+mod draft;
+mod fault;
+mod node_set;
+mod outcomes;
+mod places;
+mod statements;
+mod values;
+
+pub use compiler::{Compiled, compile, one_of};
+pub use fault::{CompileFault, Excess};
+pub use tl_syntax::{Position, Wrong};

@@ -1,0 +1,15 @@
+//! The rules of the procedure language: from a text to the core forms of its procedures, or to the first thing that is wrong with it.
+#![tactic(auto)]
+
+mod descents;
+mod loops;
+mod lowering;
+mod naming;
+mod paths;
+mod program;
+mod reader;
+mod scope;
+mod values;
+
+pub use program::{Condition, Expression, Place, Procedure, Program, Statement};
+pub use reader::read;

@@ -1,0 +1,276 @@
+// Statements without blocks of their own, with registers in the place of names.
+
+use crate::lowering::{Lowered, Lowering};
+use crate::paths::{Flow, Held};
+use crate::program::{Condition, Expression, Place, Statement};
+use crate::values::{
+    behind, calculated, check_registers, condition_may_fail, may_fail, registers_for, registers_of,
+};
+use tl_instr::{NodeRegister, ValueRegister};
+use tl_syntax::parsed::{self, Action, Change, Child, Leave, Name};
+use tl_syntax::{Operator, SyntaxFault, Wrong};
+
+/// What is locked, and by which names it is held then.
+#[derive(Drop)]
+pub struct Locking {
+    pub place: Place,
+    pub first: (Name, NodeRegister),
+    pub second: Option<(Name, NodeRegister)>,
+    /// What holds behind it.
+    pub held: Held,
+}
+
+impl Lowering {
+    // The number that a value or a field changes to.
+    fn changed(
+        &self,
+        old: Expression,
+        change: Change,
+        operand: Expression,
+    ) -> Result<Expression, SyntaxFault> {
+        match change {
+            Change::Set => Ok(operand),
+            Change::Add => calculated(self.alloc, Operator::Add, old, operand),
+            Change::Subtract => calculated(self.alloc, Operator::Subtract, old, operand),
+        }
+    }
+
+    fn assign(
+        &self,
+        name: Name,
+        change: Change,
+        value: &parsed::Expression,
+        held: Held,
+    ) -> Result<Lowered, SyntaxFault> {
+        let register = self.scope.value(name)?;
+        let operand = self.scope.number(self.alloc, value, held)?;
+        let number = self.changed(Expression::Value(register), change, operand)?;
+        let needed = registers_of(&number, usize::from(self.scope.values));
+        check_registers(needed, value.offset)?;
+        let flow = Flow::on(held).failing_if(may_fail(&number), held);
+        Ok((Statement::Assign(register, number), flow))
+    }
+
+    fn write(
+        &self,
+        names: (Name, Name),
+        change: Change,
+        value: &parsed::Expression,
+        held: Held,
+    ) -> Result<Lowered, SyntaxFault> {
+        let node = self.scope.node(names.0, held)?;
+        let field = self.scope.field(names.1)?;
+        let operand = self.scope.number(self.alloc, value, held)?;
+        let number = self.changed(Expression::Field(node, field), change, operand)?;
+        let needed = registers_for(&number, usize::from(self.scope.values));
+        check_registers(needed, value.offset)?;
+        let flow = Flow::on(held).failing_if(may_fail(&number), held);
+        Ok((Statement::Write(node, field, number), flow))
+    }
+
+    fn emit(&self, values: &[parsed::Expression], held: Held) -> Result<Lowered, SyntaxFault> {
+        let mut emits = Vec::new(self.alloc);
+        let mut flow = Flow::on(held);
+        for value in values {
+            let number = self.scope.operand(self.alloc, value, held)?;
+            flow = flow.failing_if(may_fail(&number), held);
+            emits.push(Statement::Emit(number))?;
+        }
+        Ok((self.sequence(emits)?, flow))
+    }
+
+    fn require(&self, condition: &parsed::Expression, held: Held) -> Result<Lowered, SyntaxFault> {
+        let condition = self.scope.condition(self.alloc, condition, held)?;
+        let skip = self.boxed(Statement::Skip)?;
+        let fail = self.boxed(Statement::Fail)?;
+        let flow = Flow::on(held).failing(held);
+        Ok((Statement::If(condition, skip, fail), flow))
+    }
+
+    fn free(&self, name: Name, held: Held) -> Result<Lowered, SyntaxFault> {
+        let node = self.scope.node(name, held)?;
+        Ok((Statement::Free(node), Flow::on(held.without(node))))
+    }
+
+    // The child is locked under the next free register for a moment.
+    fn descend(
+        &self,
+        name: Name,
+        number: &parsed::Expression,
+        offset: usize,
+        held: Held,
+    ) -> Result<Lowered, SyntaxFault> {
+        let node = self.scope.node(name, held)?;
+        self.scope.next_node(0, offset)?;
+        let number = self.scope.operand(self.alloc, number, held)?;
+        let flow = Flow::on(held.with(node)).failing(held);
+        Ok((Statement::Descend(node, number), flow))
+    }
+
+    fn take(&self, name: Name, from: Name, held: Held) -> Result<Lowered, SyntaxFault> {
+        let node = self.scope.node(name, held)?;
+        if name.symbol == from.symbol {
+            return Err(SyntaxFault::at(Wrong::Kind, from.offset));
+        }
+        let other = self.scope.node(from, held)?;
+        let flow = Flow::on(held.taking(node, other));
+        Ok((Statement::Take(node, other), flow))
+    }
+
+    fn leave(&self, leave: Leave, offset: usize, held: Held) -> Result<Lowered, SyntaxFault> {
+        match leave {
+            Leave::Break if self.scope.loops == 0 => Err(SyntaxFault::at(Wrong::NoLoop, offset)),
+            Leave::Break => {
+                let flow = Flow {
+                    breaks: Some(held),
+                    ..Flow::NOWHERE
+                };
+                Ok((Statement::Break, flow))
+            }
+            Leave::Return => Ok((Statement::Return, Flow::NOWHERE)),
+            Leave::Fail => Ok((Statement::Fail, Flow::NOWHERE.failing(held))),
+        }
+    }
+
+    /// A statement that declares nothing. Its first word stands at the offset.
+    pub fn action(
+        &self,
+        action: &Action,
+        offset: usize,
+        held: Held,
+    ) -> Result<Lowered, SyntaxFault> {
+        match action {
+            Action::Assign {
+                name,
+                change,
+                value,
+            } => self.assign(*name, *change, value, held),
+            Action::Write {
+                node,
+                field,
+                change,
+                value,
+            } => self.write((*node, *field), *change, value, held),
+            Action::Emit(values) => self.emit(values, held),
+            Action::Require(condition) => self.require(condition, held),
+            Action::Descend { node, number } => self.descend(*node, number, offset, held),
+            Action::Take { node, from } => self.take(*node, *from, held),
+            Action::Free(name) => self.free(*name, held),
+            Action::Leave(leave) => self.leave(*leave, offset, held),
+            Action::Let { .. } | Action::Lock(_) => Ok((Statement::Skip, Flow::on(held))),
+        }
+    }
+
+    /// The register and the number of a new value.
+    pub fn new_value(
+        &self,
+        name: Name,
+        value: &parsed::Expression,
+        held: Held,
+    ) -> Result<(ValueRegister, Expression), SyntaxFault> {
+        self.scope.check_new(name)?;
+        let register = self.scope.next_value(name.offset)?;
+        let number = self.scope.number(self.alloc, value, held)?;
+        let needed = registers_of(&number, register.index());
+        check_registers(needed, value.offset)?;
+        Ok((register, number))
+    }
+
+    fn node_place(
+        &self,
+        name: Name,
+        offset: usize,
+        number: &parsed::Expression,
+        held: Held,
+    ) -> Result<Locking, SyntaxFault> {
+        self.scope.check_new(name)?;
+        let register = self.scope.next_node(0, name.offset)?;
+        if held.is_entered {
+            return Err(SyntaxFault::at(Wrong::EnteredAgain, offset));
+        }
+        let number = self.scope.operand(self.alloc, number, held)?;
+        Ok(Locking {
+            place: Place::Node(register, number),
+            first: (name, register),
+            second: None,
+            held: held.with(register).entered(),
+        })
+    }
+
+    fn child_place(&self, child: &Child, held: Held) -> Result<Locking, SyntaxFault> {
+        self.scope.check_new(child.name)?;
+        let register = self.scope.next_node(0, child.name.offset)?;
+        let parent = self.scope.node(child.parent, held)?;
+        let number = self.scope.operand(self.alloc, &child.number, held)?;
+        Ok(Locking {
+            place: Place::Child(register, parent, number),
+            first: (child.name, register),
+            second: None,
+            held: held.visiting(parent).with(register),
+        })
+    }
+
+    fn pair_place(
+        &self,
+        first: &Child,
+        second: &Child,
+        held: Held,
+    ) -> Result<Locking, SyntaxFault> {
+        self.scope.check_new(first.name)?;
+        let register = self.scope.next_node(0, first.name.offset)?;
+        let parent = self.scope.node(first.parent, held)?;
+        let first_number = self.scope.operand(self.alloc, &first.number, held)?;
+        self.scope.check_new(second.name)?;
+        if first.name.symbol == second.name.symbol {
+            return Err(SyntaxFault::at(Wrong::Twice, second.name.offset));
+        }
+        let second_register = self.scope.next_node(1, second.name.offset)?;
+        if self.scope.node(second.parent, held)? != parent {
+            return Err(SyntaxFault::at(Wrong::OtherParent, second.parent.offset));
+        }
+        let free = behind(&first_number, usize::from(self.scope.values));
+        let second_number = self
+            .scope
+            .operand_from(self.alloc, &second.number, held, free)?;
+        let place = Place::Pair {
+            first: register,
+            second: second_register,
+            parent,
+            first_number,
+            second_number,
+        };
+        Ok(Locking {
+            place,
+            first: (first.name, register),
+            second: Some((second.name, second_register)),
+            held: held.visiting(parent).with(register).with(second_register),
+        })
+    }
+
+    /// What is to be locked. 275 to 277, 281, 282, 285, 291 or 292 at the first part that is wrong.
+    pub fn place(&self, place: &parsed::Place, held: Held) -> Result<Locking, SyntaxFault> {
+        match place {
+            parsed::Place::Node {
+                name,
+                offset,
+                number,
+            } => self.node_place(*name, *offset, number, held),
+            parsed::Place::Child(child) => self.child_place(child, held),
+            parsed::Place::Pair(first, second) => self.pair_place(first, second, held),
+        }
+    }
+
+    /// The names of what was locked are declared.
+    pub fn declare(&mut self, locking: &Locking) -> Result<(), SyntaxFault> {
+        self.scope.declare_node(locking.first.0, locking.first.1)?;
+        if let Some((name, register)) = locking.second {
+            self.scope.declare_node(name, register)?;
+        }
+        Ok(())
+    }
+}
+
+/// How a condition fails where an operation stands in it.
+pub fn asked(condition: &Condition, held: Held) -> Flow {
+    Flow::NOWHERE.failing_if(condition_may_fail(condition), held)
+}

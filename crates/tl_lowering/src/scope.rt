@@ -1,0 +1,207 @@
+// What names stand for.
+
+use crate::paths::Held;
+use std::alloc::{AllocError, Global};
+use tl_instr::{Field, NodeRegister, ValueRegister};
+use tl_syntax::parsed::Name;
+use tl_syntax::{Symbol, SyntaxFault, Wrong};
+
+/// What a name stands for at a place.
+#[derive(Clone, Copy, Debug)]
+pub enum Meaning {
+    Nothing,
+    Constant(i32),
+    Value(ValueRegister),
+    Node(NodeRegister),
+}
+
+/// What is declared at a place. Nothing is shadowed, so each name stands for one thing.
+#[derive(Drop)]
+pub struct Scope {
+    meanings: Vec<Meaning>,
+    fields: Vec<Option<Field>>,
+    is_procedure: Vec<bool>,
+    // The names that a block has declared so far, the blocks around first.
+    local: Vec<Symbol>,
+    /// How many values there are; those that have no name count.
+    pub values: u8,
+    /// How many nodes there are; those that were freed count.
+    pub nodes: u8,
+    /// How many loops are around.
+    pub loops: u8,
+}
+
+/// What a block has to take back at its end.
+#[derive(Clone, Copy)]
+pub struct Mark {
+    local: usize,
+    values: u8,
+    nodes: u8,
+}
+
+impl Scope {
+    /// Nothing is declared of so many names.
+    pub fn new(alloc: Global, names: usize) -> Result<Scope, AllocError> {
+        Ok(Scope {
+            meanings: vec![in alloc; Meaning::Nothing; names]?,
+            fields: vec![in alloc; None; names]?,
+            is_procedure: vec![in alloc; false; names]?,
+            local: Vec::new(alloc),
+            values: 0,
+            nodes: 0,
+            loops: 0,
+        })
+    }
+
+    fn meaning(&self, name: Name) -> Meaning {
+        match self.meanings.get(name.symbol.0) {
+            Some(meaning) => *meaning,
+            None => Meaning::Nothing,
+        }
+    }
+
+    fn set(&mut self, symbol: Symbol, meaning: Meaning) {
+        if symbol.0 < self.meanings.len() {
+            self.meanings[symbol.0] = meaning;
+        }
+    }
+
+    /// 276 where the name is declared already.
+    pub fn check_new(&self, name: Name) -> Result<(), SyntaxFault> {
+        match self.meaning(name) {
+            Meaning::Nothing => Ok(()),
+            _ => Err(SyntaxFault::at(Wrong::Twice, name.offset)),
+        }
+    }
+
+    pub fn declare_field(&mut self, name: Name, field: Field) {
+        if name.symbol.0 < self.fields.len() {
+            self.fields[name.symbol.0] = Some(field);
+        }
+    }
+
+    pub fn declare_constant(&mut self, name: Name, number: i32) {
+        self.set(name.symbol, Meaning::Constant(number));
+    }
+
+    /// 276 where there is such a procedure already.
+    pub fn declare_procedure(&mut self, name: Name) -> Result<(), SyntaxFault> {
+        let index = name.symbol.0;
+        if self.is_procedure.get(index) == Some(&true) {
+            return Err(SyntaxFault::at(Wrong::Twice, name.offset));
+        }
+        if index < self.is_procedure.len() {
+            self.is_procedure[index] = true;
+        }
+        Ok(())
+    }
+
+    /// The register of the next value. 291 at the offset where there is none.
+    pub fn next_value(&self, offset: usize) -> Result<ValueRegister, SyntaxFault> {
+        match ValueRegister::new(self.values) {
+            Some(register) => Ok(register),
+            None => Err(SyntaxFault::at(Wrong::Values, offset)),
+        }
+    }
+
+    /// The register of the next node but so many. 292 at the offset where there is none.
+    pub fn next_node(&self, skipped: u8, offset: usize) -> Result<NodeRegister, SyntaxFault> {
+        match NodeRegister::new(self.nodes.saturating_add(skipped)) {
+            Some(register) => Ok(register),
+            None => Err(SyntaxFault::at(Wrong::Nodes, offset)),
+        }
+    }
+
+    /// From here on the name is a value of that register, the next one.
+    pub fn declare_value(
+        &mut self,
+        name: Name,
+        register: ValueRegister,
+    ) -> Result<(), SyntaxFault> {
+        self.local.push(name.symbol)?;
+        self.set(name.symbol, Meaning::Value(register));
+        self.add_value();
+        Ok(())
+    }
+
+    /// One more value, which has no name.
+    pub fn add_value(&mut self) {
+        self.values = self.values.saturating_add(1);
+    }
+
+    /// From here on the name owns a node of that register, the next one.
+    pub fn declare_node(&mut self, name: Name, register: NodeRegister) -> Result<(), SyntaxFault> {
+        self.local.push(name.symbol)?;
+        self.set(name.symbol, Meaning::Node(register));
+        self.nodes = self.nodes.saturating_add(1);
+        Ok(())
+    }
+
+    pub fn mark(&self) -> Mark {
+        Mark {
+            local: self.local.len(),
+            values: self.values,
+            nodes: self.nodes,
+        }
+    }
+
+    /// Takes back what was declared since the mark.
+    pub fn return_to(&mut self, mark: Mark) {
+        for _ in mark.local..self.local.len() {
+            if let Some(symbol) = self.local.pop() {
+                self.set(symbol, Meaning::Nothing);
+            }
+        }
+        self.values = mark.values;
+        self.nodes = mark.nodes;
+    }
+
+    /// What the name stands for. 275 where that is nothing.
+    pub fn known(&self, name: Name) -> Result<Meaning, SyntaxFault> {
+        match self.meaning(name) {
+            Meaning::Nothing => Err(SyntaxFault::at(Wrong::Unknown, name.offset)),
+            meaning => Ok(meaning),
+        }
+    }
+
+    /// The register of a value. 275 or 277.
+    pub fn value(&self, name: Name) -> Result<ValueRegister, SyntaxFault> {
+        match self.known(name)? {
+            Meaning::Value(register) => Ok(register),
+            _ => Err(SyntaxFault::at(Wrong::Kind, name.offset)),
+        }
+    }
+
+    /// The register of a node that is held. 275, 277 or 281.
+    pub fn node(&self, name: Name, held: Held) -> Result<NodeRegister, SyntaxFault> {
+        match self.known(name)? {
+            Meaning::Node(register) if held.holds(register) => Ok(register),
+            Meaning::Node(_) => Err(SyntaxFault::at(Wrong::NotHeld, name.offset)),
+            _ => Err(SyntaxFault::at(Wrong::Kind, name.offset)),
+        }
+    }
+
+    /// The register that the name owns a node by, if it may.
+    pub fn register_of(&self, name: Name) -> Option<NodeRegister> {
+        match self.meaning(name) {
+            Meaning::Node(register) => Some(register),
+            _ => None,
+        }
+    }
+
+    /// The field. 275 where there is none.
+    pub fn field(&self, name: Name) -> Result<Field, SyntaxFault> {
+        match self.fields.get(name.symbol.0) {
+            Some(Some(field)) => Ok(*field),
+            _ => Err(SyntaxFault::at(Wrong::Unknown, name.offset)),
+        }
+    }
+
+    /// 276 where there is such a field already.
+    pub fn check_new_field(&self, name: Name) -> Result<(), SyntaxFault> {
+        match self.fields.get(name.symbol.0) {
+            Some(Some(_)) => Err(SyntaxFault::at(Wrong::Twice, name.offset)),
+            _ => Ok(()),
+        }
+    }
+}

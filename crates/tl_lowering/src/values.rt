@@ -1,0 +1,217 @@
+// Numbers and conditions, with registers in the place of names.
+
+use crate::paths::Held;
+use crate::program::{Condition, Expression};
+use crate::scope::{Meaning, Scope};
+use std::alloc::Global;
+use tl_instr::VALUE_REGISTERS;
+use tl_syntax::parsed::{self, Comparison, Form, Name};
+use tl_syntax::{Operator, SyntaxFault, Wrong};
+
+/// Whether an operation stands in it, which may fail.
+pub fn may_fail(expression: &Expression) -> bool {
+    matches!(*expression, Expression::Calculated(_, _, _))
+}
+
+/// The same of a condition.
+pub fn condition_may_fail(condition: &Condition) -> bool {
+    match condition {
+        Condition::Less(left, right)
+        | Condition::Greater(left, right)
+        | Condition::Equal(left, right) => may_fail(left) || may_fail(right),
+        Condition::Not(inner) => condition_may_fail(inner),
+        Condition::And(first, second) => condition_may_fail(first) || condition_may_fail(second),
+    }
+}
+
+/// The next free register behind an operand, where `free` was free before it: a value has a register already.
+pub fn behind(expression: &Expression, free: usize) -> usize {
+    match expression {
+        Expression::Value(_) => free,
+        _ => free.saturating_add(1),
+    }
+}
+
+/// How many value registers there are at least where the number is made, and `free` is the first free one.
+#[cycle(registers)]
+pub fn registers_of(expression: &Expression, free: usize) -> usize {
+    match expression {
+        Expression::Calculated(_, left, right) => {
+            let first = registers_for(left, free);
+            first.max(registers_for(right, behind(left, free)))
+        }
+        _ => 0,
+    }
+}
+
+/// The same where it is an operand: then it needs a register of its own, but for a value.
+#[cycle(registers)]
+pub fn registers_for(expression: &Expression, free: usize) -> usize {
+    registers_of(expression, free).max(behind(expression, free))
+}
+
+/// 291 at the offset where there are fewer registers.
+pub fn check_registers(needed: usize, offset: usize) -> Result<(), SyntaxFault> {
+    if needed > VALUE_REGISTERS {
+        return Err(SyntaxFault::at(Wrong::Values, offset));
+    }
+    Ok(())
+}
+
+/// What is done with the two numbers.
+pub fn calculated(
+    alloc: Global,
+    operator: Operator,
+    left: Expression,
+    right: Expression,
+) -> Result<Expression, SyntaxFault> {
+    let left = Box::new(alloc, left)?;
+    let right = Box::new(alloc, right)?;
+    Ok(Expression::Calculated(operator, left, right))
+}
+
+pub fn negated(alloc: Global, condition: Condition) -> Result<Condition, SyntaxFault> {
+    Ok(Condition::Not(Box::new(alloc, condition)?))
+}
+
+fn both(alloc: Global, first: Condition, second: Condition) -> Result<Condition, SyntaxFault> {
+    let first = Box::new(alloc, first)?;
+    let second = Box::new(alloc, second)?;
+    Ok(Condition::And(first, second))
+}
+
+fn compared(
+    alloc: Global,
+    comparison: Comparison,
+    left: Expression,
+    right: Expression,
+) -> Result<Condition, SyntaxFault> {
+    match comparison {
+        Comparison::Less => Ok(Condition::Less(left, right)),
+        Comparison::LessOrEqual => negated(alloc, Condition::Greater(left, right)),
+        Comparison::Greater => Ok(Condition::Greater(left, right)),
+        Comparison::GreaterOrEqual => negated(alloc, Condition::Less(left, right)),
+        Comparison::Equal => Ok(Condition::Equal(left, right)),
+        Comparison::NotEqual => negated(alloc, Condition::Equal(left, right)),
+    }
+}
+
+impl Scope {
+    // The number that a name stands for.
+    fn named(&self, name: Name, offset: usize) -> Result<Expression, SyntaxFault> {
+        match self.known(name)? {
+            Meaning::Constant(number) => Ok(Expression::Constant(number)),
+            Meaning::Value(register) => Ok(Expression::Value(register)),
+            _ => Err(SyntaxFault::at(Wrong::Kind, offset)),
+        }
+    }
+
+    /// A number. 275, 277 or 281 at the first name or part that is wrong.
+    pub fn number(
+        &self,
+        alloc: Global,
+        expression: &parsed::Expression,
+        held: Held,
+    ) -> Result<Expression, SyntaxFault> {
+        match &expression.form {
+            Form::Number(number) => Ok(Expression::Constant(*number)),
+            Form::Named(name) => self.named(*name, expression.offset),
+            Form::Field { node, field } => {
+                let node = self.node(*node, held)?;
+                Ok(Expression::Field(node, self.field(*field)?))
+            }
+            Form::Children(node) => Ok(Expression::Children(self.node(*node, held)?)),
+            Form::Negated(operand) => {
+                let operand = self.number(alloc, operand, held)?;
+                calculated(alloc, Operator::Subtract, Expression::Constant(0), operand)
+            }
+            Form::Calculated(operator, left, right) => {
+                let left = self.number(alloc, left, held)?;
+                let right = self.number(alloc, right, held)?;
+                calculated(alloc, *operator, left, right)
+            }
+            _ => Err(SyntaxFault::at(Wrong::Kind, expression.offset)),
+        }
+    }
+
+    /// An operand: a number that fits the registers above the values. 291 at its first token where it doesn't.
+    pub fn operand(
+        &self,
+        alloc: Global,
+        expression: &parsed::Expression,
+        held: Held,
+    ) -> Result<Expression, SyntaxFault> {
+        self.operand_from(alloc, expression, held, usize::from(self.values))
+    }
+
+    /// The same where `free` is the first free register.
+    pub fn operand_from(
+        &self,
+        alloc: Global,
+        expression: &parsed::Expression,
+        held: Held,
+        free: usize,
+    ) -> Result<Expression, SyntaxFault> {
+        let number = self.number(alloc, expression, held)?;
+        check_registers(registers_for(&number, free), expression.offset)?;
+        Ok(number)
+    }
+
+    // A comparison of two numbers, which begins at the offset.
+    fn comparison(
+        &self,
+        alloc: Global,
+        comparison: Comparison,
+        operands: (&parsed::Expression, &parsed::Expression),
+        held: Held,
+    ) -> Result<Condition, SyntaxFault> {
+        let left = self.number(alloc, operands.0, held)?;
+        let right = self.number(alloc, operands.1, held)?;
+        let free = usize::from(self.values);
+        let needed = registers_for(&left, free).max(registers_for(&right, behind(&left, free)));
+        check_registers(needed, operands.0.offset)?;
+        compared(alloc, comparison, left, right)
+    }
+
+    /// A condition. 275, 277, 281 or 291 at the first name or part that is wrong.
+    pub fn condition(
+        &self,
+        alloc: Global,
+        expression: &parsed::Expression,
+        held: Held,
+    ) -> Result<Condition, SyntaxFault> {
+        match &expression.form {
+            Form::Compared(comparison, left, right) => {
+                self.comparison(alloc, *comparison, (left, right), held)
+            }
+            Form::Not(operand) => negated(alloc, self.condition(alloc, operand, held)?),
+            Form::And(first, second) => {
+                let first = self.condition(alloc, first, held)?;
+                let second = self.condition(alloc, second, held)?;
+                both(alloc, first, second)
+            }
+            Form::Or(first, second) => {
+                let first = negated(alloc, self.condition(alloc, first, held)?)?;
+                let second = negated(alloc, self.condition(alloc, second, held)?)?;
+                negated(alloc, both(alloc, first, second)?)
+            }
+            _ => Err(SyntaxFault::at(Wrong::Kind, expression.offset)),
+        }
+    }
+
+    /// How often a loop may turn. 275, or 280 at the first token.
+    pub fn turns(&self, expression: &parsed::Expression) -> Result<u16, SyntaxFault> {
+        let number = match expression.form {
+            Form::Number(number) => number,
+            Form::Named(name) => match self.known(name)? {
+                Meaning::Constant(number) => number,
+                _ => 0,
+            },
+            _ => 0,
+        };
+        match u16::try_from(number) {
+            Ok(turns) if turns > 0 => Ok(turns),
+            _ => Err(SyntaxFault::at(Wrong::Turns, expression.offset)),
+        }
+    }
+}

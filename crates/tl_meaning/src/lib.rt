@@ -1,0 +1,4 @@
+//! What texts of the procedure language mean.
+#![tactic(auto)]
+
+pub mod laws;

@@ -1,0 +1,28 @@
+-- The numbers of what may be wrong with a text.
+use Rattle.std.specs.Prelude.{ℕ}
+use Rattle.tl_syntax.specs.declared.fault.Wrong.{Wrong}
+use Rattle.tl_syntax.specs.declared.fault.Wrong.TheVariants as W
+
+abbrev pub number_of : Wrong → ℕ
+number_of W.Character = 270
+number_of W.Number = 271
+number_of W.LongName = 272
+number_of W.Misplaced = 273
+number_of W.TooDeep = 274
+number_of W.Unknown = 275
+number_of W.Twice = 276
+number_of W.Kind = 277
+number_of W.FieldNumber = 278
+number_of W.Argument = 279
+number_of W.Turns = 280
+number_of W.NotHeld = 281
+number_of W.EnteredAgain = 282
+number_of W.LoopChanges = 283
+number_of W.NoTurn = 284
+number_of W.OtherParent = 285
+number_of W.ElseEnds = 286
+number_of W.Unreached = 287
+number_of W.NoLoop = 288
+number_of W.Values = 291
+number_of W.Nodes = 292
+number_of W.LoopDepth = 293

@@ -1,0 +1,143 @@
+// What may be wrong with a text.
+
+ghost use Rattle.std.specs.Prelude.{◌≡◌};
+ghost use Rattle.tl_syntax.specs.declared.fault.SyntaxFault.TheVariants.{Memory};
+
+use std::alloc::{AllocError, AllocFailed};
+use thiserror::Error;
+
+/// What is wrong at a place of a text.
+#[derive(Clone, Copy, Debug, PartialEq, Eq, Error)]
+pub enum Wrong {
+    /// 270: a character that begins no token.
+    #[error("this character begins no word, number or sign")]
+    Character,
+    /// 271: a number that is malformed or too large.
+    #[error("this number is malformed or too large")]
+    Number,
+    /// 272: a name of more than 32 characters.
+    #[error("this name has more than 32 characters")]
+    LongName,
+    /// 273: a token that can't stand here.
+    #[error("this can't stand here")]
+    Misplaced,
+    /// 274: more than 64 levels in one another.
+    #[error("more than 64 levels in one another")]
+    TooDeep,
+    /// 275: an unknown name or field.
+    #[error("no such name is known here")]
+    Unknown,
+    /// 276: a name that is declared already.
+    #[error("this name is declared already")]
+    Twice,
+    /// 277: a node, a number or a condition in the place of another one of these.
+    #[error("something else is wanted here: a number, a condition, a value or a node")]
+    Kind,
+    /// 278: a field's number above 7.
+    #[error("a field's number is above 7")]
+    FieldNumber,
+    /// 279: a ninth argument.
+    #[error("a ninth argument")]
+    Argument,
+    /// 280: turns that aren't a constant of 1 to 65,535.
+    #[error("how often a loop turns is not a constant from 1 to 65,535")]
+    Turns,
+    /// 281: a node that isn't held.
+    #[error("the node is not held on every path to here")]
+    NotHeld,
+    /// 282: the tree may have been entered before.
+    #[error("the tree may have been entered before")]
+    EnteredAgain,
+    /// 283: a turn of the loop changes what is held, or enters the tree.
+    #[error("a turn of the loop changes which nodes are held, or enters the tree")]
+    LoopChanges,
+    /// 284: a loop over the children of a node that can have no turn.
+    #[error("the children of this node were passed before: the loop would have no turn")]
+    NoTurn,
+    /// 285: two children of different nodes.
+    #[error("the second child is one of another node")]
+    OtherParent,
+    /// 286: the `else` of a `let` or a `lock` comes to its end.
+    #[error("this else comes to its end, where the name would stand for nothing")]
+    ElseEnds,
+    /// 287: no path leads to the statement.
+    #[error("no path leads to this statement")]
+    Unreached,
+    /// 288: `break` outside a loop.
+    #[error("break outside a loop")]
+    NoLoop,
+    /// 291: more than 16 values at once.
+    #[error("more than 16 value registers are needed")]
+    Values,
+    /// 292: more than 8 nodes at once.
+    #[error("more than 8 node registers are needed")]
+    Nodes,
+    /// 293: a fifth loop in four others.
+    #[error("more than four loops in one another")]
+    LoopDepth,
+}
+
+impl Wrong {
+    ghost use Rattle.tl_syntax.specs.Faults.{number_of};
+
+    /// The fault's number.
+    pub fn number(&self) -> u64
+        ensures { result ≡ number_of self.now }
+    {
+        match *self {
+            Wrong::Character => 270,
+            Wrong::Number => 271,
+            Wrong::LongName => 272,
+            Wrong::Misplaced => 273,
+            Wrong::TooDeep => 274,
+            Wrong::Unknown => 275,
+            Wrong::Twice => 276,
+            Wrong::Kind => 277,
+            Wrong::FieldNumber => 278,
+            Wrong::Argument => 279,
+            Wrong::Turns => 280,
+            Wrong::NotHeld => 281,
+            Wrong::EnteredAgain => 282,
+            Wrong::LoopChanges => 283,
+            Wrong::NoTurn => 284,
+            Wrong::OtherParent => 285,
+            Wrong::ElseEnds => 286,
+            Wrong::Unreached => 287,
+            Wrong::NoLoop => 288,
+            Wrong::Values => 291,
+            Wrong::Nodes => 292,
+            Wrong::LoopDepth => 293,
+        }
+    }
+}
+
+/// The first thing that is wrong with a text.
+#[derive(Clone, Copy, Debug, PartialEq, Eq)]
+pub enum SyntaxFault {
+    /// What is wrong, and the offset of the byte where.
+    At { wrong: Wrong, offset: usize },
+    /// Memory was refused.
+    Memory,
+}
+
+impl SyntaxFault {
+    pub fn at(wrong: Wrong, offset: usize) -> SyntaxFault {
+        SyntaxFault::At { wrong, offset }
+    }
+}
+
+impl From<AllocError> for SyntaxFault {
+    ghost from_gives = { λ _ e. e ≡ Memory };
+
+    fn from(_error: AllocError) -> SyntaxFault {
+        SyntaxFault::Memory
+    }
+}
+
+impl<T: Drop> From<AllocFailed<T>> for SyntaxFault {
+    ghost from_gives = { λ _ e. e ≡ Memory };
+
+    fn from(_error: AllocFailed<T>) -> SyntaxFault {
+        SyntaxFault::Memory
+    }
+}

@@ -1,0 +1,183 @@
+// What a text says, as it is written: names are not looked up yet.
+
+use crate::operator::Operator;
+use crate::token::Symbol;
+
+/// A name where it is used or declared.
+#[derive(Clone, Copy)]
+pub struct Name {
+    pub symbol: Symbol,
+    pub offset: usize,
+}
+
+/// How two numbers are compared.
+#[derive(Clone, Copy, PartialEq, Eq)]
+pub enum Comparison {
+    Less,
+    LessOrEqual,
+    Greater,
+    GreaterOrEqual,
+    Equal,
+    NotEqual,
+}
+
+/// An expression, and where its first token stands.
+#[cycle(expression)]
+#[derive(Drop)]
+pub struct Expression {
+    pub offset: usize,
+    pub form: Form,
+}
+
+/// What an expression is.
+#[cycle(expression)]
+#[derive(Drop)]
+pub enum Form {
+    Number(i32),
+    Named(Name),
+    Field { node: Name, field: Name },
+    Children(Name),
+    Negated(Box<Expression>),
+    Calculated(Operator, Box<Expression>, Box<Expression>),
+    Compared(Comparison, Box<Expression>, Box<Expression>),
+    Not(Box<Expression>),
+    And(Box<Expression>, Box<Expression>),
+    Or(Box<Expression>, Box<Expression>),
+}
+
+/// A child that is to be locked.
+#[derive(Drop)]
+pub struct Child {
+    pub name: Name,
+    pub parent: Name,
+    pub number: Expression,
+}
+
+/// What is to be locked.
+#[derive(Drop)]
+pub enum Place {
+    /// The node of a number; the word `node` stands at the offset.
+    Node {
+        name: Name,
+        offset: usize,
+        number: Expression,
+    },
+    Child(Child),
+    Pair(Child, Child),
+}
+
+/// How a value or a field changes.
+#[derive(Clone, Copy, PartialEq, Eq)]
+pub enum Change {
+    Set,
+    Add,
+    Subtract,
+}
+
+/// How control leaves.
+#[derive(Clone, Copy, PartialEq, Eq)]
+pub enum Leave {
+    Break,
+    Return,
+    Fail,
+}
+
+/// A statement without blocks of its own.
+#[derive(Drop)]
+pub enum Action {
+    Let {
+        name: Name,
+        value: Expression,
+    },
+    Assign {
+        name: Name,
+        change: Change,
+        value: Expression,
+    },
+    Write {
+        node: Name,
+        field: Name,
+        change: Change,
+        value: Expression,
+    },
+    Emit(Vec<Expression>),
+    Require(Expression),
+    Lock(Place),
+    Descend {
+        node: Name,
+        number: Expression,
+    },
+    Take {
+        node: Name,
+        from: Name,
+    },
+    Free(Name),
+    Leave(Leave),
+}
+
+/// What an `if` asks.
+#[derive(Drop)]
+pub enum Question {
+    Condition(Expression),
+    Lock(Place),
+}
+
+/// What an `else` does; the word stands at the offset.
+#[cycle(statement)]
+#[derive(Drop)]
+pub struct Otherwise {
+    pub offset: usize,
+    pub body: Vec<Statement>,
+}
+
+/// A statement, and where its first word stands.
+#[cycle(statement)]
+#[derive(Drop)]
+pub struct Statement {
+    pub offset: usize,
+    pub form: StatementForm,
+}
+
+/// What a statement is.
+#[cycle(statement)]
+#[derive(Drop)]
+pub enum StatementForm {
+    Act(Action, Option<Otherwise>),
+    Try(Vec<Statement>, Vec<Statement>),
+    If(Question, Vec<Statement>, Vec<Statement>),
+    Repeat {
+        turns: Expression,
+        at_most: Option<Expression>,
+        body: Vec<Statement>,
+    },
+    ForEach {
+        child: Name,
+        parent: Name,
+        at_most: Expression,
+        body: Vec<Statement>,
+    },
+}
+
+/// A procedure.
+#[derive(Drop)]
+pub struct Procedure {
+    pub name: Name,
+    pub arguments: Vec<Name>,
+    pub body: Vec<Statement>,
+    pub otherwise: Vec<Statement>,
+}
+
+/// What stands side by side in a text.
+#[derive(Drop)]
+pub enum Declaration {
+    Field {
+        name: Name,
+        number: i32,
+        offset: usize,
+    },
+    Constant {
+        name: Name,
+        number: i32,
+    },
+    Procedure(Procedure),
+}

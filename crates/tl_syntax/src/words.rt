@@ -1,0 +1,96 @@
+// Words and signs.
+
+use crate::token::TokenKind;
+
+/// The longest name.
+pub const MAX_NAME: usize = 32;
+
+/// The greatest number that a token may have: right after a minus sign it is the least of 32 bits.
+pub const MAX_NUMBER: u32 = 2_147_483_648;
+
+pub fn begins_name(byte: u8) -> bool {
+    byte.is_ascii_alphabetic() || byte == b'_'
+}
+
+pub fn continues_name(byte: u8) -> bool {
+    byte.is_ascii_alphanumeric() || byte == b'_'
+}
+
+/// The reserved word that this is.
+pub fn reserved(word: &[u8]) -> Option<TokenKind> {
+    match word {
+        b"and" => Some(TokenKind::And),
+        b"break" => Some(TokenKind::Break),
+        b"child" => Some(TokenKind::Child),
+        b"const" => Some(TokenKind::Const),
+        b"descend" => Some(TokenKind::Descend),
+        b"else" => Some(TokenKind::Else),
+        b"emit" => Some(TokenKind::Emit),
+        b"fail" => Some(TokenKind::Fail),
+        b"field" => Some(TokenKind::Field),
+        b"for" => Some(TokenKind::For),
+        b"free" => Some(TokenKind::Free),
+        b"if" => Some(TokenKind::If),
+        b"kids" => Some(TokenKind::Kids),
+        b"let" => Some(TokenKind::Let),
+        b"lock" => Some(TokenKind::Lock),
+        b"node" => Some(TokenKind::Node),
+        b"not" => Some(TokenKind::Not),
+        b"or" => Some(TokenKind::Or),
+        b"proc" => Some(TokenKind::Proc),
+        b"repeat" => Some(TokenKind::Repeat),
+        b"require" => Some(TokenKind::Require),
+        b"return" => Some(TokenKind::Return),
+        b"try" => Some(TokenKind::Try),
+        _ => None,
+    }
+}
+
+/// The sign of two characters.
+pub fn long_sign(first: u8, second: u8) -> Option<TokenKind> {
+    match (first, second) {
+        (b'+', b'=') => Some(TokenKind::AddAssign),
+        (b'-', b'=') => Some(TokenKind::SubtractAssign),
+        (b'<', b'=') => Some(TokenKind::LessOrEqual),
+        (b'>', b'=') => Some(TokenKind::GreaterOrEqual),
+        (b'=', b'=') => Some(TokenKind::Equal),
+        (b'!', b'=') => Some(TokenKind::NotEqual),
+        _ => None,
+    }
+}
+
+/// The sign of one character.
+pub fn short_sign(byte: u8) -> Option<TokenKind> {
+    match byte {
+        b'(' => Some(TokenKind::LeftParenthesis),
+        b')' => Some(TokenKind::RightParenthesis),
+        b'{' => Some(TokenKind::LeftBrace),
+        b'}' => Some(TokenKind::RightBrace),
+        b',' => Some(TokenKind::Comma),
+        b';' => Some(TokenKind::Semicolon),
+        b'.' => Some(TokenKind::Dot),
+        b'=' => Some(TokenKind::Assign),
+        b'+' => Some(TokenKind::Plus),
+        b'-' => Some(TokenKind::Minus),
+        b'*' => Some(TokenKind::Times),
+        b'/' => Some(TokenKind::Divide),
+        b'<' => Some(TokenKind::Less),
+        b'>' => Some(TokenKind::Greater),
+        _ => None,
+    }
+}
+
+/// The number that these characters are: decimal, without leading zeros, at most `MAX_NUMBER`.
+pub fn number(word: &[u8]) -> Option<u32> {
+    let is_decimal = word.iter().all(|byte| byte.is_ascii_digit());
+    let is_short = word.len() == 1 || word.first() != Some(&b'0');
+    if !is_decimal || !is_short {
+        return None;
+    }
+    let number: u32 = std::str::from_utf8(word).ok()?.parse().ok()?;
+    if number <= MAX_NUMBER {
+        Some(number)
+    } else {
+        None
+    }
+}
