@@ -11,33 +11,33 @@ use Rattle.tl_lowering.specs.declared.program.Statement.{Statement}
 use Rattle.tl_compiler.specs.Sets.{none_held}
 use Rattle.tl_meaning.specs.Meaning.{On, Done, and_then, free, free_by, leave_below, is_on, meaning, call}
 
-cleared : (l : List (Option Held)) (n : ℕ) → get_or (slice_set l n None) n None ≡ None
+pub cleared : (l : List (Option Held)) (n : ℕ) → get_or (slice_set l n None) n None ≡ None
 cleared [] n = refl
 cleared (x ∷ xs) zero = refl
 cleared (x ∷ xs) (suc n) = cleared xs n
 
-freed : (n : ℕ) (s : State) → node (free n s).state n ≡ None
+pub freed : (n : ℕ) (s : State) → node (free n s).state n ≡ None
 freed n s = by (node s n) refl
   where
     by : (o : Option Held) → node s n ≡ o → node (free_by o n s).state n ≡ None
     by None e = e
     by (Some h) e = cleared s.nodes n
 
-others : (k n : ℕ) (s : State) → n ≢ k → node (free k s).state n ≡ node s n
+pub others : (k n : ℕ) (s : State) → n ≢ k → node (free k s).state n ≡ node s n
 others k n s ne = by (node s k)
   where
     by : (o : Option Held) → node (free_by o k s).state n ≡ node s n
     by None = refl
     by (Some h) = get_or-set_other s.nodes k n None None ne
 
-goes_on : (n : ℕ) (s : State) → (free n s).outcome ≡ On
+pub goes_on : (n : ℕ) (s : State) → (free n s).outcome ≡ On
 goes_on n s = by (node s n)
   where
     by : (o : Option Held) → (free_by o n s).outcome ≡ On
     by None = refl
     by (Some h) = refl
 
-then_on : (d : Done) (f : State → Done) → d.outcome ≡ On → (and_then d f).state ≡ (f d.state).state
+pub then_on : (d : Done) (f : State → Done) → d.outcome ≡ On → (and_then d f).state ≡ (f d.state).state
 then_on d f e = rw e refl
 
 one_more : (m : ℕ) (s : State) → m < NODE_REGISTERS → (leave_below (suc m) none_held s).state ≡ (leave_below m none_held (free m s).state).state

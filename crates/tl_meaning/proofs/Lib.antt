@@ -1,2 +1,26 @@
-mod Leaving
+pub mod CallRuns
+pub mod ChoiceRuns
+pub mod ConditionRuns
+pub mod DescendRuns
+pub mod EveryRuns
+pub mod IfRuns
+pub mod Leaving
+pub mod LockRuns
+pub mod LoopRuns
+pub mod LoopSteps
+pub mod NumberRuns
+pub mod PadRuns
+pub mod PairRuns
+pub mod PlaceRuns
+pub mod ReleaseRuns
+pub mod RepeatRuns
+pub mod SetLemmas
+pub mod SimpleRuns
+pub mod SizeLemmas
+pub mod StatementRuns
+pub mod StatementStretches
+pub mod Steps
+pub mod Stretches
+pub mod TryRuns
+pub mod WayRuns
 mod Rows

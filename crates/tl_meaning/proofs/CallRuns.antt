@@ -1,0 +1,85 @@
+-- The code of a procedure does what a call of its text means.
+use Rattle.std.proofs.Common.{◌≡◌, ℕ, ◌+◌, ◌-◌, ◌≤◌, List, [], ◌∷◌, length, false, Option, None, if◌then◌else◌, refl, ap, ◌∙◌, subst, arith, append-nil}
+use Rattle.std.specs.Prelude.{ℤ, pos, replicate}
+use Rattle.std.proofs.lemmas.List.{length-append, length-replicate}
+use Rattle.tl_instr.specs.declared.operand.TheConstants.{VALUE_REGISTERS, NODE_REGISTERS}
+use Rattle.tl_instr.specs.declared.instr.Instr.{Instr}
+use Rattle.tl_instr.specs.declared.instr.Instr.TheVariants as I
+use Rattle.tl_tree.specs.Records.{Records}
+use Rattle.tl_tree_locking.specs.declared.action.Action.{Action}
+use Rattle.tl_machine.specs.Runs.{State, Run, Held, Ended, actions, last_state}
+use Rattle.tl_machine.specs.Alone.{alone, start}
+use Rattle.tl_machine.specs.Left.{left}
+use Rattle.tl_lowering.specs.declared.program.Statement.{Statement}
+use Rattle.tl_compiler.specs.Aiming.{placed}
+use Rattle.tl_compiler.specs.Sets.{none_held}
+use Rattle.tl_compiler.specs.Outcomes.{after, fails, breaks}
+use Rattle.tl_compiler.specs.Statements.{Site, procedure_code}
+use Rattle.tl_meaning.specs.Calls.{DoesCall}
+use Rattle.tl_meaning.specs.Meaning.{Outcome, On, Breaks, Fails, Returns, Done, after_events, is_on, leave, meaning}
+use Rattle.tl_meaning.specs.Leading.{with_actions, Leads, Runs}
+use Rattle.tl_meaning.specs.Endings.{Agrees, IsSite, IsIn, LeadsBy}
+use Rattle.tl_meaning.specs.Sound.{IsSound}
+use Rattle.tl_meaning.specs.Told.{told}
+use Rattle.tl_meaning.proofs.Steps.{and_on, tail_whole, returns}
+use Rattle.tl_meaning.proofs.Stretches.{tail_of_stretch}
+use Rattle.tl_meaning.proofs.NumberRuns.{kept_all}
+use Rattle.tl_meaning.proofs.StatementStretches.{statement_stretch}
+use Rattle.tl_meaning.proofs.EveryRuns.{every_runs}
+
+actions_to_end : (acts : List Action) (u : State) → actions (with_actions acts (Ended u)) ≡ acts
+actions_to_end [] u = refl
+actions_to_end (a ∷ acts) u = ap (λ l. a ∷ l) (actions_to_end acts u)
+
+last_at_end : (acts : List Action) (u : State) → last_state (with_actions acts (Ended u)) ≡ u
+last_at_end [] u = refl
+last_at_end (a ∷ acts) u = last_at_end acts u
+
+told_to_end : (from : Run) (events : List Action) (u : State) → Leads from events (Ended u) → told (actions from) ≡ events
+told_to_end from events u l = ap (λ x. told (actions x)) l.runs ∙ ap told (actions_to_end l.acts u) ∙ l.tells
+
+last_to_end : (from : Run) (events : List Action) (u : State) → Leads from events (Ended u) → last_state from ≡ u
+last_to_end from events u l = ap last_state l.runs ∙ last_at_end l.acts u
+
+start_values : (args : List ℤ) (t : Records) → length args ≤ VALUE_REGISTERS → length (start args t).values ≡ VALUE_REGISTERS
+start_values args t few =
+    length-append args (replicate (VALUE_REGISTERS - length args) (pos 0))
+    ∙ ap (λ n. length args + n) (length-replicate (VALUE_REGISTERS - length args) (pos 0))
+    ∙ omega arith
+
+-- what a call comes to from what its statement comes to
+abbrev call_of : Done → Done
+call_of d = if is_on d.outcome then d else after_events d.events (leave none_held d.state)
+
+module _ (arity : ℕ) (parents : List ℕ) (body : Statement) (ready : Runs (procedure_code arity body)) (none : fails body none_held ≡ []) where
+  abbrev code : List Instr
+  code = procedure_code arity body
+
+  abbrev site : Site
+  site = record { values = arity; nodes = 0; pad = λ held. 1; exit = None }
+
+  to_end : (from : Run) (o : Outcome) (s : State) (events : List Action) → LeadsBy (after body none_held) (fails body none_held) (breaks body none_held) code parents [] site 1 from o s events
+      → let d = call_of (record { outcome = o; state = s; events = events }) in (u : State) × Leads from d.events (Ended u) × (u.records ≡ d.state.records)
+  to_end from On s events l =
+      let u = l.0 in
+      let last = returns parents ready [] [] u (tail_of_stretch (statement_stretch body none_held site (I.Return ∷ []))) tt in
+      (u, subst (λ es. Leads from es (Ended u)) (append-nil events) (and_on l.3 last), (l.4).kept.records)
+  to_end from Fails s events l = absurd (subst (IsIn l.1) none l.2)
+  to_end from Breaks s events l = let e = l.4 in cc
+  to_end from Returns s events l = l
+
+  pub call_runs : IsSound body arity 0 none_held false → (args : List ℤ) (t : Records) → length args ≤ VALUE_REGISTERS → DoesCall code parents body args t
+  call_runs sound args t few =
+      let s = start args t in
+      let size = start_values args t few in
+      let empty : Option Held = None in
+      let agrees : Agrees arity none_held s s = record { kept = kept_all arity s size; values = size; nodes = length-replicate NODE_REGISTERS empty; held = refl } in
+      let is_site : IsSite code [] site 1 = record { inside = tt; pads = λ h. omega arith; exits = λ e is. cc; sizes = λ e is. cc } in
+      let d = meaning parents body s in
+      let first : left (placed code) parents [] (length code - length code) s ≡ alone (placed code) parents args t = ap (λ p. left (placed code) parents [] p s) (omega arith) in
+      let ends = to_end (left (placed code) parents [] (length code - length code) s) d.outcome d.state d.events
+      (every_runs parents ready body none_held site (I.Return ∷ []) [] s s (tail_whole code) is_site sound agrees) in
+      let run = alone (placed code) parents args t in
+      let done = call_of d in
+      let leads : Leads run done.events (Ended ends.0) = subst (λ r. Leads r done.events (Ended ends.0)) first ends.1 in
+      (told_to_end run done.events ends.0 leads, ap (λ (w : State). w.records) (last_to_end run done.events ends.0 leads) ∙ ends.2)

@@ -1,0 +1,179 @@
+-- Two ways of a statement, and where they join.
+use Rattle.std.proofs.Common.{◌≡◌, ℕ, zero, suc, ◌≤◌, List, [], ◌∷◌, ◌++◌, length, Bool, true, false, not, Option, Some, None, is_some, if◌then◌else◌, refl, sym, ap, ◌∙◌, subst, arith, append-nil, inl}
+use Rattle.std.proofs.lemmas.Bool.{or_parts, not-false}
+use Rattle.std.proofs.lemmas.List.{get_or-replicate}
+use Rattle.tl_instr.specs.declared.operand.TheConstants.{NODE_REGISTERS}
+use Rattle.tl_instr.specs.declared.instr.Instr.{Instr}
+use Rattle.tl_instr.specs.declared.instr.Instr.TheVariants as I
+use Rattle.tl_tree_locking.specs.declared.action.Action.{Action}
+use Rattle.tl_tree_locking.specs.declared.action.Action.TheVariants as did
+use Rattle.tl_machine.specs.Runs.{State, Run, Held}
+use Rattle.tl_machine.specs.Alone.{node}
+use Rattle.tl_machine.specs.Left.{Frame}
+use Rattle.tl_lowering.specs.declared.program.Statement.{Statement}
+use Rattle.tl_lowering.specs.declared.program.Statement.TheVariants as S
+use Rattle.tl_compiler.specs.Labels.{target_of}
+use Rattle.tl_compiler.specs.Sets.{Nodes, none_held, holds, both, minus, same}
+use Rattle.tl_compiler.specs.Outcomes.{after, fails, breaks}
+use Rattle.tl_compiler.specs.Statements.{Site, Exit, release_below, release_code, way_out, direct, is_skip, joining_code, releases, second_by, statement_code}
+use Rattle.tl_meaning.specs.Meaning.{Outcome, On, Breaks, Fails, Returns, Done, plain, and_then, free_by, leave_below, leave, leaving, meaning}
+use Rattle.tl_meaning.specs.Leading.{Leads, Tail, Runs, from_label, IsInside}
+use Rattle.tl_meaning.specs.Endings.{Agrees, IsSite, LeadsBy, StatementLeads}
+use Rattle.tl_meaning.specs.Sound.{IsSound}
+use Rattle.tl_meaning.proofs.Steps.{stays, and_on, tail_further, tail_length, further_in, goes_to_label}
+use Rattle.tl_meaning.proofs.Stretches.{tail_of_stretch}
+use Rattle.tl_meaning.proofs.SetLemmas.{Within, within_self, both_within, same_is}
+use Rattle.tl_meaning.proofs.ReleaseRuns.{release_stretch}
+use Rattle.tl_meaning.proofs.StatementStretches.{statement_stretch, joining_stretch}
+use Rattle.tl_meaning.proofs.StatementRuns.{StatementRuns}
+use Rattle.tl_meaning.proofs.SimpleRuns.{held_size, holds_there, further_site, released}
+
+-- where nothing that is held is to be freed
+pub leaves_all : (n : ℕ) (kept : Nodes) (s : State) → ((i : ℕ) → is_some (node s i) ≡ true → holds kept i ≡ true) → leave_below n kept s ≡ plain On s
+leaves_all zero kept s h = refl
+leaves_all (suc n) kept s h = by (holds kept n) refl (node s n) refl (leaves_all n kept s h)
+  where
+    by : (b : Bool) → holds kept n ≡ b → (o : Option Held) → node s n ≡ o → leave_below n kept s ≡ plain On s → and_then (if b then plain On s else free_by o n s) (leave_below n kept) ≡ plain On s
+    by true e o f rest = rest
+    by false e None f rest = rest
+    by false e (Some g) f rest = let held = h n (ap is_some f) in cc
+
+skips_code : (b : Statement) (held : Nodes) (x : Site) (k : List Instr) → is_skip b ≡ true → statement_code b held x k ≡ k
+skips_code S.Skip held x k e = refl
+skips_code (S.At' offset p a) held x k e = skips_code a held x k e
+skips_code b held x k e = cc
+
+releases_none : (n : ℕ) (k : List Instr) → n ≤ NODE_REGISTERS → release_below n none_held k ≡ k
+releases_none zero k le = refl
+releases_none (suc n) k le =
+    ap (λ b. if b then I.Release n ∷ release_below n none_held k else release_below n none_held k) (get_or-replicate NODE_REGISTERS n false false (omega arith))
+    ∙ releases_none n k (omega arith)
+
+joins_nothing : (held : Option Nodes) (kept : Nodes) (k : List Instr) → releases held kept ≡ false → joining_code held kept false 0 k ≡ k
+joins_nothing None kept k e = refl
+joins_nothing (Some h) kept k e =
+    ap (λ g. release_code g k) (same_is (minus h kept) none_held (not-false (same (minus h kept) none_held) e)) ∙ releases_none NODE_REGISTERS k (omega arith)
+
+-- the way that a second way's end is the end of both, where the first one doesn't jump
+pub second_short : (to : Option ℕ) (b : Statement) (hb : Nodes) (x : Site) (kept : Nodes) (k : List Instr)
+    → (second_by to (is_skip b) (after b hb) kept (statement_code b hb x) k).jumps ≡ false → length (second_by to (is_skip b) (after b hb) kept (statement_code b hb x) k).code ≡ length k
+second_short (Some label) b hb x kept k e = refl
+second_short None b hb x kept k e =
+    let h = or_parts (not (is_skip b)) (releases (after b hb) kept) e in
+    ap length (skips_code b hb x (joining_code (after b hb) kept false 0 k) (not-false (is_skip b) h.0) ∙ joins_nothing (after b hb) kept k h.1)
+
+-- what is kept behind a statement of several ways, of which this is one
+pub record Keeps (one whole : Option Nodes) (kept : Nodes) : Type 0 where
+  pub is : (h : Nodes) → one ≡ Some h → whole ≡ Some kept
+  pub within : (h : Nodes) → one ≡ Some h → Within kept h
+  pub size : (h : Nodes) → one ≡ Some h → length h ≡ NODE_REGISTERS → length kept ≡ NODE_REGISTERS
+
+module _ {c : List Instr} (parents : List ℕ) (ready : Runs c) where
+  target_by : (jumps : Bool) (done : ℕ) (k : List Instr) (fs : List Frame) (w : State) → Tail c (if jumps then I.Jump (target_of done) ∷ k else k) → IsInside c fs (length k) → done ≤ length k
+      → Leads (from_label c parents fs (length (if jumps then I.Jump (target_of done) ∷ k else k)) w) [] (from_label c parents fs (if jumps then done else length k) w)
+  target_by true done k fs w tail inside le = goes_to_label parents ready fs (I.Jump (target_of done)) k w w did.Plain done tail inside refl le refl
+  target_by false done k fs w tail inside le = stays (from_label c parents fs (length k) w)
+
+  jump_inside : (jumps : Bool) (done : ℕ) (k : List Instr) (fs : List Frame) → IsInside c fs (length k) → IsInside c fs (length (if jumps then I.Jump (target_of done) ∷ k else k))
+  jump_inside true done k fs inside = further_in c fs (length k) (suc (length k)) (omega arith) inside
+  jump_inside false done k fs inside = inside
+
+  -- behind a way all is freed that isn't kept
+  pub joined : (A whole : Option Nodes) (kept : Nodes) → Keeps A whole kept → (F B : List Nodes) (x : Site) (jumps : Bool) (done : ℕ) (k : List Instr) (fs : List Frame)
+      → Tail c (joining_code A kept jumps done k) → IsInside c fs (length k) → done ≤ length k
+      → (from : Run) (o : Outcome) (s : State) (events : List Action) → LeadsBy A F B c parents fs x (length (joining_code A kept jumps done k)) from o s events
+      → StatementLeads whole F B c parents fs x (if jumps then done else length k) from (leaving whole (record { outcome = o; state = s; events = events }))
+  joined A whole kept keeps F B x jumps done k fs tail inside le from Fails s events l = l
+  joined A whole kept keeps F B x jumps done k fs tail inside le from Breaks s events l = l
+  joined A whole kept keeps F B x jumps done k fs tail inside le from Returns s events l = l
+  joined None whole kept keeps F B x jumps done k fs tail inside le from On s events l = let e = l.2 in cc
+  joined (Some h) whole kept keeps F B x jumps done k fs tail inside le from On s events l =
+      let e = l.2 in
+      let same : h ≡ l.1 = cc in
+      let agrees : Agrees x.values h s l.0 = subst (λ g. Agrees x.values g s l.0) (sym same) l.4 in
+      let size = keeps.size h refl (held_size agrees) in
+      let code = if jumps then I.Jump (target_of done) ∷ k else k in
+      let r = released parents ready fs x.values h kept code s l.0 tail (jump_inside jumps done k fs inside) size agrees in
+      let tail_then = tail_further tail (tail_of_stretch (release_stretch NODE_REGISTERS (minus h kept) code)) in
+      let leads : Leads from (events ++ (leave kept s).events) (from_label c parents fs (if jumps then done else length k) r.state) =
+      and_on l.3 (subst (λ es. Leads (from_label c parents fs (length (release_code (minus h kept) code)) l.0) es (from_label c parents fs (if jumps then done else length k) r.state)) (append-nil (leave kept s).events)
+      (and_on r.leads (target_by jumps done k fs r.state tail_then inside le))) in
+      let stays_held : both h kept ≡ kept = both_within h kept (held_size agrees ∙ sym size) (keeps.within h refl) in
+      let ends : LeadsBy whole F B c parents fs x (if jumps then done else length k) from On (leave kept s).state (events ++ (leave kept s).events) =
+      (r.state, kept, keeps.is h refl, leads, subst (λ g. Agrees x.values g (leave kept s).state r.state) stays_held r.agrees) in
+      let by_kept : StatementLeads whole F B c parents fs x (if jumps then done else length k) from (leaving (Some kept) (record { outcome = On; state = s; events = events })) =
+      subst (λ o. LeadsBy whole F B c parents fs x (if jumps then done else length k) from o (leave kept s).state (events ++ (leave kept s).events)) (sym r.goes_on) ends in
+      subst (λ w. StatementLeads whole F B c parents fs x (if jumps then done else length k) from (leaving w (record { outcome = On; state = s; events = events }))) (sym (keeps.is h refl)) by_kept
+
+  -- a statement that needs no code leads where it is said to
+  pub direct_runs : (b : Statement) (held : Nodes) (x : Site) (fs : List Frame) (s u : State) (label : ℕ) (A : Option Nodes) (on : ℕ) → direct b held x ≡ Some label → Agrees x.values held s u
+      → StatementLeads A (fails b held) (breaks b held) c parents fs x on (from_label c parents fs label u) (meaning parents b s)
+  direct_runs S.Fail held x fs s u label A on e agrees =
+      let same : x.pad held ≡ label = cc in
+      (u, held, inl refl, subst (λ l. Leads (from_label c parents fs label u) [] (from_label c parents fs l u)) (sym same) (stays (from_label c parents fs label u)), agrees)
+  direct_runs S.Break held x fs s u label A on e agrees = by x.exit refl e
+    where
+      by : (o : Option Exit) → x.exit ≡ o → way_out held o ≡ Some label → StatementLeads A [] (held ∷ []) c parents fs x on (from_label c parents fs label u) (plain Breaks s)
+      by None f e = cc
+      by (Some exit) f e = at (same exit.held held) refl e
+        where
+          at : (b : Bool) → same exit.held held ≡ b → (if b then Some exit.label else None) ≡ Some label → StatementLeads A [] (held ∷ []) c parents fs x on (from_label c parents fs label u) (plain Breaks s)
+          at false g e = cc
+          at true g e =
+              let out : exit.label ≡ label = cc in
+              let is_held : exit.held ≡ held = same_is exit.held held g in
+              let none : leave exit.held s ≡ plain On s = leaves_all NODE_REGISTERS exit.held s (λ i h. ap (λ l. holds l i) is_held ∙ holds_there agrees i ∙ h) in
+              let both_held : both held exit.held ≡ held = ap (both held) is_held ∙ both_within held held refl (within_self held) in (
+                u,
+                held,
+                inl refl,
+                exit,
+                f,
+                subst (λ (d : Done). Leads (from_label c parents fs label u) d.events (from_label c parents fs exit.label u)) (sym none)
+                    (subst (λ l. Leads (from_label c parents fs label u) [] (from_label c parents fs l u)) (sym out) (stays (from_label c parents fs label u))),
+                subst (λ (d : Done). Agrees x.values (both held exit.held) d.state u) (sym none) (subst (λ h. Agrees x.values h s u) (sym both_held) agrees),
+              )
+  direct_runs (S.At' offset p a) held x fs s u label A on e agrees = direct_runs a held x fs s u label A on e agrees
+  direct_runs b held x fs s u label A on e agrees = cc
+
+  -- the second way, from its start to where both ways join
+  pub second_runs : (b : Statement) → StatementRuns parents ready b → (held : Nodes) (x : Site) (whole : Option Nodes) (kept : Nodes) → Keeps (after b held) whole kept → (k : List Instr) (fs : List Frame) (s u : State)
+      → (to : Option ℕ) → direct b held x ≡ to → Tail c (second_by to (is_skip b) (after b held) kept (statement_code b held x) k).code → IsSite c fs x (length k)
+      → IsSound b x.values x.nodes held (is_some x.exit) → Agrees x.values held s u
+      → StatementLeads whole (fails b held) (breaks b held) c parents fs x (length k) (from_label c parents fs (second_by to (is_skip b) (after b held) kept (statement_code b held x) k).label u) (leaving whole (meaning parents b s))
+  second_runs b runs held x whole kept keeps k fs s u (Some label) e tail site sound agrees =
+      let done = meaning parents b s in
+      let none : Keeps None whole kept = record { is = λ h f. cc; within = λ h f. absurd (let g : ◌≡◌ {A = Option Nodes} None (Some h) = f in cc); size = λ h f. absurd (let g : ◌≡◌ {A = Option Nodes} None (Some h) = f in cc) } in
+      joined None whole kept none (fails b held) (breaks b held) x false 0 k fs tail site.inside (omega arith) (from_label c parents fs label u) done.outcome done.state done.events
+      (direct_runs b held x fs s u label None (length k) e agrees)
+  second_runs b runs held x whole kept keeps k fs s u None e tail site sound agrees =
+      let done = meaning parents b s in
+      let code = joining_code (after b held) kept false 0 k in
+      let long : length k ≤ length code = tail_length (tail_of_stretch (joining_stretch (after b held) kept false 0 k)) in
+      joined (after b held) whole kept keeps (fails b held) (breaks b held) x false 0 k fs (tail_further tail (tail_of_stretch (statement_stretch b held x code))) site.inside (omega arith)
+      (from_label c parents fs (length (statement_code b held x code)) u) done.outcome done.state done.events
+      (runs held x code fs s u tail (further_site (length k) (length code) long site) sound agrees)
+
+  -- the first way, from its start to where both ways join
+  pub first_runs : (a b : Statement) → StatementRuns parents ready a → (held : Nodes) (y : Site) (whole : Option Nodes) (kept : Nodes) → Keeps (after a held) whole kept
+      → (to : Option ℕ) (hb : Nodes) (x : Site) (k : List Instr) (fs : List Frame) (s u : State)
+      → Tail c (statement_code a held y (joining_code (after a held) kept (second_by to (is_skip b) (after b hb) kept (statement_code b hb x) k).jumps (length k) (second_by to (is_skip b) (after b hb) kept (statement_code b hb x) k).code))
+      → length k ≤ length (second_by to (is_skip b) (after b hb) kept (statement_code b hb x) k).code
+      → IsSite c fs y (length k) → IsSound a y.values y.nodes held (is_some y.exit) → Agrees y.values held s u
+      → StatementLeads whole (fails a held) (breaks a held) c parents fs y (length k)
+      (from_label c parents fs (length (statement_code a held y (joining_code (after a held) kept (second_by to (is_skip b) (after b hb) kept (statement_code b hb x) k).jumps (length k) (second_by to (is_skip b) (after b hb) kept (statement_code b hb x) k).code))) u)
+      (leaving whole (meaning parents a s))
+  first_runs a b runs held y whole kept keeps to hb x k fs s u tail longer site sound agrees =
+      let second = second_by to (is_skip b) (after b hb) kept (statement_code b hb x) k in
+      let done = meaning parents a s in
+      let code = joining_code (after a held) kept second.jumps (length k) second.code in
+      let long : length second.code ≤ length code = tail_length (tail_of_stretch (joining_stretch (after a held) kept second.jumps (length k) second.code)) in
+      let ends = joined (after a held) whole kept keeps (fails a held) (breaks a held) y second.jumps (length k) second.code fs (tail_further tail (tail_of_stretch (statement_stretch a held y code)))
+      (further_in c fs (length k) (length second.code) longer site.inside) longer
+      (from_label c parents fs (length (statement_code a held y code)) u) done.outcome done.state done.events
+      (runs held y code fs s u tail (further_site (length k) (length code) (omega arith) site) sound agrees) in
+      subst (λ on. StatementLeads whole (fails a held) (breaks a held) c parents fs y on (from_label c parents fs (length (statement_code a held y code)) u) (leaving whole done)) (at second.jumps refl) ends
+    where
+      at : (j : Bool) → (second_by to (is_skip b) (after b hb) kept (statement_code b hb x) k).jumps ≡ j → (if j then length k else length (second_by to (is_skip b) (after b hb) kept (statement_code b hb x) k).code) ≡ length k
+      at true e = refl
+      at false e = second_short to b hb x kept k e

@@ -1,0 +1,100 @@
+-- Where control comes to on the way through a code, and what it tells on the way.
+use Rattle.std.specs.Prelude.{◌≡◌, ◌≢◌, ℕ, ◌-◌, ◌<◌, ◌≤◌, List, [], ◌∷◌, ◌++◌, length, Bool, true, false, Option, Some, None, slice_get, ℤ}
+use Rattle.tl_instr.specs.declared.operand.TheConstants.{VALUE_REGISTERS}
+use Rattle.tl_instr.specs.declared.instr.Instr.{Instr}
+use Rattle.tl_instr.specs.Instructions.{InRange}
+use Rattle.tl_tree_locking.specs.declared.action.Action.{Action}
+use Rattle.tl_verify.specs.Acceptable.{Acceptable}
+use Rattle.tl_machine.specs.Runs.{State, Run, Then}
+use Rattle.tl_machine.specs.Alone.{value}
+use Rattle.tl_machine.specs.Left.{Frame, left}
+use Rattle.tl_lowering.specs.declared.program.Expression.{Expression}
+use Rattle.tl_lowering.specs.declared.program.Expression.TheVariants as E
+use Rattle.tl_lowering.specs.declared.program.Condition.{Condition}
+use Rattle.tl_lowering.specs.declared.program.Condition.TheVariants as C
+use Rattle.tl_compiler.specs.Aiming.{placed}
+use Rattle.tl_compiler.specs.Sets.{Nodes, holds}
+use Rattle.tl_meaning.specs.Told.{told}
+
+-- a run behind these actions
+abbrev pub with_actions : List Action → Run → Run
+with_actions [] run = run
+with_actions (a ∷ acts) run = Then a (with_actions acts run)
+
+-- the first run is the second one behind actions that tell these events
+pub record Leads (from : Run) (events : List Action) (to : Run) : Type 0 where
+  pub acts : List Action
+  pub tells : told acts ≡ events
+  pub runs : from ≡ with_actions acts to
+
+-- the second list is the end of the first one
+pub record Tail (whole end : List Instr) : Type 0 where
+  pub front : List Instr
+  pub joined : whole ≡ front ++ end
+
+-- the code with positions in the place of labels is one that runs
+pub record Runs (code : List Instr) : Type 0 where
+  pub short : length code ≤ 65535
+  pub accepted : Acceptable (placed code)
+  pub ranges : (p : ℕ) (i : Instr) → slice_get (placed code) p ≡ Some i → InRange i
+
+-- what is left to do from a label on, which counts from the end of the code
+abbrev pub from_label : List Instr → List ℕ → List Frame → ℕ → State → Run
+from_label code parents frames label s = left (placed code) parents frames (length code - label) s
+
+-- the label is no farther than the end of the loop that control is in
+abbrev pub IsInside : List Instr → List Frame → ℕ → Type 0
+IsInside code [] label = Unit {0}
+IsInside code (frame ∷ outer) label = length code - label ≤ frame.close
+
+-- where a jump leads that is taken where a condition is as `sense` says: to the label, or on
+abbrev pub led_to : Bool → Bool → ℕ → ℕ → ℕ
+led_to true true label on = label
+led_to true false label on = on
+led_to false true label on = on
+led_to false false label on = label
+
+-- each value that is named has one of the first t registers, and each node that is read is held
+abbrev pub IsReadable : ℕ → Nodes → Expression → Type 0
+IsReadable t held (E.Constant w) = Unit {0}
+IsReadable t held (E.Value x) = x < t
+IsReadable t held (E.Field n f) = holds held n ≡ true
+IsReadable t held (E.Children n) = holds held n ≡ true
+IsReadable t held (E.Calculated' o p a q b) = IsReadable t held a × IsReadable t held b
+
+abbrev pub IsTestable : ℕ → Nodes → Condition → Type 0
+IsTestable t held (C.Less a b) = IsReadable t held a × IsReadable t held b
+IsTestable t held (C.Greater a b) = IsReadable t held a × IsReadable t held b
+IsTestable t held (C.Equal a b) = IsReadable t held a × IsReadable t held b
+IsTestable t held (C.Not' p c) = IsTestable t held c
+IsTestable t held (C.And' p c q d) = IsTestable t held c × IsTestable t held d
+
+-- the first t values are the same in both states, and nodes and records too
+pub record Kept (t : ℕ) (s u : State) : Type 0 where
+  pub values : (v : ℕ) → v < t → value u v ≡ value s v
+  pub nodes : u.nodes ≡ s.nodes
+  pub records : u.records ≡ s.records
+  pub size : length u.values ≡ VALUE_REGISTERS
+
+-- the register has the number, and all else is the same: the other ones of the first t values, nodes and records
+pub record Given (x : ℕ) (n : ℤ) (t : ℕ) (s u : State) : Type 0 where
+  pub here : value u x ≡ n
+  pub values : (v : ℕ) → v < t → v ≢ x → value u v ≡ value s v
+  pub nodes : u.nodes ≡ s.nodes
+  pub records : u.records ≡ s.records
+  pub size : length u.values ≡ VALUE_REGISTERS
+
+-- Where the code of a number leads that stands before a label: there, with the number in its register, or to the label of its failure.
+-- It tells nothing.
+abbrev pub NumberLeads : List Instr → List ℕ → List Frame → ℕ → ℕ → ℕ → ℕ → Run → State → Option ℤ → Type 0
+NumberLeads code parents frames x t failure on from s None =
+    (u : State) × Leads from [] (from_label code parents frames failure u) × Kept t s u
+NumberLeads code parents frames x t failure on from s (Some n) =
+    (u : State) × Leads from [] (from_label code parents frames on u) × Given x n t s u
+
+-- Where the code of a condition leads: to the label where the condition is as `sense` says, else on, or to the label of its failure.
+abbrev pub ConditionLeads : List Instr → List ℕ → List Frame → Bool → ℕ → ℕ → ℕ → ℕ → Run → State → Option Bool → Type 0
+ConditionLeads code parents frames sense label t failure on from s None =
+    (u : State) × Leads from [] (from_label code parents frames failure u) × Kept t s u
+ConditionLeads code parents frames sense label t failure on from s (Some b) =
+    (u : State) × Leads from [] (from_label code parents frames (led_to b sense label on) u) × Kept t s u

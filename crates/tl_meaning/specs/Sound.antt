@@ -1,0 +1,47 @@
+-- Which statements are in order where so many values and nodes have registers and these nodes are held: what they name is there.
+use Rattle.std.specs.Prelude.{◌≡◌, ◌≢◌, ℕ, ◌+◌, ◌<◌, Bool, true, false, Option, IfSome}
+use Rattle.tl_lowering.specs.declared.program.Place.{Place}
+use Rattle.tl_lowering.specs.declared.program.Place.TheVariants as P
+use Rattle.tl_lowering.specs.declared.program.Statement.{Statement}
+use Rattle.tl_lowering.specs.declared.program.Statement.TheVariants as S
+use Rattle.tl_compiler.specs.Sets.{Nodes, holds, all_of}
+use Rattle.tl_compiler.specs.Outcomes.{locked, handled_by, after, fails}
+use Rattle.tl_compiler.specs.Statements.{nodes_behind}
+use Rattle.tl_meaning.specs.Leading.{IsReadable, IsTestable}
+
+-- the registers of what is locked are empty, and a child's parent is held
+abbrev pub IsLockable : Place → ℕ → Nodes → Type 0
+IsLockable (P.Node n e) d held = (holds held n ≡ false) × IsReadable d held e
+IsLockable (P.Child n p e) d held = (holds held n ≡ false) × (holds held p ≡ true) × IsReadable d held e
+IsLockable (P.Pair n k p a b) d held =
+    (n ≢ k) × (holds held n ≡ false) × (holds held k ≡ false) × (holds held p ≡ true) × IsReadable d held a × IsReadable d held b
+
+-- a turn that comes to its end holds what it began with
+abbrev pub KeepsHeld : Option Nodes → Nodes → Type 0
+KeepsHeld end held = IfSome end (λ h. h ≡ held)
+
+-- The first d value registers are those of values, and m is a free node register. `in_loop` says whether a loop is around.
+abbrev pub IsSound : Statement → ℕ → ℕ → Nodes → Bool → Type 0
+IsSound S.Skip d m held in_loop = Unit {0}
+IsSound (S.Sequence' p a q b) d m held in_loop = IsSound a d m held in_loop × IfSome (after a held) (λ h. IsSound b d m h in_loop)
+IsSound (S.Assign v e) d m held in_loop = (v < d) × IsReadable d held e
+IsSound (S.Write n f e) d m held in_loop = (holds held n ≡ true) × IsReadable d held e
+IsSound (S.Emit e) d m held in_loop = IsReadable d held e
+IsSound (S.Free n) d m held in_loop = holds held n ≡ true
+IsSound (S.Descend n e) d m held in_loop = (holds held n ≡ true) × (holds held m ≡ false) × IsReadable d held e
+IsSound (S.Take n k) d m held in_loop = (n ≢ k) × (holds held n ≡ true) × (holds held k ≡ true)
+IsSound S.Break d m held in_loop = in_loop ≡ true
+IsSound S.Return d m held in_loop = Unit {0}
+IsSound S.Fail d m held in_loop = Unit {0}
+IsSound (S.If' c p a q b) d m held in_loop = IsTestable d held c × IsSound a d m held in_loop × IsSound b d m held in_loop
+IsSound (S.Let' v e p a) d m held in_loop = (v ≡ d) × IsReadable d held e × IsSound a (d + 1) m held in_loop
+IsSound (S.LetElse' v e p a q o) d m held in_loop =
+    (v ≡ d) × IsReadable d held e × IsSound a (d + 1) m held in_loop × IsSound o d m held in_loop
+IsSound (S.Lock' place p a q o) d m held in_loop =
+    IsLockable place d held × IsSound a d (nodes_behind place) (locked place held) in_loop × IsSound o d m held in_loop
+IsSound (S.Try' p a q b) d m held in_loop =
+    IsSound a d m held in_loop × IsSound b d m (handled_by held (all_of (fails a held))) in_loop
+IsSound (S.Repeat' w p a) d m held in_loop = KeepsHeld (after a held) held × IsSound a d m held true
+IsSound (S.RepeatUpTo' e w p a) d m held in_loop =
+    IsReadable d held e × KeepsHeld (after a held) held × IsSound a d m held true
+IsSound (S.At' offset p a) d m held in_loop = IsSound a d m held in_loop
