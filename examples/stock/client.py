@@ -12,7 +12,7 @@ NAME_TAKEN = 611
 
 def register(db, name):
     try:
-        bounds = db.register_file(name, HERE / f"{name}.asm")
+        bounds = db.register_file(name, HERE / "stock.tdb")
         print(f"{name} locks at most {bounds.locks} nodes")
     except Refused as refusal:
         if refusal.number != NAME_TAKEN:

@@ -3,7 +3,7 @@
     from treedb import Client, Refused
 
     with Client(7878) as db:
-        db.register_file("transfer", "examples/stock/transfer.asm")
+        db.register_file("transfer", "examples/stock/stock.tdb")
         answer = db.call("transfer", 5, 0, 0, 0, 1, 0, 0)
         print(answer.call, answer.reply)
         for answer in db.batch([("transfer", 5, 0, 0, 0, 1, 0, 0), ("stock", 2)], workers=4):

@@ -4,13 +4,15 @@ use std::alloc::{AllocError, AllocFailed};
 use std::{fmt, io};
 use tl_commands::CliFault;
 
-/// The fault of a command, a file that can't be read or written, with the system's reason, or a port that can't be had.
+/// The fault of a command, a file that can't be read or written, with the system's reason, a port that can't be had, or a server that
+/// isn't there.
 #[derive(Drop)]
 pub enum Failure<'a> {
     Refused(CliFault),
     Unreadable { path: &'a str, reason: io::Error },
     Unwritable { path: &'a str, reason: io::Error },
     NoPort { port: u16 },
+    NoServer { port: u16, reason: io::Error },
 }
 
 impl Failure<'_> {
@@ -20,7 +22,7 @@ impl Failure<'_> {
             Failure::Refused(fault) => *fault,
             Failure::Unreadable { .. } => CliFault::Unreadable,
             Failure::Unwritable { .. } => CliFault::Unwritable,
-            Failure::NoPort { .. } => CliFault::NoPort,
+            Failure::NoPort { .. } | Failure::NoServer { .. } => CliFault::NoPort,
         }
     }
 }
@@ -50,6 +52,9 @@ impl fmt::Display for Failure<'_> {
             Failure::Unreadable { path, reason } => write!(f, "{path} can't be read: {reason}"),
             Failure::Unwritable { path, reason } => write!(f, "{path} can't be written: {reason}"),
             Failure::NoPort { port } => write!(f, "the port {port} can't be had"),
+            Failure::NoServer { port, reason } => {
+                write!(f, "no server answers on the control port {port}: {reason}")
+            }
         }
     }
 }

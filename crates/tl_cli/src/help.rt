@@ -85,10 +85,18 @@ sends the lines of a file, each a request: {\"op\":\"register\",\"name\":\"add\"
 {\"op\":\"close\"}. Each is answered by a line, in order. When all connections have ended, this prints {\"order\":[..]}, the
 order in which their calls would do the same alone, and then the tree as JSON. With --trail the calls, what they did and the
 records in the end are written to a file, which treedb audit checks. At most 8 connections are open at once.
+With --control P it also ends when treedb stop --port P asks for it: each line that was read is answered, and the connections
+are ended. With --idle S a connection ends that sends nothing for S seconds.
 After 4,096 calls a seal begins a new epoch, which goes on with the tree as it is; then this prints {\"orders\":[..]}, the order
 in each epoch, and the file is the list of the epochs' trails.
 Exit status: 0 done, 1 refused, 2 a mistake on the command line, 3 a file that can't be read or written, or a port
 that can't be had, 4 memory.";
+
+pub const STOP_HELP: &str = "\
+Example: treedb stop --port 7879
+asks the server that was started with --control 7879 to end, and prints {\"stopping\":true}. The server takes up no more
+connections, answers each line that it has read whole, and prints the order and the tree.
+Exit status: 0 asked, 2 a mistake on the command line, 3 nobody answers on the port, 4 memory.";
 
 pub const VERIFY_HELP: &str = "\
 Example: treedb verify walk.tlp

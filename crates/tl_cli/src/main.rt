@@ -1,10 +1,12 @@
 //! The program `treedb`.
 #![tactic(auto)]
 
+mod arguments;
 mod command_line;
 mod explain;
 mod failure;
 mod help;
+mod meanings;
 mod output;
 mod program;
 mod progress;
@@ -20,6 +22,7 @@ use std::process::ExitCode;
 use std::rt::Files;
 use std::sync::Wait;
 use std::thread::Threads;
+use std::time::Clock;
 pub use tl_commands::{
     CliFault, alone_cmd, asm_cmd, audit_cmd, check_cmd, compile_cmd, conclude_engine,
     conclude_engine_with_trail, dis_cmd, drive_cmd, drive_with_trail_cmd, migrate_cmd, open_engine,
@@ -67,6 +70,7 @@ where
         + Net<Listener = TcpListener, Stream = TcpStream>
         + Threads
         + Wait
+        + Clock
         + Sync,
 {
     match command_line::parse(rt.alloc(), words) {

@@ -1,9 +1,9 @@
 // The commands with their files: each is read, a command of `tl_commands` answers, and what that says is written and printed.
 
-use crate::command_line::{CallCommand, FileCommand, Outputs, Request, ScriptFiles};
+use crate::command_line::{CallCommand, FileCommand, Outputs, Request, ScriptFiles, ServeOptions};
 use crate::failure::Failure;
 use crate::progress::Shown;
-use crate::script::{NamedText, first_refused, with_procedures};
+use crate::script::{NamedText, RefusedProcedure, first_refused, named_in_list, with_procedures};
 use crate::trail_file::TrailFile;
 use crate::{
     CliFault, alone_cmd, asm_cmd, audit_cmd, check_cmd, compile_cmd, conclude_engine,
@@ -15,8 +15,10 @@ use std::net::{Net, TcpListener, TcpStream};
 use std::rt::Files;
 use std::sync::Wait;
 use std::thread::Threads;
-use tl_server::{ListenFault, Server};
-use tl_workers::{MAX_WORKERS, NoGate};
+use std::time::{Clock, Duration};
+use tl_compiler::CompileFault;
+use tl_server::{Control, ListenFault, Server, ask_to_stop};
+use tl_workers::{Engine, MAX_WORKERS, NoGate, Session};
 
 // A file that was read: its path, and its bytes.
 #[derive(Drop)]
@@ -141,13 +143,27 @@ impl<'a, R: Files + Print + Eprint + AllocGlobal> Program<'a, R> {
         })
     }
 
-    // A procedure that the command line names as `NAME=FILE`.
-    fn named_text<'p>(&self, named: &'p str) -> Result<NamedText<'p>, Failure<'p>> {
-        let (name, path) = named.split_once('=').unwrap_or((named, named));
-        match String::from_utf8(self.read_file(path)?) {
-            Ok(text) => Ok(NamedText { name, text }),
-            Err(_) => Err(Failure::Refused(CliFault::NotUtf8)),
+    // The procedures that the command line names: `FILE` has a text of the procedure language, whose procedures are all meant. In `NAME=FILE` the one of
+    // that name is meant where the file's name ends with `.tdb`; else the file has its assembler text.
+    fn named_texts<'p>(&self, named: &'p str) -> Result<Vec<NamedText>, Failure<'p>> {
+        let alloc = self.rt.alloc();
+        let Some((name, path)) = named.split_once('=') else {
+            return Ok(named_in_list(alloc, &self.procedures(named)?, None)?);
+        };
+        if path.ends_with(".tdb") {
+            let texts = named_in_list(alloc, &self.procedures(path)?, Some(name))?;
+            if texts.is_empty() {
+                return Err(Failure::Refused(CliFault::Compile(CompileFault::NotOne)));
+            }
+            return Ok(texts);
         }
+        let Ok(text) = String::from_utf8(self.read_file(path)?) else {
+            return Err(Failure::Refused(CliFault::NotUtf8));
+        };
+        let name = String::from_str(alloc, name)?;
+        let mut texts = Vec::new(alloc);
+        texts.push(NamedText { name, text })?;
+        Ok(texts)
     }
 
     // A script, with the procedures that the command line names behind its own.
@@ -158,7 +174,9 @@ impl<'a, R: Files + Print + Eprint + AllocGlobal> Program<'a, R> {
         }
         let mut texts = Vec::new(self.rt.alloc());
         for named in &files.procedures {
-            texts.push(self.named_text(named)?)?;
+            for text in self.named_texts(named)? {
+                texts.push(text)?;
+            }
         }
         script.bytes = with_procedures(self.rt.alloc(), script.bytes, &texts)?;
         Ok(script)
@@ -174,13 +192,13 @@ impl<'a, R: Files + Print + Eprint + AllocGlobal> Program<'a, R> {
         match fault {
             CliFault::Tree(_) => self.misread(tree.path, &tree.bytes, fault),
             CliFault::Register(_) => {
-                if let Some(refused) = first_refused(self.rt.alloc(), &script.bytes) {
-                    let _shown = eprintln!(self.rt; "treedb: the procedure {}", refused.name);
-                    let _failure = self.misread(
-                        &refused.name,
-                        refused.text.as_bytes(),
-                        refused.fault,
-                    );
+                if let Some(RefusedProcedure { named, fault }) = first_refused(
+                    self.rt.alloc(),
+                    &script.bytes,
+                ) {
+                    let NamedText { name, text } = named;
+                    let _shown = eprintln!(self.rt; "treedb: the procedure {name}");
+                    let _failure = self.misread(&name, text.as_bytes(), fault);
                 }
                 Failure::Refused(fault)
             }
@@ -278,6 +296,14 @@ impl<'a, R: Files + Print + Eprint + AllocGlobal + Threads + Wait + Sync> Progra
     }
 }
 
+// Why a port isn't listened on.
+fn not_bound<'p>(port: u16, fault: ListenFault) -> Failure<'p> {
+    match fault {
+        ListenFault::NoPort => Failure::NoPort { port },
+        ListenFault::Memory => Failure::Refused(CliFault::Memory),
+    }
+}
+
 impl<'a, R> Program<'a, R>
 where
     R: Files
@@ -287,39 +313,69 @@ where
         + Net<Listener = TcpListener, Stream = TcpStream>
         + Threads
         + Wait
+        + Clock
         + Sync,
 {
     // Listens on a port, and tells people so. 33 where it can't be had.
-    fn listen<'p>(&self, port: u16, connections: u16) -> Result<Server, Failure<'p>> {
-        match Server::bind(self.rt, self.rt.alloc(), port, connections) {
-            Ok(server) => {
-                let _shown = eprintln!(self.rt; "treedb: listening on 127.0.0.1:{port}");
-                Ok(server)
-            }
-            Err(ListenFault::NoPort) => Err(Failure::NoPort { port }),
-            Err(ListenFault::Memory) => Err(Failure::Refused(CliFault::Memory)),
-        }
+    fn listen<'p>(&self, options: ServeOptions) -> Result<Server, Failure<'p>> {
+        let ServeOptions {
+            port,
+            connections,
+            control: _,
+            idle,
+        } = options;
+        let bound = Server::bind(self.rt, self.rt.alloc(), port, connections);
+        let server = bound.map_err(|fault| not_bound(port, fault))?;
+        let _shown = eprintln!(self.rt; "treedb: listening on 127.0.0.1:{port}");
+        Ok(match idle {
+            Some(seconds) => server.ending_idle(Duration::from_secs(u64::from(seconds))),
+            None => server,
+        })
+    }
+
+    // The sessions of a server's connections, when all have ended, or when it was asked to stop.
+    fn sessions_of<'p>(
+        &self,
+        engine: &Engine,
+        options: ServeOptions,
+    ) -> Result<Vec<Session>, Failure<'p>> {
+        let alloc = self.rt.alloc();
+        let Some(port) = options.control else {
+            return Ok(self.listen(options)?.serve(self.rt, alloc, engine));
+        };
+        let bound = Control::bind(self.rt, port);
+        let control = bound.map_err(|fault| not_bound(port, fault))?;
+        let server = self.listen(options)?;
+        let _shown = eprintln!(self.rt; "treedb: treedb stop --port {port} ends it");
+        let served = server.serve_until_stopped(self.rt, alloc, engine, &control);
+        served.map_err(|fault| not_bound(port, fault))
     }
 
     // The trail is written to a file, where one is named, when all connections have ended.
     fn serve<'p>(
         &self,
         tree: &'p str,
-        port: u16,
-        connections: u16,
+        options: ServeOptions,
         trail: Option<&'p str>,
     ) -> Result<String, Failure<'p>> {
         let tree = self.read_file(tree)?;
         let alloc = self.rt.alloc();
         let engine = open_engine(alloc, &tree)?;
-        let server = self.listen(port, connections)?;
-        let sessions = server.serve(self.rt, alloc, &engine);
+        let sessions = self.sessions_of(&engine, options)?;
         let Some(path) = trail else {
             return Ok(conclude_engine(alloc, engine, sessions)?);
         };
         let mut file = TrailFile::new(self.rt, path);
         let concluded = conclude_engine_with_trail(alloc, engine, sessions, &mut file);
         printed(path, file, concluded)
+    }
+
+    // Asks a server to stop.
+    fn stop<'p>(&self, port: u16) -> Result<String, Failure<'p>> {
+        match ask_to_stop(self.rt, port) {
+            Ok(()) => Ok(String::from_str(self.rt.alloc(), "{\"stopping\":true}\n")?),
+            Err(reason) => Err(Failure::NoServer { port, reason }),
+        }
     }
 
     // What a command that runs calls prints. A file that is named for the tree in the end is written before that.
@@ -334,9 +390,7 @@ where
             CallCommand::Alone { procedure, args } => self.alone(tree, procedure, args)?,
             CallCommand::Drive { script } => self.drive(tree, script, trail)?,
             CallCommand::Run { workers, script } => self.run(tree, *workers, script, trail)?,
-            CallCommand::Serve { port, connections } => {
-                self.serve(tree, *port, *connections, trail)?
-            }
+            CallCommand::Serve(options) => self.serve(tree, *options, trail)?,
         };
         if let Some(path) = outputs.tree {
             self.save(path, &lines)?;
@@ -376,6 +430,7 @@ where
                 outputs,
             } => self.answer_calls(tree, command, *outputs),
             Request::Files(command) => self.answer_files(*command),
+            Request::Stop { control } => self.stop(*control),
         }
     }
 

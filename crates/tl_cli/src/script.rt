@@ -5,16 +5,52 @@ use serde_json::{Value, json};
 use std::alloc::{AllocError, Global};
 use tl_json::parse;
 
-/// A procedure that the command line names: its name, and the text of its file.
+/// A procedure that the command line names: its name, and its assembler text.
 #[derive(Drop)]
-pub struct NamedText<'a> {
-    pub name: &'a str,
+pub struct NamedText {
+    pub name: String,
     pub text: String,
 }
 
+// The procedure of a pair `[name,text]`.
+fn named_in_pair(alloc: Global, pair: &Value) -> Option<NamedText> {
+    Some(NamedText {
+        name: String::from_str(alloc, pair.get(0)?.as_str()?).ok()?,
+        text: String::from_str(alloc, pair.get(1)?.as_str()?).ok()?,
+    })
+}
+
+/// The procedures of a list `[[name,text],..]`, or that of a name alone.
+pub fn named_in_list(
+    alloc: Global,
+    list: &str,
+    name: Option<&str>,
+) -> Result<Vec<NamedText>, AllocError> {
+    let mut found = Vec::new(alloc);
+    let Some(value) = parse(alloc, list.as_bytes())? else {
+        return Ok(found);
+    };
+    let Some(pairs) = value.as_array() else {
+        return Ok(found);
+    };
+    for pair in pairs {
+        let Some(named) = named_in_pair(alloc, pair) else {
+            return Err(AllocError);
+        };
+        let is_meant = match name {
+            Some(name) => named.name.as_str() == name,
+            None => true,
+        };
+        if is_meant {
+            found.push(named)?;
+        }
+    }
+    Ok(found)
+}
+
 // `[name,text]`
-fn pair_value(alloc: Global, procedure: &NamedText<'_>) -> Result<Value, AllocError> {
-    json!(in alloc; [procedure.name, procedure.text.as_str()])
+fn pair_value(alloc: Global, procedure: &NamedText) -> Result<Value, AllocError> {
+    json!(in alloc; [procedure.name.as_str(), procedure.text.as_str()])
 }
 
 /// The script with these procedures behind its own, as JSON; a script without `procs` gets that list. What is no JSON object, or has
@@ -22,7 +58,7 @@ fn pair_value(alloc: Global, procedure: &NamedText<'_>) -> Result<Value, AllocEr
 pub fn with_procedures(
     alloc: Global,
     script: Vec<u8>,
-    procedures: &[NamedText<'_>],
+    procedures: &[NamedText],
 ) -> Result<Vec<u8>, AllocError> {
     let Some(mut value) = parse(alloc, &script)? else {
         return Ok(script);
@@ -48,26 +84,20 @@ pub fn with_procedures(
     Ok(value.to_string(alloc)?.into_bytes())
 }
 
-/// A procedure of a script that isn't accepted: its name, its text, and what is wrong with it.
+/// A procedure of a script that isn't accepted, and what is wrong with it.
 #[derive(Drop)]
 pub struct RefusedProcedure {
-    pub name: String,
-    pub text: String,
+    pub named: NamedText,
     pub fault: CliFault,
 }
 
 // The procedure of a pair `[name,text]`, where it isn't accepted.
 fn refused_in_pair(alloc: Global, pair: &Value) -> Option<RefusedProcedure> {
-    let name = pair.get(0)?.as_str()?;
-    let text = pair.get(1)?.as_str()?;
-    let Err(fault) = check_cmd(alloc, text.as_bytes()) else {
+    let named = named_in_pair(alloc, pair)?;
+    let Err(fault) = check_cmd(alloc, named.text.as_bytes()) else {
         return None;
     };
-    Some(RefusedProcedure {
-        name: String::from_str(alloc, name).ok()?,
-        text: String::from_str(alloc, text).ok()?,
-        fault,
-    })
+    Some(RefusedProcedure { named, fault })
 }
 
 /// The first procedure of a script that isn't accepted. None where there is none, or memory is refused: this is for a message.

@@ -1,5 +1,6 @@
 -- What the commands on one procedure print, `asm`, `dis`, `migrate` and `verify`, and when they answer which fault.
-use Rattle.std.specs.Prelude.{◌≡◌, ◌≢◌, ◌⊎◌, ℕ, List, ◌++◌, length, codes, decimal, IsUtf8}
+use Rattle.std.specs.Prelude.{◌≡◌, ◌≢◌, ◌⊎◌, ℕ, Bool, nat_eq, List, ◌++◌, length, codes, decimal, IsUtf8}
+use Rattle.std.specs.List.{starts_with}
 use Rattle.tl_instr.specs.declared.version.Version.TheVariants.{One}
 use Rattle.tl_instr.specs.Codes.{CodeValue, migrated}
 use Rattle.tl_instr.specs.Spelling.{Spelled}
@@ -26,6 +27,10 @@ count_text count = codes "{\"count\":" ++ decimal count ++ codes "}\n"
 abbrev pub bounds_text : ℕ → ℕ → ℕ → List ℕ
 bounds_text emits locks steps =
     codes "{\"bounds\":{\"emits\":" ++ decimal emits ++ codes ",\"locks\":" ++ decimal locks ++ codes ",\"steps\":" ++ decimal steps ++ codes "}}\n"
+
+-- a container begins so, and no assembler text does
+abbrev pub is_container : List ℕ → Bool
+is_container file = starts_with nat_eq file (codes "TLP")
 
 -- ---- `asm`
 

@@ -1,7 +1,7 @@
 // The command `check`: a procedure that somebody writes, from its text or its container to its bounds.
 
-ghost use Rattle.std.specs.Prelude.{◌⊎◌, string_bytes, IfOk, IfErr};
-ghost use Rattle.tl_commands.specs.Procedures.{Verifies, IsFirstVerifyingFault, VerifiesText, IsFirstCheckingFault};
+ghost use Rattle.std.specs.Prelude.{◌≡◌, true, false, string_bytes, IfOk, IfErr};
+ghost use Rattle.tl_commands.specs.Procedures.{is_container, Verifies, IsFirstVerifyingFault, VerifiesText, IsFirstCheckingFault};
 
 use crate::fault::CliFault;
 use crate::procedures::{bounds_line, code_of_text, verify_cmd};
@@ -26,8 +26,8 @@ fn check_text(alloc: Global, text: &[u8]) -> Result<String, CliFault>
 /// Else the text's or the container's first fault, 255, 251 to 254, or 201 to 206; or the verifier's, 301 to 307 and 401 to 409. Where
 /// memory was refused, 290, 490 or 990.
 pub fn check_cmd(alloc: Global, file: &[u8]) -> Result<String, CliFault>
-    ensures printed { IfOk result (λ s. Verifies file.now (string_bytes s) ⊎ VerifiesText file.now (string_bytes s)) }
-    ensures fault { IfErr result (λ e. IsFirstVerifyingFault file.now e ⊎ IsFirstCheckingFault file.now e) }
+    ensures container { is_container file.now ≡ true → IfOk result (λ s. Verifies file.now (string_bytes s)) × IfErr result (λ e. IsFirstVerifyingFault file.now e) }
+    ensures text { is_container file.now ≡ false → IfOk result (λ s. VerifiesText file.now (string_bytes s)) × IfErr result (λ e. IsFirstCheckingFault file.now e) }
 {
     if file.starts_with(b"TLP") {
         verify_cmd(alloc, file)

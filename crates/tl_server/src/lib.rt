@@ -7,8 +7,10 @@
 mod answer;
 mod answering;
 mod batch;
+mod control;
 mod device;
 mod fault;
+mod hall;
 mod listening;
 mod outbox;
 mod reader;
@@ -17,9 +19,11 @@ mod serving;
 mod socket;
 
 pub use batch::BatchRequest;
+pub use control::{Control, ask_to_stop};
 pub use device::{Bytes, Failure, Sink, Source};
 pub use fault::{LineFault, ListenFault, ServeFault};
-pub use listening::{MAX_CONNECTIONS, Server, listen};
+pub use hall::MAX_CONNECTIONS;
+pub use listening::{Server, listen};
 pub use request::{LineRequest, MAX_LINE, read_request};
 pub use serving::serve;
 pub use socket::{SocketSink, SocketSource};

@@ -4,89 +4,49 @@ ghost use Rattle.std.specs.Prelude.{◌≡◌, ◌⊎◌, IfErr};
 ghost use Rattle.tl_server.specs.declared.fault.ListenFault.TheVariants.{NoPort, Memory};
 
 use crate::answer::put_error_line;
+use crate::control::{Control, local};
 use crate::fault::ListenFault;
+use crate::hall::{Hall, Phase};
 use crate::outbox::Outbox;
 use crate::serving::serve;
 use crate::socket::{SocketSink, SocketSource};
 use std::alloc::Global;
-use std::net::{Ipv4Addr, Net, SocketAddr, SocketAddrV4, TcpListener, TcpStream};
-use std::sync::{Condvar, Mutex, Wait};
+use std::net::{Net, SocketAddr, TcpListener, TcpStream};
+use std::sync::Wait;
 use std::thread;
 use std::thread::Threads;
+use std::time::{Clock, Duration};
 use tl_workers::{Engine, Session};
 
-/// How many connections are open at once at most.
-pub const MAX_CONNECTIONS: u16 = 8;
-
-// How many connections are open, and the sessions of those that have ended.
-#[derive(Drop)]
-struct Served {
-    open: u16,
-    sessions: Vec<Session>,
+// Where connections come from, and how long one may be silent.
+#[derive(Clone, Copy)]
+struct Door<'a> {
+    listener: &'a TcpListener,
+    connections: u16,
+    idle: Option<Duration>,
 }
 
-// What the threads of connections share.
-#[derive(Drop)]
-struct Hall {
-    served: Mutex<Served>,
-    // Told after a connection has ended.
-    ended: Condvar,
-}
-
-impl Hall {
-    fn new(sessions: Vec<Session>) -> Hall {
-        Hall {
-            served: Mutex::new(Served { open: 0, sessions }),
-            ended: Condvar::new(),
-        }
-    }
-
-    // Waits until a connection more may be open, and counts it.
-    fn take_place(&self, rt: &impl Wait) {
-        let mut served = self.served.lock(rt);
-        for _ in rt.forever() {
-            if served.open < MAX_CONNECTIONS {
-                served.open += 1;
-                return;
-            }
-            served = self.ended.wait(rt, served);
-        }
-        unreachable!()
-    }
-
-    // A connection has ended.
-    fn give_place(&self, rt: &impl Wait) {
-        let mut served = self.served.lock(rt);
-        served.open = served.open.saturating_sub(1);
-        drop(served);
-        self.ended.notify_all();
-    }
-
-    // Keeps the session of a connection that has ended. There is room for one of each connection.
-    fn keep(&self, rt: &impl Wait, session: Session) {
-        let _ = self.served.lock(rt).sessions.push(session);
-    }
-
-    fn into_sessions(self) -> Vec<Session> {
-        let Hall { served, ended: _ } = self;
-        let Served { open: _, sessions } = served.into_inner();
-        sessions
-    }
-}
-
-// The next connection, with a session of its own. One that gets no session is told why, and ended.
+// The next connection, of this number, with a session of its own. One that gets no session is told why, and ended.
 fn welcome(
     rt: &impl Wait,
     alloc: Global,
-    listener: &TcpListener,
+    door: Door<'_>,
+    number: u16,
     engine: &Engine,
+    hall: &Hall,
     outbox: &mut Outbox,
 ) -> Option<(TcpStream, Session)> {
-    let Ok((stream, _)) = listener.accept() else {
+    let Ok((stream, _)) = door.listener.accept() else {
         return None;
     };
+    if !hall.lets_in(rt, number, &stream) {
+        return None;
+    }
     // Without this an answer may come later, and is the same.
     let _ = stream.set_nodelay(true);
+    // Without these a silent peer keeps its place.
+    let _ = stream.set_read_timeout(door.idle);
+    let _ = stream.set_write_timeout(door.idle);
     match engine.session(rt, alloc) {
         Ok(session) => Some((stream, session)),
         Err(refusal) => {
@@ -105,53 +65,59 @@ fn visit<R: Threads + Wait + Sync>(
     alloc: Global,
     engine: &Engine,
     hall: &Hall,
+    number: u16,
     stream: TcpStream,
     session: Session,
 ) {
     let mut session = session;
-    let mut source = SocketSource::new(&stream);
+    let mut source = SocketSource::until(&stream, hall.is_ending());
     let mut sink = SocketSink::new(&stream);
     // A fault ends this connection, and no other.
     let _ = serve(rt, alloc, &mut source, &mut sink, engine, &mut session);
     hall.keep(rt, session);
     drop(stream);
-    hall.give_place(rt);
+    hall.give_place(rt, number);
 }
 
-// Serves so many connections, each on a thread of its own where one can be started, else on this one.
+// Serves the connections that come through the door, each on a thread of its own where one can be started, else on this one.
 fn serve_all<R: Threads + Wait + Sync>(
     rt: &R,
     alloc: Global,
-    listener: &TcpListener,
-    connections: u16,
+    door: Door<'_>,
     engine: &Engine,
     hall: &Hall,
     outbox: Outbox,
 ) {
     thread::scope(thread::scope_env(), rt, |scope| {
         let mut outbox = outbox;
-        for _ in 0..connections {
-            hall.take_place(rt);
-            match welcome(rt, alloc, listener, engine, &mut outbox) {
+        for number in 0..door.connections {
+            if !hall.take_place(rt) {
+                break;
+            }
+            match welcome(rt, alloc, door, number, engine, hall, &mut outbox) {
                 Some((stream, session)) => {
                     let started = scope.spawn(move || visit(
-                        rt, alloc, engine, hall, stream, session,
+                        rt, alloc, engine, hall, number, stream, session,
                     ));
                     if let Err(refused) = started {
                         (refused.value)();
                     }
                 }
-                None => hall.give_place(rt),
+                None => hall.give_place(rt, number),
             }
         }
+        hall.enter(rt, Phase::Draining);
     });
+    hall.enter(rt, Phase::Over);
 }
 
 /// A local port on which connections are waited for. The system lets clients connect from then on; `serve` takes them up.
 #[derive(Drop)]
 pub struct Server {
     listener: TcpListener,
+    address: SocketAddr,
     connections: u16,
+    idle: Option<Duration>,
     // Has room for the session of each connection.
     sessions: Vec<Session>,
     outbox: Outbox,
@@ -171,16 +137,26 @@ impl Server {
     {
         let sessions = Vec::with_capacity(alloc, usize::from(connections))?;
         let outbox = Outbox::new(alloc)?;
-        let address = SocketAddr::V4(SocketAddrV4::new(Ipv4Addr::LOCALHOST, port));
+        let address = local(port);
         let Ok(listener) = rt.bind(address) else {
             return Err(ListenFault::NoPort);
         };
         Ok(Server {
             listener,
+            address,
             connections,
+            idle: None,
             sessions,
             outbox,
         })
+    }
+
+    /// Ends a connection that sends nothing for so long while the server waits for its next line, or takes none of its answers.
+    pub fn ending_idle(self, idle: Duration) -> Server {
+        Server {
+            idle: Some(idle),
+            ..self
+        }
     }
 
     /// Serves its connections, and answers their sessions when all have ended. Each connection has a session of its own. At
@@ -195,13 +171,56 @@ impl Server {
     ) -> Vec<Session> {
         let Server {
             listener,
+            address: _,
             connections,
+            idle,
             sessions,
             outbox,
         } = self;
         let hall = Hall::new(sessions);
-        serve_all(rt, alloc, &listener, connections, engine, &hall, outbox);
+        let door = Door {
+            listener: &listener,
+            connections,
+            idle,
+        };
+        serve_all(rt, alloc, door, engine, &hall, outbox);
         hall.into_sessions()
+    }
+
+    /// Serves its connections as `serve` does, and up to when it is asked to stop at the control. Then it takes up no more of them. Of those
+    /// that are open each line that was read whole is answered, and they are ended.
+    pub fn serve_until_stopped<R>(
+        self,
+        rt: &R,
+        alloc: Global,
+        engine: &Engine,
+        control: &Control,
+    ) -> Result<Vec<Session>, ListenFault>
+    where
+        R: Net<Listener = TcpListener, Stream = TcpStream> + Threads + Wait + Clock + Sync,
+        ensures { IfErr result (λ e. (e ≡ NoPort) ⊎ (e ≡ Memory)) }
+    {
+        let Server {
+            listener,
+            address,
+            connections,
+            idle,
+            sessions,
+            outbox,
+        } = self;
+        let hall = Hall::that_stops(alloc, sessions)?;
+        let door = Door {
+            listener: &listener,
+            connections,
+            idle,
+        };
+        // Where no thread can be had, it is watched when all connections have ended.
+        thread::join(
+            rt,
+            || control.watch(rt, &hall, address),
+            || serve_all(rt, alloc, door, engine, &hall, outbox),
+        );
+        Ok(hall.into_sessions())
     }
 }
 

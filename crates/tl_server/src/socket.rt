@@ -3,17 +3,34 @@
 use crate::device::{Failure, Sink, Source};
 use std::io::{Read, Write};
 use std::net::TcpStream;
+use std::sync::atomic::{AtomicBool, Ordering};
 
 /// The requests of a connection. It tells nothing of its bytes.
 #[derive(Drop)]
 pub struct SocketSource<'a> {
     stream: &'a TcpStream,
+    // Where this is set the input ends.
+    is_ending: Option<&'a AtomicBool>,
     failed: u64,
 }
 
 impl<'a> SocketSource<'a> {
+    /// Up to the end of what the peer sends.
     pub fn new(stream: &'a TcpStream) -> SocketSource<'a> {
-        SocketSource { stream, failed: 0 }
+        SocketSource {
+            stream,
+            is_ending: None,
+            failed: 0,
+        }
+    }
+
+    /// Up to the end of what the peer sends, or to when the flag is set.
+    pub fn until(stream: &'a TcpStream, is_ending: &'a AtomicBool) -> SocketSource<'a> {
+        SocketSource {
+            stream,
+            is_ending: Some(is_ending),
+            failed: 0,
+        }
     }
 }
 
@@ -25,6 +42,11 @@ impl<'a> Source for SocketSource<'a> {
     ghost failures = { λ s. s.failed };
 
     fn read(&mut self, buffer: &mut [u8]) -> Result<usize, Failure> {
+        if let Some(flag) = self.is_ending {
+            if flag.load(Ordering::SeqCst) {
+                return Ok(0);
+            }
+        }
         let mut stream = self.stream;
         if let Ok(count) = stream.read(buffer) {
             return Ok(count);

@@ -1,0 +1,274 @@
+// What the command line may have: commands, options, and what help says of them.
+
+use crate::help::{
+    ALONE_HELP, ASM_HELP, AUDIT_HELP, CHECK_HELP, COMPILE_HELP, DIS_HELP, DRIVE_HELP, EXPLAIN_HELP,
+    HELP, MIGRATE_HELP, PROCS_HELP, RUN_HELP, SERVE_HELP, STOP_HELP, VERIFY_HELP, WIDEN_HELP,
+};
+use clap::{Arg, ArgAction, Command, value_parser};
+use std::alloc::{AllocError, Global};
+
+/// The program's version, and the kit with which it was proved.
+pub const VERSION: &str = "0.1.0 (proved with rattle-kit-13f logic dac8208d650f15bf)";
+
+fn tree_arg<'a>(alloc: Global) -> Arg<'a> {
+    Arg::new(alloc, "tree")
+        .long("tree")
+        .value_name("T")
+        .required(true)
+        .help("The file of the tree, as JSON")
+}
+
+fn save_arg<'a>(alloc: Global) -> Arg<'a> {
+    Arg::new(alloc, "save").long("save").value_name("F").help(
+        "The file that the tree is written to, as it is in the end",
+    )
+}
+
+fn script_procedures_arg<'a>(alloc: Global) -> Arg<'a> {
+    Arg::new(alloc, "proc")
+        .long("proc")
+        .value_name("[NAME=]FILE")
+        .action(ArgAction::Append)
+        .help(
+            "Procedures behind the script's own: all of a file of the procedure language, or the one of that name; or the assembler text of one",
+        )
+}
+
+fn alone_command<'a>(alloc: Global) -> Result<Command<'a>, AllocError> {
+    let procedure = Arg::new(alloc, "proc")
+        .long("proc")
+        .value_name("P")
+        .required(true)
+        .help("The file of the procedure, a container");
+    let args = Arg::new(alloc, "args")
+        .long("args")
+        .value_name("A")
+        .default_value("[]")
+        .help("The arguments, a JSON list of numbers");
+    Command::new(alloc, "alone")
+        .about("Runs a procedure alone on a tree, and prints its reply and the tree as it is then")
+        .after_help(ALONE_HELP)
+        .arg(tree_arg(alloc))?
+        .arg(procedure)?
+        .arg(args)?
+        .arg(save_arg(alloc))
+}
+
+// A file that has to be named.
+fn file_arg<'a>(alloc: Global, name: &'static str, help: &'static str) -> Arg<'a> {
+    Arg::new(alloc, name)
+        .value_name(name)
+        .required(true)
+        .help(help)
+}
+
+fn asm_command<'a>(alloc: Global) -> Result<Command<'a>, AllocError> {
+    Command::new(alloc, "asm")
+        .about("Writes the container of an assembler text, and prints how many instructions it has")
+        .after_help(ASM_HELP)
+        .arg(file_arg(alloc, "IN", "The file of the assembler text"))?
+        .arg(file_arg(alloc, "OUT", "The file that the container is written to"))
+}
+
+fn check_command<'a>(alloc: Global) -> Result<Command<'a>, AllocError> {
+    Command::new(alloc, "check")
+        .about("Says what a procedure does at most, or shows where its text is wrong")
+        .after_help(CHECK_HELP)
+        .arg(file_arg(
+            alloc,
+            "FILE",
+            "The file of an assembler text or of a container",
+        ))
+}
+
+fn compile_command<'a>(alloc: Global) -> Result<Command<'a>, AllocError> {
+    let procedure = Arg::new(alloc, "proc")
+        .long("proc")
+        .value_name("NAME")
+        .help("The name of the procedure, where the text has several");
+    Command::new(alloc, "compile")
+        .about("Writes the container of a procedure of a text, and prints what it does at most")
+        .after_help(COMPILE_HELP)
+        .arg(file_arg(alloc, "IN", "The file of the text"))?
+        .arg(file_arg(alloc, "OUT", "The file that the container is written to"))?
+        .arg(procedure)
+}
+
+fn procs_command<'a>(alloc: Global) -> Result<Command<'a>, AllocError> {
+    Command::new(alloc, "procs")
+        .about("Prints the procedures of a text, each with its assembler text")
+        .after_help(PROCS_HELP)
+        .arg(file_arg(alloc, "IN", "The file of the text"))
+}
+
+fn dis_command<'a>(alloc: Global) -> Result<Command<'a>, AllocError> {
+    Command::new(alloc, "dis")
+        .about("Prints the assembler text of a container")
+        .after_help(DIS_HELP)
+        .arg(file_arg(alloc, "IN", "The file of the container"))
+}
+
+fn migrate_command<'a>(alloc: Global) -> Result<Command<'a>, AllocError> {
+    Command::new(alloc, "migrate")
+        .about(
+            "Writes the procedure of a container in version 2, and prints how many instructions it has",
+        )
+        .after_help(MIGRATE_HELP)
+        .arg(file_arg(alloc, "IN", "The file of the container"))?
+        .arg(file_arg(
+            alloc,
+            "OUT",
+            "The file that the new container is written to",
+        ))
+}
+
+fn widen_command<'a>(alloc: Global) -> Result<Command<'a>, AllocError> {
+    Command::new(alloc, "widen")
+        .about("Writes a tree with eight fields a record, and prints how many nodes it has")
+        .after_help(WIDEN_HELP)
+        .arg(file_arg(alloc, "IN", "The file of the tree, as JSON"))?
+        .arg(file_arg(alloc, "OUT", "The file that the new tree is written to"))
+}
+
+fn verify_command<'a>(alloc: Global) -> Result<Command<'a>, AllocError> {
+    Command::new(alloc, "verify")
+        .about(
+            "Prints what the procedure of a container does at most: steps, locks and emitted values",
+        )
+        .after_help(VERIFY_HELP)
+        .arg(file_arg(alloc, "IN", "The file of the container"))
+}
+
+fn audit_command<'a>(alloc: Global) -> Result<Command<'a>, AllocError> {
+    Command::new(alloc, "audit")
+        .about(
+            "Says whether the calls of a trail may have done what it tells, and prints their order",
+        )
+        .after_help(AUDIT_HELP)
+        .arg(file_arg(alloc, "TRAIL", "The file of the trail, as JSON"))
+}
+
+fn trail_arg<'a>(alloc: Global) -> Arg<'a> {
+    Arg::new(alloc, "trail")
+        .long("trail")
+        .value_name("F")
+        .help("The file that the trail is written to")
+}
+
+fn drive_command<'a>(alloc: Global) -> Result<Command<'a>, AllocError> {
+    Command::new(alloc, "drive")
+        .about(
+            "Lets calls take turns on a tree, as a script says, and prints what came of each move",
+        )
+        .after_help(DRIVE_HELP)
+        .arg(tree_arg(alloc))?
+        .arg(script_procedures_arg(alloc))?
+        .arg(trail_arg(alloc))?
+        .arg(save_arg(alloc))?
+        .arg(file_arg(alloc, "SCRIPT", "The file of the script, as JSON"))
+}
+
+fn run_command<'a>(alloc: Global) -> Result<Command<'a>, AllocError> {
+    let workers = Arg::new(alloc, "workers")
+        .long("workers")
+        .value_name("N")
+        .required(true)
+        .value_parser(value_parser!(usize).range(1..=16))
+        .help("How many threads run the calls, 1 to 16");
+    Command::new(alloc, "run")
+        .about("Runs the calls of a script on a tree, many at once, and prints what came of each")
+        .after_help(RUN_HELP)
+        .arg(tree_arg(alloc))?
+        .arg(workers)?
+        .arg(script_procedures_arg(alloc))?
+        .arg(trail_arg(alloc))?
+        .arg(save_arg(alloc))?
+        .arg(file_arg(alloc, "SCRIPT", "The file of the script, as JSON"))
+}
+
+fn serve_command<'a>(alloc: Global) -> Result<Command<'a>, AllocError> {
+    let port = Arg::new(alloc, "port")
+        .long("port")
+        .value_name("P")
+        .required(true)
+        .value_parser(value_parser!(u16).range(1..))
+        .help("The port of this machine, 1 to 65535");
+    let connections = Arg::new(alloc, "connections")
+        .long("connections")
+        .value_name("C")
+        .required(true)
+        .value_parser(value_parser!(u16).range(1..))
+        .help("How many connections are served in all, 1 to 65535");
+    let control = Arg::new(alloc, "control")
+        .long("control")
+        .value_name("P")
+        .value_parser(value_parser!(u16).range(1..))
+        .help("A second port of this machine, on which `treedb stop` asks the server to end");
+    let idle = Arg::new(alloc, "idle")
+        .long("idle")
+        .value_name("S")
+        .value_parser(value_parser!(u16).range(1..))
+        .help("After how many seconds a connection is ended that sends nothing or takes no answer");
+    Command::new(alloc, "serve")
+        .about(
+            "Serves connections on a local port, a request a line, and prints the order of their calls",
+        )
+        .after_help(SERVE_HELP)
+        .arg(tree_arg(alloc))?
+        .arg(port)?
+        .arg(connections)?
+        .arg(control)?
+        .arg(idle)?
+        .arg(trail_arg(alloc))?
+        .arg(save_arg(alloc))
+}
+
+fn stop_command<'a>(alloc: Global) -> Result<Command<'a>, AllocError> {
+    let port = Arg::new(alloc, "port")
+        .long("port")
+        .value_name("P")
+        .required(true)
+        .value_parser(value_parser!(u16).range(1..))
+        .help("The server's control port");
+    Command::new(alloc, "stop")
+        .about("Asks a server of this machine to answer what it has read, and to end")
+        .after_help(STOP_HELP)
+        .arg(port)
+}
+
+fn explain_command<'a>(alloc: Global) -> Result<Command<'a>, AllocError> {
+    let number = Arg::new(alloc, "NUMBER")
+        .value_name("NUMBER")
+        .required(true)
+        .value_parser(value_parser!(u16))
+        .help("The first number of a refusal");
+    Command::new(alloc, "explain")
+        .about("Says what the number of a refusal means, and what to do")
+        .after_help(EXPLAIN_HELP)
+        .arg(number)
+}
+
+/// The program's command line.
+pub fn command<'a>(alloc: Global) -> Result<Command<'a>, AllocError> {
+    Command::new(alloc, "treedb")
+        .about("A database of trees, whose procedures are verified before they run")
+        .version(VERSION)
+        .after_help(HELP)
+        .subcommand_required(true)
+        .arg_required_else_help(true)
+        .subcommand(alone_command(alloc)?)?
+        .subcommand(drive_command(alloc)?)?
+        .subcommand(run_command(alloc)?)?
+        .subcommand(serve_command(alloc)?)?
+        .subcommand(stop_command(alloc)?)?
+        .subcommand(audit_command(alloc)?)?
+        .subcommand(check_command(alloc)?)?
+        .subcommand(compile_command(alloc)?)?
+        .subcommand(procs_command(alloc)?)?
+        .subcommand(asm_command(alloc)?)?
+        .subcommand(dis_command(alloc)?)?
+        .subcommand(verify_command(alloc)?)?
+        .subcommand(migrate_command(alloc)?)?
+        .subcommand(widen_command(alloc)?)?
+        .subcommand(explain_command(alloc)?)
+}

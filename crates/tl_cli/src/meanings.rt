@@ -1,0 +1,34 @@
+// What the numbers of faults mean. Written by `tools/faults` from `docs/faults.md`.
+
+mod calls;
+mod runs;
+mod texts;
+
+/// What is known of a fault's number.
+#[derive(Clone, Copy)]
+pub struct Meaning {
+    /// What follows the number in a fault, as `, position`.
+    pub parts: &'static str,
+    /// The fault's name.
+    pub name: &'static str,
+    /// When it comes.
+    pub when: &'static str,
+    /// What to do then.
+    pub advice: &'static str,
+}
+
+/// What is known of the number, if a fault has it.
+pub fn meaning_of(number: u16) -> Option<Meaning> {
+    match number {
+        0..=204 => texts::from_31_to_204(number),
+        205..=275 => texts::from_205_to_275(number),
+        276..=289 => texts::from_276_to_289(number),
+        290..=298 => texts::from_290_to_298(number),
+        299..=406 => calls::from_301_to_406(number),
+        407..=612 => calls::from_407_to_612(number),
+        613..=690 => calls::from_613_to_690(number),
+        691..=801 => runs::from_701_to_801(number),
+        802..=990 => runs::from_803_to_990(number),
+        _ => None,
+    }
+}

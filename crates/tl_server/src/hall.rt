@@ -1,0 +1,180 @@
+// What the threads of connections share: how many are open, and whether more are taken up.
+
+use std::alloc::{AllocError, Global};
+use std::net::{Shutdown, TcpStream};
+use std::sync::atomic::{AtomicBool, Ordering};
+use std::sync::{Condvar, Mutex, Wait};
+use std::time::{Clock, Duration};
+use tl_workers::Session;
+
+/// How many connections are open at once at most.
+pub const MAX_CONNECTIONS: u16 = 8;
+
+/// How far a server is.
+#[derive(Clone, Copy, PartialEq, Eq, Debug)]
+pub enum Phase {
+    /// Connections are taken up.
+    Serving,
+    /// It was asked to stop: no more are taken up, but the listener may still wait for one.
+    Stopping,
+    /// The listener waits no more. Connections may be open.
+    Draining,
+    /// All connections have ended.
+    Over,
+}
+
+// A connection that is open, by its number.
+#[derive(Drop)]
+struct Open {
+    number: u16,
+    stream: TcpStream,
+}
+
+#[derive(Drop)]
+struct Served {
+    phase: Phase,
+    // How many connections are open.
+    open: u16,
+    // Those whose reading a stop has to end, where there may be one.
+    streams: Option<Vec<Open>>,
+    // The sessions of those that have ended. There is room for one of each connection.
+    sessions: Vec<Session>,
+}
+
+/// What the threads of connections share.
+#[derive(Drop)]
+pub struct Hall {
+    served: Mutex<Served>,
+    // Told after each change.
+    changed: Condvar,
+    // Whether the connections are asked to end.
+    is_ending: AtomicBool,
+}
+
+impl Hall {
+    // Before the first connection.
+    fn of(sessions: Vec<Session>, streams: Option<Vec<Open>>) -> Hall {
+        Hall {
+            served: Mutex::new(Served {
+                phase: Phase::Serving,
+                open: 0,
+                streams,
+                sessions,
+            }),
+            changed: Condvar::new(),
+            is_ending: AtomicBool::new(false),
+        }
+    }
+
+    /// A hall that keeps sessions here.
+    pub fn new(sessions: Vec<Session>) -> Hall {
+        Hall::of(sessions, None)
+    }
+
+    /// The same, and a stop can end its connections.
+    pub fn that_stops(alloc: Global, sessions: Vec<Session>) -> Result<Hall, AllocError> {
+        let streams = Vec::with_capacity(alloc, usize::from(MAX_CONNECTIONS))?;
+        Ok(Hall::of(sessions, Some(streams)))
+    }
+
+    /// Set where connections are asked to end.
+    pub fn is_ending(&self) -> &AtomicBool {
+        &self.is_ending
+    }
+
+    /// Waits until a connection more may be open, and counts it. False where no more are taken up.
+    pub fn take_place(&self, rt: &impl Wait) -> bool {
+        let mut served = self.served.lock(rt);
+        for _ in rt.forever() {
+            if served.phase != Phase::Serving {
+                return false;
+            }
+            if served.open < MAX_CONNECTIONS {
+                served.open += 1;
+                return true;
+            }
+            served = self.changed.wait(rt, served);
+        }
+        unreachable!()
+    }
+
+    /// Whether the connection may be served: no more are taken up after a stop, nor is one that a stop couldn't end.
+    pub fn lets_in(&self, rt: &impl Wait, number: u16, stream: &TcpStream) -> bool {
+        let mut served = self.served.lock(rt);
+        if served.phase != Phase::Serving {
+            return false;
+        }
+        let Some(streams) = &mut served.streams else {
+            return true;
+        };
+        match stream.try_clone() {
+            Ok(stream) => streams.push(Open { number, stream }).is_ok(),
+            Err(_) => false,
+        }
+    }
+
+    /// A connection has ended.
+    pub fn give_place(&self, rt: &impl Wait, number: u16) {
+        let mut served = self.served.lock(rt);
+        served.open = served.open.saturating_sub(1);
+        if let Some(streams) = &mut served.streams {
+            streams.retain(|open| open.number != number);
+        }
+        drop(served);
+        self.changed.notify_all();
+    }
+
+    /// Keeps the session of a connection that has ended.
+    pub fn keep(&self, rt: &impl Wait, session: Session) {
+        let _ = self.served.lock(rt).sessions.push(session);
+    }
+
+    /// Takes up no more connections, and ends the reading of those that are open.
+    pub fn stop(&self, rt: &impl Wait) {
+        let mut served = self.served.lock(rt);
+        if served.phase == Phase::Serving {
+            served.phase = Phase::Stopping;
+        }
+        self.is_ending.store(true, Ordering::SeqCst);
+        if let Some(streams) = &served.streams {
+            for open in streams {
+                // One that can't be shut down was ended by its peer.
+                let _ = open.stream.shutdown(Shutdown::Read);
+            }
+        }
+        drop(served);
+        self.changed.notify_all();
+    }
+
+    /// Goes on to a later phase.
+    pub fn enter(&self, rt: &impl Wait, phase: Phase) {
+        self.served.lock(rt).phase = phase;
+        self.changed.notify_all();
+    }
+
+    /// The phase, after a while, or after a change.
+    pub fn phase_soon<R: Wait + Clock>(&self, rt: &R, pause: Duration) -> Phase {
+        let served = self.served.lock(rt);
+        if served.phase == Phase::Over {
+            return Phase::Over;
+        }
+        let (served, _) = self.changed.wait_timeout(rt, served, pause);
+        served.phase
+    }
+
+    /// The sessions of all connections.
+    pub fn into_sessions(self) -> Vec<Session> {
+        let Hall {
+            served,
+            changed: _,
+            is_ending: _,
+        } = self;
+        let Served {
+            phase: _,
+            open: _,
+            streams: _,
+            sessions,
+        } = served.into_inner();
+        sessions
+    }
+}

@@ -1,0 +1,95 @@
+"""What the scripts of tests/ share: a run of the built program, and how many tests passed."""
+
+import functools
+import pathlib
+import re
+import resource
+import shutil
+import socket
+import subprocess
+import sys
+import tempfile
+
+TOP = pathlib.Path(__file__).resolve().parent.parent
+
+
+class Run:
+    """What a run of the program came to."""
+
+    def __init__(self, status, out, err):
+        self.status, self.out, self.err = status, out, err
+
+    def __repr__(self):
+        return f"status {self.status}, out {self.out[-300:]!r}, err {self.err[-300:]!r}"
+
+
+class Tests:
+    """The program, a folder with the examples to run it in, and how many tests passed."""
+
+    def __init__(self, program, folder):
+        self.program, self.folder = program, folder
+        self.passed = self.failed = 0
+
+    def run(self, *words, out=None, err=None, env=None, pass_fds=(), memory=None):
+        """Runs the program with these words, in so many bytes of addresses. A stream that has a path goes there, and else into the answer."""
+        streams = [open(path, "wb") if path else subprocess.PIPE for path in (out, err)]
+        limited = functools.partial(resource.setrlimit, resource.RLIMIT_AS, (memory, memory)) if memory else None
+        done = subprocess.run([self.program, *words], cwd=self.folder, stdin=subprocess.DEVNULL, stdout=streams[0], stderr=streams[1],
+                              env=env, pass_fds=pass_fds, preexec_fn=limited, timeout=120, check=False)
+        for stream in streams:
+            if stream != subprocess.PIPE:
+                stream.close()
+        return Run(done.returncode, (done.stdout or b"").decode(), (done.stderr or b"").decode())
+
+    def check(self, name, holds, run):
+        """Counts a test."""
+        if holds:
+            self.passed += 1
+        else:
+            self.failed += 1
+            print(f"failed: {name}: {run!r}")
+
+    def answers(self, name, words, status, out, err=None):
+        """The run has this status, prints this, and says this to people, which may be a pattern."""
+        run = self.run(*words)
+        said = err is None or (err.search(run.err) if isinstance(err, re.Pattern) else run.err == err)
+        self.check(name, run.status == status and run.out == out and said, run)
+
+    def path(self, name):
+        return self.folder / name
+
+    def bytes(self, name):
+        """What a file holds; nothing where it isn't there."""
+        return self.path(name).read_bytes() if self.path(name).is_file() else b""
+
+
+def free_port():
+    with socket.socket() as peer:
+        peer.bind(("127.0.0.1", 0))
+        return peer.getsockname()[1]
+
+
+def asked(port, lines):
+    """What is answered to these lines, on a connection of their own."""
+    with socket.create_connection(("127.0.0.1", port), timeout=30) as peer:
+        peer.sendall(lines)
+        peer.shutdown(socket.SHUT_WR)
+        answers = b""
+        while part := peer.recv(65536):
+            answers += part
+    return answers.decode()
+
+
+def main(name, groups):
+    """Runs these groups of tests on the program that the command line names, in a folder with the examples. Returns the exit status."""
+    program = pathlib.Path(sys.argv[1] if len(sys.argv) > 1 else TOP / "crates/tl_cli/out/tl_cli").resolve()
+    if not program.is_file():
+        print(f"tests/{name}: there is no program {program}; ./treedb --help builds it", file=sys.stderr)
+        return 1
+    with tempfile.TemporaryDirectory() as folder:
+        tests = Tests(program, pathlib.Path(folder))
+        shutil.copytree(TOP / "examples", tests.path("examples"))
+        for group in groups:
+            group(tests)
+    print(f"{tests.passed} passed, {tests.failed} failed")
+    return 0 if tests.failed == 0 else 1
