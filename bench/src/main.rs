@@ -13,6 +13,7 @@ mod reasons;
 mod rounds;
 mod rows;
 mod schedules;
+mod spread;
 mod sqlite;
 mod table;
 mod trees;
@@ -22,6 +23,9 @@ use std::process::ExitCode;
 use std::{env, fs};
 
 use table::{Made, Table};
+
+/// The few rows that `bench/peers/run` writes.
+const PEERS: &str = concat!(env!("CARGO_MANIFEST_DIR"), "/peers/summary.md");
 
 fn main() -> ExitCode {
     let words: Vec<String> = env::args().skip(1).collect();
@@ -42,7 +46,7 @@ fn write_table(path: &str, names: &[String]) -> ExitCode {
     counting::take_at_first();
     let passes = (0..rounds::PASSES).map(|_| rows::measured(names)).collect::<Result<_, _>>();
     let written = passes.and_then(table::together).and_then(|parts| {
-        let table = Table { made: made(), parts };
+        let table = Table { made: made(), peers: fs::read_to_string(PEERS).ok(), parts };
         print!("{table}");
         fs::write(path, table.to_string()).map_err(|error| error.to_string())
     });

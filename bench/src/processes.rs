@@ -2,6 +2,7 @@
 
 use std::path::Path;
 use std::process::{Command, ExitCode};
+use std::time::Instant;
 use std::{env, io};
 
 use crate::measured::Measured;
@@ -95,6 +96,14 @@ pub fn memory_of_treedb(words: &[&str]) -> Option<u64> {
         Some(&[bytes]) => Some(bytes),
         _ => None,
     }
+}
+
+/// How many milliseconds a run of `treedb` with these words takes, from its start to its end.
+pub fn time_of_treedb(words: &[&str]) -> Option<f64> {
+    let begun = Instant::now();
+    let done = Command::new(TREEDB).args(words).output().ok()?;
+    let taken = begun.elapsed().as_secs_f64() * 1_000.0;
+    done.status.success().then_some(taken)
 }
 
 /// Runs a program, and prints the most bytes that it had in use at once.

@@ -24,7 +24,7 @@ const REASONS: [Reason; 12] = [
     reason("The order and the audit", "what an event more", GROWTH),
     reason("The order and the audit", "product alone: `audit`", AUDIT_NANOSECONDS),
     reason("The order and the audit", "4,096 open", MANY_OPEN),
-    reason("The order and the audit", "the rules are kept", TRUSTING),
+    reason("The order and the audit", "a legal history", TRUSTING),
     reason("Engines", "product alone", WORKERS),
     reason("Engines", "", TURN),
     reason("A procedure a transaction", "", TRANSACTION),

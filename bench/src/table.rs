@@ -3,7 +3,8 @@
 use std::fmt;
 
 use crate::reasons;
-use crate::rounds::{self, middle, Spread, Times};
+use crate::rounds::{self, Times};
+use crate::spread::{middle, Spread};
 
 /// How near to its goal a number has to be for there to be no verdict.
 const LEVEL: f64 = 0.1;
@@ -240,17 +241,21 @@ pub struct Made {
 
 pub struct Table {
     pub made: Made,
+    /// What `bench/peers/run` found last.
+    pub peers: Option<String>,
     pub parts: Vec<Part>,
 }
 
 impl fmt::Display for Table {
     fn fmt(&self, out: &mut fmt::Formatter<'_>) -> fmt::Result {
         let Made { date, product, twin } = &self.made;
+        writeln!(out, "# What the proof costs at run time\n")?;
+        if let Some(peers) = &self.peers {
+            writeln!(out, "## Beside other servers\n\n{peers}\n## Beside a twin that proves nothing\n")?;
+        }
         writeln!(
             out,
-            "# What the proof costs at run time
-
-Made by `bench/run` on {date}. The product: {product}. The twin: {twin}.
+            "Made by `bench/run` on {date}. The product: {product}. The twin: {twin}.
 
 All is measured {} times, from the first row to the last, each time in at least {} rounds. In a round the sides do the same work in turn on
 one processor, the next round on the next one and beginning with another side; short work is done again and again, and the fastest run is

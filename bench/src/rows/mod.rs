@@ -2,6 +2,7 @@
 
 mod calls;
 mod cores;
+mod language;
 mod memory;
 mod orders;
 mod texts;
@@ -13,7 +14,7 @@ use crate::trees::{chains, heads, CALLS, CHAIN, NODES};
 use crate::twin::turns;
 
 /// What can be measured, by name.
-pub const NAMES: [&str; 8] = ["calls", "codes", "core", "order", "text", "threads", "sqlite", "memory"];
+pub const NAMES: [&str; 9] = ["calls", "codes", "core", "order", "text", "language", "threads", "sqlite", "memory"];
 
 /// What stands beside the product in most parts.
 const TWIN: &str = "twin";
@@ -26,6 +27,7 @@ fn parts(name: &str) -> Result<Vec<Part>, String> {
         "core" => Ok(vec![cores::core()?, cores::running()?, cores::others()?]),
         "order" => Ok(vec![orders::sizes()?, orders::schedules()?]),
         "text" => texts::texts(),
+        "language" => Ok(vec![language::compiling()?]),
         "threads" => threads::threads(),
         "sqlite" => Ok(vec![threads::sqlite()?]),
         "memory" => Ok(vec![memory::structures(), memory::audit()?]),
