@@ -6,6 +6,7 @@
 mod codes;
 mod counting;
 mod measured;
+mod overview;
 mod processes;
 mod processors;
 mod product;

@@ -2,6 +2,7 @@
 
 use std::fmt;
 
+use crate::overview::Overview;
 use crate::reasons;
 use crate::rounds::{self, Times};
 use crate::spread::{middle, Spread};
@@ -9,8 +10,23 @@ use crate::spread::{middle, Spread};
 /// How near to its goal a number has to be for there to be no verdict.
 const LEVEL: f64 = 0.1;
 
-/// The verdict of a row that is further than that from its goal.
-const SHORT: &str = "**short**";
+/// How a row stands to its goal.
+#[derive(Clone, Copy, Debug, PartialEq, Eq)]
+pub enum Verdict {
+    Met,
+    Level,
+    Short,
+}
+
+impl fmt::Display for Verdict {
+    fn fmt(&self, out: &mut fmt::Formatter<'_>) -> fmt::Result {
+        out.write_str(match self {
+            Verdict::Met => "met",
+            Verdict::Level => "level",
+            Verdict::Short => "**short**",
+        })
+    }
+}
 
 /// What is asked for.
 #[derive(Clone, Copy)]
@@ -41,7 +57,7 @@ impl Goal {
 
 /// A row: what was done, what the product took for one unit of it in each round, what another side took, and what was asked for.
 pub struct Row {
-    work: String,
+    pub work: String,
     unit: &'static str,
     product: Vec<f64>,
     other: Option<Vec<f64>>,
@@ -117,13 +133,30 @@ impl Row {
         }
     }
 
-    fn verdict(&self) -> &'static str {
-        match self.reached() {
-            Some(reached) if reached >= 1.0 / (1.0 - LEVEL) => "met",
-            Some(reached) if reached <= 1.0 - LEVEL => SHORT,
-            Some(_) => "level",
-            None => "",
+    /// None where nothing is asked.
+    pub fn verdict(&self) -> Option<Verdict> {
+        let reached = self.reached()?;
+        Some(if reached >= 1.0 / (1.0 - LEVEL) {
+            Verdict::Met
+        } else if reached <= 1.0 - LEVEL {
+            Verdict::Short
+        } else {
+            Verdict::Level
+        })
+    }
+
+    /// The middle ratio, or the product's own number where nothing stands beside it.
+    pub fn ratio(&self) -> String {
+        match self.ratios() {
+            Some(ratios) => format!("{:.2}", ratios.middle),
+            None => format!("{:.1} {}", self.ours(), self.unit),
         }
+    }
+
+    /// The goal and the verdict.
+    pub fn asked(&self) -> String {
+        let verdict = self.verdict().map(|verdict| verdict.to_string()).unwrap_or_default();
+        format!("{}{verdict}", self.goal)
     }
 }
 
@@ -148,7 +181,7 @@ impl fmt::Display for Row {
         }
         match (self.goal, &self.other) {
             (Goal::Speed | Goal::Cost, None) => write!(out, " |"),
-            (goal, _) => write!(out, "{goal}{} |", self.verdict()),
+            _ => write!(out, "{} |", self.asked()),
         }
     }
 }
@@ -197,7 +230,7 @@ struct Why<'a>(&'a [Part]);
 
 impl fmt::Display for Why<'_> {
     fn fmt(&self, out: &mut fmt::Formatter<'_>) -> fmt::Result {
-        let rows_of = |part: &'_ Part| part.rows.iter().filter(|row| row.verdict() == SHORT).map(|row| row.work.clone()).collect::<Vec<_>>();
+        let rows_of = |part: &'_ Part| part.rows.iter().filter(|row| row.verdict() == Some(Verdict::Short)).map(|row| row.work.clone()).collect::<Vec<_>>();
         let short: Vec<(&str, String)> =
             self.0.iter().flat_map(|part| rows_of(part).into_iter().map(|work| (part.heading.as_str(), work))).collect();
         if short.is_empty() {
@@ -267,6 +300,7 @@ verdict is *level*.",
             rounds::PASSES,
             rounds::ROUNDS
         )?;
+        write!(out, "\n{}", Overview(&self.parts))?;
         self.parts.iter().try_for_each(|part| write!(out, "{part}"))?;
         write!(out, "{}", Why(&self.parts))
     }
@@ -276,26 +310,26 @@ verdict is *level*.",
 mod tests {
     use super::*;
 
-    fn verdict(product: f64, other: f64, goal: Goal) -> &'static str {
+    fn verdict(product: f64, other: f64, goal: Goal) -> Option<Verdict> {
         Row::paired("work", "ns", &[product], &[other], goal).verdict()
     }
 
     #[test]
     fn within_a_tenth_there_is_no_verdict() {
         let cases = [
-            (10.0, 10.0, Goal::AtLeast(0.9), "met"),
-            (10.0, 9.5, Goal::AtLeast(0.9), "level"),
-            (10.0, 8.0, Goal::AtLeast(0.9), "**short**"),
-            (10.0, 10.0, Goal::AtMost(1.1), "level"),
-            (10.0, 10.0, Goal::AtMost(1.2), "met"),
-            (15.0, 10.0, Goal::AtMost(1.1), "**short**"),
-            (15.0, -10.0, Goal::AtMost(1.1), "level"),
-            (20.0, 1.0, Goal::Within(30.0), "met"),
-            (31.0, 1.0, Goal::Within(30.0), "level"),
-            (15.0, 10.0, Goal::AtMostMore(8.0), "met"),
-            (15.0, 10.0, Goal::AtMostMore(4.0), "**short**"),
-            (9.0, 10.0, Goal::AtMostMore(4.0), "met"),
-            (1.0, 1.0, Goal::Speed, ""),
+            (10.0, 10.0, Goal::AtLeast(0.9), Some(Verdict::Met)),
+            (10.0, 9.5, Goal::AtLeast(0.9), Some(Verdict::Level)),
+            (10.0, 8.0, Goal::AtLeast(0.9), Some(Verdict::Short)),
+            (10.0, 10.0, Goal::AtMost(1.1), Some(Verdict::Level)),
+            (10.0, 10.0, Goal::AtMost(1.2), Some(Verdict::Met)),
+            (15.0, 10.0, Goal::AtMost(1.1), Some(Verdict::Short)),
+            (15.0, -10.0, Goal::AtMost(1.1), Some(Verdict::Level)),
+            (20.0, 1.0, Goal::Within(30.0), Some(Verdict::Met)),
+            (31.0, 1.0, Goal::Within(30.0), Some(Verdict::Level)),
+            (15.0, 10.0, Goal::AtMostMore(8.0), Some(Verdict::Met)),
+            (15.0, 10.0, Goal::AtMostMore(4.0), Some(Verdict::Short)),
+            (9.0, 10.0, Goal::AtMostMore(4.0), Some(Verdict::Met)),
+            (1.0, 1.0, Goal::Speed, None),
         ];
         for (product, other, goal, expected) in cases {
             assert_eq!(verdict(product, other, goal), expected, "{product} {other} {goal}");

@@ -29,6 +29,8 @@ struct OnThreads {
     engines: u32,
     /// How many turns a call takes: its locks, its frees and its return.
     turns: f64,
+    /// How fast an engine is to be, beside the twin's.
+    least: f64,
     /// What is asked of 2 workers against 1, and of 4 against 1.
     speedups: [Goal; 2],
 }
@@ -42,6 +44,7 @@ fn workloads() -> [OnThreads; 3] {
             chain: CHAIN,
             engines: 1,
             turns: 5.0,
+            least: 0.9,
             speedups: [Goal::AtLeast(1.8), Goal::AtLeast(3.4)],
         },
         OnThreads {
@@ -51,7 +54,8 @@ fn workloads() -> [OnThreads; 3] {
             chain: CHAIN,
             engines: 10,
             turns: 5.0,
-            speedups: [Goal::Speed, Goal::AtLeast(0.6)],
+            least: 0.6,
+            speedups: [Goal::AtLeast(1.0), Goal::AtLeast(1.0)],
         },
         OnThreads {
             work: "walks of 127 nodes on one path",
@@ -60,6 +64,7 @@ fn workloads() -> [OnThreads; 3] {
             chain: CHAIN,
             engines: 1,
             turns: 255.0,
+            least: 0.9,
             speedups: [Goal::Speed, Goal::AtLeast(0.4)],
         },
     ]
@@ -120,13 +125,13 @@ fn rows_of(it: &OnThreads) -> Result<Vec<Row>, String> {
     let calls = times[0][0].came_to.count as f64;
     let mut rows = Vec::new();
     for ([ours, theirs], workers) in times.iter().zip(WORKERS) {
-        let goal = if_they_fit(workers, Goal::AtLeast(0.9));
+        let goal = if_they_fit(workers, Goal::AtLeast(it.least));
         let work = format!("{}, workers: {workers}", it.work);
         rows.push(Row::of_times(work, "ns a call", [ours, theirs], calls, goal));
     }
     let [one, ..] = &times;
     let turn = format!("a turn with one worker: {}", it.work);
-    rows.push(Row::of_times(turn, "ns a turn", [&one[0], &one[1]], calls * it.turns, Goal::AtLeast(0.9)));
+    rows.push(Row::of_times(turn, "ns a turn", [&one[0], &one[1]], calls * it.turns, Goal::AtLeast(it.least)));
     for place in [1, 2] {
         let workers = WORKERS[place];
         let goal = if_they_fit(workers, it.speedups[place - 1]);
@@ -175,14 +180,14 @@ pub fn sqlite() -> Result<Part, String> {
         ],
     )?;
     let work = "the way down to a leaf of 4,096 nodes, five below the root; add to it, and answer";
-    let row_of = |how: &str, ours: &Times| -> Result<Row, String> {
+    let row_of = |how: &str, ours: &Times, least: f64| -> Result<Row, String> {
         are_alike(SQLITE, ours, &theirs)?;
         let work = format!("{work}: {how}");
-        Ok(Row::of_times(work, "ns a call", [ours, &theirs], f64::from(ANEW) * f64::from(CALLS), Goal::AtLeast(10.0)))
+        Ok(Row::of_times(work, "ns a call", [ours, &theirs], f64::from(ANEW) * f64::from(CALLS), Goal::AtLeast(least)))
     };
     let rows = vec![
-        row_of("a core whose order is kept, one thread", &core)?,
-        row_of("an engine with one worker, in batches of 256", &engine)?,
+        row_of("a core whose order is kept, one thread", &core, 10.0)?,
+        row_of("an engine with one worker, in batches of 256", &engine, 5.0)?,
     ];
     Ok(Part::new(SQLITE, "SQLite", rows))
 }

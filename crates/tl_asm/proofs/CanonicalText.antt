@@ -14,10 +14,10 @@ use Rattle.tl_instr.specs.declared.instr.Instr.TheVariants.{Set, Copy, Add, Subt
 use Rattle.tl_instr.specs.declared.version.Version.{Version}
 use Rattle.tl_instr.specs.declared.version.Version.TheVariants.{One, Two}
 use Rattle.tl_instr.specs.Codes.{CodeValue, IsCode}
-use Rattle.tl_instr.specs.Instructions.{IsInstr, target}
+use Rattle.tl_instr.specs.Instructions.{IsInstr, target, with_target}
 use Rattle.tl_asm.specs.Words.{Word}
 use Rattle.tl_asm.specs.Statements.{DraftValue, Said, Blank, Version2, Takes, Does}
-use Rattle.tl_asm.specs.Texts.{Written, Follow, InPlace, Distinct, statements, version_in, arity_in, with_target, aimed, position_of, labels_in, drafts_in}
+use Rattle.tl_asm.specs.Texts.{Written, Follow, InPlace, Distinct, statements, version_in, arity_in, aimed, position_of, labels_in, drafts_in}
 use Rattle.tl_asm.specs.Listing.{line_of, label_word, is_target, lines_from, header_lines, listing}
 use Rattle.tl_asm.proofs.StatementLists.{same_bytes, bytes_same}
 use Rattle.tl_asm.proofs.SketchToCode.{of_version}

@@ -12,7 +12,8 @@ use Rattle.tl_instr.specs.declared.instr.Instr.{Instr}
 use Rattle.tl_asm.specs.declared.sketch.Origin.{Origin}
 use Rattle.tl_asm.specs.Words.{Word}
 use Rattle.tl_asm.specs.Statements.{DraftValue}
-use Rattle.tl_asm.specs.Texts.{with_target, aimed}
+use Rattle.tl_instr.specs.Instructions.{with_target}
+use Rattle.tl_asm.specs.Texts.{aimed}
 use Rattle.tl_asm.specs.Sketches.{known, traced, drafts_of}
 
 pub length_drafts : (is : List Instr) (os : List (ℕ × Option Word)) → length os ≡ length is → length (drafts_of is os) ≡ length is

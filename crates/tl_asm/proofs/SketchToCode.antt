@@ -12,11 +12,11 @@ use Rattle.tl_instr.specs.declared.version.Version.{Version}
 use Rattle.tl_instr.specs.declared.version.Version.TheVariants.{One, Two}
 use Rattle.tl_instr.specs.Versions.{HasInstr}
 use Rattle.tl_instr.specs.Codes.{IsCode, IsArity}
-use Rattle.tl_instr.specs.Instructions.{InRange, IsInstr, GoesWithin, target}
+use Rattle.tl_instr.specs.Instructions.{InRange, IsInstr, GoesWithin, target, with_target}
 use Rattle.tl_asm.specs.declared.fault.AsmFault.TheVariants.{BadLine, NoLabel}
 use Rattle.tl_asm.specs.Words.{Word, lines_of}
 use Rattle.tl_asm.specs.Statements.{DraftValue, Said, Blank, Version2, Takes, Names, Does, says}
-use Rattle.tl_asm.specs.Texts.{Written, statements, with_target, aimed, position_of, arity_in, labels_in, drafts_in}
+use Rattle.tl_asm.specs.Texts.{Written, statements, aimed, position_of, arity_in, labels_in, drafts_in}
 use Rattle.tl_asm.specs.Faults.{IsWhole, IsFirstFaultIn}
 use Rattle.tl_asm.specs.Sketches.{Sketched, said_by, drafts_of, IsAstray}
 

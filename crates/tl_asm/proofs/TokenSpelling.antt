@@ -12,12 +12,11 @@ use Rattle.std.proofs.lemmas.Bool.{ne_eqb, lt-ltb}
 use Rattle.std.proofs.lemmas.Fmt.{digits_decimal, digits_value-decimal, decimal_nonempty, decimal_digit, first_decimal, length-decimal-le}
 use Rattle.tl_instr.specs.declared.instr.Instr.{Instr}
 use Rattle.tl_instr.specs.declared.instr.Instr.TheVariants.{Set, Copy, Add, Subtract, Multiply, Divide, Jump, JumpIfLess, JumpIfEqual, Repeat, RepeatBy, End, First, Child, Move, Release, Get, Put, Kids, Emit, Return}
-use Rattle.tl_instr.specs.Instructions.{InRange, GoesWithin, target}
+use Rattle.tl_instr.specs.Instructions.{InRange, GoesWithin, target, with_target}
 use Rattle.tl_width.specs.Fields.{field_count}
 use Rattle.tl_instr.specs.declared.operand.TheConstants.{VALUE_REGISTERS, NODE_REGISTERS}
 use Rattle.tl_asm.specs.Tokens.{is_number, number_in, register_in, signed_in, continues_label, is_label}
 use Rattle.tl_asm.specs.Statements.{DraftValue, Version2, Takes, Names, Does, otherwise_in, bare_in, set_in, copy_in, arithmetic_in, add_in, subtract_in, multiply_in, divide_in, jump_in, comparison_in, jump_if_less_in, jump_if_equal_in, repeat_in, repeat_by_in, first_in, child_in, move_in, release_in, get_in, put_in, kids_in, emit_in, draft_in, said_in}
-use Rattle.tl_asm.specs.Texts.{with_target}
 use Rattle.tl_asm.specs.Listing.{label_word, instr_words}
 use lib.Chars.{codes}
 use Rattle.tl_asm.proofs.DecimalNumbers.{own}

@@ -40,7 +40,7 @@ fn code_of(alloc: Global, text: &str) -> Result<Code, AsmFault>
         Ok(code) => Ok(code),
         Err(fault) => match fault {
             CodeFault::Memory => Err(AsmFault::Memory),
-            // What the lines say is a code.
+            // The lines together make a valid code, so no other fault can occur.
             _ => unreachable!(),
         },
     }
@@ -48,15 +48,14 @@ fn code_of(alloc: Global, text: &str) -> Result<Code, AsmFault>
 
 /// The code that the text stands for.
 ///
-/// The first of these faults: line by line, 251 at a line that isn't of the text's forms or has no place there, such as an
-/// instruction of the second version in a text that doesn't begin with `version 2`, 253 at
-/// a label that an earlier line defines, and 254 at the 1,025th instruction; then 251, with the number of lines, where
-/// no line has the arity or no line has an instruction; then 252 at the first line whose label no line defines. 290
-/// where memory is refused.
+/// The error is the first of these faults. Line by line: 251 at a line that has none of the text's forms or isn't allowed
+/// there, such as an instruction of the second version in a text that doesn't begin with `version 2`; 253 at a label that
+/// an earlier line defines; 254 at the 1,025th instruction. Then 251, with the number of lines, if no line has the arity or
+/// no line has an instruction. Then 252 at the first line whose label no line defines. 290 if memory is refused.
 pub fn assemble(alloc: Global, text: &str) -> Result<Code, AsmFault>
-    // The code that is read is the text's.
+    // The code that is read is that of the text.
     ensures found { IfOk result (λ code. Written text.now code) }
-    // The code of a text is read, unless memory is refused.
+    // If the text has a code, it is read, unless memory is refused.
     ensures only { (c : CodeValue) → Written text.now c → MatchResult result
         (λ code. code ≡ c)
         (λ f. f ≡ AsmFault.Memory) }
@@ -77,10 +76,10 @@ fn lines_in(alloc: Global, origins: &[Origin<'_>]) -> Result<Vec<u64>, AllocErro
     Ok(lines)
 }
 
-/// Of each instruction of a text the number of its line, counted from 1. So a position that a fault of the code names becomes a
-/// line of the text.
+/// For each instruction of a text, the number of its line, counted from 1. With it, a position in a fault of the code can
+/// be reported as a line of the text.
 ///
-/// 251, 253 and 254 line by line, as `assemble` answers them. 290 where memory is refused.
+/// 251, 253 and 254 line by line, as from `assemble`. 290 if memory is refused.
 pub fn instruction_lines(alloc: Global, text: &str) -> Result<Vec<u64>, AsmFault>
     ensures lines { IfOk result (λ v. v.items ≡ lines_of_instrs text.now) }
     ensures fault { IfErr result (λ f. f ≢ AsmFault.Memory → IsFirstFault text.now f) }
@@ -90,8 +89,9 @@ pub fn instruction_lines(alloc: Global, text: &str) -> Result<Vec<u64>, AsmFault
     Ok(lines_in(alloc, &sketch.origins)?)
 }
 
-/// The laws of texts: the canonical text of a code is that code's, no text is that of two codes, a text has a first
-/// fault only where it is no code's, and no more than one. So what is disassembled is assembled to the same code.
+/// The laws of texts: the canonical text of a code stands for that code, and no text stands for two codes. A text has a
+/// first fault only if it stands for no code, and never more than one. So a disassembled code is assembled to the same
+/// code.
 pub fn one_reading()
     ensures canonical { (c : CodeValue) → IsCode c → Written (listing c) c }
     ensures one_code { (text : List ℕ) (c d : CodeValue) → Written text c → Written text d → c ≡ d }
@@ -99,7 +99,7 @@ pub fn one_reading()
     ensures one_fault { (text : List ℕ) (f g : AsmFault) → IsFirstFault text f → IsFirstFault text g → f ≡ g }
 {}
 
-/// The law of lines: a name and the words after it are read as an instruction exactly where they are its words.
+/// The law of lines: a name and the words after it are read as an instruction if and only if they are its words.
 pub fn one_line()
     ensures { (name : Word) (words : List Word) (d : DraftValue) → (draft_in name words ≡ Some d) ↔ IsLineOf d (name ∷ words) }
 {}

@@ -2,7 +2,7 @@
 
 use tl_instr::Instr;
 
-/// An instruction with 0 in the place of its target, and the label that is written there.
+/// An instruction with 0 as its target, and the label that is written there.
 #[derive(Clone, Copy, Debug)]
 pub struct Draft<'a> {
     pub instr: Instr,

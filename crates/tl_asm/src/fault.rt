@@ -1,4 +1,4 @@
-//! Why a text is no code.
+//! Why a text doesn't stand for a code.
 
 ghost use Rattle.std.specs.Prelude.{◌≡◌};
 ghost use Rattle.tl_asm.specs.declared.fault.AsmFault.TheVariants.{Memory};
@@ -10,7 +10,7 @@ use thiserror::Error;
 /// What is wrong with a text. Lines are numbered from 1.
 #[derive(Clone, Copy, Debug, PartialEq, Eq, Error)]
 pub enum AsmFault {
-    /// 251: no line of a procedure is written so, or the text ends where one has to follow.
+    /// 251: the line has none of the forms of a procedure's lines, or the text ends too early.
     #[error("line {0}: not understood")]
     BadLine(u64),
     /// 252: no line defines the label that this line uses.
@@ -30,7 +30,7 @@ pub enum AsmFault {
 impl AsmFault {
     ghost use Rattle.tl_asm.specs.Faults.{numbers_of};
 
-    /// The fault's number, and then the line where it has one.
+    /// The fault's number, then the line if it has one.
     pub fn numbers(&self) -> ArrayVec<u64, 3>
         ensures { result.items ≡ numbers_of self.now }
     {

@@ -216,7 +216,7 @@ fn instr_line(alloc: Global, instr: &Instr) -> Result<String, AsmFault>
     }
 }
 
-/// The line of a position that is a target, and nothing for another.
+/// The label line of a position that is a target; empty for any other position.
 fn label_line(alloc: Global, instrs: &[Instr], position: u16) -> Result<String, AsmFault>
     ensures line { IfOk result (λ line. string_bytes line ≡ label_line instrs.now position) }
     ensures memory { IfErr result (λ f. f ≡ AsmFault.Memory) }
@@ -228,7 +228,7 @@ fn label_line(alloc: Global, instrs: &[Instr], position: u16) -> Result<String, 
     }
 }
 
-/// What stands before the instructions: the version, if it isn't the first, and the arity.
+/// What comes before the instructions: the version, if it isn't the first, and the arity.
 fn header(alloc: Global, code: &Code) -> Result<String, AsmFault>
     ensures lines { IfOk result (λ lines. string_bytes lines ≡ header_lines code.now.version code.now.arity) }
     ensures memory { IfErr result (λ f. f ≡ AsmFault.Memory) }
@@ -240,10 +240,11 @@ fn header(alloc: Global, code: &Code) -> Result<String, AsmFault>
     }
 }
 
-/// The canonical text of the code: its version, if that is the second, its arity, its instructions, a line each, and before
-/// an instruction that is a target, and at the end if that is one, a line with `L` and the position.
+/// The canonical text of the code: its version if that is the second, its arity, and its instructions, one per line. A
+/// label, `L` and the position, has a line of its own before each instruction that is a target, and after the last
+/// instruction if the end is a target.
 ///
-/// 290 where memory is refused.
+/// 290 if memory is refused.
 pub fn disassemble(alloc: Global, code: &Code) -> Result<String, AsmFault>
     ensures text { IfOk result (λ text. string_bytes text ≡ listing code.now) }
     ensures written { IfOk result (λ text. Written (string_bytes text) code.now) }

@@ -1,4 +1,4 @@
-//! The instruction that a line's words are.
+//! Reads a line's words as an instruction.
 
 ghost use Rattle.std.specs.Prelude.{◌≡◌, IfSome};
 ghost use Rattle.tl_width.specs.Fields.{field_count};
@@ -34,7 +34,7 @@ fn field(line: &[u8]) -> Option<(Field, &[u8])>
     Some((token::field(word)?, rest))
 }
 
-/// The line's one word.
+/// The only word of the line, if it has just one.
 pub fn only_word(line: &[u8]) -> Option<&[u8]>
     ensures { Finds (λ x. x.now) result (only_of (words_of line.now)) }
 {
@@ -45,7 +45,7 @@ pub fn only_word(line: &[u8]) -> Option<&[u8]>
     Some(word)
 }
 
-/// The label that is the line's one word.
+/// The label that is the only word of the line.
 fn label(line: &[u8]) -> Option<&[u8]>
     ensures { Finds (λ x. x.now) result (last label_in (words_of line.now)) }
 {
@@ -112,7 +112,7 @@ fn copy(line: &[u8]) -> Option<Draft<'_>>
     })
 }
 
-/// Three value registers, and a label for what doesn't fit.
+/// Three value registers, and a label for a result that doesn't fit.
 #[tactic(auto, unfolding(crate::specs::Statements::arithmetic_in))]
 fn arithmetic(line: &[u8]) -> Option<(ValueRegister, ValueRegister, ValueRegister, &[u8])>
     ensures { Finds (λ x. (x.0, x.1, x.2, x.3.now)) result (arithmetic_in (words_of line.now)) }
@@ -434,7 +434,7 @@ fn emit(line: &[u8]) -> Option<Draft<'_>>
     })
 }
 
-/// The instruction of that name, where the line has its operands.
+/// The instruction with that name, if the line has its operands.
 #[tactic(auto, unfolding(crate::specs::Statements::draft_in))]
 pub fn draft<'a>(name: &[u8], line: &'a [u8]) -> Option<Draft<'a>>
     ensures found { Finds view result (draft_in name.now (words_of line.now)) }

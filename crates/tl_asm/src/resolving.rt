@@ -1,7 +1,7 @@
 //! From labels to targets.
 
 ghost use Rattle.std.specs.Prelude.{◌≡◌, ◌≢◌, ℕ, Some, length, map, IfOk, IfErr};
-ghost use Rattle.tl_asm.specs.Texts.{with_target, aimed};
+ghost use Rattle.tl_asm.specs.Texts.{aimed};
 ghost use Rattle.tl_asm.specs.Sketches.{known, traced, drafts_of, IsAstray};
 
 use crate::fault::AsmFault;
@@ -10,98 +10,7 @@ use indexmap::IndexMap;
 use std::alloc::Global;
 use tl_instr::Instr;
 
-/// The instruction with this target, where it has one.
-fn with_target(instr: &Instr, target: u16) -> Instr
-    ensures { result ≡ with_target target instr.now }
-{
-    match *instr {
-        Instr::Add {
-            to,
-            left,
-            right,
-            ..
-        } => Instr::Add {
-            to,
-            left,
-            right,
-            otherwise: target,
-        },
-        Instr::Subtract {
-            to,
-            left,
-            right,
-            ..
-        } => Instr::Subtract {
-            to,
-            left,
-            right,
-            otherwise: target,
-        },
-        Instr::Multiply {
-            to,
-            left,
-            right,
-            ..
-        } => Instr::Multiply {
-            to,
-            left,
-            right,
-            otherwise: target,
-        },
-        Instr::Divide {
-            to,
-            left,
-            right,
-            ..
-        } => Instr::Divide {
-            to,
-            left,
-            right,
-            otherwise: target,
-        },
-        Instr::Jump { .. } => Instr::Jump { target },
-        Instr::JumpIfLess { left, right, .. } => Instr::JumpIfLess {
-            left,
-            right,
-            target,
-        },
-        Instr::JumpIfEqual { left, right, .. } => Instr::JumpIfEqual {
-            left,
-            right,
-            target,
-        },
-        Instr::First { to, number, .. } => Instr::First {
-            to,
-            number,
-            otherwise: target,
-        },
-        Instr::Child {
-            to,
-            parent,
-            number,
-            ..
-        } => Instr::Child {
-            to,
-            parent,
-            number,
-            otherwise: target,
-        },
-        Instr::Set { .. }
-        | Instr::Copy { .. }
-        | Instr::Repeat { .. }
-        | Instr::RepeatBy { .. }
-        | Instr::End
-        | Instr::Move { .. }
-        | Instr::Release { .. }
-        | Instr::Get { .. }
-        | Instr::Put { .. }
-        | Instr::Kids { .. }
-        | Instr::Emit { .. }
-        | Instr::Return => *instr,
-    }
-}
-
-/// The instructions with their targets, or 252 at the first whose label isn't known.
+/// The instructions with their targets, or 252 at the first instruction whose label isn't defined.
 pub fn resolved<'a>(
     alloc: Global,
     instrs: &[Instr],
@@ -119,7 +28,7 @@ pub fn resolved<'a>(
             None => instrs[index],
             Some(label) => match labels.get(&label) {
                 None => return Err(AsmFault::NoLabel(line)),
-                Some(target) => with_target(&instrs[index], *target),
+                Some(target) => instrs[index].with_target(*target),
             },
         };
         resolved.push(instr)?;

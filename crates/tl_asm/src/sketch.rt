@@ -15,15 +15,15 @@ use indexmap::IndexMap;
 use std::alloc::Global;
 use tl_instr::{Instr, MAX_COUNT, Version};
 
-/// Where an instruction stands, and the label in the place of its target.
+/// The line of an instruction, and the label that stands for its target.
 #[derive(Clone, Copy, Debug)]
 pub struct Origin<'a> {
     pub line: u64,
     pub label: Option<&'a [u8]>,
 }
 
-/// What a text's lines say: the version, the arity if a line gives it, the positions that labels name, and the instructions with
-/// 0 in the place of a target, each with its origin.
+/// What a text's lines say: the version, the arity if a line gives it, the positions that labels name, and the instructions
+/// with 0 as their targets, each with its origin.
 #[derive(Drop)]
 pub struct Sketch<'a> {
     pub version: Version,
@@ -116,7 +116,7 @@ impl<'a> Sketch<'a> {
     }
 }
 
-/// What the lines say together, up to the first that has no place there.
+/// What the lines say together, up to the first that isn't allowed at its place.
 pub fn sketch_of<'a>(alloc: Global, lines: &[&'a str]) -> Result<Sketch<'a>, AsmFault>
     ensures found { IfOk result (λ s. IsSketch (said_by lines.now) s) }
     ensures fault { IfErr result (λ f. f ≢ AsmFault.Memory → IsFirstFaultIn (said_by lines.now) f) }

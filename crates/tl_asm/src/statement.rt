@@ -12,16 +12,16 @@ use crate::word::{next_word, without_comment};
 #[derive(Clone, Copy, Debug)]
 pub enum Statement<'a> {
     Blank,
-    /// That the text is of the second version of the language.
+    /// The text is of the second version of the language.
     Version2,
     /// How many arguments the procedure takes.
     Takes(u8),
-    /// The label of the position that comes next.
+    /// The label of the next position.
     Names(&'a [u8]),
     Does(Draft<'a>),
 }
 
-/// What the line says, where it is of one of these forms.
+/// What the line says, if it has one of these forms.
 #[tactic(auto, unfolding(crate::specs::Statements::said_in))]
 pub fn statement_of(line: &[u8]) -> Option<Statement<'_>>
     ensures found { Finds shown result (says line.now) }

@@ -121,10 +121,11 @@ fn continues_label(byte: u8) -> bool
     byte.is_ascii_alphanumeric() || byte == b'_'
 }
 
-/// How many characters a label has at most.
+/// The most characters that a label has.
 pub const MAX_LABEL: usize = 32;
 
-/// Whether the word may name a position: a letter or `_`, then letters, digits or `_`, at most `MAX_LABEL` in all.
+/// Whether the word may name a position: a letter or `_`, then letters, digits or `_`, at most `MAX_LABEL` characters in
+/// all.
 #[tactic(auto, unfolding(crate::specs::Tokens::is_label))]
 pub fn is_label(word: &[u8]) -> bool
     ensures { result ≡ is_label word.now }

@@ -31,7 +31,7 @@ fn indent(line: &[u8]) -> usize
         .unwrap_or(line.len())
 }
 
-/// The first word, and the line after it.
+/// The first word, and the rest of the line after it.
 pub fn next_word(line: &[u8]) -> Option<(&[u8], &[u8])>
     ensures { Finds (λ x. (x.0.now, words_of x.1.now)) result (first_of (words_of line.now)) }
 {

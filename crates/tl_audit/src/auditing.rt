@@ -19,19 +19,19 @@ use tl_serial_order::Order;
 use tl_trail::Trail;
 use tl_tree::Record;
 
-/// Whether a trail is clean: the order that its events give, or the first thing that is wrong.
+/// Whether a trail is clean: the order that its events give, or the first fault.
 ///
-/// The answer is 711, 712 or 713 at the first event with which something is wrong; then 715 at the least call without an end;
-/// then call by call 714 and 717; then 716 at the least node. One pass along the events looks for all of that: each call
-/// that is open is run alone along its own events, and the least that differs is remembered until its turn comes. The work
-/// grows with the events and with the calls' steps. 790 where memory is refused.
+/// The faults, in order: 711, 712 or 713 at the first event with a fault; then 715 at the least call without an end; then
+/// call by call 714 and 717; then 716 at the least node. One pass along the events checks all of that: each open call is
+/// run alone along its own events, and the least call that differs is remembered until its turn comes. The work grows with
+/// the events and with the calls' steps. 790 if memory is refused.
 pub fn audit(alloc: Global, trail: &Trail) -> Result<Order, AuditFault>
     ensures { IsVerdict trail.now result }
 {
     audit_with(alloc, trail, &mut Silent)
 }
 
-/// The same, where somebody hears how far it is.
+/// The same, reporting how far it is.
 pub fn audit_with<P: Progress>(
     alloc: Global,
     trail: &Trail,
@@ -39,12 +39,12 @@ pub fn audit_with<P: Progress>(
 ) -> Result<Order, AuditFault>
     ensures { IsVerdict trail.now result }
 {
-    // What is so of every trail: here a proof learns that.
-    let _opening = trail.opening();
+    // What holds for every trail.
+    let _fact = trail.opening();
     judge(alloc, trail, progress)
 }
 
-// Whether a trail is clean, without what follows of that.
+// Whether a trail is clean, without the consequences.
 fn judge<P: Progress>(alloc: Global, trail: &Trail, progress: &mut P) -> Result<Order, AuditFault>
     ensures clean { IfOk result (λ _. Clean trail.now) }
     ensures order { IfOk result (λ o. o.calls ≡ placed trail.now.parents trail.now.past) }
@@ -59,7 +59,7 @@ fn judge<P: Progress>(alloc: Global, trail: &Trail, progress: &mut P) -> Result<
     Ok(watch.into_order())
 }
 
-// Goes along all events, where nothing is wrong with one.
+// Checks all events, up to the first with a fault.
 fn see_all<P: Progress>(
     alloc: Global,
     watch: &mut Watch,
@@ -87,7 +87,7 @@ fn see_all<P: Progress>(
     Ok(())
 }
 
-// Whether each call is done, where the events are right: 715 at the least that isn't.
+// Whether each call is done, if the events are right: 715 at the least that isn't.
 fn check_done(watch: &Watch, trail: &Trail) -> Result<(), AuditFault>
     requires shows { Shows trail.now.parents trail.now.opening (length trail.now.calls) watch.now trail.now.past }
     requires right { AreRight trail.now.parents trail.now.opening trail.now.past }
@@ -102,7 +102,7 @@ fn check_done(watch: &Watch, trail: &Trail) -> Result<(), AuditFault>
     Ok(())
 }
 
-// Whether the end records are these: 716 at the first that isn't.
+// Whether the records in the end are these: 716 at the first that isn't.
 fn check_ends(trail: &Trail, records: &[Record]) -> Result<(), AuditFault>
     requires records { records.now ≡ records_now trail.now.past trail.now.opening }
     requires so { AreSo trail.now (length trail.now.calls) }

@@ -23,11 +23,11 @@ use tl_tree::Record;
 /// What is wrong with a chain of trails.
 #[derive(Clone, Copy, Debug, PartialEq, Eq, Error)]
 pub enum ChainFault {
-    /// 718 and the trail, from 1: it doesn't open with the tree that the one before it ends with, or its procedures don't begin
-    /// with all of that one's.
+    /// 718 and the trail, numbered from 0, and so at least 1: it doesn't open with the tree that the one before it ends with,
+    /// or its procedures don't begin with all procedures of that one.
     #[error("trail {epoch} doesn't take over where the one before it ends")]
     Broken { epoch: u32 },
-    /// 719, the trail, and the numbers of what is wrong with it.
+    /// 719, the trail, numbered from 0, and the numbers of its fault.
     #[error("trail {epoch}: {fault}")]
     InEpoch { epoch: u32, fault: AuditFault },
     /// 790: memory was refused.
@@ -36,7 +36,7 @@ pub enum ChainFault {
 }
 
 impl ChainFault {
-    /// The fault's number, then the trail's, and then the numbers of what is wrong with the trail.
+    /// The fault's number, then the trail's, then the numbers of the trail's fault.
     pub fn numbers(&self) -> ArrayVec<u64, 5>
         ensures { result.items ≡ chain_numbers_of self.now }
     {
@@ -67,9 +67,9 @@ impl From<AllocError> for ChainFault {
     }
 }
 
-/// Whether a chain of trails is clean: the order of each trail, or what is wrong first. By rising number it is 718 where a trail
-/// doesn't open with the tree that the one before it ends with, or its procedures don't begin with all of that one's; then 719
-/// with what is wrong with the trail. 790 where memory is refused.
+/// Whether a chain of trails is clean: the order of each trail, or the first fault. By rising trail number: 718 if a trail
+/// doesn't open with the tree that the one before it ends with, or its procedures don't begin with all procedures of that
+/// one; then 719 with the fault of the trail. 790 if memory is refused.
 pub fn audit_chain(alloc: Global, trails: &[Trail]) -> Result<Vec<Order>, ChainFault>
     requires some { 0 < length trails.now }
     requires few { length trails.now ≤ MAX_TRAILS }
@@ -82,7 +82,7 @@ pub fn audit_chain(alloc: Global, trails: &[Trail]) -> Result<Vec<Order>, ChainF
     audit_chain_with(alloc, trails, &mut Silent)
 }
 
-/// The same, where somebody hears how far it is, by the events of all trails.
+/// The same, reporting how far it is, counted in events of all trails.
 pub fn audit_chain_with<P: Progress>(
     alloc: Global,
     trails: &[Trail],
@@ -107,7 +107,8 @@ pub fn audit_chain_with<P: Progress>(
     Ok(orders)
 }
 
-/// How far the audit of a chain is: who hears of it, how many events the trails before have, and how many all.
+/// How far the audit of a chain is: where to report it, how many events the trails before this one have, and how many all
+/// have.
 #[derive(Drop)]
 struct Along<'p, P> {
     progress: &'p mut P,
@@ -136,7 +137,7 @@ impl<P: Progress> Progress for Along<'_, P> {
     }
 }
 
-// The order of the trail of that number, which has to take over from the one before it.
+// The order of the trail with that number, which must take over from the one before it.
 fn next_order<P: Progress>(
     alloc: Global,
     trails: &[Trail],
@@ -156,8 +157,8 @@ fn next_order<P: Progress>(
             epoch: number as u32,
         });
     }
-    // What is so of every trail: here a proof learns that.
-    let _opening = trail.opening();
+    // What holds for every trail.
+    let _fact = trail.opening();
     match audit_with(alloc, trail, along) {
         Ok(order) => {
             along.before = along.before.saturating_add(trail.history().len());
@@ -167,7 +168,7 @@ fn next_order<P: Progress>(
     }
 }
 
-// What is wrong with the trail of that number, as a fault of the chain.
+// The fault of the trail with that number, as a fault of the chain.
 fn in_epoch(epoch: u32, fault: AuditFault) -> ChainFault
     ensures memory { fault ≡ audit.Memory → result ≡ chain.Memory }
     ensures other { fault ≢ audit.Memory → result ≡ chain.InEpoch epoch fault }
@@ -178,7 +179,7 @@ fn in_epoch(epoch: u32, fault: AuditFault) -> ChainFault
     }
 }
 
-// Whether the trail of that number takes over from the one before it, if there is one.
+// Whether the trail with that number takes over from the one before it, if there is one.
 fn joins_on(trails: &[Trail], number: usize) -> bool
     requires { number < length trails.now }
     ensures { (t : TrailValue) → slice_get trails.now number ≡ Some t → IsTrue result ↔ TakesOverFrom (before_at trails.now number) t }
@@ -209,7 +210,7 @@ fn are_same(records: &[Record], others: &[Record]) -> bool
     records == others
 }
 
-// Whether the procedures begin with those.
+// Whether the procedures begin with those of `first`.
 fn begin_with(procedures: &Procedures, first: &Procedures) -> bool
     ensures { IsTrue result ↔ BeginsWith first.now procedures.now }
 {

@@ -12,14 +12,15 @@ use thiserror::Error;
 #[derive(Clone, Copy, Debug, PartialEq, Eq, Error)]
 pub enum AuditFault {
     /// 711 and the event, numbered from 0: an admission whose call isn't the number of admissions before it; an event of a
-    /// call before its admission or after its end; a lock that isn't the call's first while it doesn't hold the parent; a
-    /// second lock of a node by one call; a free of a node that its call doesn't hold; an end while the call holds a node.
+    /// call before its admission or after its end; a lock, other than the call's first, of a node whose parent it doesn't
+    /// hold; a second lock of a node by one call; a free of a node that its call doesn't hold; an end while the call holds
+    /// a node.
     #[error("event {event} breaks a rule")]
     RuleBroken { event: u32 },
     /// 712 and the event: a lock of a node that another call holds.
     #[error("event {event} locks a node that another call holds")]
     Overlap { event: u32 },
-    /// 713 and the event: the record found isn't the one last left there, or the opening record if none was.
+    /// 713 and the event: the record found isn't the last one left there, or, if none was left, the opening record.
     #[error("event {event} finds another record than was left")]
     WrongFound { event: u32 },
     /// 714 and the call: its locks and frees aren't those of the call run alone on the opening tree with the records that
@@ -29,7 +30,7 @@ pub enum AuditFault {
     /// 715 and the call: it has no end.
     #[error("call {call} isn't done")]
     Unfinished { call: u32 },
-    /// 716 and the node: its record in the end isn't the one last left, or the opening record if none was.
+    /// 716 and the node: its record in the end isn't the last one left, or, if none was left, the opening record.
     #[error("node {node} has another record in the end than was left")]
     WrongEnd { node: u16 },
     /// 717 and the call: its reply isn't that of the same run alone.
@@ -41,7 +42,7 @@ pub enum AuditFault {
 }
 
 impl AuditFault {
-    /// The fault's number, and then the event, the call or the node.
+    /// The fault's number, then the event, the call or the node.
     pub fn numbers(&self) -> ArrayVec<u64, 3>
         ensures { result.items ≡ audit_numbers_of self.now }
     {

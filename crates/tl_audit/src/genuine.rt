@@ -1,4 +1,4 @@
-// Each call against its run alone, along its own events.
+// Checks each call against its run alone, along its own events.
 
 ghost use Rattle.std.specs.Prelude.{◌≡◌, ◌≢◌, ◌↔◌, ◌<◌, List, ◌∷◌, ◌++◌, [], length, IsTrue, IfOk, IfSome, None, Some, true, false};
 ghost use Rattle.std.specs.Arc.{arc_value};
@@ -52,7 +52,8 @@ fn wait(turn: &mut Turn) -> Stop
     }
 }
 
-/// Goes on to the call's next lock or free. Whether it is a lock of the node, where it finds this record.
+/// Goes on to the call's next lock or free. Whether it is a lock of the node; if so, the lock is done and finds this
+/// record.
 pub(crate) fn locks(turn: &mut Turn, node: u16, found: Record) -> bool
     ensures parents { turn.new.parents ≡ turn.old.parents }
     ensures on { IsTrue result → (t : Records) (whole : Run) (so_far : List Action) → AreFit t (did.Lock node found ∷ so_far)
@@ -70,7 +71,7 @@ pub(crate) fn locks(turn: &mut Turn, node: u16, found: Record) -> bool
     true
 }
 
-/// Goes on to the call's next lock or free. Whether it is a free of the node, which leaves this record.
+/// Goes on to the call's next lock or free. Whether it is a free of the node that leaves this record.
 pub(crate) fn frees(turn: &mut Turn, node: u16, left: &Record) -> bool
     ensures parents { turn.new.parents ≡ turn.old.parents }
     ensures on { IsTrue result → (t : Records) (whole : Run) (so_far : List Action)
@@ -84,7 +85,7 @@ pub(crate) fn frees(turn: &mut Turn, node: u16, left: &Record) -> bool
     wanted == node && turn.free() == *left
 }
 
-/// Goes on to the call's end: its reply, or `None` where a lock or a free comes before.
+/// Goes on to the call's end: its reply, or `None` if a lock or a free comes first.
 pub(crate) fn ends(turn: &mut Turn) -> Option<Reply>
     ensures so { IfSome result (λ r. (t : Records) (whole : Run) (so_far : List Action) → IsOn t whole so_far turn.old
         → (so_far ≡ locks_and_frees (all_taken (actions whole))) × (r ≡ emits_of (actions whole))) }
@@ -97,7 +98,7 @@ pub(crate) fn ends(turn: &mut Turn) -> Option<Reply>
     }
 }
 
-/// Whether the trail records this reply of the call.
+/// Whether the trail records this reply for the call.
 pub(crate) fn replies(trail: &Trail, call: u32, reply: &Reply) -> bool
     requires { call < length trail.now.calls }
     ensures { IsTrue result ↔ ((call_at trail.now call).reply ≡ Some reply.now) }

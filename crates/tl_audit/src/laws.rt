@@ -1,4 +1,4 @@
-// What follows of a clean trail.
+// What follows from a clean trail.
 
 ghost use Rattle.std.specs.Prelude.{◌≡◌, ◌<◌, ◌≤◌, ℕ, length, map, Some};
 ghost use Rattle.tl_tree_locking.specs.Alone.{serial};
@@ -10,10 +10,10 @@ ghost use Rattle.tl_trail.specs.Clean.{Clean};
 ghost use Rattle.tl_audit.specs.Findings.{IsFirstFault};
 ghost use Rattle.tl_audit.specs.declared.fault.AuditFault.{AuditFault};
 
-/// What is so of every clean trail, whoever wrote it. Its history is legal over its opening tree: admissions in turn, locks
-/// apart, each finding the record left last, each call doing what its procedure does. What each call did obeys the tree
-/// protocol. Run alone, one after another along the order that its events give, the calls leave the records in the end and
-/// give the replies. A clean trail has no first fault.
+/// What holds for every clean trail, whoever wrote it. Its history is legal over its opening tree: admissions in turn,
+/// locks apart, each lock finding the record left last, each call doing what its procedure does. What each call did obeys
+/// the tree protocol. Run alone, one after another along the order that its events give, the calls leave the records in the
+/// end and give the replies. A clean trail has no first fault.
 pub fn clean_trails()
     ensures sound { (t : TrailValue) → IsTrail t → Clean t → IsSound (world_of t) }
     ensures legal { (t : TrailValue) → IsTrail t → Clean t → Legal (world_of t) }

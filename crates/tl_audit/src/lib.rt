@@ -1,7 +1,7 @@
 //! An auditor of trails.
 //!
-//! The auditor trusts nobody who wrote a trail. It stands on the machine and on the protocol, and not on the core: a fault
-//! of the core can't hide behind the same fault in what checks it.
+//! The auditor trusts nobody who wrote a trail. It builds on the machine and on the protocol, not on the core: a fault of
+//! the core can't hide behind the same fault in its checker.
 #![tactic(auto)]
 
 mod auditing;

@@ -1,12 +1,12 @@
-// How far an audit is.
+// The progress of an audit.
 
-/// Hears how far an audit is. What it does with that has no part in the answer.
+/// Receives reports of how far an audit is. What it does with them doesn't affect the result.
 pub trait Progress {
-    /// So many of all events were looked at, now and then from the first to the last.
+    /// Called now and then, from the first event to the last: `events` of `all` events have been checked.
     fn seen(&mut self, events: usize, all: usize);
 }
 
-/// Says nothing.
+/// Reports nothing.
 #[derive(Drop)]
 pub struct Silent;
 
@@ -14,5 +14,5 @@ impl Progress for Silent {
     fn seen(&mut self, _events: usize, _all: usize) {}
 }
 
-/// How many events are looked at between two words of it.
+/// How many events are checked between two reports.
 pub const EVENTS_BETWEEN: usize = 65_536;

@@ -1,4 +1,4 @@
-// The calls as they go on, each along its own events, and the least with which something is wrong.
+// The calls, each run along its own events, and the least call with a fault.
 
 ghost use Rattle.std.specs.Prelude.{◌≡◌, ◌<◌, List, [], ◌∷◌, length, IfOk, IfErr, OnOk};
 ghost use Rattle.tl_tree_locking.specs.declared.event.Event.{Event as EventValue};
@@ -17,7 +17,7 @@ use tl_trail::Trail;
 use tl_tree::Record;
 use tl_tree_locking::Event;
 
-/// In what a call differs from its run alone.
+/// How a call differs from its run alone.
 #[derive(Clone, Copy, Debug, PartialEq, Eq)]
 pub(crate) enum Difference {
     /// In its locks and frees.
@@ -34,7 +34,7 @@ pub(crate) struct WrongCall {
 }
 
 impl WrongCall {
-    // What is wrong with it.
+    // The fault of the call.
     fn fault(self) -> AuditFault
         ensures { result ≡ fault_of self.difference self.call }
     {
@@ -45,17 +45,17 @@ impl WrongCall {
     }
 }
 
-/// The calls as they go on, each along its own events.
+/// The calls, each run along its own events.
 #[derive(Drop)]
 pub(crate) struct Replays {
-    // Of each call that is open its turn, as long as it doesn't differ from its run alone.
+    // The turn of each open call, as long as the call doesn't differ from its run alone.
     turns: Vec<Option<Box<Turn>>>,
     // The least call that differs.
     least: Option<WrongCall>,
 }
 
 impl Replays {
-    /// No call goes on yet.
+    /// No call has started yet.
     pub(crate) fn new(alloc: Global, calls: usize) -> Result<Replays, AllocError>
         ensures { IfOk result (λ r. (trail : TrailValue) → IsTrail trail → length trail.calls ≡ calls → IsFollowed trail [] r) }
     {
@@ -66,7 +66,7 @@ impl Replays {
         Ok(Replays { turns, least: None })
     }
 
-    /// The event's call goes on along it.
+    /// Runs the event's call on along the event.
     pub(crate) fn follow(
         &mut self,
         alloc: Global,
@@ -161,7 +161,7 @@ impl Replays {
         }
     }
 
-    /// What is wrong with the least call that differs from its run alone, where all events are right and all calls are done.
+    /// The fault of the least call that differs from its run alone, if all events are right and all calls are done.
     pub(crate) fn check(&self, trail: &Trail) -> Result<(), AuditFault>
         requires followed { IsFollowed trail.now trail.now.past self.now }
         requires right { AreRight trail.now.parents trail.now.opening trail.now.past }

@@ -1,4 +1,4 @@
-// What the events so far came to.
+// The state after the events so far.
 
 ghost use Rattle.std.specs.Prelude.{◌≡◌, ◌↔◌, ℕ, ◌<◌, List, [], ◌∷◌, length, IsTrue, IfOk, IfErr, OnOk};
 ghost use Rattle.tl_tree.specs.Records.{Records};
@@ -17,17 +17,17 @@ use tl_serial_order::{CheckedOrder, Order};
 use tl_tree::{Record, Shape, Tree};
 use tl_tree_locking::Event;
 
-/// What the events so far came to.
+/// The state after the events so far.
 #[derive(Drop)]
 pub(crate) struct Watch {
-    // The order so far, and by what each event is checked.
+    // The order so far; each event is checked against it.
     order: CheckedOrder,
-    // Of each node its record now.
+    // The current record of each node.
     records: Vec<Record>,
 }
 
 impl Watch {
-    /// What no event came to.
+    /// The state before the first event.
     pub(crate) fn new(alloc: Global, calls: u32, opening: &Tree) -> Result<Watch, AllocError>
         ensures { IfOk result (λ w. Shows opening.now.parents opening.now.records calls w []) }
     {
@@ -40,7 +40,7 @@ impl Watch {
         })
     }
 
-    // Whether the event, where it is a lock, finds the record now.
+    // Whether the event, if it is a lock, finds the current record.
     fn finds_now(&self, event: &Event) -> bool
         requires { IsEventOf (length self.now.records.items) (calls_of self.now.order) event.now }
         ensures { (parents : List ℕ) (opening : Records) (calls : ℕ) (past : List EventValue)
@@ -52,7 +52,7 @@ impl Watch {
         }
     }
 
-    /// What is wrong with the event first, which has this number.
+    /// The first fault of the event, whose number is `number`.
     pub(crate) fn judge(&self, shape: &Shape, event: &Event, number: u32) -> Result<(), AuditFault>
         requires tree { IsTree shape.now }
         requires even { IsEven self.now (length shape.now) }
@@ -76,7 +76,7 @@ impl Watch {
         Ok(())
     }
 
-    /// The event happens, with which nothing is wrong.
+    /// Records the event, which has no fault.
     pub(crate) fn note(&mut self, shape: &Shape, event: &Event)
         requires tree { IsTree shape.now }
         requires next { IsNext shape.now self.old event.now }
@@ -99,7 +99,7 @@ impl Watch {
         self.order.is_done(call)
     }
 
-    /// The records now.
+    /// The current records.
     pub(crate) fn records(&self) -> &[Record]
         ensures { (parents : List ℕ) (opening : Records) (calls : ℕ) (past : List EventValue)
             → Shows parents opening calls self.now past → result.now ≡ records_now past opening }

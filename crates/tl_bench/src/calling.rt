@@ -28,8 +28,8 @@ fn ran(alloc: Global, code: &[u8], nodes: u16, args: &[i64], times: u32) -> Opti
     Some(measured)
 }
 
-/// The container's procedure, run alone so many times on a chain of so many nodes. The time is that of the runs, the count
-/// that of all steps, and the values that were emitted and the records in the end are mixed.
+/// The container's procedure, run alone `times` times on a chain of `nodes` nodes. The time is that of the runs, and the count is
+/// the number of all steps. The emitted values and the records at the end are mixed.
 #[unsafe(no_mangle)]
 pub extern "C" fn treedb_run(
     alloc: Global,
@@ -41,7 +41,7 @@ pub extern "C" fn treedb_run(
     Measured::or_refused(ran(alloc, code, nodes, args, times))
 }
 
-// Counts the segment's steps, and mixes where the call stands and what it has.
+// Counts the segment's steps, and mixes the position, the values and the emitted values of the call at its end.
 fn mix_segment(segment: &Segment, measured: &mut Measured) -> Option<()> {
     let state = segment.to();
     measured.add_count(u64::from(state.steps));
@@ -67,8 +67,8 @@ fn went_alone(alloc: Global, code: &[u8], args: &[i64], times: u32) -> Option<Me
     Some(measured)
 }
 
-/// A call of the container's procedure, which goes on by itself to its first lock or its return, so many times. The count is
-/// that of all steps, and where the call stands then is mixed.
+/// A call of the container's procedure that goes on by itself to its first lock or its return, `times` times. The count is the
+/// number of all steps, and the state that the call reaches is mixed.
 #[unsafe(no_mangle)]
 pub extern "C" fn treedb_local(alloc: Global, code: &[u8], args: &[i64], times: u32) -> Measured {
     Measured::or_refused(went_alone(alloc, code, args, times))
@@ -99,8 +99,8 @@ fn checked(alloc: Global, bytes: &[u8], times: u32) -> Option<Measured> {
     Some(measured)
 }
 
-/// The container's code, verified so many times. The time is that of `verify`, the count says how often it was accepted, and
-/// the bounds or the fault's numbers are mixed.
+/// The container's code, verified `times` times. The time is that of `verify`, and the count says how often the code was accepted.
+/// The bounds or the fault's numbers are mixed.
 #[unsafe(no_mangle)]
 pub extern "C" fn treedb_check(alloc: Global, code: &[u8], times: u32) -> Measured {
     Measured::or_refused(checked(alloc, code, times))
@@ -118,7 +118,7 @@ fn decoded(alloc: Global, bytes: &[u8], times: u32) -> Option<Measured> {
     Some(measured)
 }
 
-/// The container, decoded so many times. The count is that of all instructions, and the code's text is mixed.
+/// The container, decoded `times` times. The count is the number of all instructions, and the code's text is mixed.
 #[unsafe(no_mangle)]
 pub extern "C" fn treedb_decode(alloc: Global, code: &[u8], times: u32) -> Measured {
     Measured::or_refused(decoded(alloc, code, times))
@@ -137,7 +137,7 @@ fn assembled(alloc: Global, text: &[u8], times: u32) -> Option<Measured> {
     Some(measured)
 }
 
-/// The procedure's text, assembled so many times. The count is that of all instructions, and the code's text is mixed.
+/// The procedure's text, assembled `times` times. The count is the number of all instructions, and the code's text is mixed.
 #[unsafe(no_mangle)]
 pub extern "C" fn treedb_assemble(alloc: Global, text: &[u8], times: u32) -> Measured {
     Measured::or_refused(assembled(alloc, text, times))

@@ -2,7 +2,7 @@
 
 use libc::types::timespec;
 
-/// The nanoseconds of a clock that never goes back, from some moment on.
+/// The nanoseconds since some fixed moment, by a clock that never goes back.
 pub fn now() -> u64 {
     let mut time = timespec {
         tv_sec: 0,

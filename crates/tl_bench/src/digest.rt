@@ -1,4 +1,4 @@
-// Numbers that depend on all that came of some work.
+// Numbers that depend on all results of a piece of work.
 
 use crate::measured::Measured;
 use std::alloc::Global;
@@ -23,7 +23,7 @@ pub fn mix_records(records: &[Record], measured: &mut Measured) {
     }
 }
 
-// Mixes what an event is, its call, and the node and the record where it has them.
+// Mixes the kind and the call of an event, and its node and record if it has them.
 fn mix_event(event: &Event, measured: &mut Measured) {
     let (kind, call, touched) = match event {
         Event::Admit { call } => (0, *call, None),
@@ -91,7 +91,7 @@ fn mix_calls(trail: &Trail, measured: &mut Measured) {
     }
 }
 
-/// Mixes all that a trail has.
+/// Mixes all parts of a trail.
 pub fn mix_trail(alloc: Global, trail: &Trail, measured: &mut Measured) -> Option<()> {
     let shape = trail.opening().shape();
     for node in 0..shape.node_count() {

@@ -15,7 +15,7 @@ use tl_trail::write_trail;
 // How many calls are open at a time.
 const OPEN: usize = 64;
 
-// What the procedure is called. The trail names it.
+// The procedure's name, which is part of the trail.
 const NAME: &str = "call";
 
 // A call that may still have a step.
@@ -25,7 +25,7 @@ struct Open {
     is_over: bool,
 }
 
-// Who admits calls and steps them.
+// Admits calls and steps them.
 trait Steps {
     fn admit_call(&mut self, alloc: Global, arg: i64) -> Option<u32>;
 
@@ -54,7 +54,7 @@ impl Steps for Running {
     }
 }
 
-// The calls that are not over are asked for a step each, in rising order. Answers how many were asked.
+// Asks each call that isn't over for a step, in rising order. Returns how many were asked.
 fn step_round<S: Steps>(stepper: &mut S, open: &mut [Open]) -> Option<u64> {
     let mut asked = 0u64;
     for one in open.iter_mut() {
@@ -67,7 +67,7 @@ fn step_round<S: Steps>(stepper: &mut S, open: &mut [Open]) -> Option<u64> {
     Some(asked)
 }
 
-// Rounds until all calls are over. Answers how many steps were asked.
+// Runs rounds until all calls are over. Returns how many steps were asked for.
 fn step_all<S: Steps>(stepper: &mut S, open: &mut [Open]) -> Option<u64> {
     let mut all = 0u64;
     for _round in 0..u64::MAX {
@@ -80,7 +80,7 @@ fn step_all<S: Steps>(stepper: &mut S, open: &mut [Open]) -> Option<u64> {
     None
 }
 
-// How long admissions took, and steps.
+// How long the admissions and the steps took.
 #[derive(Clone, Copy, Drop)]
 struct Took {
     admitting: u64,
@@ -105,7 +105,7 @@ fn admit_group<S: Steps>(
     Some(())
 }
 
-// Calls of the procedure, one for each argument, so many at a time.
+// Calls of the procedure, one for each argument, `OPEN` at a time.
 fn run_groups<S: Steps>(
     alloc: Global,
     stepper: &mut S,
@@ -142,7 +142,7 @@ fn core_of(alloc: Global, code: &[u8], parents: &[u16]) -> Option<Core> {
     Some(core)
 }
 
-// What took so long, so much of it, and all that came of the core.
+// The measured time and count, and a number that depends on all results of the core.
 fn measured_of(nanos: u64, count: usize, core: &Core) -> Measured {
     let mut measured = Measured::none();
     measured.nanos = nanos;
@@ -164,9 +164,9 @@ fn interleaved(
     Some(measured_of(took.stepping, core.history().len(), &core))
 }
 
-/// Calls of the container's procedure, one for each argument, on the tree of these parents, 64 at a time in turn. Of each 64
-/// calls the time and the number of their steps are told. The count is that of the events, and these, the replies and the records
-/// in the end are mixed.
+/// Calls of the container's procedure, one for each argument, on the tree with these parents, 64 at a time in turn. For each group
+/// of 64 calls, `nanos` gets the time of its steps and `steps` their number. The count is the number of events. The events, the
+/// replies and the records at the end are mixed.
 #[unsafe(no_mangle)]
 pub extern "C" fn treedb_interleave(
     alloc: Global,
@@ -185,7 +185,7 @@ fn admitted(alloc: Global, code: &[u8], parents: &[u16], args: &[i64]) -> Option
     Some(measured_of(took.admitting, core.calls(), &core))
 }
 
-/// The same calls: the time is that of the admissions, and the count that of the calls.
+/// The same calls. The time is that of the admissions, and the count is the number of calls.
 #[unsafe(no_mangle)]
 pub extern "C" fn treedb_admit(
     alloc: Global,
@@ -196,7 +196,7 @@ pub extern "C" fn treedb_admit(
     Measured::or_refused(admitted(alloc, code, parents, args))
 }
 
-// A core whose order is kept up to date, with these calls.
+// A core that keeps its order up to date, after these calls.
 fn running_of(
     alloc: Global,
     code: &[u8],
@@ -218,7 +218,7 @@ fn kept(alloc: Global, code: &[u8], parents: &[u16], args: &[i64]) -> Option<Mea
     Some(measured)
 }
 
-/// The same calls, where the order is kept up to date. The count is that of the events, and the order's calls are mixed too.
+/// The same calls, with the order kept up to date. The count is the number of events, and the calls of the order are mixed too.
 #[unsafe(no_mangle)]
 pub extern "C" fn treedb_keep(
     alloc: Global,
@@ -244,8 +244,8 @@ fn replayed(alloc: Global, code: &[u8], parents: &[u16], args: &[i64]) -> Option
     Some(measured)
 }
 
-/// The same calls, and then again alone along their order: the time is that of these. The count is that of the calls, and the replies
-/// and the records in the end are mixed.
+/// The same calls, which then run again alone along their order. The time is that of the second run. The count is the number of
+/// calls, and the replies and the records at the end are mixed.
 #[unsafe(no_mangle)]
 pub extern "C" fn treedb_replay(
     alloc: Global,
@@ -269,8 +269,8 @@ fn sealed(alloc: Global, code: &[u8], parents: &[u16], args: &[i64]) -> Option<M
     Some(measured)
 }
 
-/// The same calls, and then what a table does at a seal: the time is that of the seal, of which there is one. What came of the calls
-/// and of the core that takes over is mixed.
+/// The same calls, and then what a table does at a seal. The time is that of the seal, and the count is 1. The results of the calls
+/// and of the core that takes over are mixed.
 #[unsafe(no_mangle)]
 pub extern "C" fn treedb_seal(
     alloc: Global,
@@ -299,8 +299,8 @@ fn blocked(alloc: Global, code: &[u8], times: u32) -> Option<Measured> {
     Some(measured)
 }
 
-/// Two calls of the container's procedure, whose first instruction locks a node: the second is asked for it so many times while the
-/// first holds it. Who is in the way is mixed.
+/// Two calls of the container's procedure, whose first instruction locks a node. The second call is asked for its lock `times`
+/// times while the first one holds the node. The node and its holder are mixed.
 #[unsafe(no_mangle)]
 pub extern "C" fn treedb_block(alloc: Global, code: &[u8], times: u32) -> Measured {
     Measured::or_refused(blocked(alloc, code, times))
@@ -324,8 +324,8 @@ fn told(
     Some(measured)
 }
 
-/// The same calls, and then the text of their trail at the head of `text`. The count is that of its bytes; a text that is longer
-/// than there is room for is refused.
+/// The same calls, and then the text of their trail, which is written at the head of `text`. The count is the number of its bytes.
+/// The work is refused if the text is longer than `text`.
 #[unsafe(no_mangle)]
 pub extern "C" fn treedb_tell(
     alloc: Global,

@@ -1,7 +1,7 @@
 //! The work that the benchmark measures, as C functions over numbers and slices.
 //!
-//! A harness that isn't Rattle calls them beside the same work of a twin (`bench/README.md`). What they answer is compared
-//! with the twin's there. Their contracts promise no more than that each call is safe and ends.
+//! A harness that isn't Rattle calls them next to a twin's version of the same work, and compares their results with the twin's
+//! (`bench/README.md`). Their contracts promise only that each call is safe and ends.
 #![tactic(auto)]
 
 pub mod calling;

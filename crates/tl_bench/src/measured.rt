@@ -1,11 +1,11 @@
-// What a piece of work took and came to.
+// The time, the amount and the digest of a piece of work.
 
 ghost use Rattle.std.specs.Prelude.{◌≡◌};
 
 use crate::clock::now;
 
-/// What a piece of work took, how much it was, and a number that depends on all that came of it. A count of `u64::MAX`
-/// says that the work was refused.
+/// How long a piece of work took, how much it was, and a number that depends on all its results. A count of `u64::MAX` says that
+/// the work was refused.
 #[repr(C)]
 #[derive(Clone, Copy, Debug, Drop)]
 pub struct Measured {
@@ -25,7 +25,7 @@ impl Measured {
         }
     }
 
-    /// What was measured, or that the work was refused.
+    /// The measurement, or the one that says that the work was refused.
     pub fn or_refused(measured: Option<Measured>) -> Measured {
         match measured {
             Some(measured) => measured,
@@ -37,22 +37,22 @@ impl Measured {
         }
     }
 
-    /// Adds what has passed since that moment.
+    /// Adds the time since `begin`.
     pub fn add_since(&mut self, begin: u64) {
         self.nanos = self.nanos.wrapping_add(now().wrapping_sub(begin));
     }
 
-    /// Adds to how much it was.
+    /// Adds to the amount of work.
     pub fn add_count(&mut self, count: u64) {
         self.count = self.count.wrapping_add(count);
     }
 
-    /// Adds to what came of it.
+    /// Mixes a number into the digest of the results.
     pub fn mix(&mut self, number: u64) {
         self.sum = self.sum.rotate_left(5).wrapping_mul(0x9E37_79B9_7F4A_7C15) ^ number;
     }
 
-    /// Adds how many numbers there are, and each.
+    /// Mixes the length of the slice, and then each number.
     pub fn mix_all(&mut self, numbers: &[i64]) {
         self.mix(numbers.len() as u64);
         for number in numbers {
@@ -60,7 +60,7 @@ impl Measured {
         }
     }
 
-    /// Adds each byte.
+    /// Mixes each byte.
     pub fn mix_bytes(&mut self, bytes: &[u8]) {
         for byte in bytes {
             self.mix(u64::from(*byte));

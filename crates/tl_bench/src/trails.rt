@@ -26,7 +26,7 @@ fn was_read(alloc: Global, text: &[u8], times: u32) -> Option<Measured> {
     Some(measured)
 }
 
-/// The trail of the text, read so many times. The count is that of the events, and all that the trail has is mixed.
+/// The trail in the text, read `times` times. The count is the number of events, and all parts of the trail are mixed.
 #[unsafe(no_mangle)]
 pub extern "C" fn treedb_read(alloc: Global, text: &[u8], times: u32) -> Measured {
     Measured::or_refused(was_read(alloc, text, times))
@@ -37,7 +37,7 @@ fn value_in(alloc: Global, text: &[u8]) -> Option<Value> {
     Value::from_str(alloc, text).ok()
 }
 
-// Mixes the bytes of a text that was written.
+// Counts and mixes the bytes of a text that was written.
 fn mix_text(text: &str, measured: &mut Measured) {
     measured.count = text.len() as u64;
     measured.mix_bytes(text.as_bytes());
@@ -57,8 +57,8 @@ fn was_parsed(alloc: Global, text: &[u8], times: u32) -> Option<Measured> {
     Some(measured)
 }
 
-/// The text as a JSON value alone, read and let go so many times. The count is that of the bytes that the value is written with,
-/// which are mixed.
+/// The text, read as a plain JSON value and dropped `times` times. The count is the number of bytes of the value as it is written,
+/// and these bytes are mixed.
 #[unsafe(no_mangle)]
 pub extern "C" fn treedb_parse(alloc: Global, text: &[u8], times: u32) -> Measured {
     Measured::or_refused(was_parsed(alloc, text, times))
@@ -76,7 +76,7 @@ fn was_printed(alloc: Global, text: &[u8], times: u32) -> Option<Measured> {
     Some(measured)
 }
 
-/// The text's JSON value, written so many times. The count is that of the bytes, which are mixed.
+/// The text's JSON value, written `times` times. The count is the number of bytes, which are mixed.
 #[unsafe(no_mangle)]
 pub extern "C" fn treedb_print(alloc: Global, text: &[u8], times: u32) -> Measured {
     Measured::or_refused(was_printed(alloc, text, times))
@@ -94,7 +94,7 @@ fn was_written(alloc: Global, text: &[u8], times: u32) -> Option<Measured> {
     Some(measured)
 }
 
-/// The trail of the text, written so many times. The count is that of the bytes, which are mixed.
+/// The trail in the text, written `times` times. The count is the number of bytes, which are mixed.
 #[unsafe(no_mangle)]
 pub extern "C" fn treedb_write(alloc: Global, text: &[u8], times: u32) -> Measured {
     Measured::or_refused(was_written(alloc, text, times))
@@ -113,13 +113,13 @@ fn was_ordered(alloc: Global, text: &[u8], times: u32) -> Option<Measured> {
     Some(measured)
 }
 
-/// The order of the trail of the text, found so many times. The count is that of the calls in it, which are mixed.
+/// The order of the trail in the text, found `times` times. The count is the number of calls in it, which are mixed.
 #[unsafe(no_mangle)]
 pub extern "C" fn treedb_order(alloc: Global, text: &[u8], times: u32) -> Measured {
     Measured::or_refused(was_ordered(alloc, text, times))
 }
 
-// What came of an audit.
+// Mixes the result of an audit.
 fn mix_verdict(audited: &Result<Order, AuditFault>, measured: &mut Measured) {
     match audited {
         Ok(order) => mix_order(order, measured),
@@ -144,8 +144,8 @@ fn was_audited(alloc: Global, text: &[u8], times: u32) -> Option<Measured> {
     Some(measured)
 }
 
-/// The trail of the text, audited so many times. The count is that of the events, and the order's calls are mixed,
-/// or the numbers of what is wrong first.
+/// The trail in the text, audited `times` times. The count is the number of events. The calls of the order are mixed, or the
+/// numbers of the first fault.
 #[unsafe(no_mangle)]
 pub extern "C" fn treedb_audit(alloc: Global, text: &[u8], times: u32) -> Measured {
     Measured::or_refused(was_audited(alloc, text, times))

@@ -6,22 +6,13 @@ use tl_instr::decode;
 use tl_tree::{Record, Shape, Tree};
 use tl_verify::{Proc, verify};
 
-// The record of a node in the beginning: one to eight times its number.
+// The opening record of a node: one to eight times the node's number.
 fn record_of(node: u16) -> Record {
-    let number = i64::from(node);
-    [
-        number,
-        2 * number,
-        3 * number,
-        4 * number,
-        5 * number,
-        6 * number,
-        7 * number,
-        8 * number,
-    ]
+    let n = i64::from(node);
+    [n, 2 * n, 3 * n, 4 * n, 5 * n, 6 * n, 7 * n, 8 * n]
 }
 
-/// The parents of a chain of so many nodes.
+/// The parents of a chain of `nodes` nodes.
 pub fn chain(alloc: Global, nodes: u16) -> Option<Vec<u16>> {
     let mut parents = Vec::with_capacity(alloc, usize::from(nodes)).ok()?;
     for node in 0..nodes {
@@ -30,7 +21,7 @@ pub fn chain(alloc: Global, nodes: u16) -> Option<Vec<u16>> {
     Some(parents)
 }
 
-/// The tree of these parents, where they are a tree's.
+/// The tree with these parents, if they form a tree.
 pub fn tree_of(alloc: Global, parents: &[u16]) -> Option<Tree> {
     let mut numbers = Vec::with_capacity(alloc, parents.len()).ok()?;
     for parent in parents {
@@ -45,7 +36,7 @@ pub fn tree_of(alloc: Global, parents: &[u16]) -> Option<Tree> {
     Tree::new(Arc::new(alloc, shape).ok()?, records).ok()
 }
 
-/// The procedure of a container, where it is accepted.
+/// The procedure of a container, if the verifier accepts it.
 pub fn procedure_of(alloc: Global, code: &[u8]) -> Option<Proc> {
     let code = decode(alloc, code).ok()?;
     verify(alloc, code).ok()

@@ -5,7 +5,7 @@
 pub struct Asked<'w> {
     /// The path of the procedure's container.
     pub container: &'w str,
-    /// How many threads run a batch; 0 where a core is driven with no engine.
+    /// How many threads run a batch; 0 to drive a core without an engine.
     pub workers: usize,
     /// How many nodes the tree has.
     pub nodes: u16,
@@ -16,7 +16,7 @@ pub struct Asked<'w> {
 }
 
 impl Asked<'_> {
-    /// The words in their order; None where one is missing or not a number.
+    /// The arguments in their order; None if one is missing or isn't a number.
     pub fn new(words: &[String]) -> Option<Asked<'_>> {
         let [container, workers, nodes, chain, engines] = words else {
             return None;

@@ -11,7 +11,7 @@ use std::time::Instant;
 use tl_history::MAX_CALLS;
 use tl_workers::{Engine, MAX_REQUESTS, MAX_WORKERS, NoGate, Request, Session};
 
-// The requests of the calls from that one on.
+// The requests of the calls from number `first` on.
 fn requests(alloc: Global, first: usize, asked: &Asked) -> Option<Vec<Request>> {
     let mut requests = Vec::with_capacity(alloc, MAX_REQUESTS).ok()?;
     for place in 0..MAX_REQUESTS {
@@ -23,7 +23,7 @@ fn requests(alloc: Global, first: usize, asked: &Asked) -> Option<Vec<Request>> 
     Some(requests)
 }
 
-// Runs a batch, and answers how long it took. None where a call was refused.
+// Runs a batch. Returns how long it took, or None if a call was refused.
 fn run_batch<R: Threads + Wait + Clock + Sync>(
     rt: &R,
     alloc: Global,
@@ -47,7 +47,7 @@ fn run_batch<R: Threads + Wait + Clock + Sync>(
     u64::try_from(passed.as_nanos()).ok()
 }
 
-// Runs 4,096 calls of the engine in batches, and answers how long these took.
+// Runs 4,096 calls of the engine in batches, and returns how long these took.
 fn run_batches<R: Threads + Wait + Clock + Sync>(
     rt: &R,
     alloc: Global,
@@ -64,7 +64,7 @@ fn run_batches<R: Threads + Wait + Clock + Sync>(
     Some(nanos)
 }
 
-// An engine of the tree, whose one procedure is the container's.
+// An engine on the tree, with the container's procedure alone.
 fn engine(rt: &impl Wait, alloc: Global, container: &[u8], asked: &Asked) -> Option<Engine> {
     let tree = chains(alloc, asked.nodes, asked.chain)?;
     let engine = Engine::new(alloc, tree).ok()?;
@@ -74,7 +74,7 @@ fn engine(rt: &impl Wait, alloc: Global, container: &[u8], asked: &Asked) -> Opt
     Some(engine)
 }
 
-// Closes the engine, and adds what its calls took and left.
+// Closes the engine, and adds the time and the results of its calls.
 fn close(
     alloc: Global,
     engine: Engine,
@@ -91,7 +91,7 @@ fn close(
     Some(())
 }
 
-/// What the batches of so many engines took. None where memory or a call was refused.
+/// The measurements of the batches of all engines. None if memory or a call was refused.
 pub fn measure<R: Threads + Wait + Clock + Sync>(
     rt: &R,
     alloc: Global,

@@ -1,10 +1,10 @@
-//! Times batches of calls that engines run on threads. `bench/run` starts it in turn with the same work of a twin.
+//! Times batches of calls that engines run on threads. `bench/run` starts it in turn with a twin's version of the same work.
 //!
-//! `tl_bench_threads CONTAINER WORKERS NODES CHAIN ENGINES` makes so many engines, one after another, each of a tree of so many nodes
-//! in chains of that length below the root. Each runs 4,096 calls of the container's procedure in batches on so many workers. What
-//! each call is given is the first node of a chain, the chains in turn. It prints how many nanoseconds the batches took, how many
-//! calls were done, and a number that depends on all that came of them. With 0 workers there is no engine: a core with its order is
-//! driven by this thread, one call after another. With no words it prints how it is called.
+//! `tl_bench_threads CONTAINER WORKERS NODES CHAIN ENGINES` makes ENGINES engines, one after another, each on a tree of NODES nodes
+//! in chains of CHAIN nodes below the root. Each engine runs 4,096 calls of the container's procedure in batches on WORKERS
+//! workers. Each call's argument is the first node of a chain; the chains take turns. It prints how many nanoseconds the batches
+//! took, how many calls were done, and a number that depends on all results. With 0 workers there is no engine: this thread drives
+//! a core with its order, one call after another. Without arguments it prints its usage.
 #![tactic(auto)]
 
 mod asked;
@@ -19,7 +19,7 @@ use std::process::ExitCode;
 
 const USAGE: &str = "usage: tl_bench_threads CONTAINER WORKERS NODES CHAIN ENGINES";
 
-// The words of the command line behind the program's name.
+// The command line's arguments, after the program's name.
 fn words(rt: &HostRuntime) -> Option<Vec<String>> {
     std::env::args(rt).ok()?.skip(1).collect(rt.alloc()).ok()
 }

@@ -1,9 +1,9 @@
-// What is measured.
+// Measurements.
 
 use tl_core::Core;
 
-/// What the calls took, how many were done, and a number that depends on the records, the replies and how many events
-/// there were.
+/// How long the calls took, how many were done, and a number that depends on the records, the replies and how many events there
+/// were.
 #[derive(Clone, Copy, Debug, Drop)]
 pub struct Measured {
     pub nanos: u64,
@@ -21,7 +21,7 @@ impl Measured {
         }
     }
 
-    /// Adds how long the calls of a core took, and mixes all that came of them.
+    /// Adds the time of a core's calls, and mixes all their results.
     pub fn add(&mut self, nanos: u64, core: &Core) {
         self.nanos = self.nanos.saturating_add(nanos);
         self.calls = self.calls.saturating_add(core.calls() as u64);
@@ -32,7 +32,7 @@ impl Measured {
         self.sum = self.sum.rotate_left(5).wrapping_mul(0x9E37_79B9_7F4A_7C15) ^ number;
     }
 
-    // All that came of the core. Which of two calls on one node comes first is chance, so the replies are added up.
+    // Mixes all results of the core. Which of two calls on one node comes first is chance, so the replies are added up.
     fn mix_core(&mut self, core: &Core) {
         for record in core.tree().records() {
             for field in record {

@@ -1,4 +1,4 @@
-// Calls one after another on this thread, with no engine.
+// Calls that this thread runs one after another, without an engine.
 
 use crate::asked::Asked;
 use crate::measured::Measured;
@@ -14,7 +14,7 @@ use tl_tree_locking::Action;
 // The name of the procedure.
 const NAME: &str = "call";
 
-// A core of the tree whose order is kept up to date, with the container's procedure.
+// A core on the tree, with the container's procedure, that keeps its order up to date.
 fn running(alloc: Global, container: &[u8], asked: &Asked) -> Option<Running> {
     let core = Core::new(alloc, chains(alloc, asked.nodes, asked.chain)?).ok()?;
     let mut running = Running::new(alloc, core).ok()?;
@@ -24,7 +24,7 @@ fn running(alloc: Global, container: &[u8], asked: &Asked) -> Option<Running> {
     Some(running)
 }
 
-// What each call is given.
+// The arguments of the calls.
 fn args(alloc: Global, asked: &Asked) -> Option<Vec<i64>> {
     let mut args = Vec::with_capacity(alloc, MAX_CALLS).ok()?;
     for call in 0..MAX_CALLS {
@@ -33,7 +33,7 @@ fn args(alloc: Global, asked: &Asked) -> Option<Vec<i64>> {
     Some(args)
 }
 
-// Runs a call to its end. None where it was refused.
+// Runs a call to its end. None if it was refused.
 fn run_call(alloc: Global, running: &mut Running, arg: i64) -> Option<()> {
     let call = running.admit(alloc, NAME, &[arg]).ok()?;
     for _part in 0..u64::MAX {
@@ -48,7 +48,7 @@ fn run_call(alloc: Global, running: &mut Running, arg: i64) -> Option<()> {
     None
 }
 
-// Runs the calls, and answers how long that took.
+// Runs the calls, and returns how long that took.
 fn run_calls(rt: &impl Clock, alloc: Global, running: &mut Running, args: &[i64]) -> Option<u64> {
     let begin = Instant::now(rt).ok()?;
     for arg in args {
@@ -58,7 +58,7 @@ fn run_calls(rt: &impl Clock, alloc: Global, running: &mut Running, args: &[i64]
     u64::try_from(passed.as_nanos()).ok()
 }
 
-/// What the calls of so many cores took. None where memory or a call was refused.
+/// The measurements of the calls of all cores. None if memory or a call was refused.
 pub fn measure(
     rt: &impl Clock,
     alloc: Global,

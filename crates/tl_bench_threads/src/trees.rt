@@ -7,22 +7,13 @@ use tl_instr::decode;
 use tl_tree::{Record, Shape, Tree};
 use tl_verify::{Proc, verify};
 
-// The record of a node in the beginning: one to eight times its number.
+// The opening record of a node: one to eight times the node's number.
 fn record_of(node: u16) -> Record {
-    let number = i64::from(node);
-    [
-        number,
-        2 * number,
-        3 * number,
-        4 * number,
-        5 * number,
-        6 * number,
-        7 * number,
-        8 * number,
-    ]
+    let n = i64::from(node);
+    [n, 2 * n, 3 * n, 4 * n, 5 * n, 6 * n, 7 * n, 8 * n]
 }
 
-// The parent of a node in chains of that length below the root.
+// The parent of a node in chains of `chain` nodes below the root.
 fn parent_of(node: u16, chain: u16) -> i64 {
     if node == 0 || chain == 0 || (node - 1) % chain == 0 {
         return 0;
@@ -30,7 +21,7 @@ fn parent_of(node: u16, chain: u16) -> i64 {
     i64::from(node - 1)
 }
 
-/// A tree of so many nodes in chains of that length below the root.
+/// A tree of `nodes` nodes in chains of `chain` nodes below the root.
 pub fn chains(alloc: Global, nodes: u16, chain: u16) -> Option<Tree> {
     let mut parents = Vec::with_capacity(alloc, usize::from(nodes)).ok()?;
     for node in 0..nodes {
@@ -45,7 +36,7 @@ pub fn chains(alloc: Global, nodes: u16, chain: u16) -> Option<Tree> {
     Tree::new(Arc::new(alloc, shape).ok()?, records).ok()
 }
 
-/// The first node of the chain whose turn it is.
+/// The first node of the chain for call `call`: the chains take turns.
 pub fn head(call: usize, asked: &Asked) -> Option<i64> {
     let count = asked.nodes.checked_div(asked.chain)?;
     let chain = call.checked_rem(usize::from(count))?;
@@ -53,7 +44,7 @@ pub fn head(call: usize, asked: &Asked) -> Option<i64> {
     i64::try_from(node).ok()
 }
 
-/// The procedure of a container, where it is accepted.
+/// The procedure of a container, if the verifier accepts it.
 pub fn procedure_of(alloc: Global, container: &[u8]) -> Option<Proc> {
     verify(alloc, decode(alloc, container).ok()?).ok()
 }

@@ -17,10 +17,10 @@ pub enum NestFault {
     /// 302: an end without an open loop.
     #[error("instruction {0}: an end without a loop")]
     EndAlone(u16),
-    /// 303: a loop opens with four others open.
+    /// 303: a loop opens inside four others.
     #[error("instruction {0}: more than four loops in one another")]
     TooDeep(u16),
-    /// 304: a loop that turns no time.
+    /// 304: a loop of no turns.
     #[error("instruction {0}: a loop of no turns")]
     ZeroCount(u16),
     /// 305: the code may do more than 1,000,000 instructions.
@@ -46,7 +46,7 @@ impl<T: Drop> From<AllocFailed<T>> for NestFault {
 }
 
 impl NestFault {
-    /// The fault's number, then its parts.
+    /// The fault's number, then its position if it has one.
     pub fn numbers(&self) -> ArrayVec<u64, 3>
         ensures { result.items ≡ numbers_of self.now }
     {

@@ -1,4 +1,4 @@
-// The theory of loops, and of what may be wrong with them: what is so of every code.
+// The theory of loops and their faults: what holds for every code.
 
 ghost use Rattle.std.specs.Prelude.{◌≡◌, ◌⊎◌, ◌↔◌, ◌<◌, ℕ, List, Some};
 ghost use Rattle.std.specs.List.{Contains};
@@ -9,16 +9,16 @@ ghost use Rattle.tl_budget.specs.Findings.{IsFirstFault};
 ghost use Rattle.tl_budget.specs.Loops.{Loop, Closes, kind_at, loop_at, around, IsAround, weight};
 ghost use Rattle.tl_budget.specs.Nested.{IsNested};
 
-/// Of each code either the loops nest, or it has one first fault.
+/// For each code, either its loops nest or it has exactly one first fault.
 pub fn first_faults()
     ensures some { (code : List Instr') → IsNested code ⊎ ((f : NestFault') × IsFirstFault code f) }
     ensures none { (code : List Instr') (f : NestFault') → IsNested code → IsFirstFault code f → ⊥ }
     ensures one { (code : List Instr') (f g : NestFault') → IsFirstFault code f → IsFirstFault code g → f ≡ g }
 {}
 
-/// The ways in which the definitions speak of loops agree. The loop that opens at a position ends at an `end` further on. The
-/// loops that are listed as around a position are those that open before it and end no earlier. Of two loops one is in the
-/// other, or they are apart. And a weight is the product of the counts, whether from the inside or from the outside.
+/// The definitions of loops agree with each other. The loop that opens at a position ends at a later `end`. The loops
+/// listed around a position are those that open before it and don't end before it. Of any two loops, either one is inside
+/// the other or they are disjoint. A weight is the same product of turn counts, taken from the inside or from the outside.
 pub fn loops()
     ensures close { (code : List Instr') (o : ℕ) (l : Loop) → loop_at code o ≡ Some l → (l.opening ≡ o) × (o < l.close) × (kind_at code l.close ≡ Some Closes) }
     ensures listed { (code : List Instr') (p : ℕ) (l : Loop) → Contains (around code p) l ↔ IsAround code l.opening l p }

@@ -1,6 +1,6 @@
 // What a procedure may cost.
 
-/// How deep loops may stand in one another.
+/// The most loops that may nest in one another.
 pub const MAX_DEPTH: usize = 4;
 
 /// The most instructions that a call does.
@@ -12,7 +12,7 @@ pub const MAX_LOCKS: u16 = 4_096;
 /// The most values that a call emits.
 pub const MAX_EMITS: usize = 32;
 
-/// What a call does at most, whatever its arguments and the tree.
+/// The most that a call does, whatever its arguments and the tree.
 #[derive(Clone, Copy, Debug, PartialEq, Eq)]
 pub struct Bounds {
     /// How many instructions, up to 1,000,000.

@@ -5,9 +5,9 @@ ghost use Rattle.tl_budget.specs.Nested.{place_at};
 
 use std::marker::Model;
 
-/// What is kept of a position: how many loops have it in their body, and where the innermost of them opens. Of a position
-/// that opens a loop also where its end stands. What isn't there is 0. It has eight bytes: by how many a processor multiplies an index
-/// as it reads.
+/// What is kept for a position: how many loops have it in their body, and where the innermost of them opens. For a position
+/// that opens a loop, also where its end is. A missing entry is 0. A place takes eight bytes, a factor by which a processor
+/// scales an index as it reads.
 #[derive(Clone, Copy, Debug, PartialEq, Eq)]
 pub struct Place {
     pub depth: u32,
@@ -41,7 +41,7 @@ impl Nest {
         self.places[usize::from(position)].depth
     }
 
-    /// Where the innermost loop opens that has the position in its body.
+    /// The position at which the innermost loop around this position opens.
     pub fn opening_of(&self, position: u16) -> u16
         requires { position < length self.now }
         ensures { result ≡ (place_at self.now position).opening }
@@ -49,7 +49,7 @@ impl Nest {
         self.places[usize::from(position)].opening
     }
 
-    /// Where the end of the loop stands that opens at the position.
+    /// The position of the end of the loop that opens at `opening`.
     pub fn end_of(&self, opening: u16) -> u16
         requires { opening < length self.now }
         ensures { result ≡ (place_at self.now opening).close }

@@ -13,7 +13,7 @@ use arrayvec::ArrayVec;
 use std::alloc::Global;
 use tl_instr::{Code, Instr};
 
-// The place of a position, where loops are open that open at these positions, the outermost first.
+// The place of a position inside the loops that open at these positions, the outermost first.
 fn place(openings: &ArrayVec<u16, MAX_DEPTH>) -> Place
     ensures depth { result.depth ≡ length openings.now.items }
     ensures opening { result.opening ≡ slice_index openings.now.items (length openings.now.items - 1) }
@@ -46,7 +46,7 @@ fn enter(
     Ok(())
 }
 
-// The innermost loop ends at the position: where it opens.
+// The innermost loop ends at the position. The result is the position at which it opens.
 fn leave(openings: &mut ArrayVec<u16, MAX_DEPTH>, position: u16) -> Result<u16, NestFault>
     ensures closed { IfOk result (λ opening. openings.old.items ≡ openings.new.items ++ opening ∷ []) }
     ensures fault { IfErr result (λ f. (openings.old.items ≡ []) × (f ≡ fault.EndAlone position)) }
@@ -54,7 +54,7 @@ fn leave(openings: &mut ArrayVec<u16, MAX_DEPTH>, position: u16) -> Result<u16, 
     openings.pop().ok_or(NestFault::EndAlone(position))
 }
 
-// How often the loop turns at most that the instruction opens.
+// The most turns of the loop that the instruction opens.
 pub(crate) fn turns_of(instr: &Instr) -> Option<u16>
     ensures { MatchOption result ((w : ℕ) → kind instr.now ≢ Opens w) (λ w. kind instr.now ≡ Opens w) }
 {
@@ -64,11 +64,12 @@ pub(crate) fn turns_of(instr: &Instr) -> Option<u16>
     }
 }
 
-/// The loops of a code, where each has an end and turns, each end has a loop, and they nest at most four deep.
+/// The loops of a code, if each loop has an end and at least one turn, each end has a loop, and loops nest at most four
+/// deep.
 ///
-/// Else the first fault at the least position: 302 at an end without an open loop, 304 at a loop of no turns, 303 at a
-/// loop that opens with four others open; and only where there is none of these, 301 at the first loop without an end.
-/// 390 where memory is refused.
+/// Otherwise the fault at the least position: 302 at an end without an open loop, 304 at a loop of no turns, 303 at a loop
+/// that opens inside four others. Only if there is none of these, 301 at the first loop without an end. 390 if memory is
+/// refused.
 pub fn nest(alloc: Global, code: &Code) -> Result<Nest, NestFault>
     ensures nest { IfOk result (IsNest code.now.instrs) }
     ensures accepts { IsNested code.now.instrs → IfErr result (λ f. f ≡ fault.Memory) }

@@ -12,8 +12,8 @@ use crate::nested::Nest;
 use crate::nesting::turns_of;
 use tl_instr::{Code, Instr};
 
-// The sums of the weights: of all instructions, of those that lock a node, and of those that emit a value. A sum that doesn't
-// fit is the greatest number, which is above each limit.
+// The sums of the weights of all instructions, of those that lock a node, and of those that emit a value. A sum that
+// doesn't fit saturates at the greatest number, which is above each limit.
 #[derive(Clone, Copy)]
 struct Totals {
     steps: u64,
@@ -22,7 +22,7 @@ struct Totals {
 }
 
 impl Totals {
-    // With one more instruction of that weight.
+    // The totals with one more instruction of that weight.
     fn with(self, instr: &Instr, weight: u64) -> Totals
         ensures steps { result.steps ≡ capped (self.steps + weight) }
         ensures locks { result.locks ≡ capped (self.locks + (if is_lock instr.now then weight else 0)) }
@@ -59,7 +59,7 @@ fn total(code: &Code, nest: &Nest) -> Totals
     ensures locks { result.locks ≡ capped (lock_bound code.now.instrs) }
     ensures emits { result.emits ≡ capped (emit_bound code.now.instrs) }
 {
-    // At each depth the product of the counts of the loops around: of at most four numbers of 16 bits.
+    // For each depth, the product of the turn counts of the loops around: at most four numbers of 16 bits.
     let mut products = [1; MAX_DEPTH + 1];
     let mut totals = Totals {
         steps: 0,
@@ -78,10 +78,10 @@ fn total(code: &Code, nest: &Nest) -> Totals
     totals
 }
 
-/// The bounds of a code, by its loops: the sums of the weights of its instructions, of those that lock a node, and of
-/// those that emit a value, where an instruction's weight is the product of the counts of the loops around it.
+/// The bounds of a code with these loops: the sums of the weights of all its instructions, of those that lock a node, and
+/// of those that emit a value. An instruction's weight is the product of the turn counts of the loops around it.
 ///
-/// 305, 306, 307 where they are above 1,000,000, 4,096, 32, in that order. Takes no memory.
+/// 305, 306, 307 if a sum is above 1,000,000, 4,096 or 32, checked in that order. Takes no memory.
 pub fn bounds(code: &Code, nest: &Nest) -> Result<Bounds, NestFault>
     requires { IsNest code.now.instrs nest.now }
     ensures ok { IfOk result (λ b. (b.steps ≡ budget code.now.instrs) × (b.locks ≡ lock_bound code.now.instrs) × (b.emits ≡ emit_bound code.now.instrs)) }

@@ -5,14 +5,14 @@ use clap::error::ErrorKind;
 use clap::{ArgMatches, Error};
 use std::alloc::{AllocError, Global};
 
-/// The files that are written beside what is printed, where they are named: the trail, and the tree as it is in the end.
+/// The files, if named, that are written as well as what is printed: the trail, and the final tree.
 #[derive(Clone, Copy)]
 pub struct Outputs<'a> {
     pub trail: Option<&'a str>,
     pub tree: Option<&'a str>,
 }
 
-/// A script's file, and the procedures beside it, each as `FILE` or `NAME=FILE`.
+/// A script's file, and the procedures named as well as its own, each as `FILE` or `NAME=FILE`.
 #[derive(Drop)]
 pub struct ScriptFiles<'a> {
     pub script: &'a str,
@@ -52,7 +52,7 @@ pub struct ServeOptions {
     pub idle: Option<u16>,
 }
 
-/// A command that turns a file into another, or tells what is in it.
+/// A command that turns a file into another, or says what is in it.
 #[derive(Clone, Copy)]
 pub enum FileCommand<'a> {
     /// Write the container of an assembler text.
@@ -60,7 +60,7 @@ pub enum FileCommand<'a> {
         text: &'a str,
         container: &'a str,
     },
-    /// Say whether the calls of a trail may have done what it tells.
+    /// Say whether the calls of a trail may have done what it says.
     Audit {
         trail: &'a str,
     },
@@ -68,7 +68,7 @@ pub enum FileCommand<'a> {
     Check {
         file: &'a str,
     },
-    /// Write the container of a procedure of a text, the one of that name where there are several.
+    /// Write the container of a procedure of a text; if the text has several, of the one of that name.
     Compile {
         text: &'a str,
         container: &'a str,
@@ -193,7 +193,7 @@ fn file_command<'a>(name: &str, words: &ArgMatches<'a>) -> Option<FileCommand<'a
     }
 }
 
-// What is asked for. None where memory is refused, since each command has an arm.
+// What the command line asks for. `None` if memory is refused, since each command has an arm.
 fn asked_of<'a>(alloc: Global, matches: &ArgMatches<'a>) -> Option<Asked<'a>> {
     let (name, words) = matches.subcommand()?;
     if name == "explain" {
@@ -232,7 +232,7 @@ pub fn parse<'a>(alloc: Global, words: &'a [String]) -> Result<Asked<'a>, AllocE
     }
 }
 
-/// The exit status for a text of the command line's: 0 for help, 2 for a mistake, 4 for want of memory.
+/// The exit status for a text from the command line: 0 for help, 2 for a mistake, 4 if memory was refused.
 pub fn status(error: &Error) -> u8 {
     match error.kind() {
         ErrorKind::OutOfMemory => 4,

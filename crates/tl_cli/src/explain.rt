@@ -4,7 +4,7 @@ use crate::meanings::{Meaning, meaning_of};
 use crate::{MISTAKE, output};
 use std::io;
 
-/// Prints what a fault's number means, and answers the exit status. A number that no fault has is a mistake on the command
+/// Prints what a fault's number means, and returns the exit status. A number that no fault has is a mistake on the command
 /// line.
 pub fn explain<R: Print + Eprint>(rt: &R, number: u16) -> u8 {
     let Some(meaning) = meaning_of(number) else {

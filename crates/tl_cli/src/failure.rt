@@ -4,8 +4,8 @@ use std::alloc::{AllocError, AllocFailed};
 use std::{fmt, io};
 use tl_commands::CliFault;
 
-/// The fault of a command, a file that can't be read or written, with the system's reason, a port that can't be had, or a server that
-/// isn't there.
+/// The fault of a command; a file that can't be read or written, with the system's reason; a port that can't be opened; or
+/// a server that isn't there.
 #[derive(Drop)]
 pub enum Failure<'a> {
     Refused(CliFault),
@@ -16,7 +16,7 @@ pub enum Failure<'a> {
 }
 
 impl Failure<'_> {
-    /// What stands for the failure on standard output, by its numbers.
+    /// The fault whose numbers stand for the failure on standard output.
     pub fn fault(&self) -> CliFault {
         match self {
             Failure::Refused(fault) => *fault,
@@ -51,7 +51,7 @@ impl fmt::Display for Failure<'_> {
             Failure::Refused(fault) => write!(f, "{fault}"),
             Failure::Unreadable { path, reason } => write!(f, "{path} can't be read: {reason}"),
             Failure::Unwritable { path, reason } => write!(f, "{path} can't be written: {reason}"),
-            Failure::NoPort { port } => write!(f, "the port {port} can't be had"),
+            Failure::NoPort { port } => write!(f, "the port {port} can't be opened"),
             Failure::NoServer { port, reason } => {
                 write!(f, "no server answers on the control port {port}: {reason}")
             }

@@ -3,7 +3,7 @@
 pub const HELP: &str = "\
 A refusal is one line on standard output, {\"error\":[number,..]}, and a message on standard error.
 Exit status: 0 done, 1 refused, 2 a mistake on the command line, 3 a file that can't be read or written, or a port
-that can't be had, 4 memory.
+that can't be opened, 4 memory.
 Help on a command: treedb COMMAND --help. What a number means: treedb explain NUMBER";
 
 pub const ALONE_HELP: &str = "\
@@ -18,8 +18,9 @@ Exit status: 0 done, 1 refused, 2 a mistake on the command line, 3 a file that c
 
 pub const CHECK_HELP: &str = "\
 Example: treedb check walk.asm
-prints {\"bounds\":{\"emits\":1,\"locks\":13,\"steps\":54}} of a procedure's text or container, whatever the arguments and the tree.
-A text that is refused is told by its line, with a caret under the place; so is the instruction that the verifier refuses.
+prints {\"bounds\":{\"emits\":1,\"locks\":13,\"steps\":54}} of a procedure's assembler text or container, whatever the arguments and the
+tree. Of a file whose name ends with .tdb, a text of the procedure language, it prints [[\"shift\",{\"bounds\":{..}}],..], each procedure.
+For a text that is refused the line is shown, with a caret under the place; so is the instruction that the verifier refuses.
 Exit status: 0 done, 1 refused, 2 a mistake on the command line, 3 a file that can't be read, 4 memory.";
 
 pub const AUDIT_HELP: &str = "\
@@ -90,7 +91,7 @@ are ended. With --idle S a connection ends that sends nothing for S seconds.
 After 4,096 calls a seal begins a new epoch, which goes on with the tree as it is; then this prints {\"orders\":[..]}, the order
 in each epoch, and the file is the list of the epochs' trails.
 Exit status: 0 done, 1 refused, 2 a mistake on the command line, 3 a file that can't be read or written, or a port
-that can't be had, 4 memory.";
+that can't be opened, 4 memory.";
 
 pub const STOP_HELP: &str = "\
 Example: treedb stop --port 7879

@@ -24,18 +24,18 @@ use std::sync::Wait;
 use std::thread::Threads;
 use std::time::Clock;
 pub use tl_commands::{
-    CliFault, alone_cmd, asm_cmd, audit_cmd, check_cmd, compile_cmd, conclude_engine,
-    conclude_engine_with_trail, dis_cmd, drive_cmd, drive_with_trail_cmd, migrate_cmd, open_engine,
-    procs_cmd, run_cmd, run_with_trail_cmd, verify_cmd, widen_cmd,
+    CliFault, alone_cmd, asm_cmd, audit_cmd, check_cmd, check_procs_cmd, compile_cmd,
+    conclude_engine, conclude_engine_with_trail, dis_cmd, drive_cmd, drive_with_trail_cmd,
+    migrate_cmd, open_engine, procs_cmd, run_cmd, run_with_trail_cmd, verify_cmd, widen_cmd,
 };
 
-/// The exit status where memory is refused before a command is known. Nothing is printed then.
+/// The exit status if memory is refused before a command is known. Nothing is printed then.
 const NO_MEMORY: u8 = 4;
 
 /// The exit status of a mistake on the command line.
 const MISTAKE: u8 = 2;
 
-// The words of the command line, the program's name first. Else the exit status.
+// The words of the command line, the program's name first. Otherwise the exit status.
 fn words(rt: &HostRuntime) -> Result<Vec<String>, u8> {
     match std::env::args(rt) {
         Ok(words) => words.collect(rt.alloc()).map_err(|_| NO_MEMORY),
@@ -47,7 +47,7 @@ fn words(rt: &HostRuntime) -> Result<Vec<String>, u8> {
     }
 }
 
-// Prints what the command line answers itself, help or a mistake, and answers the exit status.
+// Prints what the command line itself answers, help or a mistake, and returns the exit status.
 fn tell<R: Print + Eprint>(rt: &R, error: &Error) -> u8 {
     let status = command_line::status(error);
     if status == NO_MEMORY {
@@ -60,7 +60,7 @@ fn tell<R: Print + Eprint>(rt: &R, error: &Error) -> u8 {
     output::status_after(rt, printed, status)
 }
 
-// Does what the words of the command line ask for, and answers the exit status.
+// Does what the words of the command line ask for, and returns the exit status.
 fn answer<R>(rt: &R, words: &[String], is_terminal: bool) -> u8
 where
     R: Files

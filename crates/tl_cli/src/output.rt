@@ -28,8 +28,7 @@ pub fn print_failure<R: Print + Eprint>(rt: &R, failure: &Failure<'_>) -> io::Re
     rt.println("]}")
 }
 
-/// The exit status of what was printed: this one, or 3 where standard output can't be written. People are told that on
-/// standard error.
+/// The exit status after printing: `status`, or 3 if standard output can't be written. Standard error says so then.
 pub fn status_after<R: Eprint>(rt: &R, printed: io::Result<()>, status: u8) -> u8 {
     match printed {
         Ok(()) => status,
@@ -40,7 +39,7 @@ pub fn status_after<R: Eprint>(rt: &R, printed: io::Result<()>, status: u8) -> u
     }
 }
 
-/// A place in a text: a line, and a column where it is known, both counted from 1.
+/// A place in a text: a line, and a column if it is known, both counted from 1.
 #[derive(Clone, Copy)]
 pub struct Place {
     pub line: u64,
@@ -53,7 +52,7 @@ fn line_of_position(alloc: Global, text: &str, position: u64) -> Option<u64> {
     lines.get(usize::try_from(position).ok()?).copied()
 }
 
-// Where a text stops being JSON, if it is none.
+// Where a text stops being JSON, if it isn't JSON.
 fn place_in_json(alloc: Global, text: &str) -> Option<Place> {
     match Value::from_str(alloc, text) {
         Err(error) if !error.is_memory() => Some(Place {
@@ -64,8 +63,8 @@ fn place_in_json(alloc: Global, text: &str) -> Option<Place> {
     }
 }
 
-/// Where the fault of a text lies, where it lies at one place. A position of the code is the line of that instruction, and a text that is no
-/// JSON is wrong where that shows.
+/// The place of a text's fault, if the fault is at one place. For a position in the code this is the line of that
+/// instruction, and for a text that isn't JSON the place that shows it.
 pub fn place_of(alloc: Global, text: &str, fault: &CliFault) -> Option<Place> {
     match fault {
         CliFault::Asm(
@@ -95,7 +94,7 @@ pub fn place_of(alloc: Global, text: &str, fault: &CliFault) -> Option<Place> {
     }
 }
 
-// How many bytes of the line stand before the place. Where the column isn't known, these are the blanks in front.
+// How many bytes of the line come before the place. If the column isn't known, these are the leading blanks.
 fn bytes_before(line: &str, column: Option<u64>) -> usize {
     match column {
         Some(column) => usize::try_from(column)
@@ -108,8 +107,8 @@ fn bytes_before(line: &str, column: Option<u64>) -> usize {
     }
 }
 
-/// Shows people the line of a text that is refused, under the file's name, with a caret under the place, on standard error. What
-/// can't be shown is left out.
+/// Shows the refused line of a text on standard error, under the file's name, with a caret under the place. What can't be
+/// shown is left out.
 pub fn point_at<R: Eprint>(rt: &R, path: &str, text: &str, place: Place) {
     let Place { line, column } = place;
     let Some(quoted) = text.split('\n').nth(

@@ -1,4 +1,5 @@
-// The commands with their files: each is read, a command of `tl_commands` answers, and what that says is written and printed.
+// The commands with their files: each file is read, a command of `tl_commands` answers, and its result is written and
+// printed.
 
 use crate::command_line::{CallCommand, FileCommand, Outputs, Request, ScriptFiles, ServeOptions};
 use crate::failure::Failure;
@@ -6,9 +7,10 @@ use crate::progress::Shown;
 use crate::script::{NamedText, RefusedProcedure, first_refused, named_in_list, with_procedures};
 use crate::trail_file::TrailFile;
 use crate::{
-    CliFault, alone_cmd, asm_cmd, audit_cmd, check_cmd, compile_cmd, conclude_engine,
-    conclude_engine_with_trail, dis_cmd, drive_cmd, drive_with_trail_cmd, migrate_cmd, open_engine,
-    output, procs_cmd, run_cmd, run_with_trail_cmd, verify_cmd, widen_cmd,
+    CliFault, alone_cmd, asm_cmd, audit_cmd, check_cmd, check_procs_cmd, compile_cmd,
+    conclude_engine, conclude_engine_with_trail, dis_cmd, drive_cmd, drive_with_trail_cmd,
+    migrate_cmd, open_engine, output, procs_cmd, run_cmd, run_with_trail_cmd, verify_cmd,
+    widen_cmd,
 };
 use std::io::ErrorKind;
 use std::net::{Net, TcpListener, TcpStream};
@@ -27,7 +29,12 @@ struct Named<'a> {
     bytes: Vec<u8>,
 }
 
-/// Where commands find their files, and whether people see on a terminal how far they are.
+/// Whether the file has a text of the procedure language, by its name.
+fn has_language(path: &str) -> bool {
+    path.ends_with(".tdb")
+}
+
+// Where commands find their files, and whether people see on a terminal how far they are.
 #[derive(Drop)]
 pub struct Program<'a, R> {
     rt: &'a R,
@@ -39,7 +46,7 @@ impl<'a, R: Files + Print + Eprint + AllocGlobal> Program<'a, R> {
         Program { rt, is_terminal }
     }
 
-    // The bytes of a file. 31 where it can't be read, 990 where memory was refused.
+    // The bytes of a file. 31 if it can't be read, 990 if memory was refused.
     fn read_file<'p>(&self, path: &'p str) -> Result<Vec<u8>, Failure<'p>> {
         match std::fs::read(self.rt, path) {
             Ok(bytes) => Ok(bytes),
@@ -50,7 +57,7 @@ impl<'a, R: Files + Print + Eprint + AllocGlobal> Program<'a, R> {
         }
     }
 
-    // Writes a file. 32 where it can't be written.
+    // Writes a file. 32 if it can't be written.
     fn write_file<'p>(&self, path: &'p str, bytes: &[u8]) -> Result<(), Failure<'p>> {
         match std::fs::write(self.rt, path, bytes) {
             Ok(()) => Ok(()),
@@ -70,7 +77,7 @@ impl<'a, R: Files + Print + Eprint + AllocGlobal> Program<'a, R> {
         done.map_err(|fault| self.misread(path, &tree, fault))
     }
 
-    // Answers the fault of a text, and shows people where it is.
+    // Returns the fault of a text, and shows people where it is.
     fn misread<'p>(&self, path: &str, text: &[u8], fault: CliFault) -> Failure<'p> {
         if let Ok(text) = std::str::from_utf8(text) {
             if let Some(place) = output::place_of(self.rt.alloc(), text, &fault) {
@@ -92,10 +99,12 @@ impl<'a, R: Files + Print + Eprint + AllocGlobal> Program<'a, R> {
 
     fn check<'p>(&self, path: &'p str) -> Result<String, Failure<'p>> {
         let file = self.read_file(path)?;
-        match check_cmd(self.rt.alloc(), &file) {
-            Ok(line) => Ok(line),
-            Err(fault) => Err(self.misread(path, &file, fault)),
-        }
+        let checked = if has_language(path) {
+            check_procs_cmd(self.rt.alloc(), &file)
+        } else {
+            check_cmd(self.rt.alloc(), &file)
+        };
+        checked.map_err(|fault| self.misread(path, &file, fault))
     }
 
     fn compile<'p>(
@@ -143,14 +152,15 @@ impl<'a, R: Files + Print + Eprint + AllocGlobal> Program<'a, R> {
         })
     }
 
-    // The procedures that the command line names: `FILE` has a text of the procedure language, whose procedures are all meant. In `NAME=FILE` the one of
-    // that name is meant where the file's name ends with `.tdb`; else the file has its assembler text.
+    // The procedures that the command line names. `FILE` has a text of the procedure language, and names all its
+    // procedures. `NAME=FILE` names the procedure of that name if the file's name ends with `.tdb`; otherwise the file has
+    // its assembler text.
     fn named_texts<'p>(&self, named: &'p str) -> Result<Vec<NamedText>, Failure<'p>> {
         let alloc = self.rt.alloc();
         let Some((name, path)) = named.split_once('=') else {
             return Ok(named_in_list(alloc, &self.procedures(named)?, None)?);
         };
-        if path.ends_with(".tdb") {
+        if has_language(path) {
             let texts = named_in_list(alloc, &self.procedures(path)?, Some(name))?;
             if texts.is_empty() {
                 return Err(Failure::Refused(CliFault::Compile(CompileFault::NotOne)));
@@ -166,7 +176,7 @@ impl<'a, R: Files + Print + Eprint + AllocGlobal> Program<'a, R> {
         Ok(texts)
     }
 
-    // A script, with the procedures that the command line names behind its own.
+    // A script, with the procedures that the command line names after its own.
     fn read_script<'p>(&self, files: &ScriptFiles<'p>) -> Result<Named<'p>, Failure<'p>> {
         let mut script = self.read_named(files.script)?;
         if files.procedures.is_empty() {
@@ -182,7 +192,7 @@ impl<'a, R: Files + Print + Eprint + AllocGlobal> Program<'a, R> {
         Ok(script)
     }
 
-    // Answers the fault of a script on a tree. Where one of its procedures is refused, people are shown which, and where.
+    // Returns the fault of a script on a tree. If one of its procedures is refused, people are shown which, and where.
     fn misread_script<'p>(
         &self,
         tree: &Named<'_>,
@@ -206,7 +216,7 @@ impl<'a, R: Files + Print + Eprint + AllocGlobal> Program<'a, R> {
         }
     }
 
-    // The trail is written to a file, where one is named.
+    // The trail is written to a file if one is named.
     fn drive<'p>(
         &self,
         tree: &'p str,
@@ -228,8 +238,8 @@ impl<'a, R: Files + Print + Eprint + AllocGlobal> Program<'a, R> {
         Ok(lines)
     }
 
-    // Writes the tree, which is the last of the printed lines, with a LF behind it. It is written beside the file and then renamed, so
-    // that the file never has a part of a tree.
+    // Writes the tree, which is the last of the printed lines, and a LF after it. It is written next to the file and then
+    // renamed, so that the file never has a part of a tree.
     fn save<'p>(&self, path: &'p str, lines: &str) -> Result<(), Failure<'p>> {
         let tree = lines.trim_end().split('\n').last().unwrap_or(lines);
         let text = format!(in self.rt.alloc(); "{tree}\n")?;
@@ -250,7 +260,7 @@ impl<'a, R: Files + Print + Eprint + AllocGlobal> Program<'a, R> {
     }
 }
 
-// What is printed after a trail's file was written, or why that wasn't done.
+// What is printed after a trail's file was written, or why it wasn't.
 fn printed<'p, R: Files>(
     path: &'p str,
     file: TrailFile<'_, R>,
@@ -264,7 +274,7 @@ fn printed<'p, R: Files>(
 }
 
 impl<'a, R: Files + Print + Eprint + AllocGlobal + Threads + Wait + Sync> Program<'a, R> {
-    // The trail is written to a file, where one is named.
+    // The trail is written to a file if one is named.
     fn run<'p>(
         &self,
         tree: &'p str,
@@ -296,7 +306,7 @@ impl<'a, R: Files + Print + Eprint + AllocGlobal + Threads + Wait + Sync> Progra
     }
 }
 
-// Why a port isn't listened on.
+// Why the program doesn't listen on a port.
 fn not_bound<'p>(port: u16, fault: ListenFault) -> Failure<'p> {
     match fault {
         ListenFault::NoPort => Failure::NoPort { port },
@@ -316,7 +326,7 @@ where
         + Clock
         + Sync,
 {
-    // Listens on a port, and tells people so. 33 where it can't be had.
+    // Listens on a port, and says so to people. 33 if the port can't be opened.
     fn listen<'p>(&self, options: ServeOptions) -> Result<Server, Failure<'p>> {
         let ServeOptions {
             port,
@@ -333,7 +343,7 @@ where
         })
     }
 
-    // The sessions of a server's connections, when all have ended, or when it was asked to stop.
+    // The sessions of a server's connections, once all have ended, or once it was asked to stop.
     fn sessions_of<'p>(
         &self,
         engine: &Engine,
@@ -351,7 +361,7 @@ where
         served.map_err(|fault| not_bound(port, fault))
     }
 
-    // The trail is written to a file, where one is named, when all connections have ended.
+    // The trail is written to a file, if one is named, once all connections have ended.
     fn serve<'p>(
         &self,
         tree: &'p str,
@@ -378,7 +388,7 @@ where
         }
     }
 
-    // What a command that runs calls prints. A file that is named for the tree in the end is written before that.
+    // What a command that runs calls prints. If a file is named for the final tree, it is written before that.
     fn answer_calls<'p>(
         &self,
         tree: &'p str,
@@ -434,7 +444,7 @@ where
         }
     }
 
-    /// Does what a request asks for, prints what comes of it, and answers the exit status.
+    /// Does what a request asks for, prints the result, and returns the exit status.
     pub fn execute(&self, request: &Request<'_>) -> u8 {
         match self.answer(request) {
             Ok(text) => output::status_after(self.rt, self.rt.print(text.as_str()), 0),

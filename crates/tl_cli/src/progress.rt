@@ -2,8 +2,8 @@
 
 use tl_audit::Progress;
 
-/// Shows on standard error how far an audit is, where that is a terminal. Where the first word of it is the last, nothing
-/// is shown.
+/// Shows on standard error how far an audit is, if that is a terminal. If the first report is also the last, nothing is
+/// shown.
 #[derive(Drop)]
 pub struct Shown<'a, R> {
     rt: &'a R,
@@ -28,7 +28,7 @@ impl<'a, R: Eprint> Shown<'a, R> {
         }
     }
 
-    /// Ends the line, where one was shown.
+    /// Ends the line, if one was shown.
     pub fn end(&self) {
         if self.has_shown {
             let _shown = eprintln!(self.rt; "");

@@ -1,4 +1,4 @@
-// Procedures that the command line names beside a script's own, and the procedure of a script that is refused.
+// Procedures that the command line names as well as a script's own, and the procedure of a script that is refused.
 
 use crate::{CliFault, check_cmd};
 use serde_json::{Value, json};
@@ -20,7 +20,7 @@ fn named_in_pair(alloc: Global, pair: &Value) -> Option<NamedText> {
     })
 }
 
-/// The procedures of a list `[[name,text],..]`, or that of a name alone.
+/// The procedures of a list `[[name,text],..]`, or only the one of a name.
 pub fn named_in_list(
     alloc: Global,
     list: &str,
@@ -53,8 +53,8 @@ fn pair_value(alloc: Global, procedure: &NamedText) -> Result<Value, AllocError>
     json!(in alloc; [procedure.name.as_str(), procedure.text.as_str()])
 }
 
-/// The script with these procedures behind its own, as JSON; a script without `procs` gets that list. What is no JSON object, or has
-/// something else there, stays as it is: whoever reads it says that it isn't a script.
+/// The script with these procedures after its own, as JSON; a script without `procs` gets that list. A text that isn't a
+/// JSON object, or has something else there, stays as it is: whoever reads it reports that it isn't a script.
 pub fn with_procedures(
     alloc: Global,
     script: Vec<u8>,
@@ -91,7 +91,7 @@ pub struct RefusedProcedure {
     pub fault: CliFault,
 }
 
-// The procedure of a pair `[name,text]`, where it isn't accepted.
+// The procedure of a pair `[name,text]`, if it isn't accepted.
 fn refused_in_pair(alloc: Global, pair: &Value) -> Option<RefusedProcedure> {
     let named = named_in_pair(alloc, pair)?;
     let Err(fault) = check_cmd(alloc, named.text.as_bytes()) else {
@@ -100,7 +100,8 @@ fn refused_in_pair(alloc: Global, pair: &Value) -> Option<RefusedProcedure> {
     Some(RefusedProcedure { named, fault })
 }
 
-/// The first procedure of a script that isn't accepted. None where there is none, or memory is refused: this is for a message.
+/// The first procedure of a script that isn't accepted. `None` if there is none, or memory is refused: this is for a
+/// message.
 pub fn first_refused(alloc: Global, script: &[u8]) -> Option<RefusedProcedure> {
     let value = parse(alloc, script).ok()??;
     let list = value.get("procs")?.as_array()?;

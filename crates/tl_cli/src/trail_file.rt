@@ -6,7 +6,7 @@ use std::rt::Files;
 use std::{fs, io};
 use tl_commands::TrailSink;
 
-/// A file that is made when the first piece is put there, so that a command that fails before leaves it as it was.
+/// A file that is created when the first piece is written, so that a command that fails before that leaves it as it was.
 #[derive(Drop)]
 pub struct TrailFile<'a, R: Files> {
     rt: &'a R,
@@ -25,12 +25,12 @@ impl<'a, R: Files> TrailFile<'a, R> {
         }
     }
 
-    /// Why a piece couldn't be written, where one couldn't.
+    /// Why a piece couldn't be written, if one couldn't.
     pub fn into_reason(self) -> Option<io::Error> {
         self.reason
     }
 
-    // Writes a piece behind those before.
+    // Writes a piece after those before it.
     fn write(&mut self, piece: &str) -> io::Result<()> {
         if self.file.is_none() {
             self.file = Some(fs::create(self.rt, self.path)?);
@@ -45,7 +45,7 @@ impl<'a, R: Files> TrailFile<'a, R> {
 impl<R: Files> TrailSink for TrailFile<'_, R> {
     ghost use Rattle.std.specs.Prelude.{None};
 
-    // No contract can say what a file has.
+    // No contract can say what is in a file.
     ghost text = { λ _. None };
 
     fn put(&mut self, piece: &str) -> Result<(), CliFault> {

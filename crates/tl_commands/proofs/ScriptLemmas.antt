@@ -1,22 +1,15 @@
 -- The parts of a script, and what a file with a script has.
 use Rattle.std.proofs.Common.{◌≡◌, ◌≢◌, ◌≤◌, ℕ, ℤ, List, length, codes, Option, Some, None, option_map, option_and_then, IsUtf8, refl, sym, ap, ◌∙◌, eq-eqb, ne_eqb}
 use Rattle.std.specs.Prelude.{MatchOption}
-use Rattle.serde_json.specs.Data.{Data, null, boolean, number, string, array, object, Members}
+use Rattle.serde_json.specs.Data.{Data, Members}
 use Rattle.serde_json.specs.Events.{members_len}
 use Rattle.serde_json.specs.Find.{as_object, get, get_member}
 use Rattle.serde_json.specs.Read.{read}
+use Rattle.tl_tree.proofs.Parts.{object_is}
 use Rattle.tl_commands.specs.declared.script.Script.{Script}
 use Rattle.tl_commands.specs.Script.{ScriptValue, parts_of, IsScript}
 
 -- ---- its parts
-
-object_is : (d : Data) (ms : Members) → as_object d ≡ Some ms → d ≡ object ms
-object_is null ms e = absurd cc
-object_is (boolean b) ms e = absurd cc
-object_is (number n) ms e = absurd cc
-object_is (string s) ms e = absurd cc
-object_is (array ds) ms e = absurd cc
-object_is (object ns) ms e = ap object (let same : ns ≡ ms = cc in same)
 
 pub parts_found : (tasks : List ℕ) (d : Data) (ms : Members) (a b : Data) → as_object d ≡ Some ms → members_len ms ≡ 2 → get (codes "procs") d ≡ Some a → get tasks d ≡ Some b → parts_of tasks d ≡ Some (a, b)
 parts_found tasks d ms a b is two first second =

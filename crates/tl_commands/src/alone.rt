@@ -18,7 +18,7 @@ use tl_machine::{Answer, alone};
 use tl_tree::{integers_from_value, integers_to_value, write_tree};
 use tl_verify::{Proc, verify};
 
-// The procedure that a file has.
+// The procedure in a file.
 fn procedure_of_file(alloc: Global, bytes: &[u8]) -> Result<Proc, CliFault>
     ensures spelled { IfOk result (λ p. Spelled bytes.now p) }
     ensures accepted { IfOk result (λ p. Acceptable p.instrs) }
@@ -34,7 +34,7 @@ fn procedure_of_file(alloc: Global, bytes: &[u8]) -> Result<Proc, CliFault>
     }
 }
 
-// The arguments that a text has: a JSON list of signed 64-bit integers.
+// The arguments in a text: a JSON list of signed 64-bit integers.
 fn args_of(alloc: Global, text: &str) -> Result<Vec<i64>, CliFault>
     ensures ok { IfOk result (λ v. args_of_text text.now ≡ Some v.items) }
     ensures fault { IfErr result (λ e. (e ≡ CliFault.Memory) ⊎ (e ≡ CliFault.NotArgs) × (args_of_text text.now ≡ None)) }
@@ -69,11 +69,12 @@ fn answer_line(alloc: Global, answer: &Answer) -> Result<String, AllocError>
     Ok(value.to_string(alloc)?)
 }
 
-/// Runs a procedure alone on a tree, and gives the lines to print: the reply and the number of instructions done, and the
-/// tree as it is then. Takes the bytes of the tree's file, those of the procedure's container, and the arguments as text.
+/// Runs a procedure alone on a tree, and returns the lines to print: first the reply and the number of instructions done,
+/// then the resulting tree. Takes the bytes of the tree's file, those of the procedure's container, and the arguments as
+/// text.
 ///
-/// What is wrong first, in this order: 106 (also for a tree that is no UTF-8), 101 to 105; the container's 201 to 206;
-/// the verifier's 301 to 307 and 401 to 409; 732; 501. Where memory was refused, 190, 290, 490 or 990.
+/// The first fault, in this order: 106 (also if the tree isn't UTF-8), 101 to 105; the container's 201 to 206; the
+/// verifier's 301 to 307 and 401 to 409; 732; 501. If memory was refused, 190, 290, 490 or 990.
 pub fn alone_cmd(
     alloc: Global,
     tree: &[u8],

@@ -1,4 +1,4 @@
-// What came of the calls that were asked for at once, as values of JSON.
+// The results of calls that were requested together, as JSON values.
 
 ghost use Rattle.std.specs.Prelude.{◌≡◌, codes, map, IfOk};
 ghost use Rattle.serde_json.specs.Data.{object, member, no_members};
@@ -30,7 +30,7 @@ fn later_parts_to_value(
     json!(in alloc; {"call": call, "epoch": epoch, "reply": reply})
 }
 
-// A call of an epoch, whose number is left out of the first one's.
+// A call of an epoch. The epoch's number is left out if it is the first.
 fn parts_to_value(alloc: Global, call: u32, epoch: u32, reply: Value) -> Result<Value, AllocError>
     ensures { IfOk result (λ v. view v ≡ object (member (codes "call") (natural call) (with_epoch epoch (member (codes "reply") (view reply) no_members)))) }
 {
@@ -73,7 +73,7 @@ fn member_to_value(alloc: Global, answers: Value) -> Result<Value, AllocError>
 }
 
 /// `{"batch":[..]}`, with an answer to each request: `{"call":c,"reply":[..]}`, from the second epoch on
-/// `{"call":c,"epoch":e,"reply":[..]}`, or `{"error":[number,..]}` where it was refused.
+/// `{"call":c,"epoch":e,"reply":[..]}`, or `{"error":[number,..]}` if it was refused.
 pub fn batch_to_value(
     alloc: Global,
     answers: &[Result<Receipt, Refusal>],

@@ -15,7 +15,7 @@ use tl_json::order_to_value;
 use tl_serial_order::Order;
 use tl_trail::{TrailFault, read_chain, read_trail};
 
-// Whether a text is a list, if it is one of JSON: whether it begins with a bracket, but for white space.
+// Whether a text is a list, provided it is JSON: whether it begins with a bracket, after any white space.
 fn begins_with_list(text: &str) -> bool
     ensures { result ≡ begins_with_list text.now }
 {
@@ -28,7 +28,7 @@ fn begins_with_list(text: &str) -> bool
     false
 }
 
-// The line of an order.
+// The line for an order.
 fn order_line(alloc: Global, order: &Order) -> Result<String, AllocError>
     ensures { IfOk result (λ s. string_bytes s ≡ compact_text (order_data order.now.calls) ++ 10 ∷ []) }
 {
@@ -36,7 +36,7 @@ fn order_line(alloc: Global, order: &Order) -> Result<String, AllocError>
     line_of(alloc, &order)
 }
 
-// The line of the orders of a chain.
+// The line for the orders of a chain.
 fn orders_line(alloc: Global, orders: &[Order]) -> Result<String, AllocError>
     ensures { IfOk result (λ s. string_bytes s ≡ compact_text (orders_data (map calls_in orders.now)) ++ 10 ∷ []) }
 {
@@ -82,14 +82,14 @@ fn audit_chain_text<P: Progress>(
     }
 }
 
-/// The order of the calls of a clean trail, or the order of each trail of a clean chain, as the line to print. A file that is a list
-/// is a chain, each other one a trail. Takes the bytes of the file, and who hears how far the audit is.
+/// The order of the calls of a clean trail, or the order of each trail of a clean chain, as the line to print. A file that
+/// is a list is a chain; any other file is a trail. Takes the bytes of the file, and a receiver for the audit's progress.
 ///
-/// What is wrong first, in this order: 701 (also where it is no UTF-8); 101 to 105 of its tree; of each procedure 251 to
-/// 254, 301 to 307, 401 to 409, 612, 611, 613; 603; of each call 601, 501; 701 again, where an event or a record in the
-/// end has no place; and then of the calls themselves 711 to 713 at the first event, 715, 714 or 717 at the least call, and
-/// 716. The trails of a chain are read first, one after another. Then, for each, 718 where it doesn't take over where the one before
-/// it ends, or 719 with what is wrong with it. Where memory was refused, 790 or 990.
+/// The first fault, in this order: 701 (also if the file isn't UTF-8); 101 to 105 of its tree; for each procedure 251 to
+/// 254, 301 to 307, 401 to 409, 612, 611, 613; 603; for each call 601, 501; 701 again, if an event or a final record has no
+/// place; and then for the calls themselves 711 to 713 at the first event, 715, 714 or 717 at the least call, and 716. The
+/// trails of a chain are read first, one after another. Then, for each, 718 if it doesn't take over where the one before it
+/// ends, or 719 with what is wrong with it. If memory was refused, 790 or 990.
 pub fn audit_cmd<P: Progress>(
     alloc: Global,
     file: &[u8],

@@ -1,4 +1,4 @@
-// What is printed of calls that are all done.
+// What is printed once all calls are done.
 
 ghost use Rattle.std.specs.Prelude.{◌≡◌, ◌∷◌, ◌++◌, [], map, string_bytes, IfOk, IfErr};
 ghost use Rattle.serde_json.specs.View.{view, items_view};

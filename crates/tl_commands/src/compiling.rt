@@ -1,4 +1,4 @@
-// The commands on texts of the procedure language: `compile` and `procs`.
+// The commands on texts of the procedure language: `compile`, `procs`, and `check` of such a text.
 
 use crate::fault::CliFault;
 use crate::outputs::line_of;
@@ -23,11 +23,11 @@ fn compiled_line(alloc: Global, procedure: &Proc) -> Result<String, AllocError> 
     line_of(alloc, &value)
 }
 
-/// The line that tells what the procedure of that name does at most and how many instructions it has, and its container. Without
-/// a name it is the one that the text has. Takes the bytes of the text's file.
+/// The line that says what the procedure of that name does at most and how many instructions it has, and its container.
+/// Without a name, it is the only procedure of the text. Takes the bytes of the text's file.
 ///
-/// Else what is wrong first: 255; 270 to 293 of the text; procedure by procedure 294 to 298; 289. Where memory was refused, 290
-/// or 990.
+/// Otherwise the first fault: 255; 270 to 293 for the text; 294 to 298, procedure by procedure; 289. If memory was refused,
+/// 290 or 990.
 pub fn compile_cmd(
     alloc: Global,
     text: &[u8],
@@ -67,16 +67,47 @@ fn procedures_value(alloc: Global, procedures: &[Compiled]) -> Result<Value, All
     Ok(Value::Array(items))
 }
 
-/// The line of the procedures of a text, `[[name,text],..]`, each with its canonical assembler text. Takes the bytes of the
-/// text's file.
+/// The line for the procedures of a text, `[[name,text],..]`, each with its canonical assembler text. Takes the bytes of
+/// the text's file.
 ///
-/// Else what is wrong first: 255; 270 to 293 of the text; procedure by procedure 294 to 298. Where memory was refused, 290 or
-/// 990.
+/// Otherwise the first fault: 255; 270 to 293 for the text; 294 to 298, procedure by procedure. If memory was refused, 290
+/// or 990.
 pub fn procs_cmd(alloc: Global, text: &[u8]) -> Result<String, CliFault> {
     let compiled = match compile(alloc, text) {
         Ok(compiled) => compiled,
         Err(fault) => return Err(CliFault::Compile(fault)),
     };
     let list = procedures_value(alloc, &compiled)?;
+    Ok(line_of(alloc, &list)?)
+}
+
+// `[name,{"bounds":{..}}]`
+fn checked_value(alloc: Global, compiled: &Compiled) -> Result<Value, AllocError> {
+    let bounds = compiled.procedure.bounds();
+    let name = std::str::from_utf8(&compiled.name).unwrap_or("");
+    let emits = Value::from(bounds.emits);
+    let locks = Value::from(bounds.locks);
+    let steps = Value::from(bounds.steps);
+    json!(in alloc; [name, {"bounds": {"emits": emits, "locks": locks, "steps": steps}}])
+}
+
+// `[[name,{"bounds":{..}}],..]`
+fn checked_values(alloc: Global, procedures: &[Compiled]) -> Result<Value, AllocError> {
+    let mut items = Vec::with_capacity(alloc, procedures.len())?;
+    for compiled in procedures {
+        items.push(checked_value(alloc, compiled)?)?;
+    }
+    Ok(Value::Array(items))
+}
+
+/// The line for what the procedures of a text do at most, `[[name,{"bounds":{..}}],..]`. Takes the bytes of the text's file.
+///
+/// Otherwise the first fault, as for `procs_cmd`.
+pub fn check_procs_cmd(alloc: Global, text: &[u8]) -> Result<String, CliFault> {
+    let compiled = match compile(alloc, text) {
+        Ok(compiled) => compiled,
+        Err(fault) => return Err(CliFault::Compile(fault)),
+    };
+    let list = checked_values(alloc, &compiled)?;
     Ok(line_of(alloc, &list)?)
 }

@@ -42,7 +42,7 @@ fn lines(alloc: Global, core: &Core, trace: &[Entry]) -> Result<String, CliFault
     three_lines(alloc, &trace, &conclusion, core.tree())
 }
 
-// What came of a script: what came of each move, and the core then.
+// The result of a script: the result of each move, and the core after them.
 #[derive(Drop)]
 pub struct Driven {
     trace: Vec<Entry>,
@@ -66,12 +66,12 @@ fn drive_script(alloc: Global, tree: &[u8], script: &[u8]) -> Result<Driven, Cli
     }
 }
 
-/// Carries out a script on a tree, and gives the lines to print: what came of each move; the order of the calls, or 651
-/// and the least unfinished call; and the tree as it is then. Takes the bytes of the tree's file and those of the script.
+/// Carries out a script on a tree, and returns the lines to print: the result of each move; the order of the calls, or 651
+/// and the least unfinished call; and the resulting tree. Takes the bytes of the tree's file and those of the script.
 ///
-/// What is wrong first, in this order: 106 (also for a tree that is no UTF-8), 101 to 105; 731; then of each procedure
-/// the assembler's 251 to 254, the verifier's 301 to 307 and 401 to 409, and 612, 611, 613. Where memory was refused, 190,
-/// 290, 490, 690 or 990.
+/// The first fault, in this order: 106 (also if the tree isn't UTF-8), 101 to 105; 731; then for each procedure the
+/// assembler's 251 to 254, the verifier's 301 to 307 and 401 to 409, and 612, 611, 613. If memory was refused, 190, 290,
+/// 490, 690 or 990.
 pub fn drive_cmd(alloc: Global, tree: &[u8], script: &[u8]) -> Result<String, CliFault>
     ensures printed { IfOk result (λ s. Drives tree.now script.now (string_bytes s)) }
     ensures fault { IfErr result (λ e. IsFirstDriveFault tree.now script.now e) }
@@ -80,7 +80,7 @@ pub fn drive_cmd(alloc: Global, tree: &[u8], script: &[u8]) -> Result<String, Cl
     lines(alloc, &driven.core, &driven.trace)
 }
 
-/// The same, and the text of a file: the trail of the calls, and a line feed. Where memory was refused, also 790.
+/// The same, and the text of a file: the trail of the calls, and a line feed. If memory was refused, also 790.
 pub fn drive_with_trail_cmd(
     alloc: Global,
     tree: &[u8],

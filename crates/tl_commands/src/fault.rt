@@ -1,4 +1,4 @@
-// What the program answers in the place of a result.
+// What the program answers instead of a result.
 
 ghost use Rattle.std.specs.Prelude.{◌≡◌};
 ghost use Rattle.tl_commands.specs.declared.fault.CliFault.TheVariants.{Memory, Engine};
@@ -28,10 +28,10 @@ pub enum CliFault {
     /// 32: a file can't be written.
     #[error("a file can't be written")]
     Unwritable,
-    /// 33: a port can't be had.
-    #[error("a port can't be had")]
+    /// 33: a port can't be opened.
+    #[error("a port can't be opened")]
     NoPort,
-    /// 255: the assembler text is no UTF-8.
+    /// 255: the assembler text isn't UTF-8.
     #[error("the text is not UTF-8")]
     NotUtf8,
     /// 251 to 254, 290: the assembler text.
@@ -55,7 +55,7 @@ pub enum CliFault {
     /// 501 to 605, 690: many calls in turns.
     #[error("the calls: {0}")]
     Core(CoreFault),
-    /// 701, 101 to 613 of what it tells, 790: the trail.
+    /// 701, 101 to 613 for what the trail says, 790: the trail.
     #[error("the trail: {0}")]
     Trail(TrailFault),
     /// 711 to 717, 790: what is wrong with the trail.
@@ -70,10 +70,10 @@ pub enum CliFault {
     /// 831: a call is unfinished, or the calls aren't those that were asked for.
     #[error("the calls are not those that were asked for")]
     NotClosed,
-    /// 731: the text is no script.
+    /// 731: the text isn't a script.
     #[error("the text is not a script")]
     NotScript,
-    /// 732: the arguments are no JSON list of integers of 64 bits.
+    /// 732: the arguments aren't a JSON list of 64-bit integers.
     #[error("the arguments are not a list of numbers")]
     NotArgs,
     /// 501: another number of arguments than the procedure takes.
@@ -85,7 +85,7 @@ pub enum CliFault {
 }
 
 impl CliFault {
-    /// The fault's number, then its parts.
+    /// The fault's number, followed by its parts.
     pub fn numbers(&self) -> ArrayVec<u64, 5>
         ensures { result.items ≡ numbers_of self.now }
     {
@@ -115,7 +115,7 @@ impl CliFault {
         numbers
     }
 
-    /// The program's exit status: 3 for a device, 4 for want of memory, else 1.
+    /// The program's exit status: 3 for a device, 4 if memory was refused, otherwise 1.
     pub fn status(&self) -> u8
         ensures { result ≡ status_of self.now }
     {
@@ -146,8 +146,8 @@ fn as_many(numbers: &ArrayVec<u64, 3>) -> ArrayVec<u64, 5>
     ensures { result.items ≡ numbers.now.items }
 {
     let mut all = ArrayVec::new();
-    // They are at most three, by their type: here a proof learns that.
-    let _count = numbers.len();
+    // There are at most three.
+    let _fact = numbers.len();
     let Ok(()) = all.try_extend_from_slice(numbers.as_slice()) else {
         unreachable!()
     };

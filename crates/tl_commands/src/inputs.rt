@@ -1,4 +1,4 @@
-// What the files stand for that more than one command reads.
+// The contents of the files that more than one command reads.
 
 ghost use Rattle.std.specs.Prelude.{◌≡◌, ◌≢◌, [], map, IfOk, IfErr, Ok};
 ghost use Rattle.tl_tree.specs.Reading.{tree_of_text};
@@ -18,7 +18,7 @@ use tl_history::MAX_EVENTS;
 use tl_json::{ProcedureText, register_all};
 use tl_tree::{Tree, TreeFault, read_tree};
 
-/// The tree that a file has. 106 where it is no UTF-8 or has another form, then 101 to 105.
+/// The tree in a file. 106 if the file isn't UTF-8 or has another form, then 101 to 105.
 pub fn tree_of_file(alloc: Global, bytes: &[u8]) -> Result<Tree, TreeFault>
     ensures ok { IfOk result (λ t. tree_of_text bytes.now ≡ Ok t) }
     ensures fault { IfErr result (λ f. f ≢ TreeFault.Memory → IsTreeFault bytes.now f) }
@@ -29,8 +29,8 @@ pub fn tree_of_file(alloc: Global, bytes: &[u8]) -> Result<Tree, TreeFault>
     }
 }
 
-/// A core of the tree with a script's procedures. Else what is wrong with the first that has a fault: its text, its code or
-/// its name. 290, 490 or 690 where memory is refused.
+/// A core of the tree with a script's procedures. Otherwise what is wrong with the first procedure that has a fault: its
+/// text, its code or its name. 290, 490 or 690 if memory is refused.
 pub fn core_of(alloc: Global, tree: Tree, texts: &[ProcedureText]) -> Result<Core, CliFault>
     ensures taken { IfOk result (λ core. TakenUp [] (map procedure_form texts.now) core.seen.procedures) }
     ensures ok { IfOk result (λ core. core.seen ≡ core_with tree core.seen.procedures) }

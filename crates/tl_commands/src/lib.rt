@@ -1,7 +1,7 @@
 //! The commands of the program `treedb`, as functions from the bytes of files to the bytes to print.
 //!
-//! A command answers what is to be printed, and what is to be written to a file where it writes one. Or it answers its
-//! first fault. Reading and writing the files is left to the program.
+//! A command returns what is to be printed and, if it writes a file, what is to be written there. Or it returns its first
+//! fault. Reading and writing the files is left to the program.
 #![tactic(auto)]
 
 mod alone;
@@ -25,7 +25,7 @@ mod widening;
 pub use alone::alone_cmd;
 pub use auditing::audit_cmd;
 pub use checking::check_cmd;
-pub use compiling::{compile_cmd, procs_cmd};
+pub use compiling::{check_procs_cmd, compile_cmd, procs_cmd};
 pub use driving::{drive_cmd, drive_with_trail_cmd};
 pub use fault::CliFault;
 pub use procedures::{asm_cmd, dis_cmd, migrate_cmd, verify_cmd};

@@ -28,7 +28,7 @@ pub fn next_lines(text: &mut String, lines: &str) -> Result<(), AllocError>
     text.push_str(lines)
 }
 
-/// The line of a value.
+/// The line for a value.
 pub fn line_of(alloc: Global, value: &Value) -> Result<String, AllocError>
     ensures { IfOk result (λ s. has_float (view value.now) ≡ false → string_bytes s ≡ compact_text (view value.now) ++ 10 ∷ []) }
 {
@@ -93,7 +93,7 @@ pub fn trail_file(alloc: Global, core: &Core) -> Result<String, CliFault>
     Ok(text)
 }
 
-// Puts the trail of an epoch last.
+// Appends the trail of an epoch.
 fn put_trail<S: TrailSink>(alloc: Global, closed: &Closed, sink: &mut S) -> Result<(), CliFault>
     ensures put { OnOk result (Adds (S.text sink.old) (trail_text (epoch_trail closed.now)) (S.text sink.new)) }
     ensures fault { IfErr result (λ e. (status_of e ≡ 4) ⊎ (e ≡ CliFault.Unwritable)) }
@@ -102,7 +102,7 @@ fn put_trail<S: TrailSink>(alloc: Global, closed: &Closed, sink: &mut S) -> Resu
     sink.put(&text)
 }
 
-// Puts a comma, but before the first trail.
+// Appends a comma, except before the first trail.
 fn put_comma<S: TrailSink>(number: usize, sink: &mut S) -> Result<(), CliFault>
     ensures put { OnOk result (Adds (S.text sink.old) (comma_before number) (S.text sink.new)) }
     ensures fault { IfErr result (λ e. IsSinkFault e) }
@@ -113,7 +113,7 @@ fn put_comma<S: TrailSink>(number: usize, sink: &mut S) -> Result<(), CliFault>
     sink.put(",")
 }
 
-// Puts the list of the epochs' trails last.
+// Appends the list of the epochs' trails.
 fn put_list<S: TrailSink>(alloc: Global, chain: &[Closed], sink: &mut S) -> Result<(), CliFault>
     ensures put { OnOk result (Adds (S.text sink.old) (chain_text (map epoch_trail chain.now)) (S.text sink.new)) }
     ensures fault { IfErr result (λ e. (status_of e ≡ 4) ⊎ (e ≡ CliFault.Unwritable)) }
@@ -126,8 +126,8 @@ fn put_list<S: TrailSink>(alloc: Global, chain: &[Closed], sink: &mut S) -> Resu
     sink.put("]")
 }
 
-/// Puts the file of a closed table's trails last: the text of the one trail, or the list of all, and a line feed. There is the text of
-/// one trail at a time.
+/// Appends the file of a closed table's trails: the text of the one trail, or the list of all, and a line feed. The text of
+/// only one trail is in memory at a time.
 pub fn put_trails<S: TrailSink>(
     alloc: Global,
     chain: &[Closed],

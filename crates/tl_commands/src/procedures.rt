@@ -64,7 +64,7 @@ fn bounds_to_value(
     json!(in alloc; {"bounds": {"emits": emits, "locks": locks, "steps": steps}})
 }
 
-// The line that tells how many instructions a code has.
+// The line that says how many instructions a code has.
 fn count_line(alloc: Global, code: &Code) -> Result<String, AllocError>
     ensures { IfOk result (λ s. string_bytes s ≡ count_text (length code.now.instrs)) }
 {
@@ -72,7 +72,7 @@ fn count_line(alloc: Global, code: &Code) -> Result<String, AllocError>
     line_of(alloc, &value)
 }
 
-/// The line of what a procedure does at most.
+/// The line that says what a procedure does at most.
 pub fn bounds_line(alloc: Global, bounds: Bounds) -> Result<String, AllocError>
     ensures { IfOk result (λ s. string_bytes s ≡ bounds_text bounds.emits bounds.locks bounds.steps) }
 {
@@ -82,11 +82,11 @@ pub fn bounds_line(alloc: Global, bounds: Bounds) -> Result<String, AllocError>
     line_of(alloc, &value)
 }
 
-/// The line that tells how many instructions the code of an assembler text has, and the code's container. Takes the bytes
-/// of the text's file.
+/// The line that says how many instructions the code of an assembler text has, and the code's container. Takes the bytes of
+/// the text's file.
 ///
-/// What is wrong first, in this order: 255 where the text is no UTF-8; line by line 251, 253 and 254; 251 where no line
-/// has the arity or an instruction; 252. Where memory was refused, 290 or 990.
+/// The first fault, in this order: 255 if the text isn't UTF-8; line by line 251, 253 and 254; 251 if no line has the arity
+/// or an instruction; 252. If memory was refused, 290 or 990.
 pub fn asm_cmd(alloc: Global, text: &[u8]) -> Result<(String, Vec<u8>), CliFault>
     ensures printed { IfOk result (λ r. Assembles text.now (string_bytes r.0) r.1.items) }
     ensures fault { IfErr result (λ e. IsFirstAssemblingFault text.now e) }
@@ -102,7 +102,7 @@ pub fn asm_cmd(alloc: Global, text: &[u8]) -> Result<(String, Vec<u8>), CliFault
 
 /// The canonical text of a container's code. Takes the bytes of the container's file.
 ///
-/// Else the container's first fault, 201 to 206. Where memory was refused, 290.
+/// Otherwise the container's first fault, 201 to 206. If memory was refused, 290.
 pub fn dis_cmd(alloc: Global, container: &[u8]) -> Result<String, CliFault>
     ensures printed { IfOk result (λ text. Lists container.now (string_bytes text)) }
     ensures fault { IfErr result (λ e. IsFirstContainerFault container.now e) }
@@ -114,7 +114,7 @@ pub fn dis_cmd(alloc: Global, container: &[u8]) -> Result<String, CliFault>
     }
 }
 
-// The same code in the second version. 207 where it isn't of the first.
+// The same code in the second version. 207 if it isn't in the first version.
 fn migrated_code(code: Code) -> Result<Code, CliFault>
     ensures migrated { IfOk result (λ c. (code.version ≡ One) × (c ≡ migrated code)) }
     ensures fault { IfErr result (λ e. (e ≡ CliFault.Code CodeFault.NotVersion1) × (code.version ≢ One)) }
@@ -125,11 +125,11 @@ fn migrated_code(code: Code) -> Result<Code, CliFault>
     }
 }
 
-/// The line that tells how many instructions a container's code has, and the container of the same code in the second version
-/// of the language. Takes the bytes of the container's file.
+/// The line that says how many instructions a container's code has, and the container of the same code in the second
+/// version of the language. Takes the bytes of the container's file.
 ///
-/// Else the container's first fault, 201 to 206, or 207 where it isn't of the first version. Where memory was refused, 290 or
-/// 990.
+/// Otherwise the container's first fault, 201 to 206, or 207 if it isn't in the first version. If memory was refused, 290
+/// or 990.
 pub fn migrate_cmd(alloc: Global, container: &[u8]) -> Result<(String, Vec<u8>), CliFault>
     ensures printed { IfOk result (λ r. Migrates container.now (string_bytes r.0) r.1.items) }
     ensures fault { IfErr result (λ e. IsFirstMigratingFault container.now e) }
@@ -143,9 +143,9 @@ pub fn migrate_cmd(alloc: Global, container: &[u8]) -> Result<(String, Vec<u8>),
     Ok((line, container))
 }
 
-/// The line of the bounds of a container's procedure. Takes the bytes of the container's file.
+/// The line for the bounds of a container's procedure. Takes the bytes of the container's file.
 ///
-/// Else the container's first fault, 201 to 206, or the verifier's, 301 to 307 and 401 to 409. Where memory was refused,
+/// Otherwise the container's first fault, 201 to 206, or the verifier's, 301 to 307 and 401 to 409. If memory was refused,
 /// 290, 490 or 990.
 pub fn verify_cmd(alloc: Global, container: &[u8]) -> Result<String, CliFault>
     ensures printed { IfOk result (λ s. Verifies container.now (string_bytes s)) }

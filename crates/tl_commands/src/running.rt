@@ -23,10 +23,10 @@ use tl_json::Request;
 use tl_table::{Closed, Receipt};
 use tl_workers::{Engine, Gate, MAX_WORKERS, Refusal, Session};
 
-// What the requests of a batch came to.
+// The results of the requests of a batch.
 type Answers = Vec<Result<Receipt, Refusal>>;
 
-// What came of a script: the answers to each batch, the epochs of the closed table, and whether the script names epochs.
+// The result of a script: the answers to each batch, the epochs of the closed table, and whether the script names epochs.
 #[derive(Drop)]
 pub struct Ran {
     answers: Vec<Answers>,
@@ -135,13 +135,14 @@ fn lines(alloc: Global, ran: &Ran) -> Result<String, CliFault>
     Ok(text)
 }
 
-/// Runs the calls of a script on a tree, on up to so many threads, and gives the lines to print: for each batch the answer to each
-/// request; the order of the calls, or of a script of epochs the order in each; and the tree as it is then. Takes the bytes of the
-/// tree's file and those of the script. Where the script has several lists of calls, the table is sealed between two.
+/// Runs the calls of a script on a tree, on up to `workers` threads, and returns the lines to print: for each batch the
+/// answer to each request; the order of the calls, or, for a script of epochs, the order in each; and the resulting tree.
+/// Takes the bytes of the tree's file and those of the script. If the script has several lists of calls, the table is
+/// sealed between two.
 ///
-/// What is wrong first, in this order: 106 (also for a tree that is no UTF-8), 101 to 105; 731; then of each procedure
-/// the assembler's 251 to 254, the verifier's 301 to 307 and 401 to 409, and 612, 611, 613; 831 where the engine that ran
-/// the calls doesn't close. Where memory was refused, 190, 290, 490, 690, 890 or 990.
+/// The first fault, in this order: 106 (also if the tree isn't UTF-8), 101 to 105; 731; then for each procedure the
+/// assembler's 251 to 254, the verifier's 301 to 307 and 401 to 409, and 612, 611, 613; 831 if the engine that ran the
+/// calls doesn't close. If memory was refused, 190, 290, 490, 690, 890 or 990.
 pub fn run_cmd<R: Threads + Wait + Sync, G: Gate + Sync>(
     rt: &R,
     alloc: Global,
@@ -159,8 +160,8 @@ pub fn run_cmd<R: Threads + Wait + Sync, G: Gate + Sync>(
     lines(alloc, &ran)
 }
 
-/// The same, and puts into the sink what is to be written to a file: the trail of the calls, or the list of the trails of all epochs
-/// where there are several, and a line feed. 32 where that can't be written; where memory was refused, also 790.
+/// The same, and puts into the sink what is to be written to a file: the trail of the calls, or, if there are several
+/// epochs, the list of the trails of all, and a line feed. 32 if that can't be written; if memory was refused, also 790.
 pub fn run_with_trail_cmd<R: Threads + Wait + Sync, G: Gate + Sync, S: TrailSink>(
     rt: &R,
     alloc: Global,

@@ -63,7 +63,7 @@ fn parts_of_value<'a>(value: &'a Value, tasks: &str) -> Option<(&'a Value, &'a V
     Some((value.get("procs")?, value.get(tasks)?))
 }
 
-// The script that a value stands for, whose tasks are the member of that name and have that form.
+// The script that a value stands for. Its tasks are the member of that name, and have that form.
 fn script_of_value<F: FromValue>(
     alloc: Global,
     value: &Value,
@@ -83,7 +83,7 @@ fn script_of_value<F: FromValue>(
     Ok(Some(Script { procedures, tasks }))
 }
 
-// The script that a file has, whose tasks are the member of that name and have that form.
+// The script in a file. Its tasks are the member of that name, and have that form.
 fn script_of_file<F: FromValue>(
     alloc: Global,
     bytes: &[u8],
@@ -98,12 +98,11 @@ fn script_of_file<F: FromValue>(
     }
 }
 
-/// The script of moves that a file has: `{"moves":[move,..],"procs":[[name,text],..]}`, an object with these two members
-/// and no others. A procedure is a list of its name and its assembler text, two strings. A move is an admission, a list of
-/// a procedure's name and a list of arguments, signed 64-bit integers; or a step, the number of a call, 0 to
-/// 4,294,967,295.
+/// The script of moves in a file: `{"moves":[move,..],"procs":[[name,text],..]}`, an object with these two members and no
+/// others. A procedure is a list of its name and its assembler text, two strings. A move is an admission, a list of a
+/// procedure's name and a list of arguments, signed 64-bit integers; or a step, the number of a call, 0 to 4,294,967,295.
 ///
-/// 731 for all else, also where it is no UTF-8; 990 where memory is refused.
+/// 731 for anything else, also if the file isn't UTF-8; 990 if memory is refused.
 pub fn read_moves(alloc: Global, bytes: &[u8]) -> Result<Script<Move>, CliFault>
     ensures ok { IfOk result (λ s. IsScript script_of_moves bytes.now (script_view move_view s)) }
     ensures fault { IfErr result (λ e. (e ≡ CliFault.Memory) ⊎ (e ≡ CliFault.NotScript) × ((s : ScriptValue _) → ¬ IsScript script_of_moves bytes.now s)) }
@@ -140,7 +139,7 @@ impl FromValue for BatchForm {
     }
 }
 
-/// What a script of calls says: the batches, one an epoch, and whether it names epochs.
+/// What a script of calls says: the batches, one per epoch, and whether it names epochs.
 #[derive(Debug, Drop)]
 pub struct RunScript {
     pub script: Script<Vec<Request>>,
@@ -196,11 +195,11 @@ fn run_script_of_value(alloc: Global, value: &Value) -> Result<Option<RunScript>
     }
 }
 
-/// The script of calls that a file has: `{"calls":[request,..],"procs":[[name,text],..]}`, with 1 to 256 calls, or
-/// `{"epochs":[[request,..],..],"procs":[[name,text],..]}`, with 1 to 256 lists of 1 to 256 calls; an object with these two members
-/// and no others. A procedure is as in a script of moves, and a request is what an admission is there.
+/// The script of calls in a file: `{"calls":[request,..],"procs":[[name,text],..]}`, with 1 to 256 calls, or
+/// `{"epochs":[[request,..],..],"procs":[[name,text],..]}`, with 1 to 256 lists of 1 to 256 calls; an object with these two
+/// members and no others. A procedure is as in a script of moves, and a request is what an admission is there.
 ///
-/// 731 for all else, also where it is no UTF-8; 990 where memory is refused.
+/// 731 for anything else, also if the file isn't UTF-8; 990 if memory is refused.
 pub fn read_calls(alloc: Global, bytes: &[u8]) -> Result<RunScript, CliFault>
     ensures ok { IfOk result (λ r. IsScript script_of_run bytes.now (script_view batch_form r.script)) }
     ensures epochs { IfOk result (λ r. r.has_epochs ≡ has_epochs bytes.now) }

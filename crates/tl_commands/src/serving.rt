@@ -1,4 +1,4 @@
-// The command `serve`: what is done before connections are taken up, and when all have ended.
+// The command `serve`: what is done before connections are accepted, and after all have ended.
 
 ghost use Rattle.std.specs.Prelude.{◌≡◌, ◌⊎◌, string_bytes, IfOk, OnOk, IfErr, All};
 ghost use Rattle.tl_table.specs.Tables.{IsChain};
@@ -20,7 +20,7 @@ use tl_workers::{Engine, Session};
 
 /// An engine for calls on the tree of a file, without procedures. Takes the bytes of the file.
 ///
-/// 106 (also for a tree that is no UTF-8), 101 to 105. Where memory was refused, 190, 690, 890 or 990.
+/// 106 (also if the tree isn't UTF-8), 101 to 105. If memory was refused, 190, 690, 890 or 990.
 pub fn open_engine(alloc: Global, tree: &[u8]) -> Result<Engine, CliFault>
     ensures opened { OnOk result (IsTreeFile tree.now) }
     ensures fault { IfErr result (λ e. IsOpeningFault tree.now e) }
@@ -57,10 +57,10 @@ fn lines(alloc: Global, chain: &[Closed]) -> Result<String, CliFault>
     closing_lines(alloc, chain, chain.len() > 1)
 }
 
-/// Closes an engine with all its sessions, and gives the lines to print: the order of the calls, or where there are several epochs
-/// the order in each; and the tree as it is then.
+/// Closes an engine with all its sessions, and returns the lines to print: the order of the calls, or, if there are several
+/// epochs, the order in each; and the resulting tree.
 ///
-/// 831 where the engine doesn't close: a call is unfinished, or a session's list isn't what the table says. Where memory was
+/// 831 if the engine doesn't close: a call is unfinished, or a session's list isn't what the table says. If memory was
 /// refused, 190 or 990.
 pub fn conclude_engine(
     alloc: Global,
@@ -74,8 +74,8 @@ pub fn conclude_engine(
     lines(alloc, &chain)
 }
 
-/// The same, and puts into the sink what is to be written to a file: the trail of the calls, or the list of the trails of all epochs
-/// where there are several, and a line feed. 32 where that can't be written; where memory was refused, also 790.
+/// The same, and puts into the sink what is to be written to a file: the trail of the calls, or, if there are several
+/// epochs, the list of the trails of all, and a line feed. 32 if that can't be written; if memory was refused, also 790.
 pub fn conclude_engine_with_trail<S: TrailSink>(
     alloc: Global,
     engine: Engine,

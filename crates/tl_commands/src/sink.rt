@@ -7,10 +7,10 @@ use crate::fault::CliFault;
 
 /// Takes the text of trails, piece by piece, so that the text of only one trail has to be in memory.
 pub trait TrailSink {
-    // What it has, where that is known.
+    // The text that the sink has, if it is known.
     ghost text: { Self → Option (List ℕ) };
 
-    /// Puts the piece last. 32 where it can't be written, 990 where memory is refused.
+    /// Appends the piece. 32 if it can't be written, 990 if memory is refused.
     fn put(&mut self, piece: &str) -> Result<(), CliFault>
         ensures put { OnOk result (Adds (text self.old) piece.now (text self.new)) }
         ensures fault { IfErr result (λ e. IsSinkFault e) };

@@ -1,4 +1,4 @@
-// What came of a script's moves, as values of JSON.
+// The results of a script's moves, as JSON values.
 
 ghost use Rattle.std.specs.Prelude.{◌≡◌, ◌∷◌, ◌++◌, [], codes, map, IfOk, OnOk};
 ghost use Rattle.serde_json.specs.Data.{array, object, member, no_members};
@@ -40,7 +40,7 @@ fn blocked_to_value(alloc: Global, call: u32, node: u16, holder: u32) -> Result<
     json!(in alloc; [Letter::Blocked.as_str(), call, node, holder])
 }
 
-// Puts numbers last.
+// Appends numbers.
 fn push_numbers(items: &mut Vec<Value>, numbers: &[u64]) -> Result<(), AllocError>
     ensures { OnOk result (map view items.new.items ≡ map view items.old.items ++ map natural numbers.now) }
 {
@@ -92,7 +92,7 @@ fn action_to_value(alloc: Global, call: u32, action: &Action) -> Result<Value, A
     }
 }
 
-// What a step of a call came to.
+// The result of a step of a call.
 fn stepped_to_value(alloc: Global, call: u32, stepped: &Stepped) -> Result<Value, AllocError>
     ensures { IfOk result (λ v. view v ≡ stepped_data call stepped.now) }
 {
@@ -103,7 +103,7 @@ fn stepped_to_value(alloc: Global, call: u32, stepped: &Stepped) -> Result<Value
     }
 }
 
-// What came of a move.
+// The result of a move.
 fn entry_to_value(alloc: Global, entry: &Entry) -> Result<Value, AllocError>
     ensures { IfOk result (λ v. view v ≡ entry_data entry.now) }
 {
@@ -128,7 +128,7 @@ fn entries_to_value(alloc: Global, entries: &[Entry]) -> Result<Value, AllocErro
     Ok(Value::Array(items))
 }
 
-/// `{"trace":[..]}`, with what came of each move.
+/// `{"trace":[..]}`, with the result of each move.
 pub fn trace_to_value(alloc: Global, entries: &[Entry]) -> Result<Value, AllocError>
     ensures { IfOk result (λ v. view v ≡ trace_data entries.now) }
 {

@@ -20,7 +20,7 @@ fn nodes_to_value(alloc: Global, nodes: Value) -> Result<Value, AllocError>
     json!(in alloc; {"nodes": nodes})
 }
 
-// The line that tells how many nodes a tree has.
+// The line that says how many nodes a tree has.
 fn nodes_line(alloc: Global, tree: &Tree) -> Result<String, AllocError>
     ensures { IfOk result (λ s. string_bytes s ≡ nodes_text (length tree.now.parents)) }
 {
@@ -41,10 +41,10 @@ fn tree_file(alloc: Global, tree: &Tree) -> Result<String, CliFault>
     Ok(text)
 }
 
-/// The line that tells how many nodes a tree has, and the text of the tree, whose records have eight fields. Takes the bytes of
-/// the tree's file, whose records may all have four: the others are 0 then.
+/// The line that says how many nodes a tree has, and the text of the tree, whose records have eight fields. Takes the bytes
+/// of the tree's file. If its records all have four fields, the others are 0.
 ///
-/// Else what is wrong with the tree first, 101 to 106. Where memory was refused, 190 or 990.
+/// Otherwise the tree's first fault, 101 to 106. If memory was refused, 190 or 990.
 pub fn widen_cmd(alloc: Global, tree: &[u8]) -> Result<(String, String), CliFault>
     ensures printed { IfOk result (λ r. WidensTree tree.now (string_bytes r.0) (string_bytes r.1)) }
     ensures fault { IfErr result (λ e. IsFirstWideningFault tree.now e) }

@@ -1,7 +1,6 @@
 pub mod Aiming
 pub mod Faults
 pub mod Labels
+pub mod NodeSets
 pub mod Numbers
-pub mod Outcomes
-pub mod Sets
 pub mod Statements

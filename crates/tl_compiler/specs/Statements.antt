@@ -1,6 +1,6 @@
 -- The code of statements. Code is put before the code that follows it, k, and a label is how many instructions stand from there to
 -- the end.
-use Rattle.std.specs.Prelude.{ℕ, zero, suc, ◌+◌, List, [], ◌∷◌, Bool, true, false, not, ◌&&◌, ◌||◌, Option, Some, None, is_some, length, max, if◌then◌else◌, pos}
+use Rattle.std.specs.Prelude.{ℕ, zero, suc, ◌+◌, List, [], ◌∷◌, Bool, true, false, not, ◌&&◌, ◌||◌, Option, Some, None, is_some, length, if◌then◌else◌, pos}
 use Rattle.tl_instr.specs.declared.operand.TheConstants.{NODE_REGISTERS}
 use Rattle.tl_instr.specs.declared.instr.Instr.{Instr}
 use Rattle.tl_instr.specs.declared.instr.Instr.TheVariants as I
@@ -11,8 +11,10 @@ use Rattle.tl_lowering.specs.declared.program.Statement.{Statement}
 use Rattle.tl_lowering.specs.declared.program.Statement.TheVariants as S
 use Rattle.tl_compiler.specs.Labels.{target_of}
 use Rattle.tl_compiler.specs.Numbers.{register_of, behind, into_code, operand_code, operands_code, branch_code}
-use Rattle.tl_compiler.specs.Sets.{Nodes, none_held, holds, minus, same, is_among, all_of, all_sets}
-use Rattle.tl_compiler.specs.Outcomes.{locked, handled_by, after, fails}
+use Rattle.tl_lowering.specs.Sets.{Nodes, none_held, holds, minus, same, is_among, all_of}
+use Rattle.tl_compiler.specs.NodeSets.{all_sets}
+use Rattle.tl_lowering.specs.Outcomes.{locked, handled_by, after, fails}
+use Rattle.tl_lowering.specs.Sound.{nodes_behind}
 
 -- the way out of a loop, and what is held there
 pub record Exit : Type 0 where
@@ -93,12 +95,6 @@ abbrev pub pads_of : List Nodes → List Nodes → Nodes → ℕ → Pads → Pa
 pads_of [] failing handled label pads = pads
 pads_of (held ∷ others) failing handled label pads =
     one_pad (is_among held failing && not (same held handled)) held handled label (pads_of others failing handled label pads)
-
--- how many nodes have registers once a place is locked
-abbrev pub nodes_behind : Place → ℕ
-nodes_behind (P.Node n e) = n + 1
-nodes_behind (P.Child n p e) = n + 1
-nodes_behind (P.Pair n k p a b) = max n k + 1
 
 -- two children in rising order: where the upper one can't be locked, the lower one is freed again
 abbrev pub in_order_code : ℕ → ℕ → ℕ → ℕ → ℕ → ℕ → ℕ → List Instr → List Instr

@@ -20,7 +20,7 @@ pub struct Compiled {
     pub procedure: Proc,
 }
 
-// The code of a procedure. What belongs to no statement belongs to its name.
+// The code of a procedure. What belongs to no statement belongs to the procedure's name.
 fn draft_of(alloc: Global, procedure: &Procedure) -> Result<Draft, DraftFault> {
     let mut draft = Draft::new(alloc);
     draft.put(procedure.offset, Instr::Return)?;
@@ -37,7 +37,7 @@ fn draft_of(alloc: Global, procedure: &Procedure) -> Result<Draft, DraftFault> {
     Ok(draft)
 }
 
-// The instructions from the first one on, with positions in the place of labels.
+// The instructions from the first one on, with positions in place of labels.
 fn instrs_of(alloc: Global, draft: &Draft) -> Result<Vec<Instr>, CompileFault> {
     let count = u16::try_from(draft.instrs.len()).unwrap_or(u16::MAX);
     let mut instrs = Vec::with_capacity(alloc, draft.instrs.len())?;
@@ -47,7 +47,7 @@ fn instrs_of(alloc: Global, draft: &Draft) -> Result<Vec<Instr>, CompileFault> {
     Ok(instrs)
 }
 
-// Too much of something, and the statement that most of it is for.
+// The fault for too much of something, at the statement that most of it is for.
 fn over(alloc: Global, text: &[u8], draft: &Draft, excess: Excess) -> CompileFault {
     match heaviest(alloc, draft, excess) {
         Ok((offset, sum)) => CompileFault::Over(excess, sum, Position::of(text, offset)),
@@ -73,7 +73,7 @@ fn refused(
     over(alloc, text, draft, excess)
 }
 
-// The procedure. 294 to 298, or 290.
+// Compiles a procedure. 294 to 298, or 290.
 fn compile_one(alloc: Global, text: &[u8], source: Procedure) -> Result<Compiled, CompileFault> {
     let name_place = Position::of(text, source.offset);
     let draft = match draft_of(alloc, &source) {
@@ -101,8 +101,8 @@ fn compile_one(alloc: Global, text: &[u8], source: Procedure) -> Result<Compiled
 
 /// The procedures of a text, in order, each accepted by the verifier.
 ///
-/// Else what is wrong first: 255 where the text is no UTF-8; 270 to 293 of the text; procedure by procedure 294 to 298. 290 where
-/// memory was refused.
+/// Otherwise the first fault: 255 if the text isn't UTF-8; 270 to 293 for the text; 294 to 298, procedure by procedure. 290
+/// if memory was refused.
 pub fn compile(alloc: Global, text: &[u8]) -> Result<Vec<Compiled>, CompileFault> {
     if std::str::from_utf8(text).is_err() {
         return Err(CompileFault::NotUtf8);
@@ -118,7 +118,7 @@ pub fn compile(alloc: Global, text: &[u8]) -> Result<Vec<Compiled>, CompileFault
     Ok(compiled)
 }
 
-/// The procedure of that name, or the one that there is. 289 where there isn't one.
+/// The procedure of that name, or the only one. 289 if there isn't one.
 pub fn one_of(procedures: Vec<Compiled>, name: Option<&str>) -> Result<Compiled, CompileFault> {
     let is_one = procedures.len() == 1;
     for compiled in procedures {

@@ -7,14 +7,14 @@ use crate::values::Site;
 use tl_instr::ValueRegister;
 use tl_lowering::Place;
 
-/// Where a failure leads, by what is held at it.
+/// Where a failure leads, by what is held when it happens.
 #[derive(Clone, Copy)]
 pub struct Pads {
     labels: [Label; SETS],
 }
 
 impl Pads {
-    /// Each failure leads there.
+    /// Each failure leads to the label.
     pub fn all(label: Label) -> Pads {
         Pads {
             labels: [label; SETS],
@@ -62,7 +62,7 @@ impl<'a> Context<'a> {
         Context { origin, ..self }
     }
 
-    /// Where the value has the register, and the values behind it are free.
+    /// The context in which the value has the register, and the registers after it are free.
     pub fn with_value(self, register: ValueRegister) -> Context<'a> {
         Context {
             values: register.index() + 1,
@@ -70,7 +70,7 @@ impl<'a> Context<'a> {
         }
     }
 
-    /// Where the place is locked.
+    /// The context in which the place is locked.
     pub fn with_place(self, place: &Place) -> Context<'a> {
         Context {
             held: locked(place, self.held),
@@ -79,12 +79,12 @@ impl<'a> Context<'a> {
         }
     }
 
-    /// Where the statement's failure leads.
+    /// The label that the statement's failure leads to.
     pub fn failure(&self) -> Label {
         self.pads.label(self.held)
     }
 
-    /// Where the statement's numbers are made, and their failure leads to the label.
+    /// The site of the statement's numbers; their failure leads to the label.
     pub fn site(&self, failure: Label) -> Site {
         Site {
             free: self.values,
@@ -93,7 +93,7 @@ impl<'a> Context<'a> {
         }
     }
 
-    /// Where the number is made that the register gets, and its failure leads to the label.
+    /// The site of the number for the register; its failure leads to the label.
     pub fn binding(&self, to: ValueRegister, failure: Label) -> Site {
         Site {
             free: to.index(),

@@ -5,7 +5,7 @@ use crate::fault::Excess;
 use std::alloc::{AllocError, Global};
 use tl_instr::Instr;
 
-// How often the body of the loop that the instruction opens turns at most.
+// How often the body of the loop that the instruction opens runs at most.
 fn turns_of(instr: &Instr) -> Option<u64> {
     match *instr {
         Instr::Repeat { count } | Instr::RepeatBy { count, .. } => Some(u64::from(count)),
@@ -13,7 +13,7 @@ fn turns_of(instr: &Instr) -> Option<u64> {
     }
 }
 
-// What an instruction adds to the sum, where the loops around turn so often in all.
+// What an instruction adds to the sum if the loops around it run it `weight` times in all.
 fn amount(excess: Excess, instr: &Instr, weight: u64) -> u64 {
     let counts = match excess {
         Excess::Instructions => return 1,

@@ -29,14 +29,14 @@ impl<T: Drop> From<AllocFailed<T>> for DraftFault {
     }
 }
 
-/// A place in a code: how many instructions stand from there to the end.
+/// A place in a code: how many instructions there are from it to the end.
 #[derive(Clone, Copy, Debug, PartialEq, Eq)]
 pub struct Label(pub usize);
 
 impl Label {
     ghost use Rattle.tl_compiler.specs.Labels.{target_of};
 
-    /// The same in the place of a target. Where it doesn't fit, the code is too long.
+    /// The label as a jump's target. If it doesn't fit, the code is too long.
     pub fn target(self) -> u16
         ensures { result ≡ target_of self.0 }
     {
@@ -55,7 +55,7 @@ pub struct Draft {
     pub origins: Vec<usize>,
 }
 
-/// The value register of that number, where there is one.
+/// The value register of that number, if there is one.
 pub fn value_register(number: usize) -> Result<ValueRegister, DraftFault>
     ensures value { IfOk result (λ r. r ≡ number) }
     ensures in_range { OnOk result (number < VALUE_REGISTERS) }
@@ -69,7 +69,7 @@ pub fn value_register(number: usize) -> Result<ValueRegister, DraftFault>
     }
 }
 
-/// The node register of that number, where there is one.
+/// The node register of that number, if there is one.
 pub fn node_register(number: usize) -> Result<NodeRegister, DraftFault>
     ensures value { IfOk result (λ r. r ≡ number) }
     ensures in_range { OnOk result (number < NODE_REGISTERS) }
@@ -85,6 +85,8 @@ pub fn node_register(number: usize) -> Result<NodeRegister, DraftFault>
 
 impl Draft {
     ghost use Rattle.tl_compiler.specs.Labels.{target_of};
+    ghost use Rattle.tl_compiler.specs.NodeSets.{nodes_of};
+    ghost use Rattle.tl_compiler.specs.Statements.{release_code};
 
     pub fn new(alloc: Global) -> Draft {
         Draft {
@@ -101,7 +103,7 @@ impl Draft {
         Label(self.instrs.len())
     }
 
-    /// One more instruction before the others.
+    /// Puts one more instruction before the others.
     #[tactic(auto, using(crate::proofs::CodeLemmas::pushed))]
     pub fn put(&mut self, origin: usize, instr: Instr) -> Result<(), DraftFault>
         ensures { OnOk result (reverse self.new.instrs.items ≡ instr ∷ reverse self.old.instrs.items) }
@@ -119,7 +121,9 @@ impl Draft {
     }
 
     /// Frees these registers, the highest first.
-    pub fn release(&mut self, origin: usize, nodes: NodeSet) -> Result<(), DraftFault> {
+    pub fn release(&mut self, origin: usize, nodes: NodeSet) -> Result<(), DraftFault>
+        ensures { OnOk result (reverse self.new.instrs.items ≡ release_code (nodes_of nodes) (reverse self.old.instrs.items)) }
+    {
         for number in 0..NODE_REGISTERS as u8 {
             let Some(node) = NodeRegister::new(number) else {
                 break;

@@ -44,10 +44,10 @@ impl Excess {
 /// Why a text isn't compiled.
 #[derive(Clone, Copy, Debug, PartialEq, Eq, Error)]
 pub enum CompileFault {
-    /// 255: the text is no UTF-8.
+    /// 255: the text isn't UTF-8.
     #[error("the text is not UTF-8")]
     NotUtf8,
-    /// 270 to 293: what is wrong first, and where.
+    /// 270 to 293: the first fault of the text, and where it is.
     #[error("{1}: {0}")]
     Wrong(Wrong, Position),
     /// 294 to 297: too much of something, how much in all, and the statement that most of it is for.
@@ -83,7 +83,7 @@ impl<T: Drop> From<AllocFailed<T>> for CompileFault {
 impl CompileFault {
     ghost use Rattle.tl_compiler.specs.Faults.{numbers_of};
 
-    /// What is wrong first with a text.
+    /// The first fault of a text.
     pub fn of_syntax(text: &[u8], fault: SyntaxFault) -> CompileFault {
         match fault {
             SyntaxFault::At { wrong, offset } => {
@@ -103,7 +103,7 @@ impl CompileFault {
         }
     }
 
-    /// The fault's number, and then its line and its column where it has a place.
+    /// The fault's number, followed by its line and column if it has a place.
     pub fn numbers(&self) -> ArrayVec<u64, 3>
         ensures { result.items ≡ numbers_of self.now }
     {

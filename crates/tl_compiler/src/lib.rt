@@ -1,7 +1,7 @@
 //! The compiler: from the text of procedures to codes that the verifier accepts.
 //!
-//! A construct is translated at a time, without an optimiser. Code is written from its end to its start. So each label is known
-//! where a jump to it is written, since all jumps go ahead.
+//! Each construct is translated by itself, without an optimiser. Code is written from its end to its start. All jumps go
+//! forward, so each label is known when a jump to it is written.
 #![tactic(auto)]
 
 mod aiming;

@@ -1,49 +1,60 @@
 // Sets of node registers, and sets of these.
 
-ghost use Rattle.std.specs.Prelude.{◌<◌};
+ghost use Rattle.std.specs.Prelude.{◌≡◌, ◌<◌, option_map};
+ghost use Rattle.tl_compiler.specs.NodeSets.{nodes_of};
+ghost use Rattle.tl_lowering.specs.Sets.{both_of};
 
 use tl_instr::{NODE_REGISTERS, NodeRegister};
 
-/// A set of node registers: a bit each.
+/// A set of node registers: one bit each, the lowest for register 0.
 #[derive(Clone, Copy, Debug, PartialEq, Eq)]
 pub struct NodeSet {
     bits: u8,
 }
 
-fn bit(register: NodeRegister) -> u8 {
-    1 << register.number()
-}
-
 impl NodeSet {
+    ghost use Rattle.tl_lowering.specs.Sets.{holds, with_node, without_node, minus, both};
+
     pub const EMPTY: NodeSet = NodeSet { bits: 0 };
 
     pub fn of_bits(bits: u8) -> NodeSet {
         NodeSet { bits }
     }
 
-    pub fn contains(self, register: NodeRegister) -> bool {
-        self.bits & bit(register) != 0
+    pub fn contains(self, register: NodeRegister) -> bool
+        ensures { result ≡ holds (nodes_of self) register }
+    {
+        self.bits & (1 << register.number()) != 0
     }
 
-    pub fn with(self, register: NodeRegister) -> NodeSet {
+    pub fn with(self, register: NodeRegister) -> NodeSet
+        ensures { nodes_of result ≡ with_node (nodes_of self) register }
+    {
         NodeSet {
-            bits: self.bits | bit(register),
+            bits: self.bits | 1 << register.number(),
         }
     }
 
-    pub fn without(self, register: NodeRegister) -> NodeSet {
+    pub fn without(self, register: NodeRegister) -> NodeSet
+        ensures { nodes_of result ≡ without_node (nodes_of self) register }
+    {
         NodeSet {
-            bits: self.bits & !bit(register),
+            bits: self.bits & !(1 << register.number()),
         }
     }
 
-    pub fn minus(self, other: NodeSet) -> NodeSet {
+    /// What is only in the first.
+    pub fn minus(self, other: NodeSet) -> NodeSet
+        ensures { nodes_of result ≡ minus (nodes_of self) (nodes_of other) }
+    {
         NodeSet {
             bits: self.bits & !other.bits,
         }
     }
 
-    pub fn and(self, other: NodeSet) -> NodeSet {
+    pub fn and(self, other: NodeSet) -> NodeSet
+        ensures { nodes_of result ≡ both (nodes_of self) (nodes_of other) }
+    {
         NodeSet {
             bits: self.bits & other.bits,
         }
@@ -57,8 +68,10 @@ impl NodeSet {
     }
 }
 
-/// What is in both, or in the one that there is.
-pub fn common(first: Option<NodeSet>, second: Option<NodeSet>) -> Option<NodeSet> {
+/// What is in both, or in the only one given.
+pub fn common(first: Option<NodeSet>, second: Option<NodeSet>) -> Option<NodeSet>
+    ensures { option_map nodes_of result ≡ both_of (option_map nodes_of first) (option_map nodes_of second) }
+{
     match (first, second) {
         (None, other) | (other, None) => other,
         (Some(first), Some(second)) => Some(first.and(second)),
@@ -104,7 +117,7 @@ impl NodeSets {
         self.words == [0; 4]
     }
 
-    /// What is in all of them, or nothing where there is none.
+    /// What is in all of them; `None` if there are no sets.
     pub fn common(&self) -> Option<NodeSet> {
         if self.is_none() {
             return None;

@@ -3,7 +3,7 @@
 use crate::node_set::{NodeSet, NodeSets, common};
 use tl_lowering::{Condition, Expression, Place, Statement};
 
-/// Which registers hold a node: behind a statement, if it goes on; where it fails; and where it breaks out of a loop.
+/// Which registers hold a node: after a statement, if it goes on; when it fails; and when it breaks out of a loop.
 #[derive(Clone, Copy)]
 pub struct Outcomes {
     pub after: Option<NodeSet>,
@@ -61,7 +61,7 @@ impl Outcomes {
         }
     }
 
-    /// What is held where the failure of a statement is handled that began so.
+    /// What is held when the failure of a statement that began with `held` is handled.
     pub fn handled(&self, held: NodeSet) -> NodeSet {
         match self.fails.common() {
             Some(fails) => fails.and(held),
@@ -78,7 +78,7 @@ impl Outcomes {
         }
     }
 
-    // A loop with this body, which began so. It may end before the body does where `may_end` says so.
+    // A loop with this body, which began with `held`. `may_end` says whether the loop may end before its body does.
     fn repeated(&self, held: NodeSet, may_end: bool) -> Outcomes {
         let ended = if may_end || self.after.is_some() {
             Some(held)
@@ -94,7 +94,7 @@ impl Outcomes {
     }
 }
 
-/// Whether an operation stands in it, which may fail.
+/// Whether the expression contains an operation, which may fail.
 pub fn may_fail(expression: &Expression) -> bool {
     matches!(*expression, Expression::Calculated(_, _, _))
 }

@@ -16,7 +16,7 @@ struct Claim {
 }
 
 impl Draft {
-    /// The code that locks a place. Where it can't, control goes to the site's failure.
+    /// The code that locks a place. If it can't be locked, control goes to the site's failure.
     pub fn place(&mut self, place: &Place, site: Site) -> Result<(), DraftFault>
         ensures { OnOk result (reverse self.new.instrs.items ≡ place_code place.now site.free site.failure.0 (reverse self.old.instrs.items)) }
     {
@@ -62,7 +62,7 @@ impl Draft {
         }
     }
 
-    // Both children in rising order; where the second one can't be locked, the first one is freed.
+    // Both children in rising order; if the second one can't be locked, the first one is freed.
     fn pair_in_order(
         &mut self,
         lower: &Claim,

@@ -53,7 +53,7 @@ fn is_skip(statement: &Statement) -> bool {
     }
 }
 
-// What is held behind a statement; nothing where it never goes on.
+// What is held after a statement; nothing if it never goes on.
 fn held_behind(statement: &Statement, held: NodeSet) -> NodeSet {
     outcomes_of(statement, held).after.unwrap_or(NodeSet::EMPTY)
 }
@@ -117,7 +117,7 @@ impl Draft {
         self.statement(statement, context)
     }
 
-    // The pads of the failures that leave more held than the handler begins with. Answers whether there is one.
+    // The pads of the failures that leave more held than the handler begins with. Returns whether there is one.
     fn pads(
         &mut self,
         fails: &NodeSets,
@@ -167,7 +167,7 @@ impl Draft {
         self.first_way(body, ways, inside)
     }
 
-    // The code of a loop from behind the instruction that opens it. It may end before its body does where `may_end` says so.
+    // The code of a loop after the instruction that opens it. `may_end` says whether the loop may end before its body does.
     #[cycle(statements)]
     fn turns(
         &mut self,
@@ -191,7 +191,7 @@ impl Draft {
         self.statement(body, inside)
     }
 
-    // Opens a loop of as many turns as the number says.
+    // Opens a loop of as many turns as the number says. If these are more than `most`, control goes to the site's failure.
     fn counted(&mut self, number: &Expression, most: u16, site: Site) -> Result<(), DraftFault>
         ensures { OnOk result (reverse self.new.instrs.items ≡ counted_code number.now most site.free site.failure.0 (reverse self.old.instrs.items)) }
     {
@@ -344,7 +344,7 @@ impl Draft {
         }
     }
 
-    /// The code of a statement, before all that was written.
+    /// The code of a statement, put before all that was written.
     #[cycle(statements)]
     pub fn statement(
         &mut self,

@@ -17,7 +17,7 @@ pub struct Site {
     pub origin: usize,
 }
 
-// The register that a value is in; another number is in none.
+// The register that a value is in; any other number is in none.
 fn own_register(number: &Expression) -> Option<ValueRegister>
     ensures { result ≡ own_register number.now }
 {
@@ -40,7 +40,7 @@ pub fn register_of(operand: &Expression, free: usize) -> Result<ValueRegister, D
     }
 }
 
-/// The next free register behind an operand.
+/// The next free register after an operand.
 pub fn behind(operand: &Expression, free: usize) -> Result<usize, DraftFault>
     ensures { IfOk result (λ n. n ≡ behind operand.now free) }
 {
@@ -98,7 +98,7 @@ pub enum Test {
     Equal,
 }
 
-// The jump to the target where the test of the two registers holds.
+// The jump to the target if the test of the two registers holds.
 fn test_jump(test: Test, left: ValueRegister, right: ValueRegister, target: u16) -> Instr
     ensures { result ≡ test_jump test left right target }
 {
@@ -117,7 +117,7 @@ fn test_jump(test: Test, left: ValueRegister, right: ValueRegister, target: u16)
 }
 
 impl Draft {
-    /// The code that puts a number where the site's first free register is, but for a value, which is in its own.
+    /// The code that puts a number into the site's first free register; a value stays in its own.
     #[cycle(numbers)]
     pub fn operand(&mut self, operand: &Expression, site: Site) -> Result<(), DraftFault>
         ensures { OnOk result (reverse self.new.instrs.items ≡ operand_code operand.now site.free site.failure.0 (reverse self.old.instrs.items)) }
@@ -131,7 +131,7 @@ impl Draft {
         }
     }
 
-    /// The code that puts a number into a register. Only its last instruction writes that one.
+    /// The code that puts a number into a register. Only its last instruction writes that register.
     #[cycle(numbers)]
     pub fn into(
         &mut self,
@@ -171,7 +171,7 @@ impl Draft {
         }
     }
 
-    /// The code of two operands, one behind the other.
+    /// The code of two operands, one after the other.
     pub fn operands(
         &mut self,
         left: &Expression,
@@ -185,7 +185,7 @@ impl Draft {
         self.operand(left, site)
     }
 
-    // A jump to the label where the two registers compare as `sense` says, and else on.
+    // A jump to the label if the two registers compare as `sense` says; otherwise control goes on.
     fn jump_if(
         &mut self,
         test: Test,
@@ -205,7 +205,7 @@ impl Draft {
         self.put(origin, test_jump(test, left, right, on.target()))
     }
 
-    // The code that goes to the label where the two numbers compare as `sense` says, and else on.
+    // The code that goes to the label if the two numbers compare as `sense` says; otherwise control goes on.
     fn comparison(
         &mut self,
         test: Test,
@@ -224,7 +224,7 @@ impl Draft {
         self.operands(left, right, site)
     }
 
-    // The same where the first number is greater than the second one.
+    // The same for whether the first number is greater than the second one.
     fn greater(
         &mut self,
         left: &Expression,
@@ -242,14 +242,15 @@ impl Draft {
         self.operands(left, right, site)
     }
 
-    // Where the first of two conditions leads that is false: on, if the whole leads to the label where it is true.
+    // Where control goes if the first of two conditions is false: on, if a true whole leads to the label; otherwise to the
+    // label.
     fn way_out(&self, sense: bool, label: Label) -> Label
         ensures { result.0 ≡ (if sense then length (reverse self.now.instrs.items) else label.0) }
     {
         if sense { self.here() } else { label }
     }
 
-    /// The code that goes to the label where the condition is what `sense` says, and else on.
+    /// The code that goes to the label if the condition is what `sense` says; otherwise control goes on.
     pub fn branch(
         &mut self,
         condition: &Condition,

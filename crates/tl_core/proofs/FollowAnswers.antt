@@ -57,9 +57,10 @@ pub still_free : (v w : CoreValue) (s : Stop) → w.past ≡ v.past → ((x d : 
 still_free v w s same free x d way = free x d (record { locks = way.locks; holder = ap (λ past. holder_of past x) (sym same) ∙ way.holder })
 
 -- so the segment's local actions and that of its stop were done
-pub has_gone : (v w u : CoreState) (c : ℕ) (segment : SegmentValue) → IsLed v c w → NextEndsStop w.seen c segment.stop → ((x d : ℕ) → IsInTheWay w.seen segment.stop x d → ⊥)
+pub has_gone : (v w u : CoreState) (c : ℕ) (segment : SegmentValue) → IsLed v c w → NextEndsStop w.seen c segment.stop → ((x d : ℕ) → IsInTheWay v.seen segment.stop x d → ⊥)
+    → ((x d : ℕ) → IsInTheWay w.seen segment.stop x d → ⊥)
     → (r : Result Stepped CoreFault) → r ≡ step_answer (world_of w.seen) c → u.seen ≡ after_step w.seen c r → HasGone v c segment u
-has_gone v w u c segment led next free r answer after =
+has_gone v w u c segment led next none free r answer after =
     let b = stop_step w.seen c segment.stop next free in
     record {
       local = led.local;
@@ -67,6 +68,7 @@ has_gone v w u c segment led next free r answer after =
       last = b.0;
       is_last = b.2;
       goes = goes_more v.seen w.seen u.seen c led.local b.0 led.goes b.1 (ap (after_step w.seen c) (sym b.1 ∙ sym answer) ∙ sym after);
+      free = none;
     }
 
 -- what a call does at a stop isn't local, and at none is it over

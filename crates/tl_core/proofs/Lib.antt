@@ -16,6 +16,7 @@ pub mod EnabledLemmas
 pub mod RunParts
 pub mod FollowLemmas
 pub mod FollowAnswers
+pub mod PassedStops
 pub mod KeptTurns
 pub mod LedCores
 pub mod DriveLemmas

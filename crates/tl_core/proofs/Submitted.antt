@@ -1,7 +1,7 @@
 -- A segment that is submitted as it is lent.
 use Rattle.std.proofs.Common.{◌≡◌, ℕ, inl, inr, List, refl, sym, ap, ◌∙◌, subst, Some}
 use Rattle.tl_instr.specs.Codes.{CodeValue}
-use Rattle.tl_machine.specs.Turns.{TurnValue, SegmentValue, LentValue, IsTurn, IsSegment, IsFrom, HasRun, ComesByLocal, Stops, end_of, with_call}
+use Rattle.tl_machine.specs.Turns.{TurnValue, SegmentValue, LentValue, IsTurn, IsSegment, IsFrom, HasRun, ComesByLocal, Stops, end_of, segment_of, with_call}
 use Rattle.tl_machine.specs.declared.call.CallState.{CallState}
 use Rattle.tl_machine.specs.declared.want.Want.TheVariants as want
 use Rattle.tl_machine.specs.declared.want.Stop.{Stop}
@@ -9,7 +9,7 @@ use Rattle.tl_machine.proofs.TurnLemmas.{two_wants, comes_turn}
 use Rattle.tl_core.specs.declared.fault.CoreFault.{CoreFault}
 use Rattle.tl_core.specs.declared.followed.TurnOutcome.{TurnOutcome}
 use Rattle.tl_core.specs.Cores.{CoreState, kept_turn}
-use Rattle.tl_core.specs.Followed.{Submits, IsLedTo, IsLedFreely, IsLeadFault, IsFollowFault}
+use Rattle.tl_core.specs.Followed.{Submits, IsLedTo, IsLeadFault, IsFollowFault}
 use Rattle.tl_core.proofs.StoredCalls.{same_item}
 
 -- the segment as it is lent
@@ -36,9 +36,6 @@ module _ (v : CoreState) (c : ℕ) (seg : SegmentValue) (is : IsSegment seg) (ke
     -- what came of it
     pub led_as : IsLedTo v c seg (with_call seg.from after_it.to) o w
     led_as = subst (λ x. IsLedTo v c x (with_call x.from after_it.to) o w) (same_segment lent after_it o w same s) s.led
-
-    pub free_as : IsLedFreely v seg o
-    free_as = subst (λ x. IsLedFreely v x o) (same_segment lent after_it o w same s) s.free
 
     pub turn_as : IsTurn seg.from.code.instrs seg.from.parents after_it.to
     turn_as = subst (λ x. IsTurn x.from.code.instrs x.from.parents after_it.to) (same_segment lent after_it o w same s) s.turn
@@ -85,8 +82,5 @@ module _ (lent : LentValue) (run : HasRun lent) (t : TurnValue) (from : IsFrom l
   pub stops_here : (ps : List ℕ) (s : Stop) → t.parents ≡ ps → Stops (with_call t lent.to) s → Stops (lent_on ps) s
   stops_here ps s same stops = subst (λ u. Stops u s) (sym (same_turn ps same)) stops
 
-  abbrev pub segment_to : Stop → SegmentValue
-  segment_to s = record { from = t; to = lent.to; stop = s }
-
-  pub its_segment : (s : Stop) → Stops (with_call t lent.to) s → IsSegment (segment_to s)
+  pub its_segment : (s : Stop) → Stops (with_call t lent.to) s → IsSegment (segment_of t lent.to s)
   its_segment s stops = record { from = turn; to = led_to; follows = comes; stop = stops }

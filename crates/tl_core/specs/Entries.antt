@@ -1,5 +1,5 @@
 -- What a core answers, and what it is then.
-use Rattle.std.specs.Prelude.{◌≡◌, ◌≢◌, ℕ, ◌+◌, List, [], ◌∷◌, ◌++◌, length, get_or, Option, Some, None, if◌then◌else◌, nat_lt, nat_le, nat_eq, slice_set, Result, Ok, Err, ℤ, string_bytes, ◌==◌}
+use Rattle.std.specs.Prelude.{◌≡◌, ◌≢◌, ℕ, ◌+◌, List, [], ◌∷◌, ◌++◌, length, get_or, Option, Some, None, if◌then◌else◌, ◌<◌, ◌↔◌, nat_lt, nat_le, nat_eq, slice_set, Result, Ok, Err, ℤ, string_bytes, ◌==◌}
 use Rattle.std.specs.Option.{option_map_or}
 use Rattle.tl_history.specs.declared.history.TheConstants.{MAX_CALLS}
 use Rattle.tl_core.specs.declared.interleaving.TheConstants.{MAX_OPEN}
@@ -8,7 +8,7 @@ use Rattle.tl_tree_locking.specs.declared.action.Action.TheVariants.{Lock}
 use Rattle.tl_tree_locking.specs.declared.event.Event.TheVariants.{Admit as Admission}
 use Rattle.tl_tree_locking.specs.History.{is_done, admits}
 use Rattle.tl_tree_locking.specs.Holders.{holder_of}
-use Rattle.tl_tree_locking.specs.World.{World, next_of, as_found, past_after}
+use Rattle.tl_tree_locking.specs.World.{World, IsStuck, next_of, as_found, past_after}
 use Rattle.tl_core.specs.declared.fault.CoreFault.{CoreFault}
 use Rattle.tl_core.specs.declared.fault.CoreFault.TheVariants as fault
 use Rattle.tl_core.specs.declared.stepped.Stepped.{Stepped}
@@ -18,7 +18,7 @@ use Rattle.tl_core.specs.declared.moves.Move.TheVariants as a_move
 use Rattle.tl_core.specs.declared.moves.Entry.{Entry}
 use Rattle.tl_core.specs.declared.moves.Entry.TheVariants as entry
 use Rattle.tl_procedures.specs.Names.{Named, no_procedure, number_of}
-use Rattle.tl_core.specs.Cores.{CallValue, CoreValue, call_of, world_of, open_calls, places, room}
+use Rattle.tl_core.specs.Cores.{CallValue, CoreState, CoreValue, kept_turn, call_of, world_of, done_by, open_calls, places, room}
 
 -- ---- steps
 
@@ -59,6 +59,25 @@ abbrev pub IsBlocked : Result Stepped CoreFault → Type 0
 IsBlocked (Ok (Blocked x d)) = Unit {0}
 IsBlocked answer = ⊥
 
+abbrev pub entry_of : ℕ → Result Stepped CoreFault → Entry
+entry_of c (Ok stepped) = entry.Stepped c stepped
+entry_of c (Err refused) = entry.Refused refused
+
+-- what call c did in these entries, the earliest action first
+abbrev pub part_of_run : ℕ → List Entry → List Action
+part_of_run c [] = []
+part_of_run c (entry.Stepped d (Moved a) ∷ entries) = if d == c then a ∷ part_of_run c entries else part_of_run c entries
+part_of_run c (_ ∷ entries) = part_of_run c entries
+
+-- A step of call c was asked for, with that answer: what each call has done is longer by the action of the step, the call is blocked
+-- where it is stuck, and the turns of the other calls stay.
+pub record StepsTo (before : CoreState) (c : ℕ) (answer : Result Stepped CoreFault) (after : CoreState) : Type 0 where
+  pub answered : answer ≡ step_answer (world_of before.seen) c
+  pub after_it : after.seen ≡ after_step before.seen c answer
+  pub done : (d : ℕ) → done_by after.seen d ≡ done_by before.seen d ++ part_of_run d (entry_of c answer ∷ [])
+  pub blocked : IsBlocked answer ↔ IsStuck (world_of before.seen) c
+  pub turns : (d : ℕ) → d ≢ c → kept_turn after d ≡ kept_turn before d
+
 -- ---- admissions
 
 abbrev pub procedure_at : CoreValue → ℕ → Named
@@ -85,17 +104,25 @@ with_call_of v p args =
 abbrev pub after_admission : CoreValue → List ℕ → List ℤ → CoreValue
 after_admission v name args = option_map_or (λ p. with_call_of v p args) (number_of v.procedures name) v
 
+-- Call n was admitted, of the procedure of that name with these arguments: it is the next number, and nothing refuses it. The turns of
+-- the calls before it stay.
+pub record Admits (before : CoreState) (name : List ℕ) (args : List ℤ) (n : ℕ) (after : CoreState) : Type 0 where
+  pub number : n ≡ length before.seen.calls
+  pub free : admission_refusal before.seen name args ≡ None
+  pub after_it : after.seen ≡ after_admission before.seen name args
+  pub turns : (c : ℕ) → c < length before.seen.calls → kept_turn after c ≡ kept_turn before c
+
+-- the first refusal that holds; memory may refuse what nothing else does
+abbrev pub IsAdmissionFault : CoreValue → List ℕ → List ℤ → CoreFault → Type 0
+IsAdmissionFault v name args e =
+    (e ≢ fault.Memory → admission_refusal v name args ≡ Some e) × (e ≡ fault.Memory → admission_refusal v name args ≡ None)
+
 -- ---- moves
 
-abbrev pub entry_of : ℕ → Result Stepped CoreFault → Entry
-entry_of c (Ok stepped) = entry.Stepped c stepped
-entry_of c (Err refused) = entry.Refused refused
-
--- what may come of an admission: want of memory may refuse it too, where nothing else does
+-- what may come of an admission
 abbrev pub IsAdmissionEntry : CoreValue → List ℕ → List ℤ → Entry → Type 0
 IsAdmissionEntry v name args (entry.Admitted n) = (admission_refusal v name args ≡ None) × (n ≡ length v.calls)
-IsAdmissionEntry v name args (entry.Refused e) =
-    (e ≢ fault.Memory → admission_refusal v name args ≡ Some e) × (e ≡ fault.Memory → admission_refusal v name args ≡ None)
+IsAdmissionEntry v name args (entry.Refused e) = IsAdmissionFault v name args e
 IsAdmissionEntry v name args (entry.Stepped c stepped) = ⊥
 
 -- what comes of a move
@@ -118,12 +145,6 @@ Traced v (m ∷ moves) (e ∷ entries) = IsEntry v m e × Traced (after_entry v 
 abbrev pub after_moves : CoreValue → List Move → List Entry → CoreValue
 after_moves v (m ∷ moves) (e ∷ entries) = after_moves (after_entry v m e) moves entries
 after_moves v moves entries = v
-
--- what call c did in these entries, the earliest action first
-abbrev pub part_of_run : ℕ → List Entry → List Action
-part_of_run c [] = []
-part_of_run c (entry.Stepped d (Moved a) ∷ entries) = if d == c then a ∷ part_of_run c entries else part_of_run c entries
-part_of_run c (_ ∷ entries) = part_of_run c entries
 
 -- how many of the entries are instructions done
 abbrev pub moved : List Entry → ℕ

@@ -1,5 +1,5 @@
 -- A call that follows a segment: its local actions, and the one of its stop.
-use Rattle.std.specs.Prelude.{◌≡◌, ◌≢◌, ℕ, ◌<◌, ◌≤◌, ◌⊎◌, true, List, [], ◌∷◌, ◌++◌, Some, Ok}
+use Rattle.std.specs.Prelude.{◌≡◌, ◌≢◌, ℕ, ◌<◌, ◌≤◌, ◌⊎◌, true, List, [], ◌∷◌, ◌++◌, length, Some, Ok}
 use Rattle.tl_tree_locking.specs.declared.action.Action.{Action}
 use Rattle.tl_tree_locking.specs.declared.action.Action.TheVariants as did
 use Rattle.tl_tree_locking.specs.History.{is_done, admits, IsOpen}
@@ -45,24 +45,25 @@ pub record NextEndsStop (v : CoreValue) (c : ℕ) (s : Stop) : Type 0 where
   pub is_next : next_of (world_of v) c ≡ Some next
   pub ends : EndsStop s next
 
+-- the stop is a lock of a node that a call holds
+pub record IsInTheWay (v : CoreValue) (s : Stop) (x d : ℕ) : Type 0 where
+  pub locks : s ≡ stop.Lock x
+  pub holder : holder_of v.past x ≡ Some d
+
 -- local actions were done as steps of the call
 pub record IsLed (before : CoreState) (c : ℕ) (after : CoreState) : Type 0 where
   pub local : List Action
   pub each_local : EachLocal local
   pub goes : Goes before.seen c local after.seen
 
--- the segment's local actions and the one of its stop were done as steps of the call
+-- the segment's local actions and the one of its stop were done as steps of the call, and nobody was in its way
 pub record HasGone (before : CoreState) (c : ℕ) (segment : SegmentValue) (after : CoreState) : Type 0 where
   pub local : List Action
   pub each_local : EachLocal local
   pub last : Action
   pub is_last : EndsStop segment.stop last
   pub goes : Goes before.seen c (local ++ last ∷ []) after.seen
-
--- the stop is a lock of a node that a call holds
-pub record IsInTheWay (v : CoreValue) (s : Stop) (x d : ℕ) : Type 0 where
-  pub locks : s ≡ stop.Lock x
-  pub holder : holder_of v.past x ≡ Some d
+  pub free : (x d : ℕ) → IsInTheWay before.seen segment.stop x d → ⊥
 
 -- the call's local actions up to that stop were done as steps, and its turn stands there
 pub record ReachesStop (before : CoreState) (c : ℕ) (s : Stop) (after : CoreState) : Type 0 where
@@ -84,15 +85,16 @@ IsNoLocal (Moved a) = IsLocal a → ⊥
 IsNoLocal (stepped.Blocked x d) = Unit {0}
 IsNoLocal stepped.Over = Unit {0}
 
--- the call did local steps, as many as there were, and then one that isn't local, with that answer
-pub record Proceeds (before : CoreValue) (c : ℕ) (last : Stepped) (after : CoreValue) : Type 0 where
+-- The call did local steps, as many as there were, and then one that isn't local, with that answer. The turns of the other calls stay.
+pub record Proceeds (before : CoreState) (c : ℕ) (last : Stepped) (after : CoreState) : Type 0 where
   pub local : List Action
   pub each_local : EachLocal local
   pub there : CoreValue
-  pub goes : Goes before c local there
+  pub goes : Goes before.seen c local there
   pub is_last : IsNoLocal last
   pub answer : step_answer (world_of there) c ≡ Ok last
-  pub then : after ≡ after_step there c (Ok last)
+  pub then : after.seen ≡ after_step there c (Ok last)
+  pub turns : (d : ℕ) → d ≢ c → kept_turn after d ≡ kept_turn before d
 
 -- what came of it: blocked where another call is in the way, and nothing is changed; else the call went on to a turn, or
 -- is done and has answered
@@ -101,11 +103,6 @@ IsFollowed v c segment (Blocked x d) w = IsInTheWay v.seen segment.stop x d × (
 IsFollowed v c segment (Went turn) w = HasGone v c segment w × (kept_turn w c ≡ Some turn)
 IsFollowed v c segment (Finished reply) w =
     HasGone v c segment w × (is_done c w.seen.past ≡ true) × (reply ≡ reply_of (world_of w.seen) c)
-
--- nobody is in the way of a call that wasn't blocked
-abbrev pub IsUnhindered : CoreState → SegmentValue → Followed → Type 0
-IsUnhindered v segment (Blocked x d) = Unit {0}
-IsUnhindered v segment followed = (x d : ℕ) → IsInTheWay v.seen segment.stop x d → ⊥
 
 -- 602 where the call wasn't admitted, 607 where the segment doesn't begin at the turn that is kept of it
 abbrev pub IsFollowFault : CoreState → ℕ → SegmentValue → CoreFault → Type 0
@@ -128,11 +125,6 @@ IsLedTo v c segment turn (outcome.Blocked x d) w = IsInTheWay v.seen segment.sto
 IsLedTo v c segment turn (outcome.Advanced s) w = HasGone v c segment w × (segment.stop ≡ s) × (kept_turn w c ≡ Some turn)
 IsLedTo v c segment turn outcome.Finished w = HasGone v c segment w × (segment.stop ≡ stop.Return) × (is_done c w.seen.past ≡ true)
 
--- nobody is in the way of a call that wasn't blocked
-abbrev pub IsLedFreely : CoreState → SegmentValue → TurnOutcome → Type 0
-IsLedFreely v segment (outcome.Blocked x d) = Unit {0}
-IsLedFreely v segment o = (x d : ℕ) → IsInTheWay v.seen segment.stop x d → ⊥
-
 -- the fact, where the call is blocked
 abbrev pub IfBlocked : TurnOutcome → Type 0 → Type 0
 IfBlocked (outcome.Blocked x d) P = P
@@ -146,7 +138,7 @@ IfFinished (outcome.Blocked x d) P = Unit {0}
 IfFinished (outcome.Advanced s) P = Unit {0}
 
 -- The segment begins at the turn that is kept of the call, which was lent, and leads to where the lent call was led. This came of it,
--- and the lent call is behind it, where it goes on.
+-- and the lent call is behind it, where it goes on. The turns of the other calls stay.
 pub record Submits (before : CoreState) (c : ℕ) (lent after_it : LentValue) (o : TurnOutcome) (after : CoreState) : Type 0 where
   pub segment : SegmentValue
   pub kept : kept_turn before c ≡ Some segment.from
@@ -154,10 +146,11 @@ pub record Submits (before : CoreState) (c : ℕ) (lent after_it : LentValue) (o
   pub to : segment.to ≡ lent.to
   pub is_segment : IsSegment segment
   pub led : IsLedTo before c segment (with_call segment.from after_it.to) o after
-  pub free : IsLedFreely before segment o
   pub turn : IsTurn segment.from.code.instrs segment.from.parents after_it.to
   pub same : after_it ≡ record lent { to = after_it.to }
   pub stays : IfBlocked o (after_it ≡ lent)
+  pub known : IfFinished o (c < length after.seen.calls)
+  pub turns : (d : ℕ) → d ≢ c → kept_turn after d ≡ kept_turn before d
 
 -- 602 where the call wasn't admitted, 607 where it wasn't lent from the turn that is kept of it
 abbrev pub IsLeadFault : CoreState → ℕ → LentValue → CoreFault → Type 0

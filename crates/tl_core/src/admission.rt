@@ -1,11 +1,10 @@
-// What is taken up: procedures, and calls of them.
+// What a core takes in: procedures, and calls of them.
 
-ghost use Rattle.std.specs.Prelude.{◌≡◌, ◌≢◌, ℕ, ◌+◌, ◌<◌, ◌≤◌, [], ◌∷◌, ◌++◌, length, IfOk, OnOk, OnErr, IfErr, None, Some};
+ghost use Rattle.std.specs.Prelude.{◌≡◌, ◌≢◌, ◌+◌, ◌<◌, ◌≤◌, [], ◌∷◌, ◌++◌, length, IfOk, OnOk, OnErr, IfErr, None, Some};
 ghost use Rattle.tl_procedures.specs.Names.{number_of, naming_refusal};
 ghost use Rattle.tl_procedures.specs.declared.fault.NamingFault.TheVariants as naming;
-ghost use Rattle.tl_core.specs.Cores.{kept_turn, places, room, open_calls};
-ghost use Rattle.tl_core.specs.Entries.{admission_refusal, after_admission, procedure_at};
-ghost use Rattle.tl_core.specs.declared.fault.CoreFault.TheVariants as fault;
+ghost use Rattle.tl_core.specs.Cores.{places, room, open_calls};
+ghost use Rattle.tl_core.specs.Entries.{admission_refusal, procedure_at, Admits, IsAdmissionFault};
 
 use crate::call::{Call, OpenCall, Progress, begin};
 use crate::fault::CoreFault;
@@ -17,37 +16,27 @@ use tl_tree_locking::Event;
 use tl_verify::Proc;
 
 impl Core {
-    /// Takes up a procedure under a name, and answers its number, from 0. The first that holds of: 612 where the name
-    /// isn't 1 to 32 of ASCII letters, digits and `_`; 611 where a procedure has that name; 613 where there are 256. Else
-    /// 690 where memory is refused. A refusal changes nothing.
-    pub fn add_proc(
-        &mut self,
-        alloc: Global,
-        name: &str,
-        procedure: Proc,
-    ) -> Result<u32, NamingFault>
+    /// Adds a procedure under a name, and returns its number, from 0. Errors, the first that holds: 612 if the name isn't 1
+    /// to 32 of ASCII letters, digits and `_`; 611 if a procedure has that name; 613 if there are 256 procedures. Otherwise
+    /// 690 if memory is refused. A refusal changes nothing.
+    pub fn add_proc(&mut self, alloc: Global, name: &str, proc: Proc) -> Result<u32, NamingFault>
         ensures number { IfOk result (λ n. n ≡ length self.old.seen.procedures) }
         ensures free { IfOk result (λ _. naming_refusal self.old.seen.procedures name.now ≡ None) }
-        ensures last { OnOk result (self.new ≡ record self.old { seen = record self.old.seen { procedures = self.old.seen.procedures ++ record { name = name.now; code = procedure } ∷ [] } }) }
+        ensures last { OnOk result (self.new ≡ record self.old { seen = record self.old.seen { procedures = self.old.seen.procedures ++ record { name = name.now; code = proc } ∷ [] } }) }
         ensures fault { IfErr result (λ e. e ≢ naming.Memory → naming_refusal self.old.seen.procedures name.now ≡ Some e) }
         ensures memory { IfErr result (λ e. e ≡ naming.Memory → naming_refusal self.old.seen.procedures name.now ≡ None) }
         ensures err { OnErr result (self.new ≡ self.old) }
     {
-        self.procedures.add(alloc, name, procedure)
+        self.procedures.add(alloc, name, proc)
     }
 
-    /// Admits a call of the procedure of that name with these arguments, and answers its number. The first that holds of:
-    /// 601 where no procedure has that name; 501 where there are more or fewer arguments than it takes; 603 where 4,096
-    /// calls were admitted; 604 where 64 are open; 605 where the history has no room for all events that the call
-    /// may have. Else 690 where memory is refused. A refusal changes nothing, and from then on no step of the call takes
-    /// memory.
+    /// Admits a call of the procedure of that name with these arguments, and returns its number. Errors, the first that
+    /// holds: 601 if no procedure has that name; 501 if there are more or fewer arguments than it takes; 603 if 4,096 calls
+    /// were admitted; 604 if 64 are open; 605 if the history has no room for all events that the call may have. Otherwise
+    /// 690 if memory is refused. A refusal changes nothing. Once the call is admitted, none of its steps takes memory.
     pub fn admit(&mut self, alloc: Global, name: &str, args: &[i64]) -> Result<u32, CoreFault>
-        ensures number { IfOk result (λ n. n ≡ length self.old.seen.calls) }
-        ensures free { IfOk result (λ _. admission_refusal self.old.seen name.now args.now ≡ None) }
-        ensures after { OnOk result (self.new.seen ≡ after_admission self.old.seen name.now args.now) }
-        ensures turns { (c : ℕ) → c < length self.old.seen.calls → kept_turn self.new c ≡ kept_turn self.old c }
-        ensures fault { IfErr result (λ e. e ≢ fault.Memory → admission_refusal self.old.seen name.now args.now ≡ Some e) }
-        ensures memory { IfErr result (λ e. e ≡ fault.Memory → admission_refusal self.old.seen name.now args.now ≡ None) }
+        ensures ok { IfOk result (λ n. Admits self.old name.now args.now n self.new) }
+        ensures fault { IfErr result (IsAdmissionFault self.old.seen name.now args.now) }
         ensures err { OnErr result (self.new ≡ self.old) }
     {
         let (procedure, places) = self.place_for(name, args)?;
@@ -73,7 +62,7 @@ impl Core {
         Ok(call as u32)
     }
 
-    // The number of the procedure, and how many events a call of it may have; else why it isn't admitted.
+    // The number of the procedure, and how many events a call of it may have; or why the call isn't admitted.
     fn place_for(&self, name: &str, args: &[i64]) -> Result<(u32, usize), CoreFault>
         ensures refused { IfErr result (λ e. admission_refusal self.now.seen name.now args.now ≡ Some e) }
         ensures free { IfOk result (λ _. admission_refusal self.now.seen name.now args.now ≡ None) }

@@ -10,7 +10,7 @@ use crate::fault::CoreFault;
 use arrayvec::ArrayVec;
 use std::sync::Arc;
 use tl_instr::MAX_ARGS;
-use tl_machine::{Reply, Turn};
+use tl_machine::{Reply, Turn, copied};
 use tl_tree::Shape;
 use tl_verify::Proc;
 
@@ -26,18 +26,19 @@ pub struct Call {
 /// How far a call is.
 #[derive(Debug, Drop)]
 pub enum Progress {
-    /// Its turn stands in this slot.
+    /// The call's turn is in this slot.
     Open { slot: usize },
-    /// It answered this, after so many instructions. Its turn is gone.
+    /// The call gave this reply, after `steps` instructions. Its turn is gone.
     Done { reply: Reply, steps: u32 },
 }
 
-/// What a core keeps of a call only while the call is open. It stands in a slot.
+/// What a core keeps of a call only while the call is open. It is stored in a slot.
 #[derive(Debug, Drop)]
 pub struct OpenCall {
     // The call's number.
     pub(crate) call: u32,
-    // How many places of the history are reserved for it. It stands beside what each step of the turn uses.
+    // How many places of the history are reserved for the call. The number is stored next to what each step of the turn
+    // uses.
     pub(crate) places: usize,
     pub(crate) turn: Turn,
 }
@@ -53,7 +54,7 @@ impl Call {
         }
     }
 
-    // What a done call answered.
+    // The reply of a done call.
     pub(crate) fn reply(&self) -> Option<&Reply>
         ensures { option_copied result ≡ reply_in self.now.progress }
     {
@@ -64,7 +65,7 @@ impl Call {
     }
 }
 
-// The arguments as a core keeps them, and the turn of a call at its start. 690 where memory is refused.
+// The arguments as a core keeps them, and the turn of a call at its start. 690 if memory is refused.
 pub(crate) fn begin(
     proc: &Arc<Proc>,
     shape: &Arc<Shape>,
@@ -74,15 +75,11 @@ pub(crate) fn begin(
     ensures begins { IfOk result (λ r. Begins (arc_value proc.now) (arc_value shape.now) args.now r.0.items r.1) }
     ensures err { IfErr result (λ e. e ≡ fault.Memory) }
 {
-    // The code is accepted, and has at most eight arguments, by its type: here a proof learns that.
-    let _arity = proc.code().arity();
+    // The code was accepted, so it takes at most eight arguments.
+    let _fact = proc.code().arity();
     let proc = Arc::try_clone(proc)?;
     let shape = Arc::try_clone(shape)?;
     let turn = Turn::at_start(proc, shape, args);
-    let _call = turn.call();
-    let mut kept = ArrayVec::new();
-    let Ok(()) = kept.try_extend_from_slice(args) else {
-        unreachable!()
-    };
-    Ok((kept, turn))
+    let _fact = turn.call();
+    Ok((copied(args), turn))
 }

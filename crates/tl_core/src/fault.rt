@@ -42,7 +42,7 @@ pub enum CoreFault {
 impl CoreFault {
     ghost use Rattle.tl_core.specs.Faults.{numbers_of};
 
-    /// The fault's number, and then the call, where it names one.
+    /// The fault's number, followed by the call if the fault names one.
     pub fn numbers(&self) -> ArrayVec<u64, 3>
         ensures { result.items ≡ numbers_of self.now }
     {

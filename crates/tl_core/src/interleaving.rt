@@ -1,6 +1,7 @@
 // Many calls on one tree.
 
 ghost use Rattle.std.specs.Prelude.{◌≡◌, ℕ, ◌<◌, ◌≤◌, [], length, IfOk, IfErr, Some};
+ghost use Rattle.tl_history.specs.declared.history.TheConstants.{MAX_CALLS};
 ghost use Rattle.tl_budget.specs.Loops.{budget, lock_bound, emit_bound};
 ghost use Rattle.tl_tree_locking.specs.Actions.{lock_count};
 ghost use Rattle.tl_tree_locking.specs.History.{admits, IsOpen, AllDone};
@@ -25,7 +26,7 @@ pub const MAX_OPEN: usize = 64;
 /// A tree, procedures, and calls of them that take turns.
 ///
 /// A contract sees the opening tree, the procedures and calls by number, the events with the latest first, and how many
-/// events there may be. `world_of` makes a world of the protocol of it; that world is sound, by the type.
+/// events there may be. `world_of` makes a world of the protocol from these; the type guarantees that this world is sound.
 #[derive(Debug, Drop)]
 pub struct Core {
     pub(crate) opening: Tree,
@@ -36,7 +37,7 @@ pub struct Core {
     pub(crate) calls: Vec<Call>,
     // The open calls, in no order: a call names its slot, and the slot names its call. There is memory for 64 from the start.
     pub(crate) slots: Vec<OpenCall>,
-    // Of each node the call that holds it.
+    // By node: the call that holds it.
     pub(crate) holders: Vec<Option<u32>>,
     // `reserved()` is the sum of the places of the open calls.
     pub(crate) history: History,
@@ -56,7 +57,7 @@ impl Model for Core {
 }
 
 impl Core {
-    /// A core of the tree, without procedures and calls, for up to 1,048,576 events. 690 where memory is refused.
+    /// A core of the tree, without procedures and calls, for up to 1,048,576 events. 690 if memory is refused.
     pub fn new(alloc: Global, tree: Tree) -> Result<Core, CoreFault>
         ensures ok { IfOk result (λ core. core ≡ opened tree [] MAX_EVENTS) }
         ensures err { IfErr result (λ e. e ≡ fault.Memory) }
@@ -64,7 +65,7 @@ impl Core {
         Core::with_limit(alloc, tree, MAX_EVENTS)
     }
 
-    /// A core of the tree, without procedures and calls, for so many events. 690 where memory is refused.
+    /// A core of the tree, without procedures and calls, for up to `limit` events. 690 if memory is refused.
     pub fn with_limit(alloc: Global, tree: Tree, limit: usize) -> Result<Core, CoreFault>
         requires { limit ≤ MAX_EVENTS }
         ensures ok { IfOk result (λ core. core ≡ opened tree [] limit) }
@@ -73,7 +74,7 @@ impl Core {
         Core::with_procedures(alloc, tree, Procedures::new(alloc), limit)
     }
 
-    /// A core of the tree with these procedures, without calls, for so many events. 690 where memory is refused.
+    /// A core of the tree with these procedures, without calls, for up to `limit` events. 690 if memory is refused.
     pub fn with_procedures(
         alloc: Global,
         tree: Tree,
@@ -101,9 +102,9 @@ impl Core {
         })
     }
 
-    /// The core that takes over from this one, once every call is done: it opens with the records now, and has the same
-    /// procedures, no calls yet, and a history for as many events. 606 with the least unfinished call where there is one; else
-    /// 690 where memory is refused.
+    /// The core that takes over from this one once every call is done: it opens with the current records, and has the same
+    /// procedures, no calls yet, and a history for as many events. 606 with the least unfinished call if there is one;
+    /// otherwise 690 if memory is refused.
     pub fn successor(&self, alloc: Global) -> Result<Core, CoreFault>
         ensures done { IfOk result (λ _. AllDone self.now.seen.past) }
         ensures next { IfOk result (λ core. core ≡ opened_after self.now.seen) }
@@ -119,8 +120,8 @@ impl Core {
         Core::with_procedures(alloc, tree, procedures, self.history.limit())
     }
 
-    /// This core, at rest, and the one that takes over from it. 606 with the least unfinished call where there is one; else 690
-    /// where memory is refused. A refusal hands the core back as it was.
+    /// This core, at rest, and the one that takes over from it. 606 with the least unfinished call if there is one;
+    /// otherwise 690 if memory is refused. A refusal hands the core back as it was.
     pub fn seal(self, alloc: Global) -> Result<(Core, Core), (Core, CoreFault)>
         ensures same { IfOk result (λ r. r.0 ≡ self) }
         ensures done { IfOk result (λ _. AllDone self.seen.past) }
@@ -134,20 +135,21 @@ impl Core {
         }
     }
 
-    /// Gives back memory of the history that its calls don't need. What it is stays the same.
+    /// Gives back memory of the history that its calls don't need. The core's value stays the same.
     pub fn cut_history(&mut self)
         ensures { self.new ≡ self.old }
     {
         self.history.cut();
     }
 
-    /// What is so of every core: admissions and steps led to its world, which is sound and legal, and what each call has done
-    /// obeys the tree protocol and is within the bounds of its procedure.
-    pub fn is_sound(&self)
+    /// What holds for every core, for proofs: admissions and steps led to its world, which is sound and legal, and what
+    /// each call has done obeys the tree protocol and is within the bounds of its procedure.
+    pub fn lemma_is_sound(&self)
         ensures sound { IsSound (world_of self.now.seen) }
         ensures legal { Legal (world_of self.now.seen) }
         ensures reached { Reached self.now.seen.parents self.now.seen.opening (world_of self.now.seen) }
         ensures counted { length self.now.seen.calls ≡ admits self.now.seen.past }
+        ensures few { length self.now.seen.calls ≤ MAX_CALLS }
         ensures turned { (c : ℕ) → IsOpen c self.now.seen.past → (t : TurnValue) × (kept_turn self.now c ≡ Some t) }
         ensures turn_of { (c : ℕ) (t : TurnValue) → kept_turn self.now c ≡ Some t → IsTurnOf self.now.seen c t }
         ensures obeys { (c : ℕ) → c < admits self.now.seen.past → Obeys self.now.seen.parents (done_by self.now.seen c) }

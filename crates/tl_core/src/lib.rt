@@ -1,8 +1,8 @@
 //! Many calls at once, one step at a time.
 //!
-//! A `Core` has a tree, procedures, and calls of them that take turns: who drives it says which call does its next
-//! instruction. A call that is about to lock a node that another holds is told so, and nothing changes. What the calls
-//! do to the tree is stored as a history. Its world is legal, whatever is asked of it.
+//! A `Core` has a tree, procedures, and calls of them that take turns: its driver says which call does its next
+//! instruction. If that instruction locks a node that another call holds, the core reports it, and nothing changes. What
+//! the calls do to the tree is stored as a history. The core's world is legal, whatever the driver asks of it.
 #![tactic(auto)]
 
 mod admission;

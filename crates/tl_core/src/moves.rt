@@ -1,4 +1,4 @@
-// What a driver asks of a core, and what comes of it.
+// What a driver asks of a core, and the results.
 
 use crate::fault::CoreFault;
 use crate::stepped::Stepped;
@@ -12,12 +12,12 @@ pub enum Move {
     Step { call: u32 },
 }
 
-/// What came of a move.
+/// The result of a move.
 #[derive(Clone, Copy, Debug, PartialEq, Eq)]
 pub enum Entry {
     /// The call of this number was admitted.
     Admitted { call: u32 },
-    /// The call was asked for a step, which came to this.
+    /// The call was asked for a step, with this result.
     Stepped { call: u32, stepped: Stepped },
     /// The move was refused, and changed nothing.
     Refused { fault: CoreFault },

@@ -1,4 +1,4 @@
-// What a core tells.
+// What can be read from a core.
 
 ghost use Rattle.std.specs.Prelude.{◌≡◌, ℕ, ◌<◌, ◌≤◌, ◌↔◌, length, true, IsNone, IfSome, None, Some, option_copied, if◌then◌else◌};
 ghost use Rattle.std.specs.Arc.{arc_value};
@@ -26,15 +26,15 @@ impl Core {
         &self.opening
     }
 
-    /// The tree as it is now: each record is the one that a call left last, or the opening one. What a call has written to
-    /// a node that it holds isn't seen here before it frees the node.
+    /// The current tree: each record is the one that a call left last, or the opening one. What a call has written to a
+    /// node that it holds shows here only after it frees the node.
     pub fn tree(&self) -> &Tree
         ensures { result.now ≡ record { parents = self.now.seen.parents; records = records_now self.now.seen.past self.now.seen.opening } }
     {
         &self.latest
     }
 
-    /// The record of a node now.
+    /// The current record of a node.
     pub fn record_at(&self, node: u16) -> Record
         requires { node < length self.now.seen.parents }
         ensures { result ≡ record_now self.now.seen.past self.now.seen.opening node }
@@ -113,7 +113,7 @@ impl Core {
         None
     }
 
-    /// What was asked of a call: the number of its procedure, and its arguments.
+    /// The request of a call: the number of its procedure, and its arguments.
     pub fn request(&self, call: u32) -> (u32, &[i64])
         requires { call < length self.now.seen.calls }
         ensures procedure { result.0 ≡ (call_of self.now.seen call).procedure }
@@ -127,7 +127,7 @@ impl Core {
         (current.procedure, &current.args)
     }
 
-    /// What a call answered, once it is done.
+    /// The reply of a call, once it is done.
     pub fn reply(&self, call: u32) -> Option<&Reply>
         requires { call < length self.now.seen.calls }
         ensures { option_copied result ≡ (if is_done call self.now.seen.past then Some (reply_of (world_of self.now.seen) call) else None) }

@@ -2,9 +2,9 @@
 
 ghost use Rattle.std.specs.Prelude.{◌≡◌, ◌≢◌, ℕ, ◌+◌, ◌<◌, ◌≤◌, ◌↔◌, [], ◌∷◌, ◌++◌, length, IsTrue, IsOk, IsNone, IfOk, OnErr, IfErr, IfSome, Some, Ok};
 ghost use Rattle.tl_tree_locking.specs.History.{admits, AllDone};
-ghost use Rattle.tl_tree_locking.specs.World.{IsStuck, IsEnabled};
+ghost use Rattle.tl_tree_locking.specs.World.{IsEnabled};
 ghost use Rattle.tl_core.specs.Cores.{world_of, kept_turn, all_budgets, done_by};
-ghost use Rattle.tl_core.specs.Entries.{step_answer, after_step, IsEntry, after_entry, Traced, after_moves, moved, part_of_run, entry_of, IsBlocked};
+ghost use Rattle.tl_core.specs.Entries.{step_answer, after_step, IsEntry, after_entry, Traced, after_moves, moved, part_of_run, StepsTo};
 ghost use Rattle.tl_machine.specs.Turns.{TurnValue, Stops};
 ghost use Rattle.tl_machine.specs.declared.want.Stop.{Stop};
 ghost use Rattle.tl_machine.specs.declared.want.Stop.TheVariants as stop;
@@ -22,21 +22,16 @@ use tl_machine::{Advance, Stop, Want};
 use tl_tree_locking::{Action, Event};
 
 impl Core {
-    /// The next instruction of a call. 602 where no call of that number was admitted. Takes no memory.
+    /// Does the next instruction of a call. 602 if no call of that number was admitted. Takes no memory.
     #[inline(always)]
     pub fn step(&mut self, call: u32) -> Result<Stepped, CoreFault>
-        ensures answer { result ≡ step_answer (world_of self.old.seen) call }
-        ensures after { self.new.seen ≡ after_step self.old.seen call result }
-        ensures done { (c : ℕ) → done_by self.new.seen c ≡ done_by self.old.seen c ++ part_of_run c (entry_of call result ∷ []) }
-        ensures blocked { IsBlocked result ↔ IsStuck (world_of self.old.seen) call }
-        ensures turns { (c : ℕ) → c ≢ call → kept_turn self.new c ≡ kept_turn self.old c }
+        ensures { StepsTo self.old call result self.new }
     {
-        // That its world is sound is so of every core: here a proof learns that.
-        self.is_sound();
+        self.lemma_is_sound();
         self.do_next(call)
     }
 
-    // The same, without what follows from the world being sound.
+    // The same, without the consequences of the world being sound.
     #[inline(always)]
     fn do_next(&mut self, call: u32) -> Result<Stepped, CoreFault>
         ensures answer { result ≡ step_answer (world_of self.old.seen) call }
@@ -56,13 +51,13 @@ impl Core {
         }
     }
 
-    /// Steps of a call up to the first that isn't local, which is done too, and whose answer this is: a lock, a free or the
-    /// end; or blocked; or over, where the call is done. 602 where no call of that number was admitted. Takes no memory.
+    /// Does a call's instructions up to and including the first that isn't local, and returns the result of that one: a
+    /// lock, a free or the end; blocked; or over, if the call is done. 602 if no call of that number was admitted. Takes no
+    /// memory.
     #[inline(always)]
     pub fn proceed(&mut self, call: u32) -> Result<Stepped, CoreFault>
         ensures known { IsOk result ↔ (call < admits self.old.seen.past) }
-        ensures proceeds { IfOk result (λ s. Proceeds self.old.seen call s self.new.seen) }
-        ensures turns { (c : ℕ) → c ≢ call → kept_turn self.new c ≡ kept_turn self.old c }
+        ensures proceeds { IfOk result (λ s. Proceeds self.old call s self.new) }
         ensures fault { IfErr result (λ e. e ≡ fault.NoCall) }
         ensures err { OnErr result (self.new ≡ self.old) }
     {
@@ -75,7 +70,7 @@ impl Core {
         Ok(self.pass_stop(call, stop))
     }
 
-    // Does the local instructions of a call, and answers where it stops then. None where it is done.
+    // Does the local instructions of a call, and returns where it stops then. `None` if the call is done.
     #[inline(always)]
     fn run_local(&mut self, call: u32) -> Option<Stop>
         requires { call < length self.old.seen.calls }
@@ -89,7 +84,7 @@ impl Core {
         Some(self.slots[slot].turn.run_local())
     }
 
-    // Does what an open call stops at.
+    // Does the action at which an open call stops.
     #[inline(always)]
     pub(crate) fn pass_stop(&mut self, call: u32, stop: Stop) -> Stepped
         requires { (t : TurnValue) × (kept_turn self.old call ≡ Some t) × Stops t stop }
@@ -99,8 +94,7 @@ impl Core {
         ensures turned { HasTurned self.old call result self.new }
         ensures turns { (c : ℕ) → c ≢ call → kept_turn self.new c ≡ kept_turn self.old c }
     {
-        // What the call's next action is: here a proof learns that.
-        self.at_stop(call);
+        self.lemma_at_stop(call);
         match stop {
             Stop::Lock(node) => self.lock_or_block(call, node),
             Stop::Free(node) => self.free(call, node),
@@ -110,7 +104,7 @@ impl Core {
         }
     }
 
-    // Locks the node at which the open call stops, where no other call holds it.
+    // Locks the node at which the open call stops, unless another call holds it.
     #[inline(always)]
     fn lock_or_block(&mut self, call: u32, node: u16) -> Stepped
         requires { (t : TurnValue) × (kept_turn self.old call ≡ Some t) × Stops t (stop.Lock node) }
@@ -162,8 +156,8 @@ impl Core {
         }
     }
 
-    // Ends the open call, which stops at its return. A function of its own, since a function clears the memory for all its values
-    // first: each lock and each free would pay for what a return needs.
+    // Ends the open call, which stops at its return. This is a function of its own because a function first clears the
+    // memory for all its values: otherwise each lock and each free would pay for what a return needs.
     fn end(&mut self, call: u32) -> Stepped
         requires { (t : TurnValue) × (kept_turn self.old call ≡ Some t) × Stops t stop.Return }
         ensures answer { Ok result ≡ step_answer (world_of self.old.seen) call }
@@ -183,7 +177,7 @@ impl Core {
         self.history.give_back(current.places - 1);
         self.calls[index].progress = Progress::Done { reply, steps };
         self.slots.swap_remove(slot);
-        // The last of the open calls stands in the slot now, if the slot wasn't the last itself.
+        // The last of the open calls is in the slot now, unless the slot was itself the last.
         if slot < self.slots.len() {
             let moved = self.slots[slot].call as usize;
             self.calls[moved].progress = Progress::Open { slot };
@@ -193,15 +187,15 @@ impl Core {
         }
     }
 
-    // Where a call's turn stops, its next action is that of the stop: here a proof learns that.
-    pub(crate) fn at_stop(&self, call: u32)
+    // When a call's turn is at a stop, the call's next action is the action of that stop.
+    pub(crate) fn lemma_at_stop(&self, call: u32)
         ensures { (t : TurnValue) (s : Stop) → kept_turn self.now call ≡ Some t → Stops t s → NextEndsStop self.now.seen call s }
     {
         let _ = &self.history;
     }
 
-    /// Whether the call is open and its next instruction locks no node that another call holds. 602 where no call of
-    /// that number was admitted. Takes no memory.
+    /// Whether the call is open and its next instruction locks no node that another call holds. 602 if no call of that
+    /// number was admitted. Takes no memory.
     pub fn enabled(&self, call: u32) -> Result<bool, CoreFault>
         ensures known { IsOk result ↔ (call < admits self.now.seen.past) }
         ensures enabled { IfOk result (λ b. IsTrue b ↔ IsEnabled (world_of self.now.seen) call) }
@@ -228,7 +222,7 @@ impl Core {
         }
     }
 
-    /// The least call that is enabled. There is none exactly where no call is open. Takes no memory.
+    /// The least call that is enabled. `None` if and only if no call is open. Takes no memory.
     pub fn some_enabled(&self) -> Option<u32>
         ensures enabled { IfSome result (λ c. IsEnabled (world_of self.now.seen) c) }
         ensures least { IfSome result (λ c. (d : ℕ) → IsEnabled (world_of self.now.seen) d → c ≤ d) }
@@ -248,8 +242,8 @@ impl Core {
         least
     }
 
-    /// The moves, one after another: what came of each, in their order, refusals too. 690 where there is no memory for the
-    /// list; then nothing was done. Where memory is refused to an admission, that is its entry.
+    /// Makes the moves, one after another, and returns the result of each in order, refusals included. 690 if there is no
+    /// memory for the list; then nothing was done. If memory is refused to an admission, that refusal is its entry.
     pub fn drive(&mut self, alloc: Global, moves: &[Move]) -> Result<Vec<Entry>, CoreFault>
         ensures traced { IfOk result (λ t. Traced self.old.seen moves.now t.items) }
         ensures after { IfOk result (λ t. self.new.seen ≡ after_moves self.old.seen moves.now t.items) }
@@ -258,13 +252,13 @@ impl Core {
         ensures fault { IfErr result (λ e. e ≡ fault.Memory) }
         ensures err { OnErr result (self.new ≡ self.old) }
     {
-        // That each call is within its budget is so of every core: here a proof learns that.
-        self.is_sound();
+        self.lemma_is_sound();
         let mut trace = Vec::with_capacity(alloc, moves.len())?;
         for one in moves {
             trace.push_reserved(self.make_move(alloc, one));
         }
-        self.is_sound();
+        // Each call is within its budget.
+        self.lemma_is_sound();
         Ok(trace)
     }
 

@@ -1,8 +1,8 @@
-// What a step of a call comes to.
+// The result of a step of a call.
 
 use tl_tree_locking::Action;
 
-/// What a step of a call came to.
+/// The result of a step of a call.
 #[derive(Clone, Copy, Debug, PartialEq, Eq)]
 pub enum Stepped {
     /// The call did its next instruction.

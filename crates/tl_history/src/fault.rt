@@ -10,7 +10,7 @@ use thiserror::Error;
 /// Why no places were reserved.
 #[derive(Clone, Copy, Debug, PartialEq, Eq, Error)]
 pub enum HistoryFault {
-    /// 605: there is no room for so many more events.
+    /// 605: there is no room for that many more events.
     #[error("the history has no room for so many more events")]
     HistoryFull,
     /// 690: memory was refused.

@@ -11,16 +11,16 @@ use std::marker::Model;
 use tl_tree::Record;
 use tl_tree_locking::Event;
 
-/// The most events that a history may be made for.
+/// The greatest limit that a history may have.
 pub const MAX_EVENTS: usize = 1_048_576;
 
 /// The most calls whose events a history may have.
 pub const MAX_CALLS: usize = 4_096;
 
-/// What many calls have done, and the places that are reserved for what they may still do.
+/// What many calls did, and the places reserved for what they may still do.
 ///
-/// A contract sees the events with the latest first, the limit, and how many places are reserved. The events and the
-/// reserved places are together never more than the limit.
+/// A contract sees the events, the latest first, the limit, and the number of reserved places. The events and the reserved
+/// places together are never more than the limit.
 #[derive(Debug, Drop)]
 pub struct History {
     // The earliest first. There is memory for each reserved place.
@@ -42,7 +42,7 @@ impl Model for History {
 }
 
 impl History {
-    /// A history with no events, and room for as many as the limit says. Takes no memory.
+    /// An empty history that may have up to `limit` events. Takes no memory.
     pub fn new(alloc: Global, limit: usize) -> History
         requires { limit ≤ MAX_EVENTS }
         ensures { result ≡ record { past = []; limit = limit; reserved = 0 } }
@@ -54,7 +54,7 @@ impl History {
         }
     }
 
-    /// How many events the history may have.
+    /// The most events that the history may have.
     pub fn limit(&self) -> usize
         ensures value { result ≡ self.now.limit }
         ensures within { IsWithinLimit self.now }
@@ -85,7 +85,7 @@ impl History {
         self.reserved
     }
 
-    /// How many more places can be reserved: the limit less the events stored and the places reserved.
+    /// How many more places can be reserved: the limit minus the stored events and the reserved places.
     pub fn room(&self) -> usize
         ensures value { result ≡ room_of self.now }
         ensures within { IsWithinLimit self.now }
@@ -93,16 +93,16 @@ impl History {
         self.limit - self.events.len() - self.reserved
     }
 
-    /// Reserves places for so many more events.
+    /// Reserves `places` more places.
     ///
-    /// 605 exactly where there is no room for them; else 690 where memory is refused. A refusal changes nothing.
+    /// 605 if and only if there is no room for them; otherwise 690 if memory is refused. If it fails, nothing changes.
     pub fn reserve(&mut self, _alloc: Global, places: usize) -> Result<(), HistoryFault>
         ensures ok { OnOk result (self.new ≡ record self.old { reserved = self.old.reserved + places }) }
         ensures fits { OnOk result (places ≤ room_of self.old) }
         ensures full { IsErrOf result HistoryFault.HistoryFull ↔ (room_of self.old < places) }
         ensures err { OnErr result (self.new ≡ self.old) }
 
-        // The places that are reserved have their memory already.
+        // The places already reserved have their memory.
         ensures nothing_wanted { places ≡ 0 → IsOk result }
     {
         if places > self.room() {
@@ -122,7 +122,7 @@ impl History {
         self.reserved -= 1;
     }
 
-    /// So many places are no longer reserved.
+    /// Gives up `places` of the reserved places.
     pub fn give_back(&mut self, places: usize)
         requires { places ≤ self.old.reserved }
         ensures { self.new ≡ record self.old { reserved = self.old.reserved - places } }
@@ -130,8 +130,8 @@ impl History {
         self.reserved -= places;
     }
 
-    /// Gives back the memory of places that are neither stored nor reserved. Where a smaller piece of memory is refused, all stays as
-    /// it is.
+    /// Gives back the memory of places that are neither stored nor reserved. If a smaller block of memory is refused,
+    /// nothing changes.
     pub fn cut(&mut self)
         ensures { self.new ≡ self.old }
     {
@@ -149,8 +149,8 @@ impl History {
         self.events.as_slice()
     }
 
-    /// The record that the node was last left with: of the latest `Free` of the node. Looks through the events, from the
-    /// latest back.
+    /// The record that the node was last left with, from its latest `Free`; `None` if no event frees the node. Searches the
+    /// events from the latest back.
     pub fn last_left(&self, node: u16) -> Option<Record>
         // `opening` stands for the node's opening record.
         ensures { (opening : RecordValue) → unwrap_or result opening ≡ last_left self.now.past node opening }
@@ -169,8 +169,8 @@ impl History {
     }
 }
 
-// Makes room for so many more events than are stored. The room doubles, so that not each call moves the events; where
-// that much memory is refused, what is needed may still be there.
+// Makes room for `more` events after those stored. The room doubles, so that not every call moves the events; if that much
+// memory is refused, the exact amount may still be available.
 fn make_room(events: &mut Vec<Event>, more: usize) -> Result<(), AllocError>
     ensures items { events.new.items ≡ events.old.items }
     ensures len { vec_len events.new ≡ vec_len events.old }

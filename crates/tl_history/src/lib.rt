@@ -1,7 +1,7 @@
-//! The stored events of many calls, and the places that are reserved for the events to come.
+//! The stored events of many calls, and the places reserved for events to come.
 //!
-//! Whoever admits a call reserves a place for each event that it may still have. So an event is stored without memory,
-//! and that can't fail.
+//! Admitting a call reserves a place for each event that it may still have. So storing an event takes no memory and can't
+//! fail.
 #![tactic(auto)]
 
 mod fault;

@@ -1,6 +1,6 @@
-//! A cell: the eight bytes of an instruction, taken apart.
+//! A cell: the eight bytes of an instruction, split into fields.
 
-/// An opcode and its operands, of which `w` has four bytes, the highest first.
+/// An opcode and its operands. `w` takes four bytes, the most significant first.
 #[derive(Clone, Copy, Debug, PartialEq, Eq)]
 pub struct Cell {
     pub opcode: u8,

@@ -18,14 +18,14 @@ use std::marker::Model;
 /// The most instructions that a code has.
 pub const MAX_COUNT: usize = 1024;
 
-/// How many arguments a procedure takes, and its 1 to 1,024 instructions. A target is a position of the code, or its
-/// end.
+/// The number of arguments that a procedure takes, and its 1 to 1,024 instructions. A target is a position of the code or
+/// its end.
 #[derive(Debug, Drop)]
 pub struct Code {
     version: Version,
     arity: Arity,
     instrs: Vec<Instr>,
-    // The one container of the code. Two codes are the same where these bytes are, and bytes are compared fast.
+    // The container of the code. Two codes are the same if and only if these bytes are, and bytes compare fast.
     container: Vec<u8>,
 }
 
@@ -38,11 +38,11 @@ impl Model for Code {
 }
 
 impl Code {
-    /// The code of the first version of these instructions. Takes memory for its container.
+    /// The code of the first version with these instructions. Takes memory for its container.
     ///
-    /// 206 where the arity is above 8; else 205 where there are not 1 to 1,024 instructions; else at the first instruction that the
-    /// version doesn't have, or whose target is above their count, 203 where the version has no such opcode, and else 204. 290 where
-    /// memory is refused.
+    /// 206 if the arity is above 8; otherwise 205 if there aren't 1 to 1,024 instructions. Otherwise, at the first
+    /// instruction that the version doesn't have or whose target is above the number of instructions, 203 if the version
+    /// has no such opcode, and 204 if it has. 290 if memory is refused.
     pub fn new(alloc: Global, arity: u8, instrs: Vec<Instr>) -> Result<Code, CodeFault>
         ensures value { IfOk result (λ c. c ≡ record { version = One; arity = arity; instrs = instrs.items }) }
         ensures valid { IfOk result (λ _. IsCode (record { version = One; arity = arity; instrs = instrs.items })) }
@@ -52,7 +52,7 @@ impl Code {
         Code::of_version(alloc, Version::One, arity, instrs)
     }
 
-    /// The same of the second version.
+    /// Like `new`, but of the second version.
     pub fn new2(alloc: Global, arity: u8, instrs: Vec<Instr>) -> Result<Code, CodeFault>
         ensures value { IfOk result (λ c. c ≡ record { version = Two; arity = arity; instrs = instrs.items }) }
         ensures valid { IfOk result (λ _. IsCode (record { version = Two; arity = arity; instrs = instrs.items })) }
@@ -62,7 +62,7 @@ impl Code {
         Code::of_version(alloc, Version::Two, arity, instrs)
     }
 
-    /// The code of that version of these instructions.
+    /// Like `new`, but of that version.
     pub fn of_version(
         alloc: Global,
         version: Version,
@@ -81,7 +81,7 @@ impl Code {
         let count = instrs.len() as u16;
         for position in 0..count {
             let instr = instrs[usize::from(position)];
-            // Its operands are in range by their types: here a proof learns that.
+            // The types of its operands keep them in range: this call tells the prover.
             let _cell = instr.cell();
             if !instr.has_opcode_in(version) {
                 return Err(CodeFault::BadOpcode(position));
@@ -99,7 +99,7 @@ impl Code {
         })
     }
 
-    /// The same code in the second version. Takes no memory. 207 where it isn't of the first.
+    /// The same code in the second version. Takes no memory. 207 if it isn't of the first.
     pub(crate) fn into_version_2(self) -> Result<Code, (Code, CodeFault)>
         ensures first { IsOk result ↔ (self.version ≡ One) }
         ensures same { IfOk result (λ c. c ≡ migrated self) }
@@ -143,7 +143,7 @@ impl Code {
         self.version
     }
 
-    /// How many arguments a call gives, 0 to 8.
+    /// How many arguments a call passes, 0 to 8.
     pub fn arity(&self) -> Arity
         ensures value { result ≡ self.now.arity }
         ensures valid { IsCode self.now }
@@ -166,7 +166,7 @@ impl Code {
         self.instrs.len() as u16
     }
 
-    /// The instruction at a position; there is none at the code's end.
+    /// The instruction at a position, or `None` from the code's end on.
     pub fn instr_at(&self, position: u16) -> Option<Instr>
         ensures value { result ≡ slice_get self.now.instrs position }
         ensures within { IfSome result (IsInstr self.now.version (length self.now.instrs)) }
@@ -175,18 +175,18 @@ impl Code {
         self.instrs.get(usize::from(position)).copied()
     }
 
-    /// The code's one container, from its first byte to its last.
+    /// The bytes of the code's container.
     pub fn container(&self) -> &[u8]
         ensures { Spelled result.now self.now }
     {
         self.container.as_slice()
     }
 
-    /// Whether both are the same code: as many arguments, and the same instructions.
+    /// Whether both are the same code: the same version, arity and instructions.
     pub fn is(&self, other: &Code) -> bool
         ensures { IsTrue result ↔ (self.now ≡ other.now) }
     {
-        // Each code has one container, and no container is that of two codes: here a proof learns that.
+        // Each code has one container, and no two codes share one: this call tells the prover.
         one_spelling();
         self.container == other.container
     }

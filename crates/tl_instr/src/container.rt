@@ -17,7 +17,7 @@ use crate::reading;
 use crate::version::Version;
 use std::alloc::Global;
 
-/// How many bytes stand before the instructions.
+/// How many bytes come before the instructions.
 const HEADER_SIZE: usize = 8;
 
 #[derive(Drop)]
@@ -40,7 +40,7 @@ fn version_of(bytes: &[u8]) -> Option<Version>
     None
 }
 
-/// What stands before the instructions, where the bytes are as many as it says.
+/// The header, if there are as many bytes as it says.
 fn header_of(bytes: &[u8]) -> Result<Header, CodeFault>
     ensures { MatchResult result
         (λ h. IsFramed bytes.now × (h.version ≡ version_at bytes.now) × (h.arity ≡ slice_index bytes.now 4) × (h.count ≡ count_at bytes.now))
@@ -111,16 +111,16 @@ fn instrs_of(
     Ok(instrs)
 }
 
-/// The code that the bytes spell, all of the bytes.
+/// The code that all of the bytes spell.
 ///
-/// The first of these faults: 201 where the first four bytes aren't `TLP1` or `TLP2`; 202 where there are fewer than 8 bytes;
-/// 206 where the arity is above 8, or the byte after it isn't 0; 205 where the count isn't 1 to 1,024; 202 where the
-/// bytes aren't 8, and 8 an instruction; and then at the first position whose eight bytes are no instruction's, 203
-/// where no instruction has that opcode, and else 204. 290 where memory is refused.
+/// The error is the first of these faults: 201 if the first four bytes are neither `TLP1` nor `TLP2`; 202 if there are
+/// fewer than 8 bytes; 206 if the arity is above 8 or the byte after it isn't 0; 205 if the count isn't 1 to 1,024; 202 if
+/// there aren't exactly 8 bytes, and 8 more for each instruction. Then, at the first position whose eight bytes aren't an
+/// instruction, 203 if no instruction has that opcode, and 204 otherwise. 290 if memory is refused.
 pub fn decode(alloc: Global, bytes: &[u8]) -> Result<Code, CodeFault>
-    // What is read is spelled so.
+    // The bytes spell the code that is read.
     ensures found { IfOk result (λ code. Spelled bytes.now code) }
-    // What is spelled so is read, unless memory is refused.
+    // If the bytes spell a code, it is read, unless memory is refused.
     ensures only { (c : CodeValue) → Spelled bytes.now c → MatchResult result
         (λ code. code ≡ c)
         (λ f. f ≡ CodeFault.Memory) }
@@ -161,7 +161,7 @@ pub(crate) fn spell(
 
 /// The one spelling of the code.
 ///
-/// 290 where memory is refused.
+/// 290 if memory is refused.
 pub fn encode(alloc: Global, code: &Code) -> Result<Vec<u8>, CodeFault>
     ensures spelled { IfOk result (λ bytes. Spelled bytes.items code.now) }
     ensures memory { IfErr result (λ f. f ≡ CodeFault.Memory) }
@@ -169,10 +169,10 @@ pub fn encode(alloc: Global, code: &Code) -> Result<Vec<u8>, CodeFault>
     Ok(code.container().to_vec(alloc)?)
 }
 
-/// The code in the second version of the language: the same arity and the same instructions. Its container differs in the fourth byte
-/// alone. Takes no memory.
+/// The same arity and instructions as a code of the second version of the language. Only the fourth byte of its container
+/// differs. Takes no memory.
 ///
-/// 207 where the code isn't of the first version; it is handed back then.
+/// 207 if the code isn't of the first version; then it is handed back.
 pub fn migrate_code(code: Code) -> Result<Code, (Code, CodeFault)>
     ensures first { IsOk result ↔ (code.version ≡ One) }
     ensures same { IfOk result (λ c. c ≡ migrated code) }
@@ -181,8 +181,8 @@ pub fn migrate_code(code: Code) -> Result<Code, (Code, CodeFault)>
     code.into_version_2()
 }
 
-/// The laws of spellings: each code has one, and no bytes are the spelling of two codes. Bytes have a first fault only
-/// where they spell no code, and no more than one.
+/// The laws of spellings: each code has one, and no bytes spell two codes. Bytes have a first fault only if they spell no
+/// code, and never more than one.
 pub fn one_spelling()
     ensures each { (c : CodeValue) → IsCode c → Spelled (spelling c) c }
     ensures one_code { (bytes : List ℕ) (c d : CodeValue) → Spelled bytes c → Spelled bytes d → c ≡ d }

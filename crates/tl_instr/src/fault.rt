@@ -1,4 +1,4 @@
-//! Why bytes or instructions are no code.
+//! Why bytes or instructions don't make a code.
 
 ghost use Rattle.std.specs.Prelude.{◌≡◌};
 ghost use Rattle.tl_instr.specs.declared.fault.CodeFault.TheVariants.{Memory};
@@ -13,7 +13,7 @@ pub enum CodeFault {
     /// 201: the bytes begin neither with `TLP1` nor with `TLP2`.
     #[error("the bytes begin neither with TLP1 nor with TLP2")]
     BadMagic,
-    /// 202: the header ends early, or the bytes aren't as many as the count says.
+    /// 202: the header is cut short, or the number of bytes differs from what the count says.
     #[error("the container's length is wrong")]
     BadLength,
     /// 203: the version has no such opcode, at this position.
@@ -26,7 +26,7 @@ pub enum CodeFault {
     #[error("the code has no instruction, or more than 1,024")]
     BadCount,
     /// 206: the arity is above 8, or the byte after it isn't 0.
-    #[error("the procedure takes more than 8 arguments")]
+    #[error("the arity is more than 8, or the byte after it is not 0")]
     BadArity,
     /// 207: the code isn't of the first version.
     #[error("the code is of version 2 already")]
@@ -39,7 +39,7 @@ pub enum CodeFault {
 impl CodeFault {
     ghost use Rattle.tl_instr.specs.Faults.{numbers_of};
 
-    /// The fault's number, and then the position where it has one.
+    /// The fault's number, then its position if it has one.
     pub fn numbers(&self) -> ArrayVec<u64, 3>
         ensures { result.items ≡ numbers_of self.now }
     {

@@ -18,28 +18,29 @@ pub enum Instr {
         to: ValueRegister,
         from: ValueRegister,
     },
-    /// `add vx vy vz else L`: the sum, or the target where it doesn't fit 64 bits.
+    /// `add vx vy vz else L`: the sum; control goes to the target if it doesn't fit 64 bits.
     Add {
         to: ValueRegister,
         left: ValueRegister,
         right: ValueRegister,
         otherwise: u16,
     },
-    /// `sub vx vy vz else L`: the difference, or the target where it doesn't fit 64 bits.
+    /// `sub vx vy vz else L`: the difference; control goes to the target if it doesn't fit 64 bits.
     Subtract {
         to: ValueRegister,
         left: ValueRegister,
         right: ValueRegister,
         otherwise: u16,
     },
-    /// `mul vx vy vz else L`: the product, or the target where it doesn't fit 64 bits.
+    /// `mul vx vy vz else L`: the product; control goes to the target if it doesn't fit 64 bits.
     Multiply {
         to: ValueRegister,
         left: ValueRegister,
         right: ValueRegister,
         otherwise: u16,
     },
-    /// `div vx vy vz else L`: the quotient, rounded toward 0, or the target where the divisor is 0 or it doesn't fit.
+    /// `div vx vy vz else L`: the quotient, rounded toward 0; control goes to the target if the divisor is 0 or the
+    /// quotient doesn't fit 64 bits.
     Divide {
         to: ValueRegister,
         left: ValueRegister,
@@ -62,38 +63,38 @@ pub enum Instr {
         right: ValueRegister,
         target: u16,
     },
-    /// `rep w`: the body up to the end that matches runs that many times.
+    /// `rep w`: the body, up to the matching `end`, runs `count` times.
     Repeat {
         count: u16,
     },
-    /// `repv vx w`: the body runs as often as the register says, not less than 0 times and not more than `count` times. The
-    /// register is read once, as the loop begins.
+    /// `repv vx w`: the body runs as often as the register says, but at least 0 and at most `count` times. The register is
+    /// read once, when the loop begins.
     RepeatBy {
         turns: ValueRegister,
         count: u16,
     },
     /// `end`: a turn of the innermost loop ends.
     End,
-    /// `first nx vy else L`: locks the node of that number, or the target where there is none.
+    /// `first nx vy else L`: locks the node with that number; control goes to the target if there is no such node.
     First {
         to: NodeRegister,
         number: ValueRegister,
         otherwise: u16,
     },
-    /// `child nx ny vz else L`: locks that child of a held node, or the target where its cursor is past that child, or
-    /// there is none.
+    /// `child nx ny vz else L`: locks that child of a held node; control goes to the target if the cursor is past that
+    /// child or there is no such child.
     Child {
         to: NodeRegister,
         parent: NodeRegister,
         number: ValueRegister,
         otherwise: u16,
     },
-    /// `move nx ny`: the register takes the other's node and cursor, and the other is empty then.
+    /// `move nx ny`: the register takes the other's node and cursor, and leaves the other empty.
     Move {
         to: NodeRegister,
         from: NodeRegister,
     },
-    /// `rel nx`: unlocks the node, and the register is empty then.
+    /// `rel nx`: frees the node, and leaves the register empty.
     Release {
         node: NodeRegister,
     },
@@ -124,11 +125,11 @@ pub enum Instr {
 
 impl Instr {
     ghost use Rattle.std.specs.Prelude.{◌≡◌, ◌↔◌, IsTrue};
-    ghost use Rattle.tl_instr.specs.Instructions.{target, InRange};
+    ghost use Rattle.tl_instr.specs.Instructions.{target, with_target, InRange};
     ghost use Rattle.tl_instr.specs.Versions.{HasOpcode, HasInstr};
     ghost use Rattle.tl_instr.specs.Spelling.{cell_of};
 
-    /// The position that control may go to in place of the next one.
+    /// The position to which control may go instead of the next one.
     pub fn target(&self) -> Option<u16>
         ensures { result ≡ target self.now }
     {
@@ -157,6 +158,37 @@ impl Instr {
         }
     }
 
+    /// The instruction with `to` as its target, if it has a target.
+    pub fn with_target(&self, to: u16) -> Instr
+        ensures { result ≡ with_target to self.now }
+    {
+        let mut instr = *self;
+        match &mut instr {
+            Instr::Add { otherwise, .. } => *otherwise = to,
+            Instr::Subtract { otherwise, .. } => *otherwise = to,
+            Instr::Multiply { otherwise, .. } => *otherwise = to,
+            Instr::Divide { otherwise, .. } => *otherwise = to,
+            Instr::First { otherwise, .. } => *otherwise = to,
+            Instr::Child { otherwise, .. } => *otherwise = to,
+            Instr::Jump { target } => *target = to,
+            Instr::JumpIfLess { target, .. } => *target = to,
+            Instr::JumpIfEqual { target, .. } => *target = to,
+            Instr::Set { .. }
+            | Instr::Copy { .. }
+            | Instr::Repeat { .. }
+            | Instr::RepeatBy { .. }
+            | Instr::End
+            | Instr::Move { .. }
+            | Instr::Release { .. }
+            | Instr::Get { .. }
+            | Instr::Put { .. }
+            | Instr::Kids { .. }
+            | Instr::Emit { .. }
+            | Instr::Return => {}
+        }
+        instr
+    }
+
     /// Whether the version has this opcode.
     pub(crate) fn has_opcode_in(&self, version: Version) -> bool
         ensures { IsTrue result ↔ HasOpcode version self.now }
@@ -167,7 +199,7 @@ impl Instr {
         }
     }
 
-    /// Whether the version has this instruction: its opcode, and the field, if it names one.
+    /// Whether the version has this instruction: both its opcode and, if it names one, its field.
     pub fn is_in(&self, version: Version) -> bool
         ensures { IsTrue result ↔ HasInstr version self.now }
     {
@@ -179,7 +211,7 @@ impl Instr {
         }
     }
 
-    /// The opcode and the operands: what isn't used is 0.
+    /// The opcode and the operands. An unused operand is 0.
     pub(crate) fn cell(&self) -> Cell
         ensures value { result ≡ cell_of self.now }
         ensures in_range { InRange self.now }

@@ -1,4 +1,4 @@
-//! The instructions of a procedure, and the container of bytes that it is stored in.
+//! The instructions of a procedure, and the byte container that stores it.
 #![tactic(auto)]
 
 mod cell;

@@ -1,4 +1,4 @@
-// The operands of instructions: numbers that can't be out of range.
+// The operands of instructions: numbers that are always in range.
 
 ghost use Rattle.std.specs.Prelude.{◌≡◌, ℕ, ◌<◌, ◌≤◌, ◌↔◌, IsSome, IfSome};
 ghost use Rattle.tl_width.specs.Fields.{field_count};
@@ -32,7 +32,7 @@ impl Model for ValueRegister {
 }
 
 impl ValueRegister {
-    /// The register of that number, where there is one.
+    /// The register with that number, or `None` from 16 on.
     pub fn new(number: u8) -> Option<Self>
         ensures valid { IsSome result ↔ (number < VALUE_REGISTERS) }
         ensures value { IfSome result (λ r. r ≡ number) }
@@ -80,7 +80,7 @@ impl Model for NodeRegister {
 }
 
 impl NodeRegister {
-    /// The register of that number, where there is one.
+    /// The register with that number, or `None` from 8 on.
     pub fn new(number: u8) -> Option<Self>
         ensures valid { IsSome result ↔ (number < NODE_REGISTERS) }
         ensures value { IfSome result (λ r. r ≡ number) }
@@ -125,7 +125,7 @@ impl Model for Field {
 }
 
 impl Field {
-    /// The field of that number, where there is one.
+    /// The field with that number, or `None` if there is no such field.
     pub fn new(number: u8) -> Option<Self>
         ensures valid { IsSome result ↔ (number < field_count) }
         ensures value { IfSome result (λ f. f ≡ number) }
@@ -176,7 +176,7 @@ impl Model for Arity {
 }
 
 impl Arity {
-    /// The arity of that number, where there is one.
+    /// The arity with that number, or `None` above 8.
     pub fn new(number: u8) -> Option<Self>
         ensures valid { IsSome result ↔ (number ≤ MAX_ARGS) }
         ensures value { IfSome result (λ a. a ≡ number) }

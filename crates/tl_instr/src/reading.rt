@@ -1,4 +1,4 @@
-//! The instruction of a cell.
+//! Reads the instruction of a cell.
 
 ghost use Rattle.std.specs.Prelude.{◌≡◌, ◌≢◌, ◌↔◌, IsTrue, MatchOption};
 ghost use Rattle.tl_instr.specs.Faults.{IsOpcode};
@@ -212,7 +212,7 @@ fn emit(cell: Cell) -> Option<Instr>
     })
 }
 
-/// What the opcode and the operands that it uses say, where they are in range.
+/// The instruction that the opcode and the operands it uses stand for, if these are in range.
 #[tactic(auto, unfolding(crate::specs::Reading::instr_in))]
 fn named(cell: Cell) -> Option<Instr>
     ensures { result ≡ instr_in cell }
@@ -248,7 +248,7 @@ const OPCODES: [u8; 20] = [
     1, 2, 3, 4, 5, 6, 7, 8, 9, 10, 11, 12, 13, 14, 15, 16, 17, 18, 19, 20,
 ];
 
-/// Whether an instruction of that version has that opcode.
+/// Whether an instruction of the version has the opcode.
 pub fn is_opcode(version: Version, opcode: u8) -> bool
     ensures { IsTrue result ↔ IsOpcode version opcode }
 {
@@ -258,7 +258,7 @@ pub fn is_opcode(version: Version, opcode: u8) -> bool
     }
 }
 
-/// The instruction that this cell encodes, in a code of that version and of `count` instructions.
+/// The instruction that the cell encodes in a code of that version with `count` instructions.
 pub fn instr_of(cell: Cell, version: Version, count: u16) -> Option<Instr>
     ensures { MatchOption result ((i : Instr) → IsInstr version count i → cell_of i ≢ cell)
         (λ i. IsInstr version count i × (cell_of i ≡ cell)) }

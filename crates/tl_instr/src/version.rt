@@ -3,9 +3,9 @@
 /// A version of the language, which a code's container names.
 #[derive(Clone, Copy, Debug, PartialEq, Eq)]
 pub enum Version {
-    /// Fields 0 to 3, and loops whose turns the code counts.
+    /// Fields 0 to 3, and loops whose number of turns is in the code.
     One,
-    /// Fields 0 to 7, and loops whose turns a register counts too.
+    /// Fields 0 to 7, and also loops whose number of turns is in a register.
     Two,
 }
 

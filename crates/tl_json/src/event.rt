@@ -18,7 +18,7 @@ use std::alloc::{AllocError, Global};
 use tl_tree::{Record, Width, record_from_value, record_to_value};
 use tl_tree_locking::Event;
 
-/// An event as it is written: its call and its node may be any numbers.
+/// An event as it is written: its call and its node may be any number.
 #[derive(Clone, Copy, Debug)]
 pub enum RawEvent {
     Admitted { call: i64 },
@@ -57,7 +57,7 @@ fn long_event(letter: Letter, call: i64, node: i64, fields: Record) -> Option<Ra
     }
 }
 
-// The event that a value is, where it is one with a record of that width.
+// The event that the value stands for, if it has an event's form with a record of that width.
 fn event_from_value(width: Width, value: &Value) -> Option<RawEvent>
     ensures { result ≡ event_of width (view value.now) }
 {
@@ -116,7 +116,7 @@ impl FromValue for NarrowEvent {
     }
 }
 
-/// The events of a list, or `None` where the value is none, or an item is no event with a record of that width.
+/// The events of a list, or `None` if the value isn't a list or an item isn't an event with a record of that width.
 pub fn events_from_value(
     alloc: Global,
     width: Width,

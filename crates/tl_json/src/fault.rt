@@ -11,19 +11,19 @@ use tl_asm::AsmFault;
 use tl_procedures::NamingFault;
 use tl_verify::VerifyFault;
 
-/// Why a text is no procedure's.
+/// Why a text doesn't stand for a procedure.
 #[derive(Clone, Copy, Debug, PartialEq, Eq, Error)]
 pub enum ProcedureFault {
-    /// 251 to 254, 290: the assembler text.
+    /// 251 to 254, 290: the fault is in the assembler text.
     #[error("the text: {0}")]
     Asm(AsmFault),
-    /// 301 to 307, 401 to 409, 490: the code isn't accepted.
-    #[error("the code: {0}")]
+    /// 301 to 307, 401 to 409, 490: the code isn't accepted, or memory was refused.
+    #[error("{0}")]
     Verify(VerifyFault),
 }
 
 impl ProcedureFault {
-    /// The fault's number, and then its parts.
+    /// The fault's number, then its parts.
     pub fn numbers(&self) -> ArrayVec<u64, 3>
         ensures { result.items ≡ text_numbers_of self.now }
     {
@@ -55,16 +55,16 @@ impl From<AsmFault> for ProcedureFault {
 /// Why a procedure's text isn't registered under a name.
 #[derive(Clone, Copy, Debug, PartialEq, Eq, Error)]
 pub enum RegisterFault {
-    /// 251 to 254, 290, 301 to 307, 401 to 409, 490: the text.
-    #[error("the procedure: {0}")]
+    /// 251 to 254, 290, 301 to 307, 401 to 409, 490: the fault is in the text.
+    #[error("{0}")]
     Text(ProcedureFault),
-    /// 611 to 613, 690: the name.
+    /// 611 to 613, 690: the name isn't taken up.
     #[error("the name: {0}")]
     Name(NamingFault),
 }
 
 impl RegisterFault {
-    /// The fault's number, and then its parts.
+    /// The fault's number, then its parts.
     pub fn numbers(&self) -> ArrayVec<u64, 3>
         ensures { result.items ≡ numbers_of self.now }
     {

@@ -1,4 +1,4 @@
-// JSON values: texts, lists, and what an item stands for.
+// JSON values: reading texts and lists, and what items stand for.
 
 ghost use Rattle.std.specs.Prelude.{◌≡◌, ◌≢◌, ◌∷◌, [], Option, Some, None, length, map, option_map, IfOk, IfSome, IsUtf8, MatchOption};
 ghost use Rattle.serde_json.specs.Data.{Data};
@@ -12,7 +12,7 @@ use std::alloc::{AllocError, Global};
 
 // ---- texts
 
-/// The value of a text of JSON, or `None` where it is none.
+/// The value of a JSON text, or `None` if the text isn't JSON.
 pub fn parse_text(alloc: Global, text: &str) -> Result<Option<Value>, AllocError>
     ensures { IfOk result (λ found. option_map view found ≡ read text.now) }
 {
@@ -23,7 +23,7 @@ pub fn parse_text(alloc: Global, text: &str) -> Result<Option<Value>, AllocError
     }
 }
 
-/// The value of the bytes of a text of JSON, or `None` where they are no UTF-8 or no JSON.
+/// The value of the bytes of a JSON text, or `None` if they aren't UTF-8 or aren't JSON.
 pub fn parse(alloc: Global, bytes: &[u8]) -> Result<Option<Value>, AllocError>
     ensures some { IfOk result (λ found. IfSome found (λ v. IsUtf8 bytes.now × (read bytes.now ≡ Some (view v)))) }
     ensures none { IfOk result (λ found. found ≡ None → IsUtf8 bytes.now → read bytes.now ≡ None) }
@@ -36,26 +36,26 @@ pub fn parse(alloc: Global, bytes: &[u8]) -> Result<Option<Value>, AllocError>
 
 // ---- reading
 
-/// A form of JSON values. A type of the crate that reads it is a form of its own; a type from elsewhere has its form in an
-/// empty struct.
+/// A form of JSON values. A type of the crate that reads the form implements it itself; for a type from elsewhere, an empty
+/// struct stands for the form.
 pub trait FromValue {
     /// What a value of the form stands for.
     type Item: Drop;
 
-    // What a contract sees of it.
+    // What a contract sees of such an item.
     ghost Form: { Type 0 };
 
     ghost form: { Self.Item → Self.Form };
 
-    // What a value stands for, where it stands for any.
+    // What a value stands for, if it has the form.
     ghost form_of: { Data → Option Self.Form };
 
-    /// What the value stands for, or `None` where it has another form.
+    /// What the value stands for, or `None` if it has another form.
     fn from_value(alloc: Global, value: &Value) -> Result<Option<Self::Item>, AllocError>
         ensures { IfOk result (λ found. option_map Self.form found ≡ Self.form_of (view value.now)) };
 }
 
-/// What the items of a list stand for, or `None` where the value is no list, or an item has another form.
+/// What the items of a list stand for, or `None` if the value isn't a list or an item has another form.
 pub fn each_of<T: FromValue>(
     alloc: Global,
     value: &Value,
@@ -84,7 +84,7 @@ fn each_item<T: FromValue>(
     Ok(Some(found))
 }
 
-/// The items of a list of two.
+/// The items, if there are exactly two.
 pub fn two_of(items: &[Value]) -> Option<(&Value, &Value)>
     ensures { MatchOption result (length items.now ≢ 2) (λ found. items.now ≡ found.0.now ∷ found.1.now ∷ []) }
 {
@@ -94,7 +94,7 @@ pub fn two_of(items: &[Value]) -> Option<(&Value, &Value)>
     Some((&items[0], &items[1]))
 }
 
-/// The items of a list of three.
+/// The items, if there are exactly three.
 pub fn three_of(items: &[Value]) -> Option<(&Value, &Value, &Value)>
     ensures { MatchOption result (length items.now ≢ 3) (λ found. items.now ≡ found.0.now ∷ found.1.now ∷ found.2.now ∷ []) }
 {
@@ -104,7 +104,7 @@ pub fn three_of(items: &[Value]) -> Option<(&Value, &Value, &Value)>
     Some((&items[0], &items[1], &items[2]))
 }
 
-/// The items of a list of four.
+/// The items, if there are exactly four.
 pub fn four_of(items: &[Value]) -> Option<(&Value, &Value, &Value, &Value)>
     ensures { MatchOption result (length items.now ≢ 4) (λ found. items.now ≡ found.0.now ∷ found.1.now ∷ found.2.now ∷ found.3.now ∷ []) }
 {

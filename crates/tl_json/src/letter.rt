@@ -2,12 +2,12 @@
 
 ghost use Rattle.std.specs.Prelude.{◌≡◌};
 
-/// What a list begins with that stands for an event, or for what came of a step or of an admission.
+/// The first item of a list that stands for an event, or for the result of a step or an admission.
 #[derive(Clone, Copy, Debug, PartialEq, Eq)]
 pub enum Letter {
     /// `a`: a call was admitted.
     Admitted,
-    /// `s`: an instruction did nothing that the letters below stand for.
+    /// `s`: an instruction did nothing that the letters below describe.
     Plain,
     /// `l`: a node was locked.
     Locked,
@@ -50,7 +50,7 @@ impl Letter {
         }
     }
 
-    /// The letter that a text is, where it is one.
+    /// The letter that the text spells, if it spells one.
     pub fn from_text(text: &str) -> Option<Letter>
         ensures { result ≡ letter_of text.now }
     {

@@ -1,8 +1,7 @@
-//! One room for what is read and written as text: JSON values of procedures, requests, replies and events, the letters
-//! that stand for them, and the way from a procedure's text to its number.
+//! One home for everything that is read and written as text: JSON values of procedures, requests, replies and events, the
+//! letters that stand for them, and how a procedure's text is registered under a number.
 //!
-//! Trails, scripts and a server stand on it, so a form is read and written in one way wherever it stands. Nothing here
-//! runs a call.
+//! Trails, scripts and a server use it, so each form is read and written in one way everywhere. Nothing here runs a call.
 #![tactic(auto)]
 
 mod event;

@@ -1,4 +1,4 @@
-// Numbers of calls, and orders of them.
+// Lists of call numbers, and orders.
 
 ghost use Rattle.std.specs.Prelude.{◌≡◌, codes, IfOk};
 ghost use Rattle.serde_json.specs.Data.{object, member, no_members};

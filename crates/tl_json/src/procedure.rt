@@ -67,7 +67,7 @@ fn procedure_to_value(alloc: Global, name: &str, procedure: &Proc) -> Result<Val
     json!(in alloc; [name, text.as_str()])
 }
 
-/// The list of the procedures by number, each `[name,text]` with its canonical assembler text.
+/// The list of the procedures by number, each as `[name,text]` with its canonical assembler text.
 pub fn procedures_to_value(alloc: Global, procedures: &Procedures) -> Result<Value, AllocError>
     ensures value { IfOk result (λ v. view v ≡ list_data (map procedure_data procedures.now)) }
     ensures accepted { OnOk result (AreAccepted procedures.now) }

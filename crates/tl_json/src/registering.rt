@@ -1,4 +1,4 @@
-// From a procedure's text to its number.
+// Registers a procedure's text under a number.
 
 ghost use Rattle.std.specs.Prelude.{◌≡◌, [], true, false, length, map, string_bytes, IfOk, IfErr, OnOk, OnErr, MatchResult};
 ghost use Rattle.tl_instr.specs.Codes.{CodeValue};
@@ -13,14 +13,14 @@ use tl_asm::assemble;
 use tl_procedures::Procedures;
 use tl_verify::{Proc, verify};
 
-/// The procedure of an assembler text. What is wrong first: the assembler's 251 to 254, and then the verifier's 301 to
-/// 307 and 401 to 409. 290 or 490 where memory is refused.
+/// The procedure of an assembler text. Its first fault: the assembler's 251 to 254, then the verifier's 301 to 307 and 401
+/// to 409. 290 or 490 if memory is refused.
 pub fn procedure_of_text(alloc: Global, text: &str) -> Result<Proc, ProcedureFault>
-    // What is made is the text's.
+    // The procedure is that of the text.
     ensures ok { IfOk result (IsCodeText text.now) }
     // Which fault it is.
     ensures fault { IfErr result (λ e. is_text_memory e ≡ false → IsTextFault text.now e) }
-    // The procedure of a text is made, unless memory is refused.
+    // If the text has a procedure, it is made, unless memory is refused.
     ensures taken { (c : CodeValue) → IsCodeText text.now c
         → MatchResult result (λ p. p ≡ c) (λ e. is_text_memory e ≡ true) }
 {
@@ -31,8 +31,9 @@ pub fn procedure_of_text(alloc: Global, text: &str) -> Result<Proc, ProcedureFau
     }
 }
 
-/// Registers a procedure by its text under its name, and answers its number. What is wrong first: the text, as above, and
-/// then 612, 611, 613 of the name. 290, 490 or 690 where memory is refused. A refusal changes nothing.
+/// Registers a procedure's text under a name, and returns its number. The first fault: that of the text, as from
+/// `procedure_of_text`, then 612, 611, 613 for the name. 290, 490 or 690 if memory is refused. If it fails, nothing
+/// changes.
 pub fn register(
     alloc: Global,
     procedures: &mut Procedures,
@@ -48,8 +49,7 @@ pub fn register(
     Ok(procedures.add(alloc, &written.name, procedure)?)
 }
 
-/// The procedures of these texts under their names, registered one after another, or what is wrong with the first that
-/// has a fault.
+/// The procedures of these texts under their names, registered one after another, or the fault of the first that has one.
 pub fn register_all(alloc: Global, texts: &[ProcedureText]) -> Result<Procedures, RegisterFault>
     ensures ok { IfOk result (TakenUp [] (map procedure_form texts.now)) }
     ensures fault { IfErr result (λ e. is_memory e ≡ false → IsFirstUnfit [] (map procedure_form texts.now) e) }

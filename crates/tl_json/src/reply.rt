@@ -11,7 +11,7 @@ use std::alloc::{AllocError, Global};
 use tl_budget::MAX_EMITS;
 use tl_tree::{integers_from_value, integers_to_value};
 
-/// The reply of a call, if it has any: null, or a list of at most 32 numbers. `None` for another value.
+/// The reply of a call, which may be none: null, or a list of at most 32 numbers. `None` for any other value.
 pub fn reply_from_value(
     alloc: Global,
     value: &Value,
@@ -31,7 +31,7 @@ pub fn reply_from_value(
     }
 }
 
-/// The list of the reply's numbers, or null where there is no reply.
+/// The list of the reply's numbers, or null if there is no reply.
 pub fn reply_to_value(alloc: Global, reply: Option<&[i64]>) -> Result<Value, AllocError>
     ensures value { IfOk result (λ v. view v ≡ reply_data (option_copied reply.entry)) }
     ensures fit { OnOk result (IfSome (option_copied reply.entry) (λ values. All (FitsSigned w64) values)) }

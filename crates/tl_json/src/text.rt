@@ -1,4 +1,4 @@
-// JSON as text, piece after piece: for what would be large as a value.
+// Writes JSON as text, piece by piece, for data that would be large as a value.
 
 ghost use Rattle.std.specs.Prelude.{◌≡◌, ◌++◌, nat_lt, map, string_bytes, All, OnOk};
 ghost use Rattle.serde_json.specs.Data.{Data};
@@ -9,20 +9,20 @@ use itoa::{Buffer, Integer};
 use std::alloc::AllocError;
 use tl_tree::Record;
 
-/// What is written as a text of JSON, with no space.
+/// Something that is written as JSON text with no spaces.
 pub trait PushText {
     ghost data: { Self → Data };
 
-    // What is so of whatever was written.
+    // What holds for everything that was written.
     ghost IsFit: { Self → Type 0 };
 
-    /// Adds its text. Where memory is refused, a part of it may have been added.
+    /// Appends its text. If memory is refused, part of the text may have been added.
     fn push_text(&self, text: &mut String) -> Result<(), AllocError>
         ensures text { OnOk result (string_bytes text.new ≡ string_bytes text.old ++ compact_text (Self.data self.now)) }
         ensures fit { OnOk result (Self.IsFit self.now) };
 }
 
-/// Adds the text of the list of these. Where memory is refused, a part of it may have been added.
+/// Appends the text of the list of these items. If memory is refused, part of the text may have been added.
 pub fn push_list<T: PushText>(text: &mut String, items: &[T]) -> Result<(), AllocError>
     ensures text { OnOk result (string_bytes text.new ≡ string_bytes text.old ++ compact_text (list_data (map T.data items.now))) }
     ensures fit { OnOk result (All T.IsFit items.now) }
@@ -35,7 +35,7 @@ pub fn push_list<T: PushText>(text: &mut String, items: &[T]) -> Result<(), Allo
     text.push_str("]")
 }
 
-// A comma, but before the first item.
+// A comma before every item but the first.
 fn push_comma(text: &mut String, index: usize) -> Result<(), AllocError>
     ensures { OnOk result (string_bytes text.new ≡ string_bytes text.old ++ comma_if (nat_lt 0 index)) }
 {

@@ -1,4 +1,4 @@
-// Which nodes a loop's body lets go down.
+// The nodes that the body of a loop descends from.
 
 use crate::paths::Held;
 use crate::scope::Scope;
@@ -19,7 +19,7 @@ impl Scope {
         }
     }
 
-    /// The bits of the node registers that a `descend` in these statements is of.
+    /// A bit for each node register that a `descend` in these statements names.
     #[cycle(descents)]
     pub fn descended(&self, statements: &[Statement]) -> u8 {
         let mut nodes = 0;

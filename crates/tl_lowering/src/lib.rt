@@ -1,4 +1,4 @@
-//! The rules of the procedure language: from a text to the core forms of its procedures, or to the first thing that is wrong with it.
+//! The rules of the procedure language: from a text to the core forms of its procedures, or to the first fault of the text.
 #![tactic(auto)]
 
 mod descents;

@@ -1,4 +1,4 @@
-// Loops, but for their blocks, with registers in the place of names.
+// Loops without their blocks, with registers in place of names.
 
 use crate::lowering::{Lowered, Lowering};
 use crate::paths::{Flow, Held, join};
@@ -28,7 +28,7 @@ pub enum Repetition {
 }
 
 impl Lowering {
-    // 293 where four loops are around.
+    // 293 inside four loops.
     fn check_depth(&self, offset: usize) -> Result<(), SyntaxFault> {
         if usize::from(self.scope.loops) >= MAX_DEPTH {
             return Err(SyntaxFault::at(Wrong::LoopDepth, offset));
@@ -36,7 +36,7 @@ impl Lowering {
         Ok(())
     }
 
-    /// How often a block is repeated.
+    /// How often a block is repeated. 275, 277, 280, 281, 291 or 293 at the first part that is wrong.
     pub fn repetition(
         &self,
         turns: &parsed::Expression,
@@ -54,7 +54,8 @@ impl Lowering {
         Ok(Repetition::UpTo(number, self.scope.turns(at_most)?))
     }
 
-    /// A loop over the children of a node: its registers, and how many turns it has at most.
+    /// A loop over the children of a node: its registers, and how many turns it has at most. 275 to 277, 280, 281, 284 or 291 to
+    /// 293 at the first part that is wrong.
     pub fn visit(
         &self,
         names: (Name, Name),
@@ -81,7 +82,7 @@ impl Lowering {
         }))
     }
 
-    /// What holds in the body of a loop, whose names are declared there, where that holds as a turn begins.
+    /// Enters the body of a loop and declares the loop's names. `start` holds as a turn begins; the result holds in the body.
     pub fn begin(&mut self, repetition: &Repetition, start: Held) -> Result<Held, SyntaxFault> {
         self.scope.loops = self.scope.loops.saturating_add(1);
         let Repetition::Children(visit) = repetition else {
@@ -92,7 +93,7 @@ impl Lowering {
         Ok(start.visiting(visit.parent).with(visit.child))
     }
 
-    /// 283 where a turn that began so changes what is held, or enters the tree.
+    /// 283 if a turn that begins with `start` changes which nodes are held, or enters the tree.
     pub fn check_turn(&self, flow: Flow, start: Held, offset: usize) -> Result<Flow, SyntaxFault> {
         let after = flow.after.map(|after| after.keeping(start.nodes));
         if let Some(after) = after {
@@ -103,7 +104,7 @@ impl Lowering {
         Ok(Flow { after, ..flow })
     }
 
-    /// A loop with its body. Turns begin at `start`, and the loop where `held` holds.
+    /// A loop with its body. `start` holds as a turn begins, `held` as the loop begins.
     pub fn repeated(
         &self,
         repetition: Repetition,
@@ -140,7 +141,8 @@ impl Lowering {
         Ok((statement, flow))
     }
 
-    // The children are counted first. Then each is locked, until there is none.
+    // The children are counted first; if there are too many, the loop fails. Then they are locked one after another until none is
+    // left.
     fn visiting(&self, visit: Visit, body: Statement) -> Result<Statement, SyntaxFault> {
         let most = Expression::Constant(i32::from(visit.turns));
         let many = Condition::Greater(Expression::Children(visit.parent), most);

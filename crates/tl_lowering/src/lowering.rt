@@ -1,4 +1,4 @@
-// Blocks and the statements that have blocks, with registers in the place of names.
+// Blocks and the statements that have blocks, with registers in place of names.
 
 use crate::loops::Repetition;
 use crate::naming::{Locking, asked};
@@ -30,7 +30,7 @@ enum Binding {
     Nodes(Place, Statement),
 }
 
-// A declaration whose block isn't at its end, and what the block does before it.
+// A declaration whose block hasn't ended yet, and what the block does before it.
 #[derive(Drop)]
 struct Opened {
     binding: Binding,
@@ -38,7 +38,7 @@ struct Opened {
     earlier: Vec<Statement>,
 }
 
-// A block as far as it was read.
+// The part of a block that was read so far.
 #[derive(Drop)]
 struct Draft {
     opened: Vec<Opened>,
@@ -46,14 +46,14 @@ struct Draft {
     flow: Flow,
 }
 
-// What a declaration declares, before its `else` is looked at.
+// What a declaration declares, before its `else` is read.
 #[derive(Drop)]
 enum Head {
     Value(Name, ValueRegister, Expression),
     Nodes(Locking),
 }
 
-// What an `if` asks.
+// What an `if` tests.
 #[derive(Drop)]
 enum Entrance {
     Condition(Condition),
@@ -69,7 +69,7 @@ impl Lowering {
         Ok(Statement::At(offset, self.boxed(statement)?))
     }
 
-    /// One after the other, halved again and again, so that no statement stands deep.
+    /// The statements one after another. The sequence is halved repeatedly, so that no statement is deeply nested.
     pub fn sequence(&self, statements: Vec<Statement>) -> Result<Statement, SyntaxFault> {
         let count = statements.len();
         let mut rest = statements.into_iter();
@@ -123,7 +123,7 @@ impl Lowering {
         self.sequence(earlier)
     }
 
-    // The whole block.
+    // The complete block.
     fn finished(&self, draft: Draft) -> Result<Statement, SyntaxFault> {
         let Draft {
             mut opened,
@@ -137,7 +137,7 @@ impl Lowering {
         Ok(whole)
     }
 
-    /// A block that begins where that holds.
+    /// A block. `held` holds where it begins.
     #[cycle(lowering)]
     pub fn block(
         &mut self,
@@ -171,7 +171,7 @@ impl Lowering {
         Ok((self.finished(draft)?, flow))
     }
 
-    // What a `let` or a `lock` declares, before its `else` is looked at; nothing of another statement.
+    // What a `let` or a `lock` declares, before its `else` is read. None for any other statement.
     fn head(&self, form: &StatementForm, held: Held) -> Result<Option<Head>, SyntaxFault> {
         match form {
             StatementForm::Act(Action::Let { name, value }, _) => {
@@ -214,7 +214,7 @@ impl Lowering {
         }
     }
 
-    // The `else` of a declaration, which must not come to its end.
+    // The `else` of a declaration. 286 if control can reach its end.
     #[cycle(lowering)]
     fn refusal(
         &mut self,
@@ -231,7 +231,7 @@ impl Lowering {
         Ok(Some((statement, flow)))
     }
 
-    // One more statement of a block.
+    // Adds a statement to a block.
     #[cycle(lowering)]
     fn extend(
         &mut self,
@@ -300,7 +300,7 @@ impl Lowering {
         }
     }
 
-    /// A statement that began where that holds, and what is done where it fails.
+    /// A statement, and the handler of its failure. `held` held when the statement began.
     #[cycle(lowering)]
     pub fn handled(
         &mut self,
@@ -324,7 +324,7 @@ impl Lowering {
         }
     }
 
-    // What holds in the first block of an `if`, whose names are declared there.
+    // Enters the first block of an `if` and declares its names. The result holds in that block.
     fn enter(&mut self, entrance: &Entrance, held: Held) -> Result<Held, SyntaxFault> {
         match entrance {
             Entrance::Condition(_) => Ok(held),
@@ -335,7 +335,7 @@ impl Lowering {
         }
     }
 
-    // The choice between both blocks.
+    // The choice between the two blocks.
     fn chosen(
         &self,
         entrance: Entrance,

@@ -1,4 +1,4 @@
-// Statements without blocks of their own, with registers in the place of names.
+// Statements without blocks of their own, with registers in place of names.
 
 use crate::lowering::{Lowered, Lowering};
 use crate::paths::{Flow, Held};
@@ -10,18 +10,18 @@ use tl_instr::{NodeRegister, ValueRegister};
 use tl_syntax::parsed::{self, Action, Change, Child, Leave, Name};
 use tl_syntax::{Operator, SyntaxFault, Wrong};
 
-/// What is locked, and by which names it is held then.
+/// What is locked, and the names by which it is then held.
 #[derive(Drop)]
 pub struct Locking {
     pub place: Place,
     pub first: (Name, NodeRegister),
     pub second: Option<(Name, NodeRegister)>,
-    /// What holds behind it.
+    /// What holds after the lock.
     pub held: Held,
 }
 
 impl Lowering {
-    // The number that a value or a field changes to.
+    // The new number of a value or a field.
     fn changed(
         &self,
         old: Expression,
@@ -92,7 +92,7 @@ impl Lowering {
         Ok((Statement::Free(node), Flow::on(held.without(node))))
     }
 
-    // The child is locked under the next free register for a moment.
+    // The child is locked in the next free register for a moment.
     fn descend(
         &self,
         name: Name,
@@ -260,7 +260,7 @@ impl Lowering {
         }
     }
 
-    /// The names of what was locked are declared.
+    /// Declares the names of what was locked.
     pub fn declare(&mut self, locking: &Locking) -> Result<(), SyntaxFault> {
         self.scope.declare_node(locking.first.0, locking.first.1)?;
         if let Some((name, register)) = locking.second {
@@ -270,7 +270,7 @@ impl Lowering {
     }
 }
 
-/// How a condition fails where an operation stands in it.
+/// How a condition can fail: only if it contains an operation.
 pub fn asked(condition: &Condition, held: Held) -> Flow {
     Flow::NOWHERE.failing_if(condition_may_fail(condition), held)
 }

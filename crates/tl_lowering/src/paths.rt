@@ -7,9 +7,9 @@ use tl_instr::NodeRegister;
 pub struct Held {
     /// The node registers that own a node, a bit each.
     pub nodes: u8,
-    /// Those of which a child was locked, or whose children were gone through.
+    /// The node registers of whose node a child was locked, or whose children were gone through, a bit each.
     pub visited: u8,
-    /// Whether the tree was entered, on one path at least.
+    /// Whether the tree was entered on at least one path.
     pub is_entered: bool,
 }
 
@@ -33,7 +33,7 @@ impl Held {
         self.visited & bit(register) != 0
     }
 
-    /// After the register got a node that no child was locked of.
+    /// After the register got a node of which no child was locked.
     pub fn with(self, register: NodeRegister) -> Held {
         Held {
             nodes: self.nodes | bit(register),
@@ -57,7 +57,7 @@ impl Held {
         }
     }
 
-    /// Where it isn't known any more whether children of these were locked.
+    /// When it is no longer known whether children of these nodes were locked.
     pub fn forgetting(self, nodes: u8) -> Held {
         Held {
             visited: self.visited & !nodes,
@@ -82,7 +82,7 @@ impl Held {
         }
     }
 
-    /// Only these registers are kept.
+    /// Only these registers keep their nodes.
     pub fn keeping(self, nodes: u8) -> Held {
         Held {
             nodes: self.nodes & nodes,
@@ -90,7 +90,7 @@ impl Held {
         }
     }
 
-    // What holds on paths of both kinds.
+    // What holds on paths of either kind.
     fn and(self, other: Held) -> Held {
         Held {
             nodes: self.nodes & other.nodes,
@@ -100,7 +100,7 @@ impl Held {
     }
 }
 
-/// What holds where paths join, of which there may be none.
+/// What holds where paths join. None stands for no path.
 pub fn join(first: Option<Held>, second: Option<Held>) -> Option<Held> {
     match (first, second) {
         (None, other) | (other, None) => other,
@@ -108,7 +108,7 @@ pub fn join(first: Option<Held>, second: Option<Held>) -> Option<Held> {
     }
 }
 
-/// Where the paths through a statement lead: on, to where a failure is handled, and out of the loop.
+/// Where the paths through a statement lead, and what holds there: on, to the handler of a failure, and out of the loop.
 #[derive(Clone, Copy, Debug)]
 pub struct Flow {
     pub after: Option<Held>,
@@ -133,7 +133,7 @@ impl Flow {
         breaks: None,
     };
 
-    /// It may also fail, where that holds.
+    /// The statement may also fail, and `held` holds then.
     pub fn failing(self, held: Held) -> Flow {
         Flow {
             fails: join(self.fails, Some(held)),
@@ -145,7 +145,7 @@ impl Flow {
         if may_fail { self.failing(held) } else { self }
     }
 
-    /// It also goes on, where that holds.
+    /// The statement goes on, and `held` holds then.
     pub fn going_on(self, held: Held) -> Flow {
         Flow {
             after: Some(held),
@@ -162,7 +162,8 @@ impl Flow {
         }
     }
 
-    /// What holds where a failure is handled of a statement that began so. Where it can't fail: as if it failed at once.
+    /// What holds as the handler of a statement begins. `start` held when the statement began. If the statement can't fail, its
+    /// handler is read as if it failed at once.
     pub fn handled(self, start: Held) -> Held {
         match self.fails {
             Some(fails) => fails.keeping(start.nodes),
@@ -170,7 +171,7 @@ impl Flow {
         }
     }
 
-    /// The statement, or the handler of its failure.
+    /// The statement, and the handler of its failure.
     pub fn handled_by(self, handler: Flow) -> Flow {
         Flow {
             after: join(self.after, handler.after),

@@ -1,9 +1,9 @@
-// The core forms: what a text means, with registers in the place of names.
+// The core forms: the meaning of a text, with registers in place of names.
 
 use tl_instr::{Field, NodeRegister, ValueRegister};
 use tl_syntax::Operator;
 
-/// A number. It fails where an operation doesn't fit 64 bits, or divides by 0.
+/// A number. It fails if the result of an operation doesn't fit 64 bits, or if an operation divides by 0.
 #[derive(Drop)]
 pub enum Expression {
     Constant(i32),
@@ -13,7 +13,7 @@ pub enum Expression {
     Calculated(Operator, Box<Expression>, Box<Expression>),
 }
 
-/// What is true or false, or fails where a number in it does.
+/// A condition: true or false. It fails if a number in it fails.
 #[derive(Drop)]
 pub enum Condition {
     Less(Expression, Expression),
@@ -23,12 +23,12 @@ pub enum Condition {
     And(Box<Condition>, Box<Condition>),
 }
 
-/// What is locked, and by which registers it is held then.
+/// What is locked, and the registers in which it is then held.
 #[derive(Drop)]
 pub enum Place {
-    /// The node of a number.
+    /// The node with that number.
     Node(NodeRegister, Expression),
-    /// The child of the second node with that number.
+    /// The child with that number, of the second register's node.
     Child(NodeRegister, NodeRegister, Expression),
     /// Two children of one node at once.
     Pair {
@@ -50,9 +50,9 @@ pub enum Statement {
     Write(NodeRegister, Field, Expression),
     Emit(Expression),
     Free(NodeRegister),
-    /// The register goes down to the child of that number: the child is locked, and then the node is freed.
+    /// The register descends to the child with that number: the child is locked, and then the node is freed.
     Descend(NodeRegister, Expression),
-    /// The first register's node is freed, and it takes over the second one's.
+    /// The first register's node is freed, and the first register takes over the second one's node.
     Take(NodeRegister, NodeRegister),
     Break,
     Return,
@@ -60,21 +60,21 @@ pub enum Statement {
     If(Condition, Box<Statement>, Box<Statement>),
     /// A value, and the statement in which it has its register.
     Let(ValueRegister, Expression, Box<Statement>),
-    /// The same, and what is done where there is no such number.
+    /// The same, and what is done if the number can't be computed.
     LetElse(ValueRegister, Expression, Box<Statement>, Box<Statement>),
-    /// The statement in which the place is held, and what is done where it can't be locked.
+    /// The statement in which the place is held, and what is done if it can't be locked.
     Lock(Place, Box<Statement>, Box<Statement>),
-    /// The second statement is done where the first one fails.
+    /// The second statement is done if the first one fails.
     Try(Box<Statement>, Box<Statement>),
-    /// So many turns.
+    /// That many turns.
     Repeat(u16, Box<Statement>),
-    /// As many turns as the number says. It fails where there are more than `u16` says.
+    /// As many turns as the number says. It fails if the number is greater than the `u16`.
     RepeatUpTo(Expression, u16, Box<Statement>),
-    /// The statement itself. In the text it stands at the offset.
+    /// The statement itself, which stands in the text at that offset.
     At(usize, Box<Statement>),
 }
 
-/// A procedure: its name, the offset of the name in the text, how many arguments it takes, and what it does.
+/// A procedure: its name, the offset of the name in the text, the number of its arguments, and its body.
 #[derive(Drop)]
 pub struct Procedure {
     pub name: Vec<u8>,

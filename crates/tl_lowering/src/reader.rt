@@ -34,7 +34,7 @@ impl Lowering {
         Ok(())
     }
 
-    // What a procedure does. An absent `else` is an empty block.
+    // The body of a procedure. An absent `else` is an empty block.
     fn body(&mut self, procedure: &parsed::Procedure) -> Result<Statement, SyntaxFault> {
         let lowered = self.block(&procedure.body, Held::NOTHING)?;
         let (handled, _flow) = self.handled(lowered, &procedure.otherwise, Held::NOTHING)?;
@@ -91,7 +91,8 @@ impl Lowering {
     }
 }
 
-/// The procedures of a text, or the first thing that is wrong with it: of all its tokens first, then of the grammar, then of the rules.
+/// The procedures of a text, or its first fault: faults of tokens anywhere in the text come first, then those of grammar, then
+/// those of the rules.
 pub fn read(alloc: Global, text: &[u8]) -> Result<Program, SyntaxFault> {
     let Syntax {
         declarations,

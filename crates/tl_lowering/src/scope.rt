@@ -21,17 +21,17 @@ pub struct Scope {
     meanings: Vec<Meaning>,
     fields: Vec<Option<Field>>,
     is_procedure: Vec<bool>,
-    // The names that a block has declared so far, the blocks around first.
+    // The names that the open blocks have declared so far, those of the outer blocks first.
     local: Vec<Symbol>,
-    /// How many values there are; those that have no name count.
+    /// The number of values, including those without a name.
     pub values: u8,
-    /// How many nodes there are; those that were freed count.
+    /// The number of nodes, including those that were freed.
     pub nodes: u8,
-    /// How many loops are around.
+    /// The number of loops around the place.
     pub loops: u8,
 }
 
-/// What a block has to take back at its end.
+/// What a block must undo at its end.
 #[derive(Clone, Copy)]
 pub struct Mark {
     local: usize,
@@ -40,7 +40,7 @@ pub struct Mark {
 }
 
 impl Scope {
-    /// Nothing is declared of so many names.
+    /// An empty scope for `names` names.
     pub fn new(alloc: Global, names: usize) -> Result<Scope, AllocError> {
         Ok(Scope {
             meanings: vec![in alloc; Meaning::Nothing; names]?,
@@ -66,7 +66,7 @@ impl Scope {
         }
     }
 
-    /// 276 where the name is declared already.
+    /// 276 if the name is declared already.
     pub fn check_new(&self, name: Name) -> Result<(), SyntaxFault> {
         match self.meaning(name) {
             Meaning::Nothing => Ok(()),
@@ -84,7 +84,7 @@ impl Scope {
         self.set(name.symbol, Meaning::Constant(number));
     }
 
-    /// 276 where there is such a procedure already.
+    /// Declares a procedure. 276 if one of that name is declared already.
     pub fn declare_procedure(&mut self, name: Name) -> Result<(), SyntaxFault> {
         let index = name.symbol.0;
         if self.is_procedure.get(index) == Some(&true) {
@@ -96,7 +96,7 @@ impl Scope {
         Ok(())
     }
 
-    /// The register of the next value. 291 at the offset where there is none.
+    /// The register of the next value. 291 at `offset` if there is none.
     pub fn next_value(&self, offset: usize) -> Result<ValueRegister, SyntaxFault> {
         match ValueRegister::new(self.values) {
             Some(register) => Ok(register),
@@ -104,7 +104,7 @@ impl Scope {
         }
     }
 
-    /// The register of the next node but so many. 292 at the offset where there is none.
+    /// The register of the next node after `skipped` others. 292 at `offset` if there is none.
     pub fn next_node(&self, skipped: u8, offset: usize) -> Result<NodeRegister, SyntaxFault> {
         match NodeRegister::new(self.nodes.saturating_add(skipped)) {
             Some(register) => Ok(register),
@@ -112,7 +112,7 @@ impl Scope {
         }
     }
 
-    /// From here on the name is a value of that register, the next one.
+    /// From here on the name stands for a value in `register`, which must be the next one.
     pub fn declare_value(
         &mut self,
         name: Name,
@@ -124,12 +124,12 @@ impl Scope {
         Ok(())
     }
 
-    /// One more value, which has no name.
+    /// Adds a value without a name.
     pub fn add_value(&mut self) {
         self.values = self.values.saturating_add(1);
     }
 
-    /// From here on the name owns a node of that register, the next one.
+    /// From here on the name owns a node in `register`, which must be the next one.
     pub fn declare_node(&mut self, name: Name, register: NodeRegister) -> Result<(), SyntaxFault> {
         self.local.push(name.symbol)?;
         self.set(name.symbol, Meaning::Node(register));
@@ -145,7 +145,7 @@ impl Scope {
         }
     }
 
-    /// Takes back what was declared since the mark.
+    /// Undoes the declarations since the mark.
     pub fn return_to(&mut self, mark: Mark) {
         for _ in mark.local..self.local.len() {
             if let Some(symbol) = self.local.pop() {
@@ -156,7 +156,7 @@ impl Scope {
         self.nodes = mark.nodes;
     }
 
-    /// What the name stands for. 275 where that is nothing.
+    /// What the name stands for. 275 if it stands for nothing.
     pub fn known(&self, name: Name) -> Result<Meaning, SyntaxFault> {
         match self.meaning(name) {
             Meaning::Nothing => Err(SyntaxFault::at(Wrong::Unknown, name.offset)),
@@ -164,7 +164,7 @@ impl Scope {
         }
     }
 
-    /// The register of a value. 275 or 277.
+    /// The register of a value. 275 if the name is unknown, 277 if it isn't a value.
     pub fn value(&self, name: Name) -> Result<ValueRegister, SyntaxFault> {
         match self.known(name)? {
             Meaning::Value(register) => Ok(register),
@@ -172,7 +172,7 @@ impl Scope {
         }
     }
 
-    /// The register of a node that is held. 275, 277 or 281.
+    /// The register of a held node. 275 if the name is unknown, 277 if it isn't a node, 281 if the node isn't held.
     pub fn node(&self, name: Name, held: Held) -> Result<NodeRegister, SyntaxFault> {
         match self.known(name)? {
             Meaning::Node(register) if held.holds(register) => Ok(register),
@@ -189,7 +189,7 @@ impl Scope {
         }
     }
 
-    /// The field. 275 where there is none.
+    /// The field of that name. 275 if there is none.
     pub fn field(&self, name: Name) -> Result<Field, SyntaxFault> {
         match self.fields.get(name.symbol.0) {
             Some(Some(field)) => Ok(*field),
@@ -197,7 +197,7 @@ impl Scope {
         }
     }
 
-    /// 276 where there is such a field already.
+    /// 276 if a field of that name is declared already.
     pub fn check_new_field(&self, name: Name) -> Result<(), SyntaxFault> {
         match self.fields.get(name.symbol.0) {
             Some(Some(_)) => Err(SyntaxFault::at(Wrong::Twice, name.offset)),

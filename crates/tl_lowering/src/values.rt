@@ -1,4 +1,4 @@
-// Numbers and conditions, with registers in the place of names.
+// Numbers and conditions, with registers in place of names.
 
 use crate::paths::Held;
 use crate::program::{Condition, Expression};
@@ -8,12 +8,12 @@ use tl_instr::VALUE_REGISTERS;
 use tl_syntax::parsed::{self, Comparison, Form, Name};
 use tl_syntax::{Operator, SyntaxFault, Wrong};
 
-/// Whether an operation stands in it, which may fail.
+/// Whether the expression is an operation, which may fail.
 pub fn may_fail(expression: &Expression) -> bool {
     matches!(*expression, Expression::Calculated(_, _, _))
 }
 
-/// The same of a condition.
+/// Whether the condition contains an operation, which may fail.
 pub fn condition_may_fail(condition: &Condition) -> bool {
     match condition {
         Condition::Less(left, right)
@@ -24,7 +24,7 @@ pub fn condition_may_fail(condition: &Condition) -> bool {
     }
 }
 
-/// The next free register behind an operand, where `free` was free before it: a value has a register already.
+/// The next free register after an operand, if `free` was free before it. A value has a register already and takes none.
 pub fn behind(expression: &Expression, free: usize) -> usize {
     match expression {
         Expression::Value(_) => free,
@@ -32,7 +32,7 @@ pub fn behind(expression: &Expression, free: usize) -> usize {
     }
 }
 
-/// How many value registers there are at least where the number is made, and `free` is the first free one.
+/// How many value registers there must be to compute the number, if `free` is the first free one.
 #[cycle(registers)]
 pub fn registers_of(expression: &Expression, free: usize) -> usize {
     match expression {
@@ -44,13 +44,13 @@ pub fn registers_of(expression: &Expression, free: usize) -> usize {
     }
 }
 
-/// The same where it is an operand: then it needs a register of its own, but for a value.
+/// The same for an operand: it needs a register of its own, unless it is a value.
 #[cycle(registers)]
 pub fn registers_for(expression: &Expression, free: usize) -> usize {
     registers_of(expression, free).max(behind(expression, free))
 }
 
-/// 291 at the offset where there are fewer registers.
+/// 291 at `offset` if there are fewer than `needed` registers.
 pub fn check_registers(needed: usize, offset: usize) -> Result<(), SyntaxFault> {
     if needed > VALUE_REGISTERS {
         return Err(SyntaxFault::at(Wrong::Values, offset));
@@ -58,7 +58,7 @@ pub fn check_registers(needed: usize, offset: usize) -> Result<(), SyntaxFault> 
     Ok(())
 }
 
-/// What is done with the two numbers.
+/// The operation on the two numbers.
 pub fn calculated(
     alloc: Global,
     operator: Operator,
@@ -134,7 +134,7 @@ impl Scope {
         }
     }
 
-    /// An operand: a number that fits the registers above the values. 291 at its first token where it doesn't.
+    /// An operand: a number that can be computed in the registers above the values. 291 at its first token if it can't.
     pub fn operand(
         &self,
         alloc: Global,
@@ -144,7 +144,7 @@ impl Scope {
         self.operand_from(alloc, expression, held, usize::from(self.values))
     }
 
-    /// The same where `free` is the first free register.
+    /// The same, if `free` is the first free register.
     pub fn operand_from(
         &self,
         alloc: Global,
@@ -157,7 +157,7 @@ impl Scope {
         Ok(number)
     }
 
-    // A comparison of two numbers, which begins at the offset.
+    // A comparison of two numbers.
     fn comparison(
         &self,
         alloc: Global,
@@ -199,7 +199,7 @@ impl Scope {
         }
     }
 
-    /// How often a loop may turn. 275, or 280 at the first token.
+    /// How often a loop may turn. 275 if a name is unknown, 280 at the first token if it isn't a constant from 1 to 65,535.
     pub fn turns(&self, expression: &parsed::Expression) -> Result<u16, SyntaxFault> {
         let number = match expression.form {
             Form::Number(number) => number,

@@ -1,6 +1,6 @@
 // One call, alone on a tree.
 
-ghost use Rattle.std.specs.Prelude.{◌≡◌, ◌≢◌, ◌↔◌, ℕ, List, length, IsErr, IsOk, IfOk, OnErr, ◌≤◌, Option};
+ghost use Rattle.std.specs.Prelude.{◌≡◌, ◌↔◌, length, IsOk, IfOk, OnErr, ◌≤◌};
 ghost use Rattle.std.specs.Arc.{arc_value};
 ghost use Rattle.tl_budget.specs.Loops.{budget, lock_bound, emit_bound};
 ghost use Rattle.tl_tree_locking.specs.Actions.{lock_count};
@@ -19,7 +19,7 @@ use std::sync::Arc;
 use tl_tree::Tree;
 use tl_verify::Proc;
 
-/// What a call run alone answers, and how many instructions it did.
+/// The reply of a call run alone, and how many instructions it did.
 #[derive(Debug, Drop)]
 pub struct Answer {
     pub reply: Reply,
@@ -59,9 +59,10 @@ fn run(procedure: &Proc, mut call: CallState, tree: &mut Tree) -> Answer
 
 /// Runs a procedure alone on a tree, from its start to its end. Takes no memory.
 ///
-/// What it does obeys the tree protocol, and keeps within the procedure's three bounds: instructions, locks, emitted values.
+/// What it does obeys the tree protocol, and stays within the procedure's three bounds: instructions, locks, emitted
+/// values.
 ///
-/// 501 where there are more or fewer arguments than the procedure takes; the tree then stays as it was.
+/// 501 if the number of arguments isn't what the procedure takes; the tree is then unchanged.
 pub fn alone(procedure: &Arc<Proc>, args: &[i64], tree: &mut Tree) -> Result<Answer, WrongArgs>
     ensures wrong { IsOk result ↔ (length args.now ≡ (arc_value procedure.now).arity) }
     ensures unchanged { OnErr result (tree.new ≡ tree.old) }
@@ -73,8 +74,8 @@ pub fn alone(procedure: &Arc<Proc>, args: &[i64], tree: &mut Tree) -> Result<Ans
     ensures tree { IfOk result (λ _. tree.new ≡ record tree.old { records = (outcome_of (run_alone (arc_value procedure.now).instrs tree.old.parents args.now tree.old.records)).tree }) }
 {
     let call = start(procedure, tree.shape(), args)?;
-    // The code was accepted, and the shape is a tree's: here a proof learns that.
-    let _code = procedure.code();
-    let _node_count = tree.shape().node_count();
+    // The code was accepted, and the shape is a tree's.
+    let _fact = procedure.code();
+    let _fact = tree.shape().node_count();
     Ok(run(procedure, call, tree))
 }

@@ -5,7 +5,7 @@ ghost use Rattle.std.specs.Prelude.{◌≡◌, ◌∷◌, []};
 use arrayvec::ArrayVec;
 use thiserror::Error;
 
-/// 501: there are more or fewer arguments than the procedure takes.
+/// 501: the number of arguments isn't what the procedure takes.
 #[derive(Clone, Copy, Debug, PartialEq, Eq, Error)]
 #[error("another number of arguments than the procedure takes")]
 pub struct WrongArgs;

@@ -1,4 +1,4 @@
-// What is so of every call alone.
+// What holds for every call alone.
 
 ghost use Rattle.std.specs.Prelude.{◌≡◌, ℕ, ◌≤◌, ℤ, List, [], length, drop, map};
 ghost use Rattle.tl_width.specs.Fields.{narrow_field_count};
@@ -18,9 +18,9 @@ ghost use Rattle.tl_machine.specs.Widths.{with_zeros, HasWidth, KeepsWidth, outc
 ghost use Rattle.tl_machine.specs.Turns.{TurnValue, IsTurn, left_of};
 ghost use Rattle.tl_machine.specs.Along.{HasFound, IsAlong};
 
-/// A call alone, of an accepted code on any tree of the shape and with any arguments, obeys the tree protocol: its first
-/// lock is of any node, each later one of a node whose parent it holds, and no node is locked twice; what it reads, writes
-/// or frees it holds; it ends, once, and holds nothing then.
+/// A call alone, of an accepted code on any tree of the shape and with any arguments, obeys the tree protocol. Its first
+/// lock may be of any node, each later one is of a node whose parent it holds, and it locks no node twice. It holds what it
+/// reads, writes or frees. It ends once, and then holds nothing.
 pub fn alone_obeys()
     ensures obeys { (c : CodeValue) (parents : List ℕ) (args : List ℤ) (t : Records) → IsCode c → Acceptable c.instrs → IsTree parents → length t ≡ length parents
         → PermittedAfter parents [] (meaning c.instrs parents args t).actions }
@@ -30,8 +30,8 @@ pub fn alone_obeys()
         → EndsOnce (meaning c.instrs parents args t).actions }
 {}
 
-/// Each lock of a call alone is of a node of the tree and finds its record. The call leaves what it freed, and all other
-/// records as they were. Its reply is what it emitted, in order.
+/// Each lock of a call alone is of a node of the tree and finds its record. The call leaves the records that it freed, and
+/// all others as they were. Its reply is what it emitted, in order.
 pub fn alone_finds_and_leaves()
     ensures finds { (c : CodeValue) (parents : List ℕ) (args : List ℤ) (t : Records) → IsCode c → Acceptable c.instrs → IsTree parents → length t ≡ length parents
         → Finds t (meaning c.instrs parents args t).actions }
@@ -43,20 +43,20 @@ pub fn alone_finds_and_leaves()
         → (meaning c.instrs parents args t).reply ≡ replies (all_taken (meaning c.instrs parents args t).actions) }
 {}
 
-/// What an accepted code does alone, with any arguments on trees of any shape, is all that the protocol asks of a call. On
-/// two trees of the shape it does the same, action by action, up to the first lock, if any, that finds different records
-/// in them: so the records of a tree change nothing of it before a lock finds them. Its locks find the tree's records, it
-/// obeys the tree protocol, it ends once, it leaves what it freed and all other records as they were, and its reply is
-/// what it emitted.
+/// An accepted code, run alone with any arguments on trees of any shape, does all that the protocol asks of a call. On two
+/// trees of the shape it does the same, action by action, up to the first lock, if any, that finds different records in
+/// them: a record of the tree has no effect before a lock finds it. Its locks find the tree's records, it obeys the tree
+/// protocol, it ends once, it leaves the records that it freed and all others as they were, and its reply is what it
+/// emitted.
 pub fn alone_is_alone()
     ensures { (c : CodeValue) (parents : List ℕ) (args : List ℤ) → IsCode c → Acceptable c.instrs → IsTree parents
         → IsAlone parents (meaning c.instrs parents args) }
 {}
 
-/// A code of the first version does on records of eight fields, four of them zeros, what it does on records of four: the same actions,
-/// where each record that is told has the zeros too, the same reply, and the same tree with the zeros. On records of four every record
-/// that it finds, leaves or hands back has four fields. And the same code in the second version is accepted too, and does the same on
-/// every tree.
+/// On records of eight fields, four of them zeros, a code of the first version does what it does on records of four: the
+/// same actions with the zeros added to each record in them, the same reply, and the same tree with the zeros added. On
+/// records of four fields, every record that it finds, leaves or hands back has four fields. The same code in the second
+/// version is also accepted, and does the same on every tree.
 pub fn padding()
     ensures same { (c : CodeValue) (parents : List ℕ) (args : List ℤ) (t : Records) → IsCode c → Acceptable c.instrs → c.version ≡ One → IsTree parents → length t ≡ length parents
         → HasWidth narrow_field_count t
@@ -67,7 +67,7 @@ pub fn padding()
     ensures migrated { (c : CodeValue) (parents : List ℕ) (args : List ℤ) (t : Records) → meaning (migrated c).instrs parents args t ≡ meaning c.instrs parents args t }
 {}
 
-/// A call alone keeps within the bounds of its code: it does no more actions, locks no more nodes and emits no more values
+/// A call alone stays within the bounds of its code: it does no more actions, locks no more nodes and emits no more values
 /// than the sums of the weights allow.
 pub fn alone_within_bounds()
     ensures steps { (c : CodeValue) (parents : List ℕ) (args : List ℤ) (t : Records) → IsCode c → Acceptable c.instrs → IsTree parents → length t ≡ length parents
@@ -78,8 +78,8 @@ pub fn alone_within_bounds()
         → length (meaning c.instrs parents args t).reply ≤ emit_bound c.instrs }
 {}
 
-/// What is left of a call is the rest of what it does alone, after the actions that it has done: on each tree that has what
-/// it found, and so on an opening tree with each record that it found put in its place.
+/// What is left of a call is the rest of what it does alone, after the actions that it has done. This holds on each tree
+/// that has what the call found, and so on an opening tree with each record that it found put in its place.
 pub fn left_is_the_rest()
     ensures found { (turn : TurnValue) (args : List ℤ) (done : List Action) (t : Records) → IsCode turn.code → Acceptable turn.code.instrs → IsTree turn.parents
         → IsTurn turn.code.instrs turn.parents turn.call → IsAlong turn.code.instrs turn.parents args done turn.call

@@ -1,4 +1,4 @@
-// A call that is led on away from its tree.
+// A call that goes on away from its tree.
 
 ghost use Rattle.std.specs.Prelude.{◌≡◌, ◌↔◌, ℕ, IsTrue};
 ghost use Rattle.std.specs.Arc.{arc_value};
@@ -6,7 +6,7 @@ ghost use Rattle.tl_tree.specs.Records.{Record as RecordValue};
 ghost use Rattle.tl_tree_locking.specs.declared.action.Action.TheVariants as did;
 ghost use Rattle.tl_machine.specs.BetweenSteps.{IsAtStop};
 ghost use Rattle.tl_machine.specs.Stopped.{after_action};
-ghost use Rattle.tl_machine.specs.Turns.{IsTurn, IsFrom, HasRun, Stops, with_call};
+ghost use Rattle.tl_machine.specs.Turns.{IsTurn, IsFrom, HasRun, Stops};
 ghost use Rattle.tl_machine.specs.declared.want.Stop.TheVariants as stop;
 
 use crate::call::CallState;
@@ -18,8 +18,9 @@ use tl_tree::Shape;
 use tl_tree_locking::Action;
 use tl_verify::Proc;
 
-/// What a worker has of a call whose local instructions it does: the procedure, the state from which it does them, and the state to
-/// which they led. It knows no shape, since local instructions ask for none: they do the same on each on which the state is a call's.
+/// A call as a worker has it, who does its local instructions: the procedure, the state from which the worker does them,
+/// and the state to which they led. It knows no shape, since local instructions ask for none: they do the same on every
+/// shape on which the state is a call's.
 #[derive(Debug, Drop)]
 pub struct LentTurn {
     procedure: Arc<Proc>,
@@ -43,7 +44,7 @@ impl Model for LentTurn {
 }
 
 impl LentTurn {
-    // A call of the procedure that local instructions led from one state to the other.
+    // A call of the procedure. Local instructions led from one state to the other.
     pub(crate) fn new(
         procedure: Arc<Proc>,
         shape: &Shape,
@@ -62,7 +63,7 @@ impl LentTurn {
         }
     }
 
-    /// Goes on from where the last instructions led: does the local instructions from there on. Takes no memory.
+    /// Does the local instructions from the state to which the last ones led. Takes no memory.
     pub fn run_local(&mut self)
         ensures code { self.new.code ≡ self.old.code }
         ensures from { self.new.from ≡ self.old.to }
@@ -72,7 +73,7 @@ impl LentTurn {
         self.pending = Some(self.to.run_local(&self.procedure));
     }
 
-    /// Whether the instructions were done from where the turn is, in the same code. The shape isn't asked.
+    /// Whether the instructions started from the turn's state, in the same code. The shape isn't compared.
     pub fn is_from(&self, turn: &Turn) -> bool
         ensures same { IsTrue result ↔ IsFrom self.now turn.now }
         ensures turn { IsTurn turn.now.code.instrs turn.now.parents turn.now.call }
@@ -80,7 +81,7 @@ impl LentTurn {
         turn.call().is(&self.from) && turn.procedure().is(&self.procedure)
     }
 
-    /// Where the call stops behind its local instructions, on trees of the shape.
+    /// Where the call stops after its local instructions, on trees of the shape.
     pub fn stop(&self, shape: &Shape) -> Stop
         requires turn { IsTurn self.now.code.instrs shape.now self.now.to }
         requires stop { IsAtStop self.now.code.instrs self.now.to }
@@ -92,15 +93,15 @@ impl LentTurn {
         }
     }
 
-    /// The state behind the local instructions.
+    /// The state after the local instructions.
     pub fn to(&self) -> &CallState
         ensures { result.now ≡ self.now.to }
     {
         &self.to
     }
 
-    /// Does the lock or the free of this action, where the call stops at it on trees of the shape; where the action is another, the
-    /// state stays as it is. So a call that did it elsewhere isn't copied back. Takes no memory.
+    /// Does the lock or the free of this action, at which the call stops on trees of the shape; any other action leaves the
+    /// state as it is. So a call that did the action elsewhere need not be copied back. Takes no memory.
     #[inline(always)]
     pub fn repeat(&mut self, shape: &Shape, action: &Action)
         requires from { IsTurn self.old.code.instrs shape.now self.old.from }
@@ -120,7 +121,7 @@ impl LentTurn {
         }
     }
 
-    /// The turn where the local instructions led, on trees of the shape.
+    /// The turn to which the local instructions led, on trees of the shape.
     pub fn into_turn(self, shape: Arc<Shape>) -> Turn
         requires { IsTurn self.code.instrs (arc_value shape) self.to }
         ensures { result ≡ record { code = self.code; parents = arc_value shape; call = self.to } }

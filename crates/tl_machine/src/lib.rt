@@ -3,6 +3,7 @@
 
 mod alone_run;
 mod call;
+mod copies;
 mod fault;
 pub mod laws;
 mod lent;
@@ -18,6 +19,7 @@ mod want;
 
 pub use alone_run::{Answer, alone};
 pub use call::{CallState, HeldNode};
+pub use copies::copied;
 pub use fault::WrongArgs;
 pub use lent::LentTurn;
 pub use reply::Reply;

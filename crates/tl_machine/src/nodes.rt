@@ -1,6 +1,6 @@
 // What instructions do with held nodes.
 
-ghost use Rattle.std.specs.Prelude.{◌≡◌, ℕ, List, ◌+◌, ◌<◌, length, get_or, None};
+ghost use Rattle.std.specs.Prelude.{◌≡◌, ℕ, List, ◌+◌, length, get_or, None};
 ghost use Rattle.tl_instr.specs.declared.instr.Instr.TheVariants as instr;
 ghost use Rattle.tl_tree.specs.Records.{Records};
 ghost use Rattle.tl_machine.specs.Alone.{effect};

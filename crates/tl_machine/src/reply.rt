@@ -1,4 +1,4 @@
-// What a call answers.
+// The reply of a call.
 
 ghost use Rattle.std.specs.Prelude.{◌≡◌, ◌↔◌, ◌≤◌, length, take, IsTrue};
 
@@ -6,8 +6,8 @@ use crate::call::CallState;
 use std::marker::Model;
 use tl_budget::MAX_EMITS;
 
-/// The values that a call emitted, in order: up to 32. Plain data: a copy takes no memory, and two are equal where they have
-/// the same values.
+/// The values that a call emitted, in order: at most 32. Plain data: a copy takes no memory, and two replies are equal if
+/// they have the same values.
 #[derive(Clone, Debug, Drop)]
 pub struct Reply {
     values: [i64; MAX_EMITS],
@@ -56,7 +56,7 @@ impl Reply {
         }
     }
 
-    /// The same values once more. Takes no memory.
+    /// A copy. Takes no memory.
     pub fn copy(&self) -> Reply
         ensures { result ≡ self.now }
     {
@@ -66,7 +66,7 @@ impl Reply {
         }
     }
 
-    /// Whether the other has the same values, as `==` tells.
+    /// Whether the other has the same values, as `==` says.
     pub fn is(&self, other: &Reply) -> bool
         ensures { IsTrue result ↔ (self.now ≡ other.now) }
     {

@@ -12,8 +12,8 @@ use std::marker::Model;
 use std::sync::Arc;
 use tl_tree::Shape;
 
-/// The local instructions that a call did in a row: the turn from which it did them, the state to which they led, and where
-/// it stops then. By its type the state comes from the turn's by local instructions. Only `local` makes one.
+/// The local instructions that a call did in a row: the turn before them, the state after them, and where the call then
+/// stops. By the type, local instructions lead from the turn's state to the other. Only `local` makes one.
 #[derive(Debug, Drop)]
 pub struct Segment {
     from: Turn,
@@ -32,7 +32,7 @@ impl Model for Segment {
 }
 
 impl Segment {
-    /// The turn at the first of the instructions.
+    /// The turn before the first of the instructions.
     pub fn from(&self) -> &Turn
         ensures turn { result.now ≡ self.now.from }
         ensures segment { IsSegment self.now }
@@ -40,7 +40,7 @@ impl Segment {
         &self.from
     }
 
-    /// The state behind the last of them.
+    /// The state after the last of them.
     pub fn to(&self) -> &CallState
         ensures state { result.now ≡ self.now.to }
         ensures segment { IsSegment self.now }
@@ -48,7 +48,7 @@ impl Segment {
         &self.to
     }
 
-    /// Where the call stops behind the last of them.
+    /// Where the call stops after the last of them.
     pub fn stop(&self) -> Stop
         ensures stop { result ≡ self.now.stop }
         ensures segment { IsSegment self.now }
@@ -56,7 +56,7 @@ impl Segment {
         self.stop
     }
 
-    /// The turn at the first of them, the state behind the last, and where the call stops there.
+    /// The turn before the first of them, the state after the last, and where the call then stops.
     pub fn into_parts(self) -> (Turn, CallState, Stop)
         ensures parts { record { from = result.0; to = result.1; stop = result.2 } ≡ self }
         ensures segment { IsSegment self }
@@ -64,7 +64,7 @@ impl Segment {
         (self.from, self.to, self.stop)
     }
 
-    /// The call as a worker has it that has done them, and the shape.
+    /// The call as lent to a worker that has done them, and the shape.
     pub fn into_lent(self) -> (LentTurn, Arc<Shape>)
         ensures lent { result.0 ≡ record { code = self.from.code; from = self.from.call; to = self.to } }
         ensures shape { arc_value result.1 ≡ self.from.parents }
@@ -76,7 +76,7 @@ impl Segment {
         (lent, shape)
     }
 
-    /// The turn behind the last of them, on the procedure and the shape of the first. Takes no memory.
+    /// The turn after the last of them, with the same procedure and shape. Takes no memory.
     pub fn into_turn(self) -> Turn
         ensures turn { result ≡ end_of self }
         ensures segment { IsSegment self }

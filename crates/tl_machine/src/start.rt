@@ -1,4 +1,4 @@
-// Where a call begins.
+// The start of a call.
 
 ghost use Rattle.std.specs.Prelude.{◌≡◌, ◌↔◌, length, IsOk, IfOk};
 ghost use Rattle.tl_machine.specs.BetweenSteps.{IsBetweenSteps};
@@ -11,14 +11,14 @@ use tl_instr::{NODE_REGISTERS, VALUE_REGISTERS};
 use tl_tree::Shape;
 use tl_verify::Proc;
 
-/// The state of a call at its start: the arguments stand in the first registers, and all else is 0 or empty.
+/// The state of a call at its start: the arguments are in the first registers, and everything else is 0 or empty.
 pub fn at_start(procedure: &Proc, shape: &Shape, args: &[i64]) -> CallState
     requires { length args.now ≡ procedure.now.arity }
     ensures start { IsStart args.now result }
     ensures stands { IsBetweenSteps procedure.now.instrs shape.now result }
 {
-    // The code was accepted: here a proof learns that.
-    let _code = procedure.code();
+    // The code was accepted.
+    let _fact = procedure.code();
     let mut values = [0; VALUE_REGISTERS];
     values[..args.len()].copy_from_slice(args);
     CallState {
@@ -34,7 +34,7 @@ pub fn at_start(procedure: &Proc, shape: &Shape, args: &[i64]) -> CallState
     }
 }
 
-/// The same for any arguments; 501 where there are more or fewer than the procedure takes.
+/// The same for any arguments; 501 if their number isn't what the procedure takes.
 pub fn start(procedure: &Proc, shape: &Shape, args: &[i64]) -> Result<CallState, WrongArgs>
     ensures wrong { IsOk result ↔ (length args.now ≡ procedure.now.arity) }
     ensures start { IfOk result (IsStart args.now) }

@@ -1,11 +1,10 @@
 // A call's turn.
 
-ghost use Rattle.std.specs.Prelude.{◌≡◌, ◌≢◌, ◌↔◌, ℕ, List, [], length, take, IsTrue, IsOk, IfOk};
+ghost use Rattle.std.specs.Prelude.{◌≡◌, ◌↔◌, ℕ, [], length, IsTrue, IsOk, IfOk};
 ghost use Rattle.std.specs.Arc.{arc_value};
-ghost use Rattle.tl_tree.specs.Records.{Records, record_at, put_record};
-ghost use Rattle.tl_machine.specs.Runs.{Then, Ended};
+ghost use Rattle.tl_tree.specs.Records.{Records};
 ghost use Rattle.tl_machine.specs.Alone.{alone as run_alone};
-ghost use Rattle.tl_machine.specs.Call.{in_tree, reply_so_far};
+ghost use Rattle.tl_machine.specs.Call.{reply_so_far};
 ghost use Rattle.tl_machine.specs.BetweenSteps.{Steps, Locks, Frees, Ends};
 ghost use Rattle.tl_machine.specs.Stopped.{after_lock, after_free};
 ghost use Rattle.tl_machine.specs.Turns.{IsTurn, IsSegment, Wants, Stops, IfDid, IfStopped, left_of, with_call};
@@ -25,8 +24,9 @@ use tl_tree::{Record, Shape};
 use tl_tree_locking::Action;
 use tl_verify::Proc;
 
-/// A call of a procedure on trees of a shape, somewhere between its start and its end. By its type its state is one of
-/// that procedure on that shape: a register that has to hold a node does, a target is there, and the budget is not spent.
+/// A call of a procedure on trees of a shape, somewhere between its start and its end. By the type, its state is one that
+/// the procedure reaches on that shape: registers that must hold a node hold one, targets exist, and the budget isn't
+/// spent.
 #[derive(Debug, Drop)]
 pub struct Turn {
     procedure: Arc<Proc>,
@@ -48,7 +48,7 @@ impl Model for Turn {
 impl Turn {
     /// A call at its start. Takes no memory.
     ///
-    /// 501 where there are more or fewer arguments than the procedure takes.
+    /// 501 if the number of arguments isn't what the procedure takes.
     pub fn start(procedure: Arc<Proc>, shape: Arc<Shape>, args: &[i64]) -> Result<Turn, WrongArgs>
         ensures wrong { IsOk result ↔ (length args.now ≡ (arc_value procedure).arity) }
         ensures code { IfOk result (λ t. t.code ≡ arc_value procedure) }
@@ -63,7 +63,7 @@ impl Turn {
         Ok(Turn::at_start(procedure, shape, args))
     }
 
-    /// The same for a caller that knows how many arguments the procedure takes.
+    /// The same for a caller that already knows that the procedure takes that many arguments.
     pub fn at_start(procedure: Arc<Proc>, shape: Arc<Shape>, args: &[i64]) -> Turn
         requires { length args.now ≡ (arc_value procedure).arity }
         ensures code { result.code ≡ arc_value procedure }
@@ -113,7 +113,7 @@ impl Turn {
         }
     }
 
-    /// The same once more, on the same procedure and shape.
+    /// A copy, on the same procedure and shape.
     pub fn try_clone(&self) -> Result<Turn, AllocError>
         ensures { IfOk result (λ t. t ≡ self.now) }
     {
@@ -126,15 +126,15 @@ impl Turn {
         })
     }
 
-    /// Whether both are the same: one state, of calls of one code on trees of one shape. The states are looked at first,
-    /// since they tell mostly.
+    /// Whether both are the same: one state, of calls of one code on trees of one shape. The states are compared first,
+    /// since they usually decide.
     pub fn is(&self, other: &Turn) -> bool
         ensures { IsTrue result ↔ (self.now ≡ other.now) }
     {
         self.call.is(&other.call) && self.is_alike(other)
     }
 
-    // Whether both are of one code on trees of one shape.
+    // Whether both are of one code, on trees of one shape.
     fn is_alike(&self, other: &Turn) -> bool
         ensures { IsTrue result ↔ ((self.now.code ≡ other.now.code) × (self.now.parents ≡ other.now.parents)) }
     {
@@ -148,7 +148,7 @@ impl Turn {
         self.call.want(&self.procedure, &self.shape)
     }
 
-    /// Does the next instruction, if it is local. Else it says where the call stops, and changes nothing.
+    /// Does the next instruction if it is local. Otherwise it changes nothing and says where the call stops.
     #[inline(always)]
     pub fn advance(&mut self) -> Advance
         ensures same { self.new ≡ with_call self.old self.new.call }
@@ -164,7 +164,7 @@ impl Turn {
         }
     }
 
-    /// Does the next instruction, which is local.
+    /// Does the next instruction, which must be local.
     pub fn step(&mut self) -> Action
         requires { Wants self.old want.Local }
         ensures same { self.new ≡ with_call self.old self.new.call }
@@ -176,8 +176,8 @@ impl Turn {
         }
     }
 
-    /// Does the call's local instructions in place, up to the first that isn't local, and answers where the call stops then.
-    /// Takes no memory.
+    /// Does the call's local instructions in place, up to the first instruction that isn't local, and returns where the
+    /// call then stops. Takes no memory.
     pub fn run_local(&mut self) -> Stop
         ensures same { self.new ≡ with_call self.old self.new.call }
         ensures segment { IsSegment (record { from = self.old; to = self.new.call; stop = result }) }
@@ -186,7 +186,7 @@ impl Turn {
         self.call.stop_at(&self.procedure, &self.shape, pending)
     }
 
-    /// The call as a worker has it, who does its local instructions elsewhere.
+    /// The call as lent to a worker, which does its local instructions elsewhere.
     pub fn lend(&self) -> Result<LentTurn, AllocError>
         ensures { IfOk result (λ l. l ≡ record { code = self.now.code; from = self.now.call; to = self.now.call }) }
     {
@@ -194,7 +194,7 @@ impl Turn {
         Ok(LentTurn::new(procedure, &self.shape, &self.call, &self.call))
     }
 
-    /// Locks the node that the next instruction locks, which has this record.
+    /// Locks the node that the next instruction locks, and whose record is `found`.
     pub fn lock(&mut self, found: Record)
         requires { (x : ℕ) × Stops self.old (stop.Lock x) }
         ensures same { self.new ≡ with_call self.old self.new.call }
@@ -209,7 +209,7 @@ impl Turn {
         self.lock_node(node, found);
     }
 
-    /// The same for a caller that knows the node already, since `advance` or `want` told it.
+    /// The same for a caller that knows the node already, from `advance` or `want`.
     #[inline(always)]
     pub fn lock_node(&mut self, node: u16, found: Record)
         requires { Stops self.old (stop.Lock node) }
@@ -220,7 +220,7 @@ impl Turn {
         self.call.lock(&self.procedure, &self.shape, node, found);
     }
 
-    /// Frees the node that the next instruction frees: the record is the one that it has from then on.
+    /// Frees the node that the next instruction frees. The result is the record that the node has from then on.
     pub fn free(&mut self) -> Record
         requires { (x : ℕ) × Stops self.old (stop.Free x) }
         ensures same { self.new ≡ with_call self.old self.new.call }
@@ -230,7 +230,7 @@ impl Turn {
         self.call.free(&self.procedure, &self.shape)
     }
 
-    /// Ends the call, and gives the values that it emitted.
+    /// Ends the call, and returns the values that it emitted.
     pub fn finish(&mut self) -> Reply
         requires { Stops self.old stop.Return }
         ensures same { self.new ≡ with_call self.old self.new.call }
@@ -248,7 +248,7 @@ impl Turn {
         &self.procedure
     }
 
-    /// The shape of the trees that it is called on.
+    /// The shape of the trees on which it is called.
     pub fn shape(&self) -> &Arc<Shape>
         ensures { arc_value result.now ≡ self.now.parents }
     {
@@ -263,7 +263,7 @@ impl Turn {
         &self.call
     }
 
-    /// Puts the call at another state of its own. Takes no memory.
+    /// Moves the call to another state of the same procedure on the same shape. Takes no memory.
     pub fn put_at(&mut self, state: &CallState)
         requires { IsTurn self.old.code.instrs self.old.parents state.now }
         ensures { self.new ≡ with_call self.old state.now }

@@ -1,4 +1,4 @@
-// Where a call stands before its next instruction, and what came of going on.
+// What a call needs before its next instruction, and the result of going on.
 
 ghost use Rattle.std.specs.Prelude.{◌≡◌};
 ghost use Rattle.tl_machine.specs.BetweenSteps.{stop_on, IsThere};
@@ -15,16 +15,16 @@ pub enum Stop {
     Free(u16),
     /// The next instruction is the return.
     Return,
-    /// There is none: the call is done.
+    /// There is no next instruction: the call is done.
     Over,
 }
 
-/// Where a call stops, as far as it is known without the tree's shape.
+/// Where a call stops, as far as that is known without the tree's shape.
 #[derive(Clone, Copy, Debug)]
 pub(crate) enum Pending {
-    /// There, on each shape.
+    /// At this stop, on each shape.
     Known(Stop),
-    /// At the lock of the child of that number.
+    /// At the lock of the child with that number.
     Child { parent: u16, number: u16 },
 }
 
@@ -47,15 +47,15 @@ impl Pending {
 pub enum Want {
     /// Nothing: it is local.
     Local,
-    /// Somebody else has to act, or the call is done.
+    /// The call can't go on by itself, or it is done.
     Stop(Stop),
 }
 
-/// What came of a call's next instruction.
+/// The result of a call's next instruction.
 #[derive(Clone, Copy, Debug, PartialEq, Eq)]
 pub enum Advance {
-    /// It was local, and was done.
+    /// It was local, and is done.
     Did(Action),
-    /// It isn't local, and the call is as it was.
+    /// It isn't local, and the call is unchanged.
     Stopped(Stop),
 }

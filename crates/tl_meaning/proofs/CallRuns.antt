@@ -1,25 +1,28 @@
 -- The code of a procedure does what a call of its text means.
-use Rattle.std.proofs.Common.{◌≡◌, ℕ, ◌+◌, ◌-◌, ◌≤◌, List, [], ◌∷◌, length, false, Option, None, if◌then◌else◌, refl, ap, ◌∙◌, subst, arith, append-nil}
-use Rattle.std.specs.Prelude.{ℤ, pos, replicate}
-use Rattle.std.proofs.lemmas.List.{length-append, length-replicate}
+use Rattle.std.proofs.Common.{◌≡◌, ℕ, ◌+◌, ◌-◌, ◌≤◌, List, [], ◌∷◌, length, false, Option, Some, None, if◌then◌else◌, refl, sym, ap, ◌∙◌, subst, arith, append-nil}
+use Rattle.std.specs.Prelude.{ℤ, pos, replicate, slice_get}
+use Rattle.std.proofs.lemmas.List.{length-append, length-map, length-replicate}
 use Rattle.tl_instr.specs.declared.operand.TheConstants.{VALUE_REGISTERS, NODE_REGISTERS}
 use Rattle.tl_instr.specs.declared.instr.Instr.{Instr}
 use Rattle.tl_instr.specs.declared.instr.Instr.TheVariants as I
+use Rattle.tl_instr.specs.Codes.{CodeValue, IsCode}
 use Rattle.tl_tree.specs.Records.{Records}
 use Rattle.tl_tree_locking.specs.declared.action.Action.{Action}
+use Rattle.tl_verify.specs.Acceptable.{Acceptable}
+use Rattle.tl_machine.proofs.StartLemmas.{in_ranges}
 use Rattle.tl_machine.specs.Runs.{State, Run, Held, Ended, actions, last_state}
 use Rattle.tl_machine.specs.Alone.{alone, start}
 use Rattle.tl_machine.specs.Left.{left}
 use Rattle.tl_lowering.specs.declared.program.Statement.{Statement}
-use Rattle.tl_compiler.specs.Aiming.{placed}
-use Rattle.tl_compiler.specs.Sets.{none_held}
-use Rattle.tl_compiler.specs.Outcomes.{after, fails, breaks}
+use Rattle.tl_compiler.specs.Aiming.{aimed, placed}
+use Rattle.tl_lowering.specs.Sets.{none_held}
+use Rattle.tl_lowering.specs.Outcomes.{after, fails, breaks}
 use Rattle.tl_compiler.specs.Statements.{Site, procedure_code}
 use Rattle.tl_meaning.specs.Calls.{DoesCall}
 use Rattle.tl_meaning.specs.Meaning.{Outcome, On, Breaks, Fails, Returns, Done, after_events, is_on, leave, meaning}
 use Rattle.tl_meaning.specs.Leading.{with_actions, Leads, Runs}
 use Rattle.tl_meaning.specs.Endings.{Agrees, IsSite, IsIn, LeadsBy}
-use Rattle.tl_meaning.specs.Sound.{IsSound}
+use Rattle.tl_lowering.specs.Sound.{IsSound}
 use Rattle.tl_meaning.specs.Told.{told}
 use Rattle.tl_meaning.proofs.Steps.{and_on, tail_whole, returns}
 use Rattle.tl_meaning.proofs.Stretches.{tail_of_stretch}
@@ -51,6 +54,15 @@ start_values args t few =
 abbrev call_of : Done → Done
 call_of d = if is_on d.outcome then d else after_events d.events (leave none_held d.state)
 
+-- an accepted procedure's code, with labels in the place of positions, is one that runs
+pub accepted_runs : (code : List Instr) (c : CodeValue) → IsCode c → Acceptable c.instrs → c.instrs ≡ placed code → Runs code
+accepted_runs code c valid accepted is =
+    let long : length c.instrs ≡ length code = ap length is ∙ length-map code (aimed (length code)) in record {
+      short = omega (arith, long, valid.count.1);
+      accepted = subst Acceptable is accepted;
+      ranges = λ p i at. in_ranges c valid p i (subst (λ instrs. slice_get instrs p ≡ Some i) (sym is) at);
+    }
+
 module _ (arity : ℕ) (parents : List ℕ) (body : Statement) (ready : Runs (procedure_code arity body)) (none : fails body none_held ≡ []) where
   abbrev code : List Instr
   code = procedure_code arity body
@@ -68,7 +80,7 @@ module _ (arity : ℕ) (parents : List ℕ) (body : Statement) (ready : Runs (pr
   to_end from Breaks s events l = let e = l.4 in cc
   to_end from Returns s events l = l
 
-  pub call_runs : IsSound body arity 0 none_held false → (args : List ℤ) (t : Records) → length args ≤ VALUE_REGISTERS → DoesCall code parents body args t
+  pub call_runs : IsSound body arity 0 none_held false → (args : List ℤ) (t : Records) → length args ≤ VALUE_REGISTERS → DoesCall (placed code) parents body args t
   call_runs sound args t few =
       let s = start args t in
       let size = start_values args t few in

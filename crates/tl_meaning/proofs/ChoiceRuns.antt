@@ -15,13 +15,14 @@ use Rattle.tl_lowering.specs.declared.program.Condition.TheVariants as C
 use Rattle.tl_lowering.specs.declared.program.Statement.{Statement}
 use Rattle.tl_lowering.specs.declared.program.Statement.TheVariants as S
 use Rattle.tl_compiler.specs.Numbers.{into_code}
-use Rattle.tl_compiler.specs.Sets.{Nodes, both, both_of, same}
-use Rattle.tl_compiler.specs.Outcomes.{may_fail, condition_may_fail, here_if, after, fails, breaks}
+use Rattle.tl_lowering.specs.Sets.{Nodes, both, both_of, same}
+use Rattle.tl_lowering.specs.Outcomes.{may_fail, condition_may_fail, here_if, after, fails, breaks}
 use Rattle.tl_compiler.specs.Statements.{Site, Exit, way_out, direct, is_skip, joining_code, Second, second_by, held_behind, statement_code}
 use Rattle.tl_meaning.specs.Meaning.{Outcome, On, Breaks, Fails, Returns, with_both, opposite, both_true, number, truth, given, leaving, held_at, meaning}
-use Rattle.tl_meaning.specs.Leading.{Tail, Runs, from_label, IsInside, IsReadable, IsTestable, NumberLeads}
+use Rattle.tl_meaning.specs.Leading.{Tail, Runs, from_label, IsInside, NumberLeads}
+use Rattle.tl_lowering.specs.Sound.{IsReadable, IsTestable}
 use Rattle.tl_meaning.specs.Endings.{Agrees, IsSite, LeadsBy, StatementLeads}
-use Rattle.tl_meaning.specs.Sound.{IsSound}
+use Rattle.tl_lowering.specs.Sound.{IsSound}
 use Rattle.tl_meaning.proofs.Steps.{tail_further, tail_length, further_in}
 use Rattle.tl_meaning.proofs.Stretches.{tail_of_stretch}
 use Rattle.tl_meaning.proofs.SetLemmas.{Within, within_self, within_left, within_right, in_left, in_right}

@@ -17,9 +17,10 @@ use Rattle.tl_lowering.specs.declared.program.Condition.TheVariants as C
 use Rattle.tl_compiler.specs.Aiming.{aimed}
 use Rattle.tl_compiler.specs.Labels.{target_of}
 use Rattle.tl_compiler.specs.Numbers.{register_of, behind, operand_code, operands_code, jump_code, comparison_code, branch_code}
-use Rattle.tl_compiler.specs.Sets.{Nodes}
+use Rattle.tl_lowering.specs.Sets.{Nodes}
 use Rattle.tl_meaning.specs.Meaning.{with_both, opposite, both_true, number, truth, held_at}
-use Rattle.tl_meaning.specs.Leading.{Leads, Tail, Runs, from_label, IsInside, IsReadable, IsTestable, Kept, led_to, ConditionLeads}
+use Rattle.tl_meaning.specs.Leading.{Leads, Tail, Runs, from_label, IsInside, Kept, led_to, ConditionLeads}
+use Rattle.tl_lowering.specs.Sound.{IsReadable, IsTestable}
 use Rattle.tl_meaning.proofs.Steps.{and_on, tail_further, tail_behind, tail_length, further_in, goes_to_next, goes_to_label}
 use Rattle.tl_meaning.proofs.Stretches.{Stretch, tail_of_stretch, stretch_further, stretch_acts}
 use Rattle.tl_meaning.proofs.NumberRuns.{operand_stretch, operand_tail, readable_further, same_number, kept_on, kept_below, register_below, behind_above, OperandEnds, operand_runs}

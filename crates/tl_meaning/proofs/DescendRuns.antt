@@ -13,7 +13,7 @@ use Rattle.tl_lowering.specs.declared.program.Expression.{Expression}
 use Rattle.tl_lowering.specs.declared.program.Statement.TheVariants as S
 use Rattle.tl_compiler.specs.Labels.{target_of}
 use Rattle.tl_compiler.specs.Numbers.{register_of, operand_code}
-use Rattle.tl_compiler.specs.Sets.{Nodes, holds, with_node as also}
+use Rattle.tl_lowering.specs.Sets.{Nodes, holds, with_node as also}
 use Rattle.tl_compiler.specs.Statements.{Site}
 use Rattle.tl_meaning.specs.Meaning.{given, number, lock_kid, lock_child_by, go_down, descend_by}
 use Rattle.tl_meaning.specs.Leading.{Leads, Tail, Runs, from_label}

@@ -4,8 +4,8 @@ use Rattle.tl_instr.specs.declared.instr.Instr.{Instr}
 use Rattle.tl_machine.specs.Alone.{with_value}
 use Rattle.tl_lowering.specs.declared.program.Statement.{Statement}
 use Rattle.tl_lowering.specs.declared.program.Statement.TheVariants as S
-use Rattle.tl_compiler.specs.Sets.{both_of, all_of}
-use Rattle.tl_compiler.specs.Outcomes.{locked, unlocked, handled_by, behind_loop, after, fails, breaks}
+use Rattle.tl_lowering.specs.Sets.{both_of, all_of}
+use Rattle.tl_lowering.specs.Outcomes.{locked, unlocked, handled_by, behind_loop, after, fails, breaks}
 use Rattle.tl_compiler.specs.Statements.{direct, statement_code}
 use Rattle.tl_meaning.specs.Meaning.{number, truth, after_events, is_on, lock_place, and_then, or_else, given, chosen, counted, leave, leaving, turns, broken, meaning}
 use Rattle.tl_meaning.specs.Leading.{Runs, from_label}

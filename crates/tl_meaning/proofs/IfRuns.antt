@@ -9,13 +9,14 @@ use Rattle.tl_lowering.specs.declared.program.Condition.{Condition}
 use Rattle.tl_lowering.specs.declared.program.Statement.{Statement}
 use Rattle.tl_lowering.specs.declared.program.Statement.TheVariants as S
 use Rattle.tl_compiler.specs.Numbers.{branch_code}
-use Rattle.tl_compiler.specs.Sets.{Nodes, holds, both_of}
-use Rattle.tl_compiler.specs.Outcomes.{condition_may_fail, here_if, after, fails, breaks}
+use Rattle.tl_lowering.specs.Sets.{Nodes, holds, both_of}
+use Rattle.tl_lowering.specs.Outcomes.{condition_may_fail, here_if, after, fails, breaks}
 use Rattle.tl_compiler.specs.Statements.{Site, direct, is_skip, Way, choice_code, held_behind, statement_code}
 use Rattle.tl_meaning.specs.Meaning.{Outcome, On, Breaks, Fails, Returns, plain, after_events, truth, chosen, leave, leaving, meaning}
-use Rattle.tl_meaning.specs.Leading.{Leads, Tail, Runs, from_label, IsTestable, Kept, ConditionLeads}
+use Rattle.tl_meaning.specs.Leading.{Leads, Tail, Runs, from_label, Kept, ConditionLeads}
+use Rattle.tl_lowering.specs.Sound.{IsTestable}
 use Rattle.tl_meaning.specs.Endings.{Agrees, IsSite, LeadsBy, StatementLeads}
-use Rattle.tl_meaning.specs.Sound.{IsSound}
+use Rattle.tl_lowering.specs.Sound.{IsSound}
 use Rattle.tl_meaning.proofs.Steps.{tail_further, tail_length, further_in}
 use Rattle.tl_meaning.proofs.Stretches.{tail_of_stretch}
 use Rattle.tl_meaning.proofs.SetLemmas.{in_left, in_right}

@@ -8,7 +8,7 @@ use Rattle.tl_tree.specs.Records.{Records}
 use Rattle.tl_machine.specs.Runs.{Held, State}
 use Rattle.tl_machine.specs.Alone.{node, start}
 use Rattle.tl_lowering.specs.declared.program.Statement.{Statement}
-use Rattle.tl_compiler.specs.Sets.{none_held}
+use Rattle.tl_lowering.specs.Sets.{none_held}
 use Rattle.tl_meaning.specs.Meaning.{On, Done, and_then, free, free_by, leave_below, is_on, meaning, call}
 
 pub cleared : (l : List (Option Held)) (n : ℕ) → get_or (slice_set l n None) n None ≡ None

@@ -7,13 +7,14 @@ use Rattle.tl_machine.specs.Left.{Frame}
 use Rattle.tl_lowering.specs.declared.program.Place.{Place}
 use Rattle.tl_lowering.specs.declared.program.Place.TheVariants as P
 use Rattle.tl_lowering.specs.declared.program.Statement.{Statement}
-use Rattle.tl_compiler.specs.Sets.{Nodes, without_node, both_of}
-use Rattle.tl_compiler.specs.Outcomes.{locked, unlocked, after, fails, breaks}
-use Rattle.tl_compiler.specs.Statements.{Site, Second, direct, nodes_behind, place_code, held_behind}
+use Rattle.tl_lowering.specs.Sets.{Nodes, without_node, both_of}
+use Rattle.tl_lowering.specs.Outcomes.{locked, unlocked, after, fails, breaks}
+use Rattle.tl_compiler.specs.Statements.{Site, Second, direct, place_code, held_behind}
+use Rattle.tl_lowering.specs.Sound.{nodes_behind}
 use Rattle.tl_meaning.specs.Meaning.{Outcome, On, Breaks, Fails, Returns, after_events, is_on, lock_place, leaving, meaning}
 use Rattle.tl_meaning.specs.Leading.{Tail, Runs, from_label}
 use Rattle.tl_meaning.specs.Endings.{Agrees, IsSite, LeadsBy, StatementLeads}
-use Rattle.tl_meaning.specs.Sound.{IsSound, IsLockable}
+use Rattle.tl_lowering.specs.Sound.{IsSound, IsLockable}
 use Rattle.tl_meaning.proofs.Steps.{tail_further, tail_length, further_in}
 use Rattle.tl_meaning.proofs.Stretches.{tail_of_stretch}
 use Rattle.tl_meaning.proofs.SetLemmas.{Within, without_within, in_left, in_right}

@@ -11,13 +11,13 @@ use Rattle.tl_compiler.specs.Aiming.{aimed}
 use Rattle.tl_machine.specs.Runs.{State, Run}
 use Rattle.tl_machine.specs.Left.{Frame}
 use Rattle.tl_lowering.specs.declared.program.Statement.{Statement}
-use Rattle.tl_compiler.specs.Sets.{Nodes, holds, both, both_of, all_of, minus}
-use Rattle.tl_compiler.specs.Outcomes.{behind_loop, after, fails, breaks}
+use Rattle.tl_lowering.specs.Sets.{Nodes, holds, both, both_of, all_of, minus}
+use Rattle.tl_lowering.specs.Outcomes.{behind_loop, after, fails, breaks}
 use Rattle.tl_compiler.specs.Statements.{Site, Exit, release_code, held_behind, loop_code, statement_code}
 use Rattle.tl_meaning.specs.Meaning.{Outcome, On, Breaks, Fails, Returns, and_then, leave, leaving, turns, broken, meaning}
 use Rattle.tl_meaning.specs.Leading.{Leads, Tail, Runs, from_label}
 use Rattle.tl_meaning.specs.Endings.{Agrees, IsSite, IsIn, LeadsBy, StatementLeads}
-use Rattle.tl_meaning.specs.Sound.{IsSound, KeepsHeld}
+use Rattle.tl_lowering.specs.Sound.{IsSound, KeepsHeld}
 use Rattle.tl_meaning.proofs.Steps.{and_on, tail_behind, tail_further, tail_length, further_in}
 use Rattle.tl_meaning.proofs.Stretches.{Stretch, tail_of_stretch}
 use Rattle.tl_meaning.proofs.SetLemmas.{Within, within_left, within_right, all_within, both_within}

@@ -21,9 +21,10 @@ use Rattle.tl_lowering.specs.declared.program.Expression.TheVariants as E
 use Rattle.tl_compiler.specs.Aiming.{aimed}
 use Rattle.tl_compiler.specs.Labels.{target_of}
 use Rattle.tl_compiler.specs.Numbers.{register_of, behind, calculation, into_code, operand_code}
-use Rattle.tl_compiler.specs.Sets.{Nodes}
+use Rattle.tl_lowering.specs.Sets.{Nodes}
 use Rattle.tl_meaning.specs.Meaning.{result, with_both, of_node, number, held_at}
-use Rattle.tl_meaning.specs.Leading.{Leads, Tail, Runs, from_label, IsInside, IsReadable, Kept, Given, NumberLeads}
+use Rattle.tl_meaning.specs.Leading.{Leads, Tail, Runs, from_label, IsInside, Kept, Given, NumberLeads}
+use Rattle.tl_lowering.specs.Sound.{IsReadable}
 use Rattle.tl_meaning.proofs.Steps.{stays, and_on, tail_further, tail_length, further_in, in_range, goes_to_next, goes_to_label}
 use Rattle.tl_meaning.proofs.Stretches.{Stretch, tail_of_stretch, stretch_whole, stretch_further, stretch_acts}
 

@@ -11,7 +11,8 @@ use Rattle.tl_verify.specs.Bits.{bits_of, number_of}
 use Rattle.tl_machine.specs.Runs.{State, Run}
 use Rattle.tl_machine.specs.Left.{Frame}
 use Rattle.tl_compiler.specs.Labels.{target_of}
-use Rattle.tl_compiler.specs.Sets.{Nodes, both, minus, same, is_among, all_sets}
+use Rattle.tl_lowering.specs.Sets.{Nodes, both, minus, same, is_among}
+use Rattle.tl_compiler.specs.NodeSets.{all_sets}
 use Rattle.tl_compiler.specs.Statements.{release_code, Pads, pad_at, one_pad, pads_of}
 use Rattle.tl_meaning.specs.Meaning.{On, Done, plain, leave}
 use Rattle.tl_meaning.specs.Leading.{Leads, Tail, Runs, from_label, IsInside}

@@ -19,10 +19,11 @@ use Rattle.tl_lowering.specs.declared.program.Expression.{Expression}
 use Rattle.tl_lowering.specs.declared.program.Place.TheVariants as P
 use Rattle.tl_compiler.specs.Labels.{target_of}
 use Rattle.tl_compiler.specs.Numbers.{register_of, behind, operand_code}
-use Rattle.tl_compiler.specs.Sets.{Nodes, holds, with_node as also}
+use Rattle.tl_lowering.specs.Sets.{Nodes, holds, with_node as also}
 use Rattle.tl_compiler.specs.Statements.{in_order_code, pair_code, place_code}
 use Rattle.tl_meaning.specs.Meaning.{Outcome, On, Breaks, Fails, Returns, Done, plain, and_then, or_else, free, free_by, lock_child, lock_in_order, lock_pair, lock_place, given, number, held_at}
-use Rattle.tl_meaning.specs.Leading.{Leads, Tail, Runs, from_label, IsInside, IsReadable}
+use Rattle.tl_meaning.specs.Leading.{Leads, Tail, Runs, from_label, IsInside}
+use Rattle.tl_lowering.specs.Sound.{IsReadable}
 use Rattle.tl_meaning.specs.Endings.{Agrees}
 use Rattle.tl_meaning.proofs.Steps.{and_on, tail_further, tail_behind, tail_length, further_in, in_range, goes_to_next, goes_to_label}
 use Rattle.tl_meaning.proofs.Stretches.{tail_of_stretch}

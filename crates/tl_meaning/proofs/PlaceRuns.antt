@@ -16,11 +16,12 @@ use Rattle.tl_lowering.specs.declared.program.Expression.{Expression}
 use Rattle.tl_lowering.specs.declared.program.Place.TheVariants as P
 use Rattle.tl_compiler.specs.Labels.{target_of}
 use Rattle.tl_compiler.specs.Numbers.{register_of, operand_code}
-use Rattle.tl_compiler.specs.Sets.{Nodes, holds, with_node as also}
-use Rattle.tl_compiler.specs.Outcomes.{locked}
+use Rattle.tl_lowering.specs.Sets.{Nodes, holds, with_node as also}
+use Rattle.tl_lowering.specs.Outcomes.{locked}
 use Rattle.tl_compiler.specs.Statements.{place_code}
 use Rattle.tl_meaning.specs.Meaning.{Outcome, On, Breaks, Fails, Returns, Done, given, number, lock_node, lock_kid, lock_child_by, lock_child, lock_place}
-use Rattle.tl_meaning.specs.Leading.{Leads, Tail, Runs, from_label, IsInside, IsReadable}
+use Rattle.tl_meaning.specs.Leading.{Leads, Tail, Runs, from_label, IsInside}
+use Rattle.tl_lowering.specs.Sound.{IsReadable}
 use Rattle.tl_meaning.specs.Endings.{Agrees}
 use Rattle.tl_meaning.proofs.Steps.{and_on, tail_further, further_in, goes_to_next, goes_to_label}
 use Rattle.tl_meaning.proofs.NumberRuns.{OperandEnds, operand_tail, operand_runs}

@@ -12,7 +12,7 @@ use Rattle.tl_tree_locking.specs.declared.action.Action.TheVariants as did
 use Rattle.tl_machine.specs.Runs.{State, Run, Held}
 use Rattle.tl_machine.specs.Alone.{Step, effect, holding, node, with_node}
 use Rattle.tl_machine.specs.Left.{Frame}
-use Rattle.tl_compiler.specs.Sets.{Nodes, holds, both}
+use Rattle.tl_lowering.specs.Sets.{Nodes, holds, both}
 use Rattle.tl_compiler.specs.Statements.{release_below}
 use Rattle.tl_meaning.specs.Meaning.{On, Done, plain, after_events, is_on, and_then, free, free_by, leave_below, leave, held_at}
 use Rattle.tl_meaning.specs.Leading.{Leads, Tail, Runs, from_label, IsInside, Kept}

@@ -15,13 +15,14 @@ use Rattle.tl_lowering.specs.declared.program.Expression.{Expression}
 use Rattle.tl_lowering.specs.declared.program.Statement.{Statement}
 use Rattle.tl_compiler.specs.Labels.{target_of}
 use Rattle.tl_compiler.specs.Aiming.{placed}
-use Rattle.tl_compiler.specs.Sets.{Nodes, minus}
-use Rattle.tl_compiler.specs.Outcomes.{behind_loop, after, fails, breaks}
+use Rattle.tl_lowering.specs.Sets.{Nodes, minus}
+use Rattle.tl_lowering.specs.Outcomes.{behind_loop, after, fails, breaks}
 use Rattle.tl_compiler.specs.Statements.{Site, release_code, counted_code, held_behind, loop_code, statement_code}
 use Rattle.tl_meaning.specs.Meaning.{Outcome, On, Fails, Done, plain, number, given as given_number, counted, leaving, turns, broken, meaning}
-use Rattle.tl_meaning.specs.Leading.{Leads, Tail, Runs, from_label, IsReadable}
+use Rattle.tl_meaning.specs.Leading.{Leads, Tail, Runs, from_label}
+use Rattle.tl_lowering.specs.Sound.{IsReadable}
 use Rattle.tl_meaning.specs.Endings.{Agrees, IsSite, LeadsBy, StatementLeads}
-use Rattle.tl_meaning.specs.Sound.{IsSound, KeepsHeld}
+use Rattle.tl_lowering.specs.Sound.{IsSound, KeepsHeld}
 use Rattle.tl_meaning.proofs.Steps.{fetch, tail_further, tail_behind, tail_length, further_in, in_range, goes_to_next, goes_to_label}
 use Rattle.tl_meaning.proofs.NumberRuns.{OperandEnds, operand_tail, kept_below, kept_given, given, register_below, behind_above, operand_runs}
 use Rattle.tl_meaning.proofs.Stretches.{tail_of_stretch}

@@ -9,11 +9,11 @@ use Rattle.tl_lowering.specs.declared.program.Statement.TheVariants as S
 use Rattle.tl_machine.specs.Runs.{actions}
 use Rattle.tl_machine.specs.Alone.{alone}
 use Rattle.tl_compiler.specs.Aiming.{placed}
-use Rattle.tl_compiler.specs.Sets.{none_held}
-use Rattle.tl_compiler.specs.Outcomes.{fails}
+use Rattle.tl_lowering.specs.Sets.{none_held}
+use Rattle.tl_lowering.specs.Outcomes.{fails}
 use Rattle.tl_compiler.specs.Statements.{procedure_code}
 use Rattle.tl_meaning.specs.Meaning.{call}
-use Rattle.tl_meaning.specs.Sound.{IsSound}
+use Rattle.tl_lowering.specs.Sound.{IsSound}
 use Rattle.tl_meaning.specs.Told.{told}
 
 -- lock root = node(0); lock first = child(root, 0); first.value = amount; free first; lock second = child(root, 1); emit second.value;

@@ -4,7 +4,7 @@ use Rattle.std.specs.Prelude.{slice_set}
 use Rattle.std.specs.Bool.{beq}
 use Rattle.std.proofs.lemmas.Bool.{and_parts, or_left, or_right}
 use Rattle.tl_machine.specs.Runs.{Held}
-use Rattle.tl_compiler.specs.Sets.{Nodes, holds, without_node, both, minus, both_of, all_of, same, is_among}
+use Rattle.tl_lowering.specs.Sets.{Nodes, holds, without_node, both, minus, both_of, all_of, same, is_among}
 use Rattle.tl_meaning.specs.Endings.{IsIn}
 
 pub all_held : (xs ys : Nodes) → length xs ≡ length ys → ((i : ℕ) → holds xs i ≡ holds ys i) → xs ≡ ys

@@ -15,13 +15,13 @@ use Rattle.tl_machine.proofs.Slots.{held_by}
 use Rattle.tl_lowering.specs.declared.program.Statement.{Statement}
 use Rattle.tl_lowering.specs.declared.program.Statement.TheVariants as S
 use Rattle.tl_compiler.specs.Labels.{target_of}
-use Rattle.tl_compiler.specs.Sets.{Nodes, none_held, holds, without_node, both, minus}
-use Rattle.tl_compiler.specs.Outcomes.{next, going_on, after, fails, breaks}
+use Rattle.tl_lowering.specs.Sets.{Nodes, none_held, holds, without_node, both, minus}
+use Rattle.tl_lowering.specs.Outcomes.{next, going_on, after, fails, breaks}
 use Rattle.tl_compiler.specs.Statements.{Site, Exit, release_code, leave_code, statement_code, held_behind}
 use Rattle.tl_meaning.specs.Meaning.{Outcome, On, Breaks, Fails, Returns, plain, after_events, and_then, free_by, leave, held_at, meaning}
 use Rattle.tl_meaning.specs.Leading.{Leads, Tail, Runs, from_label, IsInside}
 use Rattle.tl_meaning.specs.Endings.{Agrees, IsSite, LeadsBy, StatementLeads}
-use Rattle.tl_meaning.specs.Sound.{IsSound}
+use Rattle.tl_lowering.specs.Sound.{IsSound}
 use Rattle.tl_meaning.proofs.Steps.{and_on, tail_further, tail_behind, tail_length, further_in, goes_to_next, goes_to_label, returns}
 use Rattle.tl_meaning.proofs.Stretches.{tail_of_stretch}
 use Rattle.tl_meaning.proofs.SetLemmas.{held_is, held_length, held_set, holds_minus, in_left, in_right}

@@ -6,8 +6,8 @@ use Rattle.tl_lowering.specs.declared.program.Place.{Place}
 use Rattle.tl_lowering.specs.declared.program.Place.TheVariants as P
 use Rattle.tl_lowering.specs.declared.program.Statement.{Statement}
 use Rattle.tl_lowering.specs.declared.program.Statement.TheVariants as S
-use Rattle.tl_compiler.specs.Sets.{Nodes, without_node, both, both_of, all_of}
-use Rattle.tl_compiler.specs.Outcomes.{may_fail, condition_may_fail, locked, unlocked, here_if, next, going_on, handled_by, behind_loop, after, fails, breaks}
+use Rattle.tl_lowering.specs.Sets.{Nodes, without_node, both, both_of, all_of}
+use Rattle.tl_lowering.specs.Outcomes.{may_fail, condition_may_fail, locked, unlocked, here_if, next, going_on, handled_by, behind_loop, after, fails, breaks}
 use Rattle.tl_meaning.specs.Endings.{IsIn}
 use Rattle.tl_meaning.proofs.SetLemmas.{length_both, in_either}
 

@@ -20,13 +20,14 @@ use Rattle.tl_lowering.specs.declared.program.Statement.{Statement}
 use Rattle.tl_lowering.specs.declared.program.Statement.TheVariants as S
 use Rattle.tl_compiler.specs.Labels.{target_of}
 use Rattle.tl_compiler.specs.Numbers.{register_of, into_code, operand_code}
-use Rattle.tl_compiler.specs.Sets.{Nodes, none_held, holds}
-use Rattle.tl_compiler.specs.Outcomes.{may_fail, here_if, after, fails, breaks}
+use Rattle.tl_lowering.specs.Sets.{Nodes, none_held, holds}
+use Rattle.tl_lowering.specs.Outcomes.{may_fail, here_if, after, fails, breaks}
 use Rattle.tl_compiler.specs.Statements.{Site, statement_code}
 use Rattle.tl_meaning.specs.Meaning.{Outcome, On, Breaks, Fails, Returns, Done, plain, telling, given, write, leave, of_node, number, held_at, meaning}
-use Rattle.tl_meaning.specs.Leading.{Leads, Tail, Runs, from_label, IsReadable, Kept, Given, NumberLeads}
+use Rattle.tl_meaning.specs.Leading.{Leads, Tail, Runs, from_label, Kept, Given, NumberLeads}
+use Rattle.tl_lowering.specs.Sound.{IsReadable}
 use Rattle.tl_meaning.specs.Endings.{Agrees, IsSite, IsIn, LeadsBy, StatementLeads}
-use Rattle.tl_meaning.specs.Sound.{IsSound}
+use Rattle.tl_lowering.specs.Sound.{IsSound}
 use Rattle.tl_meaning.proofs.Steps.{stays, and_on, tail_further, further_in, goes_to_next, goes_to_label}
 use Rattle.tl_meaning.proofs.NumberRuns.{Operand, OperandEnds, operand_tail, same_number, kept_on, into_runs, into_range, operand_runs}
 use Rattle.tl_meaning.proofs.ReleaseRuns.{below}

@@ -11,9 +11,11 @@ use Rattle.tl_lowering.specs.declared.program.Statement.{Statement}
 use Rattle.tl_lowering.specs.declared.program.Statement.TheVariants as S
 use Rattle.tl_compiler.specs.Labels.{target_of}
 use Rattle.tl_compiler.specs.Numbers.{register_of, behind, into_code, branch_code}
-use Rattle.tl_compiler.specs.Sets.{Nodes, minus, same, is_among, all_of, all_sets}
-use Rattle.tl_compiler.specs.Outcomes.{locked, handled_by, after, fails}
-use Rattle.tl_compiler.specs.Statements.{Exit, Site, release_code, direct, is_skip, joining_code, second_by, Pads, pad_at, one_pad, pads_of, nodes_behind, in_order_code, pair_code, place_code, counted_code, loop_code, held_behind, leave_code, Way, second_way, ways_code, choice_code, statement_code}
+use Rattle.tl_lowering.specs.Sets.{Nodes, minus, same, is_among, all_of}
+use Rattle.tl_compiler.specs.NodeSets.{all_sets}
+use Rattle.tl_lowering.specs.Outcomes.{locked, handled_by, after, fails}
+use Rattle.tl_compiler.specs.Statements.{Exit, Site, release_code, direct, is_skip, joining_code, second_by, Pads, pad_at, one_pad, pads_of, in_order_code, pair_code, place_code, counted_code, loop_code, held_behind, leave_code, Way, second_way, ways_code, choice_code, statement_code}
+use Rattle.tl_lowering.specs.Sound.{nodes_behind}
 use Rattle.tl_meaning.proofs.Stretches.{Stretch, stretch_whole, stretch_further, stretch_acts, stretch_returns, stretch_loop}
 use Rattle.tl_meaning.proofs.NumberRuns.{into_stretch, operand_stretch}
 use Rattle.tl_meaning.proofs.ConditionRuns.{operands_stretch, branch_stretch}

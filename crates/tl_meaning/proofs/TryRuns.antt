@@ -6,13 +6,14 @@ use Rattle.tl_tree_locking.specs.declared.action.Action.{Action}
 use Rattle.tl_machine.specs.Runs.{State, Run}
 use Rattle.tl_machine.specs.Left.{Frame}
 use Rattle.tl_lowering.specs.declared.program.Statement.{Statement}
-use Rattle.tl_compiler.specs.Sets.{Nodes, both_of, same, all_of, all_sets}
-use Rattle.tl_compiler.specs.Outcomes.{handled_by, after, fails, breaks}
+use Rattle.tl_lowering.specs.Sets.{Nodes, both_of, same, all_of}
+use Rattle.tl_compiler.specs.NodeSets.{all_sets}
+use Rattle.tl_lowering.specs.Outcomes.{handled_by, after, fails, breaks}
 use Rattle.tl_compiler.specs.Statements.{Site, direct, joining_code, Second, Pads, pad_at, pads_of, held_behind, statement_code}
 use Rattle.tl_meaning.specs.Meaning.{Outcome, On, Breaks, Fails, Returns, Done, after_events, is_on, and_then, or_else, leave, leaving, meaning}
 use Rattle.tl_meaning.specs.Leading.{Tail, Runs, from_label}
 use Rattle.tl_meaning.specs.Endings.{Agrees, IsSite, IsIn, LeadsBy, StatementLeads}
-use Rattle.tl_meaning.specs.Sound.{IsSound}
+use Rattle.tl_lowering.specs.Sound.{IsSound}
 use Rattle.tl_meaning.proofs.Steps.{and_on, tail_further, tail_length, further_in}
 use Rattle.tl_meaning.proofs.Stretches.{tail_of_stretch}
 use Rattle.tl_meaning.proofs.SetLemmas.{Within, within_left, in_left, in_right, all_within}

@@ -13,13 +13,13 @@ use Rattle.tl_machine.specs.Left.{Frame}
 use Rattle.tl_lowering.specs.declared.program.Statement.{Statement}
 use Rattle.tl_lowering.specs.declared.program.Statement.TheVariants as S
 use Rattle.tl_compiler.specs.Labels.{target_of}
-use Rattle.tl_compiler.specs.Sets.{Nodes, none_held, holds, both, minus, same}
-use Rattle.tl_compiler.specs.Outcomes.{after, fails, breaks}
+use Rattle.tl_lowering.specs.Sets.{Nodes, none_held, holds, both, minus, same}
+use Rattle.tl_lowering.specs.Outcomes.{after, fails, breaks}
 use Rattle.tl_compiler.specs.Statements.{Site, Exit, release_below, release_code, way_out, direct, is_skip, joining_code, releases, second_by, statement_code}
 use Rattle.tl_meaning.specs.Meaning.{Outcome, On, Breaks, Fails, Returns, Done, plain, and_then, free_by, leave_below, leave, leaving, meaning}
 use Rattle.tl_meaning.specs.Leading.{Leads, Tail, Runs, from_label, IsInside}
 use Rattle.tl_meaning.specs.Endings.{Agrees, IsSite, LeadsBy, StatementLeads}
-use Rattle.tl_meaning.specs.Sound.{IsSound}
+use Rattle.tl_lowering.specs.Sound.{IsSound}
 use Rattle.tl_meaning.proofs.Steps.{stays, and_on, tail_further, tail_length, further_in, goes_to_label}
 use Rattle.tl_meaning.proofs.Stretches.{tail_of_stretch}
 use Rattle.tl_meaning.proofs.SetLemmas.{Within, within_self, both_within, same_is}

@@ -5,13 +5,12 @@ use Rattle.tl_tree.specs.Records.{Records}
 use Rattle.tl_machine.specs.Runs.{actions, last_state}
 use Rattle.tl_machine.specs.Alone.{alone}
 use Rattle.tl_lowering.specs.declared.program.Statement.{Statement}
-use Rattle.tl_compiler.specs.Aiming.{placed}
 use Rattle.tl_meaning.specs.Meaning.{call}
 use Rattle.tl_meaning.specs.Told.{told}
 
 -- the code, run alone on a tree, tells the events of the text's call, and leaves the text's records
 abbrev pub DoesCall : List Instr → List ℕ → Statement → List ℤ → Records → Type 0
-DoesCall code parents body args t =
-    let run = alone (placed code) parents args t in
+DoesCall instrs parents body args t =
+    let run = alone instrs parents args t in
     let done = call parents body args t in
     (told (actions run) ≡ done.events) × ((last_state run).records ≡ done.state.records)

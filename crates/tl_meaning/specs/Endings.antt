@@ -5,7 +5,7 @@ use Rattle.tl_instr.specs.declared.instr.Instr.{Instr}
 use Rattle.tl_tree_locking.specs.declared.action.Action.{Action}
 use Rattle.tl_machine.specs.Runs.{State, Run, Ended}
 use Rattle.tl_machine.specs.Left.{Frame}
-use Rattle.tl_compiler.specs.Sets.{Nodes, none_held, both}
+use Rattle.tl_lowering.specs.Sets.{Nodes, none_held, both}
 use Rattle.tl_compiler.specs.Statements.{Site, Exit}
 use Rattle.tl_meaning.specs.Meaning.{Outcome, On, Breaks, Fails, Returns, Done, leave, held_at}
 use Rattle.tl_meaning.specs.Leading.{Leads, Kept, from_label, IsInside}

@@ -8,12 +8,7 @@ use Rattle.tl_verify.specs.Acceptable.{Acceptable}
 use Rattle.tl_machine.specs.Runs.{State, Run, Then}
 use Rattle.tl_machine.specs.Alone.{value}
 use Rattle.tl_machine.specs.Left.{Frame, left}
-use Rattle.tl_lowering.specs.declared.program.Expression.{Expression}
-use Rattle.tl_lowering.specs.declared.program.Expression.TheVariants as E
-use Rattle.tl_lowering.specs.declared.program.Condition.{Condition}
-use Rattle.tl_lowering.specs.declared.program.Condition.TheVariants as C
 use Rattle.tl_compiler.specs.Aiming.{placed}
-use Rattle.tl_compiler.specs.Sets.{Nodes, holds}
 use Rattle.tl_meaning.specs.Told.{told}
 
 -- a run behind these actions
@@ -53,21 +48,6 @@ led_to true true label on = label
 led_to true false label on = on
 led_to false true label on = on
 led_to false false label on = label
-
--- each value that is named has one of the first t registers, and each node that is read is held
-abbrev pub IsReadable : ℕ → Nodes → Expression → Type 0
-IsReadable t held (E.Constant w) = Unit {0}
-IsReadable t held (E.Value x) = x < t
-IsReadable t held (E.Field n f) = holds held n ≡ true
-IsReadable t held (E.Children n) = holds held n ≡ true
-IsReadable t held (E.Calculated' o p a q b) = IsReadable t held a × IsReadable t held b
-
-abbrev pub IsTestable : ℕ → Nodes → Condition → Type 0
-IsTestable t held (C.Less a b) = IsReadable t held a × IsReadable t held b
-IsTestable t held (C.Greater a b) = IsReadable t held a × IsReadable t held b
-IsTestable t held (C.Equal a b) = IsReadable t held a × IsReadable t held b
-IsTestable t held (C.Not' p c) = IsTestable t held c
-IsTestable t held (C.And' p c q d) = IsTestable t held c × IsTestable t held d
 
 -- the first t values are the same in both states, and nodes and records too
 pub record Kept (t : ℕ) (s u : State) : Type 0 where

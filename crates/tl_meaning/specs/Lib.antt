@@ -2,5 +2,4 @@ pub mod Calls
 pub mod Endings
 pub mod Leading
 pub mod Meaning
-pub mod Sound
 pub mod Told

@@ -19,8 +19,8 @@ use Rattle.tl_lowering.specs.declared.program.Place.{Place}
 use Rattle.tl_lowering.specs.declared.program.Place.TheVariants as P
 use Rattle.tl_lowering.specs.declared.program.Statement.{Statement}
 use Rattle.tl_lowering.specs.declared.program.Statement.TheVariants as S
-use Rattle.tl_compiler.specs.Sets.{Nodes, none_held, holds, all_of}
-use Rattle.tl_compiler.specs.Outcomes.{handled_by, after, fails}
+use Rattle.tl_lowering.specs.Sets.{Nodes, none_held, holds, all_of}
+use Rattle.tl_lowering.specs.Outcomes.{handled_by, after, fails}
 
 -- ---- numbers and conditions
 

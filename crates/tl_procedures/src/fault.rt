@@ -7,16 +7,16 @@ use arrayvec::ArrayVec;
 use std::alloc::AllocError;
 use thiserror::Error;
 
-/// Why a procedure isn't taken up under a name.
+/// Why a procedure isn't added under a name.
 #[derive(Clone, Copy, Debug, PartialEq, Eq, Error)]
 pub enum NamingFault {
-    /// 611: a procedure has that name.
+    /// 611: a procedure already has that name.
     #[error("a procedure of that name is there already")]
     NameTaken,
-    /// 612: a name is 1 to 32 of ASCII letters, digits and `_`.
+    /// 612: a name has to be 1 to 32 ASCII letters, digits or `_`.
     #[error("not a name")]
     BadName,
-    /// 613: there are 256 procedures.
+    /// 613: there are already 256 procedures.
     #[error("too many procedures")]
     TooManyProcedures,
     /// 690: memory was refused.

@@ -1,7 +1,7 @@
 //! Procedures under their names.
 //!
-//! A name is 1 to 32 of ASCII letters, digits and `_`, and no two procedures have the same. They are numbered in the
-//! order in which they came. Whoever runs calls, and whoever checks what calls did, looks a call's code up here.
+//! A name is 1 to 32 ASCII letters, digits or `_`, and no two procedures have the same name. They are numbered in the order
+//! in which they were added. A call's code is looked up here, both to run calls and to check what calls did.
 #![tactic(auto)]
 
 mod fault;

@@ -12,13 +12,13 @@ use std::marker::Model;
 use std::sync::Arc;
 use tl_verify::Proc;
 
-/// How many procedures there are at most.
+/// The most procedures that there may be.
 pub const MAX_PROCEDURES: usize = 256;
 
-/// How many bytes a name has at most.
+/// The most bytes that a name may have.
 pub const MAX_NAME: usize = 32;
 
-/// Procedures under their names, numbered in the order in which they came.
+/// Procedures under their names, numbered in the order in which they were added.
 #[derive(Debug, Drop)]
 pub struct Procedures {
     by_name: IndexMap<String, Arc<Proc>>,
@@ -55,7 +55,7 @@ impl Procedures {
         self.by_name.len()
     }
 
-    /// The number of the procedure of that name.
+    /// The number of the procedure with that name.
     pub fn number_of(&self, name: &str) -> Option<u32>
         ensures { result ≡ number_of self.now name.now }
     {
@@ -65,7 +65,7 @@ impl Procedures {
         }
     }
 
-    /// The procedure of that number.
+    /// The procedure with that number.
     pub fn get(&self, number: u32) -> &Arc<Proc>
         requires { number < length self.now }
         ensures { arc_value result.now ≡ (get_or self.now number no_procedure).code }
@@ -76,7 +76,7 @@ impl Procedures {
         }
     }
 
-    /// The name of the procedure of that number.
+    /// The name of the procedure with that number.
     pub fn name(&self, number: u32) -> &str
         requires { number < length self.now }
         ensures { result.now ≡ (get_or self.now number no_procedure).name }
@@ -87,8 +87,8 @@ impl Procedures {
         }
     }
 
-    /// Puts a procedure last, under a name of its own, and answers its number. Else the first that holds of 612, 611 and 613,
-    /// and only where none does, 690 where memory is refused.
+    /// Adds a procedure as the last, under a new name, and returns its number. The first fault is given, of 612, 611 and
+    /// 613 in that order; if there is none, 690 if memory is refused.
     pub fn add(&mut self, alloc: Global, name: &str, procedure: Proc) -> Result<u32, NamingFault>
         ensures number { IfOk result (λ n. n ≡ length self.old) }
         ensures free { IfOk result (λ _. naming_refusal self.old name.now ≡ None) }
@@ -104,7 +104,7 @@ impl Procedures {
         self.put_last(alloc, name, procedure)
     }
 
-    /// The same with a procedure that others have too.
+    /// The same with a procedure that is shared.
     pub fn add_shared(
         &mut self,
         alloc: Global,
@@ -122,7 +122,7 @@ impl Procedures {
         self.put_last(alloc, name, Arc::try_clone(procedure)?)
     }
 
-    /// The same procedures under the same names. None of the names is refused, since each was free where it came.
+    /// The same procedures under the same names. No name is refused, since each was free when it was added.
     pub fn copy(&self, alloc: Global) -> Result<Procedures, AllocError>
         ensures { IfOk result (λ p. p ≡ self.now) }
     {
@@ -135,7 +135,7 @@ impl Procedures {
         Ok(copy)
     }
 
-    // Whether a procedure may be put last under the name: 612, 611, 613.
+    // Whether a procedure may be added under the name: 612, 611, 613.
     fn find_free(&self, name: &str) -> Result<(), NamingFault>
         ensures free { OnOk result (naming_refusal self.now name.now ≡ None) }
         ensures fault { IfErr result (λ e. naming_refusal self.now name.now ≡ Some e) }
@@ -153,7 +153,7 @@ impl Procedures {
         Ok(())
     }
 
-    // Puts a procedure last, under a name that is free.
+    // Adds a procedure as the last, under a name that is free.
     fn put_last(
         &mut self,
         alloc: Global,
@@ -175,7 +175,7 @@ impl Procedures {
     }
 }
 
-// A name is 1 to 32 of ASCII letters, digits and `_`.
+// A name is 1 to 32 ASCII letters, digits or `_`.
 fn is_name(name: &[u8]) -> bool
     ensures { result ≡ is_name name.now }
 {

@@ -1,6 +1,6 @@
-// What is asked of a call.
+// A request for a call.
 
-/// A call that is asked for: of the procedure of that name, with these arguments.
+/// A call that is asked for: a procedure's name, and arguments.
 #[derive(Debug, Drop)]
 pub struct Request {
     pub name: String,

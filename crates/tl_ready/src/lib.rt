@@ -1,8 +1,8 @@
-//! The queue of the calls that are ready to be run.
+//! The queue of the calls that are ready to run.
 //!
-//! Threads push numbers and pop them, each through a pass of its own. The queue keeps a rule, whatever the threads do and in
-//! whatever order: each number was pushed as often as it was popped and stands in the queue. So no number is lost, and none is
-//! handed out twice.
+//! Threads push and pop numbers, each through a pass of its own. Whatever the threads do and in whatever order, the queue
+//! keeps a rule: each number was pushed exactly as often as it was popped, plus as often as it is in the queue. So no
+//! number is lost, and none is handed out twice.
 #![tactic(auto)]
 
 mod ready;

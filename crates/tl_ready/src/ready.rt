@@ -9,7 +9,7 @@ use std::alloc::{AllocError, Global};
 use std::marker::Model;
 use std::sync::{Arc, Wait};
 
-/// How many numbers stand in a queue at most.
+/// The most numbers that a queue has.
 pub const MAX_READY: usize = 64;
 
 /// A queue of numbers, for threads that push and pop.
@@ -50,7 +50,7 @@ impl Ready {
         Ok((ready, ReadyPass { queue, pass }))
     }
 
-    /// One more pass, through which nothing went so far.
+    /// One more pass, through which nothing has gone yet.
     pub fn join(&self) -> Result<ReadyPass, AllocError>
         ensures { IfOk result (λ p. p ≡ handed [] []) }
     {
@@ -59,7 +59,7 @@ impl Ready {
         Ok(ReadyPass { queue, pass })
     }
 
-    /// Pushes a number into the pass's queue, or hands it back where 64 stand there. Takes no memory.
+    /// Pushes a number into the pass's queue, or hands it back if the queue has 64 already. Takes no memory.
     pub fn push(&self, rt: &impl Wait, pass: &mut ReadyPass, number: u32) -> Result<(), u32>
         ensures { MatchResult result (λ _. pass.new ≡ handed (pass.old.pushed ++ number ∷ []) pass.old.popped)
             (λ back. (back ≡ number) × (pass.new ≡ pass.old)) }
@@ -68,7 +68,7 @@ impl Ready {
         queue.push_as::<Pushes, _>(rt, &mut pass.pass, number)
     }
 
-    /// Pops the number that stands in the pass's queue the longest; None where there is none. Takes no memory.
+    /// Pops the number that has been in the pass's queue the longest; `None` if it is empty. Takes no memory.
     pub fn pop(&self, rt: &impl Wait, pass: &mut ReadyPass) -> Option<u32>
         ensures { MatchOption result (pass.new ≡ pass.old)
             (λ number. pass.new ≡ handed pass.old.pushed (pass.old.popped ++ number ∷ [])) }

@@ -4,14 +4,14 @@ use crossbeam_queue::RuledArrayQueue;
 use crossbeam_queue::protocol::{Lesson, Outcome, Protocol, Split};
 use std::collections::LinkedList;
 
-/// What went through a pass: the numbers that it pushed, and those that it popped, in the order in which it did. Contracts
-/// speak of it; no value of it is made.
+/// What went through a pass: the numbers that it pushed and those that it popped, in order. Only contracts use it; no value
+/// of it exists.
 pub struct Handed {
     pub pushed: LinkedList<u32>,
     pub popped: LinkedList<u32>,
 }
 
-/// The rule: each number was pushed as often as it was popped and stands in the queue.
+/// The rule: each number was pushed exactly as often as it was popped, plus as often as it is in the queue.
 pub struct Counted;
 
 impl Protocol<u32, Handed> for Counted {

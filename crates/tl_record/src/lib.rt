@@ -1,6 +1,6 @@
 //! The trail of a core.
 //!
-//! Only here is a core made into a trail: an auditor of trails needs nothing of a core.
+//! A core becomes a trail only here: an auditor of trails needs nothing of a core.
 #![tactic(auto)]
 
 mod recording;

@@ -1,7 +1,7 @@
 // The trail of a core.
 
 ghost use Rattle.std.specs.Prelude.{◌≡◌, ℕ, ◌<◌, ◌≤◌, ◌↔◌, length, map, option_map, IfOk, IfErr};
-ghost use Rattle.tl_tree_locking.specs.History.{AllDone, records_now};
+ghost use Rattle.tl_tree_locking.specs.History.{AllDone};
 ghost use Rattle.tl_trail.specs.Trails.{call_value};
 ghost use Rattle.tl_trail.specs.Clean.{Clean};
 ghost use Rattle.tl_record.specs.Recording.{told_call, trail_value, IsCoreCall};
@@ -12,17 +12,18 @@ use std::alloc::Global;
 use tl_budget::MAX_EMITS;
 use tl_core::Core;
 use tl_history::{History, MAX_CALLS, MAX_EVENTS};
+use tl_machine::copied;
 use tl_trail::{Trail, TrailCall, TrailFault};
 
-/// What the calls of a core have done so far. While a call is unfinished it has no reply, and the trail isn't clean; once
-/// all are done, nothing is wrong with it. 790 where memory is refused.
+/// What the calls of a core have done so far. An unfinished call has no reply, and the trail isn't clean; once all are
+/// done, the trail is clean. 790 if memory is refused.
 pub fn trail_of(alloc: Global, core: &Core) -> Result<Trail, TrailFault>
     ensures trail { IfOk result (λ t. t ≡ trail_value core.now.seen) }
     ensures clean { IfOk result (λ t. Clean t ↔ AllDone core.now.seen.past) }
     ensures err { IfErr result (λ e. e ≡ TrailFault.Memory) }
 {
-    // The core's world is sound, and its calls are at most 4,096: here a proof learns that.
-    core.is_sound();
+    // The core's world is sound, and it has at most 4,096 calls.
+    core.lemma_is_sound();
     let calls = calls_of(alloc, core)?;
     let Ok(opening) = core.opening().copy(alloc) else {
         return Err(TrailFault::Memory);
@@ -48,37 +49,29 @@ fn calls_of(alloc: Global, core: &Core) -> Result<Vec<TrailCall>, TrailFault>
     Ok(calls)
 }
 
-// What was asked of a call, and what it answered.
+// The request and the reply of a call.
 fn call_of(core: &Core, call: u32) -> TrailCall
     requires { call < length core.now.seen.calls }
     ensures told { call_value result ≡ told_call core.now.seen call }
     ensures of_core { IsCoreCall core.now.seen call }
 {
     let (procedure, args) = core.request(call);
-    // The code is accepted, by its type: here a proof learns that.
-    let _arity = core.proc(procedure).code().arity();
-    let mut kept = ArrayVec::new();
-    let Ok(()) = kept.try_extend_from_slice(args) else {
-        unreachable!()
-    };
+    // The code was accepted.
+    let _fact = core.proc(procedure).code().arity();
     TrailCall {
         procedure,
-        args: kept,
+        args: copied(args),
         reply: reply_of(core, call),
     }
 }
 
-// What a call answered, once it is done.
+// The reply of a call, once it is done.
 fn reply_of(core: &Core, call: u32) -> Option<ArrayVec<i64, MAX_EMITS>>
     requires { call < length core.now.seen.calls }
     ensures { option_map (λ r. r.items) result ≡ (told_call core.now.seen call).reply }
 {
     let reply = core.reply(call)?;
-    let mut values = ArrayVec::new();
-    let Ok(()) = values.try_extend_from_slice(reply.values()) else {
-        unreachable!()
-    };
-    Some(values)
+    Some(copied(reply.values()))
 }
 
 // The same events. There is room for them, since no history has more.

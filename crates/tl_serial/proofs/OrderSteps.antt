@@ -1,6 +1,7 @@
 -- The order of a core after a step of a call.
-use Rattle.std.proofs.Common.{◌≡◌, ℕ, ◌<◌, List, [], ◌∷◌, ◌++◌, Ok, length, refl, sym, ap, ◌∙◌, subst, arith}
+use Rattle.std.proofs.Common.{◌≡◌, ℕ, ◌<◌, List, [], ◌∷◌, ◌++◌, Option, Some, None, Ok, ℤ, length, refl, sym, ap, ◌∙◌, subst, arith}
 use Rattle.std.specs.Prelude.{All, Result, Err, IfOk, OnErr}
+use Rattle.std.specs.Option.{option_map_or}
 use Rattle.tl_tree.specs.Records.{Record}
 use Rattle.tl_tree.specs.Shape.{IsTree}
 use Rattle.tl_tree_locking.specs.declared.action.Action.{Action}
@@ -15,14 +16,15 @@ use Rattle.tl_machine.specs.declared.want.Stop.{Stop}
 use Rattle.tl_machine.specs.declared.want.Stop.TheVariants as stop
 use Rattle.tl_machine.specs.Turns.{SegmentValue}
 use Rattle.tl_core.specs.Cores.{CoreState, CoreValue}
-use Rattle.tl_core.specs.Entries.{after_step}
+use Rattle.tl_procedures.specs.Names.{number_of}
+use Rattle.tl_core.specs.Entries.{after_step, with_call_of, Admits}
 use Rattle.tl_core.specs.Followed.{Goes, HasGone, EachLocal, EndsStop, Proceeds}
 use Rattle.tl_core.specs.declared.fault.CoreFault.{CoreFault}
 use Rattle.tl_core.specs.declared.stepped.Stepped.{Stepped}
 use Rattle.tl_core.specs.declared.stepped.Stepped.TheVariants.{Moved, Blocked, Over}
 use Rattle.tl_serial_order.proofs.LegalEvents.{caller_known}
-use Rattle.tl_serial_order.specs.Kept.{KeptValue, IsOfSize}
-use Rattle.tl_serial.specs.Running.{IsStopInside, HasStopped}
+use Rattle.tl_serial_order.specs.Kept.{KeptValue, IsKept, IsOfSize}
+use Rattle.tl_serial.specs.Running.{IsOrderOf, IsStopInside, HasStopped}
 
 -- a local action is no event
 pub local_past : (c : ℕ) (a : Action) (past : List Event) → IsLocal a → past_after c a past ≡ past
@@ -69,22 +71,22 @@ local_goes_past v w c [] each goes = sym (ap (λ u. u.past) goes)
 local_goes_past v w c (a ∷ local) each goes = local_goes_past (after_step v c (Ok (Moved a))) w c local each.1 goes.1 ∙ local_past c a v.past each.0
 
 -- a call that proceeds adds the event of its last step
-pub proceeds_past : (v w : CoreValue) (c : ℕ) (a : Action) → Proceeds v c (Moved a) w → w.past ≡ past_after c a v.past
-proceeds_past v w c a p = ap (λ u. u.past) p.then ∙ ap (past_after c a) (local_goes_past v p.there c p.local p.each_local p.goes)
+pub proceeds_past : (v w : CoreState) (c : ℕ) (a : Action) → Proceeds v c (Moved a) w → w.seen.past ≡ past_after c a v.seen.past
+proceeds_past v w c a p = ap (λ u. u.past) p.then ∙ ap (past_after c a) (local_goes_past v.seen p.there c p.local p.each_local p.goes)
 
-pub proceeds_parents : (v w : CoreValue) (c : ℕ) (a : Action) → Proceeds v c (Moved a) w → w.parents ≡ v.parents
-proceeds_parents v w c a p = ap (λ u. u.parents) p.then ∙ goes_parents v p.there c p.local p.goes
+pub proceeds_parents : (v w : CoreState) (c : ℕ) (a : Action) → Proceeds v c (Moved a) w → w.seen.parents ≡ v.seen.parents
+proceeds_parents v w c a p = ap (λ u. u.parents) p.then ∙ goes_parents v.seen p.there c p.local p.goes
 
 -- and none where that is no lock, free or end
-pub proceeds_still : (v w : CoreState) (c : ℕ) (r : Result Stepped CoreFault) → IfOk r (λ s. Proceeds v.seen c s w.seen) → OnErr r (w ≡ v)
+pub proceeds_still : (v w : CoreState) (c : ℕ) (r : Result Stepped CoreFault) → IfOk r (λ s. Proceeds v c s w) → OnErr r (w ≡ v)
     → ((a : Action) → r ≡ Ok (Moved a) → IsLocal a) → (w.seen.past ≡ v.seen.past) × (w.seen.parents ≡ v.seen.parents)
 proceeds_still v w c (Ok (Moved a)) p same local = absurd (p.is_last (local a refl))
 proceeds_still v w c (Ok (Blocked x d)) p same local = (ap (λ u. u.past) p.then ∙ local_goes_past v.seen p.there c p.local p.each_local p.goes, ap (λ u. u.parents) p.then ∙ goes_parents v.seen p.there c p.local p.goes)
 proceeds_still v w c (Ok Over) p same local = (ap (λ u. u.past) p.then ∙ local_goes_past v.seen p.there c p.local p.each_local p.goes, ap (λ u. u.parents) p.then ∙ goes_parents v.seen p.there c p.local p.goes)
 proceeds_still v w c (Err e) p same local = (ap (λ u. u.seen.past) same, ap (λ u. u.seen.parents) same)
 
-pub proceeds_stopped : (v w : CoreState) (c : ℕ) (s : Stop) (a : Action) → EndsStop s a → Proceeds v.seen c (Moved a) w.seen → HasStopped w.seen c s v.seen.past
-proceeds_stopped v w c s a ends p = record { last = a; ends = ends; past_is = proceeds_past v.seen w.seen c a p }
+pub proceeds_stopped : (v w : CoreState) (c : ℕ) (s : Stop) (a : Action) → EndsStop s a → Proceeds v c (Moved a) w → HasStopped w.seen c s v.seen.past
+proceeds_stopped v w c s a ends p = record { last = a; ends = ends; past_is = proceeds_past v w c a p }
 
 -- what is so of every lock of the node is so of what a call did that stopped there
 pub at_lock : (P : List Event → Type 0) (c x : ℕ) (s : Stop) (last : Action) (past : List Event) → s ≡ stop.Lock x → EndsStop s last
@@ -128,3 +130,18 @@ gone_parents v w c segment gone = goes_parents v.seen w.seen c (gone.local ++ go
 -- and the order of the history before is of as many nodes
 pub same_size : (k : KeptValue) (parents more : List ℕ) → more ≡ parents → IsOfSize k (length parents) → IsOfSize k (length more)
 same_size k parents more same size = subst (λ shape. IsOfSize k (length shape)) (sym same) size
+
+-- an admission leaves the order as it is
+after_order : (k : KeptValue) (v w : CoreValue) (args : List ℤ) (found : Option ℕ) → w ≡ option_map_or (λ p. with_call_of v p args) found v
+    → ((parents : List ℕ) (past : List Event) (call : ℕ) → IsKept k parents past → IsKept k parents (Admit call ∷ past)) → IsOrderOf k v → IsOrderOf k w
+after_order k v w args (Some p) is more o = record {
+  kept = subst (λ (u : CoreValue). IsKept k u.parents u.past) (sym is) (more v.parents v.past (length v.calls) o.kept);
+  size = subst (λ (u : CoreValue). IsOfSize k (length u.parents)) (sym is) o.size;
+  calls = o.calls;
+}
+after_order k v w args None is more o = subst (IsOrderOf k) (sym is) o
+
+pub admitted_order : (k : KeptValue) (v w : CoreState) (name : List ℕ) (args : List ℤ) (r : Result ℕ CoreFault) → IfOk r (λ n. Admits v name args n w) → OnErr r (w ≡ v)
+    → ((parents : List ℕ) (past : List Event) (call : ℕ) → IsKept k parents past → IsKept k parents (Admit call ∷ past)) → IsOrderOf k v.seen → IsOrderOf k w.seen
+admitted_order k v w name args (Ok n) a same more o = after_order k v.seen w.seen args (number_of v.seen.procedures name) a.after_it more o
+admitted_order k v w name args (Err e) a same more o = subst (λ (u : CoreState). IsOrderOf k u.seen) (sym same) o

@@ -12,10 +12,10 @@ use std::alloc::Global;
 use tl_core::Core;
 use tl_serial_order::{Order, SerialFault};
 
-/// The order that the core's history gives, once every call is done. Run alone, one after another along it, the calls
-/// leave the records that there are now, and each gives the reply that it gave.
+/// The order that the core's history gives, once every call is done. Run alone, one after another in this order, the calls
+/// leave the current records, and each gives the reply that it gave.
 ///
-/// 651 with the least unfinished call where there is one; else 690 where memory is refused.
+/// 651 with the least unfinished call if there is one; otherwise 690 if memory is refused.
 pub fn conclude(alloc: Global, core: &Core) -> Result<Order, SerialFault>
     ensures unfinished { IfErr result (λ e. e ≢ SerialFault.Memory
         → (c : ℕ) × (e ≡ SerialFault.Unfinished c) × IsLeastUnfinished core.now.seen.past c) }
@@ -32,8 +32,8 @@ pub fn conclude(alloc: Global, core: &Core) -> Result<Order, SerialFault>
     if let Some(call) = core.least_unfinished() {
         return Err(SerialFault::Unfinished { call });
     }
-    // What the order promises comes of the core being sound: here a proof learns that.
-    core.is_sound();
+    // What the order promises follows from this.
+    core.lemma_is_sound();
     let order = order_of_core(alloc, core)?;
     Ok(order.into_order())
 }

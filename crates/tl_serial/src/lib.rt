@@ -1,7 +1,7 @@
-//! What the serial order of a core's history promises, and the calls run again along it.
+//! What the serial order of a core's history promises, and the calls run again in that order.
 //!
-//! Once the calls of a core are done, the records and the replies are those of the calls run alone, one after another
-//! along this order.
+//! Once the calls of a core are done, the records and the replies are those of the calls run alone, one after another in
+//! this order.
 #![tactic(auto)]
 
 mod concluding;

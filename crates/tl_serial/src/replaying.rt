@@ -10,8 +10,8 @@ use tl_machine::{Reply, alone};
 use tl_serial_order::{Order, SerialFault};
 use tl_tree::Tree;
 
-/// The calls of the order run alone, one after another, from the opening tree: the tree that they leave, and their
-/// replies in that order. The core stays as it is. 690 where memory is refused.
+/// Runs the calls of the order alone, one after another, from the opening tree. Returns the tree that they leave, and their
+/// replies in that order. The core stays as it is. 690 if memory is refused.
 pub fn replay(alloc: Global, order: &Order, core: &Core) -> Result<(Tree, Vec<Reply>), SerialFault>
     requires { All (λ c. c < length core.now.seen.calls) order.now.calls }
     ensures tree { IfOk result (λ r. r.0 ≡ record {
@@ -33,7 +33,7 @@ pub fn replay(alloc: Global, order: &Order, core: &Core) -> Result<(Tree, Vec<Re
     Ok((tree, replies))
 }
 
-// Runs a call of the core alone on the tree, and answers its reply.
+// Runs a call of the core alone on the tree, and returns its reply.
 fn run_again(core: &Core, call: u32, tree: &mut Tree) -> Reply
     requires known { call < length core.now.seen.calls }
     requires shape { tree.old.parents ≡ core.now.seen.parents }

@@ -7,12 +7,12 @@ ghost use Rattle.tl_tree_locking.specs.declared.event.Event.{Event as EventValue
 ghost use Rattle.tl_tree_locking.specs.Alone.{serial};
 ghost use Rattle.tl_tree_locking.specs.History.{AllDone, admits, records_now, IsLegalHistory};
 ghost use Rattle.tl_tree_locking.specs.Order.{placed, Agrees};
-ghost use Rattle.tl_tree_locking.specs.World.{IsStuck, reply_of, past_after};
+ghost use Rattle.tl_tree_locking.specs.World.{reply_of, past_after};
 ghost use Rattle.tl_procedures.specs.Names.{naming_refusal};
 ghost use Rattle.tl_procedures.specs.declared.fault.NamingFault.TheVariants as naming;
-ghost use Rattle.tl_core.specs.Cores.{CoreState, world_of, opened_after, IsSealFault, done_by, kept_turn, IsLeastUnfinished};
-ghost use Rattle.tl_core.specs.Entries.{step_answer, after_step, admission_refusal, after_admission, part_of_run, entry_of, IsBlocked};
-ghost use Rattle.tl_core.specs.Followed.{IsLedTo, Submits, IfFinished, IsLeadFault, IsFollowed, HasGone, IsUnhindered, IsFollowFault, EndsStop, Proceeds};
+ghost use Rattle.tl_core.specs.Cores.{CoreState, world_of, opened_after, IsSealFault, kept_turn, IsLeastUnfinished};
+ghost use Rattle.tl_core.specs.Entries.{Admits, IsAdmissionFault, StepsTo};
+ghost use Rattle.tl_core.specs.Followed.{IsLedTo, Submits, IsLeadFault, IsFollowed, HasGone, IsFollowFault, EndsStop, Proceeds};
 ghost use Rattle.tl_core.specs.declared.stepped.Stepped.TheVariants.{Moved};
 ghost use Rattle.tl_machine.specs.Turns.{TurnValue, SegmentValue, HasRun};
 ghost use Rattle.tl_core.specs.declared.fault.CoreFault.TheVariants as fault;
@@ -32,8 +32,8 @@ use tl_tree::Shape;
 use tl_tree_locking::Action;
 use tl_verify::Proc;
 
-/// A core whose order is kept up to date: by its type it is the order that the core's history gives. A contract sees the
-/// core.
+/// A core whose order is kept up to date: the type guarantees that it is the order that the core's history gives. A
+/// contract sees the core.
 #[derive(Debug, Drop)]
 pub struct Running {
     core: Core,
@@ -52,7 +52,7 @@ impl Model for Running {
 }
 
 impl Running {
-    /// The core with its order. All memory that the order ever needs is taken here: 690 where it is refused.
+    /// The core with its order. All memory that the order ever needs is taken here: 690 if it is refused.
     pub fn new(alloc: Global, core: Core) -> Result<Running, CoreFault>
         ensures ok { IfOk result (λ r. r ≡ core) }
         ensures err { IfErr result (λ e. e ≡ fault.Memory) }
@@ -61,14 +61,14 @@ impl Running {
         Ok(Running { core, order })
     }
 
-    /// Gives back memory of the history that its calls don't need. What it is stays the same.
+    /// Gives back memory of the history that its calls don't need. The core's value stays the same.
     pub fn cut_history(&mut self)
         ensures { self.new ≡ self.old }
     {
         self.core.cut_history();
     }
 
-    /// The core that takes over from this one with its order, once every call is done: 606, then 690.
+    /// The core that takes over from this one once every call is done, with its order: 606, then 690.
     pub fn successor(&self, alloc: Global) -> Result<Running, CoreFault>
         ensures done { IfOk result (λ _. AllDone self.now.seen.past) }
         ensures next { IfOk result (λ r. r ≡ opened_after self.now.seen) }
@@ -106,31 +106,22 @@ impl Running {
         self.order.order()
     }
 
-    /// Takes up a procedure under a name, as the core does: 612, 611, 613, 690.
-    pub fn add_proc(
-        &mut self,
-        alloc: Global,
-        name: &str,
-        procedure: Proc,
-    ) -> Result<u32, NamingFault>
+    /// Adds a procedure under a name, as the core does: 612, 611, 613, 690.
+    pub fn add_proc(&mut self, alloc: Global, name: &str, proc: Proc) -> Result<u32, NamingFault>
         ensures number { IfOk result (λ n. n ≡ length self.old.seen.procedures) }
         ensures free { IfOk result (λ _. naming_refusal self.old.seen.procedures name.now ≡ None) }
-        ensures last { OnOk result (self.new ≡ record self.old { seen = record self.old.seen { procedures = self.old.seen.procedures ++ record { name = name.now; code = procedure } ∷ [] } }) }
+        ensures last { OnOk result (self.new ≡ record self.old { seen = record self.old.seen { procedures = self.old.seen.procedures ++ record { name = name.now; code = proc } ∷ [] } }) }
         ensures fault { IfErr result (λ e. e ≢ naming.Memory → naming_refusal self.old.seen.procedures name.now ≡ Some e) }
         ensures memory { IfErr result (λ e. e ≡ naming.Memory → naming_refusal self.old.seen.procedures name.now ≡ None) }
         ensures err { OnErr result (self.new ≡ self.old) }
     {
-        self.core.add_proc(alloc, name, procedure)
+        self.core.add_proc(alloc, name, proc)
     }
 
     /// Admits a call, as the core does: 601, 501, 603, 604, 605, 690. The order stays as it is.
     pub fn admit(&mut self, alloc: Global, name: &str, args: &[i64]) -> Result<u32, CoreFault>
-        ensures number { IfOk result (λ n. n ≡ length self.old.seen.calls) }
-        ensures free { IfOk result (λ _. admission_refusal self.old.seen name.now args.now ≡ None) }
-        ensures after { OnOk result (self.new.seen ≡ after_admission self.old.seen name.now args.now) }
-        ensures turns { (c : ℕ) → c < length self.old.seen.calls → kept_turn self.new c ≡ kept_turn self.old c }
-        ensures fault { IfErr result (λ e. e ≢ fault.Memory → admission_refusal self.old.seen name.now args.now ≡ Some e) }
-        ensures memory { IfErr result (λ e. e ≡ fault.Memory → admission_refusal self.old.seen name.now args.now ≡ None) }
+        ensures ok { IfOk result (λ n. Admits self.old name.now args.now n self.new) }
+        ensures fault { IfErr result (IsAdmissionFault self.old.seen name.now args.now) }
         ensures err { OnErr result (self.new ≡ self.old) }
     {
         let admitted = self.core.admit(alloc, name, args);
@@ -138,14 +129,10 @@ impl Running {
         admitted
     }
 
-    /// The next instruction of a call, as the core does it: 602. A first lock puts the call in order. Takes no memory.
+    /// Does the next instruction of a call, as the core does: 602. A first lock puts the call in order. Takes no memory.
     #[inline(always)]
     pub fn step(&mut self, call: u32) -> Result<Stepped, CoreFault>
-        ensures answer { result ≡ step_answer (world_of self.old.seen) call }
-        ensures after { self.new.seen ≡ after_step self.old.seen call result }
-        ensures done { (c : ℕ) → done_by self.new.seen c ≡ done_by self.old.seen c ++ part_of_run c (entry_of call result ∷ []) }
-        ensures blocked { IsBlocked result ↔ IsStuck (world_of self.old.seen) call }
-        ensures turns { (c : ℕ) → c ≢ call → kept_turn self.new c ≡ kept_turn self.old c }
+        ensures { StepsTo self.old call result self.new }
     {
         let stepped = self.core.step(call);
         if let Ok(Stepped::Moved { action }) = &stepped {
@@ -156,13 +143,12 @@ impl Running {
         stepped
     }
 
-    /// Steps of a call up to the first that isn't local, which is done too, as the core does them: 602. Takes no memory. So a
-    /// caller with one thread runs a call without asking at each instruction.
+    /// Does a call's instructions up to and including the first that isn't local, as the core does: 602. Takes no memory. This
+    /// lets a caller with one thread run a call without a request per instruction.
     #[inline(always)]
     pub fn proceed(&mut self, call: u32) -> Result<Stepped, CoreFault>
         ensures known { IsOk result ↔ (call < admits self.old.seen.past) }
-        ensures proceeds { IfOk result (λ s. Proceeds self.old.seen call s self.new.seen) }
-        ensures turns { (c : ℕ) → c ≢ call → kept_turn self.new c ≡ kept_turn self.old c }
+        ensures proceeds { IfOk result (λ s. Proceeds self.old call s self.new) }
         ensures fault { IfErr result (λ e. e ≡ fault.NoCall) }
         ensures err { OnErr result (self.new ≡ self.old) }
     {
@@ -177,7 +163,6 @@ impl Running {
     pub fn follow(&mut self, call: u32, segment: Segment) -> Result<Followed, CoreFault>
         ensures from { IfOk result (λ _. kept_turn self.old call ≡ Some segment.from) }
         ensures followed { IfOk result (λ f. IsFollowed self.old call segment f self.new) }
-        ensures unhindered { IfOk result (λ f. IsUnhindered self.old segment f) }
         ensures turns { (c : ℕ) → c ≢ call → kept_turn self.new c ≡ kept_turn self.old c }
         ensures fault { IfErr result (λ e. IsFollowFault self.old call segment e) }
         ensures err { OnErr result (self.new ≡ self.old) }
@@ -196,8 +181,6 @@ impl Running {
     pub fn lead(&mut self, call: u32, lent: &mut LentTurn) -> Result<TurnOutcome, CoreFault>
         requires { HasRun lent.old }
         ensures ok { IfOk result (λ o. Submits self.old call lent.old lent.new o self.new) }
-        ensures known { IfOk result (λ o. IfFinished o (call < length self.new.seen.calls)) }
-        ensures turns { (c : ℕ) → c ≢ call → kept_turn self.new c ≡ kept_turn self.old c }
         ensures fault { IfErr result (λ e. IsLeadFault self.old call lent.old e) }
         ensures err { OnErr result ((self.new ≡ self.old) × (lent.new ≡ lent.old)) }
     {
@@ -210,8 +193,8 @@ impl Running {
         led
     }
 
-    /// The order, once every call is done, with all that `conclude` promises of it. 651 with the least unfinished call where
-    /// there is one; else 690 where memory is refused.
+    /// The order, once every call is done, with all that `conclude` promises for it. 651 with the least unfinished call if
+    /// there is one; otherwise 690 if memory is refused.
     pub fn conclude(&self, alloc: Global) -> Result<Order, SerialFault>
         ensures unfinished { IfErr result (λ e. e ≢ SerialFault.Memory
             → (c : ℕ) × (e ≡ SerialFault.Unfinished c) × IsLeastUnfinished self.now.seen.past c) }
@@ -228,8 +211,8 @@ impl Running {
         if let Some(call) = self.core.least_unfinished() {
             return Err(SerialFault::Unfinished { call });
         }
-        // What the order promises comes of the core being sound: here a proof learns that.
-        self.core.is_sound();
+        // What the order promises follows from this.
+        self.core.lemma_is_sound();
         Ok(self.order().copy(alloc)?)
     }
 }
@@ -238,14 +221,13 @@ impl Running {
 pub(crate) fn order_of_core(alloc: Global, core: &Core) -> Result<KeptOrder, AllocError>
     ensures { IfOk result (λ k. IsOrderOf k core.now.seen) }
 {
-    // The history keeps the rules, and has no more calls than that: here a proof learns it.
-    core.is_sound();
-    let _calls = core.calls();
+    // The history keeps the rules, and has no more calls than that.
+    core.lemma_is_sound();
     let shape = core.opening().shape();
     KeptOrder::of_events(alloc, shape, core.history().events(), MAX_CALLS as u32)
 }
 
-// Where the call stopped that did this, if it is no local action.
+// The stop at which a call does this action, unless the action is local.
 #[inline(always)]
 fn stop_of(action: &Action) -> Option<Stop>
     ensures some { IfSome result (λ s. EndsStop s action.now) }
@@ -259,7 +241,7 @@ fn stop_of(action: &Action) -> Option<Stop>
     }
 }
 
-// Where the call stopped whose step this is, if it went on there.
+// The stop that the call passed in this step, if it went on.
 #[inline(always)]
 fn stop_passed(stepped: &Result<Stepped, CoreFault>) -> Option<Stop>
     ensures some { IfSome result (λ s. (last : ActionValue) × (stepped.now ≡ Ok (Moved last)) × EndsStop s last) }
@@ -297,7 +279,7 @@ fn has_gone(outcome: &Followed) -> bool
     }
 }
 
-// Takes up what the call did at that stop, in the order of the history before.
+// Adds what the call did at that stop to the order of the history before it.
 #[inline(always)]
 fn take_up(order: &mut KeptOrder, core: &Core, call: u32, stop: Stop)
     requires size { IsOfSize order.old (length core.now.seen.parents) }
@@ -306,13 +288,12 @@ fn take_up(order: &mut KeptOrder, core: &Core, call: u32, stop: Stop)
     ensures { (past : List EventValue) → HasStopped core.now.seen call stop past
         → IsKept order.old core.now.seen.parents past → IsOrderOf order.new core.now.seen }
 {
-    // The history keeps the rules, and has no more calls than that: here a proof learns it.
-    core.is_sound();
-    let _calls = core.calls();
+    // The history keeps the rules, and has no more calls than that.
+    core.lemma_is_sound();
     note_stop(order, core.opening().shape(), call, stop);
 }
 
-// The same, where the call and the node are known to be in range.
+// The same, if the call and the node are known to be in range.
 #[inline(always)]
 fn note_stop(order: &mut KeptOrder, shape: &Shape, call: u32, stop: Stop)
     requires tree { IsTree shape.now }
@@ -328,7 +309,7 @@ fn note_stop(order: &mut KeptOrder, shape: &Shape, call: u32, stop: Stop)
         Stop::Lock(node) => order.lock(shape, call, node),
         Stop::Free(node) => order.free(node),
         Stop::Return => order.end(call),
-        // Where the call is over nothing was done.
+        // If the call is over, nothing was done.
         Stop::Over => {}
     }
 }

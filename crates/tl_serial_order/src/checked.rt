@@ -1,4 +1,4 @@
-// The order of a history of which each event is checked as it comes.
+// The order of a history whose events are checked as they come.
 
 ghost use Rattle.std.specs.Prelude.{◌≡◌, ◌↔◌, ℕ, ◌<◌, List, [], ◌∷◌, false, length, IsTrue, IfOk};
 ghost use Rattle.tl_tree.specs.Records.{Record as RecordValue};
@@ -18,24 +18,24 @@ use std::alloc::{AllocError, Global};
 use tl_tree::Shape;
 use tl_tree_locking::Event;
 
-/// The order of a history, of which each event is checked as it comes: whether it keeps the rules, after those before it.
+/// The order of a history whose events are checked as they come: does each keep the rules, after those before it?
 ///
-/// All memory is taken at the start. The check of an event takes the same time however many came before it. To take one up
-/// takes a climb at most, and a place in the order.
+/// All memory is taken at the start. The check of an event takes the same time however many came before it. Adding one
+/// takes at most a climb and a placement in the order.
 #[derive(Debug, Drop)]
 pub struct CheckedOrder {
-    // The order so far, and by what it is kept: of each node the call that holds it, and the call that was the last to lock
-    // it while it held the node's parent.
+    // The order so far, and what keeps it up to date: for each node, the call that holds it, and the call that was the last
+    // to lock it while it held the node's parent.
     kept: KeptOrder,
     // How many calls were admitted.
     admitted: usize,
-    // Of each call whether it is done, and how many nodes it holds.
+    // Whether each call is done, and how many nodes it holds.
     done: Vec<bool>,
     holding: Vec<u16>,
 }
 
 impl CheckedOrder {
-    /// The order of no event, for so many nodes and calls.
+    /// An empty order, for `nodes` nodes and `calls` calls.
     pub fn new(alloc: Global, nodes: usize, calls: u32) -> Result<CheckedOrder, AllocError>
         ensures calls { IfOk result (λ o. calls_of o ≡ calls) }
         ensures checked { IfOk result (λ o. (parents : List ℕ) → length parents ≡ nodes → IsChecked parents o []) }
@@ -48,7 +48,7 @@ impl CheckedOrder {
         })
     }
 
-    // Whether there is such a call.
+    // Whether the call exists.
     #[inline(always)]
     fn is_call(&self, call: u32) -> bool
         ensures { IsTrue result ↔ call < calls_of self.now }
@@ -66,8 +66,8 @@ impl CheckedOrder {
         (call as usize) < self.admitted && !self.done[call as usize]
     }
 
-    // Whether the call is open and the protocol permits it to lock the node. A call that holds the node's parent is open, so that is
-    // asked at a first lock alone.
+    // Whether the call is open and the protocol permits it to lock the node. A call that holds the node's parent is open,
+    // so openness is checked at a first lock only.
     #[inline(always)]
     fn may_lock(&self, shape: &Shape, call: u32, node: u16) -> bool
         requires tree { IsTree shape.now }
@@ -120,8 +120,8 @@ impl CheckedOrder {
         self.holding[call as usize] == 0
     }
 
-    /// Whether the event keeps the rules of its own call: an admission has the next number, and all else is what the
-    /// protocol permits an open call. Of the other calls `is_apart` tells.
+    /// Whether the event keeps the rules of its own call: an admission has the next number, and anything else is what the
+    /// protocol permits an open call. `is_apart` covers the other calls.
     pub fn keeps_rules(&self, shape: &Shape, event: &Event) -> bool
         requires tree { IsTree shape.now }
         requires even { IsEven self.now (length shape.now) }
@@ -169,7 +169,7 @@ impl CheckedOrder {
         }
     }
 
-    /// Takes up one more event, which keeps the rules.
+    /// Adds one more event, which keeps the rules.
     pub fn note(&mut self, shape: &Shape, event: &Event)
         requires tree { IsTree shape.now }
         requires next { IsNext shape.now self.old event.now }
@@ -242,8 +242,8 @@ impl CheckedOrder {
         self.done[call as usize] = true;
     }
 
-    /// Takes up one more event where it is legal, and tells whether it was: whether it is of a call and a node that there are,
-    /// and keeps the rules.
+    /// Adds one more event if it is legal, and returns whether it was: whether its call and its node exist, and it keeps
+    /// the rules.
     pub fn take(&mut self, shape: &Shape, event: &Event) -> bool
         requires tree { IsTree shape.now }
         requires events { IsOfEvents shape.now self.old }
@@ -254,7 +254,7 @@ impl CheckedOrder {
             → IsChecked shape.now self.new (event.now ∷ past) }
         ensures refused { result ≡ false → self.new ≡ self.old }
     {
-        // What kind of event it is is asked once: that is a jump that a processor foresees badly.
+        // The kind of the event is branched on only once: a processor predicts that jump badly.
         match *event {
             Event::Admit { call } => self.take_admission(shape, call),
             Event::Lock { call, node, .. } => self.take_lock(shape, call, node),
@@ -354,7 +354,7 @@ impl CheckedOrder {
         self.done[call as usize]
     }
 
-    /// The order of the events so far, without what it is kept by.
+    /// The order of the events so far, without the data that kept it up to date.
     pub fn into_order(self) -> Order
         ensures { (parents : List ℕ) (past : List EventValue)
             → IsChecked parents self past → result.calls ≡ placed parents past }

@@ -9,11 +9,12 @@ ghost use Rattle.tl_serial_order.specs.Kept.{count_held};
 use crate::column::Column;
 use tl_tree::Shape;
 
-/// The first in order of the calls that may still come to the node, where the history keeps the rules: it is the first that
-/// a climb from the node to the root meets. Of each node is given the call that holds it, and the call that was the last to
-/// lock it while it held the node's parent.
+/// The first call in order that may still come to the node, if the history keeps the rules: it is the first such call that
+/// a climb from the node to the root meets. For each node, `holders` has the call that holds it, and `under` the call that
+/// was the last to lock it while it held the node's parent.
 ///
-/// The climb goes to ever lower numbers. So it has met all that it could meet once it has met as many held nodes as there are.
+/// The climb goes to ever lower numbers. So it has met all that it could meet once it has met as many held nodes as there
+/// are.
 pub fn nearest_coming(
     shape: &Shape,
     holders: &Column,

@@ -1,4 +1,4 @@
-// Of each node a call, or none.
+// For each node, a call or none.
 
 ghost use Rattle.std.specs.Prelude.{◌≡◌, ◌^◌, ◌<◌, length, set, replicate, slice_index_or, None, Some, IfOk};
 
@@ -8,8 +8,8 @@ use std::marker::Model;
 /// The entry for no call. No call has that number.
 pub const NO_CALL: u32 = u32::MAX;
 
-/// Of each node a call, or none, in four bytes an entry. A contract sees the list of them. Each call's number is below the
-/// greatest of its type, which stands for none.
+/// For each node a call or none, in four bytes per entry. A contract sees the list of entries. Each call's number is below
+/// the greatest of its type, which stands for none.
 #[derive(Debug, Drop)]
 pub struct Column {
     entries: Vec<u32>,
@@ -25,7 +25,7 @@ impl Model for Column {
 }
 
 impl Column {
-    /// No call, for so many nodes.
+    /// A column without calls, for `nodes` nodes.
     pub fn new(alloc: Global, nodes: usize) -> Result<Column, AllocError>
         ensures { IfOk result (λ c. c ≡ replicate nodes None) }
     {
@@ -34,7 +34,7 @@ impl Column {
         })
     }
 
-    /// The node's call. That there are few enough entries to be counted is so of every column: here a proof learns it.
+    /// The node's call. A proof learns here that every column has few enough entries to be counted.
     #[inline(always)]
     pub fn at(&self, node: u16) -> Option<u32>
         requires { node < length self.now }

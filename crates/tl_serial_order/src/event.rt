@@ -1,4 +1,4 @@
-// Of which call and of which node an event is.
+// The call and the node of an event.
 
 ghost use Rattle.std.specs.Prelude.{◌≡◌, IsTrue, ◌↔◌};
 ghost use Rattle.tl_tree_locking.specs.History.{caller};
@@ -6,7 +6,7 @@ ghost use Rattle.tl_tree_locking.specs.Nodes.{IsOfNodes};
 
 use tl_tree_locking::Event;
 
-/// The call whose event it is.
+/// The call of the event.
 pub(crate) fn caller(event: &Event) -> u32
     ensures { result ≡ caller event.now }
 {
@@ -18,7 +18,7 @@ pub(crate) fn caller(event: &Event) -> u32
     }
 }
 
-/// Whether the node of the event, where it has one, is one of the first so many.
+/// Whether the node of the event, if it has one, is among the first `nodes` nodes.
 pub(crate) fn is_of_nodes(event: &Event, nodes: u16) -> bool
     ensures { IsTrue result ↔ IsOfNodes nodes event.now }
 {

@@ -21,7 +21,7 @@ pub enum SerialFault {
 impl SerialFault {
     ghost use Rattle.tl_serial_order.specs.Faults.{numbers_of};
 
-    /// The fault's number, and then its part.
+    /// The fault's number, followed by the call if the fault names one.
     pub fn numbers(&self) -> ArrayVec<u64, 2>
         ensures { result.items ≡ numbers_of self.now }
     {

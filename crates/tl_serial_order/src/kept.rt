@@ -21,19 +21,19 @@ use tl_tree_locking::Event;
 
 /// The order of a history that keeps the rules, kept up to date event by event.
 ///
-/// At a call's first lock the order changes at one place, and a climb from the node to the root finds it by two numbers of
-/// each node: the call that holds it, and the call that was the last to lock it while it held the node's parent. It stops where
-/// it has met all held nodes. All memory is taken at the start.
+/// At a call's first lock the order changes at one place. A climb from the node to the root finds that place by two numbers
+/// for each node: the call that holds it, and the call that was the last to lock it while it held the node's parent. The
+/// climb stops once it has met all held nodes. All memory is taken at the start.
 #[derive(Debug, Drop)]
 pub struct KeptOrder {
     order: Order,
-    // Of each call whether it stands in the order. The order has memory for as many.
+    // By call: whether it stands in the order. The order has memory for as many calls.
     standing: Vec<bool>,
-    // Of each node the call that holds it.
+    // By node: the call that holds it.
     holders: Column,
-    // How many nodes are held. A climb ends where it has met as many.
+    // How many nodes are held. A climb ends once it has met as many.
     held_count: usize,
-    // Of each node the call that was the last to lock it while it held the node's parent.
+    // By node: the call that was the last to lock it while it held the node's parent.
     under: Column,
 }
 
@@ -56,7 +56,7 @@ impl Model for KeptOrder {
 }
 
 impl KeptOrder {
-    /// The order of no event, for so many nodes and calls.
+    /// An empty order, for `nodes` nodes and `calls` calls.
     pub fn new(alloc: Global, nodes: usize, calls: u32) -> Result<KeptOrder, AllocError>
         ensures calls { IfOk result (λ k. k.calls ≡ calls) }
         ensures size { IfOk result (λ k. IsOfSize k nodes) }
@@ -75,7 +75,7 @@ impl KeptOrder {
         })
     }
 
-    /// The order of these events, which keep the rules, for so many calls.
+    /// The order of these events, which keep the rules, for `calls` calls.
     pub fn of_events(
         alloc: Global,
         shape: &Shape,
@@ -103,7 +103,7 @@ impl KeptOrder {
         &self.order
     }
 
-    /// The order of the events so far, without what it is kept by.
+    /// The order of the events so far, without the data that kept it up to date.
     pub fn into_order(self) -> Order
         ensures { result ≡ self.order }
     {
@@ -134,7 +134,7 @@ impl KeptOrder {
         self.under.at(node)
     }
 
-    /// Takes up one more event.
+    /// Adds one more event.
     pub fn note(&mut self, shape: &Shape, event: &Event)
         requires tree { IsTree shape.now }
         requires size { IsOfSize self.old (length shape.now) }
@@ -221,8 +221,8 @@ impl KeptOrder {
         self.hold(node, call);
     }
 
-    // Where a call that locks the node first is put in: before the first call that may still come to the node, or at the
-    // end.
+    // Where a call is put in if its first lock is of this node: before the first call that may still come to the node, or
+    // at the end.
     fn place_at(&self, shape: &Shape, node: u16) -> usize
         requires tree { IsTree shape.now }
         requires size { IsOfSize self.now (length shape.now) }
@@ -253,7 +253,7 @@ impl KeptOrder {
         self.holders.clear(node);
     }
 
-    /// A call ends: where it has locked no node, it goes to the end.
+    /// A call ends: if it has locked no node, it goes to the end.
     pub fn end(&mut self, call: u32)
         requires { call < self.old.calls }
         ensures calls { self.new.calls ≡ self.old.calls }
@@ -267,7 +267,7 @@ impl KeptOrder {
         }
     }
 
-    /// A call was admitted: that changes nothing, and here a proof learns it.
+    /// A call was admitted: that changes nothing, but a proof learns it here.
     pub fn admitted(&self)
         ensures { (parents : List ℕ) (past : List EventValue) (call : ℕ)
             → IsKept self.now parents past → IsKept self.now parents (event.Admit call ∷ past) }
@@ -290,8 +290,8 @@ impl KeptOrder {
     }
 }
 
-// The place of the call in the order, or its end where the call doesn't stand there. It is looked for from the end: a new
-// call mostly goes before one of the last.
+// The place of the call in the order, or the order's end if the call doesn't stand there. The search goes backwards from
+// the end: a new call mostly goes before one of the last.
 fn place_of(order: &[u32], call: u32) -> usize
     requires distinct { IsDistinct order.now }
     ensures within { result ≤ length order.now }

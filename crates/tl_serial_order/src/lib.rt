@@ -1,7 +1,7 @@
 //! The serial order that a history gives.
 //!
-//! The order follows from the events alone: each call is put in at its first lock, before the calls that may still come
-//! to that node. Nothing here knows a procedure, nor who made the history.
+//! The order follows from the events alone: each call is put in at its first lock, before the calls that may still come to
+//! that node. Nothing here depends on a procedure, or on who made the history.
 #![tactic(auto)]
 
 mod checked;

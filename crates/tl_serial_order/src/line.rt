@@ -12,7 +12,7 @@ use std::marker::Model;
 #[derive(Drop)]
 pub struct Line {
     order: Vec<u32>,
-    // Of each call whether it stands in the order.
+    // By call: whether it stands in the order.
     standing: Vec<bool>,
 }
 
@@ -28,7 +28,7 @@ impl Model for Line {
 }
 
 impl Line {
-    /// No call.
+    /// An empty line.
     pub fn new(alloc: Global) -> Line
         ensures { result ≡ record { order = []; count = 0 } }
     {
@@ -38,7 +38,7 @@ impl Line {
         }
     }
 
-    /// One more call, which doesn't stand in the order.
+    /// Adds one more call, which doesn't stand in the order.
     pub fn add(&mut self) -> Result<(), AllocError>
         ensures { OnOk result (self.new ≡ record self.old { count = self.old.count + 1 }) }
     {
@@ -62,7 +62,7 @@ impl Line {
         self.standing[call as usize]
     }
 
-    /// Puts a call in at that place. Those from there on move by one.
+    /// Puts a call in at that place. The calls from there on move by one.
     pub fn put_in(&mut self, place: usize, call: u32) -> Result<(), AllocError>
         requires call { call < self.old.count }
         requires new { stands call self.old.order ≡ false }

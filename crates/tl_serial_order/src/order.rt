@@ -6,8 +6,8 @@ ghost use Rattle.tl_tree_locking.specs.Order.{stands, IsDistinct};
 use std::alloc::{AllocError, Global};
 use std::marker::Model;
 
-/// An order of calls, in which no call stands twice. A contract sees the list of the calls' numbers, and for how many calls
-/// there is memory.
+/// An order of calls, in which no call stands twice. A contract sees the list of the calls' numbers, and how many calls
+/// there is memory for.
 #[derive(Debug, Drop)]
 pub struct Order {
     calls: Vec<u32>,
@@ -34,7 +34,7 @@ impl Order {
         Order { calls }
     }
 
-    /// The order of no call, with memory for so many.
+    /// An empty order, with memory for `count` calls.
     pub fn with_capacity(alloc: Global, count: usize) -> Result<Order, AllocError>
         ensures none { IfOk result (λ o. o.calls ≡ []) }
         ensures capacity { IfOk result (λ o. count ≤ o.capacity) }
@@ -52,7 +52,7 @@ impl Order {
         self.calls.as_slice()
     }
 
-    /// Puts a call in at that place, where there is memory for it. Those from there on move by one.
+    /// Puts a call in at that place; there has to be memory for it. The calls from there on move by one.
     pub fn put_in(&mut self, place: usize, call: u32)
         requires new { stands call self.old.calls ≡ false }
         requires place { place ≤ length self.old.calls }
@@ -65,7 +65,7 @@ impl Order {
         };
     }
 
-    /// The same order once more.
+    /// A copy of the order.
     pub fn copy(&self, alloc: Global) -> Result<Order, AllocError>
         ensures { IfOk result (λ o. o.calls ≡ self.now.calls) }
     {

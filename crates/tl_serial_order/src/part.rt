@@ -14,11 +14,11 @@ use tl_tree::Shape;
 /// What one call did to a node.
 #[derive(Clone, Copy, Debug, PartialEq, Eq)]
 enum Mark {
-    /// It never locked it.
+    /// The call never locked the node.
     Untouched,
-    /// It holds it.
+    /// The call holds the node.
     Held,
-    /// It held it, and has freed it since.
+    /// The call held the node, and has freed it since.
     Freed,
 }
 
@@ -30,7 +30,7 @@ impl Mark {
         self != Mark::Untouched
     }
 
-    // Whether it holds the node.
+    // Whether the call holds the node.
     fn is_held(self) -> bool
         ensures { result ≡ is_held self }
     {
@@ -38,7 +38,7 @@ impl Mark {
     }
 }
 
-/// What one call did to the nodes. A contract sees of each node whether the call locked it, and whether it holds it.
+/// What one call did to the nodes. A contract sees, for each node, whether the call locked it, and whether it holds it.
 #[derive(Drop)]
 pub struct Part {
     marks: Vec<Mark>,
@@ -97,8 +97,8 @@ impl Part {
         }
     }
 
-    /// Whether the call may still come to the node. A call that holds nothing comes nowhere. Else the first node above that
-    /// the call locked decides.
+    /// Whether the call may still come to the node. A call that holds nothing comes nowhere. Otherwise the first node above
+    /// that the call locked decides.
     pub fn may_come(&self, shape: &Shape, node: u16) -> bool
         requires tree { IsTree shape.now }
         requires nodes { node_count self.now ≡ length shape.now }

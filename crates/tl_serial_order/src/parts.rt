@@ -17,7 +17,7 @@ use std::marker::Model;
 use tl_tree::Shape;
 use tl_tree_locking::Event;
 
-/// What each call did to the nodes. A contract sees of each call what its part shows.
+/// What each call did to the nodes. A contract sees what each call's part shows.
 #[derive(Drop)]
 pub struct Parts {
     parts: Vec<Part>,
@@ -33,7 +33,7 @@ impl Model for Parts {
 }
 
 impl Parts {
-    /// No call.
+    /// No calls.
     pub fn new(alloc: Global) -> Parts
         ensures { result ≡ [] }
     {
@@ -49,7 +49,7 @@ impl Parts {
         self.parts.len()
     }
 
-    /// One more call, which did nothing.
+    /// Adds one more call, which did nothing.
     pub fn add(&mut self, alloc: Global, nodes: usize) -> Result<(), AllocError>
         ensures calls { OnOk result (length self.new ≡ length self.old + 1) }
         ensures nodes { OnOk result (AreOfNodes nodes self.old → AreOfNodes nodes self.new) }

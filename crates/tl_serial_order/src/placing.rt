@@ -22,21 +22,21 @@ use tl_tree_locking::Event;
 
 /// The order that a history gives, event by event.
 ///
-/// At a call's first lock, of x, the call is put in just before the first call that may still come to x at that moment,
-/// or at the end if there is none. A call that is done without a lock goes to the end. A call that stands isn't put in
-/// again, and nothing else moves. So any history has an order, also one that breaks the rules. The order agrees with a
-/// history that keeps them: its members are the calls that locked a node or are done, and those that locked a node stand in
-/// the order in which they locked it.
+/// At a call's first lock, of x, the call is put in just before the first call that may still come to x at that moment, or
+/// at the end if there is none. A call that is done without a lock goes to the end. A call that stands in the order isn't
+/// put in again, and nothing else moves. So any history has an order, even one that breaks the rules. The order agrees with
+/// a history that keeps them: its members are the calls that locked a node or are done, and calls that locked the same node
+/// stand in the order in which they locked it.
 ///
-/// A history that keeps the rules is placed as its events are checked. One that breaks a rule takes longer: at each first lock
-/// the calls in line are asked, one after another. 690 where memory is refused.
+/// A history that keeps the rules is placed as its events are checked. One that breaks a rule takes longer: at each first
+/// lock the calls in line are examined, one after another. 690 if memory is refused.
 pub fn order_of(alloc: Global, history: &History, shape: &Shape) -> Result<Order, SerialFault>
     requires { All (IsOfNodes (length shape.now)) history.now.past }
     ensures ok { IfOk result (λ o. o.calls ≡ placed shape.now history.now.past) }
     ensures agrees { IfOk result (λ o. IsLegalHistory shape.now history.now.past → Agrees o.calls history.now.past) }
     ensures err { IfErr result (λ e. e ≡ SerialFault.Memory) }
 {
-    // The shape is a tree's: here a proof learns that.
+    // The shape is a tree's: a proof learns that here.
     let _nodes = shape.node_count();
     if let Some(order) = kept_order(alloc, history, shape)? {
         return Ok(order);
@@ -44,7 +44,7 @@ pub fn order_of(alloc: Global, history: &History, shape: &Shape) -> Result<Order
     placed_order(alloc, history, shape)
 }
 
-// The same order where the history keeps the rules, and has no more calls than it may.
+// The same order, if the history keeps the rules and has no more calls than it may.
 fn kept_order(alloc: Global, history: &History, shape: &Shape) -> Result<Option<Order>, AllocError>
     requires { All (IsOfNodes (length shape.now)) history.now.past }
     ensures kept { IfOk result (λ o. IfSome o (λ o. o.calls ≡ placed shape.now history.now.past)) }
@@ -74,7 +74,7 @@ fn placed_order(alloc: Global, history: &History, shape: &Shape) -> Result<Order
     Ok(line.into_order())
 }
 
-// Puts the calls of the events in order, where there is no call yet.
+// Puts the calls of the events in order, starting without calls.
 fn place_all(
     alloc: Global,
     line: &mut Line,
@@ -130,7 +130,7 @@ pub fn is_of_shape(history: &History, shape: &Shape) -> bool
     true
 }
 
-// Puts the event's call in order, where it is its call's first lock, or its end without a lock.
+// Puts the event's call in order if the event is its first lock, or its end without a lock.
 fn place(line: &mut Line, parts: &Parts, shape: &Shape, event: &Event) -> Result<(), AllocError>
     requires tree { IsTree shape.now }
     requires calls { length parts.now ≡ line.old.count }

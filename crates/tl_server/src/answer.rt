@@ -92,7 +92,7 @@ fn put_number<I: Integer, K: Sink>(outbox: &mut Outbox, sink: &mut K, number: I)
     outbox.put(sink, buffer.format(number).as_bytes());
 }
 
-// A comma, but before the first item.
+// Puts a comma, except before the first item.
 fn put_comma<K: Sink>(outbox: &mut Outbox, sink: &mut K, index: usize)
     ensures { Writes (sending (K.output sink.old) (K.failures sink.old) outbox.old) (sending (K.output sink.new) (K.failures sink.new) outbox.new) (comma_before index) }
 {
@@ -113,7 +113,7 @@ fn put_list<T: Part, K: Sink>(outbox: &mut Outbox, sink: &mut K, items: &[T])
     outbox.put(sink, b"]");
 }
 
-// `,"epoch":e`, but of the first epoch.
+// `,"epoch":e`, except for the first epoch
 fn put_epoch<K: Sink>(outbox: &mut Outbox, sink: &mut K, epoch: u32)
     ensures { Writes (sending (K.output sink.old) (K.failures sink.old) outbox.old) (sending (K.output sink.new) (K.failures sink.new) outbox.new) (epoch_text epoch) }
 {
@@ -158,7 +158,7 @@ fn put_bounds<K: Sink>(outbox: &mut Outbox, sink: &mut K, bounds: &Bounds)
     outbox.put(sink, b"}}");
 }
 
-/// The line of what came of a call, of a registration or of a seal.
+/// The line for the result of a call, a registration or a seal.
 pub(crate) fn put_line<T: Part, K: Sink>(outbox: &mut Outbox, sink: &mut K, answer: &T)
     ensures { Writes (sending (K.output sink.old) (K.failures sink.old) outbox.old) (sending (K.output sink.new) (K.failures sink.new) outbox.new) (line_text (T.text answer.now)) }
 {
@@ -166,7 +166,7 @@ pub(crate) fn put_line<T: Part, K: Sink>(outbox: &mut Outbox, sink: &mut K, answ
     outbox.put(sink, b"\n");
 }
 
-/// The line of a fault or a refusal.
+/// The line for a fault or a refusal.
 pub(crate) fn put_error_line<K: Sink>(outbox: &mut Outbox, sink: &mut K, numbers: &[u64])
     ensures { Writes (sending (K.output sink.old) (K.failures sink.old) outbox.old) (sending (K.output sink.new) (K.failures sink.new) outbox.new) (line_text (error_text numbers.now)) }
 {
@@ -174,7 +174,7 @@ pub(crate) fn put_error_line<K: Sink>(outbox: &mut Outbox, sink: &mut K, numbers
     outbox.put(sink, b"\n");
 }
 
-/// The line of what came of a batch.
+/// The line for the results of a batch.
 pub(crate) fn put_batch_line<K: Sink>(
     outbox: &mut Outbox,
     sink: &mut K,

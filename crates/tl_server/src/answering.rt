@@ -21,7 +21,7 @@ use tl_budget::Bounds;
 use tl_json::{ProcedureText, RegisterFault, Request, procedure_of_text};
 use tl_workers::{Engine, NoGate, Session};
 
-/// Registers a procedure. What is wrong first: the assembler's fault, the verifier's, 612, and then 611 or 613.
+/// Registers a procedure. Errors, the first that holds: the assembler's fault, the verifier's, 612, and then 611 or 613.
 fn register(
     rt: &impl Wait,
     alloc: Global,
@@ -74,7 +74,7 @@ fn answer_batch<R: Threads + Wait + Sync, K: Sink>(
     }
 }
 
-/// Answers a line. A call is run to its end, and then its answer is handed over. Answers whether the line closes the
+/// Answers a line. A call is run to its end, and then its answer is handed over. Returns whether the line closes the
 /// connection.
 pub(crate) fn answer_line<R: Threads + Wait + Sync, K: Sink>(
     rt: &R,

@@ -5,12 +5,12 @@ ghost use Rattle.tl_workers.specs.declared.batch.TheConstants.{MAX_REQUESTS, MAX
 
 use tl_workers::{MAX_REQUESTS, MAX_WORKERS, Request};
 
-/// Many calls, on up to so many threads.
+/// Many calls, on up to `workers` threads.
 #[derive(Debug, Drop)]
 pub struct BatchRequest {
     /// 1 to 256 calls.
     pub requests: Vec<Request>,
-    /// 1 to 16.
+    /// 1 to 16 threads.
     pub workers: usize,
     ghost some: { 1 ≤ vec_len requests },
     ghost few: { vec_len requests ≤ MAX_REQUESTS },

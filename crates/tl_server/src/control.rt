@@ -1,7 +1,7 @@
 // A second local port, by which a server is asked to stop.
 
-ghost use Rattle.std.specs.Prelude.{◌≡◌, ◌⊎◌, IfErr};
-ghost use Rattle.tl_server.specs.declared.fault.ListenFault.TheVariants.{NoPort, Memory};
+ghost use Rattle.std.specs.Prelude.{◌≡◌, IfErr};
+ghost use Rattle.tl_server.specs.declared.fault.ListenFault.TheVariants.{NoPort};
 
 use crate::fault::ListenFault;
 use crate::hall::{Hall, Phase};
@@ -11,19 +11,19 @@ use std::net::{Ipv4Addr, Net, SocketAddr, SocketAddrV4, TcpListener, TcpStream};
 use std::sync::Wait;
 use std::time::{Clock, Duration};
 
-// What is sent to the port.
+// The request to stop.
 const STOP: &[u8] = b"stop\n";
 
-// What is answered.
+// The answer to that request.
 const STOPPING: &[u8] = b"{\"stopping\":true}\n";
 
-// What is answered to anything else.
+// The answer to anything else.
 const NO_REQUEST: &[u8] = b"{\"error\":[901]}\n";
 
-// After how many milliseconds the port is looked at again.
+// How many milliseconds pass before the port is checked again.
 const PAUSE: u64 = 100;
 
-// How many seconds its peer may be silent.
+// How many seconds the port's peer may be silent.
 const PATIENCE: u64 = 1;
 
 /// The address of a local port.
@@ -38,24 +38,24 @@ pub struct Control {
 }
 
 impl Control {
-    /// Listens on 127.0.0.1 and this port. 33 where it can't be had.
+    /// Listens on 127.0.0.1 and this port. 33 if the port can't be opened.
     pub fn bind<R: Net<Listener = TcpListener, Stream = TcpStream>>(
         rt: &R,
         port: u16,
     ) -> Result<Control, ListenFault>
-        ensures { IfErr result (λ e. (e ≡ NoPort) ⊎ (e ≡ Memory)) }
+        ensures { IfErr result (λ e. e ≡ NoPort) }
     {
         let Ok(listener) = rt.bind(local(port)) else {
             return Err(ListenFault::NoPort);
         };
-        // Whoever waited for a peer here wouldn't see that all connections have ended.
+        // If this waited for a peer, it wouldn't see that all connections have ended.
         if listener.set_nonblocking(true).is_err() {
             return Err(ListenFault::NoPort);
         }
         Ok(Control { listener })
     }
 
-    // Whether somebody asks to stop. Who asks for something else is told so.
+    // Whether somebody asks to stop. Any other request is answered with an error.
     fn is_asked(&self) -> bool {
         let Ok((stream, _)) = self.listener.accept() else {
             return false;
@@ -72,7 +72,7 @@ impl Control {
         is_stop
     }
 
-    /// Waits for somebody who asks to stop, and then stops the server at that address, up to the end of all its connections.
+    /// Watches the port until all connections of the server have ended. A request to stop stops the server at that address.
     pub fn watch<R: Net<Listener = TcpListener, Stream = TcpStream> + Wait + Clock>(
         &self,
         rt: &R,
@@ -85,7 +85,7 @@ impl Control {
             }
             match hall.phase_soon(rt, Duration::from_millis(PAUSE)) {
                 Phase::Over => return,
-                // A connection to oneself ends the waiting for one.
+                // A connection to the server's own port ends its wait for a connection.
                 Phase::Stopping => drop(rt.connect(server)),
                 Phase::Serving | Phase::Draining => {}
             }
@@ -94,7 +94,7 @@ impl Control {
     }
 }
 
-/// Asks the server whose control is this local port to stop. An error where nobody is there, or another program.
+/// Asks the server with this local control port to stop. An error if nobody is there, or another program.
 pub fn ask_to_stop<R: Net<Listener = TcpListener, Stream = TcpStream>>(
     rt: &R,
     port: u16,

@@ -9,7 +9,7 @@ pub struct Failure;
 
 /// Where lines come from.
 pub trait Source {
-    // The bytes to come, if they are known.
+    // The bytes still to come, if they are known.
     ghost input: { Self → Option (List ℕ) };
 
     // How often it has failed.
@@ -51,7 +51,7 @@ pub struct Bytes<'a> {
 }
 
 impl<'a> Bytes<'a> {
-    /// A source of these bytes, in pieces of at most that many, which is at least 1.
+    /// A source of these bytes, in pieces of at most `size`, which is at least 1.
     pub fn new(left: &'a [u8], size: usize) -> Bytes<'a>
         requires { 0 < size }
         ensures { (result.left.now ≡ left.now) × (result.size ≡ size) }
@@ -74,7 +74,7 @@ impl<'a> Source for Bytes<'a> {
     }
 }
 
-/// Writes all of a text, or a beginning of it where the sink fails.
+/// Writes all of a text, or a beginning of it if the sink fails.
 pub(crate) fn write_all<K: Sink>(sink: &mut K, text: &[u8]) -> Result<(), Failure>
     ensures ok { OnOk result (Adds (K.output sink.old) text.now (K.output sink.new)) }
     ensures fine { OnOk result (K.failures sink.new ≡ K.failures sink.old) }

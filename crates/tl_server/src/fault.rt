@@ -85,8 +85,8 @@ impl ServeFault {
 /// Why no connection is served.
 #[derive(Clone, Copy, Debug, PartialEq, Eq, Error)]
 pub enum ListenFault {
-    /// 33: the port can't be had.
-    #[error("the port can't be had")]
+    /// 33: the port can't be opened.
+    #[error("the port can't be opened")]
     NoPort,
     /// 990: memory was refused.
     #[error("out of memory")]

@@ -1,4 +1,4 @@
-// What the threads of connections share: how many are open, and whether more are taken up.
+// What the threads of connections share: how many are open, and whether more are accepted.
 
 use std::alloc::{AllocError, Global};
 use std::net::{Shutdown, TcpStream};
@@ -13,17 +13,17 @@ pub const MAX_CONNECTIONS: u16 = 8;
 /// How far a server is.
 #[derive(Clone, Copy, PartialEq, Eq, Debug)]
 pub enum Phase {
-    /// Connections are taken up.
+    /// Connections are accepted.
     Serving,
-    /// It was asked to stop: no more are taken up, but the listener may still wait for one.
+    /// The server was asked to stop: no more connections are accepted, but the listener may still wait for one.
     Stopping,
-    /// The listener waits no more. Connections may be open.
+    /// The listener no longer waits. Connections may be open.
     Draining,
     /// All connections have ended.
     Over,
 }
 
-// A connection that is open, by its number.
+// An open connection, by its number.
 #[derive(Drop)]
 struct Open {
     number: u16,
@@ -35,9 +35,9 @@ struct Served {
     phase: Phase,
     // How many connections are open.
     open: u16,
-    // Those whose reading a stop has to end, where there may be one.
+    // The connections whose reading a stop has to end, if the hall can be stopped.
     streams: Option<Vec<Open>>,
-    // The sessions of those that have ended. There is room for one of each connection.
+    // The sessions of the connections that have ended. There is room for one per connection.
     sessions: Vec<Session>,
 }
 
@@ -45,14 +45,14 @@ struct Served {
 #[derive(Drop)]
 pub struct Hall {
     served: Mutex<Served>,
-    // Told after each change.
+    // Notified after each change.
     changed: Condvar,
     // Whether the connections are asked to end.
     is_ending: AtomicBool,
 }
 
 impl Hall {
-    // Before the first connection.
+    // The hall before the first connection.
     fn of(sessions: Vec<Session>, streams: Option<Vec<Open>>) -> Hall {
         Hall {
             served: Mutex::new(Served {
@@ -66,23 +66,23 @@ impl Hall {
         }
     }
 
-    /// A hall that keeps sessions here.
+    /// A hall that keeps sessions in this list.
     pub fn new(sessions: Vec<Session>) -> Hall {
         Hall::of(sessions, None)
     }
 
-    /// The same, and a stop can end its connections.
+    /// The same, but a stop can end its connections.
     pub fn that_stops(alloc: Global, sessions: Vec<Session>) -> Result<Hall, AllocError> {
         let streams = Vec::with_capacity(alloc, usize::from(MAX_CONNECTIONS))?;
         Ok(Hall::of(sessions, Some(streams)))
     }
 
-    /// Set where connections are asked to end.
+    /// Set once connections are asked to end.
     pub fn is_ending(&self) -> &AtomicBool {
         &self.is_ending
     }
 
-    /// Waits until a connection more may be open, and counts it. False where no more are taken up.
+    /// Waits until one more connection may be open, and counts it. False if no more are accepted.
     pub fn take_place(&self, rt: &impl Wait) -> bool {
         let mut served = self.served.lock(rt);
         for _ in rt.forever() {
@@ -98,7 +98,7 @@ impl Hall {
         unreachable!()
     }
 
-    /// Whether the connection may be served: no more are taken up after a stop, nor is one that a stop couldn't end.
+    /// Whether the connection may be served. It isn't served after a stop, nor if a stop couldn't end it.
     pub fn lets_in(&self, rt: &impl Wait, number: u16, stream: &TcpStream) -> bool {
         let mut served = self.served.lock(rt);
         if served.phase != Phase::Serving {
@@ -113,7 +113,7 @@ impl Hall {
         }
     }
 
-    /// A connection has ended.
+    /// Gives back the place of a connection that has ended.
     pub fn give_place(&self, rt: &impl Wait, number: u16) {
         let mut served = self.served.lock(rt);
         served.open = served.open.saturating_sub(1);
@@ -129,7 +129,7 @@ impl Hall {
         let _ = self.served.lock(rt).sessions.push(session);
     }
 
-    /// Takes up no more connections, and ends the reading of those that are open.
+    /// Accepts no more connections, and ends the reading of those that are open.
     pub fn stop(&self, rt: &impl Wait) {
         let mut served = self.served.lock(rt);
         if served.phase == Phase::Serving {
@@ -138,7 +138,7 @@ impl Hall {
         self.is_ending.store(true, Ordering::SeqCst);
         if let Some(streams) = &served.streams {
             for open in streams {
-                // One that can't be shut down was ended by its peer.
+                // If it can't be shut down, its peer has ended it.
                 let _ = open.stream.shutdown(Shutdown::Read);
             }
         }
@@ -152,7 +152,7 @@ impl Hall {
         self.changed.notify_all();
     }
 
-    /// The phase, after a while, or after a change.
+    /// The phase, after the pause or after a change.
     pub fn phase_soon<R: Wait + Clock>(&self, rt: &R, pause: Duration) -> Phase {
         let served = self.served.lock(rt);
         if served.phase == Phase::Over {

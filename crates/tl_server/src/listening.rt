@@ -26,7 +26,7 @@ struct Door<'a> {
     idle: Option<Duration>,
 }
 
-// The next connection, of this number, with a session of its own. One that gets no session is told why, and ended.
+// The next connection, of this number, with a session of its own. A connection that gets no session is told why, and ended.
 fn welcome(
     rt: &impl Wait,
     alloc: Global,
@@ -42,9 +42,9 @@ fn welcome(
     if !hall.lets_in(rt, number, &stream) {
         return None;
     }
-    // Without this an answer may come later, and is the same.
+    // If this fails, an answer may come later, but is the same.
     let _ = stream.set_nodelay(true);
-    // Without these a silent peer keeps its place.
+    // If these fail, a silent peer keeps its place.
     let _ = stream.set_read_timeout(door.idle);
     let _ = stream.set_write_timeout(door.idle);
     match engine.session(rt, alloc) {
@@ -79,7 +79,8 @@ fn visit<R: Threads + Wait + Sync>(
     hall.give_place(rt, number);
 }
 
-// Serves the connections that come through the door, each on a thread of its own where one can be started, else on this one.
+// Serves the connections that come through the door, each on a thread of its own if one can be started, otherwise on this
+// one.
 fn serve_all<R: Threads + Wait + Sync>(
     rt: &R,
     alloc: Global,
@@ -111,22 +112,22 @@ fn serve_all<R: Threads + Wait + Sync>(
     hall.enter(rt, Phase::Over);
 }
 
-/// A local port on which connections are waited for. The system lets clients connect from then on; `serve` takes them up.
+/// A local port that waits for connections. The system lets clients connect from then on; `serve` accepts them.
 #[derive(Drop)]
 pub struct Server {
     listener: TcpListener,
     address: SocketAddr,
     connections: u16,
     idle: Option<Duration>,
-    // Has room for the session of each connection.
+    // There is room for the session of each connection.
     sessions: Vec<Session>,
     outbox: Outbox,
 }
 
 impl Server {
-    /// Listens on 127.0.0.1 and this port, for so many connections in all, from 1 to 65,535.
+    /// Listens on 127.0.0.1 and this port, for `connections` connections in all, from 1 to 65,535.
     ///
-    /// 33 where the port can't be had; 990 where memory is refused.
+    /// 33 if the port can't be opened; 990 if memory is refused.
     pub fn bind<R: Net<Listener = TcpListener, Stream = TcpStream>>(
         rt: &R,
         alloc: Global,
@@ -151,7 +152,8 @@ impl Server {
         })
     }
 
-    /// Ends a connection that sends nothing for so long while the server waits for its next line, or takes none of its answers.
+    /// Ends a connection that sends nothing for `idle` while the server waits for its next line, or takes none of its
+    /// answers for that time.
     pub fn ending_idle(self, idle: Duration) -> Server {
         Server {
             idle: Some(idle),
@@ -159,10 +161,10 @@ impl Server {
         }
     }
 
-    /// Serves its connections, and answers their sessions when all have ended. Each connection has a session of its own. At
-    /// most 8 are open at once, and a ninth is taken up when another ends. An attempt to take one up that fails counts as
-    /// one. A connection that gets no session is answered one line, `{"error":[821]}` or for want of memory `{"error":[990]}`,
-    /// and ended; one that fails is ended, and the others go on.
+    /// Serves its connections, and returns their sessions when all have ended. Each connection has a session of its own. At
+    /// most 8 are open at once, and a ninth is accepted when another ends. A failed attempt to accept a connection counts
+    /// as one. A connection that gets no session is answered with one line, `{"error":[821]}`, or `{"error":[990]}` if
+    /// memory is refused, and ended. A connection that fails is ended, and the others go on.
     pub fn serve<R: Threads + Wait + Sync>(
         self,
         rt: &R,
@@ -187,8 +189,9 @@ impl Server {
         hall.into_sessions()
     }
 
-    /// Serves its connections as `serve` does, and up to when it is asked to stop at the control. Then it takes up no more of them. Of those
-    /// that are open each line that was read whole is answered, and they are ended.
+    /// Serves its connections as `serve` does, until it is asked to stop at the control. Then it accepts no more
+    /// connections. On those that are open, each line that was read whole is answered, and then they are ended. 990 if memory is
+    /// refused before the first connection.
     pub fn serve_until_stopped<R>(
         self,
         rt: &R,
@@ -198,7 +201,7 @@ impl Server {
     ) -> Result<Vec<Session>, ListenFault>
     where
         R: Net<Listener = TcpListener, Stream = TcpStream> + Threads + Wait + Clock + Sync,
-        ensures { IfErr result (λ e. (e ≡ NoPort) ⊎ (e ≡ Memory)) }
+        ensures { IfErr result (λ e. e ≡ Memory) }
     {
         let Server {
             listener,
@@ -214,7 +217,7 @@ impl Server {
             connections,
             idle,
         };
-        // Where no thread can be had, it is watched when all connections have ended.
+        // If no thread can be started, the control is watched only after all connections have ended.
         thread::join(
             rt,
             || control.watch(rt, &hall, address),
@@ -224,10 +227,10 @@ impl Server {
     }
 }
 
-/// Listens on 127.0.0.1 and this port, serves so many connections in all, from 1 to 65,535, as `Server::serve` does, and
-/// answers their sessions.
+/// Listens on 127.0.0.1 and this port, serves `connections` connections in all, from 1 to 65,535, as `Server::serve` does,
+/// and returns their sessions.
 ///
-/// 33 where the port can't be had; 990 where memory is refused before the first connection.
+/// 33 if the port can't be opened; 990 if memory is refused before the first connection.
 pub fn listen<R: Net<Listener = TcpListener, Stream = TcpStream> + Threads + Wait + Sync>(
     rt: &R,
     alloc: Global,

@@ -10,7 +10,7 @@ use std::marker::Model;
 // How many bytes are gathered at most.
 const ROOM: usize = 16_384;
 
-/// Gathers answers, so that few writes take them to a sink. After a failed write it lets all go.
+/// Gathers answers, so that they reach a sink in few writes. After a failed write it drops everything.
 ///
 /// A contract sees what is gathered, and whether a write has failed.
 #[derive(Debug, Drop)]
@@ -40,7 +40,7 @@ impl Outbox {
         })
     }
 
-    /// Lets all go, for another sink.
+    /// Drops everything, for use with another sink.
     pub(crate) fn renew(&mut self)
         ensures { (self.new.kept ≡ []) × (self.new.failed ≡ false) }
     {
@@ -55,7 +55,7 @@ impl Outbox {
         self.failed
     }
 
-    // How many bytes more there is room for.
+    // How many more bytes there is room for.
     fn room(&self) -> usize
         ensures { result + length self.now.kept ≡ ROOM }
     {
@@ -72,7 +72,7 @@ impl Outbox {
         };
     }
 
-    // Writes a text at once, where nothing is gathered.
+    // Writes a text at once, when nothing is gathered.
     fn send<K: Sink>(&mut self, sink: &mut K, text: &[u8])
         requires { self.old.kept ≡ [] }
         ensures { Writes (sending (K.output sink.old) (K.failures sink.old) self.old) (sending (K.output sink.new) (K.failures sink.new) self.new) text.now }

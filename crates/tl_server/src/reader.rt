@@ -24,7 +24,7 @@ pub(crate) enum Came {
     End,
 }
 
-/// The piece that was read last, and the line so far: of a line that is too long its first 65,537 bytes.
+/// The piece that was read last, and the line so far. Only the first 65,537 bytes are kept of a line that is too long.
 #[derive(Debug, Drop)]
 pub(crate) struct Reader {
     piece: Vec<u8>,
@@ -65,14 +65,14 @@ impl Reader {
         self.held.as_slice()
     }
 
-    /// Whether the piece has a line whole, so that the next one comes without a read.
+    /// Whether the piece has a whole line, so that the next one comes without a read.
     pub(crate) fn has_line(&self) -> bool
         ensures { HasNoLf self.now.left → result ≡ false }
     {
         self.piece[self.at..self.end].contains(&b'\n')
     }
 
-    // Looks at the bytes of the piece up to the next LF. True where there was one, after which the line is whole.
+    // Looks at the bytes of the piece up to the next LF. True if there was one; then the line is whole.
     fn scan(&mut self) -> bool
         ensures { Scans self.old result self.new }
     {
@@ -105,7 +105,7 @@ impl Reader {
         Ok(count > 0)
     }
 
-    // Whether a line is begun.
+    // Whether a line has begun.
     fn is_begun(&self) -> bool
         ensures some { result ≡ true → 0 < length self.now.held }
         ensures none { result ≡ false → self.now.held ≡ [] }
@@ -113,14 +113,14 @@ impl Reader {
         !self.held.is_empty()
     }
 
-    // Lets the last line go.
+    // Drops the last line.
     fn forget(&mut self)
         ensures { (self.new.left ≡ self.old.left) × (self.new.held ≡ []) }
     {
         self.held.clear();
     }
 
-    /// Goes to the next line, and lets the last one go. It is read only where the piece has no line whole.
+    /// Drops the last line, and goes to the next one. Reads only if the piece has no whole line.
     pub(crate) fn next<R: Wait, S: Source>(
         &mut self,
         rt: &R,

@@ -32,7 +32,7 @@ pub enum LineRequest {
     Close,
 }
 
-// Whether the value is an object of so many members.
+// Whether the value is an object with `count` members.
 fn has_members(value: &Value, count: usize) -> bool
     ensures { result ≡ has_members count (view value.now) }
 {
@@ -126,7 +126,7 @@ fn batch_of_value(alloc: Global, value: &Value) -> Result<Option<LineRequest>, A
     }
 }
 
-// The request of an object whose `op` is this.
+// The request of an object with this `op`.
 fn request_with_op(
     alloc: Global,
     op: &str,
@@ -161,13 +161,13 @@ fn request_of_value(alloc: Global, value: &Value) -> Result<Option<LineRequest>,
     }
 }
 
-/// What a line, without its LF, asks for. It is an object of JSON with the members shown and no others:
+/// What a line, without its LF, asks for. It is a JSON object with the members shown and no others:
 /// `{"asm":text,"name":name,"op":"register"}`, `{"args":args,"op":"call","proc":name}`,
 /// `{"calls":[[name,args],..],"op":"batch","workers":w}` with 1 to 256 calls and 1 to 16 workers, `{"op":"seal"}`, or
 /// `{"op":"close"}`. The arguments are lists of signed 64-bit integers.
 ///
-/// Else the first that holds: 902 where it has more than 65,536 bytes, 903 where it isn't UTF-8, 901. 990 where memory is
-/// refused.
+/// Errors, the first that holds: 902 if the line has more than 65,536 bytes, 903 if it isn't UTF-8, 901 if it is none of
+/// these requests. 990 if memory is refused.
 pub fn read_request(alloc: Global, line: &[u8]) -> Result<LineRequest, LineFault>
     ensures ok { IfOk result (λ r. IsRequest line.now (line_view r)) }
     ensures fault { IfErr result (λ e. e ≢ LineFault.Memory → IsLineFault line.now e) }

@@ -16,7 +16,7 @@ use std::sync::Wait;
 use std::thread::Threads;
 use tl_workers::{Engine, Session};
 
-// Writes what is gathered, unless a line is there that can be answered first.
+// Writes what is gathered, unless there is a line that can be answered first.
 fn settle<K: Sink>(reader: &Reader, outbox: &mut Outbox, sink: &mut K)
     ensures writes { Writes (sending (K.output sink.old) (K.failures sink.old) outbox.old) (sending (K.output sink.new) (K.failures sink.new) outbox.new) [] }
     ensures none { HasNoLf reader.now.left → outbox.new.kept ≡ [] }
@@ -28,15 +28,15 @@ fn settle<K: Sink>(reader: &Reader, outbox: &mut Outbox, sink: &mut K)
 }
 
 /// Reads lines from the source up to one that closes the connection, or to the end of input, and writes an answer to each
-/// to the sink, in order. Answers how many lines were answered.
+/// to the sink, in order. Returns how many lines were answered.
 ///
-/// An answer is a line of JSON: `{"bounds":{"emits":e,"locks":l,"steps":s}}` of a procedure that was registered,
-/// `{"call":c,"reply":[..]}` of a call, `{"batch":[..]}` of many calls, with what came of each, `{"closed":true}`, and
-/// `{"error":[numbers]}` of a line that is no request, or of what was refused. Where memory refuses the reading of a line,
-/// its answer is `{"error":[990]}`, nothing was done, and the next line is read. Answers take no memory.
+/// An answer is a line of JSON: `{"bounds":{"emits":e,"locks":l,"steps":s}}` for a procedure that was registered,
+/// `{"call":c,"reply":[..]}` for a call, `{"batch":[..]}` for many calls, with the result of each, `{"closed":true}`, and
+/// `{"error":[numbers]}` for a line that is no request, or for a refusal. If memory is refused while a line is read, its
+/// answer is `{"error":[990]}`, nothing was done, and the next line is read. Answers take no memory.
 ///
-/// 911 where the source fails: each line that was read whole was answered. 912 where the sink fails: it has a beginning of
-/// the answers, and each call that was admitted was run to its end. 990 where memory is refused before the first line.
+/// 911 if the source fails: each line that was read whole was answered. 912 if the sink fails: it has a beginning of the
+/// answers, and each call that was admitted was run to its end. 990 if memory is refused before the first line.
 pub fn serve<R: Threads + Wait + Sync, S: Source, K: Sink>(
     rt: &R,
     alloc: Global,
@@ -49,7 +49,7 @@ pub fn serve<R: Threads + Wait + Sync, S: Source, K: Sink>(
     ensures ok { IfOk result (λ n. AnswersAll (record { input = S.input source.old; session = session.old; output = K.output sink.old }) (record { input = S.input source.new; session = session.new; output = K.output sink.new }) n) }
     ensures read { IsErrOf result ReadFailed → AnswersWhole (record { input = S.input source.old; session = session.old; output = K.output sink.old }) (record { input = S.input source.new; session = session.new; output = K.output sink.new }) }
     ensures write { IsErrOf result WriteFailed → AnswersPart (record { input = S.input source.old; session = session.old; output = K.output sink.old }) (record { input = S.input source.new; session = session.new; output = K.output sink.new }) }
-    // Whatever the devices tell of their bytes.
+    // Whatever the devices say about their bytes.
     ensures kept { GainsWholeCalls session.old session.new }
     // Which device has failed.
     ensures fine { OnOk result ((S.failures source.new ≡ S.failures source.old) × (K.failures sink.new ≡ K.failures sink.old)) }
@@ -66,7 +66,7 @@ pub fn serve<R: Threads + Wait + Sync, S: Source, K: Sink>(
     };
     let mut count = 0u64;
     for _ in rt.forever() {
-        // No run counts so far.
+        // No run counts this far.
         let Some(more) = count.checked_add(1) else {
             continue;
         };

@@ -5,17 +5,17 @@ use std::io::{Read, Write};
 use std::net::TcpStream;
 use std::sync::atomic::{AtomicBool, Ordering};
 
-/// The requests of a connection. It tells nothing of its bytes.
+/// The requests of a connection. Contracts know nothing of its bytes.
 #[derive(Drop)]
 pub struct SocketSource<'a> {
     stream: &'a TcpStream,
-    // Where this is set the input ends.
+    // Once this is set, the input ends.
     is_ending: Option<&'a AtomicBool>,
     failed: u64,
 }
 
 impl<'a> SocketSource<'a> {
-    /// Up to the end of what the peer sends.
+    /// A source of all that the peer sends.
     pub fn new(stream: &'a TcpStream) -> SocketSource<'a> {
         SocketSource {
             stream,
@@ -24,7 +24,7 @@ impl<'a> SocketSource<'a> {
         }
     }
 
-    /// Up to the end of what the peer sends, or to when the flag is set.
+    /// A source of all that the peer sends until the flag is set.
     pub fn until(stream: &'a TcpStream, is_ending: &'a AtomicBool) -> SocketSource<'a> {
         SocketSource {
             stream,
@@ -51,7 +51,7 @@ impl<'a> Source for SocketSource<'a> {
         if let Ok(count) = stream.read(buffer) {
             return Ok(count);
         }
-        // A count that is full can't rise: the input ends instead. No run counts so far.
+        // If the count can't rise, the input ends instead. No run counts this far.
         let Some(failed) = self.failed.checked_add(1) else {
             return Ok(0);
         };
@@ -60,7 +60,7 @@ impl<'a> Source for SocketSource<'a> {
     }
 }
 
-/// Where the answers of a connection go. It tells nothing of its bytes.
+/// The sink for the answers of a connection. Contracts know nothing of its bytes.
 #[derive(Drop)]
 pub struct SocketSink<'a> {
     stream: &'a TcpStream,
@@ -88,7 +88,7 @@ impl<'a> Sink for SocketSink<'a> {
                 return Ok(count);
             }
         }
-        // A count that is full can't rise: the bytes are let go instead. No run counts so far.
+        // If the count can't rise, the bytes are dropped instead. No run counts this far.
         let Some(failed) = self.failed.checked_add(1) else {
             return Ok(text.len());
         };

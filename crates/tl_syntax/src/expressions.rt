@@ -1,4 +1,4 @@
-// Expressions: each function reads one rule of the grammar. `levels` are those that may still be opened.
+// Expressions: each function reads one rule of the grammar. `levels` says how many levels may still be opened.
 
 use crate::fault::SyntaxFault;
 use crate::operator::Operator;
@@ -6,7 +6,7 @@ use crate::parsed::{Comparison, Expression, Form};
 use crate::parser::{Parsed, Parser};
 use crate::token::TokenKind;
 
-// What joins two expressions.
+// An operator that joins two expressions.
 #[derive(Clone, Copy)]
 enum Join {
     Or,
@@ -44,7 +44,7 @@ fn comparison(kind: TokenKind) -> Option<Comparison> {
 }
 
 impl<'a> Parser<'a> {
-    // Two expressions joined. The whole begins where the first one does.
+    // Joins two expressions. The joined expression begins where the first one does.
     fn joined(
         &self,
         left: Expression,
@@ -63,7 +63,7 @@ impl<'a> Parser<'a> {
         Ok(Expression { offset, form })
     }
 
-    /// A chain of `or`. Each operator is a level until the chain ends.
+    /// A chain of `or`. Each operator opens a level, which stays open until the chain ends.
     #[cycle(expressions)]
     pub fn expression(&self, at: usize, levels: u32) -> Parsed<Expression> {
         let (mut left, mut at) = self.conjunction(at, levels)?;
@@ -139,7 +139,7 @@ impl<'a> Parser<'a> {
         Ok((left, at))
     }
 
-    // A minus sign right before a number makes a negative number; another one is a level.
+    // A minus sign directly before a number makes a negative number. Any other minus sign opens a level.
     #[cycle(expressions)]
     fn signed(&self, at: usize, levels: u32) -> Parsed<Expression> {
         let Some(next) = self.skip_if(at, TokenKind::Minus) else {

@@ -1,4 +1,4 @@
-// What may be wrong with a text.
+// The faults of a text.
 
 ghost use Rattle.std.specs.Prelude.{◌≡◌};
 ghost use Rattle.tl_syntax.specs.declared.fault.SyntaxFault.TheVariants.{Memory};
@@ -21,7 +21,7 @@ pub enum Wrong {
     /// 273: a token that can't stand here.
     #[error("this can't stand here")]
     Misplaced,
-    /// 274: more than 64 levels in one another.
+    /// 274: more than 64 nested levels.
     #[error("more than 64 levels in one another")]
     TooDeep,
     /// 275: an unknown name or field.
@@ -30,16 +30,16 @@ pub enum Wrong {
     /// 276: a name that is declared already.
     #[error("this name is declared already")]
     Twice,
-    /// 277: a node, a number or a condition in the place of another one of these.
+    /// 277: a node, a number or a condition where another one of these is needed.
     #[error("something else is wanted here: a number, a condition, a value or a node")]
     Kind,
     /// 278: a field's number above 7.
     #[error("a field's number is above 7")]
     FieldNumber,
-    /// 279: a ninth argument.
+    /// 279: the ninth argument of a procedure.
     #[error("a ninth argument")]
     Argument,
-    /// 280: turns that aren't a constant of 1 to 65,535.
+    /// 280: a number of turns that isn't a constant from 1 to 65,535.
     #[error("how often a loop turns is not a constant from 1 to 65,535")]
     Turns,
     /// 281: a node that isn't held.
@@ -51,13 +51,13 @@ pub enum Wrong {
     /// 283: a turn of the loop changes what is held, or enters the tree.
     #[error("a turn of the loop changes which nodes are held, or enters the tree")]
     LoopChanges,
-    /// 284: a loop over the children of a node that can have no turn.
+    /// 284: a loop over the children of a node, if the loop can have no turn.
     #[error("the children of this node were passed before: the loop would have no turn")]
     NoTurn,
     /// 285: two children of different nodes.
     #[error("the second child is one of another node")]
     OtherParent,
-    /// 286: the `else` of a `let` or a `lock` comes to its end.
+    /// 286: control reaches the end of the `else` of a `let` or a `lock`.
     #[error("this else comes to its end, where the name would stand for nothing")]
     ElseEnds,
     /// 287: no path leads to the statement.
@@ -72,7 +72,7 @@ pub enum Wrong {
     /// 292: more than 8 nodes at once.
     #[error("more than 8 node registers are needed")]
     Nodes,
-    /// 293: a fifth loop in four others.
+    /// 293: a fifth loop, nested in four others.
     #[error("more than four loops in one another")]
     LoopDepth,
 }
@@ -111,10 +111,10 @@ impl Wrong {
     }
 }
 
-/// The first thing that is wrong with a text.
+/// The first fault of a text.
 #[derive(Clone, Copy, Debug, PartialEq, Eq)]
 pub enum SyntaxFault {
-    /// What is wrong, and the offset of the byte where.
+    /// What is wrong, and the offset of the byte at which it is.
     At { wrong: Wrong, offset: usize },
     /// Memory was refused.
     Memory,

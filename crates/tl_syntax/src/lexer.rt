@@ -10,14 +10,14 @@ use crate::words::{
 use indexmap::IndexSet;
 use std::alloc::Global;
 
-/// The tokens of a text, an end behind them, and its names.
+/// The tokens of a text, followed by an end token, and its names.
 #[derive(Drop)]
 pub struct Lexed<'a> {
     pub tokens: Vec<Token>,
     pub names: IndexSet<&'a [u8]>,
 }
 
-/// What stands at a place.
+/// The kind of a piece of text.
 #[derive(Clone, Copy)]
 enum Piece {
     Blank,
@@ -26,7 +26,7 @@ enum Piece {
     Sign(TokenKind),
 }
 
-// How many characters of a name or a number follow one another at the start.
+// How many of the first bytes can continue a name or a number.
 fn word_length(rest: &[u8]) -> usize
     ensures { result ≤ length rest.now }
 {
@@ -35,7 +35,7 @@ fn word_length(rest: &[u8]) -> usize
         .unwrap_or(rest.len())
 }
 
-// How long the line is, without what ends it.
+// The length of the line, without its line end.
 fn line_length(rest: &[u8]) -> usize
     ensures { result ≤ length rest.now }
 {
@@ -44,7 +44,7 @@ fn line_length(rest: &[u8]) -> usize
         .unwrap_or(rest.len())
 }
 
-// What a text begins with, and how many bytes behind its first one belong to that; nothing where no token begins so.
+// The first piece of a text, and how many bytes after the first one belong to it. None if no token begins like that.
 fn first_piece(first: u8, after: &[u8]) -> Option<(Piece, usize)>
     ensures { IfSome result (λ p. p.1 ≤ length after.now) }
 {
@@ -70,7 +70,7 @@ fn first_piece(first: u8, after: &[u8]) -> Option<(Piece, usize)>
 }
 
 impl<'a> Lexed<'a> {
-    // The words of the grammar that may be names are numbered first.
+    // The grammar's words that may also be names get the first numbers.
     fn new(alloc: Global) -> Result<Lexed<'a>, SyntaxFault> {
         let mut names = IndexSet::new(alloc);
         names.insert(b"at".as_slice())?;
@@ -84,7 +84,7 @@ impl<'a> Lexed<'a> {
         })
     }
 
-    // One more token.
+    // Adds a token.
     fn push(&mut self, kind: TokenKind, offset: usize) -> Result<(), SyntaxFault> {
         self.tokens.push(Token { kind, offset })?;
         Ok(())
@@ -109,7 +109,7 @@ impl<'a> Lexed<'a> {
     }
 }
 
-/// The tokens of a text. 270, 271 or 272 at the first piece that is no token.
+/// The tokens of a text. 270, 271 or 272 at the first piece that isn't a token.
 pub fn lex(alloc: Global, text: &[u8]) -> Result<Lexed<'_>, SyntaxFault> {
     let mut lexed = Lexed::new(alloc)?;
     let mut rest = text;

@@ -1,6 +1,6 @@
-// What is done with numbers.
+// Arithmetic operators.
 
-/// What is done with two numbers.
+/// An operator on two numbers.
 #[derive(Clone, Copy, Debug, PartialEq, Eq)]
 pub enum Operator {
     Add,

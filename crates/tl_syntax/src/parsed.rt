@@ -1,9 +1,9 @@
-// What a text says, as it is written: names are not looked up yet.
+// The content of a text as it is written: names are not looked up yet.
 
 use crate::operator::Operator;
 use crate::token::Symbol;
 
-/// A name where it is used or declared.
+/// A name, at the place where it is used or declared.
 #[derive(Clone, Copy)]
 pub struct Name {
     pub symbol: Symbol,
@@ -21,7 +21,7 @@ pub enum Comparison {
     NotEqual,
 }
 
-/// An expression, and where its first token stands.
+/// An expression, and the offset of its first token.
 #[cycle(expression)]
 #[derive(Drop)]
 pub struct Expression {
@@ -29,7 +29,7 @@ pub struct Expression {
     pub form: Form,
 }
 
-/// What an expression is.
+/// The form of an expression.
 #[cycle(expression)]
 #[derive(Drop)]
 pub enum Form {
@@ -45,7 +45,7 @@ pub enum Form {
     Or(Box<Expression>, Box<Expression>),
 }
 
-/// A child that is to be locked.
+/// A child to be locked.
 #[derive(Drop)]
 pub struct Child {
     pub name: Name,
@@ -56,7 +56,7 @@ pub struct Child {
 /// What is to be locked.
 #[derive(Drop)]
 pub enum Place {
-    /// The node of a number; the word `node` stands at the offset.
+    /// The node with a number; the word `node` stands at the offset.
     Node {
         name: Name,
         offset: usize,
@@ -74,7 +74,7 @@ pub enum Change {
     Subtract,
 }
 
-/// How control leaves.
+/// How control leaves a block.
 #[derive(Clone, Copy, PartialEq, Eq)]
 pub enum Leave {
     Break,
@@ -115,14 +115,14 @@ pub enum Action {
     Leave(Leave),
 }
 
-/// What an `if` asks.
+/// What an `if` tests.
 #[derive(Drop)]
 pub enum Question {
     Condition(Expression),
     Lock(Place),
 }
 
-/// What an `else` does; the word stands at the offset.
+/// The block of an `else`; the word stands at the offset.
 #[cycle(statement)]
 #[derive(Drop)]
 pub struct Otherwise {
@@ -130,7 +130,7 @@ pub struct Otherwise {
     pub body: Vec<Statement>,
 }
 
-/// A statement, and where its first word stands.
+/// A statement, and the offset of its first word.
 #[cycle(statement)]
 #[derive(Drop)]
 pub struct Statement {
@@ -138,7 +138,7 @@ pub struct Statement {
     pub form: StatementForm,
 }
 
-/// What a statement is.
+/// The form of a statement.
 #[cycle(statement)]
 #[derive(Drop)]
 pub enum StatementForm {
@@ -167,7 +167,7 @@ pub struct Procedure {
     pub otherwise: Vec<Statement>,
 }
 
-/// What stands side by side in a text.
+/// A declaration at the top level of a text.
 #[derive(Drop)]
 pub enum Declaration {
     Field {

@@ -1,4 +1,4 @@
-// What the parser reads: tokens, one after another.
+// The parser's input: tokens, one after another.
 
 ghost use Rattle.std.specs.Prelude.{◌≡◌, ◌<◌, ◌≤◌, length, IfOk, IfSome};
 
@@ -7,10 +7,10 @@ use crate::parsed::Name;
 use crate::token::{Symbol, Token, TokenKind};
 use std::alloc::Global;
 
-/// How many levels are open at once at most.
+/// How many levels may be open at once.
 pub const MAX_LEVELS: u32 = 64;
 
-/// What was read, and the index of the token behind it.
+/// The result of reading, and the index of the token after it.
 pub type Parsed<T> = Result<(T, usize), SyntaxFault>;
 
 /// The tokens of a text.
@@ -21,7 +21,7 @@ pub struct Parser<'a> {
 }
 
 impl<'a> Parser<'a> {
-    /// What the token is; behind the last one there is the end.
+    /// The kind of the token; after the last token this is the end.
     pub fn kind(&self, at: usize) -> TokenKind {
         match self.tokens.get(at) {
             Some(token) => token.kind,
@@ -29,12 +29,12 @@ impl<'a> Parser<'a> {
         }
     }
 
-    /// The index behind the token.
+    /// The index after the token.
     pub fn behind(&self, at: usize) -> usize {
         at.saturating_add(1)
     }
 
-    /// Where the token stands.
+    /// The offset of the token.
     pub fn offset(&self, at: usize) -> usize {
         match self.tokens.get(at).or(self.tokens.last()) {
             Some(token) => token.offset,
@@ -47,7 +47,7 @@ impl<'a> Parser<'a> {
         SyntaxFault::at(Wrong::Misplaced, self.offset(at))
     }
 
-    /// The index behind the token, where it is of that kind.
+    /// The index after the token, if the token is of that kind.
     pub fn skip_if(&self, at: usize, kind: TokenKind) -> Option<usize> {
         match self.tokens.get(at) {
             Some(token) if token.kind == kind => Some(at + 1),
@@ -55,7 +55,7 @@ impl<'a> Parser<'a> {
         }
     }
 
-    /// The index behind the token. 273 where it isn't of that kind.
+    /// The index after the token. 273 if the token isn't of that kind.
     pub fn skip(&self, at: usize, kind: TokenKind) -> Result<usize, SyntaxFault> {
         match self.skip_if(at, kind) {
             Some(next) => Ok(next),
@@ -63,7 +63,7 @@ impl<'a> Parser<'a> {
         }
     }
 
-    /// The index behind a word of the grammar that may also be a name.
+    /// The index after a word of the grammar that may also be a name. 273 if another token stands there.
     pub fn skip_word(&self, at: usize, word: Symbol) -> Result<usize, SyntaxFault> {
         self.skip(at, TokenKind::Name(word))
     }
@@ -86,7 +86,7 @@ impl<'a> Parser<'a> {
         }
     }
 
-    /// A number that isn't the operand of a minus sign. 271 where it doesn't fit 32 bits.
+    /// A number that isn't the operand of a minus sign. 271 if it doesn't fit 32 bits, 273 if the token isn't a number.
     pub fn number(&self, at: usize) -> Parsed<i32> {
         match self.tokens.get(at) {
             Some(
@@ -102,7 +102,7 @@ impl<'a> Parser<'a> {
         }
     }
 
-    /// The number right behind a minus sign, with that sign.
+    /// The number directly after a minus sign, negated.
     pub fn negative(&self, at: usize) -> Option<(i32, usize)> {
         match self.tokens.get(at) {
             Some(
@@ -118,7 +118,7 @@ impl<'a> Parser<'a> {
         }
     }
 
-    /// The levels that are left where the token opens one more. 274 where there is none.
+    /// How many levels are left after the token opens one. 274 if none was left.
     pub fn open(&self, at: usize, levels: u32) -> Result<u32, SyntaxFault>
         ensures { IfOk result (λ left. left < levels) }
     {

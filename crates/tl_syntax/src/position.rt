@@ -18,7 +18,7 @@ impl fmt::Display for Position {
 }
 
 impl Position {
-    /// The place of the byte at an offset. A tab is one column.
+    /// The position of the byte at `offset`. A tab is one column.
     pub fn of(text: &[u8], offset: usize) -> Position {
         let (before, _) = text.split_at(offset.min(text.len()));
         let line = before.iter().filter(|byte| **byte == b'\n').count();

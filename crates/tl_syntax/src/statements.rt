@@ -1,4 +1,4 @@
-// Statements: each function reads one rule of the grammar. `levels` are those that may still be opened.
+// Statements: each function reads one rule of the grammar. `levels` says how many levels may still be opened.
 
 use crate::fault::SyntaxFault;
 use crate::parsed::{
@@ -89,7 +89,7 @@ impl<'a> Parser<'a> {
         Ok((Action::Emit(values), at))
     }
 
-    // A number in parentheses, which are no level.
+    // A number in parentheses. The parentheses open no level.
     fn argument(&self, at: usize, levels: u32) -> Parsed<Expression> {
         let at = self.skip(at, TokenKind::LeftParenthesis)?;
         let (number, at) = self.expression(at, levels)?;
@@ -97,7 +97,7 @@ impl<'a> Parser<'a> {
         Ok((number, at))
     }
 
-    // The child that a name is to own, behind the name and its sign.
+    // The child that a name is to own, after the name and its sign.
     fn child(&self, name: Name, at: usize, levels: u32) -> Parsed<Child> {
         let at = self.skip(at, TokenKind::Child)?;
         let at = self.skip(at, TokenKind::LeftParenthesis)?;
@@ -136,7 +136,7 @@ impl<'a> Parser<'a> {
         Ok((Place::Pair(first, second), at))
     }
 
-    // The way to a child, or to the node of another name.
+    // A descent to a child, or a move to the node of another name.
     fn descent(&self, at: usize, levels: u32) -> Parsed<Action> {
         let (node, at) = self.name(at)?;
         let at = self.skip_word(at, Symbol::TO)?;
@@ -148,7 +148,7 @@ impl<'a> Parser<'a> {
         Ok((Action::Descend { node, number }, at))
     }
 
-    // A statement without blocks of its own, up to what ends it.
+    // A statement without blocks of its own, up to the token that ends it.
     fn action(&self, at: usize, levels: u32) -> Parsed<Action> {
         let next = self.behind(at);
         match self.kind(at) {
@@ -175,7 +175,7 @@ impl<'a> Parser<'a> {
         }
     }
 
-    // `break;`, `return;` or `fail;` as all that an `else` does.
+    // `break;`, `return;` or `fail;` as the only statement of an `else`.
     fn leaving(&self, at: usize) -> Parsed<Vec<Statement>> {
         let Some(leave) = leave_of(self.kind(at)) else {
             return Err(self.misplaced(at));
@@ -189,7 +189,7 @@ impl<'a> Parser<'a> {
         Ok((body, after))
     }
 
-    /// A block, which is a level.
+    /// A block, which opens a level.
     #[cycle(statements)]
     pub fn block(&self, at: usize, levels: u32) -> Parsed<Vec<Statement>> {
         let mut statements = Vec::new(self.alloc);
@@ -228,7 +228,7 @@ impl<'a> Parser<'a> {
         Ok((Statement { offset, form }, after))
     }
 
-    // What ends a statement: a semicolon, or an `else` of its own.
+    // The end of a statement: a semicolon, or an `else` of its own.
     #[cycle(statements)]
     fn tail(&self, at: usize, levels: u32) -> Parsed<Option<Otherwise>> {
         if let Some(next) = self.skip_if(at, TokenKind::Semicolon) {
@@ -260,7 +260,7 @@ impl<'a> Parser<'a> {
         Ok((Question::Condition(condition), at))
     }
 
-    // An `if`, which is a level.
+    // An `if`, which opens a level.
     #[cycle(statements)]
     fn choice(&self, at: usize, levels: u32) -> Parsed<StatementForm> {
         let levels = self.open(at, levels)?;

@@ -7,14 +7,14 @@ use crate::parser::Parser;
 use indexmap::IndexSet;
 use std::alloc::Global;
 
-/// What a text declares, in order, and its names: a symbol is the index of one.
+/// The declarations of a text, in order, and its names: a symbol is the index of a name.
 #[derive(Drop)]
 pub struct Syntax<'a> {
     pub declarations: Vec<Declaration>,
     pub names: IndexSet<&'a [u8]>,
 }
 
-/// The declarations of a text, or the first thing that is wrong with it: of all its tokens first, then of the grammar.
+/// The declarations of a text, or its first fault: faults of tokens anywhere in the text come before faults of grammar.
 pub fn parse(alloc: Global, text: &[u8]) -> Result<Syntax<'_>, SyntaxFault> {
     let Lexed { tokens, names } = lex(alloc, text)?;
     let parser = Parser {

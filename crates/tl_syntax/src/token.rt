@@ -1,6 +1,6 @@
 // The tokens of a text.
 
-/// A name, by its number among the names of a text. Equal names have one number.
+/// A name, by its number among the names of a text. Equal names have the same number.
 #[derive(Clone, Copy, Debug, PartialEq, Eq)]
 pub struct Symbol(pub usize);
 
@@ -17,7 +17,7 @@ impl Symbol {
     pub const TO: Symbol = Symbol(4);
 }
 
-/// What a token is. The reserved words come first.
+/// The kind of a token. The reserved words come first.
 #[derive(Clone, Copy, Debug, PartialEq, Eq)]
 pub enum TokenKind {
     And,

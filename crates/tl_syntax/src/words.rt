@@ -2,10 +2,10 @@
 
 use crate::token::TokenKind;
 
-/// The longest name.
+/// The length of the longest name, in characters.
 pub const MAX_NAME: usize = 32;
 
-/// The greatest number that a token may have: right after a minus sign it is the least of 32 bits.
+/// The greatest number that a token may have: with a minus sign directly before it, this is the least number of 32 bits.
 pub const MAX_NUMBER: u32 = 2_147_483_648;
 
 pub fn begins_name(byte: u8) -> bool {
@@ -16,7 +16,7 @@ pub fn continues_name(byte: u8) -> bool {
     byte.is_ascii_alphanumeric() || byte == b'_'
 }
 
-/// The reserved word that this is.
+/// The reserved word that these bytes spell.
 pub fn reserved(word: &[u8]) -> Option<TokenKind> {
     match word {
         b"and" => Some(TokenKind::And),
@@ -46,7 +46,7 @@ pub fn reserved(word: &[u8]) -> Option<TokenKind> {
     }
 }
 
-/// The sign of two characters.
+/// A sign of two characters.
 pub fn long_sign(first: u8, second: u8) -> Option<TokenKind> {
     match (first, second) {
         (b'+', b'=') => Some(TokenKind::AddAssign),
@@ -59,7 +59,7 @@ pub fn long_sign(first: u8, second: u8) -> Option<TokenKind> {
     }
 }
 
-/// The sign of one character.
+/// A sign of one character.
 pub fn short_sign(byte: u8) -> Option<TokenKind> {
     match byte {
         b'(' => Some(TokenKind::LeftParenthesis),
@@ -80,7 +80,7 @@ pub fn short_sign(byte: u8) -> Option<TokenKind> {
     }
 }
 
-/// The number that these characters are: decimal, without leading zeros, at most `MAX_NUMBER`.
+/// The number that these characters spell: decimal, without leading zeros, at most `MAX_NUMBER`.
 pub fn number(word: &[u8]) -> Option<u32> {
     let is_decimal = word.iter().all(|byte| byte.is_ascii_digit());
     let is_short = word.len() == 1 || word.first() != Some(&b'0');

@@ -1,6 +1,6 @@
 -- What goes on in an epoch leaves its number and its opening tree.
 use Rattle.std.proofs.Common.{◌≡◌, ℕ, List, [], ◌∷◌, ◌++◌, refl, sym, ap, subst, Result, Ok, Err, ℤ, Option, Some, None}
-use Rattle.std.specs.Prelude.{OnOk, OnErr}
+use Rattle.std.specs.Prelude.{IfOk, OnOk, OnErr}
 use Rattle.std.specs.Option.{option_map_or}
 use Rattle.tl_tree_locking.specs.declared.action.Action.{Action}
 use Rattle.tl_procedures.specs.Names.{Named, number_of}
@@ -10,6 +10,9 @@ use Rattle.tl_core.specs.Cores.{CoreState, CoreValue}
 use Rattle.tl_core.specs.Entries.{after_step, after_admission, with_call_of}
 use Rattle.tl_core.specs.Followed.{Goes, HasGone}
 use Rattle.tl_table.specs.Epochs.{EpochValue, seen, BeginsWith, GoesOn}
+use Rattle.tl_table.specs.Sent.{Sends}
+use Rattle.tl_table.specs.declared.fault.TableFault.{TableFault}
+use Rattle.tl_table.specs.declared.receipt.Sent.{Sent}
 use Rattle.tl_table.proofs.Lines.{begins_same}
 
 -- the second core has the same opening tree and the same procedures
@@ -31,6 +34,10 @@ same_core t u number core = same_goes_on t u number (record { parents = ap (λ c
 
 pub nothing_goes_on : (t : EpochValue) → GoesOn t t
 nothing_goes_on t = same_core t t refl refl
+
+pub sent_goes_on : (t u : EpochValue) (c : ℕ) (segment : SegmentValue) (r : Result Sent TableFault) → IfOk r (λ s. Sends t c segment s u) → OnErr r (u ≡ t) → GoesOn t u
+sent_goes_on t u c segment (Ok s) sends same = sends.keeps.goes_on
+sent_goes_on t u c segment (Err e) sends same = subst (GoesOn t) (sym same) (nothing_goes_on t)
 
 goes_same : (v : CoreValue) (c : ℕ) (actions : List Action) (w : CoreValue) → Goes v c actions w → OpensSame v w
 goes_same v c [] w g = record { parents = ap (λ u. u.parents) (sym g); opening = ap (λ u. u.opening) (sym g); procedures = ap (λ u. u.procedures) (sym g) }

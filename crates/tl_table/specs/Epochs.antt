@@ -1,5 +1,5 @@
 -- What callers see of one epoch of a table, and which receipts stand.
-use Rattle.std.specs.Prelude.{◌≡◌, ℕ, ◌+◌, ◌<◌, true, List, [], ◌∷◌, ◌++◌, length, get_or, Option, Some, option_map, if◌then◌else◌, nat_lt, ℤ}
+use Rattle.std.specs.Prelude.{◌≡◌, ◌≢◌, ℕ, ◌+◌, ◌<◌, true, List, [], ◌∷◌, ◌++◌, length, get_or, Option, Some, None, option_map, if◌then◌else◌, nat_lt, ℤ}
 use Rattle.tl_tree_locking.specs.History.{is_done, AllDone}
 use Rattle.tl_tree_locking.specs.World.{reply_of}
 use Rattle.tl_procedures.specs.Names.{Named}
@@ -46,19 +46,6 @@ pub record Stands (t : EpochValue) (r : Receipt) : Type 0 where
 abbrev pub IsAtRest : EpochValue → Type 0
 IsAtRest t = AllDone (seen t).past
 
--- why a call isn't admitted: its session wasn't given, or the core refuses
-abbrev pub table_refusal : EpochValue → ℕ → List ℕ → List ℤ → Option TableFault
-table_refusal t session name args =
-    if nat_lt session t.sessions then option_map fault.Core (admission_refusal (seen t) name args) else Some fault.NoSession
-
--- the second table has a call of that session more
-pub record IsAdmittedTo (t : EpochValue) (session : ℕ) (name : List ℕ) (args : List ℤ) (u : EpochValue) : Type 0 where
-  pub core : seen u ≡ after_admission (seen t) name args
-  pub turns : (c : ℕ) → IsKnown t c → kept_turn u.core c ≡ kept_turn t.core c
-  pub owners : u.owners ≡ t.owners ++ session ∷ []
-  pub sessions : u.sessions ≡ t.sessions
-  pub number : u.number ≡ t.number
-
 -- the second list begins with the first
 abbrev pub BeginsWith : List Named → List Named → Type 0
 BeginsWith xs ys = (more : List Named) × (ys ≡ xs ++ more)
@@ -69,6 +56,26 @@ pub record GoesOn (t u : EpochValue) : Type 0 where
   pub parents : (seen u).parents ≡ (seen t).parents
   pub opening : (seen u).opening ≡ (seen t).opening
   pub procedures : BeginsWith (seen t).procedures (seen u).procedures
+
+-- why a call isn't admitted: its session wasn't given, or the core refuses
+abbrev pub table_refusal : EpochValue → ℕ → List ℕ → List ℤ → Option TableFault
+table_refusal t session name args =
+    if nat_lt session t.sessions then option_map fault.Core (admission_refusal (seen t) name args) else Some fault.NoSession
+
+-- the first refusal that holds; memory may refuse what nothing else does
+abbrev pub IsAdmitFault : EpochValue → ℕ → List ℕ → List ℤ → TableFault → Type 0
+IsAdmitFault t session name args e =
+    (e ≢ fault.Memory → table_refusal t session name args ≡ Some e) × (e ≡ fault.Memory → table_refusal t session name args ≡ None)
+
+-- Call n was admitted, of that session: it is the next number, and nothing refuses it. The second epoch has this call more.
+pub record IsAdmittedTo (t : EpochValue) (session : ℕ) (name : List ℕ) (args : List ℤ) (n : ℕ) (u : EpochValue) : Type 0 where
+  pub next : n ≡ length (seen t).calls
+  pub free : table_refusal t session name args ≡ None
+  pub core : seen u ≡ after_admission (seen t) name args
+  pub turns : (c : ℕ) → IsKnown t c → kept_turn u.core c ≡ kept_turn t.core c
+  pub owners : u.owners ≡ t.owners ++ session ∷ []
+  pub sessions : u.sessions ≡ t.sessions
+  pub goes_on : GoesOn t u
 
 -- the epoch that takes over from one that is at rest
 abbrev pub epoch_after : EpochValue → EpochValue

@@ -8,7 +8,7 @@ use Rattle.tl_table.specs.declared.fault.TableFault.{TableFault}
 use Rattle.tl_table.specs.declared.fault.TableFault.TheVariants as fault
 use Rattle.tl_table.specs.declared.receipt.Sent.{Sent}
 use Rattle.tl_table.specs.declared.receipt.Sent.TheVariants.{Went, Blocked, Finished}
-use Rattle.tl_table.specs.Epochs.{EpochValue, seen, IsKnown, Stands}
+use Rattle.tl_table.specs.Epochs.{EpochValue, seen, IsKnown, GoesOn, Stands}
 
 -- blocked where another call is in the way, and nothing is changed; else the call has done the segment's local actions and
 -- that of its stop, and goes on at a turn, or is done, and this is its receipt
@@ -17,10 +17,18 @@ IsSent t c segment (Went turn) u = HasGone t.core c segment u.core × (kept_turn
 IsSent t c segment Blocked u = ((x : ℕ) × (d : ℕ) × IsInTheWay (seen t) segment.stop x d) × (u ≡ t)
 IsSent t c segment (Finished r) u = HasGone t.core c segment u.core × (r.call ≡ c) × Stands u r
 
--- nobody is in the way of a call that wasn't blocked
-abbrev pub IsUnblocked : EpochValue → SegmentValue → Sent → Type 0
-IsUnblocked t segment Blocked = Unit {0}
-IsUnblocked t segment sent = (x d : ℕ) → IsInTheWay (seen t) segment.stop x d → ⊥
+-- It is the same epoch some time later, and has the same sessions and the same calls.
+pub record KeepsCalls (t u : EpochValue) : Type 0 where
+  pub sessions : u.sessions ≡ t.sessions
+  pub owners : u.owners ≡ t.owners
+  pub goes_on : GoesOn t u
+
+-- The segment begins at the turn that is kept of the call, and this came of it. The turns of the other calls stay.
+pub record Sends (t : EpochValue) (c : ℕ) (segment : SegmentValue) (sent : Sent) (u : EpochValue) : Type 0 where
+  pub from : kept_turn t.core c ≡ Some segment.from
+  pub came : IsSent t c segment sent u
+  pub turns : (d : ℕ) → d ≢ c → kept_turn u.core d ≡ kept_turn t.core d
+  pub keeps : KeepsCalls t u
 
 -- a receipt is that of the call
 abbrev pub IsOfCall : ℕ → Sent → Type 0

@@ -8,9 +8,9 @@ use crate::closed::Closed;
 use std::alloc::Global;
 use tl_serial_order::{Order, SerialFault};
 
-/// The order of each epoch of a closed table, to which admissions, steps and seals led. All calls, run alone one after another along
-/// these orders joined, from the tree before any call, leave the records that there are now, and each gives the reply that it gave.
-/// 690 where memory is refused.
+/// The order of each epoch of a closed table that admissions, steps and seals led to. All calls, run alone one after
+/// another along these orders joined, from the tree before any call, leave the current records, and each gives the reply
+/// that it gave. 690 if memory is refused.
 pub fn conclude_all(alloc: Global, chain: &[Closed]) -> Result<Vec<Order>, SerialFault>
     requires { IsChain chain.now }
     ensures reached { AreReached chain.now }

@@ -1,4 +1,4 @@
-// An epoch at rest, and what follows of its order.
+// An epoch at rest, and what follows from its order.
 
 ghost use Rattle.std.specs.Prelude.{◌≡◌, ◌<◌, ◌≤◌, ◌↔◌, All, map, length, false, IsTrue, IsOk, IfOk, IfErr, MatchOption};
 ghost use Rattle.tl_tree_locking.specs.Alone.{serial};
@@ -51,7 +51,7 @@ impl Closed {
         self.epoch.number()
     }
 
-    /// The receipt of a call. 602 where no call of that number was admitted. Takes no memory.
+    /// The receipt of a call. 602 if no call of that number was admitted. Takes no memory.
     pub fn receipt(&self, call: u32) -> Result<Option<Receipt>, TableFault>
         ensures known { IsOk result ↔ IsKnown self.now call }
         ensures receipt { IfOk result (λ o. MatchOption o (is_done call (seen self.now).past ≡ false) (λ r. (r.call ≡ call) × Stands self.now r)) }
@@ -79,8 +79,8 @@ impl Closed {
         self.epoch.core()
     }
 
-    /// The order that the history gives. Run alone, one after another along it, the calls leave the records that there are
-    /// now, and each gives the reply that it gave. Takes no memory.
+    /// The order that the history gives. Run alone, one after another in this order, the calls leave the current records,
+    /// and each gives the reply that it gave. Takes no memory.
     pub fn order(&self) -> &Order
         ensures order { result.now.calls ≡ placed (seen self.now).parents (seen self.now).past }
         ensures known { All (λ c. c < length (seen self.now).calls) result.now.calls }
@@ -90,8 +90,8 @@ impl Closed {
         ensures replies { (serial (world_of (seen self.now)).meanings result.now.calls (seen self.now).opening).replies
             ≡ map (reply_of (world_of (seen self.now))) result.now.calls }
     {
-        // What the order promises comes of the core being sound: here a proof learns that.
-        self.epoch.core().is_sound();
+        // What the order promises follows from this.
+        self.epoch.core().lemma_is_sound();
         self.epoch.order()
     }
 
@@ -102,7 +102,7 @@ impl Closed {
         self.epoch.sessions()
     }
 
-    /// Of each call its session.
+    /// By call: its session.
     pub fn owners(&self) -> &[u32]
         ensures same { result.now ≡ self.now.owners }
         ensures owned { AreOwned self.now }
@@ -116,17 +116,17 @@ impl Closed {
         ensures number { result ≡ begun_by_end call (seen self.now).past }
         ensures few { result ≤ MAX_CALLS }
     {
-        // The calls are those that were admitted: here a proof learns that.
-        let _calls = self.epoch.core().calls();
+        // The calls are those that were admitted.
+        let _fact = self.epoch.core().calls();
         self.epoch.begun_by_end(call)
     }
 
-    /// Whether the end of the first call stands before the admission of the second.
+    /// Whether the end of the first call comes before the admission of the second.
     pub fn ends_before(&self, first: u32, second: u32) -> bool
         requires { IsKnown self.now first × IsKnown self.now second }
         ensures { IsTrue result ↔ EndsBefore (seen self.now).past first second }
     {
-        self.epoch.core().is_sound();
+        self.epoch.core().lemma_is_sound();
         self.begun_by_end(first) <= second
     }
 

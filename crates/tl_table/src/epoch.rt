@@ -1,9 +1,9 @@
 // One epoch of a table: a core, and which call is whose.
 
-ghost use Rattle.std.specs.Prelude.{◌≡◌, ◌≢◌, ℕ, ◌+◌, ◌<◌, ◌≤◌, ◌↔◌, ◌⊎◌, All, map, [], ◌∷◌, ◌++◌, length, true, false, IsTrue, IsOk, IfOk, IfErr, OnOk, OnErr, MatchOption, Some, None};
+ghost use Rattle.std.specs.Prelude.{◌≡◌, ◌≢◌, ◌+◌, ◌<◌, ◌≤◌, ◌↔◌, [], ◌∷◌, ◌++◌, length, true, false, IsTrue, IsOk, IfOk, IfErr, OnOk, OnErr, MatchOption, Some, None};
 ghost use Rattle.tl_instr.specs.declared.operand.TheConstants.{MAX_ARGS};
-ghost use Rattle.tl_tree_locking.specs.History.{is_done, records_now, IsOpen};
-ghost use Rattle.tl_tree_locking.specs.Order.{placed, Agrees};
+ghost use Rattle.tl_tree_locking.specs.History.{is_done, IsOpen};
+ghost use Rattle.tl_tree_locking.specs.Order.{placed};
 ghost use Rattle.tl_tree_locking.specs.Holders.{holder_of};
 ghost use Rattle.tl_procedures.specs.Names.{naming_refusal};
 ghost use Rattle.tl_procedures.specs.declared.fault.NamingFault.TheVariants as naming;
@@ -14,20 +14,20 @@ ghost use Rattle.tl_machine.specs.Turns.{HasRun, Stops};
 ghost use Rattle.tl_machine.specs.declared.want.Stop.TheVariants as stop;
 ghost use Rattle.tl_core.specs.Cores.{kept_turn, world_of};
 ghost use Rattle.tl_table.specs.declared.fault.TableFault.TheVariants as fault;
-ghost use Rattle.tl_core.specs.Followed.{IsLentOf, Submits, IfBlocked, IfFinished};
+ghost use Rattle.tl_core.specs.Followed.{IsLentOf, Submits, IfBlocked};
 ghost use Rattle.tl_table.specs.Ends.{begun_by_end};
 ghost use Rattle.tl_table.specs.declared.epoch.TheConstants.{MAX_EPOCHS, MAX_SESSIONS};
-ghost use Rattle.tl_table.specs.Epochs.{seen, Stands, IsAtRest, IsKnown, AreOwned, IsEpochSealFault, GoesOn, epoch_after, table_refusal, IsAdmittedTo};
-ghost use Rattle.tl_table.specs.Sent.{IsSent, IsUnblocked, IsSubmitFault, IsLeadFault, IsOfCall};
+ghost use Rattle.tl_table.specs.Epochs.{seen, Stands, IsAtRest, IsKnown, AreOwned, IsEpochSealFault, GoesOn, epoch_after, IsAdmittedTo, IsAdmitFault};
+ghost use Rattle.tl_table.specs.Tables.{IsRested};
+ghost use Rattle.tl_table.specs.Sent.{KeepsCalls, Sends, IsSubmitFault, IsLeadFault, IsOfCall};
 
 use crate::fault::TableFault;
 use crate::receipt::{Receipt, Sent};
-use arrayvec::ArrayVec;
 use std::alloc::Global;
 use std::marker::Model;
 use tl_core::{Core, CoreFault, TurnOutcome};
 use tl_history::MAX_CALLS;
-use tl_machine::{LentTurn, Reply, Segment, Turn};
+use tl_machine::{LentTurn, Reply, Segment, Turn, copied};
 use tl_procedures::NamingFault;
 use tl_serial::Running;
 use tl_serial_order::Order;
@@ -39,17 +39,17 @@ pub const MAX_SESSIONS: u32 = 65_535;
 /// How many epochs a table has at most.
 pub const MAX_EPOCHS: usize = 256;
 
-/// One epoch: a core, and of each call its session.
+/// One epoch: a core, and the session of each call.
 ///
-/// A contract sees its number, the core, how many sessions were given, and of each call its session.
+/// A contract sees its number, the core, how many sessions were given, and the session of each call.
 #[derive(Debug, Drop)]
 pub struct Epoch {
     number: u32,
     running: Running,
     sessions: u32,
-    // By call. Here and below there is memory for 4,096 from the start.
+    // By call. This list and the next one have memory for 4,096 calls from the start.
     owners: Vec<u32>,
-    // Of each done call how many calls had been admitted when it ended.
+    // For each done call: how many calls had been admitted when it ended.
     begun: Vec<u32>,
 }
 
@@ -66,7 +66,8 @@ impl Model for Epoch {
 }
 
 impl Epoch {
-    /// The epoch of that number, of a core that has no calls yet, where so many sessions were given. 890 where memory is refused.
+    /// The epoch of that number, of a core that has no calls yet, after `sessions` sessions were given. 890 if memory is
+    /// refused.
     pub fn new(
         alloc: Global,
         number: u32,
@@ -93,8 +94,8 @@ impl Epoch {
         })
     }
 
-    /// The epoch that takes over from this one, once every call is done. 606 with the least unfinished call where there is one;
-    /// else 690 or 890 where memory is refused.
+    /// The epoch that takes over from this one once every call is done. 606 with the least unfinished call if there is one;
+    /// otherwise 690 or 890 if memory is refused.
     pub fn successor(&self, alloc: Global) -> Result<Epoch, TableFault>
         requires { self.now.number < MAX_EPOCHS }
         ensures done { IfOk result (λ _. IsAtRest self.now) }
@@ -107,7 +108,7 @@ impl Epoch {
         }
     }
 
-    // The same epoch, whose history has no more memory than its events need.
+    // The same epoch; its history has no more memory than its events need.
     pub(crate) fn cut(self) -> Epoch
         ensures { result ≡ self }
     {
@@ -123,7 +124,7 @@ impl Epoch {
         self.number
     }
 
-    /// A new session's number: sessions are numbered from 0. 821 where 65,535 were given. Takes no memory.
+    /// A new session's number: sessions are numbered from 0. 821 if 65,535 were given. Takes no memory.
     pub fn session(&mut self) -> Result<u32, TableFault>
         ensures number { IfOk result (λ n. n ≡ self.old.sessions) }
         ensures counted { OnOk result (self.new ≡ record self.old { sessions = self.old.sessions + 1 }) }
@@ -140,26 +141,21 @@ impl Epoch {
         Ok(number)
     }
 
-    /// Takes up a procedure under a name, as the core does: 612, 611, 613, 690.
-    pub fn add_proc(
-        &mut self,
-        alloc: Global,
-        name: &str,
-        procedure: Proc,
-    ) -> Result<u32, NamingFault>
+    /// Adds a procedure under a name, as the core does: 612, 611, 613, 690.
+    pub fn add_proc(&mut self, alloc: Global, name: &str, proc: Proc) -> Result<u32, NamingFault>
         ensures number { IfOk result (λ n. n ≡ length (seen self.old).procedures) }
         ensures free { IfOk result (λ _. naming_refusal (seen self.old).procedures name.now ≡ None) }
-        ensures last { OnOk result (self.new ≡ record self.old { core = record self.old.core { seen = record (seen self.old) { procedures = (seen self.old).procedures ++ record { name = name.now; code = procedure } ∷ [] } } }) }
+        ensures last { OnOk result (self.new ≡ record self.old { core = record self.old.core { seen = record (seen self.old) { procedures = (seen self.old).procedures ++ record { name = name.now; code = proc } ∷ [] } } }) }
         ensures goes_on { GoesOn self.old self.new }
         ensures fault { IfErr result (λ e. e ≢ naming.Memory → naming_refusal (seen self.old).procedures name.now ≡ Some e) }
         ensures memory { IfErr result (λ e. e ≡ naming.Memory → naming_refusal (seen self.old).procedures name.now ≡ None) }
         ensures err { OnErr result (self.new ≡ self.old) }
     {
-        self.running.add_proc(alloc, name, procedure)
+        self.running.add_proc(alloc, name, proc)
     }
 
-    /// Admits a call for a session, and answers its number. 803 where no session of that number was given; then what the
-    /// core refuses, 601, 501, 603, 604, 605 in this order; else 890 where memory is refused. A refusal changes nothing.
+    /// Admits a call for a session, and returns its number. 803 if no session of that number was given; then the core's
+    /// refusals, 601, 501, 603, 604, 605 in this order; otherwise 890 if memory is refused. A refusal changes nothing.
     pub fn admit(
         &mut self,
         alloc: Global,
@@ -167,27 +163,23 @@ impl Epoch {
         name: &str,
         args: &[i64],
     ) -> Result<u32, TableFault>
-        ensures number { IfOk result (λ n. n ≡ length (seen self.old).calls) }
-        ensures free { IfOk result (λ _. table_refusal self.old session name.now args.now ≡ None) }
-        ensures after { OnOk result (IsAdmittedTo self.old session name.now args.now self.new) }
+        ensures ok { IfOk result (λ n. IsAdmittedTo self.old session name.now args.now n self.new) }
         ensures short { OnOk result (length name.now ≤ MAX_NAME) }
         ensures few { OnOk result (length args.now ≤ MAX_ARGS) }
-        ensures goes_on { GoesOn self.old self.new }
-        ensures fault { IfErr result (λ e. e ≢ fault.Memory → table_refusal self.old session name.now args.now ≡ Some e) }
-        ensures memory { IfErr result (λ e. e ≡ fault.Memory → table_refusal self.old session name.now args.now ≡ None) }
+        ensures fault { IfErr result (IsAdmitFault self.old session name.now args.now) }
         ensures err { OnErr result (self.new ≡ self.old) }
     {
         if session >= self.sessions {
             return Err(TableFault::NoSession);
         }
-        // The calls are those that were admitted, and each name was free, so it is short: here a proof learns that.
-        self.running.core().is_sound();
-        let _count = self.running.core().procedures().len();
+        // The calls are those that were admitted, and each name was free, so it is short.
+        self.running.core().lemma_is_sound();
+        let _fact = self.running.core().procedures().len();
         match self.running.admit(alloc, name, args) {
             Ok(call) => {
-                // At most so many calls: here a proof learns that.
-                let _calls = self.running.core().calls();
-                let _request = self.running.core().request(call);
+                // The numbers of calls and arguments have these bounds.
+                let _fact = self.running.core().calls();
+                let _fact = self.running.core().request(call);
                 self.owners.push_reserved(session);
                 self.begun.push_reserved(0);
                 Ok(call)
@@ -197,7 +189,7 @@ impl Epoch {
         }
     }
 
-    /// The receipt of a call, once it is done. 602 where no call of that number was admitted. Takes no memory.
+    /// The receipt of a call, once it is done. 602 if no call of that number was admitted. Takes no memory.
     pub fn receipt(&self, call: u32) -> Result<Option<Receipt>, TableFault>
         ensures known { IsOk result ↔ IsKnown self.now call }
         ensures receipt { IfOk result (λ o. MatchOption o (is_done call (seen self.now).past ≡ false) (λ r. (r.call ≡ call) × Stands self.now r)) }
@@ -226,26 +218,18 @@ impl Epoch {
         ensures { (result.call ≡ call) × Stands self.now result }
     {
         let (procedure, given) = self.running.core().request(call);
-        let mut args = ArrayVec::new();
-        let Ok(()) = args.try_extend_from_slice(given) else {
-            unreachable!()
-        };
-        let mut reply = ArrayVec::new();
-        let Ok(()) = reply.try_extend_from_slice(answered.values()) else {
-            unreachable!()
-        };
         Receipt {
             session: self.owners[call as usize],
             epoch: self.number,
             call,
             procedure,
-            args,
-            reply,
+            args: copied(given),
+            reply: copied(answered.values()),
         }
     }
 
-    /// The turn at which a call is; that of a call that is done wants nothing more. 602 where no call of that number was
-    /// admitted; else 890 where memory is refused.
+    /// The turn at which the call is; if the call is done, its turn wants nothing more. 602 if no call of that number was
+    /// admitted; otherwise 890 if memory is refused.
     pub fn state(&self, call: u32) -> Result<Turn, TableFault>
         ensures known { IfOk result (λ _. IsKnown self.now call) }
         ensures kept { IfOk result (λ t. is_done call (seen self.now).past ≡ false → kept_turn self.now.core call ≡ Some t) }
@@ -253,8 +237,8 @@ impl Epoch {
         ensures fault { IfErr result (λ e. e ≢ fault.Memory → (e ≡ fault.Core core_fault.NoCall) × (length (seen self.now).calls ≤ call)) }
         ensures memory { IfErr result (λ e. e ≡ fault.Memory → IsKnown self.now call) }
     {
-        // The calls are those that were admitted: here a proof learns that.
-        let _calls = self.running.core().calls();
+        // The calls are those that were admitted.
+        let _fact = self.running.core().calls();
         match self.running.core().turn(call) {
             Ok(turn) => Ok(turn),
             Err(CoreFault::Memory) => Err(TableFault::Memory),
@@ -262,23 +246,18 @@ impl Epoch {
         }
     }
 
-    /// Lets a call do the instructions of a segment, which were done elsewhere, and then the lock, free or return where the
-    /// segment stops. 602 where no call of that number was admitted; 801 where the segment doesn't begin at the turn at which
-    /// the call is, or the call is done. Blocked, and nothing changed, where the stop is a lock of a node that another call
-    /// holds. Takes no memory.
+    /// Lets a call do the instructions of a segment, which were done elsewhere, and then the lock, free or return at which
+    /// the segment stops. 602 if no call of that number was admitted; 801 if the segment doesn't begin at the call's turn,
+    /// or the call is done. Blocked, with nothing changed, if the stop is a lock of a node that another call holds. Takes
+    /// no memory.
     pub fn submit(&mut self, call: u32, segment: Segment) -> Result<Sent, TableFault>
-        ensures from { IfOk result (λ _. kept_turn self.old.core call ≡ Some segment.from) }
-        ensures sent { IfOk result (λ s. IsSent self.old call segment s self.new) }
-        ensures unhindered { IfOk result (λ s. IsUnblocked self.old segment s) }
-        ensures turns { (c : ℕ) → c ≢ call → kept_turn self.new.core c ≡ kept_turn self.old.core c }
-        ensures sessions { (self.new.sessions ≡ self.old.sessions) × (self.new.owners ≡ self.old.owners) }
-        ensures goes_on { GoesOn self.old self.new }
+        ensures ok { IfOk result (λ s. Sends self.old call segment s self.new) }
         ensures call { IfOk result (IsOfCall call) }
         ensures fault { IfErr result (λ e. IsSubmitFault self.old call segment e) }
         ensures err { OnErr result (self.new ≡ self.old) }
     {
-        // The calls are those that were admitted: here a proof learns that.
-        let _calls = self.running.core().calls();
+        // The calls are those that were admitted.
+        let _fact = self.running.core().calls();
         let (mut lent, shape) = match self.running.core().taken(call, segment) {
             Ok(taken) => taken,
             Err(fault) => return Err(fault_of(fault)),
@@ -294,16 +273,16 @@ impl Epoch {
         }
     }
 
-    /// The call as it is lent to whoever does its local instructions; none of a call that is done. 602 where no call of that number
-    /// was admitted; else 890 where memory is refused.
+    /// The call, lent to whoever does its local instructions; `None` if the call is done. 602 if no call of that number was
+    /// admitted; otherwise 890 if memory is refused.
     pub fn lend(&self, call: u32) -> Result<Option<LentTurn>, TableFault>
         ensures known { IfOk result (λ _. IsKnown self.now call) }
         ensures lent { IfOk result (λ o. MatchOption o (is_done call (seen self.now).past ≡ true) (λ l. IsLentOf self.now.core call l)) }
         ensures fault { IfErr result (λ e. e ≢ fault.Memory → (e ≡ fault.Core core_fault.NoCall) × (length (seen self.now).calls ≤ call)) }
         ensures memory { IfErr result (λ e. e ≡ fault.Memory → IsKnown self.now call) }
     {
-        // The calls are those that were admitted: here a proof learns that.
-        let _calls = self.running.core().calls();
+        // The calls are those that were admitted.
+        let _fact = self.running.core().calls();
         match self.running.core().lend(call) {
             Ok(lent) => Ok(lent),
             Err(CoreFault::Memory) => Err(TableFault::Memory),
@@ -311,27 +290,23 @@ impl Epoch {
         }
     }
 
-    /// Does a turn of a call: the instructions that were done of it as it was lent, and then the lock, free or return at which it
-    /// stops. Where the call goes on, the lent state is the one behind that too; else it stays. No shapes are compared. 602 where no
-    /// call of that number was admitted; 801 where they didn't begin where the call is. Takes no memory.
+    /// Does a turn of a call: the instructions that were done while it was lent, and then the lock, free or return at which
+    /// it stops. If the call goes on, the lent state moves past that stop too; otherwise it stays. No shapes are compared.
+    /// 602 if no call of that number was admitted; 801 if the instructions didn't begin where the call is. Takes no memory.
     pub fn lead(&mut self, call: u32, lent: &mut LentTurn) -> Result<TurnOutcome, TableFault>
         requires { HasRun lent.old }
         ensures ok { IfOk result (λ o. Submits self.old.core call lent.old lent.new o self.new.core) }
         ensures blocked { IfOk result (λ o. IfBlocked o (self.new ≡ self.old)) }
-        ensures known { IfOk result (λ o. IfFinished o (IsKnown self.new call)) }
-        ensures turns { (c : ℕ) → c ≢ call → kept_turn self.new.core c ≡ kept_turn self.old.core c }
-        ensures sessions { (self.new.sessions ≡ self.old.sessions) × (self.new.owners ≡ self.old.owners) }
-        ensures goes_on { GoesOn self.old self.new }
+        ensures keeps { KeepsCalls self.old self.new }
         ensures fault { IfErr result (λ e. IsLeadFault self.old call lent.old e) }
         ensures err { OnErr result ((self.new ≡ self.old) × (lent.new ≡ lent.old)) }
     {
-        // What is so of the call before: here a proof learns that.
-        self.running.core().is_sound();
-        let _calls = self.running.core().calls();
+        // What holds for the call before.
+        self.running.core().lemma_is_sound();
         match self.running.lead(call, lent) {
             Ok(TurnOutcome::Advanced { stop }) => {
-                // And what is so of it now.
-                self.running.core().is_sound();
+                // What holds for it now.
+                self.running.core().lemma_is_sound();
                 Ok(TurnOutcome::Advanced { stop })
             }
             Ok(TurnOutcome::Blocked { node, holder }) => Ok(TurnOutcome::Blocked { node, holder }),
@@ -348,7 +323,6 @@ impl Epoch {
     pub fn is_unfinished(&self, call: u32) -> bool
         ensures { IsTrue result ↔ IsOpen call (seen self.now).past }
     {
-        // The calls are those that were admitted: here a proof learns that.
         (call as usize) < self.running.core().calls() && self.running.core().reply(call).is_none()
     }
 
@@ -365,6 +339,15 @@ impl Epoch {
         ensures { result.now ≡ self.now.core }
     {
         self.running.core()
+    }
+
+    // What holds for every epoch at rest, for proofs.
+    pub(crate) fn lemma_is_rested(&self)
+        requires { IsAtRest self.now }
+        ensures { IsRested self.now }
+    {
+        self.running.core().lemma_is_sound();
+        let _fact = self.owners();
     }
 
     // The order that the history so far gives.
@@ -390,7 +373,7 @@ impl Epoch {
         self.sessions
     }
 
-    /// Of each call its session.
+    /// By call: its session.
     pub fn owners(&self) -> &[u32]
         ensures same { result.now ≡ self.now.owners }
         ensures owned { AreOwned self.now }
@@ -399,7 +382,7 @@ impl Epoch {
     }
 }
 
-// A core's refusal of a turn, as the table tells it.
+// The table's fault for a core's refusal of a turn.
 fn fault_of(refusal: CoreFault) -> TableFault
     ensures stale { refusal ≡ core_fault.NotFrom → result ≡ fault.Stale }
     ensures other { refusal ≢ core_fault.NotFrom → result ≡ fault.Core refusal }

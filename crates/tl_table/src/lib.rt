@@ -1,8 +1,8 @@
 //! A core with sessions.
 //!
-//! A `Table` has a core, and knows of each call whose it is: that of the session that asked for it. Whoever runs a call
-//! takes its state, lets it go on by itself, and submits what it did. Once every call is done the table can be closed, and
-//! then it says of a receipt whether it stands.
+//! A `Table` has a core, and knows the session that asked for each call. Whoever runs a call takes its state, lets it go on
+//! by itself, and submits what it did. Once every call is done, the table can be closed; then it says whether a receipt
+//! stands.
 #![tactic(auto)]
 
 mod chain;

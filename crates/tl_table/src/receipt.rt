@@ -1,13 +1,13 @@
-// What a call came to.
+// The result of a call.
 
 ghost use Rattle.std.specs.Prelude.{◌≡◌, ◌↔◌, IsTrue};
 
 use arrayvec::ArrayVec;
 use tl_budget::MAX_EMITS;
 use tl_instr::MAX_ARGS;
-use tl_machine::Turn;
+use tl_machine::{Turn, copied};
 
-/// What a call came to: plain data.
+/// The result of a call, as plain data.
 #[derive(Debug, Drop, PartialEq, Eq)]
 pub struct Receipt {
     /// The number of the session that asked for the call.
@@ -18,9 +18,9 @@ pub struct Receipt {
     pub call: u32,
     /// The number of its procedure.
     pub procedure: u32,
-    /// What it was given.
+    /// The call's arguments.
     pub args: ArrayVec<i64, MAX_ARGS>,
-    /// What it answered: the values that it emitted, in order.
+    /// The call's reply: the values that it emitted, in order.
     pub reply: ArrayVec<i64, MAX_EMITS>,
 }
 
@@ -32,7 +32,7 @@ impl Receipt {
         self == other
     }
 
-    /// The same receipt again. Takes no memory.
+    /// A copy of the receipt. Takes no memory.
     pub fn copy(&self) -> Receipt
         ensures { result ≡ self.now }
     {
@@ -41,27 +41,16 @@ impl Receipt {
             epoch: self.epoch,
             call: self.call,
             procedure: self.procedure,
-            args: copy_of(&self.args),
-            reply: copy_of(&self.reply),
+            args: copied(self.args.as_slice()),
+            reply: copied(self.reply.as_slice()),
         }
     }
 }
 
-// The same values.
-pub(crate) fn copy_of<const N: usize>(values: &ArrayVec<i64, N>) -> ArrayVec<i64, N>
-    ensures { result ≡ values.now }
-{
-    let mut copy = ArrayVec::new();
-    let Ok(()) = copy.try_extend_from_slice(values.as_slice()) else {
-        unreachable!()
-    };
-    copy
-}
-
-/// What came of a segment that was submitted.
+/// The result of a submitted segment.
 #[derive(Debug, Drop)]
 pub enum Sent {
-    /// The segment's instructions and the lock or free behind them are done: this is the call's turn now.
+    /// The segment's instructions and the lock or free after them are done: this is the call's turn now.
     Went(Turn),
     /// The call is about to lock a node that another call holds. Nothing was done.
     Blocked,

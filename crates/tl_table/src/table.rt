@@ -1,6 +1,6 @@
 // Epochs, one after another.
 
-ghost use Rattle.std.specs.Prelude.{◌≡◌, ◌≢◌, ℕ, ◌+◌, ◌<◌, ◌≤◌, ◌↔◌, ◌⊎◌, [], ◌∷◌, ◌++◌, length, slice_get, true, false, IsTrue, IsOk, IfOk, IfErr, IfSome, OnOk, OnErr, MatchOption, Some, None};
+ghost use Rattle.std.specs.Prelude.{◌≡◌, ◌≢◌, ◌+◌, ◌<◌, ◌≤◌, ◌↔◌, ◌⊎◌, [], ◌∷◌, ◌++◌, length, slice_get, true, false, IsTrue, IsOk, IfOk, IfErr, IfSome, OnOk, OnErr, MatchOption, Some, None};
 ghost use Rattle.tl_instr.specs.declared.operand.TheConstants.{MAX_ARGS};
 ghost use Rattle.tl_tree_locking.specs.History.{is_done, IsOpen};
 ghost use Rattle.tl_tree_locking.specs.Holders.{holder_of};
@@ -12,11 +12,11 @@ ghost use Rattle.tl_machine.specs.Turns.{HasRun, Stops};
 ghost use Rattle.tl_machine.specs.declared.want.Stop.TheVariants as stop;
 ghost use Rattle.tl_core.specs.Cores.{kept_turn};
 ghost use Rattle.tl_table.specs.declared.fault.TableFault.TheVariants as fault;
-ghost use Rattle.tl_core.specs.Followed.{IsLentOf, Submits, IfBlocked, IfFinished};
+ghost use Rattle.tl_core.specs.Followed.{IsLentOf, Submits, IfBlocked};
 ghost use Rattle.tl_table.specs.declared.epoch.TheConstants.{MAX_SESSIONS};
-ghost use Rattle.tl_table.specs.Epochs.{EpochValue, seen, Stands, IsAtRest, IsKnown, AreOwned, GoesOn, epoch_after, table_refusal, IsAdmittedTo};
+ghost use Rattle.tl_table.specs.Epochs.{EpochValue, seen, Stands, IsAtRest, IsKnown, AreOwned, GoesOn, epoch_after, IsAdmittedTo, IsAdmitFault};
 ghost use Rattle.tl_table.specs.Tables.{all_epochs, IsChain, IsSealRefusal};
-ghost use Rattle.tl_table.specs.Sent.{IsSent, IsUnblocked, IsSubmitFault, IsLeadFault, IsOfCall};
+ghost use Rattle.tl_table.specs.Sent.{KeepsCalls, Sends, IsSubmitFault, IsLeadFault, IsOfCall};
 
 use crate::closed::Closed;
 use crate::epoch::{Epoch, MAX_EPOCHS};
@@ -31,13 +31,13 @@ use tl_procedures::NamingFault;
 use tl_serial::Running;
 use tl_verify::Proc;
 
-/// A core with sessions, over epochs: where every call is done, the table can be sealed, and goes on with a new core.
+/// A core with sessions, over epochs: when every call is done, the table can be sealed, and goes on with a new core.
 ///
-/// A contract sees the sealed epochs and the current one. By the type each sealed epoch is at rest, and each epoch opens with the
-/// tree that the one before left and has its procedures.
+/// A contract sees the sealed epochs and the current one. The type guarantees that each sealed epoch is at rest, and that
+/// each epoch opens with the tree that the one before left and has its procedures.
 #[derive(Debug, Drop)]
 pub struct Table {
-    // There is room for one more than these.
+    // There is always room for one more.
     sealed: Vec<Closed>,
     current: Epoch,
 }
@@ -55,7 +55,7 @@ impl Model for Table {
 }
 
 impl Table {
-    /// A table of a core that has no calls yet, without sessions. 690 or 890 where memory is refused.
+    /// A table of a core that has no calls yet, without sessions. 690 or 890 if memory is refused.
     pub fn new(alloc: Global, core: Core) -> Result<Table, TableFault>
         requires { core.seen.calls ≡ [] }
         ensures ok { IfOk result (λ t. t ≡ record { sealed = []; current = record { number = 0; core = core; sessions = 0; owners = [] } }) }
@@ -82,9 +82,10 @@ impl Table {
         self.current.number()
     }
 
-    /// Seals the current epoch, whose number this answers, and goes on with a new one that opens with the records now and has the
-    /// same procedures and no calls. The first that holds of: 606 with the least unfinished call, where there is one; 808 where the
-    /// last of 256 epochs is the current one. Else 690 or 890 where memory is refused. A refusal changes nothing.
+    /// Seals the current epoch, returns its number, and goes on with a new one that opens with the current records and has
+    /// the same procedures and no calls. Errors, the first that holds: 606 with the least unfinished call if there is one;
+    /// 808 if the last of 256 epochs is the current one. Otherwise 690 or 890 if memory is refused. A refusal changes
+    /// nothing.
     pub fn seal(&mut self, alloc: Global) -> Result<u32, TableFault>
         ensures number { IfOk result (λ n. n ≡ self.old.current.number) }
         ensures done { OnOk result (IsAtRest self.old.current) }
@@ -99,22 +100,20 @@ impl Table {
         if self.sealed.len() + 1 >= MAX_EPOCHS {
             return Err(TableFault::TooManyEpochs);
         }
-        // What is so of the epoch: here a proof learns that.
-        self.current.core().is_sound();
-        let _calls = self.current.core().calls();
-        let _owners = self.current.owners();
         let next = self.current.successor(alloc)?;
+        self.current.lemma_is_rested();
         let Ok(()) = self.sealed.reserve(2) else {
             return Err(TableFault::Memory);
         };
         let number = self.current.number();
         let sealed = mem::replace(&mut self.current, next);
-        // It has no events to come. What its history was given in advance goes back, which is up to half of it.
+        // The sealed epoch gets no more events. Memory reserved for them in its history is given back, which is up to half
+        // of it.
         self.sealed.push_reserved(Closed::new(sealed.cut()));
         Ok(number)
     }
 
-    /// A new session's number: sessions are numbered from 0. 821 where 65,535 were given. Takes no memory.
+    /// A new session's number: sessions are numbered from 0. 821 if 65,535 were given. Takes no memory.
     pub fn session(&mut self) -> Result<u32, TableFault>
         ensures number { IfOk result (λ n. n ≡ self.old.current.sessions) }
         ensures counted { OnOk result (self.new.current ≡ record self.old.current { sessions = self.old.current.sessions + 1 }) }
@@ -127,27 +126,22 @@ impl Table {
         self.current.session()
     }
 
-    /// Takes up a procedure under a name, as the core does: 612, 611, 613, 690.
-    pub fn add_proc(
-        &mut self,
-        alloc: Global,
-        name: &str,
-        procedure: Proc,
-    ) -> Result<u32, NamingFault>
+    /// Adds a procedure under a name, as the core does: 612, 611, 613, 690.
+    pub fn add_proc(&mut self, alloc: Global, name: &str, proc: Proc) -> Result<u32, NamingFault>
         ensures number { IfOk result (λ n. n ≡ length (seen self.old.current).procedures) }
         ensures free { IfOk result (λ _. naming_refusal (seen self.old.current).procedures name.now ≡ None) }
-        ensures last { OnOk result (self.new.current ≡ record self.old.current { core = record self.old.current.core { seen = record (seen self.old.current) { procedures = (seen self.old.current).procedures ++ record { name = name.now; code = procedure } ∷ [] } } }) }
+        ensures last { OnOk result (self.new.current ≡ record self.old.current { core = record self.old.current.core { seen = record (seen self.old.current) { procedures = (seen self.old.current).procedures ++ record { name = name.now; code = proc } ∷ [] } } }) }
         ensures goes_on { GoesOn self.old.current self.new.current }
         ensures fault { IfErr result (λ e. e ≢ naming.Memory → naming_refusal (seen self.old.current).procedures name.now ≡ Some e) }
         ensures memory { IfErr result (λ e. e ≡ naming.Memory → naming_refusal (seen self.old.current).procedures name.now ≡ None) }
         ensures err { OnErr result (self.new.current ≡ self.old.current) }
         ensures sealed { self.new.sealed ≡ self.old.sealed }
     {
-        self.current.add_proc(alloc, name, procedure)
+        self.current.add_proc(alloc, name, proc)
     }
 
-    /// Admits a call for a session, and answers its number. 803 where no session of that number was given; then what the
-    /// core refuses, 601, 501, 603, 604, 605 in this order; else 890 where memory is refused. A refusal changes nothing.
+    /// Admits a call for a session, and returns its number. 803 if no session of that number was given; then the core's
+    /// refusals, 601, 501, 603, 604, 605 in this order; otherwise 890 if memory is refused. A refusal changes nothing.
     pub fn admit(
         &mut self,
         alloc: Global,
@@ -155,22 +149,18 @@ impl Table {
         name: &str,
         args: &[i64],
     ) -> Result<u32, TableFault>
-        ensures number { IfOk result (λ n. n ≡ length (seen self.old.current).calls) }
-        ensures free { IfOk result (λ _. table_refusal self.old.current session name.now args.now ≡ None) }
-        ensures after { OnOk result (IsAdmittedTo self.old.current session name.now args.now self.new.current) }
+        ensures ok { IfOk result (λ n. IsAdmittedTo self.old.current session name.now args.now n self.new.current) }
         ensures short { OnOk result (length name.now ≤ MAX_NAME) }
         ensures few { OnOk result (length args.now ≤ MAX_ARGS) }
-        ensures goes_on { GoesOn self.old.current self.new.current }
-        ensures fault { IfErr result (λ e. e ≢ fault.Memory → table_refusal self.old.current session name.now args.now ≡ Some e) }
-        ensures memory { IfErr result (λ e. e ≡ fault.Memory → table_refusal self.old.current session name.now args.now ≡ None) }
+        ensures fault { IfErr result (IsAdmitFault self.old.current session name.now args.now) }
         ensures err { OnErr result (self.new.current ≡ self.old.current) }
         ensures sealed { self.new.sealed ≡ self.old.sealed }
     {
         self.current.admit(alloc, session, name, args)
     }
 
-    /// The turn at which a call is; that of a call that is done wants nothing more. 602 where no call of that number was
-    /// admitted; else 890 where memory is refused.
+    /// The turn at which the call is; if the call is done, its turn wants nothing more. 602 if no call of that number was
+    /// admitted; otherwise 890 if memory is refused.
     pub fn state(&self, call: u32) -> Result<Turn, TableFault>
         ensures known { IfOk result (λ _. IsKnown self.now.current call) }
         ensures kept { IfOk result (λ t. is_done call (seen self.now.current).past ≡ false → kept_turn self.now.current.core call ≡ Some t) }
@@ -181,17 +171,12 @@ impl Table {
         self.current.state(call)
     }
 
-    /// Lets a call do the instructions of a segment, which were done elsewhere, and then the lock, free or return where the
-    /// segment stops. 602 where no call of that number was admitted; 801 where the segment doesn't begin at the turn at which
-    /// the call is, or the call is done. Blocked, and nothing changed, where the stop is a lock of a node that another call
-    /// holds. Takes no memory.
+    /// Lets a call do the instructions of a segment, which were done elsewhere, and then the lock, free or return at which
+    /// the segment stops. 602 if no call of that number was admitted; 801 if the segment doesn't begin at the call's turn,
+    /// or the call is done. Blocked, with nothing changed, if the stop is a lock of a node that another call holds. Takes
+    /// no memory.
     pub fn submit(&mut self, call: u32, segment: Segment) -> Result<Sent, TableFault>
-        ensures from { IfOk result (λ _. kept_turn self.old.current.core call ≡ Some segment.from) }
-        ensures sent { IfOk result (λ s. IsSent self.old.current call segment s self.new.current) }
-        ensures unhindered { IfOk result (λ s. IsUnblocked self.old.current segment s) }
-        ensures turns { (c : ℕ) → c ≢ call → kept_turn self.new.current.core c ≡ kept_turn self.old.current.core c }
-        ensures sessions { (self.new.current.sessions ≡ self.old.current.sessions) × (self.new.current.owners ≡ self.old.current.owners) }
-        ensures goes_on { GoesOn self.old.current self.new.current }
+        ensures ok { IfOk result (λ s. Sends self.old.current call segment s self.new.current) }
         ensures call { IfOk result (IsOfCall call) }
         ensures fault { IfErr result (λ e. IsSubmitFault self.old.current call segment e) }
         ensures err { OnErr result (self.new.current ≡ self.old.current) }
@@ -200,8 +185,8 @@ impl Table {
         self.current.submit(call, segment)
     }
 
-    /// The call as it is lent to whoever does its local instructions; none of a call that is done. 602 where no call of that number
-    /// was admitted; else 890 where memory is refused.
+    /// The call, lent to whoever does its local instructions; `None` if the call is done. 602 if no call of that number was
+    /// admitted; otherwise 890 if memory is refused.
     pub fn lend(&self, call: u32) -> Result<Option<LentTurn>, TableFault>
         ensures known { IfOk result (λ _. IsKnown self.now.current call) }
         ensures lent { IfOk result (λ o. MatchOption o (is_done call (seen self.now.current).past ≡ true) (λ l. IsLentOf self.now.current.core call l)) }
@@ -211,17 +196,14 @@ impl Table {
         self.current.lend(call)
     }
 
-    /// Does a turn of a call: the instructions that were done of it as it was lent, and then the lock, free or return at which it
-    /// stops. Where the call goes on, the lent state is the one behind that too; else it stays. No shapes are compared. 602 where no
-    /// call of that number was admitted; 801 where they didn't begin where the call is. Takes no memory.
+    /// Does a turn of a call: the instructions that were done while it was lent, and then the lock, free or return at which
+    /// it stops. If the call goes on, the lent state moves past that stop too; otherwise it stays. No shapes are compared.
+    /// 602 if no call of that number was admitted; 801 if the instructions didn't begin where the call is. Takes no memory.
     pub fn lead(&mut self, call: u32, lent: &mut LentTurn) -> Result<TurnOutcome, TableFault>
         requires { HasRun lent.old }
         ensures ok { IfOk result (λ o. Submits self.old.current.core call lent.old lent.new o self.new.current.core) }
         ensures blocked { IfOk result (λ o. IfBlocked o (self.new.current ≡ self.old.current)) }
-        ensures known { IfOk result (λ o. IfFinished o (IsKnown self.new.current call)) }
-        ensures turns { (c : ℕ) → c ≢ call → kept_turn self.new.current.core c ≡ kept_turn self.old.current.core c }
-        ensures sessions { (self.new.current.sessions ≡ self.old.current.sessions) × (self.new.current.owners ≡ self.old.current.owners) }
-        ensures goes_on { GoesOn self.old.current self.new.current }
+        ensures keeps { KeepsCalls self.old.current self.new.current }
         ensures fault { IfErr result (λ e. IsLeadFault self.old.current call lent.old e) }
         ensures err { OnErr result ((self.new.current ≡ self.old.current) × (lent.new ≡ lent.old)) }
         ensures sealed { self.new.sealed ≡ self.old.sealed }
@@ -257,7 +239,7 @@ impl Table {
         self.current.sessions()
     }
 
-    /// Of each call of the current epoch its session.
+    /// By call of the current epoch: its session.
     pub fn owners(&self) -> &[u32]
         ensures same { result.now ≡ self.now.current.owners }
         ensures owned { AreOwned self.now.current }
@@ -265,7 +247,7 @@ impl Table {
         self.current.owners()
     }
 
-    /// The receipt of a call of that epoch, once it is done. 602 where there is no such call. Takes no memory.
+    /// The receipt of a call of that epoch, once it is done. 602 if there is no such call. Takes no memory.
     pub fn receipt(&self, epoch: u32, call: u32) -> Result<Option<Receipt>, TableFault>
         ensures receipt { IfOk result (λ o. (e : EpochValue) × (slice_get (all_epochs self.now) epoch ≡ Some e) × IsKnown e call
             × MatchOption o (is_done call (seen e).past ≡ false) (λ r. (r.call ≡ call) × Stands e r)) }
@@ -282,7 +264,7 @@ impl Table {
         }
     }
 
-    /// All epochs, the current one last, where every call is done; else the same table. Takes no memory.
+    /// All epochs, the current one last, if every call is done; otherwise the same table. Takes no memory.
     pub fn close(self) -> Result<Vec<Closed>, Table>
         ensures ok { IfOk result (λ v. (v.items ≡ all_epochs self) × IsAtRest self.current × IsChain v.items) }
         ensures err { IfErr result (λ t. (t ≡ self) × ¬ IsAtRest self.current) }
@@ -290,10 +272,7 @@ impl Table {
         if let Some(_) = self.current.core().some_enabled() {
             return Err(self);
         }
-        // What is so of the epoch: here a proof learns that.
-        self.current.core().is_sound();
-        let _calls = self.current.core().calls();
-        let _owners = self.current.owners();
+        self.current.lemma_is_rested();
         let Table {
             mut sealed,
             current,

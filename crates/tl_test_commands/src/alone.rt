@@ -1,5 +1,5 @@
-//! What the command `alone` prints, of procedures alone on a tree: the reply and the steps, and the tree as it is then. And what is
-//! wrong first with its inputs.
+//! What the command `alone` prints of procedures that run alone on a tree: the reply, the steps and the resulting tree, or the
+//! first fault of its inputs.
 
 mod arithmetic;
 mod division;
@@ -17,7 +17,7 @@ mod spellings;
 
 use crate::commands::Table;
 
-/// Code that isn't accepted: it ends without `ret`.
+/// Code that isn't accepted, because it ends without `ret`.
 const ENDLESS: &str = "arity 0\nset v0 1\n";
 
 /// The tables of this command.

@@ -1,4 +1,4 @@
-//! What the command `audit` prints of what three calls did by turns.
+//! What the command `audit` prints of three calls that took turns.
 
 use crate::commands::Command::Audit;
 use crate::commands::{Parts, Row};
@@ -7,12 +7,12 @@ use crate::texts::THREE;
 /// A root with two children. The records of one text all have four fields, or all have eight.
 const FORK: &str = "{\"parents\":[0,0,0],\"records\":[[0,0,0,0],[10,0,0,0],[20,0,0,0]]}";
 
-/// What stands in the trail before its events: the calls with their replies, and the records at the end.
+/// The part of the trail before its events: the calls with their replies, and the records at the end.
 const CALLS: &str =
     "{\"calls\":[[\"both\",[11],[22]],[\"look\",[1],[11]],[\"store\",[2,22],[]]],\"end\":[[0,0,0,0],[11,0,0,0],[22,0,0,0]],\"events\":[";
 
-/// The same where call 1 has another reply, or none; where node 2 has another record at the end; where call 0 has another argument;
-/// and where 13 stands for the number that call 0 writes.
+/// The same with another reply of call 1, or without one; with another record of node 2 at the end; with another argument of call
+/// 0; and with 13 in place of the number that call 0 writes.
 const REPLY_12: &str =
     "{\"calls\":[[\"both\",[11],[22]],[\"look\",[1],[12]],[\"store\",[2,22],[]]],\"end\":[[0,0,0,0],[11,0,0,0],[22,0,0,0]],\"events\":[";
 
@@ -28,7 +28,7 @@ const ARGS_12: &str =
 const ALL_13: &str =
     "{\"calls\":[[\"both\",[11],[22]],[\"look\",[1],[13]],[\"store\",[2,22],[]]],\"end\":[[0,0,0,0],[13,0,0,0],[22,0,0,0]],\"events\":[";
 
-/// What stands behind them, before the procedures and before the tree, and another member in its place.
+/// The parts after the events, before the procedures and before the tree, and one with another member in place of the tree.
 const PROCS: &str = "],\"procs\":[";
 
 const TREE: &str = "],\"tree\":";
@@ -69,7 +69,7 @@ const E14: &str = ",[\"f\",0,0,[0,0,0,0]]";
 
 const E15: &str = ",[\"d\",0]";
 
-// Events of other records.
+// Events with other records.
 
 const E5_12: &str = ",[\"l\",1,1,[12,0,0,0]]";
 
@@ -85,9 +85,9 @@ pub const WHOLE: Parts = &[
     TREE, FORK, "}",
 ];
 
-/// The order, or what is wrong first.
+/// The order, or the first fault.
 const ROWS: &[Row] = &[
-    // The trail as it is.
+    // The unchanged trail.
     (Audit(WHOLE), &["{\"order\":[2,0,1]}\n"]),
     // Event 3 is taken out.
     (
@@ -105,7 +105,7 @@ const ROWS: &[Row] = &[
         ]),
         &["[711, 6] 1"],
     ),
-    // Event 14 is put before event 12.
+    // Event 14 comes before event 12.
     (
         Audit(&[
             CALLS, E0, E1, E2, E3, E4, E5, E6, E7, E8, E9, E10, E11, E14, E12, E13, E15, PROCS,
@@ -113,7 +113,7 @@ const ROWS: &[Row] = &[
         ]),
         &["[711, 13] 1"],
     ),
-    // Events 4 and 8 are exchanged.
+    // Events 4 and 8 are swapped.
     (
         Audit(&[
             CALLS, E0, E1, E2, E3, E8, E5, E6, E7, E4, E9, E10, E11, E12, E13, E14, E15, PROCS,
@@ -161,7 +161,7 @@ const ROWS: &[Row] = &[
         ]),
         &["[716, 2] 1"],
     ),
-    // The events are well together, and call 0 doesn't do them: it would write another number.
+    // The events fit together, but call 0 doesn't do them: it would write another number.
     (
         Audit(&[
             ARGS_12, E0, E1, E2, E3, E4, E5, E6, E7, E8, E9, E10, E11, E12, E13, E14, E15, PROCS,
@@ -169,7 +169,7 @@ const ROWS: &[Row] = &[
         ]),
         &["[714, 0] 1"],
     ),
-    // The same, where the number that it writes is told otherwise wherever it stands.
+    // The same, with 13 in place of the number that call 0 writes, wherever it stands.
     (
         Audit(&[
             ALL_13, E0, E1, E2, E3_13, E4, E5_13, E6_13, E7, E8, E9, E10, E11, E12, E13, E14, E15,

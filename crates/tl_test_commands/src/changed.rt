@@ -1,4 +1,4 @@
-//! Files that differ from good ones in a byte, and the beginnings of good ones.
+//! Files that differ from good ones in one byte, and prefixes of good ones.
 
 use crate::audit::WHOLE;
 use crate::texts::{ADD, ONE_NODE};
@@ -9,7 +9,7 @@ use tl_audit::Silent;
 use tl_commands::{CliFault, alone_cmd, asm_cmd, audit_cmd};
 use tl_instr::{CodeFault, decode, encode};
 
-/// How often each number is answered, and 0 where nothing is wrong.
+/// How often each number was reported; 0 counts the files without a fault.
 type Counts = [u16; 1000];
 
 fn count(counts: &mut Counts, number: u64) {
@@ -18,7 +18,7 @@ fn count(counts: &mut Counts, number: u64) {
     }
 }
 
-/// Numbers, and how often each has to be answered.
+/// Numbers, and how often each must be reported.
 type Expected = &'static [(u64, u16)];
 
 fn are_counted(rt: &impl Abort, counts: &Counts, expected: Expected, place: usize) {
@@ -28,7 +28,7 @@ fn are_counted(rt: &impl Abort, counts: &Counts, expected: Expected, place: usiz
     }
 }
 
-/// The bytes with another one in a place.
+/// A copy of the bytes with `byte` at `place`.
 fn changed(alloc: Global, bytes: &[u8], place: usize, byte: u8) -> Result<Vec<u8>, Fail> {
     let mut changed = Vec::from_slice(alloc, bytes)?;
     *changed.get_mut(place).ok_or("no such byte")? = byte;
@@ -53,13 +53,14 @@ const CONTAINER: [u8; 64] = [
     0x14, 0x00, 0x00, 0x00, 0x00, 0x00, 0x00, 0x00, //
 ];
 
-/// The bytes of the code that a container spells.
+/// The bytes of the code in a container.
 fn spelled(alloc: Global, container: &[u8]) -> Result<Vec<u8>, CodeFault> {
     let code = decode(alloc, container)?;
     encode(alloc, &code)
 }
 
-/// What is wrong first with a container, or with its run on these arguments where it is read. Then it is spelled as it stands.
+/// The number of the first fault of a container, or of its run on these arguments if it can be read; 0 if there is none. A
+/// container that can be read must be encoded to the same bytes again.
 fn wrong_with(alloc: Global, container: &[u8]) -> Result<u64, Fail> {
     match spelled(alloc, container) {
         Ok(again) => {
@@ -75,8 +76,8 @@ fn wrong_with(alloc: Global, container: &[u8]) -> Result<u64, Fail> {
     }
 }
 
-/// What comes of the 255 other bytes in each place. Numbers below 300 are of the reading; those above are the verifier's, and 501 is
-/// another number of arguments than two. So `(0, 15)` are fifteen containers that are read, accepted and run.
+/// The results of the 255 other bytes in each place. Numbers below 300 are from reading. Those above are from the verifier, except
+/// 501: the procedure doesn't take two arguments. So `(0, 15)` stands for fifteen containers that are read, accepted and run.
 static CHANGED: [Expected; 64] = [
     // The head. The byte 0x32 in the fourth place makes it a container of the second version.
     &[(201, 255)],
@@ -191,7 +192,7 @@ fn each_byte_of_a_container_is_read(rt: HostRuntime) -> Result<(), Fail> {
 
 // ---- trails
 
-/// What comes of a trail's file with each byte replaced by 0, by 255, and with its lowest bit turned. None is clean.
+/// The results of a trail's file with each byte replaced by 0, replaced by 255, and with its lowest bit flipped. None is clean.
 static TRAILS: [(u64, u16); 16] = [
     (103, 1),
     (104, 1),
@@ -211,7 +212,7 @@ static TRAILS: [(u64, u16); 16] = [
     (717, 10),
 ];
 
-/// What is wrong first with a trail.
+/// The number of a trail's first fault.
 fn wrong_in(alloc: Global, trail: &[u8]) -> u64 {
     match audit_cmd(alloc, trail, &mut Silent) {
         Ok(_) => 0,

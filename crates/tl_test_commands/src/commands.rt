@@ -1,5 +1,5 @@
-//! What the commands print. A row of a table costs nearly nothing to prove, and a function does: so one function runs each command,
-//! and the rows stand as data in a module for each of them, or in a folder of such modules.
+//! What the commands print. A row of a table costs almost nothing to prove, but a function does. So one function runs each command,
+//! and the rows are data, in a module for each command or in a folder of such modules.
 
 use crate::{alone, audit, chains, containers, drive, procedures, run};
 use std::alloc::{AllocError, Global};
@@ -14,7 +14,7 @@ use tl_commands::{
 };
 use tl_workers::NoGate;
 
-/// The parts of a text, one behind another.
+/// The parts of a text, one after another.
 pub type Parts = &'static [&'static str];
 
 /// A command, and the texts of its files.
@@ -23,7 +23,7 @@ pub enum Command {
     Asm(Parts),
     /// `asm` of a text, and then `dis` of its container.
     Listed(&'static str),
-    /// `check` of a text: its line, where `verify` of its container prints the same.
+    /// `check` of a text: its line, if `verify` of its container prints the same.
     Verify(&'static str),
     /// `dis` of a container.
     Dis(Parts),
@@ -47,11 +47,11 @@ pub enum Command {
     Audit(Parts),
 }
 
-/// A command, and what it answers: what it prints, or the numbers of what is wrong first, and the exit status.
+/// A command, and its result: what it prints, or the numbers of its first fault and the exit status.
 pub type Row = (Command, Parts);
 
-/// The name of a table, and its rows. The prover stops where one function names a large table: so each is a small one of one subject,
-/// which a function of its own lends.
+/// The name of a table, and its rows. The prover fails if one function names a large table. So each table is small and has one
+/// subject, and a function of its own lends it.
 pub type Table = (&'static str, &'static [Row]);
 
 fn line_of(alloc: Global, text: &str) -> Result<String, CliFault> {
@@ -111,7 +111,7 @@ fn chain_audited<R: Threads + Wait + Sync + AllocGlobal>(
     audit_cmd(rt.alloc(), trails.as_bytes(), &mut Silent)
 }
 
-/// The text of the command's file that is given in parts, or none.
+/// The text of the command's file that is given in parts; empty if there is none.
 fn file_of(alloc: Global, command: &Command) -> Result<String, AllocError> {
     match command {
         Command::Asm(parts)
@@ -130,7 +130,7 @@ fn file_of(alloc: Global, command: &Command) -> Result<String, AllocError> {
     }
 }
 
-/// What a command prints, of which this is the file.
+/// What a command prints if this is its file.
 fn printed<R: Threads + Wait + Sync + AllocGlobal>(
     rt: &R,
     command: &Command,
@@ -168,7 +168,7 @@ fn answer(alloc: Global, printed: Result<String, CliFault>) -> Result<String, Fa
     }
 }
 
-/// What the row's command answers.
+/// The result of the row's command.
 fn answered<R: Threads + Wait + Sync + AllocGlobal>(
     rt: &R,
     command: &Command,

@@ -1,4 +1,4 @@
-//! What the commands `dis` and `verify` print of containers. Each byte of these is below 128, so a container is a text too.
+//! What the commands `dis` and `verify` print of containers. Each byte of these containers is below 128, so each is a text too.
 
 use crate::commands::Command::{Bounds, Dis};
 use crate::commands::Row;
@@ -21,21 +21,21 @@ const REL: &str = "\x0F\0\0\0\0\0\0\0";
 
 const RET: &str = "\x14\0\0\0\0\0\0\0";
 
-/// 64 of the last one, and its text as often.
+/// The last instruction 64 times, and its text 64 times.
 const RETS_64: &str =
     "\x14\0\0\0\0\0\0\0\x14\0\0\0\0\0\0\0\x14\0\0\0\0\0\0\0\x14\0\0\0\0\0\0\0\x14\0\0\0\0\0\0\0\x14\0\0\0\0\0\0\0\x14\0\0\0\0\0\0\0\x14\0\0\0\0\0\0\0\x14\0\0\0\0\0\0\0\x14\0\0\0\0\0\0\0\x14\0\0\0\0\0\0\0\x14\0\0\0\0\0\0\0\x14\0\0\0\0\0\0\0\x14\0\0\0\0\0\0\0\x14\0\0\0\0\0\0\0\x14\0\0\0\0\0\0\0\x14\0\0\0\0\0\0\0\x14\0\0\0\0\0\0\0\x14\0\0\0\0\0\0\0\x14\0\0\0\0\0\0\0\x14\0\0\0\0\0\0\0\x14\0\0\0\0\0\0\0\x14\0\0\0\0\0\0\0\x14\0\0\0\0\0\0\0\x14\0\0\0\0\0\0\0\x14\0\0\0\0\0\0\0\x14\0\0\0\0\0\0\0\x14\0\0\0\0\0\0\0\x14\0\0\0\0\0\0\0\x14\0\0\0\0\0\0\0\x14\0\0\0\0\0\0\0\x14\0\0\0\0\0\0\0\x14\0\0\0\0\0\0\0\x14\0\0\0\0\0\0\0\x14\0\0\0\0\0\0\0\x14\0\0\0\0\0\0\0\x14\0\0\0\0\0\0\0\x14\0\0\0\0\0\0\0\x14\0\0\0\0\0\0\0\x14\0\0\0\0\0\0\0\x14\0\0\0\0\0\0\0\x14\0\0\0\0\0\0\0\x14\0\0\0\0\0\0\0\x14\0\0\0\0\0\0\0\x14\0\0\0\0\0\0\0\x14\0\0\0\0\0\0\0\x14\0\0\0\0\0\0\0\x14\0\0\0\0\0\0\0\x14\0\0\0\0\0\0\0\x14\0\0\0\0\0\0\0\x14\0\0\0\0\0\0\0\x14\0\0\0\0\0\0\0\x14\0\0\0\0\0\0\0\x14\0\0\0\0\0\0\0\x14\0\0\0\0\0\0\0\x14\0\0\0\0\0\0\0\x14\0\0\0\0\0\0\0\x14\0\0\0\0\0\0\0\x14\0\0\0\0\0\0\0\x14\0\0\0\0\0\0\0\x14\0\0\0\0\0\0\0\x14\0\0\0\0\0\0\0\x14\0\0\0\0\0\0\0\x14\0\0\0\0\0\0\0";
 
 const TEXT_64: &str =
     "ret\nret\nret\nret\nret\nret\nret\nret\nret\nret\nret\nret\nret\nret\nret\nret\nret\nret\nret\nret\nret\nret\nret\nret\nret\nret\nret\nret\nret\nret\nret\nret\nret\nret\nret\nret\nret\nret\nret\nret\nret\nret\nret\nret\nret\nret\nret\nret\nret\nret\nret\nret\nret\nret\nret\nret\nret\nret\nret\nret\nret\nret\nret\nret\n";
 
-/// The text, or what is wrong first; or the bounds.
+/// The text, the first fault or the bounds.
 const ROWS: &[Row] = &[
     (Dis(&[HEAD, FIRST, GET, SUM, PUT, EMIT, REL, RET]), &[ADD]),
     (
         Bounds(&[HEAD, FIRST, GET, SUM, PUT, EMIT, REL, RET]),
         &["{\"bounds\":{\"emits\":1,\"locks\":1,\"steps\":7}}\n"],
     ),
-    // Beginnings, and bytes behind it.
+    // Prefixes of a container, and one with bytes after its end.
     (Dis(&[]), &["[201] 1"]),
     (Dis(&["TLP"]), &["[201] 1"]),
     (Dis(&["TLP1\x02\0\0"]), &["[202] 1"]),
@@ -134,7 +134,7 @@ const ROWS: &[Row] = &[
         ]),
         &["[204, 6] 1"],
     ),
-    // As many instructions as a code may have, and one more: behind a head that counts 1,024, and behind one that counts 1,025.
+    // As many instructions as a code may have, and one more: after a head that counts 1,024, and after one that counts 1,025.
     (
         Dis(&[
             "TLP1\0\0\x04\0",

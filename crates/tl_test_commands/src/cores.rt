@@ -1,4 +1,4 @@
-//! Cores: many calls in turns, one step at a time. What many calls do together is tested on the command `drive`.
+//! Cores: many calls that take turns, one step at a time. The command `drive` tests what many calls do together.
 
 use crate::texts::{ADD, BOTH, CHAIN, FORK, LOOK, ONE_NODE, STORE, WALK, procedure_of, tree_of};
 use std::alloc::Global;
@@ -7,21 +7,21 @@ use std::test::Fail;
 use tl_core::{Core, CoreFault, Followed, TurnOutcome};
 use tl_machine::local;
 
-/// What is asked of a core.
+/// An operation on a core, or a question.
 enum Ask {
-    /// To take up the procedure of a text under a name.
+    /// Take up the procedure of a text under a name.
     AddProc(&'static str, &'static str),
     Admit(&'static str, &'static [i64]),
     Step(u32),
-    /// To let these calls step, one after another. After each step: which call is enabled, and how many nodes are held.
+    /// Let these calls step, one after another. After each step: which call is enabled, and how many nodes are held.
     Steps(&'static [u32]),
-    /// To let a call follow its next segment, which is done outside of the core.
+    /// Let a call follow its next segment, which is run outside the core.
     Follow(u32),
-    /// To lend a call and to take the turn that is done of it outside of the core.
+    /// Lend a call, let it run by itself outside the core, and take over its turn.
     Lead(u32),
-    /// The same, where the call has done a step in between.
+    /// The same, but the call has done a step in between.
     LeadLate(u32),
-    /// Whether a call is where another call's next segment begins.
+    /// Whether a call is at the beginning of another call's next segment.
     IsAt(u32, u32),
     Enabled(u32),
     SomeEnabled,
@@ -89,7 +89,7 @@ fn node(alloc: Global, core: &Core, node: u16) -> Result<String, Fail> {
     Ok(format!(in alloc; "{record:?} {holder:?}")?)
 }
 
-/// What the core answers.
+/// The core's answer.
 fn answer(alloc: Global, core: &mut Core, ask: &Ask) -> Result<String, Fail> {
     Ok(match ask {
         Ask::AddProc(name, text) => {
@@ -109,10 +109,10 @@ fn answer(alloc: Global, core: &mut Core, ask: &Ask) -> Result<String, Fail> {
     })
 }
 
-/// What is asked of a core one after another, and what it answers.
+/// What a core is asked, one after another, and its answers.
 type Asks = &'static [(Ask, &'static str)];
 
-/// A tree, room for so many events, and what is asked.
+/// A tree, how many events there is room for, and the questions.
 static CORES: [(&str, usize, Asks); 8] = [
     // A call waits for another.
     (
@@ -155,7 +155,7 @@ static CORES: [(&str, usize, Asks); 8] = [
             (Ask::Admit("none", &[]), "Err(NoProcedure)"),
         ],
     ),
-    // A name is taken up once.
+    // A name can be taken up only once.
     (
         FORK,
         16,
@@ -183,7 +183,7 @@ static CORES: [(&str, usize, Asks); 8] = [
             (Ask::Step(0), "Ok(Over)"),
         ],
     ),
-    // Call 1 holds node 2 when call 0 asks for it, and call 0 goes on once it is free.
+    // Call 1 holds node 2 when call 0 asks for it, and call 0 goes on once the node is free.
     (
         FORK,
         100,
@@ -209,7 +209,7 @@ static CORES: [(&str, usize, Asks); 8] = [
             ),
         ],
     ),
-    // Segments that are done elsewhere: call 0 locks node 2, stores, frees it and ends.
+    // Segments that are run elsewhere: call 0 locks node 2, stores, frees it and ends.
     (
         FORK,
         16,
@@ -229,7 +229,7 @@ static CORES: [(&str, usize, Asks); 8] = [
             (Ask::Node(2), "[33, 0, 0, 0, 0, 0, 0, 0] None"),
         ],
     ),
-    // The same of calls that are lent.
+    // The same with calls that are lent.
     (
         FORK,
         16,

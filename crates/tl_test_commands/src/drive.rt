@@ -9,18 +9,18 @@ mod undone;
 
 use crate::commands::Table;
 
-/// How a script begins, and what stands between its moves and its procedures, and behind them.
+/// The beginning of a script, the part between its moves and its procedures, and its end.
 const MOVES: &str = "{\"moves\":[";
 
 const PROCS: &str = "],\"procs\":[";
 
 const END: &str = "]}";
 
-/// Call 2 comes to node 2 before call 0, which began first.
+/// Call 2 reaches node 2 before call 0, which began first.
 const THREE_CALLS: &str =
     "[\"both\",[11]],0,0,0,0,[\"look\",[1]],1,1,1,1,1,[\"store\",[2,22]],2,2,2,2,0,0,0,0,0,0,0";
 
-/// Call 1 holds node 2 when call 0 asks for it, and call 0 goes on once it is free.
+/// Call 1 holds node 2 when call 0 asks for it, and call 0 goes on once the node is free.
 const ONE_WAITS: &str = "[\"both\",[11]],[\"look\",[2]],1,0,0,0,0,0,0,1,1,1,1,0,0,0,0,0,0";
 
 /// Two calls go down one after the other.

@@ -16,7 +16,7 @@ use tl_workers::Refusal;
 const FAULTS: [(CliFault, &str); 35] = [
     (CliFault::Unreadable, "[31] 3: a file can't be read"),
     (CliFault::Unwritable, "[32] 3: a file can't be written"),
-    (CliFault::NoPort, "[33] 3: a port can't be had"),
+    (CliFault::NoPort, "[33] 3: a port can't be opened"),
     (CliFault::NotUtf8, "[255] 1: the text is not UTF-8"),
     (CliFault::NotScript, "[731] 1: the text is not a script"),
     (

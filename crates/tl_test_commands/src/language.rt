@@ -2,7 +2,7 @@
 
 use std::process::Abort;
 use std::test::Fail;
-use tl_commands::{compile_cmd, procs_cmd};
+use tl_commands::{check_procs_cmd, compile_cmd, procs_cmd};
 
 const ADD: &[u8] = b"field value = 0;\n\
     proc add(place, amount) { lock n = node(place); n.value += amount else {} emit n.value; }\n";
@@ -46,6 +46,14 @@ fn procedures_are_listed(rt: HostRuntime) -> Result<(), Fail> {
     let told =
         "[[\"add\",\"version 2\\narity 2\\nfirst n0 v0 else L7\\nget v2 n0 0\\nadd v2 v2 v1 else L4\\n\
         put n0 0 v2\\nL4:\\nget v2 n0 0\\nemit v2\\nrel n0\\nL7:\\nret\\n\"]]\n";
+    assert_eq!(rt; line.as_str(), told);
+    Ok(())
+}
+
+#[test]
+fn procedures_are_checked(rt: HostRuntime) -> Result<(), Fail> {
+    let line = check_procs_cmd(rt.alloc(), ADD)?;
+    let told = "[[\"add\",{\"bounds\":{\"emits\":1,\"locks\":1,\"steps\":8}}]]\n";
     assert_eq!(rt; line.as_str(), told);
     Ok(())
 }

@@ -1,11 +1,11 @@
-//! The tests of all crates: worked examples over bytes, and each public function that allocates once with ample memory. Those of
-//! running threads are in `tl_test_threads`.
+//! The tests of all crates: worked examples over bytes, and each public function that allocates, run once with ample memory. The
+//! tests of running threads are in `tl_test_threads`.
 //!
-//! A test is proved with its crate, so the tests stand here together, and each crate below is proved once, without them.
-//! A row of a table costs nearly nothing, and a function does. So what a command prints is a row in `alone`, `audit`, `containers`,
-//! `chains`, `drive`, `procedures` or `run`, and one function in `commands` runs them all, from bytes to bytes. A folder has a table for each
-//! subject. `changed` has the bytes of good files with each of them changed. `cores`, `machine`, `serial`, `silent` and `tree` have
-//! what no command shows.
+//! A test is proved with its crate. So the tests are together here, and each crate below is proved once, without them. A row of a
+//! table costs almost nothing to prove, but a function does. So what a command prints is a row in `alone`, `audit`, `containers`,
+//! `chains`, `drive`, `procedures` or `run`, and one function in `commands` runs them all, from bytes to bytes. A folder has a
+//! table for each subject. `changed` has good files, each with one of its bytes changed. `cores`, `machine`, `serial`, `silent` and
+//! `tree` test what no command shows.
 #![tactic(auto)]
 
 #[cfg(test)]

@@ -15,7 +15,7 @@ fn turn_at(alloc: Global, node: i64) -> Result<Turn, Fail> {
     Ok(Turn::start(procedure, shape, &[node])?)
 }
 
-/// What a call wants, again and again, and what it gives, a line each; and how many steps that were.
+/// What a call wants each time, and what it gives, one per line; and the number of steps.
 const WANTS: &str =
     "Stop(Lock(2))\nLocal\nLocal\nStop(Free(2))\n[20, 0, 0, 0, 0, 0, 0, 0]\nStop(Return)\n[20] true\nStop(Over)\n5\n";
 
@@ -55,20 +55,20 @@ fn a_turn_is_driven_by_what_it_wants(rt: HostRuntime) -> Result<(), Fail> {
     drive(&rt, &mut turn)
 }
 
-/// How many instructions are done before a segment and behind it, and where it stops.
+/// How many steps are done at the beginning of a segment and at its end, and where the segment stops.
 fn segment(turn: Turn) -> (u32, u32, Stop) {
     let segment = local(turn);
     let from = segment.from().call().steps;
     (from, segment.to().steps, segment.stop())
 }
 
-/// The same, by the segment's parts.
+/// The same, from the segment's parts.
 fn parts(turn: Turn) -> (u32, u32, Stop) {
     let (from, to, stop) = local(turn).into_parts();
     (from.call().steps, to.steps, stop)
 }
 
-/// The same, by the segment as it is lent.
+/// The same, from the segment as it is lent.
 fn lent_segment(turn: Turn) -> (u32, u32, Stop) {
     let segment = local(turn);
     let from = segment.from().call().steps;
@@ -77,7 +77,8 @@ fn lent_segment(turn: Turn) -> (u32, u32, Stop) {
     (from, lent.to().steps, stop)
 }
 
-/// The same, of a call that is lent where its turn is, and of the turn, which goes on by itself.
+/// The same, for a call that is lent at its turn; the stop is that of the turn, which runs on by itself. The first number is 9 if
+/// the lent call doesn't begin at the turn.
 fn lent(mut turn: Turn) -> Result<(u32, u32, Stop), AllocError> {
     let mut lent = turn.lend()?;
     let from = if lent.is_from(&turn) {
@@ -111,7 +112,7 @@ fn a_segment_is_what_a_call_does_by_itself(rt: HostRuntime) -> Result<(), Fail> 
     Ok(())
 }
 
-/// Whether a kept turn is where a segment begins, whether it is where that ends, and the same once it has gone on too.
+/// Whether a kept turn is at the beginning of a segment, whether it is at its end, and whether it is there once it has run on too.
 fn go_on(kept: &mut Turn) -> Result<[bool; 3], AllocError> {
     let segment = local(kept.try_clone()?);
     let is_begin = kept.is(segment.from());
@@ -130,7 +131,7 @@ fn a_kept_turn_goes_on_to_the_end_of_a_segment(rt: HostRuntime) -> Result<(), Fa
     Ok(())
 }
 
-/// What a turn wants that is over from the start.
+/// What a turn wants if it is over from the start.
 fn over(begun: &Turn) -> Result<Want, AllocError> {
     let procedure = Arc::try_clone(begun.procedure())?;
     Ok(Turn::over(procedure, Arc::try_clone(begun.shape())?).want())

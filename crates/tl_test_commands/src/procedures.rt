@@ -15,10 +15,10 @@ use crate::commands::Table;
 use std::test::Fail;
 use tl_asm::instruction_lines;
 
-/// A text that isn't the one that is written for its code.
+/// A text that differs from the one that is written for its code.
 const SPACED: &str = "arity 1 ; one\n\nstart:\n  jmp  end_\nend_:\nret\n";
 
-/// Another one.
+/// Another such text.
 const ODD: &str =
     "; a comment; another\n\t\r\n arity\t8 ;\n\nset v3 -2147483648;no space\r\njeq v0 v15 end_\nstart: \nloop:;\njmp  end_\nkids v1 n7\ncopy v0 v1\nmul v0 v1 v2 else _\nsub v0 v1 v2 else start\nrep 65535\nend\njlt v1 v2 loop\nend_:\n_:";
 

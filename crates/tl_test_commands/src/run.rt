@@ -8,13 +8,13 @@ use tl_audit::Silent;
 use tl_commands::{audit_cmd, run_with_trail_cmd};
 use tl_workers::NoGate;
 
-/// How a script begins.
+/// The beginning of a script.
 const CALLS: &str = "{\"calls\":[";
 
-/// What stands behind its calls: a procedure that answers its argument.
+/// The part of a script after its calls: a procedure that replies with its argument.
 const ECHO: &str = "],\"procs\":[[\"echo\",\"arity 1\\nemit v0\\nret\"]]}";
 
-/// The answers, the order and the tree, or what is wrong first.
+/// The answers, the order and the tree, or the first fault.
 const ROWS: &[Row] = &[
     (
         Run(
@@ -75,8 +75,8 @@ const ROWS: &[Row] = &[
     ),
 ];
 
-// Two calls go down one after the other, on threads of their own: whichever is first, the batch and the tree are the same, and
-// the trail is clean.
+// Two calls go down one after the other, on threads of their own. Whichever is first, the batch and the tree are the same, and the
+// trail is clean.
 #[test]
 fn two_sweeps_run_at_once(rt: HostRuntime) -> Result<(), Fail> {
     let alloc = rt.alloc();

@@ -1,4 +1,4 @@
-//! Orders of calls, and calls that run again along one.
+//! Orders of calls, and calls that run again along an order.
 
 use crate::texts::{BOTH, FORK as FORK_TREE, LOOK, ONE_NODE, STORE, procedure_of, tree_of};
 use std::alloc::Global;
@@ -40,16 +40,16 @@ fn event_of((letter, call, node): Row) -> Event {
     }
 }
 
-/// Reserves a place, and puts the event there.
+/// Reserves room for one event, and puts the event there.
 fn put(alloc: Global, history: &mut History, row: Row) -> Result<(), HistoryFault> {
     history.reserve(alloc, 1)?;
     history.append(event_of(row));
     Ok(())
 }
 
-/// Each parents and events, and the order.
+/// The parents, the events and the order of each history.
 const ORDERS: [(&[i64], &[Row], &[u32]); 5] = [
-    // Call 2 comes to node 2 before call 0, which came first of all.
+    // Call 2 reaches node 2 before call 0, which began first.
     (
         &FORK,
         &[
@@ -85,7 +85,7 @@ const ORDERS: [(&[i64], &[Row], &[u32]); 5] = [
         ],
         &[1, 0],
     ),
-    // Call 0 holds the root all along, and has given up the way to node 2 once it has freed node 1.
+    // Call 0 holds the root all the time, and has given up the path to node 2 once it has freed node 1.
     (
         &CHAIN,
         &[('a', 0, 0), ('l', 0, 0), ('a', 1, 0), ('l', 1, 2)],
@@ -103,8 +103,8 @@ const ORDERS: [(&[i64], &[Row], &[u32]); 5] = [
         ],
         &[0, 1],
     ),
-    // A history that breaks the rules: calls that were never admitted, a node that two calls hold, frees of what isn't
-    // held, a lock after a free, and events after an end.
+    // A history that breaks the rules: calls that were never admitted, a node that two calls hold, frees of nodes that aren't held,
+    // a lock after a free, and events after an end.
     (
         &CHAIN,
         &[
@@ -190,7 +190,7 @@ fn fill(rt: &(impl Abort + AllocGlobal), shape: &Shape, history: &mut History) -
     Ok(())
 }
 
-// No event is moved for each place that is reserved.
+// Reserving room doesn't move all events each time.
 #[test]
 fn a_million_events_of_many_calls(rt: HostRuntime) -> Result<(), Fail> {
     let shape = Shape::new(rt.alloc(), &[0; 127])?;
@@ -220,19 +220,19 @@ fn an_order_is_kept_by_two_numbers_a_node(rt: HostRuntime) -> Result<(), Fail> {
 
 // ---- cores whose order is kept up to date
 
-/// What is asked of such a core.
+/// An operation on such a core, or a question.
 enum Ask {
-    /// To take up the procedure of a text under a name.
+    /// Take up the procedure of a text under a name.
     AddProc(&'static str, &'static str),
     Admit(&'static str, &'static [i64]),
-    /// To let a call do so many steps: the order after each.
+    /// Let a call do that many steps: the order after each.
     Steps(u32, u32),
     Proceed(u32),
     /// How many events there are.
     Events,
 }
 
-/// The order that is kept up to date, which the plain definition gives for the history so far.
+/// The order that is kept up to date. It must be the one that the plain definition gives for the history so far.
 fn order(alloc: Global, running: &Running) -> Result<String, Fail> {
     let history = running.core().history();
     let shape = running.core().opening().shape();
@@ -255,7 +255,7 @@ fn steps(alloc: Global, running: &mut Running, call: u32, count: u32) -> Result<
     Ok(text)
 }
 
-/// What it answers, and after an admission or a part of a call the order.
+/// The core's answer, and the order after an admission or a part of a call.
 fn answer(alloc: Global, running: &mut Running, ask: &Ask) -> Result<String, Fail> {
     Ok(match ask {
         Ask::AddProc(name, text) => {
@@ -275,12 +275,12 @@ fn answer(alloc: Global, running: &mut Running, ask: &Ask) -> Result<String, Fai
     })
 }
 
-/// What is asked one after another, and what is answered.
+/// What is asked, one after another, and the answers.
 type Asks = &'static [(Ask, &'static str)];
 
-/// A tree, and what is asked.
+/// A tree, and the questions.
 static RUNS: [(&str, Asks); 2] = [
-    // Call 2 comes to the second child before call 0 does, which began first.
+    // Call 2 reaches the second child before call 0, which began first.
     (
         FORK_TREE,
         &[
@@ -300,7 +300,8 @@ static RUNS: [(&str, Asks); 2] = [
             (Ask::Events, "16"),
         ],
     ),
-    // Two calls look at one node, the second while the first holds it. Each goes from its lock to its free and to its end.
+    // Two calls look at one node, the second one while the first one holds it. Each goes from its lock to its free and then to its
+    // end.
     (
         ONE_NODE,
         &[
@@ -358,7 +359,7 @@ fn an_order_is_kept_up_to_date(rt: HostRuntime) -> Result<(), Fail> {
 
 // ---- calls that run again
 
-/// The records and the replies, a line each.
+/// The records and the replies, one per line.
 fn lines(alloc: Global, tree: &Tree, replies: &[Reply]) -> Result<String, Fail> {
     let mut text = write_tree(alloc, tree)?;
     for reply in replies {
@@ -368,14 +369,14 @@ fn lines(alloc: Global, tree: &Tree, replies: &[Reply]) -> Result<String, Fail> 
     Ok(text)
 }
 
-/// What comes of the calls alone along their order.
+/// The result of running the calls alone along their order.
 fn replayed(alloc: Global, core: &Core) -> Result<String, Fail> {
     let order = conclude(alloc, core)?;
     let (tree, replies) = replay(alloc, &order, core)?;
     lines(alloc, &tree, &replies)
 }
 
-/// Looks at no node and at the node, of which the first is done last, and runs both again along their order.
+/// Looks at no node and at the node, of which the first look is done last, and then runs both again along their order.
 fn look_again(rt: &(impl Abort + AllocGlobal), core: &mut Core) -> Result<(), Fail> {
     let alloc = rt.alloc();
     core.add_proc(alloc, "look", procedure_of(alloc, LOOK)?)?;

@@ -1,4 +1,4 @@
-//! The audit that is called with no report of its progress.
+//! The audit without a report of its progress.
 
 use crate::audit::WHOLE;
 use std::process::Abort;

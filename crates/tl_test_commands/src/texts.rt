@@ -4,7 +4,7 @@ pub use tl_test_data::{
     ADD, BOTH, CHAIN, FORK, LOOK, ONE_NODE, QUO, STORE, SWEEP, TURN, WALK, procedure_of, tree_of,
 };
 
-/// A root with a child that has a child, all of zeros.
+/// A root with a child that has a child; all fields are zero.
 pub const ZEROS: &str =
     "{\"parents\":[0,0,1],\"records\":[[0,0,0,0,0,0,0,0],[0,0,0,0,0,0,0,0],[0,0,0,0,0,0,0,0]]}";
 

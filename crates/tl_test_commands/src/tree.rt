@@ -5,7 +5,7 @@ use std::process::Abort;
 use std::test::Fail;
 use tl_tree::{Record, Shape, Tree, TreeFault, read_tree, write_tree};
 
-/// A record of the least number, the numbers about 0 and the greatest number.
+/// A record with the least number, the numbers around 0 and the greatest number.
 const WIDE: Record = [i64::MIN, -1, 0, i64::MAX, 1, -2, i64::MAX, i64::MIN];
 
 /// The texts of a tree and of the tree with that record.
@@ -13,7 +13,7 @@ const TEXTS: &str =
     "{\"parents\":[0,0,0],\"records\":[[0,0,0,0,0,0,0,0],[10,0,0,0,0,0,0,0],[20,0,0,0,0,0,0,0]]}
 {\"parents\":[0,0,0],\"records\":[[0,0,0,0,0,0,0,0],[-9223372036854775808,-1,0,9223372036854775807,1,-2,9223372036854775807,-9223372036854775808],[20,0,0,0,0,0,0,0]]}";
 
-/// A tree is changed, and its copy stays. What is written of both is read again.
+/// Changes a tree; its copy stays as it is. The texts of both are read again.
 fn change(rt: &(impl Abort + AllocGlobal), tree: &mut Tree, copy: &Tree) -> Result<(), Fail> {
     let alloc = rt.alloc();
     assert_eq!(rt; (copy.shape().node_count(), copy.shape().kids(0)), (3, 2));
@@ -49,7 +49,7 @@ fn a_shape_has_at_most_4096_nodes(rt: HostRuntime) -> Result<(), Fail> {
     Ok(())
 }
 
-/// The ways of a shape in which 0 has 1 and 3, 1 has 2 and 4, and 4 has 5.
+/// The paths of a shape in which 0 has the children 1 and 3, 1 has 2 and 4, and 4 has 5.
 fn ways(rt: &impl Abort, shape: &Shape) {
     assert_eq!(rt; shape.node_count(), 6);
     for (node, parent, kids) in [

@@ -75,7 +75,7 @@ L10:
 ret
 ";
 
-/// Goes from the node `v0` down by first children, at most twelve times, and emits field 0 of the node that it comes to.
+/// Descends from the node `v0` by first children, at most twelve times, and emits field 0 of the last node.
 pub const WALK: &str = "arity 1
 first n0 v0 else L9
 rep 12
@@ -91,7 +91,7 @@ L9:
 ret
 ";
 
-/// Adds `v0` to field 0 of each node on the way down from the root by first children.
+/// Adds `v0` to field 0 of each node on the path down from the root by first children.
 pub const SWEEP: &str = "arity 1
 first n0 v1 else L10
 rep 12

@@ -1,4 +1,4 @@
-// What is asked for at once.
+// Batches that a test asks for.
 
 use std::alloc::{AllocError, Global};
 use std::sync::Wait;
@@ -6,10 +6,10 @@ use std::thread::Threads;
 use tl_table::Receipt;
 use tl_workers::{Engine, Gate, MAX_REQUESTS, MAX_WORKERS, Refusal, Request, Session};
 
-/// What each request of a batch comes to.
+/// The result of each request of a batch.
 pub type Answers = Vec<Result<Receipt, Refusal>>;
 
-/// How often a call is asked for, its procedure's name, and what it is given.
+/// How often a call is asked for, the name of its procedure, and its arguments.
 pub type Asked<'a> = (usize, &'a str, &'a [i64]);
 
 fn request(alloc: Global, name: &str, args: &[i64]) -> Result<Request, AllocError> {
@@ -28,8 +28,7 @@ fn requests(alloc: Global, asked: &[Asked<'_>]) -> Result<Vec<Request>, AllocErr
     Ok(requests)
 }
 
-/// Runs what is asked for as a batch of that session. 990 also where nothing, or more than may be, is asked for, or of no or too many
-/// workers.
+/// Runs the requests as a batch of `session`. 990 also if there is no request or no worker, or if there are too many of either.
 pub fn batch<R: Threads + Wait + Sync, G: Gate + Sync>(
     rt: &R,
     alloc: Global,
@@ -47,7 +46,7 @@ pub fn batch<R: Threads + Wait + Sync, G: Gate + Sync>(
     engine.batch(rt, alloc, session, &requests, workers, gate)
 }
 
-/// How many of a batch's requests were answered by a receipt.
+/// How many requests of a batch were answered with a receipt.
 pub fn done(answers: &[Result<Receipt, Refusal>]) -> i64 {
     let mut done: i64 = 0;
     for answer in answers {

@@ -1,4 +1,4 @@
-// What a closed table says.
+// The results of a closed table.
 
 use std::alloc::Global;
 use std::test::Fail;
@@ -11,7 +11,7 @@ use tl_tree::Record;
 use tl_tree_locking::Event;
 use tl_workers::Session;
 
-/// The epochs of a closed table, and the sessions that it was closed with. What its calls have done is clean.
+/// The epochs of a closed table, and the sessions with which it was closed. An audit of what its calls have done is clean.
 #[derive(Drop)]
 pub struct Ended {
     chain: Vec<Closed>,
@@ -20,7 +20,7 @@ pub struct Ended {
 }
 
 impl Ended {
-    // An `Err` where an audit of what the calls have done finds something wrong.
+    // An `Err` if an audit of what the calls have done finds a fault.
     pub(crate) fn of(
         alloc: Global,
         chain: Vec<Closed>,
@@ -36,7 +36,7 @@ impl Ended {
         }
     }
 
-    /// The sessions that it was closed with.
+    /// The sessions with which the table was closed.
     pub fn sessions(&self) -> &[Session] {
         self.sessions.as_slice()
     }
@@ -46,7 +46,7 @@ impl Ended {
         self.chain.len()
     }
 
-    /// The records that the calls have left.
+    /// The records at the end.
     pub fn records(&self) -> &[Record] {
         match self.chain.last() {
             Some(closed) => closed.core().tree().records(),
@@ -54,7 +54,7 @@ impl Ended {
         }
     }
 
-    /// What the calls of the last epoch have done.
+    /// The events of the last epoch.
     pub fn events(&self) -> &[Event] {
         match self.chain.last() {
             Some(closed) => closed.core().history().events(),
@@ -62,7 +62,7 @@ impl Ended {
         }
     }
 
-    /// The order that the closed table keeps of the calls of an epoch.
+    /// The order that the closed table keeps for an epoch. `epoch` counts from 0.
     pub fn order_in(&self, epoch: usize) -> &[u32] {
         match self.chain.get(epoch) {
             Some(closed) => closed.order().calls(),
@@ -70,7 +70,7 @@ impl Ended {
         }
     }
 
-    /// The order that an audit of the trails finds for an epoch.
+    /// The order that an audit of the trails finds for an epoch. `epoch` counts from 0.
     pub fn audited_in(&self, epoch: usize) -> &[u32] {
         match self.audited.get(epoch) {
             Some(order) => order.calls(),
@@ -78,17 +78,17 @@ impl Ended {
         }
     }
 
-    /// The order that the closed table keeps, of the first epoch.
+    /// The order that the closed table keeps for the first epoch.
     pub fn order(&self) -> &[u32] {
         self.order_in(0)
     }
 
-    /// The order that an audit of the trail finds, of the first epoch.
+    /// The order that an audit of the trail finds for the first epoch.
     pub fn audited(&self) -> &[u32] {
         self.audited_in(0)
     }
 
-    /// The text of the chain of the epochs' trails.
+    /// The text of the chain with the trails of all epochs.
     pub fn chain_text(&self, alloc: Global) -> Result<String, Fail> {
         let trails = trails_of(alloc, self.chain.as_slice())?;
         Ok(write_chain(alloc, &trails)?)
@@ -111,7 +111,7 @@ impl Ended {
     }
 }
 
-// The orders that an audit finds in what the calls of the epochs have done. An `Err` where that isn't clean.
+// The orders that an audit finds for the epochs. An `Err` if the audit isn't clean.
 fn audited(alloc: Global, chain: &[Closed]) -> Result<Vec<Order>, Fail> {
     let trails = trails_of(alloc, chain)?;
     if trails.is_empty() || trails.len() > MAX_TRAILS {

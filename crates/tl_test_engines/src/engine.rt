@@ -1,4 +1,4 @@
-// Engines, and the sessions with which they close.
+// Engines, and the sessions with which they are closed.
 
 use crate::ended::Ended;
 use std::alloc::Global;
@@ -34,7 +34,7 @@ pub(crate) fn register_all(
     Ok(())
 }
 
-// So many new sessions of the engine.
+// `count` new sessions of the engine.
 fn sessions_of(
     rt: &impl Wait,
     alloc: Global,
@@ -48,7 +48,7 @@ fn sessions_of(
     Ok(sessions)
 }
 
-// What the engine says once it is closed with these sessions.
+// The results of the engine, once it is closed with these sessions.
 fn closed(alloc: Global, engine: Engine, sessions: Vec<Session>) -> Result<Ended, Fail> {
     match engine.close(sessions) {
         Ok((chain, sessions)) => Ended::of(alloc, chain, sessions),
@@ -56,7 +56,7 @@ fn closed(alloc: Global, engine: Engine, sessions: Vec<Session>) -> Result<Ended
     }
 }
 
-// Ends an engine with this session alone.
+// Hands an engine and this session alone to `end`.
 pub(crate) fn end_with<U, E: FnOnce(Engine, Vec<Session>) -> U>(
     alloc: Global,
     engine: Engine,
@@ -70,9 +70,9 @@ pub(crate) fn end_with<U, E: FnOnce(Engine, Vec<Session>) -> U>(
     Ok(end(engine, sessions))
 }
 
-/// Lends an engine on the tree of a text, with procedures, and so many sessions to `body`. Then it closes the engine with these
-/// sessions, and lends what it says to `judge`, with what `body` answered. It is an `Err` where the engine doesn't close, or
-/// where what its calls have done isn't clean.
+/// Lends an engine on the tree of a text, with procedures, and `sessions` sessions to `body`. Then it closes the engine with these
+/// sessions, and lends its results to `judge`, with the answer of `body`. It is an `Err` if the engine doesn't close, or if an
+/// audit of what its calls have done isn't clean.
 pub fn with_engine<R, T, U, F, G>(
     rt: &R,
     alloc: Global,
@@ -97,8 +97,8 @@ where
     judge(answer, &ended)
 }
 
-/// Lends an engine on the tree of a text, with procedures, and one session to `body`. Then it closes the engine with this session, and
-/// lends what it says to `judge`, as `with_engine` does.
+/// Lends an engine on the tree of a text, with procedures, and one session to `body`. Then it closes the engine with this session,
+/// and lends its results to `judge`, as `with_engine` does.
 pub fn with_one_session<R, T, U, F, G>(
     rt: &R,
     alloc: Global,
@@ -124,7 +124,7 @@ where
     judge(answer, &ended)
 }
 
-// Lends the session, and gives it back.
+// Lends the session to `body`, and gives it back.
 fn lent<A, F: FnOnce(&Engine, &mut Session) -> A>(
     engine: &Engine,
     session: Session,
@@ -137,8 +137,8 @@ fn lent<A, F: FnOnce(&Engine, &mut Session) -> A>(
     (session, answer)
 }
 
-/// Lends an engine on the tree of a text, with procedures, to `one` and to `other`, each on a thread of its own with a session of its
-/// own. Then it closes the engine with both sessions, and lends what it says to `judge`, as `with_engine` does.
+/// Lends an engine on the tree of a text, with procedures, to `one` and to `other`, each on a thread of its own with a session of
+/// its own. Then it closes the engine with both sessions, and lends its results to `judge`, as `with_engine` does.
 pub fn with_engine_on_threads<R, A, B, U, F, G, H>(
     rt: &R,
     alloc: Global,
@@ -174,8 +174,8 @@ where
     judge(answer, other_answer, &ended)
 }
 
-/// Lends an engine on the tree of a text, with procedures, to `body`, which answers all sessions that it had. Then it closes the
-/// engine with these sessions, and lends what it says to `judge`, as `with_engine` does.
+/// Lends an engine on the tree of a text, with procedures, to `body`, which returns all sessions that it had. Then it closes the
+/// engine with these sessions, and lends its results to `judge`, as `with_engine` does.
 pub fn with_callers<R, U, F, G>(
     rt: &R,
     alloc: Global,
@@ -197,7 +197,7 @@ where
     judge(&ended)
 }
 
-/// Has the engine give all the sessions that it still may give. They are let go.
+/// Makes all the sessions that the engine may still give, and drops them.
 pub fn use_up_sessions(rt: &impl Wait, alloc: Global, engine: &Engine) {
     for _ in 0..MAX_SESSIONS {
         if engine.session(rt, alloc).is_err() {

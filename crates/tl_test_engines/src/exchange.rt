@@ -1,4 +1,4 @@
-// Engines that are to be closed with sessions of another one.
+// Engines that are closed with sessions of another engine.
 
 use crate::engine::{end_with, engine_of};
 use std::alloc::Global;
@@ -7,7 +7,7 @@ use std::test::Fail;
 use tl_table::Table;
 use tl_workers::{Engine, Session};
 
-// The table of an engine that doesn't close with this session alone. An `Err` where it does.
+// The table of an engine that doesn't close with this session alone. An `Err` if it does.
 fn left_open(alloc: Global, engine: Engine, session: Session) -> Result<Table, Fail> {
     let mut sessions = Vec::new(alloc);
     sessions.push(session)?;
@@ -17,8 +17,8 @@ fn left_open(alloc: Global, engine: Engine, session: Session) -> Result<Table, F
     }
 }
 
-/// Lends two engines on the tree of a text, with procedures and a session each, to `body`. Then each engine is to be closed with the
-/// session of the other one, and the tables that are handed back are lent to `judge`. It is an `Err` where an engine closes.
+/// Lends two engines on the tree of a text, each with procedures and a session, to `body`. Then it tries to close each engine with
+/// the other one's session, and lends the tables that are handed back to `judge`. It is an `Err` if an engine closes.
 pub fn with_exchanged_sessions<R, U, F, G>(
     rt: &R,
     alloc: Global,
@@ -44,7 +44,7 @@ where
     judge(&one, &other)
 }
 
-/// The same, but each engine is handed to `end`, with the session of the other one.
+/// The same, but each engine is handed to `end`, with the session of the other engine.
 pub fn end_exchanged<R, U, F, E>(
     rt: &R,
     alloc: Global,

@@ -1,10 +1,10 @@
 //! The owners of what tests run.
 //!
-//! A table, an engine or its sessions are made here, lent to what a test does with them, and closed; then a test is lent what
-//! the closed table says. How a value is let go is proved once for each crate that lets go of one, and at each way out of
-//! a function that owns one. So a test owns none of these, and its `?` stand where it owns nothing.
+//! A table, an engine or its sessions are made here, lent to the test, and closed; then the results of the closed table are lent to
+//! the test. How a value is dropped is proved once for each crate that drops one, and at each exit of a function that owns one. So
+//! a test owns none of these, and its `?` stand where it owns nothing.
 //!
-//! Whoever closes a table here audits what its calls have done.
+//! Each function here that closes a table audits what the table's calls have done.
 #![tactic(auto)]
 
 mod asking;

@@ -1,4 +1,4 @@
-// Engines that a test opens and concludes by the calls that it is about.
+// Engines that a test opens and concludes with the calls that it tests.
 
 use crate::engine::{end_with, register_all};
 use std::alloc::Global;
@@ -6,7 +6,8 @@ use std::sync::Wait;
 use std::test::Fail;
 use tl_workers::{Engine, Session};
 
-/// Lends the engine that `begin` makes, with procedures and a session, to `body`. Then it hands the engine to `end`, with the session.
+/// Lends the engine that `begin` makes, with procedures and a session, to `body`. Then it hands the engine and the session to
+/// `end`.
 pub fn end_opened<R, U, B, F, E>(
     rt: &R,
     alloc: Global,

@@ -15,8 +15,8 @@ fn core_of(alloc: Global, tree: &str, procedures: &[(&str, &str)]) -> Result<Cor
     Ok(core)
 }
 
-/// Lends a core on the tree of a text, with procedures, to `body`. Then it seals the core, and lends it and the one that takes over
-/// from it to `judge`. It is an `Err` where the seal is refused.
+/// Lends a core on the tree of a text, with procedures, to `body`. Then it seals the core, and lends it and its successor to
+/// `judge`. It is an `Err` if the seal is refused.
 pub fn with_sealed_core<U, F, G>(
     alloc: Global,
     tree: &str,
@@ -38,7 +38,7 @@ where
     }
 }
 
-/// The same of a core whose order is kept up to date.
+/// The same for a core that keeps its order up to date.
 pub fn with_sealed_running<U, F, G>(
     alloc: Global,
     tree: &str,

@@ -1,12 +1,12 @@
-//! What one thread tells another one.
+//! A signal from one thread to another.
 
 use std::sync::atomic::{AtomicBool, Ordering};
 use std::thread;
 
-/// How often a thread that waits looks whether it may go on.
+/// How often a waiting thread looks at the signal.
 const LOOKS: u32 = 1_000_000;
 
-/// Told by one thread, and waited for by another one, but not for ever.
+/// Told by one thread and awaited by another one, but not for ever.
 #[derive(Drop)]
 pub struct Signal {
     was_told: AtomicBool,
@@ -25,7 +25,7 @@ impl Signal {
         self.was_told.store(true, Ordering::SeqCst);
     }
 
-    /// Returns once it was told, or too late.
+    /// Returns once the signal was told, or after `LOOKS` looks in vain. Then the signal is late.
     pub fn wait(&self) {
         for _ in 0..LOOKS {
             if self.was_told.load(Ordering::SeqCst) {
@@ -36,7 +36,7 @@ impl Signal {
         self.is_late.store(true, Ordering::SeqCst);
     }
 
-    /// It was told, and whoever waited for it was told in time.
+    /// The signal was told, and no thread waited for it in vain.
     pub fn came_in_time(&self) -> bool {
         self.was_told.load(Ordering::SeqCst) && !self.is_late.load(Ordering::SeqCst)
     }

@@ -7,7 +7,7 @@ use tl_core::Core;
 use tl_table::{Receipt, Table};
 use tl_test_data::{procedure_of, tree_of};
 
-// A table on the tree of a text, with procedures and so many sessions.
+// A table on the tree of a text, with procedures and `sessions` sessions.
 fn table_of(
     alloc: Global,
     tree: &str,
@@ -34,7 +34,7 @@ fn begin(
     Ok(())
 }
 
-// What the table says once it is closed.
+// The results of the table, once it is closed.
 fn closed(alloc: Global, table: Table) -> Result<Ended, Fail> {
     match table.close() {
         Ok(chain) => Ended::of(alloc, chain, Vec::new(alloc)),
@@ -42,7 +42,7 @@ fn closed(alloc: Global, table: Table) -> Result<Ended, Fail> {
     }
 }
 
-/// The receipt of a call of an epoch of the table. An `Err` where it isn't done.
+/// The receipt of a call of an epoch of the table. An `Err` if the call isn't done.
 pub fn receipt_of(table: &Table, epoch: u32, call: u32) -> Result<Receipt, Fail> {
     match table.receipt(epoch, call) {
         Ok(Some(receipt)) => Ok(receipt),
@@ -51,9 +51,9 @@ pub fn receipt_of(table: &Table, epoch: u32, call: u32) -> Result<Receipt, Fail>
     }
 }
 
-/// Lends a table on the tree of a text, with procedures and so many sessions, to `body`. Then it closes the table, and lends what it
-/// says to `judge`, with what `body` answered. It is an `Err` where the table doesn't close, or where what its calls have done
-/// isn't clean.
+/// Lends a table on the tree of a text, with procedures and `sessions` sessions, to `body`. Then it closes the table, and lends its
+/// results to `judge`, with the answer of `body`. It is an `Err` if the table doesn't close, or if an audit of what its calls have
+/// done isn't clean.
 pub fn with_table<T, U, F, G>(
     alloc: Global,
     tree: &str,

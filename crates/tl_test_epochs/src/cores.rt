@@ -19,7 +19,7 @@ const OPENING: [[i64; 8]; 3] = [
     [20, 0, 0, 0, 0, 0, 0, 0],
 ];
 
-/// What the call leaves.
+/// The records after the call.
 const LEFT: [[i64; 8]; 3] = [
     [0, 0, 0, 0, 0, 0, 0, 0],
     [7, 0, 0, 0, 0, 0, 0, 0],
@@ -29,7 +29,7 @@ const LEFT: [[i64; 8]; 3] = [
 /// How many instructions `store` has.
 const STEPS: u32 = 4;
 
-/// The first core has done its call, and the next one begins with what that left, and with the same procedure.
+/// The sealed core has done its call. The next one begins with the records that the call left, and with the same procedure.
 fn goes_on(rt: &impl Abort, sealed: &Core, next: &Core) {
     assert_eq!(rt; sealed.calls(), 1);
     assert_eq!(rt; sealed.least_unfinished(), None);

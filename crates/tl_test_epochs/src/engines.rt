@@ -1,4 +1,4 @@
-//! Engines that are sealed: by the one session, by two at once, and in the midst of a batch.
+//! Engines that are sealed: by their only session, by two sessions at once, and in the middle of a batch.
 
 use std::alloc::Global;
 use std::process::Abort;
@@ -23,7 +23,7 @@ fn refused(rt: &impl Abort, answer: &Result<Receipt, Refusal>, fault: CoreFault)
     assert_eq!(rt; *refusal, Refusal::Table(TableFault::Core(fault)));
 }
 
-/// The receipt is of that call of that epoch, and has one value.
+/// The receipt is of call `call` of epoch `epoch`, and its reply has one value.
 fn is_of(rt: &impl Abort, answer: &Result<Receipt, Refusal>, epoch: u32, call: u32, value: i64) {
     let Ok(receipt) = answer else {
         assert!(rt; false, "a call is refused");
@@ -33,9 +33,9 @@ fn is_of(rt: &impl Abort, answer: &Result<Receipt, Refusal>, epoch: u32, call: u
     assert_eq!(rt; receipt.reply.as_slice(), [value].as_slice());
 }
 
-// ---- as many calls as an epoch has
+// ---- a full epoch
 
-/// As many calls as an epoch has, one that is refused, a seal, and the next call.
+/// As many calls as an epoch may have, one that is refused, a seal, and the next call.
 fn fill<R: Wait + Abort>(
     rt: &R,
     alloc: Global,
@@ -73,14 +73,14 @@ fn a_full_epoch_is_sealed(rt: HostRuntime) -> Result<(), Fail> {
 
 // ---- a batch over two epochs
 
-/// More looks at node 1 than may be open.
+/// Looks at node 1: one more than may be open.
 const LOOKS: [Asked<'static>; 1] = [(65, "look", &[1])];
 
-/// One more, of another session.
+/// One more look, by another session.
 const ONE: [Asked<'static>; 1] = [(1, "look", &[2])];
 
-/// Holds the first call of a batch, which the batch's own thread runs since too many are open, until the other session's thread has
-/// run all others; and then that thread, until the other one has sealed the epoch.
+/// Holds the first call of a batch, which the batch's own thread runs because too many are open, until the other session's thread
+/// has run all others. Then it holds the batch's thread until the other one has sealed the epoch.
 #[derive(Drop)]
 struct Holding {
     is_full: Signal,
@@ -123,7 +123,7 @@ impl Gate for Holding {
     }
 }
 
-/// The last of the calls is the first one of the second epoch.
+/// The last call of the batch is the first call of the second epoch.
 fn look_often<R: Threads + Wait + Abort + Sync>(
     rt: &R,
     alloc: Global,
@@ -141,7 +141,7 @@ fn look_often<R: Threads + Wait + Abort + Sync>(
     is_of(rt, &answers[64], 1, 0, 10);
 }
 
-/// Asks while too many calls are open, and so runs those; and seals once they are done.
+/// Asks while too many calls are open, and so runs these calls. Seals once they are done.
 fn seal_between<R: Threads + Wait + Abort + Sync>(
     rt: &R,
     alloc: Global,
@@ -192,10 +192,10 @@ fn a_batch_is_admitted_over_two_epochs(rt: HostRuntime) -> Result<(), Fail> {
 
 // ---- two sessions that seal at once
 
-/// How often each of them seals.
+/// How often each session seals.
 const SEALS: usize = 100;
 
-/// Seals again and again: each number is higher than the one before.
+/// Seals repeatedly: each number is higher than the one before.
 fn seal_often(rt: &(impl Wait + Abort), alloc: Global, engine: &Engine) {
     let mut least = 0;
     for _ in 0..SEALS {

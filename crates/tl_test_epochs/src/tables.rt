@@ -1,4 +1,4 @@
-//! Tables that are sealed, and what stays as it was where a seal is refused.
+//! Tables that are sealed, and what stays the same if a seal is refused.
 
 use std::alloc::Global;
 use std::process::Abort;
@@ -11,11 +11,11 @@ use tl_test_engines::{Ended, receipt_of, with_table};
 
 const PROCEDURES: [(&str, &str); 1] = [("look", LOOK)];
 
-/// What is done to a table.
+/// An operation on a table.
 enum Ask {
     /// A look at that node is admitted for session 0.
     Admit(i64),
-    /// So many turns of a call.
+    /// The given number of turns of a call.
     Turns(u32, u32),
     /// A seal.
     Seal,
@@ -70,8 +70,8 @@ fn told(alloc: Global, table: &mut Table, ask: &Ask) -> Result<String, Fail> {
     }
 }
 
-/// Two calls. The table isn't sealed while one of them is unfinished, and then nothing has changed. After the seal, calls are numbered
-/// from 0, and receipts of both epochs can be had.
+/// Two calls. While one of them is unfinished, a seal is refused and changes nothing. After the seal, calls are numbered from 0,
+/// and receipts of both epochs are available.
 const ROWS: [(Ask, &str); 21] = [
     (Ask::Admit(1), "Ok(0)"),
     (Ask::Admit(2), "Ok(1)"),
@@ -161,7 +161,7 @@ fn a_receipt_stands_in_its_own_epoch(rt: HostRuntime) -> Result<(), Fail> {
 
 // ---- the last epoch
 
-/// Seals as often as may be. A call that isn't done comes first, and then that the epochs are too many.
+/// Seals as often as possible. If both faults are there, a call that isn't done is reported before too many epochs.
 fn seal_all(rt: &impl Abort, alloc: Global, table: &mut Table) -> Result<(), Fail> {
     for number in 0..MAX_EPOCHS as u32 - 1 {
         assert_eq!(rt; table.seal(alloc), Ok(number));

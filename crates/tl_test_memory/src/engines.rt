@@ -1,4 +1,4 @@
-// Calls of sessions of an engine, one at a time and many at once, and a seal.
+// Calls of an engine's sessions, one at a time and many at once, and a seal.
 
 ghost use Rattle.tl_table.specs.Tables.{IsChain};
 
@@ -19,14 +19,14 @@ const PROCEDURES: [(&str, &str); 3] = [("add", ADD), ("look", LOOK), ("store", S
 /// How many calls are asked for one at a time.
 const CALLS: u32 = 20;
 
-/// How many calls are asked for at once: more than may be open. Each is the same call, so it doesn't matter which of them is asked for
-/// once more.
+/// How many calls are asked for at once: more than may be open. All are the same call, so it doesn't matter which of them is asked
+/// for again.
 const REQUESTS: usize = 70;
 
-/// What each request of a batch comes to.
+/// The result of each request of a batch.
 type Answers = Vec<Result<Receipt, Refusal>>;
 
-/// Runs calls of an engine, and prints what comes of each thing that is asked for.
+/// Runs calls of an engine, and prints each result.
 pub fn run<R: Print + Threads + Wait + Sync>(rt: &R, alloc: Global) -> Result<(), Halt> {
     let sessions = room_for_one(alloc)?;
     let engine = new_engine(alloc)?;
@@ -122,7 +122,7 @@ fn print_receipt(rt: &impl Print, receipt: &Receipt) -> Result<(), Halt> {
     Ok(())
 }
 
-// Where memory is refused, the engine is asked again.
+// If memory is refused, the engine is asked again.
 fn seal(rt: &impl Wait, alloc: Global, engine: &Engine) -> Result<u32, Halt> {
     if let Ok(sealed) = engine.seal(rt, alloc) {
         return Ok(sealed);
@@ -132,7 +132,7 @@ fn seal(rt: &impl Wait, alloc: Global, engine: &Engine) -> Result<u32, Halt> {
 
 // ---- one call
 
-// Where memory is refused, the session has kept nothing, and the engine is asked again.
+// If memory is refused, the session has kept nothing, and the engine is asked again.
 fn call(
     rt: &impl Wait,
     alloc: Global,
@@ -171,8 +171,8 @@ fn requests_at_once(alloc: Global) -> Result<Vec<Request>, AllocError> {
     Ok(requests)
 }
 
-// Where memory is refused to the batch, the session has kept nothing, and the engine is asked again. Where it is refused to a call of
-// the batch, that call alone is asked for again.
+// If memory is refused to the batch, the session has kept nothing, and the engine is asked again. If it is refused to a call of the
+// batch, only that call is asked for again.
 fn run_batch<R: Print + Threads + Wait + Sync>(
     rt: &R,
     alloc: Global,
@@ -212,7 +212,7 @@ fn batch_twice<R: Threads + Wait + Sync>(
     batch(rt, alloc, engine, session, requests)
 }
 
-// A batch of one worker: threads would take memory in an order of their own.
+// A batch of one worker: with more threads, the order of allocations would vary.
 fn batch<R: Threads + Wait + Sync>(
     rt: &R,
     alloc: Global,
@@ -229,7 +229,7 @@ fn batch<R: Threads + Wait + Sync>(
         .map_err(|_| Halt::Refused)
 }
 
-// Prints the receipts, and answers how many requests were refused.
+// Prints the receipts, and returns how many requests were refused.
 fn print_answers(rt: &impl Print, answers: &[Result<Receipt, Refusal>]) -> Result<usize, Halt> {
     let mut refused = 0usize;
     for answer in answers {

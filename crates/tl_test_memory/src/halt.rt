@@ -1,13 +1,13 @@
-// Why the program ends early.
+// The reasons to end early.
 
 use std::io;
 
 /// Why the program ends before its last line.
 #[derive(Clone, Copy, Debug, PartialEq, Eq)]
 pub enum Halt {
-    /// What was asked for was refused, and then refused again.
+    /// A request was refused twice.
     Refused,
-    /// A call to which memory was refused has changed something.
+    /// A request changed something although memory was refused to it.
     Changed,
     /// Standard output can't be written.
     Unprinted,

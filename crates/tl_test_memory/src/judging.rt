@@ -1,4 +1,4 @@
-// What is concluded of calls, each asked once more where memory is refused.
+// What is concluded from calls. Each question is asked once more if memory is refused.
 
 ghost use Rattle.std.specs.Prelude.{◌<◌, ◌≤◌, All, IfOk, length};
 ghost use Rattle.tl_table.specs.Tables.{IsChain};
@@ -15,7 +15,8 @@ use tl_table::{Closed, conclude_all};
 use tl_trail::Trail;
 use tl_tree::{Record, Tree};
 
-/// Prints the order of the running calls, what they leave and what they reply when they run again along it; or which call is unfinished.
+/// Prints the order of the running calls, the records they leave and their replies as they run again along that order; or which
+/// call is unfinished.
 pub fn conclude(rt: &impl Print, alloc: Global, running: &Running) -> Result<(), Halt> {
     match concluded(alloc, running) {
         Ok(order) => {
@@ -50,7 +51,7 @@ fn replayed(alloc: Global, order: &Order, core: &Core) -> Result<(Tree, Vec<Repl
     replay(alloc, order, core).map_err(|_| Halt::Refused)
 }
 
-/// Prints what an audit of the core's trail says.
+/// Prints the result of an audit of the core's trail.
 pub fn judge(rt: &impl Print, alloc: Global, core: &Core) -> Result<(), Halt> {
     let trail = trail(alloc, core)?;
     match audited(alloc, &trail) {
@@ -63,7 +64,7 @@ pub fn judge(rt: &impl Print, alloc: Global, core: &Core) -> Result<(), Halt> {
     }
 }
 
-/// Prints what an audit of the chain of these epochs' trails says, and the orders that are concluded of all together.
+/// Prints the result of an audit of the chain of these epochs' trails, and the orders that are concluded for all epochs together.
 pub fn judge_all(rt: &impl Print, alloc: Global, chain: &[Closed]) -> Result<(), Halt>
     requires { IsChain chain.now }
 {

@@ -1,8 +1,8 @@
-//! Asks for all that takes memory, one call after another, and asks once more where it is refused.
+//! Makes each request that takes memory, one after another, and repeats it once if memory is refused.
 //!
-//! It prints a line for each answer that depends on what the calls before have left. So a run to which memory is refused once, wherever
-//! that is, prints the same as a run with ample memory. Its exit status is 0 then. It is 4 where a call was refused twice, 3 where standard
-//! output can't be written, and 1 where a refusal has changed something. `tests/refusals` runs it.
+//! It prints a line for each answer that depends on what earlier requests have left. So a run to which memory is refused once, at
+//! any place, prints the same as a run with ample memory, and its exit status is 0. The status is 4 if a request was refused twice,
+//! 3 if standard output can't be written, and 1 if a refusal has changed something. `tests/refusals` runs it.
 #![tactic(auto)]
 
 mod engines;

@@ -1,4 +1,4 @@
-// Trees and procedures, each made once more where it is refused.
+// Trees and procedures. Each is made once more if memory is refused.
 
 use crate::halt::Halt;
 use std::alloc::Global;

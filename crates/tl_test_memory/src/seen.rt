@@ -1,11 +1,12 @@
-// What a core tells of itself.
+// The observable state of a core.
 
 use crate::halt::Halt;
 use std::io;
 use tl_core::Core;
 use tl_tree_locking::Event;
 
-/// What a core tells of itself: counts, and a number that depends on its procedures' names, requests, events, replies, records and holders.
+/// The observable state of a core: counts, and a number that depends on its procedures' names, requests, events, replies, records
+/// and holders.
 #[derive(Clone, Copy, Debug, PartialEq, Eq)]
 pub struct Seen {
     procedures: usize,
@@ -16,7 +17,7 @@ pub struct Seen {
 }
 
 impl Seen {
-    /// What the core tells now.
+    /// The state of the core now.
     pub fn of(core: &Core) -> Seen {
         let history = core.history();
         Seen {
@@ -28,7 +29,7 @@ impl Seen {
         }
     }
 
-    /// The core still tells the same.
+    /// The core's state is still the same. `Changed` if it isn't.
     pub fn stands(&self, core: &Core) -> Result<(), Halt> {
         if Seen::of(core) != *self {
             return Err(Halt::Changed);

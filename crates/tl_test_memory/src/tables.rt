@@ -1,4 +1,4 @@
-// Calls of a session of a table.
+// Calls of a table's session.
 
 use crate::halt::Halt;
 use crate::judging::{judge, judge_all, print_order, print_records};
@@ -19,7 +19,7 @@ const EPOCHS: u32 = 2;
 /// How many turns a call takes at most.
 const TURNS: u32 = 10;
 
-/// Runs calls of a table, and prints what comes of each thing that is asked for.
+/// Runs calls of a table, and prints each result.
 pub fn run(rt: &impl Print, alloc: Global) -> Result<(), Halt> {
     let mut table = new_table(alloc)?;
     run_on(rt, alloc, &mut table)?;
@@ -74,7 +74,7 @@ fn register(alloc: Global, table: &mut Table) -> Result<(), Halt> {
     Ok(())
 }
 
-// Where memory is refused, the table is as it was, and is asked again.
+// If memory is refused, the table is unchanged and is asked again.
 fn admit(
     alloc: Global,
     table: &mut Table,
@@ -94,8 +94,8 @@ fn admit(
     Ok(answer)
 }
 
-// Takes the turns of each call. From the last admission on nothing takes memory: where the first of these lines is printed, the second
-// is too.
+// Runs the turns of each call. After the last admission nothing takes memory: if the first of these lines is printed, so is the
+// second.
 fn send_all(rt: &impl Print, table: &mut Table) -> Result<(), Halt> {
     rt.println("all calls are admitted")?;
     for call in 0..table.core().calls() as u32 {
@@ -119,7 +119,7 @@ fn send_each(table: &mut Table, call: u32) -> Result<(), Halt> {
     Err(Halt::Changed)
 }
 
-// Where memory is refused, the table is as it was, and is asked again.
+// If memory is refused, the table is unchanged and is asked again.
 fn seal(alloc: Global, table: &mut Table) -> Result<u32, Halt> {
     let (before, epoch, sessions) = (Seen::of(table.core()), table.epoch(), table.sessions());
     if let Ok(sealed) = table.seal(alloc) {

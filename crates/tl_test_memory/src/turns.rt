@@ -1,4 +1,4 @@
-// Calls that take turns on a core whose order is kept.
+// Calls that take turns on a core that keeps its order.
 
 use crate::halt::Halt;
 use crate::judging::{conclude, judge, print_order, print_records};
@@ -10,13 +10,13 @@ use tl_procedures::NamingFault;
 use tl_serial::Running;
 use tl_test_data::{ADD, BOTH, FORK, LOOK, QUO, STORE, SWEEP, TURN, WALK};
 
-/// How often all calls are asked for, each time on what is left by those before.
+/// How often all calls are asked for, each time on the records that the earlier calls left.
 const ROUNDS: u32 = 3;
 
-/// How often each call may take a step: more often than any needs.
+/// How often each call may step: more often than any call needs.
 const TURNS: u32 = 2_000;
 
-/// The procedures, and some that aren't taken up.
+/// The procedures, including some that aren't taken up.
 const PROCEDURES: [(&str, &str); 12] = [
     ("add", ADD),
     ("both", BOTH),
@@ -32,7 +32,7 @@ const PROCEDURES: [(&str, &str); 12] = [
     ("store_too", STORE),
 ];
 
-/// The calls of a round, and some that aren't admitted.
+/// The calls of a round, including some that aren't admitted.
 const CALLS: [(&str, &[i64]); 14] = [
     ("both", &[11]),
     ("look", &[1]),
@@ -50,7 +50,7 @@ const CALLS: [(&str, &[i64]); 14] = [
     ("walk", &[2]),
 ];
 
-/// Runs calls in turns, and prints what comes of each thing that is asked for.
+/// Runs calls in turns, and prints each result.
 pub fn run(rt: &impl Print, alloc: Global) -> Result<(), Halt> {
     let mut running = new_running(alloc)?;
     run_on(rt, alloc, &mut running)
@@ -69,7 +69,7 @@ fn run_on(rt: &impl Print, alloc: Global, running: &mut Running) -> Result<(), H
     Ok(())
 }
 
-// Admits a call, and asks for what there is only once it is done.
+// Admits a call, and asks for results that exist only once it is done.
 fn leave_unfinished(rt: &impl Print, alloc: Global, running: &mut Running) -> Result<(), Halt> {
     let answer = admit(alloc, running, "turn", &[])?;
     println!(rt; "turn: {answer:?}")?;
@@ -98,7 +98,7 @@ fn register_all(rt: &impl Print, alloc: Global, running: &mut Running) -> Result
     Ok(())
 }
 
-// Where memory is refused, the core is as it was, and is asked again.
+// If memory is refused, the core is unchanged and is asked again.
 fn register(
     alloc: Global,
     running: &mut Running,
@@ -128,7 +128,7 @@ fn admit_all(rt: &impl Print, alloc: Global, running: &mut Running) -> Result<()
     Ok(())
 }
 
-// Where memory is refused, the core is as it was, and is asked again.
+// If memory is refused, the core is unchanged and is asked again.
 fn admit(
     alloc: Global,
     running: &mut Running,
@@ -148,8 +148,8 @@ fn admit(
     Ok(answer)
 }
 
-// Lets the calls take steps by turns, until all are done. From the last admission on nothing takes memory: where the first of these lines
-// is printed, the second is too.
+// Lets the calls step in turn until all are done. After the last admission nothing takes memory: if the first of these lines is
+// printed, so is the second.
 fn step_all(rt: &impl Print, running: &mut Running) -> Result<(), Halt> {
     rt.println("all calls are admitted")?;
     let mut moved = 0u64;

@@ -1,4 +1,4 @@
-//! A source and a sink in memory, which tell their bytes, and fail when they are told to.
+//! A source and a sink in memory, which show their bytes and fail on request.
 
 ghost use Rattle.std.specs.Prelude.{◌<◌, ◌≤◌, length};
 
@@ -6,7 +6,7 @@ use std::alloc::Global;
 use std::process::Abort;
 use tl_server::{Failure, Sink, Source};
 
-/// Bytes that come at most so many at a time, or a line at a time. One read fails: the one behind so many.
+/// A source whose bytes come at most `size` at a time, or a line at a time. One read fails: the one after `reads` reads.
 #[derive(Drop)]
 pub struct Failing<'a> {
     pub left: &'a [u8],
@@ -18,7 +18,7 @@ pub struct Failing<'a> {
 }
 
 impl<'a> Failing<'a> {
-    /// In pieces of at most that many, and at least one.
+    /// In pieces of at most `size` bytes, and at least one.
     pub fn new(bytes: &'a [u8], size: usize, reads: u32) -> Failing<'a> {
         Failing {
             left: bytes,
@@ -29,7 +29,7 @@ impl<'a> Failing<'a> {
         }
     }
 
-    /// A line at a time, with its LF.
+    /// One line at a time, with its LF.
     pub fn by_line(bytes: &'a [u8], reads: u32) -> Failing<'a> {
         Failing {
             left: bytes,
@@ -54,7 +54,7 @@ impl<'a> Failing<'a> {
     }
 }
 
-/// How many bytes the first line of a text has, with its LF.
+/// The length of the first line of a text in bytes, with its LF.
 pub fn first_line(text: &[u8]) -> usize
     ensures within { result ≤ length text.now }
     ensures some { 0 < length text.now → 0 < result }
@@ -88,7 +88,8 @@ impl<'a> Source for Failing<'a> {
     }
 }
 
-/// What was written. It takes at most `size` bytes at a time. One write fails: the one behind so many.
+/// A sink that keeps what was written. It takes at most `size` bytes at a time, and at least one. One write fails: the one after
+/// `writes` writes.
 #[derive(Drop)]
 pub struct Written<'a, R> {
     rt: &'a R,

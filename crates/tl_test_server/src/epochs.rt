@@ -9,7 +9,7 @@ use std::test::Fail;
 use std::thread::Threads;
 use tl_server::Bytes;
 
-/// A procedure, and a call of it.
+/// A `register` of a procedure, and a call of it.
 const QUO: &[u8] =
     b"{\"asm\":\"arity 2\\ndiv v2 v0 v1 else L2\\nemit v2\\nL2:\\nret\",\"name\":\"quo\",\"op\":\"register\"}\n";
 
@@ -17,7 +17,7 @@ const CALL: &[u8] = b"{\"args\":[6,3],\"op\":\"call\",\"proc\":\"quo\"}\n";
 
 const SEAL: &[u8] = b"{\"op\":\"seal\"}\n";
 
-/// Lines, and what they are answered.
+/// Lines, and their answers.
 const ROWS: [(&[u8], &[u8]); 8] = [
     (QUO, b"{\"bounds\":{\"emits\":1,\"locks\":0,\"steps\":3}}\n"),
     (CALL, b"{\"call\":0,\"reply\":[2]}\n"),
@@ -48,7 +48,7 @@ fn a_seal_is_a_line(rt: HostRuntime) -> Result<(), Fail> {
     Ok(())
 }
 
-/// What the last lines are answered: as many calls as an epoch has were done before, so the next one is refused until a seal.
+/// The answers to the last lines. As many calls as an epoch may have were done before, so the next one is refused until a seal.
 const LAST: &[u8] = b"{\"error\":[603]}\n{\"sealed\":0}\n{\"call\":0,\"epoch\":1,\"reply\":[2]}\n";
 
 fn fills_an_epoch<R: Threads + Wait + Sync + Abort>(rt: &R, alloc: Global) -> Result<(), Fail> {

@@ -12,12 +12,12 @@ use tl_test_data::ONE_NODE;
 use tl_test_engines::with_one_session;
 use tl_workers::{Engine, Session};
 
-/// How many bytes end a line.
+/// How many line ends the bytes have.
 fn line_ends(text: &[u8]) -> usize {
     text.iter().filter(|byte| **byte == b'\n').count()
 }
 
-/// The lines come from a source of which the read behind so many fails. Answers whether it came to that read.
+/// Serves the lines from a source that fails at the read after `reads` reads. Returns whether that read happened.
 fn fails_at_a_read<R: Threads + Wait + Sync + Abort>(
     rt: &R,
     alloc: Global,
@@ -31,7 +31,7 @@ fn fails_at_a_read<R: Threads + Wait + Sync + Abort>(
         return Ok(false);
     }
     assert_eq!(rt; served, Err(ServeFault::ReadFailed));
-    // The lines that were read whole are answered.
+    // The lines that were read completely are answered.
     let (read, _) = LINES.split_at(LINES.len() - source.left.len().min(LINES.len()));
     let (answers, _) = split_lines(ANSWERS, line_ends(read));
     assert_eq!(rt; sink.text.as_slice(), answers);
@@ -54,8 +54,8 @@ fn each_read_fails_in_turn(rt: HostRuntime) -> Result<(), Fail> {
     Ok(())
 }
 
-/// The answers go to a sink of which the write behind so many fails. Answers how many bytes it took before, or that it didn't come
-/// to that write.
+/// Writes the answers to a sink that fails at the write after `writes` writes. Returns how many bytes the sink took before, or None
+/// if that write didn't happen.
 fn fails_at_a_write<R: Threads + Wait + Sync + Abort>(
     rt: &R,
     alloc: Global,
@@ -73,7 +73,7 @@ fn fails_at_a_write<R: Threads + Wait + Sync + Abort>(
     assert_eq!(rt; served, Err(ServeFault::WriteFailed));
     assert!(rt; ANSWERS.starts_with(sink.text.as_slice()));
     if by_line {
-        // No line was read behind the one whose answer was cut.
+        // No line was read after the one whose answer was cut.
         let answered = line_ends(sink.text.as_slice());
         let (_, left) = split_lines(LINES, answered.saturating_add(1));
         assert_eq!(rt; source.left, left);
@@ -81,7 +81,7 @@ fn fails_at_a_write<R: Threads + Wait + Sync + Abort>(
     Ok(Some(sink.text.len()))
 }
 
-/// The lines, one at a time, so that each is answered before the next one is read; or all at once.
+/// The lines: one at a time, so that each is answered before the next one is read, or all at once.
 fn all_lines(by_line: bool) -> Failing<'static> {
     if by_line {
         Failing::by_line(LINES, u32::MAX)
@@ -101,17 +101,17 @@ fn each_write_fails_in_turn(rt: HostRuntime) -> Result<(), Fail> {
             let Some(now) = fails_at_a_write(&rt, rt.alloc(), by_line, taken, writes)? else {
                 break;
             };
-            // The sink took what it took in the run before, and one piece more.
+            // The sink took what it took in the run before, and one more piece.
             assert!(rt; writes == 0 || now > before);
             before = now;
         }
-        // All but the last piece.
+        // At most the last piece is missing.
         assert!(rt; ANSWERS.len().saturating_sub(before) <= taken);
     }
     Ok(())
 }
 
-/// A `register` and a call, of which the first answer is taken whole, and no byte of the second. Then another call.
+/// A `register` and a call: the first answer is taken completely, and no byte of the second. Then another call.
 fn loses_an_answer<R: Threads + Wait + Sync + Abort>(
     rt: &R,
     alloc: Global,

@@ -10,18 +10,18 @@ use tl_server::{Bytes, ServeFault, Sink, Source, serve};
 use tl_test_data::ONE_NODE;
 use tl_test_engines::with_one_session;
 
-/// A `register`, calls, what is refused, a batch, and a `close` without an LF.
+/// A `register`, calls, refused lines, a batch, and a `close` without an LF.
 pub const LINES: &[u8] =
     b"{\"asm\":\"arity 2\\nfirst n0 v0 else L6\\nget v2 n0 0\\nadd v2 v2 v1 else L4\\nput n0 0 v2\\nL4:\\nemit v2\\nrel n0\\nL6:\\nret\",\"name\":\"add\",\"op\":\"register\"}\n{\"args\":[0,3],\"op\":\"call\",\"proc\":\"add\"}\n{\"args\":[0,0],\"op\":\"call\",\"proc\":\"add\"}\n{\"args\":[0,0],\"op\":\"call\",\"proc\":\"nosuch\"}\n{\"asm\":\"arity 2\\nfirst n0 v0 else L6\\nget v2 n0 0\\nadd v2 v2 v1 else L4\\nput n0 0 v2\\nL4:\\nemit v2\\nrel n0\\nL6:\\nret\",\"name\":\"add\",\"op\":\"register\"}\nhello\n{\"calls\":[[\"add\",[0,1]],[\"add\",[0]]],\"op\":\"batch\",\"workers\":1}\n{\"op\":\"close\"}";
 
-/// What they are answered, on a node whose field 0 is 5.
+/// Their answers, on a node whose field 0 is 5.
 pub const ANSWERS: &[u8] =
     b"{\"bounds\":{\"emits\":1,\"locks\":1,\"steps\":7}}\n{\"call\":0,\"reply\":[8]}\n{\"call\":1,\"reply\":[8]}\n{\"error\":[601]}\n{\"error\":[611]}\n{\"error\":[901]}\n{\"batch\":[{\"call\":2,\"reply\":[9]},{\"error\":[501]}]}\n{\"closed\":true}\n";
 
 /// The answer to the first line.
 pub const BOUNDS: &[u8] = b"{\"bounds\":{\"emits\":1,\"locks\":1,\"steps\":7}}\n";
 
-/// The lines of a text from its beginning, so many, each with its LF; and what is left.
+/// The first `count` lines of a text, each with its LF, and the rest.
 pub fn split_lines(text: &[u8], count: usize) -> (&[u8], &[u8]) {
     let mut left = text;
     for _ in 0..count {
@@ -31,7 +31,7 @@ pub fn split_lines(text: &[u8], count: usize) -> (&[u8], &[u8]) {
     text.split_at(text.len().saturating_sub(left.len()))
 }
 
-/// Serves the lines of the source on a new engine, in a session with which it closes.
+/// Serves the lines of the source on a new engine, in one session. Then the engine closes with that session.
 pub fn served<R: Threads + Wait + Sync, S: Source, K: Sink>(
     rt: &R,
     alloc: Global,
@@ -72,7 +72,7 @@ fn lines_in_pieces(rt: HostRuntime) -> Result<(), Fail> {
     Ok(())
 }
 
-/// How many bytes `x` stand first, and what comes behind them; the answers, and how many these are.
+/// How many bytes `x` come first, and the bytes after them; the answers, and their number.
 const LONG: [(usize, &[u8], &[u8], u64); 5] = [
     (65_536, b"", b"{\"error\":[901]}\n", 1),
     (65_537, b"", b"{\"error\":[902]}\n", 1),
@@ -86,7 +86,7 @@ const LONG: [(usize, &[u8], &[u8], u64); 5] = [
     ),
 ];
 
-/// The lines are answered so.
+/// Serves these lines, and checks the answers and their number.
 fn answered<R: Threads + Wait + Sync + Abort>(
     rt: &R,
     alloc: Global,

@@ -17,20 +17,20 @@ use tl_workers::{Engine, Session};
 
 const REFUSED: &[u8] = b"{\"error\":[901]}\n";
 
-/// For how many seconds an answer is waited for.
+/// How many seconds to wait for an answer.
 const PATIENCE: u64 = 10;
 
 fn address(port: u16) -> SocketAddr {
     SocketAddr::V4(SocketAddrV4::new(Ipv4Addr::LOCALHOST, port))
 }
 
-/// A port that nobody has.
+/// A port that nobody uses.
 fn free_port<R: Net<Listener = TcpListener, Stream = TcpStream>>(rt: &R) -> io::Result<u16> {
     let listener = rt.bind(address(0))?;
     Ok(listener.local_addr()?.port())
 }
 
-/// A connection, as soon as the server listens.
+/// A connection, made as soon as the server listens.
 fn connect<R: Net<Listener = TcpListener, Stream = TcpStream> + Clock>(
     rt: &R,
     port: u16,
@@ -45,7 +45,7 @@ fn connect<R: Net<Listener = TcpListener, Stream = TcpStream> + Clock>(
     rt.connect(address(port))
 }
 
-/// The next bytes that come are these.
+/// Checks that the next bytes that come are these.
 fn comes(rt: &impl Abort, stream: &mut TcpStream, bytes: &[u8]) -> io::Result<()> {
     for byte in bytes {
         let mut next = [0u8; 1];
@@ -55,14 +55,14 @@ fn comes(rt: &impl Abort, stream: &mut TcpStream, bytes: &[u8]) -> io::Result<()
     Ok(())
 }
 
-/// Nothing more comes.
+/// Checks that nothing more comes.
 fn ends(rt: &impl Abort, stream: &mut TcpStream) -> io::Result<()> {
     let mut next = [0u8; 1];
     assert_eq!(rt; stream.read(&mut next)?, 0);
     Ok(())
 }
 
-/// Sends a line that is no request, and takes its answer.
+/// Sends a line that isn't a request, and takes its answer.
 fn greet(rt: &impl Abort, stream: &mut TcpStream) -> io::Result<()> {
     stream.write_all(b"hello\n")?;
     comes(rt, stream, REFUSED)
@@ -71,11 +71,11 @@ fn greet(rt: &impl Abort, stream: &mut TcpStream) -> io::Result<()> {
 fn sessions_of(served: Result<Vec<Session>, ListenFault>) -> Result<Vec<Session>, Fail> {
     match served {
         Ok(sessions) => Ok(sessions),
-        Err(_) => Err("the port can't be had".into()),
+        Err(_) => Err("the port can't be opened".into()),
     }
 }
 
-/// A server of so many connections on this engine, while `ask` talks to its port. Answers the sessions.
+/// Runs a server of `connections` connections on this engine, while `ask` talks to its port. Returns the sessions.
 fn listening<R, F>(
     rt: &R,
     alloc: Global,
@@ -89,7 +89,7 @@ where
     requires { (f : _) (x : _) → F.pre f x }
 {
     let port = free_port(rt)?;
-    // Where a connection fails, the server may wait for ever: the test ends at once.
+    // If a connection fails, the server may wait for ever. So the test ends at once.
     let (served, ()) = thread::join(
         rt,
         || listen(rt, alloc, port, connections, engine),
@@ -98,7 +98,7 @@ where
     sessions_of(served)
 }
 
-/// A server of so many connections on a tree, while `ask` talks to its port. Then the engine closes with the sessions.
+/// Runs a server of `connections` connections on a tree, while `ask` talks to its port. Then the engine closes with the sessions.
 fn with_server<R, F, G>(
     rt: &R,
     alloc: Global,
@@ -126,13 +126,13 @@ where
     )
 }
 
-/// The engine has closed with so many sessions.
+/// Checks that the engine has closed with `sessions` sessions.
 fn closes_with(rt: &impl Abort, ended: &Ended, sessions: usize) -> Result<(), Fail> {
     assert_eq!(rt; ended.sessions().len(), sessions);
     Ok(())
 }
 
-/// All lines are sent and ended, and all answers come back.
+/// Sends all lines and their end; all answers come back.
 fn all_lines<R: Net<Listener = TcpListener, Stream = TcpStream> + Clock + Abort>(
     rt: &R,
     port: u16,
@@ -156,7 +156,7 @@ fn all_lines_over_a_connection(rt: HostRuntime) -> Result<(), Fail> {
     )
 }
 
-/// Eight connections are held open; the ninth is answered after one of them has ended.
+/// Eight connections stay open; the ninth is answered after one of them has ended.
 fn nine<R: Net<Listener = TcpListener, Stream = TcpStream> + Clock + Abort>(
     rt: &R,
     alloc: Global,
@@ -190,7 +190,7 @@ fn a_ninth_connection_waits(rt: HostRuntime) -> Result<(), Fail> {
     )
 }
 
-/// What still comes is the answer to a call, with that reply.
+/// Checks that the remaining bytes are the answer to a call, with that reply.
 fn replies(rt: &impl Abort, stream: &mut TcpStream, reply: &[u8]) -> io::Result<()> {
     stream.shutdown(Shutdown::Write)?;
     comes(rt, stream, b"{\"call\":")?;
@@ -202,7 +202,7 @@ fn replies(rt: &impl Abort, stream: &mut TcpStream, reply: &[u8]) -> io::Result<
     ends(rt, stream)
 }
 
-/// Two connections that are open at once ask for a call each, before either reads its answer.
+/// Two open connections ask for a call each, before either reads its answer.
 fn two_at_once<R: Net<Listener = TcpListener, Stream = TcpStream> + Clock + Abort>(
     rt: &R,
     port: u16,
@@ -218,7 +218,7 @@ fn two_at_once<R: Net<Listener = TcpListener, Stream = TcpStream> + Clock + Abor
     replies(rt, &mut other, b",\"reply\":[23]}\n")
 }
 
-/// The engine's order has both calls, and its tree what they added.
+/// Both calls are in the engine's order, and its tree has what they added.
 fn has_both(rt: &impl Abort, ended: &Ended) -> Result<(), Fail> {
     let order = ended.order();
     assert!(rt; order == [0, 1].as_slice() || order == [1, 0].as_slice());
@@ -246,7 +246,7 @@ fn two_connections_at_once_get_their_own_replies(rt: HostRuntime) -> Result<(), 
     )
 }
 
-/// A port that another one has.
+/// Listens on a port that is in use.
 fn listen_on_a_port_that_is_had<R>(
     rt: &R,
     alloc: Global,
@@ -274,7 +274,7 @@ fn a_port_that_is_had_is_refused(rt: HostRuntime) -> Result<(), Fail> {
     )
 }
 
-/// A peer that reads its answers and goes away without a `close`; then another one.
+/// A peer that reads its answers and leaves without a `close`; then another one.
 fn one_after_another<R>(rt: &R, port: u16) -> io::Result<()>
 where
     R: Net<Listener = TcpListener, Stream = TcpStream> + Clock + Abort,
@@ -302,7 +302,7 @@ fn a_peer_that_goes_away_leaves_its_calls_done(rt: HostRuntime) -> Result<(), Fa
     )
 }
 
-/// A connection, and one to another address of this machine.
+/// A connection to the server's address, and one to another address of this machine, which fails.
 fn local_alone<R>(rt: &R, port: u16) -> io::Result<()>
 where
     R: Net<Listener = TcpListener, Stream = TcpStream> + Clock + Abort,
@@ -325,7 +325,7 @@ fn no_other_address_is_listened_on(rt: HostRuntime) -> Result<(), Fail> {
     )
 }
 
-/// A peer that goes away while an answer has come of which it has read one byte. So its connection is reset.
+/// A peer that sends `lines`, reads `first` and leaves while more of its answers has come. So its connection is reset.
 fn reset(rt: &impl Abort, stream: TcpStream, lines: &[u8], first: &[u8]) -> io::Result<()> {
     let mut stream = stream;
     stream.write_all(lines)?;
@@ -388,7 +388,7 @@ fn the_session_of_a_connection_that_is_reset_is_answered(rt: HostRuntime) -> Res
     )
 }
 
-/// Nine connections, each of which is told that there is no session for it, and ended.
+/// Nine connections, each of which gets the answer that there is no session for it, and is then ended.
 fn nine_are_refused<R>(rt: &R, port: u16) -> io::Result<()>
 where
     R: Net<Listener = TcpListener, Stream = TcpStream> + Clock + Abort,

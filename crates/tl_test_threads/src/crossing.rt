@@ -1,4 +1,4 @@
-//! Two calls that a gate lets cross: each is held in the midst of its turns until the other one has gone on.
+//! Two calls that a gate makes cross: each is held in the middle of its turns until the other one has gone on.
 
 use std::alloc::Global;
 use std::process::Abort;
@@ -15,14 +15,14 @@ use tl_workers::{Engine, Gate, Refusal, Session};
 /// How often two calls cross.
 const RUNS: u32 = 20;
 
-/// Where in its second turn call 0 is held: before it, or after its local instructions.
+/// The point of its second turn at which call 0 is held: before the turn, or after its local instructions.
 #[derive(Clone, Copy, Debug, PartialEq, Eq)]
 enum Point {
     Pass,
     Ready,
 }
 
-/// Holds call 1 before its first turn until call 0 has come to that point of its second, and call 0 there until call 1 was
+/// Holds call 1 before its first turn until call 0 has reached that point of its second turn. Holds call 0 there until call 1 was
 /// answered.
 #[derive(Drop)]
 struct Crossing {
@@ -40,7 +40,7 @@ impl Crossing {
         }
     }
 
-    // Call 0 has come to a point of its second turn.
+    // Call 0 has reached a point of its second turn.
     fn come_to(&self, point: Point) {
         if point == self.point {
             self.has_come.tell();
@@ -79,7 +79,7 @@ impl Gate for Crossing {
 /// Locks, frees and ends, each with its call: call 1 locks, frees and ends while call 0 holds its node.
 const CROSSED: [(char, u32); 6] = [('l', 0), ('l', 1), ('f', 1), ('d', 1), ('f', 0), ('d', 0)];
 
-/// A lock, a free or an end, with its call.
+/// A lock, a free or an end, with its call; None for any other event.
 fn told(event: &Event) -> Option<(char, u32)> {
     match *event {
         Event::Admit { .. } => None,
@@ -89,7 +89,7 @@ fn told(event: &Event) -> Option<(char, u32)> {
     }
 }
 
-/// The calls have crossed.
+/// Checks that the calls have crossed.
 fn crossed(rt: &impl Abort, ended: &Ended) {
     let mut left = CROSSED.as_slice();
     for event in ended.events() {
@@ -105,7 +105,7 @@ fn crossed(rt: &impl Abort, ended: &Ended) {
     assert!(rt; left.is_empty());
 }
 
-/// A look at that node of the fork finds ten times its number.
+/// Checks that a look at that node of the fork finds ten times its number.
 fn found(rt: &impl Abort, node: i64, answer: &Result<Receipt, Refusal>) {
     let Ok(receipt) = answer else {
         assert!(rt; false, "a look is refused");
@@ -121,7 +121,7 @@ fn found(rt: &impl Abort, node: i64, answer: &Result<Receipt, Refusal>) {
 /// Looks at nodes 1 and 2.
 const LOOKED: [Asked<'static>; 2] = [(1, "look", &[1]), (1, "look", &[2])];
 
-/// Two looks cross in a batch of this session.
+/// Makes two looks cross in a batch of this session.
 fn cross_in_a_batch<R: Threads + Wait + Abort + Sync>(
     rt: &R,
     alloc: Global,
@@ -138,7 +138,7 @@ fn cross_in_a_batch<R: Threads + Wait + Abort + Sync>(
     Ok(())
 }
 
-/// Two workers of a new engine run a look each.
+/// Two workers of a new engine run one look each.
 fn two_workers_cross<R: Threads + Wait + Abort + Sync>(
     rt: &R,
     alloc: Global,
@@ -186,7 +186,7 @@ fn look(
     found(rt, node, &answer);
 }
 
-/// Two threads of their own ask a new engine for a look each.
+/// Two threads ask a new engine for one look each.
 fn two_calls_cross<R: Threads + Wait + Abort + Sync>(
     rt: &R,
     alloc: Global,
@@ -228,11 +228,11 @@ fn a_gate_shows_local_parts_of_two_calls(rt: HostRuntime) -> Result<(), Fail> {
 const SCRIPT: &[u8] =
     b"{\"calls\":[[\"look\",[1]],[\"look\",[2]]],\"procs\":[[\"look\",\"arity 1\\nfirst n0 v0 else L4\\nget v1 n0 0\\nemit v1\\nrel n0\\nL4:\\nret\"]]}";
 
-/// What a run of it prints.
+/// What its run prints.
 const PRINTED: &str =
     "{\"batch\":[{\"call\":0,\"reply\":[10]},{\"call\":1,\"reply\":[20]}]}\n{\"order\":[0,1]}\n{\"parents\":[0,0,0],\"records\":[[0,0,0,0,0,0,0,0],[10,0,0,0,0,0,0,0],[20,0,0,0,0,0,0,0]]}\n";
 
-/// Two workers run a look each of the script.
+/// Two workers run one look each of the script.
 fn two_workers_of_a_run_cross<R: Threads + Wait + Abort + Sync>(
     rt: &R,
     alloc: Global,

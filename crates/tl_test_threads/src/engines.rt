@@ -1,4 +1,4 @@
-//! Engines on one node: what sessions keep, and with which sessions an engine closes.
+//! Engines on one node: what sessions keep, and which sessions an engine closes with.
 
 use std::alloc::Global;
 use std::process::Abort;
@@ -18,14 +18,14 @@ use tl_workers::{Did, Engine, NoGate, Refusal, Session};
 /// The procedure `add`, on a node whose field 0 is 5.
 const PROCEDURES: [(&str, &str); 1] = [("add", ADD)];
 
-/// The record of the node is that.
+/// Checks that field 0 of the node's record is `sum`, and that its other fields are 0.
 fn ends_at(rt: &impl Abort, ended: &Ended, sum: i64) {
     assert_eq!(rt; ended.records(), [[sum, 0, 0, 0, 0, 0, 0, 0]].as_slice());
 }
 
 // ---- one session
 
-/// The sum of what the receipts tell: each call of a batch found what another one left.
+/// The sum of the values in the receipts: each call of a batch found what another one left.
 fn sum(answers: &[Result<Receipt, Refusal>]) -> i64 {
     let mut sum: i64 = 0;
     for answer in answers {
@@ -78,7 +78,7 @@ fn calls_and_a_batch_are_kept_by_their_session(rt: HostRuntime) -> Result<(), Fa
 
 // ---- a session of another engine
 
-/// The table has one call, with these arguments.
+/// Checks that the table has one call, with these arguments.
 fn has_one_call(rt: &impl Abort, table: &Table, given: &[i64]) {
     assert_eq!(rt; table.core().calls(), 1);
     let (_, args) = table.core().request(0);
@@ -105,7 +105,7 @@ fn an_engine_closes_with_its_own_sessions_alone(rt: HostRuntime) -> Result<(), F
     )
 }
 
-/// 831, and the exit status of a refusal.
+/// Checks that the fault is 831 with the exit status of a refusal.
 fn is_not_closed(rt: &impl Abort, concluded: &Result<String, CliFault>) {
     let Err(fault) = concluded else {
         assert!(rt; false, "closed with another engine's session");
@@ -115,7 +115,7 @@ fn is_not_closed(rt: &impl Abort, concluded: &Result<String, CliFault>) {
     assert_eq!(rt; fault.status(), 1);
 }
 
-// One engine has a call, and the other one none.
+// One engine has a call, and the other one has none.
 #[test]
 fn nothing_is_concluded_with_another_session(rt: HostRuntime) -> Result<(), Fail> {
     let (busy, quiet) = end_exchanged(
@@ -136,10 +136,10 @@ fn nothing_is_concluded_with_another_session(rt: HostRuntime) -> Result<(), Fail
 
 // ---- an engine on the tree of a file
 
-/// The order of one call, and what it leaves.
+/// The order of one call, and the tree that it leaves.
 const CONCLUSION: &str = "{\"order\":[0]}\n{\"parents\":[0],\"records\":[[6,0,0,0,0,0,0,0]]}\n";
 
-/// What `end` answers of an engine on one node, after a call.
+/// The answer of `end` for an engine on one node, after a call.
 fn concluded<R: Wait + Abort + AllocGlobal, U, E: FnOnce(Engine, Vec<Session>) -> U>(
     rt: &R,
     end: E,
@@ -183,7 +183,7 @@ fn an_engine_is_concluded_to_its_trail(rt: HostRuntime) -> Result<(), Fail> {
 
 // ---- two sessions on threads of their own
 
-/// Asks for a hundred calls, one after another, each of which finds more than the one before.
+/// Asks for a hundred calls, one after another. Each finds more than the one before.
 fn a_hundred_calls(
     rt: &(impl Wait + Abort),
     alloc: Global,
@@ -197,7 +197,7 @@ fn a_hundred_calls(
     }
 }
 
-/// What the call found and added to, which is more than that.
+/// The sum that the call left, which must be more than `last`.
 fn found_more(rt: &impl Abort, last: i64, answer: &Result<Receipt, Refusal>) -> i64 {
     let Ok(receipt) = answer else {
         assert!(rt; false, "a call is refused");
@@ -211,7 +211,7 @@ fn found_more(rt: &impl Abort, last: i64, answer: &Result<Receipt, Refusal>) -> 
     *found
 }
 
-/// The session asked for a hundred calls, and each receipt that it got stands.
+/// Checks that the session asked for a hundred calls, and that each of its receipts stands.
 fn stand(rt: &impl Abort, ended: &Ended, session: &Session) {
     assert_eq!(rt; session.len(), 200);
     for i in 0..session.len() {

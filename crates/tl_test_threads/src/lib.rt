@@ -1,6 +1,6 @@
 //! The tests of running threads: tables, and engines with the calls and batches of their sessions.
 //!
-//! A function here owns no table and no engine: `tl_test_engines` makes them, lends them, and closes them.
+//! A function here owns no table and no engine: `tl_test_engines` makes, lends and closes them.
 #![tactic(auto)]
 
 #[cfg(test)]

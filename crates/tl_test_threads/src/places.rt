@@ -1,4 +1,4 @@
-//! A batch that waits for a place among the open calls, though the latest of its calls has ended.
+//! A batch that waits for a place among the open calls, although the latest of its calls has ended.
 
 use std::alloc::Global;
 use std::process::Abort;
@@ -13,24 +13,24 @@ use tl_workers::{Engine, Gate, Session};
 /// All places but two.
 const FIRST: [Asked<'static>; 1] = [(62, "look", &[1])];
 
-/// The two places that are left, and a request for which there is none. Its calls are 62 and 63.
+/// The two places that are left, and a request for which there is no place. Its calls are 62 and 63.
 const WAITING: [Asked<'static>; 1] = [(3, "look", &[1])];
 
-/// Again all places but one. Its first calls are 64 and 65.
+/// All places but one. Its first calls are 64 and 65.
 const LATER: [Asked<'static>; 1] = [(63, "look", &[1])];
 
-/// What three batches tell each other, in this order. Each has one worker, and runs whichever call is ready first.
+/// The signals between three batches, in this order. Each batch has one worker, which runs whichever call is ready first.
 #[derive(Drop)]
 struct Places {
     /// The calls of the first batch are open. It is held before it runs any of them.
     are_open: Signal,
-    /// The waiting batch has its two calls, and found no place for its last request. It has run call 1 in that time.
+    /// The waiting batch has its two calls, and found no place for its last request. Meanwhile it has run call 1.
     is_waiting: Signal,
     /// The first batch has run its other calls, and is held before it runs call 62: two calls are open.
     is_held: Signal,
-    /// The later batch has found no place, has run call 63, and has taken its place: again 64 calls are open.
+    /// The later batch has found no place, has run call 63, and has taken its place: 64 calls are open again.
     are_full: Signal,
-    /// The waiting batch has found no place once more, and goes on with what is ready.
+    /// The waiting batch has found no place again, and goes on with the calls that are ready.
     has_asked: Signal,
 }
 
@@ -72,13 +72,13 @@ impl Gate for Places {
     }
 }
 
-/// Tells the one, and waits for the other.
+/// Tells one signal, and waits for the other.
 fn hold(told: &Signal, awaited: &Signal) {
     told.tell();
     awaited.wait();
 }
 
-/// All that is asked for in a batch of one worker is done.
+/// Checks that all requests of a batch of one worker are done.
 fn all_done<R: Threads + Wait + Abort + Sync>(
     rt: &R,
     alloc: Global,

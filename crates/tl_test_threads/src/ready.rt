@@ -1,4 +1,4 @@
-//! The queue of ready calls: what goes through one pass, and through two.
+//! The queue of ready calls: what one pass takes, and what two passes take.
 
 use std::test::Fail;
 use tl_test_engines::with_ready;

@@ -1,4 +1,4 @@
-//! Calls that go down one path, each of which adds to every record on the way.
+//! Calls that go down the same path. Each adds to every record on the way.
 
 use std::alloc::Global;
 use std::process::Abort;
@@ -20,7 +20,7 @@ const PATH: &str =
 
 const PROCEDURES: [(&str, &str); 1] = [("sweep", SWEEP)];
 
-/// Field 0 of each of the three records is that.
+/// Checks that field 0 of each of the three records is `sum`.
 fn swept(rt: &impl Abort, ended: &Ended, sum: i64) {
     assert_eq!(rt; ended.records(), [[sum, 0, 0, 0, 0, 0, 0, 0]; 3].as_slice());
     assert_eq!(rt; ended.order(), ended.audited());
@@ -31,7 +31,7 @@ fn swept(rt: &impl Abort, ended: &Ended, sum: i64) {
 /// Sweeps that add 1 and 10.
 const TWO: [Asked<'static>; 2] = [(1, "sweep", &[1]), (1, "sweep", &[10])];
 
-/// The answer is a receipt with an empty reply.
+/// Checks that the answer is a receipt with an empty reply.
 fn says_nothing(rt: &impl Abort, answer: &Result<Receipt, Refusal>) {
     let Ok(receipt) = answer else {
         assert!(rt; false, "a sweep is refused");
@@ -134,7 +134,7 @@ fn many_workers_sweep(rt: HostRuntime) -> Result<(), Fail> {
 /// A hundred sweeps.
 const HUNDRED: [Asked<'static>; 1] = [(100, "sweep", &[1])];
 
-/// Runs a batch of sweeps, and answers how many were done.
+/// Runs a batch of sweeps, and returns how many were done.
 fn sweep_in_turn<R: Threads + Wait + Abort + Sync>(
     rt: &R,
     alloc: Global,
@@ -148,8 +148,8 @@ fn sweep_in_turn<R: Threads + Wait + Abort + Sync>(
     done(&answers)
 }
 
-/// So many sweeps were done in two batches at once: at least those of one batch, since a request is refused only while 64 calls of the
-/// other batch are open.
+/// Checks that the records show the sweeps of two batches at once: `first` and `second`. At least those of one batch were done,
+/// since a request is refused only while 64 calls of the other batch are open.
 fn swept_in_two_batches(rt: &impl Abort, ended: &Ended, first: i64, second: i64) {
     let sum = first.saturating_add(second);
     assert!(rt; sum >= 100);

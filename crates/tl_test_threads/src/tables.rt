@@ -1,4 +1,4 @@
-//! Tables: calls of sessions, run by whoever takes their state and submits what they do.
+//! Tables: calls of sessions, run by a test that takes their state and submits what they do.
 
 use std::alloc::Global;
 use std::process::Abort;
@@ -9,7 +9,7 @@ use tl_table::{Receipt, Sent, Table, TableFault};
 use tl_test_data::{FORK, LOOK, STORE};
 use tl_test_engines::{Ended, receipt_of, with_table};
 
-/// What comes of a call's next segment, in a word.
+/// The result of a call's next segment, in a word.
 fn turn(table: &mut Table, call: u32) -> Result<&'static str, TableFault> {
     let segment = local(table.state(call)?);
     match table.submit(call, segment)? {
@@ -19,14 +19,14 @@ fn turn(table: &mut Table, call: u32) -> Result<&'static str, TableFault> {
     }
 }
 
-/// For which session a call is asked for, and the answer.
+/// The session for which a call is asked for, and the answer.
 const ADMISSIONS: [(u32, Result<u32, TableFault>); 3] = [
     (1, Ok(0)),
     (0, Ok(1)),
     (2, Err(TableFault::NoSession)),
 ];
 
-/// Whose turn is next, and what comes of it: call 1 waits for call 0.
+/// Whose turn is next, and its result: call 1 waits for call 0.
 const TURNS: [(u32, Result<&str, TableFault>); 9] = [
     (0, Ok("went")),
     (1, Ok("blocked")),
@@ -39,7 +39,7 @@ const TURNS: [(u32, Result<&str, TableFault>); 9] = [
     (2, Err(TableFault::Core(CoreFault::NoCall))),
 ];
 
-/// Two calls of two sessions. Answers the receipt of the first one.
+/// Two calls of two sessions. Returns the receipt of the first one.
 fn two_calls(rt: &impl Abort, alloc: Global, table: &mut Table) -> Result<Receipt, Fail> {
     for (session, answer) in ADMISSIONS {
         assert_eq!(rt;
@@ -54,7 +54,7 @@ fn two_calls(rt: &impl Abort, alloc: Global, table: &mut Table) -> Result<Receip
     receipt_of(table, 0, 0)
 }
 
-/// The receipt is that of the first call. It stands, and the same receipt of another session doesn't.
+/// The receipt is that of the first call. It stands, but the same receipt with another session doesn't.
 fn stands_for_its_session(rt: &impl Abort, receipt: &Receipt, ended: &Ended) {
     assert_eq!(rt; receipt.session, 1);
     assert_eq!(rt; receipt.args.as_slice(), [2, 22].as_slice());

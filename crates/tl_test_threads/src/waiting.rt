@@ -1,4 +1,4 @@
-//! Calls that wait: for a node that another one holds, and for a place among the open calls.
+//! Calls that wait: for a node that another call holds, and for a place among the open calls.
 
 use std::alloc::Global;
 use std::process::Abort;
@@ -19,17 +19,17 @@ const PROCEDURES: [(&str, &str); 1] = [("look", LOOK)];
 
 // ---- for a node
 
-/// How often two calls meet at most until one of them is seen to wait.
+/// How often two calls meet at most, until one of them is seen to wait.
 const MEETINGS: u32 = 500;
 
 /// How often call 0 yields while call 1 asks for its node.
 const YIELDS: u32 = 1_000;
 
-/// How many turns a look has: up to its lock, up to its free, and the rest.
+/// How many turns a look has: one up to its lock, one up to its free, and the rest.
 const TURNS: u64 = 3;
 
-/// Holds call 1 before its first turn until call 0 has its node, and call 0 there until call 1 is about to ask for it. Counts the turns
-/// of call 1.
+/// Holds call 1 before its first turn until call 0 has its node, and holds call 0 there until call 1 is about to ask for the node.
+/// Counts the turns of call 1.
 #[derive(Drop)]
 struct Meeting {
     has_locked: Signal,
@@ -46,7 +46,7 @@ impl Meeting {
         }
     }
 
-    // Call 0 has its node. No gate is told that call 1 has asked in vain, so it is given some time.
+    // Call 0 has its node. No gate is told that call 1 has asked in vain, so call 1 is given some time.
     fn keep_node(&self) {
         self.has_locked.tell();
         self.is_asking.wait();
@@ -80,7 +80,7 @@ impl Gate for Meeting {
 /// Two looks at one node.
 const MET: [Asked<'static>; 1] = [(2, "look", &[1])];
 
-/// Two looks at one node in a batch of this session. Answers how many turns call 1 had.
+/// Two looks at one node in a batch of this session. Returns how many turns call 1 had.
 fn meet<R: Threads + Wait + Abort + Sync>(
     rt: &R,
     alloc: Global,
@@ -140,7 +140,7 @@ impl Gate for Holding {
     fn answered(&self, _call: u32) {}
 }
 
-/// A batch of one worker, whose first call is held while all others of it are open too.
+/// A batch of one worker. Its first call is held while all its other calls are open too.
 fn hold_all<R: Threads + Wait + Abort + Sync>(
     rt: &R,
     alloc: Global,
@@ -155,7 +155,7 @@ fn hold_all<R: Threads + Wait + Abort + Sync>(
     assert_eq!(rt; done(&answers), 64);
 }
 
-/// A request of another session, for which there is no place, and none of whose calls is unfinished.
+/// A request of another session, which has no unfinished call and for whose call there is no place.
 fn ask_for_more<R: Threads + Wait + Abort + Sync>(
     rt: &R,
     alloc: Global,
@@ -177,7 +177,7 @@ fn ask_for_more<R: Threads + Wait + Abort + Sync>(
     gate.may_go_on.tell();
 }
 
-/// All calls are of the first session.
+/// Checks that all calls are of the first session.
 fn are_all_of_the_first(rt: &impl Abort, ended: &Ended) -> Result<(), Fail> {
     assert_eq!(rt; ended.order().len(), 64);
     let [one, other] = ended.sessions() else {

@@ -1,22 +1,15 @@
 -- The parts of a text's form.
 use Rattle.std.proofs.Common.{◌≡◌, ◌≢◌, List, [], ◌∷◌, length, codes, Some, None, refl, sym, ap, eq-eqb, ne_eqb}
-use Rattle.serde_json.specs.Data.{Data, null, boolean, number, string, array, object, Members}
+use Rattle.serde_json.specs.Data.{Data, Members}
 use Rattle.serde_json.specs.Events.{members_len}
 use Rattle.serde_json.specs.Find.{as_array, as_object, get, get_member}
 use Rattle.serde_json.specs.View.{items_view}
 use Rattle.serde_json.specs.declared.value.Value.{Value}
+use Rattle.tl_tree.proofs.Parts.{object_is}
 use Rattle.tl_trail.specs.Reading.{Parts, parts_of, call_in, call_of}
 use Rattle.tl_json.specs.Lists.{items_of_list}
 
 -- ---- the members
-
-object_is : (d : Data) (ms : Members) → as_object d ≡ Some ms → d ≡ object ms
-object_is null ms e = absurd cc
-object_is (boolean b) ms e = absurd cc
-object_is (number n) ms e = absurd cc
-object_is (string s) ms e = absurd cc
-object_is (array ds) ms e = absurd cc
-object_is (object ns) ms e = ap object (let same : ns ≡ ms = cc in same)
 
 pub parts_found : (d : Data) (ms : Members) (parts : Parts) → as_object d ≡ Some ms → members_len ms ≡ 5 → get (codes "calls") d ≡ Some parts.calls → get (codes "end") d ≡ Some parts.ends
     → get (codes "events") d ≡ Some parts.events → get (codes "procs") d ≡ Some parts.procedures → get (codes "tree") d ≡ Some parts.tree → parts_of d ≡ Some parts

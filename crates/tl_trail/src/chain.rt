@@ -1,8 +1,9 @@
-// Chains of trails, one an epoch, from their text and as text.
+// Chains of trails, one per epoch: reading them from text and writing them as text.
 //
-// The trails of a chain may be many, so no value is made of the whole. Where the members of each trail stand in the order in which
-// they are written, they are read from their tokens; else of one trail at a time a value is made. Of a text with a number that is no
-// integer of 64 bits, in which something is wrong, there is a value of the whole: nothing else tells whether it is JSON.
+// A chain may have many trails, so no value of the whole is made. If the members of each trail come in the order in which
+// they are written, they are read from their tokens; otherwise a value is made of one trail at a time. Only for a text with
+// a fault and with a number that isn't an integer of 64 bits is a value of the whole made: nothing else shows whether it is
+// JSON.
 
 ghost use Rattle.std.specs.Prelude.{◌≡◌, ◌≢◌, ◌≤◌, List, length, string_bytes, IfOk, IfErr, IfSome, MatchResult};
 ghost use Rattle.serde_json.specs.View.{view, items_view};
@@ -21,12 +22,12 @@ use serde_json::Value;
 use std::alloc::{AllocError, Global};
 use tl_json::parse_text;
 
-/// How many trails a chain has at most.
+/// The most trails that a chain has.
 pub const MAX_TRAILS: usize = 256;
 
 // ---- each trail from its tokens
 
-// The trail that is next, if its members stand in their order and nothing is wrong with it.
+// The next trail, if its members come in their order and it has no fault.
 fn next_in_order(alloc: Global, reader: &mut Reader<'_>) -> Result<Option<Trail>, TrailFault>
     ensures some { IfOk result (λ found. IfSome found (λ t. BeginsWithTrail reader.old t reader.new)) }
     ensures err { IfErr result (λ e. e ≡ TrailFault.Memory) }
@@ -44,7 +45,7 @@ fn next_in_order(alloc: Global, reader: &mut Reader<'_>) -> Result<Option<Trail>
     }
 }
 
-// The trails up to the end of their list, if each is read so and they are no more than a chain has.
+// The trails up to the end of their list, if each can be read from its tokens and a chain may have that many.
 fn each_in_order(alloc: Global, reader: &mut Reader<'_>) -> Result<Option<Vec<Trail>>, TrailFault>
     ensures some { IfOk result (λ found. IfSome found (λ ts. BeginsWithTrails reader.old ts.items reader.new)) }
     ensures few { IfOk result (λ found. IfSome found (λ ts. length ts.items ≤ MAX_TRAILS)) }
@@ -63,7 +64,7 @@ fn each_in_order(alloc: Global, reader: &mut Reader<'_>) -> Result<Option<Vec<Tr
     Ok(Some(trails))
 }
 
-// The trails of a text, if each is read so.
+// The trails of a text, if each can be read from its tokens.
 fn chain_in_order(alloc: Global, text: &str) -> Result<Option<Vec<Trail>>, TrailFault>
     ensures some { IfOk result (λ found. IfSome found (λ ts. IsChainText text.now ts.items)) }
     ensures err { IfErr result (λ e. e ≡ TrailFault.Memory) }
@@ -84,8 +85,8 @@ fn chain_in_order(alloc: Global, text: &str) -> Result<Option<Vec<Trail>>, Trail
 
 // ---- each trail from a value of its own
 
-/// What the trails of a list are, or what is wrong with the first that has a fault. Nothing is known of a list with a value that
-/// isn't read here.
+/// The trails of a list, or the fault of the first trail that has one. `Unread`: the list has a value that can't be read
+/// here, and nothing is known about it.
 #[derive(Drop)]
 pub(crate) enum Listed {
     Trails(Vec<Trail>),
@@ -93,7 +94,8 @@ pub(crate) enum Listed {
     Unread,
 }
 
-// That fault, if there are no more than 256 trails: so many were read, and what follows up to the end of their list can be read.
+// That fault, or 701 if there are more than 256 trails. `count` trails were read already; the rest of their list is read
+// here.
 fn faulty(
     alloc: Global,
     reader: &mut Reader<'_>,
@@ -115,7 +117,7 @@ fn faulty(
     Ok(Listed::Faulty(fault))
 }
 
-// What the trails up to the end of their list are.
+// The trails up to the end of their list.
 fn each_by_value(alloc: Global, reader: &mut Reader<'_>) -> Result<Listed, AllocError>
     ensures { IfOk result (λ listed. IsListed reader.old listed reader.new) }
 {
@@ -138,7 +140,7 @@ fn each_by_value(alloc: Global, reader: &mut Reader<'_>) -> Result<Listed, Alloc
     Ok(Listed::Trails(trails))
 }
 
-// What the trails of a text are.
+// The trails of a text.
 fn chain_by_values(alloc: Global, text: &str) -> Result<Listed, AllocError>
     ensures { IfOk result (λ listed. IsListedIn text.now listed) }
 {
@@ -182,7 +184,7 @@ fn chain_of_value(alloc: Global, value: &Value) -> Result<Vec<Trail>, TrailFault
     }
 }
 
-// The same as below, said by what a text is alone.
+// The same as below, with a contract that uses only the definition of a chain's text.
 fn chain_of_text(alloc: Global, text: &str) -> Result<Vec<Trail>, TrailFault>
     ensures ok { IfOk result (λ ts. IsChainText text.now ts.items) }
     ensures fault { IfErr result (λ e. e ≢ TrailFault.Memory → IsFirstChainFault text.now e) }
@@ -201,16 +203,16 @@ fn chain_of_text(alloc: Global, text: &str) -> Result<Vec<Trail>, TrailFault>
     }
 }
 
-/// The trails that a text is: a list of 1 to 256 trails, each as `read_trail` reads one.
+/// The trails of a text: a list of 1 to 256 trails, each as `read_trail` reads one.
 ///
-/// What is wrong first: 701 where it isn't such a list; else what `read_trail` says of the first trail with a fault. Of one trail
-/// the records may have four fields, and of the next eight. 790 where memory is refused.
+/// The first fault: 701 if the text isn't such a list; otherwise what `read_trail` says about the first trail with a fault.
+/// The records of one trail may have four fields and those of the next eight. 790 if memory is refused.
 pub fn read_chain(alloc: Global, text: &str) -> Result<Vec<Trail>, TrailFault>
-    // What is read is the text's.
+    // The trails that are read are those of the text.
     ensures ok { IfOk result (λ ts. IsChainText text.now ts.items) }
     // Which fault it is.
     ensures fault { IfErr result (λ e. e ≢ TrailFault.Memory → IsFirstChainFault text.now e) }
-    // The trails of a text are read, unless memory is refused.
+    // If the text has trails, they are read, unless memory is refused.
     ensures taken { (ts : List TrailValue) → IsChainText text.now ts
         → MatchResult result (λ r. r.items ≡ ts) (λ e. e ≡ TrailFault.Memory) }
 {
@@ -219,7 +221,7 @@ pub fn read_chain(alloc: Global, text: &str) -> Result<Vec<Trail>, TrailFault>
 
 // ---- as text
 
-/// The text of a chain, with no space: a list of the texts that `write_trail` gives. 790 where memory is refused.
+/// The text of a chain, with no spaces: a list of the texts that `write_trail` gives. 790 if memory is refused.
 pub fn write_chain(alloc: Global, trails: &[Trail]) -> Result<String, TrailFault>
     ensures text { IfOk result (λ s. string_bytes s ≡ chain_text trails.now) }
     ensures reads_back { IfOk result (λ s. 1 ≤ length trails.now → length trails.now ≤ MAX_TRAILS → IsChainText (string_bytes s) trails.now) }

@@ -13,20 +13,20 @@ use tl_tree::TreeFault;
 /// Why no trail was read, or none was made.
 #[derive(Clone, Copy, Debug, PartialEq, Eq, Error)]
 pub enum TrailFault {
-    /// 701: the text has another form, or an event is of no call or no node of the trail, or there are more or fewer
-    /// records in the end than nodes, or more than 1,048,576 events.
+    /// 701: the text has another form, or an event is of no call or no node of the trail, or there aren't as many records
+    /// in the end as nodes, or there are more than 1,048,576 events.
     #[error("not a trail")]
     NotTrail,
-    /// 101 to 105: the opening tree.
+    /// 101 to 105: the opening tree has a fault.
     #[error("the tree: {0}")]
     Tree(TreeFault),
-    /// 251 to 254, 301 to 307, 401 to 409, 611 to 613: a procedure, or its name.
+    /// 251 to 254, 301 to 307, 401 to 409, 611 to 613: a procedure or its name has a fault.
     #[error("a procedure: {0}")]
     Procedure(RegisterFault),
-    /// 601: a call is of no procedure of the trail.
+    /// 601: a call is of a procedure that the trail doesn't have.
     #[error("no procedure of that name")]
     NoProcedure,
-    /// 501: a call has more or fewer arguments than its procedure takes.
+    /// 501: the number of a call's arguments isn't what its procedure takes.
     #[error("another number of arguments than the procedure takes")]
     WrongArgs,
     /// 603: there are more than 4,096 calls.
@@ -38,7 +38,7 @@ pub enum TrailFault {
 }
 
 impl TrailFault {
-    /// The fault's number, and then its parts.
+    /// The fault's number, then its parts.
     pub fn numbers(&self) -> ArrayVec<u64, 3>
         ensures { result.items ≡ numbers_of self.now }
     {
@@ -56,7 +56,7 @@ impl TrailFault {
     }
 }
 
-// A value without a tree's form is no trail's.
+// A value that doesn't have a tree's form isn't a trail.
 impl From<TreeFault> for TrailFault {
     ghost from_gives = { λ f e. e ≡ of_tree f };
 

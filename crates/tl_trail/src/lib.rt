@@ -1,8 +1,8 @@
 //! Trails: what the calls of a core did to a tree, as data and as text.
 //!
-//! A trail tells all that calls did: the tree before them, the procedures, what was asked and answered, the events in
-//! order, and the records in the end. Anybody may write one. What it is for nothing to be wrong with a trail is defined
-//! here; whoever makes trails and whoever judges them stand on this definition.
+//! A trail says all that calls did: the tree before them, the procedures, the requests and replies, the events in order,
+//! and the records in the end. Anybody may write one. What makes a trail clean is defined here; whoever makes trails and
+//! whoever judges them use this definition.
 #![tactic(auto)]
 
 mod chain;

@@ -1,4 +1,4 @@
-// A trail as it is written, half read: each value has its form, and nothing else is known.
+// A trail as it is written, half read: each value has its form, and nothing else is checked.
 
 ghost use Rattle.std.specs.Prelude.{◌≡◌, option_map, option_and_then, IfOk};
 ghost use Rattle.serde_json.specs.View.{view};
@@ -23,7 +23,7 @@ pub(crate) struct RawCall {
     pub reply: Option<ArrayVec<i64, MAX_EMITS>>,
 }
 
-/// A trail as it is written, but for its tree.
+/// A trail as it is written, without its tree.
 #[derive(Debug, Drop)]
 pub(crate) struct RawTrail {
     pub procedures: Vec<ProcedureText>,
@@ -32,7 +32,7 @@ pub(crate) struct RawTrail {
     pub ends: Vec<Record>,
 }
 
-/// The members of a text.
+/// The members of a trail's text.
 #[derive(Clone, Copy)]
 pub(crate) struct Members<'a> {
     pub calls: &'a Value,
@@ -76,7 +76,7 @@ impl FromValue for RawCall {
     }
 }
 
-/// The members of an object that has these five and no others.
+/// The members of an object that has exactly these five.
 pub(crate) fn members_of_value(value: &Value) -> Option<Members>
     ensures { option_map parts_in result ≡ parts_of (view value.now) }
 {
@@ -93,7 +93,7 @@ pub(crate) fn members_of_value(value: &Value) -> Option<Members>
     })
 }
 
-/// The trail that the members are, where their records have that width, but for the tree.
+/// The trail that the members stand for, without its tree, if their records have that width.
 pub(crate) fn raw_of_members(
     alloc: Global,
     width: Width,

@@ -20,13 +20,14 @@ use std::alloc::Global;
 use tl_budget::MAX_EMITS;
 use tl_history::{History, HistoryFault, MAX_CALLS, MAX_EVENTS};
 use tl_json::{RawEvent, parse_text, register_all};
+use tl_machine::copied;
 use tl_procedures::Procedures;
 use tl_tree::{Tree, Width, tree_from_value};
 use tl_tree_locking::Event;
 
-// ---- the tree, and what else there is
+// ---- the tree, and the other members
 
-// What the members are, where their records have that width.
+// What the members stand for, if their records have that width.
 fn raw_at(alloc: Global, width: Width, members: &Members) -> Result<(Tree, RawTrail), TrailFault>
     ensures ok { IfOk result (λ found. IsHalfRead (form_at width (parts_in members.now)) found.0 found.1) }
     ensures fault { IfErr result (λ e. e ≢ TrailFault.Memory → IsUnread (form_at width (parts_in members.now)) e) }
@@ -38,7 +39,7 @@ fn raw_at(alloc: Global, width: Width, members: &Members) -> Result<(Tree, RawTr
     Ok((tree, raw))
 }
 
-// What they are, where their records are all wide or all narrow.
+// What they stand for, if their records are all wide or all narrow.
 fn raw_of_either(alloc: Global, members: &Members) -> Result<(Tree, RawTrail), TrailFault>
     ensures ok { IfOk result (λ found. IsHalfRead (form_of_parts (parts_in members.now)) found.0 found.1) }
     ensures fault { IfErr result (λ e. e ≢ TrailFault.Memory → IsUnread (form_of_parts (parts_in members.now)) e) }
@@ -78,18 +79,12 @@ fn reply_copied(reply: &Option<ArrayVec<i64, MAX_EMITS>>) -> Option<ArrayVec<i64
     ensures { option_map (λ r. r.items) result ≡ option_map (λ r. r.items) reply.now }
 {
     match reply {
-        Some(reply) => {
-            let mut copy = ArrayVec::new();
-            let Ok(()) = copy.try_extend_from_slice(reply.as_slice()) else {
-                unreachable!()
-            };
-            Some(copy)
-        }
+        Some(reply) => Some(copied(reply.as_slice())),
         None => None,
     }
 }
 
-// A call of the procedure of its name, with as many arguments as that takes. 601, 501.
+// A call of the procedure it names, with as many arguments as the procedure takes. 601, 501.
 fn checked_call(procedures: &Procedures, raw: &RawCall) -> Result<TrailCall, TrailFault>
     ensures ok { IfOk result (λ k. call_as procedures.now (call_form raw.now) ≡ Ok (call_value k)) }
     ensures call { IfOk result (λ k. IsCallOf procedures.now (call_value k)) }
@@ -99,18 +94,14 @@ fn checked_call(procedures: &Procedures, raw: &RawCall) -> Result<TrailCall, Tra
         return Err(TrailFault::NoProcedure);
     };
     let procedure = procedures.get(number);
-    // It takes at most eight arguments, by its type: here a proof learns that.
-    let _code = procedure.code();
+    // It takes at most eight arguments.
+    let _fact = procedure.code();
     if !procedure.takes(&raw.args) {
         return Err(TrailFault::WrongArgs);
     }
-    let mut args = ArrayVec::new();
-    let Ok(()) = args.try_extend_from_slice(&raw.args) else {
-        unreachable!()
-    };
     Ok(TrailCall {
         procedure: number,
-        args,
+        args: copied(&raw.args),
         reply: reply_copied(&raw.reply),
     })
 }
@@ -133,7 +124,7 @@ fn checked_each_call(
     Ok(calls)
 }
 
-// 603, and then what is wrong with the first call that has a fault.
+// 603, then the fault of the first call that has one.
 fn checked_calls(
     alloc: Global,
     procedures: &Procedures,
@@ -152,7 +143,7 @@ fn checked_calls(
 
 // ---- the events
 
-// The number, if it is one of the first so many.
+// The number, if it is below `count`.
 fn below(count: u16, number: i64) -> Option<u16>
     ensures number { result ≡ below count number }
     ensures inside { IfSome result (λ n. n < count) }
@@ -187,7 +178,7 @@ fn checked_event(calls: u16, nodes: u16, form: RawEvent) -> Option<Event>
     }
 }
 
-// An empty history with places for so many events: 701 where they are too many.
+// An empty history with `events` reserved places: 701 if there are too many.
 fn history_for(alloc: Global, events: usize) -> Result<History, TrailFault>
     ensures ok { IfOk result (λ h. (h.past ≡ []) × (h.reserved ≡ events)) }
     ensures few { OnOk result (events ≤ MAX_EVENTS) }
@@ -201,7 +192,7 @@ fn history_for(alloc: Global, events: usize) -> Result<History, TrailFault>
     }
 }
 
-// The events of so many calls and nodes, at most 1,048,576: else 701.
+// The events, each of one of `calls` calls and one of `nodes` nodes, at most 1,048,576 of them: otherwise 701.
 fn checked_history(
     alloc: Global,
     calls: u16,
@@ -227,8 +218,8 @@ fn checked_history(
 
 // ---- the trail
 
-/// The trail of a tree and of what else its text has: what is wrong first with the procedures, the calls, the events and the records
-/// in the end.
+/// The trail of a tree and the other members of its text. The first fault: of the procedures, the calls, then the events
+/// and the records in the end.
 pub(crate) fn checked_trail(alloc: Global, tree: Tree, raw: RawTrail) -> Result<Trail, TrailFault>
     ensures ok { IfOk result (λ t. (parts : List ℤ × Records) → IsTrailOf tree (form_with raw parts) t) }
     ensures fault { IfErr result (λ e. e ≢ TrailFault.Memory → (parts : List ℤ × Records) → IsFaultOf tree (form_with raw parts) e) }
@@ -243,7 +234,7 @@ pub(crate) fn checked_trail(alloc: Global, tree: Tree, raw: RawTrail) -> Result<
     Ok(Trail::new(tree, procedures, calls, history, raw.ends))
 }
 
-/// The trail that a value is.
+/// The trail that a value stands for.
 pub(crate) fn trail_of_value(alloc: Global, value: &Value) -> Result<Trail, TrailFault>
     ensures ok { IfOk result (λ t. IsFound (form_of_data (view value.now)) t) }
     ensures fault { IfErr result (λ e. e ≢ TrailFault.Memory → IsFaultFound (form_of_data (view value.now)) e) }
@@ -252,7 +243,7 @@ pub(crate) fn trail_of_value(alloc: Global, value: &Value) -> Result<Trail, Trai
     checked_trail(alloc, tree, raw)
 }
 
-// The same as below, said by what a text is alone.
+// The same as below, with a contract that uses only the definition of a trail's text.
 fn trail_of_text(alloc: Global, text: &str) -> Result<Trail, TrailFault>
     ensures ok { IfOk result (λ t. IsTrailText text.now t) }
     ensures fault { IfErr result (λ e. e ≢ TrailFault.Memory → IsFirstTrailFault text.now e) }
@@ -261,25 +252,25 @@ fn trail_of_text(alloc: Global, text: &str) -> Result<Trail, TrailFault>
     checked_trail(alloc, tree, raw)
 }
 
-/// The trail that a text is.
+/// The trail of a text.
 ///
-/// It is an object with these five members and no others: `calls`, a list with, of each call, the name of its procedure,
-/// its arguments and its reply, a list of at most 32 numbers or null; `end`, the records in the end; `events`, a list of
-/// `["a",call]` for an admission, `["l",call,node,record]` for a lock and the record found, `["f",call,node,record]` for a
-/// free and the record left, and `["d",call]` for an end; `procs`, a list of names and assembler texts; and `tree`, the
-/// tree before the calls. Numbers are signed 64-bit integers. Of all records, those of the tree among them, each is a list of eight,
-/// or each is a list of four, and the fields behind them are 0.
+/// It is an object with exactly these five members: `calls`, a list with the name of its procedure, its arguments and its
+/// reply for each call, where a reply is a list of at most 32 numbers or null; `end`, the records in the end; `events`, a
+/// list of `["a",call]` for an admission, `["l",call,node,record]` for a lock and the record found,
+/// `["f",call,node,record]` for a free and the record left, and `["d",call]` for an end; `procs`, a list of names and
+/// assembler texts; and `tree`, the tree before the calls. Numbers are signed 64-bit integers. Either all records, also
+/// those of the tree, are lists of eight, or all are lists of four, and the other fields are 0.
 ///
-/// What is wrong first: 701 for another form; the tree's 101 to 105; of each procedure in order the assembler's 251 to
-/// 254, the verifier's 301 to 307 and 401 to 409, and 612, 611, 613 of its name; 603 for more than 4,096 calls; of each
-/// call in order 601 and 501; then 701 where an event is of no call or of no node, where there are more or fewer records
-/// in the end than nodes, or where there are more than 1,048,576 events. 790 where memory is refused.
+/// The first fault: 701 for another form; the tree's 101 to 105; for each procedure in order the assembler's 251 to 254,
+/// the verifier's 301 to 307 and 401 to 409, and 612, 611, 613 for its name; 603 for more than 4,096 calls; for each call
+/// in order 601 and 501; then 701 if an event is of no call or no node of the trail, if there aren't as many records in the
+/// end as nodes, or if there are more than 1,048,576 events. 790 if memory is refused.
 pub fn read_trail(alloc: Global, text: &str) -> Result<Trail, TrailFault>
-    // What is read is the text's.
+    // The trail that is read is that of the text.
     ensures ok { IfOk result (λ t. IsTrailText text.now t) }
     // Which fault it is.
     ensures fault { IfErr result (λ e. e ≢ TrailFault.Memory → IsFirstTrailFault text.now e) }
-    // The trail of a text is read, unless memory is refused.
+    // If the text has a trail, it is read, unless memory is refused.
     ensures taken { (t : TrailValue) → IsTrailText text.now t
         → MatchResult result (λ r. r ≡ t) (λ e. e ≡ TrailFault.Memory) }
 {

@@ -1,7 +1,8 @@
 // Reading a trail from its tokens.
 //
-// The events are the most of a trail, and as a value each takes ten times its text. So where the members stand in the order in which
-// they are written, the lists are read item by item, and there is no value of the whole. Of other texts nothing is said here.
+// The events are most of a trail, and each takes ten times as much memory as a value as it does as text. So if the members
+// come in the order in which they are written, the lists are read item by item, and no value of the whole is made. Of other
+// texts nothing is said here.
 
 ghost use Rattle.std.specs.Prelude.{◌≡◌, ◌<◌, ◌==◌, codes, Some, true, false, map, length, slice_index, IsTrue, IfOk, IfSome};
 ghost use Rattle.json.specs.Json.{read_key, items as items_of_tokens, members as members_of_tokens, value as value_of_tokens};
@@ -27,21 +28,21 @@ use tl_tree::{Record, Tree, Width, records_from_value, tree_from_value};
 /// How deep a trail of a chain nests at most: a text nests at most 127 deep.
 pub(crate) const TRAIL_DEPTH: usize = 126;
 
-// How deep a member of a trail nests at most, and an item of a member, in a chain too.
+// How deep a member of a trail, and an item of a member, nest at most, also in a chain.
 const MEMBER_DEPTH: usize = 125;
 
 const ITEM_DEPTH: usize = 124;
 
 // ---- any value
 
-// The number of these digits, where it is one of 64 bits.
+// The number of these digits, if it fits 64 bits.
 fn natural(numeral: &Numeral<'_>) -> Option<Number>
     ensures { IfSome result (λ n. number_from false numeral.now ≡ Some (number_view n)) }
 {
     Some(Number::from(numeral.to_u64()?))
 }
 
-// The same below zero.
+// The same for a negative number.
 fn negative(numeral: &Numeral<'_>) -> Option<Number>
     ensures { IfSome result (λ n. number_from true numeral.now ≡ Some (number_view n)) }
 {
@@ -61,7 +62,7 @@ fn has_minus(bytes: &[u8]) -> bool
     !bytes.is_empty() && bytes[0] == b'-'
 }
 
-// The number that a text is, where it is an integer of 64 bits.
+// The number that the text spells, if it is an integer of 64 bits.
 fn integer(text: &str) -> Option<Number>
     ensures { IfSome result (λ n. number_of text.now ≡ Some (number_view n)) }
 {
@@ -73,7 +74,7 @@ fn integer(text: &str) -> Option<Number>
     }
 }
 
-/// The value that is next, but for numbers that are no integers of 64 bits.
+/// The next value, unless it has a number that isn't an integer of 64 bits.
 #[cycle(value)]
 pub(crate) fn value(
     alloc: Global,
@@ -164,9 +165,9 @@ fn members(
     }
 }
 
-// ---- lists of which each item is read at once
+// ---- lists that are read item by item
 
-// What the item that is next stands for.
+// What the next item stands for.
 fn item<T: FromValue>(alloc: Global, reader: &mut Reader<'_>) -> Result<Option<T::Item>, AllocError>
     ensures { IfOk result (λ found. IfSome found (λ x. BeginsWith T.form_of item_depth reader.old (T.form x) reader.new)) }
 {
@@ -196,7 +197,7 @@ fn each<T: FromValue>(
     Ok(Some(found))
 }
 
-// What the list that is next stands for.
+// What the next list stands for.
 fn list<T: FromValue>(
     alloc: Global,
     reader: &mut Reader<'_>,
@@ -214,7 +215,7 @@ fn list<T: FromValue>(
 
 // ---- the members of a trail
 
-// Passes the name, if it is that of the next member.
+// Consumes the name of the next member if it is this one.
 fn is_named(reader: &mut Reader<'_>, name: &str) -> bool
     ensures { IsTrue result → read_key reader.old ≡ Some (Some name.now, reader.new) }
 {
@@ -224,7 +225,7 @@ fn is_named(reader: &mut Reader<'_>, name: &str) -> bool
     }
 }
 
-// The value of the next member, if that has this name.
+// The value of the next member, if it has this name.
 fn member(alloc: Global, reader: &mut Reader<'_>, name: &str) -> Result<Option<Value>, AllocError>
     ensures { IfOk result (λ found. IfSome found (λ v. BeginsWithMember name.now Some reader.old (view v) reader.new)) }
 {
@@ -234,7 +235,7 @@ fn member(alloc: Global, reader: &mut Reader<'_>, name: &str) -> Result<Option<V
     value(alloc, reader, MEMBER_DEPTH)
 }
 
-// What the list of the next member stands for, if that has this name.
+// What the list in the next member stands for, if it has this name.
 fn list_member<T: FromValue>(
     alloc: Global,
     reader: &mut Reader<'_>,
@@ -248,7 +249,7 @@ fn list_member<T: FromValue>(
     list::<T>(alloc, reader)
 }
 
-// The records of a list and their width: wide, if a list may be both.
+// The records of a list, and their width. A list that fits both widths counts as wide.
 fn records_of_either(
     alloc: Global,
     value: &Value,
@@ -264,7 +265,7 @@ fn records_of_either(
     }
 }
 
-// The events of the next member, if that is named so.
+// The events of the next member, if it is named `events`.
 fn events_member(
     alloc: Global,
     reader: &mut Reader<'_>,
@@ -278,7 +279,7 @@ fn events_member(
     }
 }
 
-/// What a trail's members stand for, where they come in their order. The records in the end tell the width of all others.
+/// What a trail's members stand for, if they come in their order. The records in the end decide the width of all others.
 pub(crate) fn trail_members(
     alloc: Global,
     reader: &mut Reader<'_>,
@@ -318,8 +319,8 @@ pub(crate) fn trail_members(
     Ok(Some((tree, raw)))
 }
 
-/// The trail that a text is, if its members stand in the order in which `write_trail` writes them. Where there is none, nothing is
-/// said of the text.
+/// The trail of a text, if its members come in the order in which `write_trail` writes them. `None` says nothing about the
+/// text.
 pub(crate) fn raw_of_tokens(
     alloc: Global,
     text: &str,

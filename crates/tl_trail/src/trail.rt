@@ -20,12 +20,12 @@ pub struct TrailCall {
     pub reply: Option<ArrayVec<i64, MAX_EMITS>>,
 }
 
-/// What calls did to a tree, as somebody tells it: the tree before them, the procedures by number, what was asked and
-/// answered, the events in order, and the records in the end.
+/// What calls did to a tree, as somebody reports it: the tree before them, the procedures by number, the requests and
+/// replies, the events in order, and the records in the end.
 ///
-/// By its type a trail is one of procedures that are accepted, of at most 4,096 calls with as many arguments as their
-/// procedures take, of at most 1,048,576 events of these calls and of nodes of the tree, and has a record in the end for
-/// each node. Nothing else is so of every trail: an auditor says whether the calls may have done this.
+/// By its type a trail has accepted procedures, at most 4,096 calls with as many arguments as their procedures take, at
+/// most 1,048,576 events of these calls and of nodes of the tree, and a record in the end for each node. Nothing else holds
+/// for every trail: an auditor says whether the calls may have done this.
 #[derive(Debug, Drop)]
 pub struct Trail {
     opening: Tree,
@@ -90,7 +90,7 @@ impl Trail {
         self.calls.len()
     }
 
-    /// What was asked of a call: the number of its procedure, and its arguments.
+    /// The request for a call: the number of its procedure, and its arguments.
     pub fn request(&self, call: u32) -> (u32, &[i64])
         requires { call < length self.now.calls }
         ensures procedure { result.0 ≡ (call_at self.now call).procedure }
@@ -128,7 +128,7 @@ impl Trail {
         self.history.events()
     }
 
-    /// The records in the end, the first of node 0.
+    /// The records in the end; the first is node 0's.
     pub fn ends(&self) -> &[Record]
         ensures records { result.now ≡ self.now.ends }
         ensures size { length self.now.ends ≡ length self.now.parents }

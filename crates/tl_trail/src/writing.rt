@@ -88,13 +88,13 @@ fn push_tree(alloc: Global, text: &mut String, tree: &Tree) -> Result<(), AllocE
     push_value(alloc, text, &value)
 }
 
-/// Puts the text of a trail behind a text. The events are the most of a trail, and go into the text one after another.
+/// Appends the text of a trail to a text. The events are most of a trail, and are written to the text one after another.
 pub(crate) fn push_trail(alloc: Global, text: &mut String, trail: &Trail) -> Result<(), AllocError>
     ensures text { OnOk result (string_bytes text.new ≡ string_bytes text.old ++ trail_text trail.now) }
     ensures writable { OnOk result (IsWritable trail.now) }
 {
-    // That there are at most 1,048,576 events is so of every history: here a proof learns that.
-    let _count = trail.history().len();
+    // There are at most 1,048,576 events.
+    let _fact = trail.history().len();
     text.push_str("{\"calls\":")?;
     push_calls(alloc, text, trail)?;
     text.push_str(",\"end\":")?;
@@ -108,8 +108,8 @@ pub(crate) fn push_trail(alloc: Global, text: &mut String, trail: &Trail) -> Res
     text.push_str("}")
 }
 
-/// The text of a trail, with no space: an object with the members `calls`, `end`, `events`, `procs` and `tree`, in this
-/// order. The procedures stand by number, each with its canonical assembler text. 790 where memory is refused.
+/// The text of a trail, with no spaces: an object with the members `calls`, `end`, `events`, `procs` and `tree`, in this
+/// order. The procedures come by number, each with its canonical assembler text. 790 if memory is refused.
 pub fn write_trail(alloc: Global, trail: &Trail) -> Result<String, TrailFault>
     ensures text { IfOk result (λ s. string_bytes s ≡ trail_text trail.now) }
     ensures reads_back { IfOk result (λ s. IsTrailText (string_bytes s) trail.now) }

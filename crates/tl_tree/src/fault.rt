@@ -1,4 +1,4 @@
-// Why no tree was made.
+// Why a tree wasn't made.
 
 ghost use Rattle.std.specs.Prelude.{◌≡◌};
 ghost use Rattle.tl_tree.specs.declared.fault.TreeFault.TheVariants.{Memory};
@@ -7,7 +7,7 @@ use arrayvec::ArrayVec;
 use std::alloc::{AllocError, AllocFailed};
 use thiserror::Error;
 
-/// What was wrong first, where a tree could not be made.
+/// The first fault, if a tree could not be made.
 #[derive(Clone, Copy, Debug, PartialEq, Eq, Error)]
 pub enum TreeFault {
     /// 101: there is no node.
@@ -19,13 +19,13 @@ pub enum TreeFault {
     /// 103: the root's parent is not the root.
     #[error("the first parent must be 0, for the root has no other")]
     BadRoot,
-    /// 104 and the node: the least node from 1 on whose parent is no node of a lower number.
+    /// 104 and the node: the least node from 1 on whose parent isn't a node with a lower number.
     #[error("the parent of node {0} must have a lower number")]
     BadParent(u16),
     /// 105: there are more or fewer records than nodes.
     #[error("there are not as many records as nodes")]
     WrongCount,
-    /// 106: a text or a value is no tree's at all.
+    /// 106: a text or a value doesn't have the form of a tree.
     #[error("not the text of a tree")]
     NotTree,
     /// 190: memory was refused.
@@ -36,7 +36,7 @@ pub enum TreeFault {
 impl TreeFault {
     ghost use Rattle.tl_tree.specs.Faults.{numbers_of};
 
-    /// The fault's number, and then its parts.
+    /// The fault's number, then its parts.
     pub fn numbers(&self) -> ArrayVec<u64, 3>
         ensures { result.items ≡ numbers_of self.now }
     {

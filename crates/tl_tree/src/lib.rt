@@ -1,4 +1,4 @@
-//! Trees of records: the shape that a tree has, the records of its nodes, and the text that it is read from.
+//! Trees of records: the shape of a tree, the records of its nodes, and its text.
 #![tactic(auto)]
 
 mod fault;

@@ -13,7 +13,7 @@ pub type Record = [i64; FIELD_COUNT];
 pub enum Width {
     /// As many as a record has fields.
     Wide,
-    /// As many as a narrow record has. The fields behind them are 0.
+    /// As many as a narrow record has. The fields after them are 0.
     Narrow,
 }
 

@@ -7,15 +7,15 @@ use crate::fault::TreeFault;
 use std::alloc::{AllocError, Global};
 use std::marker::Model;
 
-/// How many nodes a tree may have.
+/// The most nodes that a tree may have.
 pub const MAX_NODES: usize = 4096;
 
-/// The shape of a tree of 1 to 4,096 nodes, which are numbered from 0. Node 0 is the root. Each other node has a
-/// parent of a lower number. A contract sees a shape as the list of the nodes' parents, and the root as its own parent.
+/// The shape of a tree of 1 to 4,096 nodes, numbered from 0. Node 0 is the root. Each other node has a parent with a lower
+/// number. A contract sees a shape as the list of the nodes' parents, where the root is its own parent.
 #[derive(Debug, Drop)]
 pub struct Shape {
     parents: Vec<u16>,
-    // Of each node its children, by rising number.
+    // The children of each node, by rising number.
     kid_lists: Vec<Vec<u16>>,
 }
 
@@ -32,15 +32,15 @@ impl Model for Shape {
 }
 
 impl Shape {
-    /// The shape with these parents: 0 for node 0, and for each other node one of the nodes before it.
+    /// The shape with these parents: 0 for node 0, and for each other node one with a lower number.
     ///
-    /// What is wrong first, in this order: 101 for no node, 102 for more than 4,096, 103 where the root's parent is not
-    /// 0, and 104 at the first other node whose parent is no node before it. 190 where memory is refused.
+    /// The first fault, in this order: 101 for no nodes, 102 for more than 4,096, 103 if the root's parent isn't 0, and 104
+    /// at the first other node whose parent isn't a node before it. 190 if memory is refused.
     pub fn new(alloc: Global, parents: &[i64]) -> Result<Shape, TreeFault>
         ensures ok { IfOk result (λ s. shape_of parents.now ≡ Ok s) }
         ensures fault { IfErr result (λ e. e ≢ TreeFault.Memory → shape_of parents.now ≡ Err e) }
 
-        // What is taken is a tree's parents, a tree's parents are taken, and the node of 104 is the least.
+        // What is accepted is a tree's parents, a tree's parents are accepted, and the node of 104 is the least.
         ensures tree { IfOk result (λ s. IsTree s × (map pos s ≡ parents.now)) }
         ensures taken { (s : List ℕ) → IsTree s → map pos s ≡ parents.now
             → MatchResult result (λ r. r ≡ s) (λ e. e ≡ TreeFault.Memory) }
@@ -60,7 +60,7 @@ impl Shape {
         self.parents.len() as u16
     }
 
-    /// The parent of a node; the root's is the root.
+    /// The parent of a node; the root is its own.
     pub fn parent(&self, node: u16) -> u16
         requires { node < length self.now }
         ensures parent { result ≡ parent self.now node }
@@ -78,7 +78,7 @@ impl Shape {
         self.kid_lists[usize::from(node)].len() as u16
     }
 
-    /// A node's child of that number, from 0. Children are numbered by rising node number.
+    /// The node's child with that number, counted from 0. Children are numbered by rising node number.
     pub fn kid(&self, node: u16, number: u16) -> u16
         requires node { node < length self.now }
         requires number { number < length (kids self.now node) }
@@ -109,7 +109,7 @@ impl Shape {
     }
 }
 
-// The parents as node numbers, where they are a tree's.
+// The parents as node numbers, if they make a tree.
 fn node_parents(alloc: Global, parents: &[i64]) -> Result<Vec<u16>, TreeFault>
     ensures ok { IfOk result (λ v. shape_of parents.now ≡ Ok v.items) }
     ensures fault { IfErr result (λ e. e ≢ TreeFault.Memory → shape_of parents.now ≡ Err e) }
@@ -126,7 +126,7 @@ fn node_parents(alloc: Global, parents: &[i64]) -> Result<Vec<u16>, TreeFault>
     lower_parents(alloc, parents)
 }
 
-// The same, where what is left to see is whether each node but the root has a parent before it.
+// The same, once all that is left to check is whether each node but the root has a parent before it.
 fn lower_parents(alloc: Global, parents: &[i64]) -> Result<Vec<u16>, TreeFault>
     requires some { 0 < length parents.now }
     requires few { length parents.now ≤ MAX_NODES }
@@ -148,7 +148,7 @@ fn lower_parents(alloc: Global, parents: &[i64]) -> Result<Vec<u16>, TreeFault>
     Ok(lower)
 }
 
-// Of each node its children.
+// The children of each node.
 fn kid_lists(alloc: Global, parents: &[u16]) -> Result<Vec<Vec<u16>>, AllocError>
     requires { IsTree parents.now }
     ensures { IfOk result (λ v. IsIndex parents.now (lists_of v.items)) }

@@ -12,7 +12,7 @@ use crate::value;
 use serde_json::Value;
 use std::alloc::Global;
 
-// The tree that a value is, whose records are all wide or all narrow.
+// The tree that a value stands for, whose records are all wide or all narrow.
 fn tree_of_value(alloc: Global, value: &Value) -> Result<Tree, TreeFault>
     ensures ok { IfOk result (λ t. tree_of (view value.now) ≡ Ok t) }
     ensures fault { IfErr result (λ e. e ≢ TreeFault.Memory → tree_of (view value.now) ≡ Err e) }
@@ -23,11 +23,11 @@ fn tree_of_value(alloc: Global, value: &Value) -> Result<Tree, TreeFault>
     }
 }
 
-/// The tree that a text of JSON is: `{"parents":[..],"records":[record,..]}`, an object with these two members and no
-/// others. The parents are integers, and a record is a list of eight integers. Where each record is a list of four, as
-/// in texts of the first version, its other fields are 0.
+/// The tree of a JSON text: `{"parents":[..],"records":[record,..]}`, an object with exactly these two members. The parents
+/// are integers, and a record is a list of eight integers. If each record is a list of four, as in texts of the first
+/// version, the other fields are 0.
 ///
-/// What is wrong first: 106 for a text of another form, and then 101 to 105 in their order. 190 where memory is refused.
+/// The first fault: 106 for a text of another form, then 101 to 105 in their order. 190 if memory is refused.
 pub fn read_tree(alloc: Global, text: &str) -> Result<Tree, TreeFault>
     ensures ok { IfOk result (λ t. tree_of_text text.now ≡ Ok t) }
     ensures fault { IfErr result (λ e. e ≢ TreeFault.Memory → tree_of_text text.now ≡ Err e) }
@@ -42,7 +42,7 @@ pub fn read_tree(alloc: Global, text: &str) -> Result<Tree, TreeFault>
     }
 }
 
-/// The text of a tree, with no space. 190 where memory is refused.
+/// The text of a tree, with no spaces. 190 if memory is refused.
 pub fn write_tree(alloc: Global, tree: &Tree) -> Result<String, TreeFault>
     ensures text { IfOk result (λ s. string_bytes s ≡ tree_text tree.now) }
     ensures reads_back { IfOk result (λ s. tree_of_text (string_bytes s) ≡ Ok tree.now) }

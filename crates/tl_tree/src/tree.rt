@@ -32,8 +32,7 @@ impl Model for Tree {
 }
 
 impl Tree {
-    /// The tree of that shape with these records, the first for node 0. 105 where there are more or fewer records than
-    /// nodes.
+    /// The tree of that shape with these records, the first for node 0. 105 if there aren't as many records as nodes.
     pub fn new(shape: Arc<Shape>, records: Vec<Record>) -> Result<Tree, TreeFault>
         ensures ok { OkIff result (length records.items ≡ length (arc_value shape))
             (record { parents = arc_value shape; records = records.items }) }
@@ -52,7 +51,7 @@ impl Tree {
         &self.shape
     }
 
-    /// The records, the first of node 0.
+    /// The records; the first is node 0's.
     pub fn records(&self) -> &[Record]
         ensures records { result.now ≡ self.now.records }
         ensures whole { IsWhole self.now }
@@ -68,7 +67,7 @@ impl Tree {
         self.records[usize::from(node)]
     }
 
-    /// Gives a node another record.
+    /// Replaces a node's record.
     pub fn put_at(&mut self, node: u16, fields: Record)
         requires { node < length self.old.records }
         ensures { self.new ≡ record self.old { records = put_record self.old.records node fields } }
@@ -76,7 +75,7 @@ impl Tree {
         self.records[usize::from(node)] = fields;
     }
 
-    /// A tree of its own, equal to this one. 190 where memory is refused.
+    /// A separate copy of the tree. 190 if memory is refused.
     pub fn copy(&self, alloc: Global) -> Result<Tree, TreeFault>
         ensures ok { IfOk result (λ t. t ≡ self.now) }
         ensures err { IfErr result (λ e. e ≡ TreeFault.Memory) }

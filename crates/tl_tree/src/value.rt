@@ -1,4 +1,4 @@
-// Trees, records and numbers in JSON values: what a larger document reads and writes them by.
+// Trees, records and numbers as JSON values, for reading and writing larger documents.
 
 ghost use Rattle.std.specs.Prelude.{◌≡◌, ◌≢◌, codes, map, option_map, option_and_then, length, pos, Err, Ok, IfOk, IfErr, OnOk, MatchResult, All, FitsSigned};
 ghost use Rattle.std.specs.Int.{w64};
@@ -17,7 +17,7 @@ use std::alloc::{AllocError, Global};
 use std::sync::Arc;
 use tl_width::FIELD_COUNT;
 
-/// The numbers of a list of integers of 64 bits, or `None` for another value.
+/// The numbers of a list of 64-bit integers, or `None` for another value.
 pub fn integers_from_value(alloc: Global, value: &Value) -> Result<Option<Vec<i64>>, AllocError>
     ensures { IfOk result (λ found. option_map (λ v. v.items) found
         ≡ integers_of (view value.now)) }
@@ -42,7 +42,7 @@ fn integers_from_items(alloc: Global, items: &[Value]) -> Result<Option<Vec<i64>
     Ok(Some(integers))
 }
 
-/// The record that a value of that width is.
+/// The record that a value stands for, if it has that width.
 pub fn record_from_value(width: Width, value: &Value) -> Option<Record>
     ensures { result ≡ record_of width (view value.now) }
 {
@@ -96,16 +96,16 @@ fn records_from_items(
     Ok(Some(records))
 }
 
-/// The tree that a value is, whose records have that width: an object with the members `parents` and `records` and no
-/// others.
+/// The tree that a value stands for, whose records have that width: an object with exactly the members `parents` and
+/// `records`.
 ///
-/// What is wrong first: 106 where the members are no list of integers and list of such records, and then 101 to 105 in
-/// their order. 190 where memory is refused.
+/// The first fault: 106 if the members aren't a list of integers and a list of such records, then 101 to 105 in their
+/// order. 190 if memory is refused.
 pub fn tree_from_value(alloc: Global, width: Width, value: &Value) -> Result<Tree, TreeFault>
     ensures ok { IfOk result (λ t. tree_at width (view value.now) ≡ Ok t) }
     ensures fault { IfErr result (λ e. e ≢ TreeFault.Memory → tree_at width (view value.now) ≡ Err e) }
 
-    // What is read stands for the tree, and what stands for a tree is read.
+    // The value stands for the tree that is read, and a value that stands for a tree is read.
     ensures stands { IfOk result (λ t. StandsFor width (view value.now) t) }
     ensures taken { (t : TreeValue) → StandsFor width (view value.now) t
         → MatchResult result (λ r. r ≡ t) (λ e. e ≡ TreeFault.Memory) }
@@ -113,7 +113,7 @@ pub fn tree_from_value(alloc: Global, width: Width, value: &Value) -> Result<Tre
     checked_tree(alloc, width, value)
 }
 
-// The same, said by the definition alone.
+// The same, with a contract that uses only the definition.
 fn checked_tree(alloc: Global, width: Width, value: &Value) -> Result<Tree, TreeFault>
     ensures ok { IfOk result (λ t. tree_at width (view value.now) ≡ Ok t) }
     ensures fault { IfErr result (λ e. e ≢ TreeFault.Memory → tree_at width (view value.now) ≡ Err e) }
@@ -125,7 +125,7 @@ fn checked_tree(alloc: Global, width: Width, value: &Value) -> Result<Tree, Tree
     Tree::new(Arc::new(alloc, shape)?, records)
 }
 
-// The parents and the records, where the value has a tree's form with records of that width.
+// The parents and the records, if the value has the form of a tree with records of that width.
 fn form_from_value(
     alloc: Global,
     width: Width,
@@ -146,7 +146,7 @@ fn form_from_value(
     Ok(Some((parents, records)))
 }
 
-// The members of an object that has these two and no others.
+// The members of an object that has exactly these two.
 fn parts_of_value(value: &Value) -> Option<(&Value, &Value)>
     ensures { option_map (λ parts. (view parts.0.now, view parts.1.now)) result
         ≡ parts_of (view value.now) }

@@ -5,7 +5,7 @@ use tl_tree::Record;
 /// One action of a call. Each instruction that a call does is one action.
 #[derive(Clone, Copy, Debug, PartialEq, Eq)]
 pub enum Action {
-    /// Neither a lock nor a field nor the reply: also a `first` or `child` that took its else branch.
+    /// Neither a lock, nor a free, a field access, an emit or the end: also a `first` or `child` that took its else branch.
     Plain,
     /// The node was locked, and had this record.
     Lock { node: u16, found: Record },
@@ -13,7 +13,7 @@ pub enum Action {
     Read { node: u16, field: u8, value: i64 },
     /// The field of a held node was written.
     Write { node: u16, field: u8, value: i64 },
-    /// The node was unlocked, and has this record from then on.
+    /// The node was freed, and has this record from then on.
     Free { node: u16, left: Record },
     /// The value was appended to the reply.
     Emit { value: i64 },

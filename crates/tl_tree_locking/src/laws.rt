@@ -1,4 +1,4 @@
-// The theory of the tree protocol: what is so of every history, every order and every world.
+// The theory of the tree protocol: what holds for every history, every order and every world.
 
 ghost use Rattle.std.specs.Prelude.{◌≡◌, ◌≢◌, ◌↔◌, ℕ, ◌+◌, ◌<◌, ◌≤◌, true, List, [], ◌∷◌, ◌++◌, length, map, reverse, take, slice_get, Contains, ◌&&◌, ◌==◌, if◌then◌else◌};
 ghost use Rattle.tl_tree.specs.Records.{Record, Records};
@@ -24,7 +24,7 @@ pub fn placed_agrees()
         → Agrees (placed parents past) past }
 {}
 
-/// The order of one more event comes from the order so far.
+/// The order with one more event follows from the order so far.
 pub fn placed_event_by_event()
     ensures none { (parents : List ℕ) → placed parents [] ≡ [] }
     ensures one_more { (parents : List ℕ) (past : List Event) (event : Event)
@@ -40,13 +40,13 @@ pub fn may_come_holds()
         → holds_some done (nodes_above parents x) ≡ true }
 {}
 
-/// The list of the nodes strictly above a node has the nodes that it leads to, and not itself.
+/// The list of the nodes strictly above a node has the nodes that its parents lead to, and not itself.
 pub fn nodes_above_listed()
     ensures { (parents : List ℕ) (x y : ℕ) → IsTree parents
         → (Contains (nodes_above parents x) y ↔ (Above parents y x × (y ≢ x))) }
 {}
 
-/// Calls run alone, one after another along an order that agrees, leave the records now and give every reply.
+/// Calls run alone, one after another along an order that agrees, leave the records as they are now and give every reply.
 pub fn serial_along()
     ensures tree { (w : World) (order : List ℕ) → IsSound w → AllDone w.past → Agrees order w.past
         → (serial w.meanings order w.opening).tree ≡ records_now w.past w.opening }
@@ -54,8 +54,8 @@ pub fn serial_along()
         → (serial w.meanings order w.opening).replies ≡ map (reply_of w) order }
 {}
 
-/// The same over epochs, each of which is at rest and opens with the records that the one before left: all their calls, run
-/// alone along the orders joined, leave the records now and give every reply.
+/// The same over epochs, each of which is at rest and opens with the records that the one before left. All their calls, run
+/// alone along the orders joined together, leave the records as they are now and give every reply.
 pub fn serial_along_epochs()
     ensures one { (meanings : ℕ → Records → Outcome) (order : List ℕ) (opening : Records)
         → serial meanings order opening ≡ run_each (map meanings order) opening }
@@ -69,7 +69,7 @@ pub fn serial_along_epochs()
 
 // ---- steps
 
-/// While a call is open, some call is enabled. The enabled calls are those that may take their next action.
+/// While a call is open, some call is enabled. A call is enabled if it may take its next action.
 pub fn no_standstill()
     ensures some_enabled { (w : World) (c : ℕ) → IsSound w → IsOpen c w.past → (d : ℕ) × IsEnabled w d }
     ensures may_take { (w : World) (c : ℕ) → IsSound w → IsEnabled w c → (next : Action) × MayTake w c next }
@@ -86,8 +86,8 @@ pub fn steps_keep_sound()
         → IsSound (after_step w c next) }
 {}
 
-/// A step adds its action to what its call has done, and nothing to what another call has done. A call that is admitted has
-/// done nothing.
+/// A step adds its action to what its call has done, and nothing to what other calls have done. A call that was just
+/// admitted has done nothing.
 pub fn done_grows()
     ensures own { (w : World) (c : ℕ) (next : Action) → IsSound w → MayTake w c next
         → done_of (after_step w c next) c ≡ done_of w c ++ as_found w next ∷ [] }
@@ -97,8 +97,8 @@ pub fn done_grows()
     ensures admitted { (w : World) (alone : Records → Outcome) → done_of (after_admission w alone) (admits w.past) ≡ [] }
 {}
 
-/// The holder that the history names is the one call that holds the node, and a stuck call waits for it. Only the holders
-/// of the nodes strictly above a node may still come to it. Where the node has no holder, a call may lock it.
+/// The holder that the history names is the one call that holds the node, and a stuck call waits for it. Only holders of
+/// nodes strictly above a node may still come to it. If the node has no holder, a call may lock it.
 pub fn holders()
     ensures held { (parents : List ℕ) (past : List Event) (c x : ℕ) → IsLegalHistory parents past
         → ((holder_of past x ≡ Some c) ↔ (held (part_of c past) x ≡ true)) }
@@ -114,11 +114,11 @@ pub fn holders()
         → MayTake w c next }
 {}
 
-/// Two numbers of each node, its holder and the call that was the last to lock it while it held the node's parent, tell
-/// where a call is placed at its first lock. A call that holds the parent of a node has locked the node exactly if it is
-/// that last one. A climb from a node to the root asks each node above once for its holder. It finds each call that may
-/// still come to the node once, and no other, and the first that it finds stands in the order before the others. So the
-/// climb may stop there; and it may stop where no node with a lower number is held.
+/// Two numbers per node decide where a call is placed at its first lock: the node's holder, and the last call that locked
+/// the node while holding its parent. A call that holds the parent of a node has locked the node if and only if it is that
+/// last one. A climb from a node to the root asks each node above once for its holder. It finds each call that may still
+/// come to the node once, and no other, and the first one found comes before the others in the order. So the climb may stop
+/// there; it may also stop where no node with a lower number is held.
 pub fn placing()
     ensures locked { (parents : List ℕ) (past : List Event) (c x : ℕ) → IsTree parents → IsLegalHistory parents past
         → 0 < x → holder_of past (parent parents x) ≡ Some c
@@ -144,8 +144,8 @@ pub fn placing()
         → coming_calls parents past x ≡ [] }
 {}
 
-/// The same two numbers of each node tell whether one more event keeps a history legal, and an event changes them at its
-/// own node alone.
+/// The same two numbers per node decide whether one more event keeps a history legal, and an event changes them only at its
+/// own node.
 pub fn rules_by_holders()
     ensures rules { (parents : List ℕ) (past : List Event) (event : Event) → IsTree parents
         → IsLegalHistory parents past
@@ -166,8 +166,8 @@ pub fn rules_by_holders()
 
 // ---- the protocol
 
-/// What is permitted action by action obeys the protocol by places, and the other way where nothing comes after an end.
-/// So a call's part of a legal history obeys it, and of the actions of a call alone all and the first so many.
+/// What is permitted action by action obeys the protocol by places; the converse holds if nothing comes after an end. So a
+/// call's part of a legal history obeys it, and so do the actions of a call alone, all of them or the first few.
 pub fn obeys_by_places()
     ensures permitted { (parents : List ℕ) (done : List Action)
         → (EachPermitted parents done ↔ (Obeys parents (reverse done) × EndsLast (reverse done))) }
@@ -198,8 +198,8 @@ pub fn sound_history()
     ensures { (w : World) → IsSound w → IsLegalHistory w.parents w.past }
 {}
 
-/// Each node is locked only while nobody holds it exactly if between two locks of one node stands a free of it by the
-/// first one's call. Here the earliest event is the first.
+/// Each node is locked only while nobody holds it, if and only if between any two locks of one node there is a free of it
+/// by the call that locked it first. Here the earliest event comes first.
 pub fn apart_by_places()
     ensures { (events : List Event) → (Apart (past_of events) ↔ FreesBetweenLocks events) }
 {}
@@ -211,9 +211,9 @@ pub fn genuine_locks_and_frees()
         → locks_and_frees (part_of c past) ≡ locks_and_frees (taken k (alone_of alone opening past c).actions []) }
 {}
 
-/// Whatever admissions and steps come: the world is legal, and each call obeys the protocol; some call can step while
-/// one is open; once all are done, the records and the replies are those of the calls run alone, one after another
-/// along the order that the history gives.
+/// Whatever admissions and steps come: the world is legal, and each call obeys the protocol; some call can step while one
+/// is open; once all are done, the records and the replies are those of the calls run alone, one after another along the
+/// order that the history gives.
 pub fn headline()
     ensures legal { (parents : List ℕ) (opening : Records) (w : World) → IsTree parents
         → length opening ≡ length parents → Reached parents opening w → Legal w }
@@ -231,8 +231,8 @@ pub fn headline()
         → (serial w.meanings (placed parents w.past) opening).replies ≡ map (reply_of w) (placed parents w.past) }
 {}
 
-/// The same with seals among the steps. What `headline` says of a world is so of each epoch, and once all calls are done, those of all
-/// epochs, run alone along the orders joined, leave the records now and give every reply.
+/// The same with seals among the steps. What `headline` says of a world holds for each epoch. Once all calls are done, the
+/// calls of all epochs, run alone along the orders joined together, leave the records as they are now and give every reply.
 pub fn headline_of_epochs()
     ensures legal { (parents : List ℕ) (opening : Records) (sealed : List World) (w : World) → IsTree parents
         → length opening ≡ length parents → ReachedEpochs parents opening sealed w → Legal w }

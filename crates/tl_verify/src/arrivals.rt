@@ -1,4 +1,4 @@
-// The states that have come to a position so far.
+// The states that have arrived at a position so far.
 
 ghost use Rattle.std.specs.Prelude.{◌≡◌, ℕ, ◌<◌, List, length, slice_set, get_or, Some, None, false};
 ghost use Rattle.tl_verify.specs.declared.arrivals.Arrivals.{Arrivals as Arrivals'};
@@ -7,8 +7,8 @@ ghost use Rattle.tl_verify.specs.Pass.{Merges, MergesWith};
 use crate::marks::Marks;
 use crate::register_set::RegisterSet;
 
-/// The states that have come to a position so far, as one: `first` is spent where it was in any of them, and it is
-/// remembered whether they differ in what they hold.
+/// The states that have arrived at a position so far, merged into one: `first` is spent if it was spent in any of them, and
+/// `differ` says whether they differ in what they hold.
 #[derive(Clone, Copy, Debug, PartialEq, Eq)]
 pub struct Arrivals {
     pub marks: Marks,
@@ -16,7 +16,7 @@ pub struct Arrivals {
 }
 
 impl Arrivals {
-    /// What comes to the first position: all registers are empty, and `first` is open.
+    /// What arrives at the first position: all registers are empty, and `first` is open.
     pub const ENTRY: Arrivals = Arrivals {
         marks: Marks {
             held: RegisterSet::EMPTY,
@@ -25,7 +25,7 @@ impl Arrivals {
         differ: false,
     };
 
-    // The first state that comes.
+    // The first state to arrive.
     fn of(marks: Marks) -> Self
         ensures { result ≡ record { marks = marks; differ = false } }
     {
@@ -35,7 +35,7 @@ impl Arrivals {
         }
     }
 
-    // With one more state.
+    // Merges one more state.
     fn with(self, marks: Marks) -> Self
         ensures { MergesWith self marks result }
     {
@@ -51,7 +51,7 @@ impl Arrivals {
     }
 }
 
-/// One more state comes to a position.
+/// Adds one more state to a position.
 pub fn arrive(states: &mut [Option<Arrivals>], to: usize, marks: Marks)
     requires { to < length states.old }
     ensures { (a : Arrivals') × (states.new ≡ slice_set states.old to (Some a)) × Merges (get_or states.old to None) marks a }

@@ -24,19 +24,19 @@ pub enum VerifyFault {
     /// 403: the target, or the next position, is past the end.
     #[error("instruction {0}: control goes past the end of the code")]
     OffEnd(u16),
-    /// 404: `first` where a call may have locked a node already.
+    /// 404: a `first` that a call may reach after it locked a node.
     #[error("instruction {0}: first comes after another lock")]
     FirstSpent(u16),
-    /// 405: the register, named last, is empty.
+    /// 405: the register, given last, is empty.
     #[error("instruction {0}: register n{1} holds no node")]
     NotHeld(u16, u8),
-    /// 406: the register that is to take a node, named last, holds one already.
+    /// 406: the register that has to take a node, given last, holds one already.
     #[error("instruction {0}: register n{1} holds a node already")]
     Occupied(u16, u8),
-    /// 407: the call ends while it holds the node of the register, the least such.
+    /// 407: the call ends while it holds the node of a register. The least such register is given.
     #[error("instruction {0}: register n{1} still holds a node at the end")]
     HeldAtReturn(u16, u8),
-    /// 408: control comes here with a register held, and with the same register empty.
+    /// 408: control arrives here with a register held on one path and empty on another.
     #[error("instruction {0}: paths that join here hold different registers")]
     Joins(u16),
     /// 409: a turn of the loop that ends here changes which registers are held, or spends `first`.

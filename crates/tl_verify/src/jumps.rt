@@ -9,7 +9,7 @@ use crate::fault::VerifyFault;
 use tl_budget::Nest;
 use tl_instr::{Instr, MAX_COUNT};
 
-/// The first target that isn't ahead of its jump, or is past the end, or in a loop that the jump isn't in.
+/// The first target that isn't after its jump, or is past the end, or is in a loop that the jump isn't in.
 pub fn jumps(code: &[Instr], nest: &Nest) -> Option<VerifyFault>
     requires short { length code.now ≤ MAX_COUNT }
     requires nest { IsNest code.now nest.now }

@@ -1,4 +1,4 @@
-// The theory of findings: what is so of every code.
+// The theory of faults: what holds for every code.
 
 ghost use Rattle.std.specs.Prelude.{◌≡◌, List};
 ghost use Rattle.tl_instr.specs.declared.instr.Instr.{Instr as Instr'};

@@ -1,4 +1,4 @@
-//! Which codes are admitted. A procedure is a code that was: from then on it can't fail.
+//! Decides which codes are accepted. A procedure is an accepted code: it can't fail when it runs.
 #![tactic(auto)]
 
 mod arrivals;

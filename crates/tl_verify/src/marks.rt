@@ -1,4 +1,4 @@
-// What is known of the node registers at a position.
+// What is known about the node registers at a position.
 
 use crate::register_set::RegisterSet;
 

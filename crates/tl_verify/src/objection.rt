@@ -1,4 +1,4 @@
-// What an instruction asks of the node registers.
+// What an instruction requires of the node registers.
 
 ghost use Rattle.std.specs.Prelude.{◌≡◌, ◌<◌, get_or, true, false, Option, Some, None, IfOk, IfErr, option_map};
 ghost use Rattle.tl_verify.specs.Marks.{goes_on as goes_on_from, after as marks_after};
@@ -19,14 +19,14 @@ pub fn goes_on(instr: &Instr) -> bool
     !matches!(*instr, Instr::Jump { .. } | Instr::Return)
 }
 
-/// Whether a turn of a loop ends.
+/// Whether the instruction ends a turn of a loop.
 pub fn is_end(instr: &Instr) -> bool
     ensures { result ≡ is_end_of instr.now }
 {
     matches!(*instr, Instr::End)
 }
 
-// The register has to hold a node.
+// The register must hold a node.
 #[inline(always)]
 fn needs(position: u16, held: RegisterSet, register: NodeRegister) -> Result<(), VerifyFault>
     ensures ok { IfOk result (λ _. get_or held register false ≡ true) }
@@ -39,7 +39,7 @@ fn needs(position: u16, held: RegisterSet, register: NodeRegister) -> Result<(),
     }
 }
 
-// The register takes a node, and has to be empty.
+// The register takes a node, and must be empty before.
 #[inline(always)]
 fn takes(position: u16, held: RegisterSet, register: NodeRegister) -> Result<(), VerifyFault>
     ensures ok { IfOk result (λ _. get_or held register false ≡ false) }
@@ -52,7 +52,7 @@ fn takes(position: u16, held: RegisterSet, register: NodeRegister) -> Result<(),
     }
 }
 
-// The registers behind an instruction that doesn't go to its target, or what is wrong with them before it.
+// The marks after an instruction that doesn't go to its target, or what is wrong with the registers before it.
 #[inline(always)]
 fn after(position: u16, instr: &Instr, marks: Marks) -> Result<Marks, VerifyFault>
     ensures after { IfOk result (λ m. m ≡ marks_after instr.now marks) }
@@ -106,8 +106,8 @@ fn after(position: u16, instr: &Instr, marks: Marks) -> Result<Marks, VerifyFaul
     }
 }
 
-/// The registers behind an instruction at a position of a code of so many, or what is wrong with those that come to it, where
-/// control may go on to the position behind `furthest`, and a turn of the loop that ends here changes the marks or doesn't.
+/// The marks after the instruction at `position` in a code of `count` instructions, or the first fault there. Control may
+/// go on to the position after `furthest`. `is_changed`: a turn of the loop that ends here changes the marks.
 #[inline(always)]
 #[tactic(auto, unfolding(crate::specs::Pass::objection))]
 pub fn objection(

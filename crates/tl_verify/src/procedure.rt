@@ -1,4 +1,4 @@
-// Procedures: codes that were accepted.
+// Procedures: accepted codes.
 
 ghost use Rattle.std.specs.Prelude.{◌≡◌, ◌≢◌, ◌↔◌, IsTrue, IfOk, IfErr, length};
 ghost use Rattle.tl_instr.specs.Codes.{CodeValue, IsCode};
@@ -17,7 +17,7 @@ use std::marker::Model;
 use tl_budget::{Bounds, Nest, bounds, nest};
 use tl_instr::Code;
 
-/// A code that was accepted, with its loops and its bounds. Only `verify` makes one.
+/// An accepted code, with its loops and its bounds. Only `verify` makes one.
 #[derive(Debug, Drop)]
 pub struct Proc {
     code: Code,
@@ -52,22 +52,21 @@ impl Proc {
         &self.nest
     }
 
-    /// What a call does at most.
+    /// The most that a call does.
     pub fn bounds(&self) -> Bounds
         ensures { AreBounds self.now.instrs result }
     {
         self.bounds
     }
 
-    /// Whether a call with these arguments has as many as the procedure takes.
+    /// Whether there are as many arguments as the procedure takes.
     pub fn takes(&self, args: &[i64]) -> bool
         ensures { IsTrue result ↔ (length args.now ≡ self.now.arity) }
     {
         args.len() == usize::from(self.code.arity().number())
     }
 
-    /// Whether both are made of the same code: as many arguments, and the same instructions. Their loops and bounds are then
-    /// the same.
+    /// Whether both are made of the same code. Their loops and bounds are then the same.
     pub fn is(&self, other: &Proc) -> bool
         ensures { IsTrue result ↔ (self.now ≡ other.now) }
     {
@@ -93,18 +92,18 @@ fn examine(alloc: Global, code: &Code) -> Result<(Nest, Bounds), VerifyFault>
     Ok((loops, sums))
 }
 
-/// Admits a code: from then on it can't fail, whatever its arguments and the tree.
+/// Accepts a code: from then on it can't fail, whatever its arguments and the tree.
 ///
-/// A code is accepted where its loops match and nest at most four deep, its jumps go ahead, stay in the code and enter no loop, its
-/// registers fit, and its bounds are within the limits: 1,000,000 instructions, 4,096 locks, 32 emitted values. Else the
-/// code is handed back with the first fault of the first pass that finds one:
+/// A code is accepted if its loops match and nest at most four deep, its jumps go forward, stay in the code and enter no
+/// loop, its registers fit, and its bounds are within the limits: 1,000,000 instructions, 4,096 locks, 32 emitted values.
+/// Otherwise the code is handed back with the first fault of the first pass that finds one:
 ///
-/// - of the loops 302, 304, 303 at the least position, and only where there is none of these 301;
-/// - of the targets 401, 403, 402 at the least position;
-/// - of the registers 408, 404, 405, 406, 407, 409, 403 at the least position that control may come to;
-/// - of the bounds 305, 306, 307.
+/// - loops: 302, 304, 303 at the least position, and only if there is none of these, 301;
+/// - targets: 401, 403, 402 at the least position;
+/// - registers: 408, 404, 405, 406, 407, 409, 403 at the least position that control may reach;
+/// - bounds: 305, 306, 307.
 ///
-/// 490 where memory was refused.
+/// 490 if memory is refused.
 pub fn verify(alloc: Global, code: Code) -> Result<Proc, (Code, VerifyFault)>
     ensures value { IfOk result (λ p. p ≡ code) }
     ensures accepted { IfOk result (λ _. Acceptable code.instrs) }

@@ -3,7 +3,7 @@
 use std::marker::Model;
 use tl_instr::NodeRegister;
 
-/// A set of node registers. A contract sees of each register whether it is in the set.
+/// A set of node registers. A contract sees, for each register, whether it is in the set.
 #[derive(Clone, Copy, Debug)]
 pub struct RegisterSet {
     // The lowest bit is that of register 0.
@@ -51,7 +51,7 @@ impl RegisterSet {
     ghost use Rattle.std.specs.Prelude.{◌≡◌, slice_set, get_or, true, false};
     ghost use Rattle.tl_verify.specs.Pass.{first_held};
 
-    /// No register.
+    /// The empty set.
     pub const EMPTY: RegisterSet = RegisterSet { bits: 0 };
 
     /// Whether the register is in the set.
@@ -82,7 +82,7 @@ impl RegisterSet {
         }
     }
 
-    /// The least register of the set, where it isn't empty.
+    /// The least register of the set, or `None` if it is empty.
     #[inline(always)]
     pub fn first(self) -> Option<u8>
         ensures { result ≡ first_held self 0 }

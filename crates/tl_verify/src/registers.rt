@@ -16,8 +16,8 @@ use std::alloc::{AllocError, Global};
 use tl_budget::Nest;
 use tl_instr::{Instr, MAX_COUNT};
 
-// Where control may go with the marks from before the instruction: to its target, or behind the loop that it opens, where
-// that may turn no time.
+// Where control may go with the marks from before the instruction: to its target, or past the loop that it opens, if that
+// loop may turn no times.
 #[inline(always)]
 fn aside(nest: &Nest, position: u16, instr: &Instr) -> Option<usize>
     requires { position < length nest.now }
@@ -41,7 +41,7 @@ fn furthest(nest: &Nest, position: u16, instr: &Instr) -> u16
     }
 }
 
-// The states behind an instruction come to where it leads, and those from before it aside.
+// The marks after an instruction arrive at the next position, and those from before it at the position aside.
 #[inline(always)]
 fn pass_on(
     states: &mut [Option<Arrivals>],
@@ -64,7 +64,7 @@ fn pass_on(
     }
 }
 
-// Whether control comes to the end of a loop's body with other marks than to its start.
+// Whether control reaches the end of a loop's body with other marks than its start.
 fn is_changed(
     states: &[Option<Arrivals>],
     nest: &Nest,
@@ -88,7 +88,7 @@ fn is_changed(
     }
 }
 
-// Visits each position that has a state.
+// Visits each position that has a state, by rising position.
 fn walk(code: &[Instr], nest: &Nest, states: &mut [Option<Arrivals>]) -> Option<VerifyFault>
     requires short { length code.now ≤ MAX_COUNT }
     requires nest { IsNest code.now nest.now }
@@ -115,7 +115,7 @@ fn walk(code: &[Instr], nest: &Nest, states: &mut [Option<Arrivals>]) -> Option<
     None
 }
 
-/// The first fault of the registers, of a code whose loops and targets have none. Where there is none, they fit.
+/// The first fault of the registers, in a code whose loops and targets have none. `None` if the registers fit.
 pub fn registers(
     alloc: Global,
     code: &[Instr],

@@ -1,4 +1,4 @@
-//! How many fields a record has: said once, for records and for instructions that name a field.
+//! How many fields a record has: stated once, for records and for instructions that name a field.
 #![tactic(auto)]
 
 mod count;

@@ -8,6 +8,7 @@ ghost use Rattle.tl_workers.specs.Kept.{asking};
 use arrayvec::{ArrayString, ArrayVec};
 use std::marker::Model;
 use tl_instr::MAX_ARGS;
+use tl_machine::copied;
 use tl_procedures::MAX_NAME;
 
 /// The name of a procedure: up to 32 bytes, which need no memory.
@@ -25,7 +26,7 @@ impl Model for Name {
 }
 
 impl Name {
-    /// The same text as a name.
+    /// The text as a name.
     pub fn new(text: &str) -> Name
         requires { length text.now ≤ MAX_NAME }
         ensures { result ≡ text.now }
@@ -52,7 +53,7 @@ impl Name {
     }
 }
 
-/// A call that was admitted, as its session's holder asked for it: plain data.
+/// The request of an admitted call, as plain data.
 #[derive(Debug, Drop)]
 pub struct Asking {
     /// The number of the epoch.
@@ -61,12 +62,12 @@ pub struct Asking {
     pub call: u32,
     /// The name of its procedure.
     pub name: Name,
-    /// What it was given.
+    /// Its arguments.
     pub args: ArrayVec<i64, MAX_ARGS>,
 }
 
 impl Asking {
-    /// What was asked for, of an admitted call. Takes no memory.
+    /// The request of an admitted call. Takes no memory.
     pub fn new(epoch: u32, call: u32, name: &str, args: &[i64]) -> Asking
         requires name { length name.now ≤ MAX_NAME }
         requires args { length args.now ≤ MAX_ARGS }
@@ -76,11 +77,11 @@ impl Asking {
             epoch,
             call,
             name: Name::new(name),
-            args: values_of(args),
+            args: copied(args),
         }
     }
 
-    /// Whether it is that call of that epoch, of a procedure of that name, with these arguments.
+    /// Whether this is call `call` of epoch `epoch`, of the procedure `name` with the arguments `args`.
     pub fn is(&self, epoch: u32, call: u32, name: &str, args: &[i64]) -> bool
         ensures { IsTrue result ↔ (self.now ≡ asking epoch call name.now args.now) }
     {
@@ -95,16 +96,4 @@ impl Asking {
         }
         self.args.as_slice() == args
     }
-}
-
-// The arguments as they are kept.
-pub(crate) fn values_of(args: &[i64]) -> ArrayVec<i64, MAX_ARGS>
-    requires { length args.now ≤ MAX_ARGS }
-    ensures { result.items ≡ args.now }
-{
-    let mut values = ArrayVec::new();
-    let Ok(()) = values.try_extend_from_slice(args) else {
-        unreachable!()
-    };
-    values
 }

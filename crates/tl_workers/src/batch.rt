@@ -6,7 +6,7 @@ ghost use Rattle.tl_workers.specs.declared.batch.Handed.TheVariants.{All};
 ghost use Rattle.tl_workers.specs.declared.batch.TheConstants.{MAX_REQUESTS, MAX_WORKERS};
 ghost use Rattle.tl_workers.specs.Kept.{Gains, Answers, AnswersEach, AsksFor, AdmittedEach, ReceiptsEach, asked_of, gots_of};
 
-use crate::asking::{Asking, values_of};
+use crate::asking::Asking;
 use crate::engine::Engine;
 use crate::gate::Gate;
 use crate::refusal::Refusal;
@@ -17,6 +17,7 @@ use std::sync::{MutexGuard, Wait};
 use std::thread;
 use std::thread::Threads;
 use tl_core::CoreFault;
+use tl_machine::copied;
 use tl_procedures::Request;
 use tl_ready::ReadyPass;
 use tl_table::{Receipt, Table, TableFault};
@@ -27,10 +28,10 @@ pub const MAX_REQUESTS: usize = 256;
 /// How many workers run a batch at most.
 pub const MAX_WORKERS: usize = 16;
 
-/// How far the requests of a batch are handed out.
+/// How far a batch has got with handing out its requests.
 #[derive(Clone, Copy, Debug, PartialEq, Eq)]
 pub enum Handed {
-    /// All are.
+    /// All are handed out.
     All,
     /// Too many calls are open, some of them of this batch.
     Full,
@@ -38,11 +39,24 @@ pub enum Handed {
     NoPlace(u32),
 }
 
+// A batch, as its workers share it.
+#[derive(Drop)]
+struct Batch<'a, R, G> {
+    engine: &'a Engine,
+    rt: &'a R,
+    gate: &'a G,
+    // The session that asks, and its requests in their order.
+    session: u32,
+    requests: &'a [Request],
+    // Whether all requests are handed out. It changes under the table's lock only.
+    is_handed_out: AtomicBool,
+}
+
 impl Engine {
-    /// Runs the requests on up to so many threads, of which this is one, and answers each: its receipt, or why it was
-    /// refused. They are admitted in their order. Where 64 calls are open, a request waits until a call of the batch has
-    /// ended, and is refused with 604 only where none of the batch's calls is unfinished. Threads that can't be started are
-    /// left out. 990 where there is no memory for the answers and for what the session keeps; then nothing was admitted.
+    /// Runs the requests on at most `workers` threads, one of which is the caller's, and answers each: its receipt, or why it was
+    /// refused. They are admitted in their order. If 64 calls are open, a request waits until a call of the batch has
+    /// ended, and is refused with 604 only if none of the batch's calls is unfinished. If a thread can't be started, the batch runs
+    /// with fewer. 990 if there is no memory for the answers and for what the session keeps; then nothing was admitted.
     pub fn batch<R: Threads + Wait + Sync, G: Gate + Sync>(
         &self,
         rt: &R,
@@ -70,103 +84,87 @@ impl Engine {
         let Ok(()) = session.reserve(count) else {
             return Err(Refusal::Memory);
         };
-        let number = session.number();
-        let admitted = self.run_all(
+        let batch = Batch {
+            engine: self,
             rt,
-            alloc,
-            number,
-            session.pass(),
-            requests,
-            admitted,
-            workers,
             gate,
-        );
-        let answers = self.take_all(rt, admitted.as_slice(), answers);
+            session: session.number(),
+            requests,
+            is_handed_out: AtomicBool::new(false),
+        };
+        let admitted = batch.run(alloc, session.pass(), admitted, workers);
+        let answers = batch.collect(admitted.as_slice(), answers);
         session.record_all(admitted.as_slice(), answers.as_slice());
         Ok(answers)
     }
+}
 
-    // Admits the requests and works on them, beside workers that do so too.
-    fn run_all<R: Threads + Wait + Sync, G: Gate + Sync>(
+impl<R: Threads + Wait + Sync, G: Gate + Sync> Batch<'_, R, G> {
+    // Admits the requests and works on them, as do the other workers.
+    fn run(
         &self,
-        rt: &R,
         alloc: Global,
-        session: u32,
         pass: &mut ReadyPass,
-        requests: &[Request],
         admitted: Vec<Result<Asking, Refusal>>,
         workers: usize,
-        gate: &G,
     ) -> Vec<Result<Asking, Refusal>>
-        requires { (admitted.items ≡ []) × (vec_len admitted ≡ 0) × (length requests.now ≤ vec_capacity admitted) }
-        ensures { AdmittedEach requests.now result.items }
+        requires { (admitted.items ≡ []) × (vec_len admitted ≡ 0) × (length self.now.requests.now ≤ vec_capacity admitted) }
+        ensures { AdmittedEach self.now.requests.now result.items }
     {
-        let all_out = AtomicBool::new(false);
-        let is_handed_out = &all_out;
-        let others = workers.min(requests.len()).saturating_sub(1);
+        let others = workers.min(self.requests.len()).saturating_sub(1);
         thread::scope(
             thread::scope_env(),
-            rt,
+            self.rt,
             |scope| -> Vec<Result<Asking, Refusal>>
-                requires { (admitted.items ≡ []) × (vec_len admitted ≡ 0) × (length requests.now ≤ vec_capacity admitted) }
-                ensures { AdmittedEach requests.entry.now result.items }
+                requires { (admitted.items ≡ []) × (vec_len admitted ≡ 0) × (length self.now.requests.now ≤ vec_capacity admitted) }
+                ensures { AdmittedEach self.entry.now.requests.now result.items }
             {
                 for _ in 0..others {
                     // A worker that can't be started is left out.
-                    let _ = scope.spawn(move || self.join_in(rt, is_handed_out, gate));
+                    let _ = scope.spawn(move || self.join_in());
                 }
-                let admitted = self.hand_out(rt, alloc, session, pass, requests, admitted, gate);
-                self.end_handing_out(rt, is_handed_out);
-                self.work(rt, pass, is_handed_out, gate);
+                let admitted = self.hand_out(alloc, pass, admitted);
+                self.end_handing_out();
+                self.work(pass);
                 admitted
             },
         )
     }
+}
 
+impl<R: Wait, G: Gate> Batch<'_, R, G> {
     // Says that no more calls of the batch become ready.
-    fn end_handing_out(&self, rt: &impl Wait, is_handed_out: &AtomicBool) {
-        let table = self.table.lock(rt);
-        is_handed_out.store(true, Ordering::SeqCst);
+    fn end_handing_out(&self) {
+        let table = self.engine.table.lock(self.rt);
+        self.is_handed_out.store(true, Ordering::SeqCst);
         drop(table);
-        self.moved.notify_all();
+        self.engine.moved.notify_all();
     }
 
     // Admits the requests in their order. While too many calls are open it runs some that are ready.
-    fn hand_out<G: Gate>(
+    fn hand_out(
         &self,
-        rt: &impl Wait,
         alloc: Global,
-        session: u32,
         pass: &mut ReadyPass,
-        requests: &[Request],
         admitted: Vec<Result<Asking, Refusal>>,
-        gate: &G,
     ) -> Vec<Result<Asking, Refusal>>
-        requires { (admitted.items ≡ []) × (vec_len admitted ≡ 0) × (length requests.now ≤ vec_capacity admitted) }
-        ensures { AdmittedEach requests.now result.items }
+        requires { (admitted.items ≡ []) × (vec_len admitted ≡ 0) × (length self.now.requests.now ≤ vec_capacity admitted) }
+        ensures { AdmittedEach self.now.requests.now result.items }
     {
         let mut admitted = admitted;
-        for _ in rt.forever() {
-            let mut table = self.table.lock(rt);
-            let handed = self.admit_some(
-                rt,
-                alloc,
-                &mut table,
-                session,
-                pass,
-                requests,
-                &mut admitted,
-            );
+        for _ in self.rt.forever() {
+            let mut table = self.engine.table.lock(self.rt);
+            let handed = self.admit_some(alloc, &mut table, pass, &mut admitted);
             match handed {
-                Handed::Full => self.help(rt, table, pass, gate),
+                Handed::Full => self.help(table, pass),
                 Handed::NoPlace(call) => {
                     drop(table);
-                    self.moved.notify_all();
-                    self.run(rt, call, None, gate);
+                    self.engine.moved.notify_all();
+                    self.engine.run(self.rt, call, None, self.gate);
                 }
                 Handed::All => {
                     drop(table);
-                    self.moved.notify_all();
+                    self.engine.moved.notify_all();
                     return admitted;
                 }
             }
@@ -174,53 +172,45 @@ impl Engine {
         unreachable!()
     }
 
-    // Runs a call that is ready; where none is, waits until something has moved.
-    fn help<G: Gate>(
-        &self,
-        rt: &impl Wait,
-        table: MutexGuard<'_, Table>,
-        pass: &mut ReadyPass,
-        gate: &G,
-    ) {
-        match self.ready.pop(rt, pass) {
+    // Runs a call that is ready; if none is, waits until something has moved.
+    fn help(&self, table: MutexGuard<'_, Table>, pass: &mut ReadyPass) {
+        match self.engine.ready.pop(self.rt, pass) {
             Some(call) => {
                 drop(table);
-                self.moved.notify_all();
-                self.run(rt, call, None, gate);
+                self.engine.moved.notify_all();
+                self.engine.run(self.rt, call, None, self.gate);
             }
-            None => drop(self.moved.wait(rt, table)),
+            None => drop(self.engine.moved.wait(self.rt, table)),
         }
     }
 
-    // Admits the next requests, as long as none has to wait, and makes their calls ready. As the table's lock is held, who
-    // looks for ready calls with the lock misses none.
+    // Admits the next requests, as long as none has to wait, and makes their calls ready. As the table's lock is held, a worker that
+    // looks for ready calls under the lock misses none.
     fn admit_some(
         &self,
-        rt: &impl Wait,
         alloc: Global,
         table: &mut Table,
-        session: u32,
         pass: &mut ReadyPass,
-        requests: &[Request],
         admitted: &mut Vec<Result<Asking, Refusal>>,
     ) -> Handed
-        requires room { length requests.now ≤ vec_capacity admitted.old }
-        requires within { length admitted.old.items ≤ length requests.now }
-        requires each { AdmittedEach (take (length admitted.old.items) requests.now) admitted.old.items }
+        requires room { length self.now.requests.now ≤ vec_capacity admitted.old }
+        requires within { length admitted.old.items ≤ length self.now.requests.now }
+        requires each { AdmittedEach (take (length admitted.old.items) self.now.requests.now) admitted.old.items }
         ensures room { vec_capacity admitted.new ≡ vec_capacity admitted.old }
-        ensures within { length admitted.new.items ≤ length requests.now }
-        ensures each { AdmittedEach (take (length admitted.new.items) requests.now) admitted.new.items }
-        ensures all { result ≡ All → length admitted.new.items ≡ length requests.now }
+        ensures within { length admitted.new.items ≤ length self.now.requests.now }
+        ensures each { AdmittedEach (take (length admitted.new.items) self.now.requests.now) admitted.new.items }
+        ensures all { result ≡ All → length admitted.new.items ≡ length self.now.requests.now }
     {
+        let requests = self.requests;
         for i in admitted.len()..requests.len() {
-            let one = admit_one(alloc, table, session, &requests[i]);
+            let one = admit_one(alloc, table, self.session, &requests[i]);
             if is_full(&one) && has_unfinished(table, admitted.as_slice()) {
                 return Handed::Full;
             }
             let call = call_of(&one);
             admitted.push_reserved(one);
             if let Some(call) = call {
-                if self.ready.push(rt, pass, call).is_err() {
+                if self.engine.ready.push(self.rt, pass, call).is_err() {
                     return Handed::NoPlace(call);
                 }
             }
@@ -228,24 +218,18 @@ impl Engine {
         Handed::All
     }
 
-    // Works with a pass of its own. Who gets none is left out.
-    fn join_in<G: Gate>(&self, rt: &impl Wait, is_handed_out: &AtomicBool, gate: &G) {
-        if let Ok(mut pass) = self.ready.join() {
-            self.work(rt, &mut pass, is_handed_out, gate);
+    // Works with a pass of its own. A worker that gets none is left out.
+    fn join_in(&self) {
+        if let Ok(mut pass) = self.engine.ready.join() {
+            self.work(&mut pass);
         }
     }
 
-    // Runs what is ready, until nothing is and the batch is handed out.
-    fn work<G: Gate>(
-        &self,
-        rt: &impl Wait,
-        pass: &mut ReadyPass,
-        is_handed_out: &AtomicBool,
-        gate: &G,
-    ) {
-        for _ in rt.forever() {
-            match self.next_ready(rt, pass, is_handed_out) {
-                Some(call) => self.run(rt, call, None, gate),
+    // Runs the calls that are ready, until none is and the batch is handed out.
+    fn work(&self, pass: &mut ReadyPass) {
+        for _ in self.rt.forever() {
+            match self.next_ready(pass) {
+                Some(call) => self.engine.run(self.rt, call, None, self.gate),
                 None => return,
             }
         }
@@ -253,32 +237,26 @@ impl Engine {
     }
 
     // The next call that is ready, as soon as there is one. None once nothing is and the batch is handed out.
-    fn next_ready(
-        &self,
-        rt: &impl Wait,
-        pass: &mut ReadyPass,
-        is_handed_out: &AtomicBool,
-    ) -> Option<u32> {
-        let first = self.ready.pop(rt, pass);
+    fn next_ready(&self, pass: &mut ReadyPass) -> Option<u32> {
+        let first = self.engine.ready.pop(self.rt, pass);
         if first.is_some() {
             return first;
         }
-        let mut table = self.table.lock(rt);
-        for _ in rt.forever() {
-            let is_last = is_handed_out.load(Ordering::SeqCst);
-            let next = self.ready.pop(rt, pass);
+        let mut table = self.engine.table.lock(self.rt);
+        for _ in self.rt.forever() {
+            let is_last = self.is_handed_out.load(Ordering::SeqCst);
+            let next = self.engine.ready.pop(self.rt, pass);
             if is_last || next.is_some() {
                 return next;
             }
-            table = self.moved.wait(rt, table);
+            table = self.engine.moved.wait(self.rt, table);
         }
         unreachable!()
     }
 
     // The receipts of the calls that were admitted. It waits only for calls that workers of other batches run.
-    fn take_all(
+    fn collect(
         &self,
-        rt: &impl Wait,
         admitted: &[Result<Asking, Refusal>],
         answers: Vec<Result<Receipt, Refusal>>,
     ) -> Vec<Result<Receipt, Refusal>>
@@ -286,19 +264,18 @@ impl Engine {
         ensures each { ReceiptsEach admitted.now result.items }
     {
         let mut answers = answers;
-        let mut table = self.table.lock(rt);
+        let mut table = self.engine.table.lock(self.rt);
         for one in admitted {
-            let (answer, held) = self.answer(rt, table, one);
+            let (answer, held) = self.answer(table, one);
             table = held;
             answers.push_reserved(answer);
         }
         answers
     }
 
-    // What a request comes to.
+    // The answer to a request.
     fn answer<'t>(
         &self,
-        rt: &impl Wait,
         held: MutexGuard<'t, Table>,
         one: &Result<Asking, Refusal>,
     ) -> (Result<Receipt, Refusal>, MutexGuard<'t, Table>)
@@ -306,7 +283,7 @@ impl Engine {
     {
         match one {
             Ok(asked) => {
-                let (receipt, table) = self.take(rt, held, asked);
+                let (receipt, table) = self.take(held, asked);
                 (Ok(receipt), table)
             }
             Err(refusal) => (Err(*refusal), held),
@@ -316,7 +293,6 @@ impl Engine {
     // The receipt of a call, as soon as it is done.
     fn take<'t>(
         &self,
-        rt: &impl Wait,
         held: MutexGuard<'t, Table>,
         asked: &Asking,
     ) -> (Receipt, MutexGuard<'t, Table>)
@@ -325,15 +301,15 @@ impl Engine {
         ensures args { result.0.args.items ≡ asked.now.args.items }
     {
         let mut table = held;
-        for _ in rt.forever() {
+        for _ in self.rt.forever() {
             if let Ok(Some(told)) = table.receipt(asked.epoch, asked.call) {
                 let receipt = Receipt {
-                    args: values_of(asked.args.as_slice()),
+                    args: copied(asked.args.as_slice()),
                     ..told
                 };
                 return (receipt, table);
             }
-            table = self.moved.wait(rt, table);
+            table = self.engine.moved.wait(self.rt, table);
         }
         unreachable!()
     }
@@ -370,7 +346,7 @@ fn is_full(one: &Result<Asking, Refusal>) -> bool {
     }
 }
 
-// Whether one of the calls is unfinished. The latest are looked at first, since mostly it is one of them.
+// Whether one of the calls is unfinished. The search begins at the latest, since an unfinished call is mostly near the end.
 fn has_unfinished(table: &Table, admitted: &[Result<Asking, Refusal>]) -> bool {
     let epoch = table.epoch();
     for one in admitted.iter().rev() {

@@ -25,18 +25,18 @@ use tl_verify::Proc;
 /// A table that threads share.
 ///
 /// By its type the table is a core with a legal history, each call of which has a session of this engine. A function that
-/// takes the lock can say of the table no more than that.
+/// takes the lock can promise no more than that about the table.
 #[derive(Drop)]
 pub struct Engine {
     pub(crate) table: Mutex<Table>,
     // The calls that were admitted in batches and that nobody runs yet.
     pub(crate) ready: Ready,
-    // Told after a node was freed, a call ended, or calls became ready.
+    // Notified after a node was freed, a call ended, or calls became ready.
     pub(crate) moved: Condvar,
 }
 
 impl Engine {
-    /// An engine for calls on the tree, without procedures. 690, 890, 990 where memory is refused.
+    /// An engine for calls on the tree, without procedures. 690, 890; 990 if memory is refused.
     pub fn new(alloc: Global, tree: Tree) -> Result<Engine, Refusal>
         ensures err { IfErr result IsNewEngineRefusal }
     {
@@ -46,7 +46,7 @@ impl Engine {
         }
     }
 
-    /// An engine for calls of a core that has none yet. 690, 890, 990 where memory is refused.
+    /// An engine for a core that has no calls yet. 690, 890; 990 if memory is refused.
     pub fn of_core(alloc: Global, core: Core) -> Result<Engine, Refusal>
         requires { core.seen.calls ≡ [] }
         ensures err { IfErr result IsNewEngineRefusal }
@@ -63,7 +63,7 @@ impl Engine {
         })
     }
 
-    /// A new session, with which nothing was asked for yet. 821; 990 where memory is refused.
+    /// A new session with an empty list. 821; 990 if memory is refused.
     pub fn session(&self, rt: &impl Wait, alloc: Global) -> Result<Session, Refusal>
         ensures ok { IfOk result (λ s. s.kept ≡ []) }
         ensures err { IfErr result (λ e. (e ≡ refusal.Table fault.TooManySessions) ⊎ (e ≡ refusal.Memory)) }
@@ -75,8 +75,8 @@ impl Engine {
         }
     }
 
-    /// Takes up a procedure under a name, and answers its number: 612, 611, 613, 690. 612 is answered exactly where the name is
-    /// none; whether another procedure has it is hidden by the lock.
+    /// Registers a procedure under a name and answers its number. 612, 611, 613, 690. 612 is answered if and only if the name isn't
+    /// allowed. No clause says when the name is taken (611), since the lock hides the other procedures.
     pub fn register(
         &self,
         rt: &impl Wait,
@@ -90,8 +90,8 @@ impl Engine {
         self.table.lock(rt).add_proc(alloc, name, procedure)
     }
 
-    /// Seals the current epoch of the table, whose number this answers: 606, 808, 690, 890. It waits for the lock and for
-    /// nothing else. Sessions go on.
+    /// Seals the current epoch of the table and answers its number. 606, 808, 690, 890. It waits only for the lock.
+    /// Sessions go on.
     pub fn seal(&self, rt: &impl Wait, alloc: Global) -> Result<u32, Refusal>
         ensures { IfErr result (λ e. IsSealRefused e) }
     {
@@ -101,11 +101,11 @@ impl Engine {
         }
     }
 
-    /// The epochs of the closed table, where every call is done and each session's list is what they say; else the table. The
-    /// sessions come back as they were. Takes no memory.
+    /// The epochs of the closed table, if every call is done and each session's list matches them; otherwise the table. The
+    /// sessions come back unchanged. Takes no memory.
     ///
-    /// Where these are all sessions of the engine, exactly one of their lists asks for a call, and once. A call that was asked
-    /// for after a receipt was got finds what that receipt's call left, or what was left there since.
+    /// If these are all sessions of the engine, each call stands in exactly one of their lists, once. A call that was asked
+    /// for after a receipt was received finds what that receipt's call left, or what was left there later.
     pub fn close(
         self,
         sessions: Vec<Session>,

@@ -1,11 +1,11 @@
-// What a worker tells about the turns of a call.
+// What a worker reports about the turns of a call.
 
-/// Told of a call's turns, outside the lock. A gate may hold the thread that tells it, as tests do.
+/// Learns of a call's turns, outside the lock. A gate may hold the thread that calls it, as tests do.
 pub trait Gate {
     /// Before turn number `turn` of the call, from 1.
     fn pass(&self, call: u32, turn: u64);
 
-    /// After the call's local instructions of that turn, before what came of them is submitted.
+    /// After the call's local instructions of that turn, before they are submitted.
     fn ready(&self, _call: u32, _turn: u64) {}
 
     /// After the call's receipt.

@@ -1,8 +1,8 @@
 //! Threads that run calls.
 //!
-//! An `Engine` has a table behind a lock. Whoever has a session of it asks for calls, one at a time or many at once, from any
-//! thread. A session keeps what was asked with it and what came of that; at the end the engine is closed, and then each
-//! session's list is compared with what the table says.
+//! An `Engine` has a table behind a lock. The holder of a session asks for calls, one at a time or many at once, from any
+//! thread. A session keeps a list of its requests and receipts. When the engine is closed, each session's list is compared with
+//! the table.
 #![tactic(auto)]
 
 mod asking;

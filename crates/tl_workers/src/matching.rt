@@ -1,4 +1,4 @@
-// Whether a session's list is what the epochs of a closed table say.
+// Whether a session's list matches the epochs of a closed table.
 
 ghost use Rattle.std.specs.Prelude.{◌≡◌, ◌≢◌, ◌+◌, ◌<◌, ◌≤◌, ◌↔◌, ℕ, List, [], ◌∷◌, ◌++◌, length, take, Some, slice_get, IsTrue, MatchOption, MatchBool, IfNone, IfSome, All};
 ghost use Rattle.tl_history.specs.declared.history.TheConstants.{MAX_CALLS};
@@ -15,7 +15,7 @@ use crate::session::{Did, Session};
 use tl_history::MAX_CALLS;
 use tl_table::{Closed, Receipt};
 
-/// Whether the session's list is what the epochs of a closed table say. Takes no memory.
+/// Whether the session's list matches the epochs of a closed table. Takes no memory.
 pub fn matches(chain: &[Closed], session: &Session) -> bool
     requires { IsChain chain.now }
     ensures { IsTrue result ↔ Matches chain.now session.now }
@@ -29,7 +29,7 @@ pub fn matches(chain: &[Closed], session: &Session) -> bool
     go_in_turn(chain, session)
 }
 
-/// Whether each session's list is what the epochs say.
+/// Whether each session's list matches the epochs.
 pub(crate) fn all_match(chain: &[Closed], sessions: &[Session]) -> bool
     requires { IsChain chain.now }
     ensures { MatchBool result (All (Matches chain.now) sessions.now) ((i : ℕ) × (s : SessionValue) × (slice_get sessions.now i ≡ Some s) × ¬ Matches chain.now s) }
@@ -42,7 +42,7 @@ pub(crate) fn all_match(chain: &[Closed], sessions: &[Session]) -> bool
     true
 }
 
-// Whether what was asked for are exactly the session's calls, epoch by epoch.
+// Whether the list's requests are exactly the session's calls, epoch by epoch.
 fn asks_its_calls(chain: &[Closed], session: &Session) -> bool
     ensures { IsTrue result ↔ (asked_in session.now.kept ≡ all_calls_of chain.now session.now.number) }
 {
@@ -56,15 +56,15 @@ fn asks_its_calls(chain: &[Closed], session: &Session) -> bool
     next_asked(session, from).is_none()
 }
 
-// The place after the asking for the session's calls of that epoch, if these are the first from a place on.
+// The place after the requests for the session's calls of `epoch`, if these are the first requests from the given place on.
 fn after_calls(closed: &Closed, session: &Session, from: usize) -> Option<usize>
     ensures none { IfNone result ((rest : List Asking) → asked_from session.now.kept from ≢ calls_of closed.now session.now.number ++ rest) }
     ensures some { IfSome result (λ left. (rest : List Asking) → (asked_from session.now.kept from ≡ calls_of closed.now session.now.number ++ rest) ↔ (asked_from session.now.kept left ≡ rest)) }
 {
     let number = session.number();
     let mut place = from;
-    // The calls are at most 4,096: here a proof learns that.
-    let _calls = closed.core().calls();
+    // An epoch has at most 4,096 calls.
+    let _fact = closed.core().calls();
     for (i, owner) in closed.owners().iter().enumerate() {
         if *owner == number {
             let Some(left) = next_call(closed, i as u32, session, place) else {
@@ -76,7 +76,7 @@ fn after_calls(closed: &Closed, session: &Session, from: usize) -> Option<usize>
     Some(place)
 }
 
-// The place after the asking for that call, if it is the first from a place on.
+// The place after the request for that call, if it is the first request from the given place on.
 fn next_call(closed: &Closed, call: u32, session: &Session, from: usize) -> Option<usize>
     requires { IsKnown closed.now call }
     ensures none { IfNone result (IsNotFirst (asked_from session.now.kept from) (asking_of closed.now call)) }
@@ -90,7 +90,7 @@ fn next_call(closed: &Closed, call: u32, session: &Session, from: usize) -> Opti
     Some(left)
 }
 
-// What was asked for first from a place on, and the place after it.
+// The first request from the given place on, and the place after it.
 fn next_asked(session: &Session, from: usize) -> Option<(Asking, usize)>
     ensures { MatchOption result (asked_from session.now.kept from ≡ []) (λ x. asked_from session.now.kept from ≡ x.0 ∷ asked_from session.now.kept x.1) }
 {
@@ -102,7 +102,7 @@ fn next_asked(session: &Session, from: usize) -> Option<(Asking, usize)>
     None
 }
 
-// Whether each receipt stands, and its call was asked for before.
+// Whether each receipt is true, and its call was asked for before it.
 fn gots_stand(chain: &[Closed], session: &Session) -> bool
     ensures { IsTrue result ↔ GotsStand chain.now session.now.kept }
 {
@@ -114,7 +114,7 @@ fn gots_stand(chain: &[Closed], session: &Session) -> bool
     true
 }
 
-// Whether what was done, if it is a receipt, stands, and its call was asked for before that place.
+// Whether the entry, if it is a receipt, is true, and its call was asked for before that place.
 fn is_backed(chain: &[Closed], did: &Did, session: &Session, place: usize) -> bool
     requires { place ≤ length session.now.kept }
     ensures { IsTrue result ↔ IsBacked chain.now did.now (take place session.now.kept) }
@@ -127,7 +127,7 @@ fn is_backed(chain: &[Closed], did: &Did, session: &Session, place: usize) -> bo
     }
 }
 
-// Whether a receipt stands in the epoch that it names.
+// Whether a receipt is that of its call in the epoch that it names.
 fn stands(chain: &[Closed], receipt: &Receipt) -> bool
     ensures { IsTrue result ↔ StandsIn chain.now receipt.now }
 {
@@ -137,7 +137,7 @@ fn stands(chain: &[Closed], receipt: &Receipt) -> bool
     }
 }
 
-// Whether the call was asked for before that place. The latest are looked at first, since mostly it is one of them.
+// Whether the call was asked for before that place. The search begins at the latest entry, since the request is mostly near the end.
 fn was_asked(session: &Session, place: usize, epoch: u32, call: u32) -> bool
     requires { place ≤ length session.now.kept }
     ensures { IsTrue result ↔ WasAsked (take place session.now.kept) epoch call }
@@ -152,8 +152,8 @@ fn was_asked(session: &Session, place: usize, epoch: u32, call: u32) -> bool
     false
 }
 
-// Whether what was got before something was asked for had ended before that was admitted. Of all that was got it is enough
-// to know how far the calls at most had begun when one of them ended.
+// Whether each call whose receipt was received before a request had ended before that request was admitted. Of all receipts so far
+// it is enough to keep one number: the most calls that had begun when one of these calls ended.
 fn go_in_turn(chain: &[Closed], session: &Session) -> bool
     requires chain { IsChain chain.now }
     requires known { AreKnown chain.now session.now.kept }
@@ -169,8 +169,8 @@ fn go_in_turn(chain: &[Closed], session: &Session) -> bool
     true
 }
 
-// How far the calls at most had begun when one of those got ended, one entry later. None where that entry asks for a call that
-// had been admitted by then.
+// The most calls that had begun when a received call ended, one entry later. None if that entry asks for a call that had already
+// been admitted by then.
 fn begun_after(chain: &[Closed], did: &Did, begun: u32) -> Option<u32>
     requires few { length chain.now ≤ MAX_EPOCHS }
     requires known { IsKnownEntry chain.now did.now }
@@ -179,12 +179,12 @@ fn begun_after(chain: &[Closed], did: &Did, begun: u32) -> Option<u32>
     match did {
         Did::Got(receipt) => {
             let closed = &chain[receipt.epoch as usize];
-            // At most so many calls had begun: here a proof learns that.
-            let _calls = closed.core().calls();
+            // At most `begun` calls had begun.
+            let _fact = closed.core().calls();
             Some(begun.max(mark(receipt.epoch, closed.begun_by_end(receipt.call))))
         }
         Did::Asked(asked) => {
-            let _calls = chain[asked.epoch as usize].core().calls();
+            let _fact = chain[asked.epoch as usize].core().calls();
             if mark(asked.epoch, asked.call) < begun {
                 None
             } else {
@@ -194,7 +194,7 @@ fn begun_after(chain: &[Closed], did: &Did, begun: u32) -> Option<u32>
     }
 }
 
-// One number of an epoch and of a number of calls in it, which rises with the epoch and then with the calls.
+// One number for an epoch and a number of calls in it. It rises with the epoch, and within an epoch with the calls.
 fn mark(epoch: u32, count: u32) -> u32
     requires epoch { epoch < MAX_EPOCHS }
     requires count { count ≤ MAX_CALLS }

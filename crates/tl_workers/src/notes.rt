@@ -1,6 +1,6 @@
 // What a session's holder did, kept small.
 
-ghost use Rattle.std.specs.Prelude.{◌≡◌, ◌+◌, ◌*◌, ◌≤◌, ◌<◌, ◌↔◌, ◌^◌, [], ◌∷◌, ◌++◌, length, take, drop, Some, slice_get, vec_len, vec_capacity, IsTrue, OnOk, IfSome};
+ghost use Rattle.std.specs.Prelude.{◌≡◌, ◌+◌, ◌*◌, ◌≤◌, ◌<◌, ◌↔◌, ◌^◌, [], ◌∷◌, ◌++◌, length, take, drop, Some, slice_get, vec_capacity, IsTrue, OnOk, IfSome};
 ghost use Rattle.tl_instr.specs.declared.operand.TheConstants.{MAX_ARGS};
 ghost use Rattle.tl_workers.specs.declared.batch.TheConstants.{MAX_REQUESTS};
 ghost use Rattle.tl_workers.specs.declared.session.Did.TheVariants.{Asked, Got};
@@ -15,19 +15,20 @@ use std::alloc::{AllocError, Global};
 use std::marker::Model;
 use tl_budget::MAX_EMITS;
 use tl_instr::MAX_ARGS;
+use tl_machine::copied;
 use tl_table::Receipt;
 
-// How many of the latest names are looked at before a name is kept once more.
+// How many of the latest names are compared before a name is stored again.
 const LATEST_NAMES: usize = 8;
 
 // How many values a call has at most: its arguments when it is asked for, and these and its reply in its receipt.
 const MAX_VALUES: usize = 2 * MAX_ARGS + MAX_EMITS;
 
-/// One thing that a session's holder did. Its values lie beside it: from `start` on first the arguments, and then the reply. A place
-/// there takes four bytes, and a count takes one, since there is an entry for all that is ever done.
+/// One entry of a session's list. Its values lie in another list: from `start` on first the arguments, and then the reply. A position
+/// takes four bytes and a count takes one, since entries are never removed.
 #[derive(Clone, Copy, Debug)]
 pub enum Entry {
-    /// A call was asked for, of the procedure whose name has the place `name`.
+    /// A call was asked for, of the procedure whose name is at `name`.
     OfCall {
         epoch: u32,
         call: u32,
@@ -35,7 +36,7 @@ pub enum Entry {
         start: u32,
         args: u8,
     },
-    /// A receipt was got.
+    /// A receipt was received.
     OfReceipt {
         session: u32,
         epoch: u32,
@@ -47,16 +48,16 @@ pub enum Entry {
     },
 }
 
-/// What a session's holder did, in the order in which that was done.
+/// The requests and receipts of a session, in their order.
 ///
-/// A contract sees that list, for how many more calls that are asked for there is room, and for how many more receipts.
+/// A contract sees that list, and for how many more requests and receipts there is room.
 #[derive(Drop)]
 pub struct Notes {
     entries: Vec<Entry>,
     // The values of all entries, one after another.
     values: Vec<i64>,
     names: Vec<Name>,
-    // For how many more calls that are asked for, and for how many more receipts, there is memory.
+    // For how many more requests, and for how many more receipts, there is memory.
     asks: usize,
     gots: usize,
 }
@@ -76,7 +77,7 @@ impl Model for Notes {
 }
 
 impl Notes {
-    /// Nothing was done yet. Takes no memory.
+    /// An empty list. Takes no memory.
     pub fn new(alloc: Global) -> Notes
         ensures { result ≡ record { kept = []; asks = 0; gots = 0 } }
     {
@@ -89,14 +90,14 @@ impl Notes {
         }
     }
 
-    /// How much was done.
+    /// How many entries there are.
     pub fn len(&self) -> usize
         ensures { result ≡ length self.now.kept }
     {
         self.entries.len()
     }
 
-    /// What was done at that place of the list. Takes no memory.
+    /// The entry at that place of the list. Takes no memory.
     pub fn entry(&self, i: usize) -> Did
         requires { i < length self.now.kept }
         ensures { slice_get self.now.kept i ≡ Some result }
@@ -149,13 +150,13 @@ impl Notes {
         }
     }
 
-    /// Makes room for that many more calls that are asked for, and for as many receipts.
+    /// Makes room for that many more requests, and for as many receipts.
     pub fn reserve(&mut self, calls: usize) -> Result<(), AllocError>
         requires { calls ≤ MAX_REQUESTS }
         ensures kept { self.new.kept ≡ self.old.kept }
         ensures room { OnOk result ((calls ≤ self.new.asks) × (calls ≤ self.new.gots)) }
     {
-        // No session comes near to where a place wouldn't fit.
+        // No session has so many values that a position wouldn't fit.
         let most = u32::MAX as usize;
         if most - self.values.len() < MAX_VALUES * calls || most - self.names.len() < calls {
             return Err(AllocError);
@@ -214,17 +215,13 @@ impl Notes {
     }
 }
 
-// So many of the values from that place on.
+// `count` of the values, from `start` on.
 fn values_at<const N: usize>(values: &[i64], start: usize, count: usize) -> ArrayVec<i64, N>
     requires within { start + count ≤ length values.now }
     requires few { count ≤ N }
     ensures { result.items ≡ take count (drop start values.now) }
 {
-    let mut found = ArrayVec::new();
-    let Ok(()) = found.try_extend_from_slice(&values[start..start + count]) else {
-        unreachable!()
-    };
-    found
+    copied(&values[start..start + count])
 }
 
 // Appends the values, in room made before.
@@ -238,7 +235,7 @@ fn append(values: &mut Vec<i64>, more: &[i64])
     };
 }
 
-// Where the name is, after it was kept if it isn't among the latest.
+// The place of the name. It is stored first if it isn't among the latest.
 fn place_of(names: &mut Vec<Name>, name: &Name) -> u32
     requires room { length names.old.items < vec_capacity names.old }
     requires few { length names.old.items < 2 ^ 32 }
@@ -253,7 +250,7 @@ fn place_of(names: &mut Vec<Name>, name: &Name) -> u32
     place
 }
 
-// Where the name is among the latest.
+// The place of the name, if it is among the latest.
 fn latest_place(names: &[Name], name: &Name) -> Option<usize>
     ensures { IfSome result (λ i. slice_get names.now i ≡ Some name.now) }
 {

@@ -8,7 +8,7 @@ use std::alloc::AllocError;
 use thiserror::Error;
 use tl_table::TableFault;
 
-/// Why an engine refuses. What was kept is as it was.
+/// Why an engine refuses. A refusal changes nothing.
 #[derive(Clone, Copy, Debug, PartialEq, Eq, Error)]
 pub enum Refusal {
     /// 501, 601 to 605, 690, 803, 821, 890: the table refuses.

@@ -5,7 +5,7 @@ ghost use Rattle.tl_machine.specs.Turns.{HasRun};
 ghost use Rattle.tl_core.specs.Followed.{IfBlocked};
 ghost use Rattle.tl_workers.specs.Kept.{Gains, call_of};
 
-use crate::asking::{Asking, values_of};
+use crate::asking::Asking;
 use crate::engine::Engine;
 use crate::gate::Gate;
 use crate::refusal::Refusal;
@@ -13,12 +13,12 @@ use crate::session::Session;
 use std::alloc::Global;
 use std::sync::{MutexGuard, Wait};
 use tl_core::{CoreFault, TurnOutcome};
-use tl_machine::{LentTurn, Stop};
+use tl_machine::{LentTurn, Stop, copied};
 use tl_table::{Receipt, Table, TableFault};
 
 impl Engine {
-    /// Runs a call on this thread, to its end. 601, 501, 603, 604, 605, 890, and 990 where there is no memory for what the
-    /// session keeps; then nothing was admitted.
+    /// Runs a call on this thread, to its end. 601, 501, 603, 604, 605, 890; 990 if there is no memory for the
+    /// session's list. After a refusal nothing was admitted.
     pub fn call<G: Gate>(
         &self,
         rt: &impl Wait,
@@ -36,7 +36,7 @@ impl Engine {
         let mut table = self.table.lock(rt);
         let epoch = table.epoch();
         let admitted = table.admit(alloc, session.number(), name, args);
-        // The call is lent under the lock that admitted it. Where memory is refused for that, `run` asks once more.
+        // The call is lent under the lock that admitted it. If memory is refused for that, `run` asks once more.
         let lent = match &admitted {
             Ok(call) => table.lend(*call).unwrap_or(None),
             Err(_) => None,
@@ -51,18 +51,18 @@ impl Engine {
         let Some(told) = self.receipt(rt, epoch, call) else {
             return Err(Refusal::Table(TableFault::Core(CoreFault::NoCall)));
         };
-        // What comes out of the lock says nothing of what was handed in. Where the engine ran something else, the session's
-        // list isn't what the table says, and `close` finds it.
+        // About a table that comes out of the lock no clause says which call was handed in. If the engine ran something else, the
+        // session's list doesn't match the table, and `close` finds that.
         let receipt = Receipt {
-            args: values_of(args),
+            args: copied(args),
             ..told
         };
         session.record(&Asking::new(epoch, call, name, args), &receipt);
         Ok(receipt)
     }
 
-    // Takes the turns of a call from where it was lent to its end; none where no call of that number was admitted. Where the call is,
-    // is asked where it wasn't lent, and anew where a turn was stale.
+    // Takes the turns of a call from where it was lent to its end; none if no call of that number was admitted. The table is asked
+    // where the call is if it wasn't lent, and again if a turn was stale.
     pub(crate) fn run<G: Gate>(&self, rt: &impl Wait, call: u32, lent: Option<LentTurn>, gate: &G) {
         let mut lent = lent;
         let mut passed = 0;
@@ -86,7 +86,7 @@ impl Engine {
         unreachable!()
     }
 
-    // Takes the turns of a call from there on to its end, where one has passed the gate. False where the call stands elsewhere.
+    // Takes the turns of a call from there to its end, after one has passed the gate. False if the call is elsewhere.
     fn run_from<G: Gate>(
         &self,
         rt: &impl Wait,
@@ -105,7 +105,7 @@ impl Engine {
                     *passed = pass(gate, call, *passed);
                     lent.run_local();
                 }
-                // The instructions up to the lock are done: it is asked for once more.
+                // The instructions up to the lock are done: the lock is tried again.
                 Ok(TurnOutcome::Blocked { .. }) => *passed = pass(gate, call, *passed),
                 Err(_) => return false,
             }
@@ -120,7 +120,7 @@ impl Engine {
         self.table.lock(rt).receipt(epoch, call).ok()?
     }
 
-    // Submits what the call did by itself. Where it is blocked, this waits until its node is free.
+    // Submits what the call did by itself. If it is blocked, this waits until its node is free.
     fn send(
         &self,
         rt: &impl Wait,
@@ -161,7 +161,7 @@ impl Engine {
     }
 }
 
-// Passes the gate once more, and answers how often that was.
+// Passes the gate once more, and answers how often it was passed.
 fn pass<G: Gate>(gate: &G, call: u32, passed: u64) -> u64 {
     let turn = passed.saturating_add(1);
     gate.pass(call, turn);

@@ -1,4 +1,4 @@
-// A session, and what its holder did with it.
+// A session, and the list of its requests and receipts.
 
 ghost use Rattle.std.specs.Prelude.{◌≡◌, ◌↔◌, ◌≤◌, ◌<◌, [], ◌∷◌, ◌++◌, length, Some, slice_get, IsTrue, OnOk};
 ghost use Rattle.std.specs.Borrow.{sem};
@@ -16,24 +16,24 @@ use std::marker::Model;
 use tl_ready::ReadyPass;
 use tl_table::Receipt;
 
-/// What a session's holder did.
+/// One entry of a session's list.
 #[derive(Debug, Drop)]
 pub enum Did {
-    /// It asked for a call, which was admitted.
+    /// A call was asked for, and was admitted.
     Asked(Asking),
-    /// It got a call's receipt.
+    /// A call's receipt was received.
     Got(Receipt),
 }
 
-/// A session of an engine. It can't be copied, so what its holder did is one list.
+/// A session of an engine. It can't be copied, so there is one list of its requests and receipts.
 ///
-/// A contract sees its number, what its holder asked for and got, in the order in which that was done, and for how many more
-/// calls and receipts there is room.
+/// A contract sees its number, its requests and receipts in their order, and for how many more calls and receipts there is
+/// room.
 #[derive(Drop)]
 pub struct Session {
     number: u32,
     notes: Notes,
-    // With which its holder's batches make calls ready and take them up.
+    // Its batches push calls to the queue of ready calls, and pop them, by this pass.
     pass: ReadyPass,
 }
 
@@ -63,21 +63,21 @@ impl Session {
         self.number
     }
 
-    /// How often its holder asked for a call or got a receipt.
+    /// How many entries its list has.
     pub fn len(&self) -> usize
         ensures { result ≡ length self.now.kept }
     {
         self.notes.len()
     }
 
-    /// Whether its holder did nothing yet.
+    /// Whether its list is empty.
     pub fn is_empty(&self) -> bool
         ensures { IsTrue result ↔ (self.now.kept ≡ []) }
     {
         self.notes.len() == 0
     }
 
-    /// What its holder asked for or got at that place, in the order in which that was done. Takes no memory.
+    /// The entry at that place of its list. Takes no memory.
     pub fn entry(&self, i: usize) -> Did
         requires { i < length self.now.kept }
         ensures { slice_get self.now.kept i ≡ Some result }
@@ -85,7 +85,7 @@ impl Session {
         self.notes.entry(i)
     }
 
-    // Whether its holder asked for that call at that place.
+    // Whether that call was asked for at that place of its list.
     pub(crate) fn asks_at(&self, i: usize, epoch: u32, call: u32) -> bool
         requires { i < length self.now.kept }
         ensures { IsTrue result ↔ AsksAt self.now.kept i epoch call }
@@ -119,7 +119,7 @@ impl Session {
         self.notes.got(receipt);
     }
 
-    // Writes a batch down, in room made before: what was asked for, and then the receipts.
+    // Writes a batch down, in room made before: the requests, and then the receipts.
     pub(crate) fn record_all(
         &mut self,
         admitted: &[Result<Asking, Refusal>],

@@ -55,7 +55,7 @@ pub fn from_701_to_801(number: u16) -> Option<Meaning> {
         718 => Some(Meaning {
             parts: ", trail",
             name: "broken chain",
-            when: "the trail doesn't open with the tree that the one before it ends with, or its procedures don't begin with that one's",
+            when: "the trail, counted from 0, doesn't open with the tree that the one before it ends with, or its procedures don't begin with that one's",
             advice: "keep the trails of a run together, in their order",
         }),
         719 => Some(Meaning {

@@ -1,4 +1,4 @@
-//! Sums, differences and products. Where no number fits, control goes to the end.
+//! Sums, differences and products. If the result doesn't fit, control goes to the end.
 
 use crate::commands::Command::Alone;
 use crate::commands::Row;

@@ -1,4 +1,4 @@
-//! Quotients. Where there is none, or where it doesn't fit, control goes to the end.
+//! Quotients. If there is none, or if it doesn't fit, control goes to the end.
 
 use crate::commands::Command::Alone;
 use crate::commands::Row;

@@ -1,4 +1,4 @@
-//! Loops have their turns, and one that was left starts afresh.
+//! Loops have their turns, and a loop that was left starts again from its first turn.
 
 use crate::commands::Command::Alone;
 use crate::commands::Row;
@@ -8,11 +8,11 @@ use crate::texts::ONE_NODE;
 const SUM_UP: &str =
     "arity 2\nset v2 1\nrep 10\nadd v0 v0 v2 else a\na:\nadd v1 v1 v0 else b\nb:\nend\nemit v1\nret\n";
 
-/// Emits `v0` and counts it up, three times, twice over; where it comes to `v1`, control goes to the end of the outer loop.
+/// Emits `v0` and counts it up, three times, twice over. If it reaches `v1`, control goes to the end of the outer loop.
 const LEAVE_INNER: &str =
     "arity 2\nset v2 1\nrep 2\nrep 3\nemit v0\nadd v0 v0 v2 else a\na:\njeq v0 v1 b\nend\nb:\nend\nret\n";
 
-/// The same, but control goes out of both loops.
+/// The same, but control leaves both loops.
 const LEAVE_BOTH: &str =
     "arity 2\nset v2 1\nrep 2\nrep 3\nemit v0\nadd v0 v0 v2 else a\na:\njeq v0 v1 b\nend\nend\nb:\nret\n";
 

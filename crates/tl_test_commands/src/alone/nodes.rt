@@ -1,4 +1,4 @@
-//! Nodes that are there, and nodes that aren't, and how many children they have.
+//! Nodes that exist, nodes that don't, and how many children they have.
 
 use crate::commands::Command::Alone;
 use crate::commands::Row;

@@ -1,4 +1,4 @@
-//! Ways over several nodes.
+//! Paths over several nodes.
 
 use crate::commands::Command::Alone;
 use crate::commands::Row;

@@ -1,4 +1,4 @@
-//! What is read of a node's record, and written there.
+//! Reads and writes of a node's record.
 
 use crate::commands::Command::Alone;
 use crate::commands::Row;
@@ -10,7 +10,7 @@ const GREATEST: &str = "{\"parents\":[0],\"records\":[[9223372036854775807,0,0,0
 /// A root with a child.
 const PAIR: &str = "{\"parents\":[0,0],\"records\":[[0,0,0,0,0,0,0,0],[1,2,3,4,0,0,0,0]]}";
 
-/// Emits field 3 of the node `v0`, and puts `v1` there.
+/// Emits field 3 of the node `v0`, and stores `v1` there.
 const EXCHANGE: &str =
     "arity 2\nfirst n0 v0 else a\nget v2 n0 3\nput n0 3 v1\nemit v2\nrel n0\na:\nret\n";
 

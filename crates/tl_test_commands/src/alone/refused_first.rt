@@ -1,4 +1,4 @@
-//! What is wrong first: with the tree, with the code, with the arguments.
+//! Which fault is reported first: that of the tree, of the code or of the arguments.
 
 use crate::alone::ENDLESS;
 use crate::commands::Command::Alone;

@@ -1,4 +1,4 @@
-//! Texts in which a number isn't a whole one of 64 bits, or a record has another number of fields.
+//! Texts in which a number isn't a whole number of 64 bits, or a record has a wrong number of fields.
 
 use crate::alone::ENDLESS;
 use crate::commands::Command::Alone;

@@ -1,4 +1,4 @@
-//! Parents that are no tree's, and another number of records than nodes.
+//! Parents that don't form a tree, and a number of records that differs from the number of nodes.
 
 use crate::alone::ENDLESS;
 use crate::commands::Command::Alone;

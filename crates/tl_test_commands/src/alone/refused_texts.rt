@@ -1,4 +1,4 @@
-//! Texts that aren't of a tree's form.
+//! Texts that don't have the form of a tree.
 
 use crate::alone::ENDLESS;
 use crate::commands::Command::Alone;

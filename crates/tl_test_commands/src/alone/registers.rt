@@ -1,4 +1,4 @@
-//! What stands in a register: where no number fits, what stood there stays.
+//! The values in registers. If a result doesn't fit, the register keeps its value.
 
 use crate::commands::Command::Alone;
 use crate::commands::Row;

@@ -1,4 +1,4 @@
-//! Other spellings of one tree. A record of four numbers has zeros behind them.
+//! Other spellings of one tree. A record of four numbers is filled up with zeros.
 
 use crate::commands::Command::Alone;
 use crate::commands::Row;

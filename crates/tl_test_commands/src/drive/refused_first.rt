@@ -1,4 +1,4 @@
-//! What is wrong first: with the tree, with the script, with a procedure.
+//! Which fault is reported first: that of the tree, of the script or of a procedure.
 
 use crate::commands::Command::Drive;
 use crate::commands::Row;

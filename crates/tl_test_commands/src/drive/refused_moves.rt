@@ -1,4 +1,4 @@
-//! Scripts in which a move or a procedure isn't one.
+//! Scripts with an invalid move or procedure.
 
 use crate::commands::Command::Drive;
 use crate::commands::Row;

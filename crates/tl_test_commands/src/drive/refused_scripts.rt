@@ -1,4 +1,4 @@
-//! Bytes that are no script's, and another spelling of one.
+//! Bytes that aren't a script, and another spelling of a script.
 
 use crate::commands::Command::Drive;
 use crate::commands::Row;

@@ -5,7 +5,7 @@ use crate::commands::Row;
 use crate::drive::{END, MOVES, ONE_WAITS, PROCS, THREE_CALLS, TWO_SWEEPS};
 use crate::texts::{FORK, LOOK_ALONE, SWEEP_ALONE, THREE, ZEROS};
 
-/// A tree with the least number, the numbers about 0 and the greatest number.
+/// A tree with the least number, the numbers around 0 and the greatest number.
 const WIDE: &str =
     "{\"parents\":[0,0],\"records\":[[0,0,0,0,0,0,0,0],[-9223372036854775808,-1,0,9223372036854775807,0,0,0,0]]}";
 
@@ -43,7 +43,7 @@ const ROWS: &[Row] = &[
         ),
         &["{\"order\":[0,1]}\n"],
     ),
-    // Without a call there is no event, and a record's numbers stand as they are.
+    // Without a call there is no event, and a record's numbers stay as they are.
     (
         Trail(WIDE, &[MOVES, PROCS, END]),
         &[

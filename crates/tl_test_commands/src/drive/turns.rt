@@ -1,4 +1,4 @@
-//! The events of calls that have their turns, the order and the tree.
+//! The events of calls that take turns, the order and the tree.
 
 use crate::commands::Command::Drive;
 use crate::commands::Row;
@@ -77,7 +77,7 @@ const ROWS: &[Row] = &[
             "\n",
         ],
     ),
-    // Call 0 does 22 instructions and is then over, and call 1 is blocked at its first six attempts and at two later ones.
+    // Call 0 does 22 instructions and is then over. Call 1 is blocked at its first six attempts and at two later ones.
     (
         Drive(
             ZEROS,

@@ -1,4 +1,4 @@
-//! Calls that aren't done, for which there is no order.
+//! Calls that aren't done, so that there is no order.
 
 use crate::commands::Command::{Drive, DriveAudit, Trail};
 use crate::commands::Row;
@@ -26,7 +26,7 @@ const ROWS: &[Row] = &[
             "\n",
         ],
     ),
-    // Call 0 holds the node while call 1 asks for it, and isn't done. What it has written isn't seen.
+    // Call 0 holds the node while call 1 asks for it, and isn't done. What it has written isn't visible.
     (
         Drive(
             ONE_NODE,
@@ -47,7 +47,7 @@ const ROWS: &[Row] = &[
             "\n",
         ],
     ),
-    // 64 calls are admitted and a 65th isn't. Then there is a call 63, and no call 64.
+    // 64 calls are admitted, and a 65th isn't. So there is a call 63, but no call 64.
     (
         Drive(
             FORK,

@@ -1,4 +1,4 @@
-//! What the verifier says of accepted codes.
+//! What the verifier reports of accepted codes.
 
 use crate::commands::Command::Verify;
 use crate::commands::Row;

@@ -1,4 +1,4 @@
-//! Labels that stand nowhere, that stand twice, or that are none.
+//! Labels that are missing, that occur twice, or that aren't labels.
 
 use crate::commands::Command::Asm;
 use crate::commands::Row;

@@ -1,4 +1,4 @@
-//! The count of instructions, and the text that is written for the code.
+//! The number of instructions, and the text that is written for the code.
 
 use crate::commands::Command::Listed;
 use crate::commands::Row;

@@ -1,4 +1,4 @@
-//! Control that goes back, into a loop or past the end.
+//! Jumps back, into a loop or past the end.
 
 use crate::commands::Command::Verify;
 use crate::commands::Row;

@@ -1,4 +1,4 @@
-//! Loops whose turns hold other registers, and loops that come to too much.
+//! Loops whose turns end with other registers held, and loops that exceed a bound.
 
 use crate::commands::Command::Verify;
 use crate::commands::Row;

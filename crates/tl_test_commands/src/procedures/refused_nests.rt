@@ -1,4 +1,4 @@
-//! Loops and ends that don't belong together, and which of two is wrong first.
+//! Loops and ends that don't match, and which of two faults is reported first.
 
 use crate::commands::Command::Verify;
 use crate::commands::Row;

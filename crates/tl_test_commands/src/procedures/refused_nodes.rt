@@ -1,4 +1,4 @@
-//! Registers that hold a node where none may, or none where one must.
+//! Registers that hold a node but must not, or hold none but must.
 
 use crate::commands::Command::Verify;
 use crate::commands::Row;

@@ -1,4 +1,4 @@
-//! Lines that are no instruction's.
+//! Lines that aren't instructions.
 
 use crate::commands::Command::Asm;
 use crate::commands::Row;

@@ -1,7 +1,7 @@
 use Rattle.std.proofs.Common.{◌∙◌, arith, refl, sym, ap, take, map, Some, None}
 use Rattle.tl_instr.specs.declared.instr.Instr.TheVariants.{Return}
 use Rattle.tl_asm.specs.declared.sketch.Origin.{Origin}
-use Rattle.tl_asm.specs.Texts.{with_target}
+use Rattle.tl_instr.specs.Instructions.{with_target}
 use Rattle.tl_asm.specs.Sketches.{known, traced, drafts_of}
 use Rattle.tl_asm.proofs.ResolvingLemmas.{this_draft, all_aimed, step, plain, targeted, astray, whole, length_traced}
 use Rattle.tl_asm.proofs.resolving.resolved.Goals.{in-None, in-Some+in-Some-get}

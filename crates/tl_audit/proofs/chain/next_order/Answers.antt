@@ -8,7 +8,7 @@ pub returns-in-Ok-clause-ok : goal.returns-in-Ok-clause-ok
 returns-in-Ok-clause-ok g c =
     let t = c.index-trails-number.result in
     let at : slice_get c.args.trails.now c.args.number ≡ Some t = slice_get_read c.args.trails.now _ c.args.number t refl c.requires.inside c.index-trails-number.is in
-    (t, at, (c.joins_on.ensures t at).0 c.if-not-joins_on.false, c.in-Ok.ensures.clean, c.opening-opening.ensures.trail, c.in-Ok.ensures.order)
+    (t, at, (c.joins_on.ensures t at).0 c.if-not-joins_on.false, c.in-Ok.ensures.clean, c.opening-fact.ensures.trail, c.in-Ok.ensures.order)
 
 pub returns-in-Err-clause-fault : goal.returns-in-Err-clause-fault
 returns-in-Err-clause-fault g c ne =

@@ -21,25 +21,25 @@ returns-clause-answer c = search rules
 pub returns-clause-obeys : goal.returns-clause-obeys
 returns-clause-obeys c =
     let code = arc_value c.args.procedure.now in
-    let valid = subst IsCode c.deref-3.ensures c.code-code.ensures.valid in
-    let accepted = subst (λ (p : CodeValue). Acceptable p.instrs) c.deref-3.ensures c.code-code.ensures.accepted in
-    let tree = subst IsTree (c.deref-4.ensures ∙ c.shape-2.ensures.shape) c.node_count-node_count.ensures.tree in
+    let valid = subst IsCode c.deref-3.ensures c.code-fact.ensures.valid in
+    let accepted = subst (λ (p : CodeValue). Acceptable p.instrs) c.deref-3.ensures c.code-fact.ensures.accepted in
+    let tree = subst IsTree (c.deref-4.ensures ∙ c.shape-2.ensures.shape) c.node_count-fact.ensures.tree in
     obeys_alone _ (meaning code.instrs c.args.tree.now.parents c.args.args.now) (is_alone code c.args.tree.now.parents c.args.args.now valid accepted tree) c.args.tree.now.records c.shape.ensures.whole.count
 
 pub returns-clause-locks : goal.returns-clause-locks
 returns-clause-locks c =
     let code = arc_value c.args.procedure.now in
-    let valid = subst IsCode c.deref-3.ensures c.code-code.ensures.valid in
-    let accepted = subst (λ (p : CodeValue). Acceptable p.instrs) c.deref-3.ensures c.code-code.ensures.accepted in
-    let tree = subst IsTree (c.deref-4.ensures ∙ c.shape-2.ensures.shape) c.node_count-node_count.ensures.tree in
+    let valid = subst IsCode c.deref-3.ensures c.code-fact.ensures.valid in
+    let accepted = subst (λ (p : CodeValue). Acceptable p.instrs) c.deref-3.ensures c.code-fact.ensures.accepted in
+    let tree = subst IsTree (c.deref-4.ensures ∙ c.shape-2.ensures.shape) c.node_count-fact.ensures.tree in
     few_locks code valid accepted c.args.tree.now.parents tree c.args.args.now c.args.tree.now.records c.shape.ensures.whole.count
 
 pub returns-clause-emits : goal.returns-clause-emits
 returns-clause-emits c =
     let code = arc_value c.args.procedure.now in
-    let valid = subst IsCode c.deref-3.ensures c.code-code.ensures.valid in
-    let accepted = subst (λ (p : CodeValue). Acceptable p.instrs) c.deref-3.ensures c.code-code.ensures.accepted in
-    let tree = subst IsTree (c.deref-4.ensures ∙ c.shape-2.ensures.shape) c.node_count-node_count.ensures.tree in
+    let valid = subst IsCode c.deref-3.ensures c.code-fact.ensures.valid in
+    let accepted = subst (λ (p : CodeValue). Acceptable p.instrs) c.deref-3.ensures c.code-fact.ensures.accepted in
+    let tree = subst IsTree (c.deref-4.ensures ∙ c.shape-2.ensures.shape) c.node_count-fact.ensures.tree in
     let few = few_values code valid accepted c.args.tree.now.parents tree c.args.args.now c.args.tree.now.records c.shape.ensures.whole.count in
     let answer = returns-clause-answer c in
     subst (λ (reply : List ℤ). length reply ≤ emit_bound code.instrs) (sym answer.reply_is) few

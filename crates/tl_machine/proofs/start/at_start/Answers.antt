@@ -15,4 +15,4 @@ returns-clause-start c = record {
 }
 
 pub returns-clause-stands : goal.returns-clause-stands
-returns-clause-stands c = start_stands _ _ c.code-code.ensures.accepted c.args.args.now _ (returns-clause-start c) c.node_count.ensures.tree c.node_count.ensures.count c.code-code.ensures.valid.count.0
+returns-clause-stands c = start_stands _ _ c.code-fact.ensures.accepted c.args.args.now _ (returns-clause-start c) c.node_count.ensures.tree c.node_count.ensures.count c.code-fact.ensures.valid.count.0

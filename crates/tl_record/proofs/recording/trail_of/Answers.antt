@@ -19,10 +19,10 @@ new-requires c =
       ends = c.in_ok-ends.ends.items;
     } in
     let same : told ≡ trail_value v = search rules in
-    subst IsTrail (sym same) (recorded_trail v c.is_sound.ensures.sound c.is_sound.ensures.counted c.in_ok-calls.ensures.each c.calls_of.ensures.few)
+    subst IsTrail (sym same) (recorded_trail v c.lemma_is_sound.ensures.sound c.lemma_is_sound.ensures.counted c.in_ok-calls.ensures.each c.calls_of.ensures.few)
 
 pub returns-clause-clean : goal.returns-clause-clean
 returns-clause-clean c =
     let v = c.args.core.now.seen in
     let same : c.new.result ≡ trail_value v = search rules in
-    subst (λ t. Clean t ↔ AllDone v.past) (sym same) (recorded_clean v c.is_sound.ensures.sound c.is_sound.ensures.counted c.in_ok-calls.ensures.each)
+    subst (λ t. Clean t ↔ AllDone v.past) (sym same) (recorded_clean v c.lemma_is_sound.ensures.sound c.lemma_is_sound.ensures.counted c.in_ok-calls.ensures.each)

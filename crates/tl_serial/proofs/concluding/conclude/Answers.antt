@@ -12,13 +12,13 @@ over : (c : goal.After-into_order) → AllDone c.args.core.now.seen.past
 over c = c.in_default.ensures.none.0 refl
 
 pub returns-clause-known : goal.returns-clause-known
-returns-clause-known c = order_admitted c.args.core.now.seen c.is_sound.ensures.sound c.is_sound.ensures.counted c.into_order.result.calls (order_is c)
+returns-clause-known c = order_admitted c.args.core.now.seen c.lemma_is_sound.ensures.sound c.lemma_is_sound.ensures.counted c.into_order.result.calls (order_is c)
 
 pub returns-clause-agrees : goal.returns-clause-agrees
-returns-clause-agrees c = order_agrees c.args.core.now.seen c.is_sound.ensures.sound c.into_order.result.calls (order_is c)
+returns-clause-agrees c = order_agrees c.args.core.now.seen c.lemma_is_sound.ensures.sound c.into_order.result.calls (order_is c)
 
 pub returns-clause-tree : goal.returns-clause-tree
-returns-clause-tree c = order_tree c.args.core.now.seen c.is_sound.ensures.sound (over c) c.into_order.result.calls (order_is c)
+returns-clause-tree c = order_tree c.args.core.now.seen c.lemma_is_sound.ensures.sound (over c) c.into_order.result.calls (order_is c)
 
 pub returns-clause-replies : goal.returns-clause-replies
-returns-clause-replies c = order_replies c.args.core.now.seen c.is_sound.ensures.sound (over c) c.into_order.result.calls (order_is c)
+returns-clause-replies c = order_replies c.args.core.now.seen c.lemma_is_sound.ensures.sound (over c) c.into_order.result.calls (order_is c)

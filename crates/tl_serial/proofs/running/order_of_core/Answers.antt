@@ -16,11 +16,11 @@ past_is c = c.events.ensures.past ∙ c.history.ensures.past
 
 pub of_events-requires-clause-legal : goal.of_events-requires-clause-legal
 of_events-requires-clause-legal c =
-    rw (shape_is c, past_is c) (sound_history (world_of c.args.core.now.seen) c.is_sound.ensures.sound)
+    rw (shape_is c, past_is c) (sound_history (world_of c.args.core.now.seen) c.lemma_is_sound.ensures.sound)
 
 pub of_events-requires-clause-nodes : goal.of_events-requires-clause-nodes
 of_events-requires-clause-nodes c =
     All-unreverse (IsOfNodes (length c.deref.result.now)) c.events.result.now
     (subst (λ past. All (IsOfNodes (length c.deref.result.now)) past) (sym (past_is c))
     (subst (λ parents. All (IsOfNodes (length parents)) c.args.core.now.seen.past) (sym (shape_is c))
-    (sound_inside (world_of c.args.core.now.seen) c.is_sound.ensures.sound)))
+    (sound_inside (world_of c.args.core.now.seen) c.lemma_is_sound.ensures.sound)))

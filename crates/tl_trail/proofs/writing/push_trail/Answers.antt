@@ -45,8 +45,8 @@ returns-clause-text c =
 pub returns-clause-writable : goal.returns-clause-writable
 returns-clause-writable c =
     let t = c.args.trail.now in
-    let within = c.len-count.ensures.within.within in
-    let most = c.len-count.ensures.within.most in
+    let within = c.len-fact.ensures.within.within in
+    let most = c.len-fact.ensures.within.most in
     let same : length c.history.result.now.past ≡ length t.past = ap length c.history.ensures.past in
     let few : length t.past ≤ 1048576 = omega (arith, within, most, same) in
     let ends : All IsRecord t.ends = subst (All IsRecord) c.ends.ensures.records c.in_ok-push_list.ensures.fit in

@@ -4,6 +4,7 @@ use Rattle.std.proofs.lemmas.List.{length-map}
 use Rattle.tl_core.specs.Stored.{seen_call}
 use Rattle.tl_machine.specs.Turns.{IsFrom}
 use Rattle.tl_core.proofs.OpenCall.{at_read, slot_read, turn_here, turn_same}
+use Rattle.tl_core.proofs.KeptTurns.{turn_of}
 use Rattle.tl_core.proofs.interleaving.Core.check_lent.Goals as goal
 
 pub index-requires-2 : goal.index-requires-2
@@ -17,6 +18,8 @@ returns-then-is_from-clause-ok c =
       turn_here _ _ _ _ _ _ _ c.self.invariant c.args.call c.in-Some.slot c.index.result.now c.index-2.result.now p,
       c.is_from.ensures.same.0 c.if-is_from.true,
       c.is_from.ensures.turn,
+      (turn_of _ _ _ _ _ _ _ c.self.invariant c.args.call c.index-2.result.now.turn (turn_here _ _ _ _ _ _ _ c.self.invariant c.args.call c.in-Some.slot c.index.result.now c.index-2.result.now p)).parents,
+      (let long = length-map c.self.inside.calls.items (seen_call c.self.inside.procedures c.self.inside.slots.items) in omega arith),
     )
 
 pub returns-else-is_from-clause-fault : goal.returns-else-is_from-clause-fault

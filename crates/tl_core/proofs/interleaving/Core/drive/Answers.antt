@@ -14,7 +14,7 @@ loop-one-init c = record {
   size = c.in_ok-trace.ensures.len;
   room = search rules;
   parts = λ d. rw c.in_ok-trace.ensures.items (sym (append-nil (done_by c.args.self.now.seen d)));
-  counted = c.is_sound.ensures.counted;
+  counted = c.lemma_is_sound.ensures.counted;
   few = rw c.in_ok-trace.ensures.items (omega arith);
 }
 
@@ -47,4 +47,4 @@ returns-clause-after c =
     c.loop-one.invariant.after ∙ ap (λ l. after_moves c.args.self.now.seen l c.loop-one.trace.items) (ap (λ n. take n c.args.moves.now) full ∙ take-length c.args.moves.now)
 
 pub returns-clause-bounded : goal.returns-clause-bounded
-returns-clause-bounded c = within_budgets c.loop-one.self.seen _ c.is_sound-2.ensures.counted c.is_sound-2.ensures.counts c.loop-one.invariant.few
+returns-clause-bounded c = within_budgets c.loop-one.self.seen _ c.lemma_is_sound-2.ensures.counted c.lemma_is_sound-2.ensures.counts c.loop-one.invariant.few

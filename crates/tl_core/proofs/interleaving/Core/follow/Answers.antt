@@ -1,6 +1,6 @@
 use Rattle.std.proofs.Common.{sym, ap, ◌∙◌, Some}
 use Rattle.tl_core.proofs.FollowAnswers.{some_reply}
-use Rattle.tl_core.proofs.Submitted.{led_as, free_as, turn_behind}
+use Rattle.tl_core.proofs.Submitted.{led_as, turn_behind}
 use Rattle.tl_core.proofs.interleaving.Core.follow.Goals as goal
 
 pub returns-in-Advanced-clause-followed : goal.returns-in-Advanced-clause-followed
@@ -9,11 +9,6 @@ returns-in-Advanced-clause-followed c =
     let led = rw c.in-Advanced.is at (led_as c.args.self.now c.args.call c.args.segment t.segment t.from _ _ _ _ t.lent c.in_ok-lead.ensures.ok) in
     let turn = turn_behind c.args.self.now c.args.call c.args.segment t.segment t.from _ _ _ _ t.lent c.in_ok-lead.ensures.ok _ t.shape in
     (led.0, led.2 ∙ ap Some (sym turn ∙ sym c.into_turn.ensures))
-
-pub returns-in-Advanced-clause-unhindered : goal.returns-in-Advanced-clause-unhindered
-returns-in-Advanced-clause-unhindered c =
-    let t = c.in_ok-lent.ensures in
-    rw c.in-Advanced.is at (free_as c.args.self.now c.args.call c.args.segment t.segment t.from _ _ _ _ t.lent c.in_ok-lead.ensures.ok)
 
 pub returns-in-Blocked-clause-followed : goal.returns-in-Blocked-clause-followed
 returns-in-Blocked-clause-followed c =
@@ -25,8 +20,3 @@ returns-in-Some-clause-followed c =
     let t = c.in_ok-lent.ensures in
     let led = rw c.in-Finished.is at (led_as c.args.self.now c.args.call c.args.segment t.segment t.from _ _ _ _ t.lent c.in_ok-lead.ensures.ok) in
     (led.0, led.2, c.copy.ensures ∙ (some_reply _ _ _ c.in-Some.ensures).1)
-
-pub returns-in-Some-clause-unhindered : goal.returns-in-Some-clause-unhindered
-returns-in-Some-clause-unhindered c =
-    let t = c.in_ok-lent.ensures in
-    rw c.in-Finished.is at (free_as c.args.self.now c.args.call c.args.segment t.segment t.from _ _ _ _ t.lent c.in_ok-lead.ensures.ok)

@@ -14,5 +14,5 @@ end-requires c = (c.requires.0, c.requires.1, subst (Stops c.requires.0) c.in-Re
 
 pub unreachable-requires : goal.unreachable-requires
 unreachable-requires c =
-    let next = c.at_stop.ensures c.requires.0 _ c.requires.1 (subst (Stops c.requires.0) c.in-Over.is c.requires.2) in
+    let next = c.lemma_at_stop.ensures c.requires.0 _ c.requires.1 (subst (Stops c.requires.0) c.in-Over.is c.requires.2) in
     none_ends_over next.next next.ends

@@ -1,4 +1,4 @@
-use Rattle.tl_machine.proofs.TurnLemmas.{stands_running, over_stops, attempted_did, attempted_stop, attempted_same}
+use Rattle.tl_machine.proofs.TurnLemmas.{over_stops, attempted_did, attempted_stop, attempted_same}
 use Rattle.tl_machine.proofs.call.CallState.advance.Goals as goal
 
 pub returns-then-self-clause-stops : goal.returns-then-self-clause-stops

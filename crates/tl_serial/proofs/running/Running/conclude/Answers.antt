@@ -12,13 +12,13 @@ over : (c : goal.In_ok-copy) → AllDone c.self.inside.core.seen.past
 over c = c.in_default.ensures.none.0 refl
 
 pub returns-clause-known : goal.returns-clause-known
-returns-clause-known c = rw (← c.self.view_is) (order_admitted c.self.inside.core.seen c.is_sound.ensures.sound c.is_sound.ensures.counted c.in_ok-copy.field-0.calls (order_is c))
+returns-clause-known c = rw (← c.self.view_is) (order_admitted c.self.inside.core.seen c.lemma_is_sound.ensures.sound c.lemma_is_sound.ensures.counted c.in_ok-copy.field-0.calls (order_is c))
 
 pub returns-clause-agrees : goal.returns-clause-agrees
-returns-clause-agrees c = rw (← c.self.view_is) (order_agrees c.self.inside.core.seen c.is_sound.ensures.sound c.in_ok-copy.field-0.calls (order_is c))
+returns-clause-agrees c = rw (← c.self.view_is) (order_agrees c.self.inside.core.seen c.lemma_is_sound.ensures.sound c.in_ok-copy.field-0.calls (order_is c))
 
 pub returns-clause-tree : goal.returns-clause-tree
-returns-clause-tree c = rw (← c.self.view_is) (order_tree c.self.inside.core.seen c.is_sound.ensures.sound (over c) c.in_ok-copy.field-0.calls (order_is c))
+returns-clause-tree c = rw (← c.self.view_is) (order_tree c.self.inside.core.seen c.lemma_is_sound.ensures.sound (over c) c.in_ok-copy.field-0.calls (order_is c))
 
 pub returns-clause-replies : goal.returns-clause-replies
-returns-clause-replies c = rw (← c.self.view_is) (order_replies c.self.inside.core.seen c.is_sound.ensures.sound (over c) c.in_ok-copy.field-0.calls (order_is c))
+returns-clause-replies c = rw (← c.self.view_is) (order_replies c.self.inside.core.seen c.lemma_is_sound.ensures.sound (over c) c.in_ok-copy.field-0.calls (order_is c))

@@ -8,19 +8,19 @@ use Rattle.tl_serial.proofs.running.Running.proceed.Goals as goal
 pub take_up-requires-clause-size : goal.take_up-requires-clause-size
 take_up-requires-clause-size c =
     let last = c.in-Some.ensures.some in
-    let proceeds = subst (λ r. IfOk r (λ s. Proceeds c.self.inside.core.seen c.args.call s c.proceed-stepped.new.self.seen)) last.1 c.proceed-stepped.ensures.proceeds in
+    let proceeds = subst (λ r. IfOk r (λ s. Proceeds c.self.inside.core c.args.call s c.proceed-stepped.new.self)) last.1 c.proceed-stepped.ensures.proceeds in
     same_size c.self.inside.order c.self.inside.core.seen.parents c.proceed-stepped.new.self.seen.parents (proceeds_parents _ _ c.args.call last.0 proceeds) c.self.invariant.size
 
 pub take_up-requires-clause-stopped : goal.take_up-requires-clause-stopped
 take_up-requires-clause-stopped c =
     let last = c.in-Some.ensures.some in
-    let proceeds = subst (λ r. IfOk r (λ s. Proceeds c.self.inside.core.seen c.args.call s c.proceed-stepped.new.self.seen)) last.1 c.proceed-stepped.ensures.proceeds in
+    let proceeds = subst (λ r. IfOk r (λ s. Proceeds c.self.inside.core c.args.call s c.proceed-stepped.new.self)) last.1 c.proceed-stepped.ensures.proceeds in
     (c.self.inside.core.seen.past, proceeds_stopped c.self.inside.core c.proceed-stepped.new.self c.args.call c.in-Some.stop last.0 last.2 proceeds)
 
 pub invariant_of-self : goal.invariant_of-self
 invariant_of-self c =
     let last = c.in-Some.ensures.some in
-    let proceeds = subst (λ r. IfOk r (λ s. Proceeds c.self.inside.core.seen c.args.call s c.proceed-stepped.new.self.seen)) last.1 c.proceed-stepped.ensures.proceeds in
+    let proceeds = subst (λ r. IfOk r (λ s. Proceeds c.self.inside.core c.args.call s c.proceed-stepped.new.self)) last.1 c.proceed-stepped.ensures.proceeds in
     let stopped = proceeds_stopped c.self.inside.core c.proceed-stepped.new.self c.args.call c.in-Some.stop last.0 last.2 proceeds in
     let kept = subst (λ shape. IsKept c.self.inside.order shape c.self.inside.core.seen.past) (sym (proceeds_parents _ _ c.args.call last.0 proceeds)) c.self.invariant.kept in
     c.take_up.ensures c.self.inside.core.seen.past stopped kept

@@ -8,7 +8,7 @@ pub returns-clause-few : goal.returns-clause-few
 returns-clause-few c =
     let v = seen c.self.inside.epoch in
     let m = begun_few v.past c.args.call in
-    let a : c.calls-calls.result ≡ admits v.past = c.calls-calls.ensures.admitted ∙ ap (λ s. admits s.seen.past) c.core.ensures in
+    let a : c.calls-fact.result ≡ admits v.past = c.calls-fact.ensures.admitted ∙ ap (λ s. admits s.seen.past) c.core.ensures in
     let n = c.begun_by_end.ensures.number in
-    let f = c.calls-calls.ensures.few in
+    let f = c.calls-fact.ensures.few in
     omega (arith, m, a, n, f)

@@ -9,8 +9,8 @@ pub returns : goal.returns
 returns c =
     let v = c.args.self.now in
     let same : c.core.result.now.seen ≡ seen v = ap (λ s. s.seen) c.core.ensures ∙ ap seen c.self.view_is in
-    let counted : length (seen v).calls ≡ admits (seen v).past = subst (λ w. length w.calls ≡ admits w.past) same c.is_sound.ensures.counted in
-    let turn : InTurn (seen v).past = subst (λ w. InTurn w.past) same c.is_sound.ensures.legal.in_turn in
+    let counted : length (seen v).calls ≡ admits (seen v).past = subst (λ w. length w.calls ≡ admits w.past) same c.lemma_is_sound.ensures.counted in
+    let turn : InTurn (seen v).past = subst (λ w. InTurn w.past) same c.lemma_is_sound.ensures.legal.in_turn in
     let first : c.args.first < admits (seen v).past = omega (arith, c.requires.0, counted) in
     let second : c.args.second < admits (seen v).past = omega (arith, c.requires.1, counted) in
     let rest = subst (λ w. (d : _) → d < admits (seen w).past → is_done d (seen w).past ≡ true) c.self.view_is c.self.invariant in

@@ -3,20 +3,9 @@ use Rattle.std.specs.Prelude.{vec_capacity}
 use Rattle.std.proofs.lemmas.Grind.{common_steps}
 use Rattle.tl_table.specs.declared.epoch.TheConstants.{MAX_EPOCHS}
 use Rattle.tl_table.specs.Epochs.{EpochValue, epoch_after}
-use Rattle.tl_table.specs.Tables.{IsRested}
 use Rattle.tl_table.specs.Stored.{IsTable}
 use Rattle.tl_table.proofs.SealedTables.{table_sealed}
 use Rattle.tl_table.proofs.table.Table.seal.Goals as goal
-
-rested : (c : goal.After-push_reserved) → IsRested c.self.inside.current
-rested c = record {
-  sound = rw c.core-2.ensures at c.is_sound.ensures.sound;
-  reached = rw c.core-2.ensures at c.is_sound.ensures.reached;
-  done = c.in_ok-next.ensures.done;
-  counted = rw c.core-2.ensures at c.is_sound.ensures.counted;
-  few = (let n = c.calls-calls.ensures.count ∙ ap (λ s. length s.seen.calls) c.core-3.ensures in let f = c.calls-calls.ensures.few in omega (arith, n, f));
-  owned = c.owners-owners.ensures.owned;
-}
 
 pub invariant_of-self-2 : goal.invariant_of-self-2
 invariant_of-self-2 c =
@@ -30,4 +19,4 @@ invariant_of-self-2 c =
     let fits : length sealed + 2 ≤ room = grind (arith, common_steps) in
     subst (λ (es : List EpochValue). IsTable (record { sealed = es; current = c.replace-sealed.new.dest }) room) (sym items)
     (subst (λ (e : EpochValue). IsTable (record { sealed = sealed ++ was ∷ []; current = e }) room) (sym now)
-    (table_sealed (record { sealed = sealed; current = was }) _ room c.self.invariant (rested c) few fits))
+    (table_sealed (record { sealed = sealed; current = was }) _ room c.self.invariant c.lemma_is_rested.ensures few fits))

@@ -1,7 +1,7 @@
 use Rattle.std.proofs.Common.{◌≡◌, ◌≤◌, length, take, vec_len}
 use Rattle.std.specs.Prelude.{vec_capacity}
 use Rattle.tl_workers.specs.Kept.{AdmittedEach}
-use Rattle.tl_workers.proofs.engine.Engine.admit_some.Given as goal
+use Rattle.tl_workers.proofs.batch.Batch.admit_some.Given as goal
 
 abbrev pub invariant-loop-i : goal.invariant-loop-i
 invariant-loop-i g l =

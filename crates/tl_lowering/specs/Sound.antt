@@ -1,13 +1,36 @@
 -- Which statements are in order where so many values and nodes have registers and these nodes are held: what they name is there.
-use Rattle.std.specs.Prelude.{◌≡◌, ◌≢◌, ℕ, ◌+◌, ◌<◌, Bool, true, false, Option, IfSome}
+use Rattle.std.specs.Prelude.{◌≡◌, ◌≢◌, ℕ, ◌+◌, ◌<◌, Bool, true, false, Option, IfSome, max}
+use Rattle.tl_lowering.specs.declared.program.Expression.{Expression}
+use Rattle.tl_lowering.specs.declared.program.Expression.TheVariants as E
+use Rattle.tl_lowering.specs.declared.program.Condition.{Condition}
+use Rattle.tl_lowering.specs.declared.program.Condition.TheVariants as C
 use Rattle.tl_lowering.specs.declared.program.Place.{Place}
 use Rattle.tl_lowering.specs.declared.program.Place.TheVariants as P
 use Rattle.tl_lowering.specs.declared.program.Statement.{Statement}
 use Rattle.tl_lowering.specs.declared.program.Statement.TheVariants as S
-use Rattle.tl_compiler.specs.Sets.{Nodes, holds, all_of}
-use Rattle.tl_compiler.specs.Outcomes.{locked, handled_by, after, fails}
-use Rattle.tl_compiler.specs.Statements.{nodes_behind}
-use Rattle.tl_meaning.specs.Leading.{IsReadable, IsTestable}
+use Rattle.tl_lowering.specs.Sets.{Nodes, holds, all_of}
+use Rattle.tl_lowering.specs.Outcomes.{locked, handled_by, after, fails}
+
+-- each value that is named has one of the first t registers, and each node that is read is held
+abbrev pub IsReadable : ℕ → Nodes → Expression → Type 0
+IsReadable t held (E.Constant w) = Unit {0}
+IsReadable t held (E.Value x) = x < t
+IsReadable t held (E.Field n f) = holds held n ≡ true
+IsReadable t held (E.Children n) = holds held n ≡ true
+IsReadable t held (E.Calculated' o p a q b) = IsReadable t held a × IsReadable t held b
+
+abbrev pub IsTestable : ℕ → Nodes → Condition → Type 0
+IsTestable t held (C.Less a b) = IsReadable t held a × IsReadable t held b
+IsTestable t held (C.Greater a b) = IsReadable t held a × IsReadable t held b
+IsTestable t held (C.Equal a b) = IsReadable t held a × IsReadable t held b
+IsTestable t held (C.Not' p c) = IsTestable t held c
+IsTestable t held (C.And' p c q d) = IsTestable t held c × IsTestable t held d
+
+-- how many nodes have registers once a place is locked
+abbrev pub nodes_behind : Place → ℕ
+nodes_behind (P.Node n e) = n + 1
+nodes_behind (P.Child n p e) = n + 1
+nodes_behind (P.Pair n k p a b) = max n k + 1
 
 -- the registers of what is locked are empty, and a child's parent is held
 abbrev pub IsLockable : Place → ℕ → Nodes → Type 0

@@ -1,6 +1,6 @@
 use Rattle.tl_core.proofs.ReaderLemmas.{obeys_so_far, steps_so_far, count_so_far, locks_so_far, emits_so_far}
 use Rattle.tl_core.proofs.KeptTurns.{turned, turn_of}
-use Rattle.tl_core.proofs.interleaving.Core.is_sound.Goals as goal
+use Rattle.tl_core.proofs.interleaving.Core.lemma_is_sound.Goals as goal
 
 pub returns-clause-obeys : goal.returns-clause-obeys
 returns-clause-obeys c = rw (← c.self.view_is) (λ d lt. obeys_so_far _ _ _ _ _ _ c.self.invariant.core d lt)

@@ -5,7 +5,7 @@ use Rattle.tl_workers.specs.declared.asking.Asking.{Asking}
 use Rattle.tl_workers.specs.declared.refusal.Refusal.{Refusal}
 use Rattle.tl_workers.specs.Kept.{Answers}
 use Rattle.tl_workers.proofs.Batches.{receipts-next}
-use Rattle.tl_workers.proofs.engine.Engine.take_all.Goals as goal
+use Rattle.tl_workers.proofs.batch.Batch.collect.Goals as goal
 
 pub loop-one-preserved : goal.loop-one-preserved
 loop-one-preserved g c =

@@ -1,9 +1,7 @@
 -- Which node registers hold a node: at n of the list, whether register n does.
-use Rattle.std.specs.Prelude.{ℕ, List, [], ◌∷◌, Bool, true, false, not, ◌&&◌, ◌||◌, Option, Some, None, slice_set, get_or, replicate, map}
-use Rattle.std.specs.List.{range_with_len}
+use Rattle.std.specs.Prelude.{ℕ, List, [], ◌∷◌, Bool, true, false, not, ◌&&◌, ◌||◌, Option, Some, None, slice_set, get_or, replicate}
 use Rattle.std.specs.Bool.{beq}
 use Rattle.tl_instr.specs.declared.operand.TheConstants.{NODE_REGISTERS}
-use Rattle.tl_verify.specs.Bits.{bits_of}
 
 abbrev pub Nodes : Type 0
 Nodes = List Bool
@@ -52,7 +50,3 @@ same (x ∷ xs) (y ∷ ys) = beq x y && same xs ys
 abbrev pub is_among : Nodes → List Nodes → Bool
 is_among held [] = false
 is_among held (other ∷ others) = same held other || is_among held others
-
--- all sets of registers, by the number whose bits they are
-abbrev pub all_sets : List Nodes
-all_sets = map (bits_of NODE_REGISTERS) (range_with_len 0 256)

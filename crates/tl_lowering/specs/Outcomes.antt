@@ -8,7 +8,7 @@ use Rattle.tl_lowering.specs.declared.program.Place.{Place}
 use Rattle.tl_lowering.specs.declared.program.Place.TheVariants as P
 use Rattle.tl_lowering.specs.declared.program.Statement.{Statement}
 use Rattle.tl_lowering.specs.declared.program.Statement.TheVariants as S
-use Rattle.tl_compiler.specs.Sets.{Nodes, with_node, without_node, both, both_of, all_of}
+use Rattle.tl_lowering.specs.Sets.{Nodes, with_node, without_node, both, both_of, all_of}
 
 -- whether an operation stands in a number, which may fail
 abbrev pub may_fail : Expression → Bool

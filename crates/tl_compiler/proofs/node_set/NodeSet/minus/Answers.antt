@@ -1,0 +1,6 @@
+use Rattle.std.proofs.Common.{rules}
+use Rattle.tl_compiler.proofs.SetBits.{bits_minus}
+use Rattle.tl_compiler.proofs.node_set.NodeSet.minus.Goals as goal
+
+pub returns : goal.returns
+returns c = bits_minus c.args.self.bits c.args.other.bits (search rules)

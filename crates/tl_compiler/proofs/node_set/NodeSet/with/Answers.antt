@@ -1,0 +1,5 @@
+use Rattle.tl_verify.proofs.RegisterSetLemmas.{set_bit}
+use Rattle.tl_compiler.proofs.node_set.NodeSet.with.Goals as goal
+
+pub returns : goal.returns
+returns c = rw (← c.number.ensures.same) (set_bit c.args.self.bits c.number.result c.number.ensures.in_range)
