@@ -1,8 +1,8 @@
 -- Sets of registers as the bits of a byte.
-use Rattle.std.proofs.Common.{◌≡◌, ℕ, zero, suc, ◌-◌, ◌/◌, ◌%◌, ◌^◌, ◌<◌, [], ◌∷◌, true, false, refl, sym, ap, ap₂, ◌∙◌, arith, w8, bit_and, min}
+use Rattle.std.proofs.Common.{◌≡◌, ℕ, zero, suc, ◌-◌, ◌/◌, ◌%◌, ◌<◌, ◌∷◌, refl, sym, ap, ap₂, ◌∙◌, arith, w8, bit_and, min}
 use Rattle.std.specs.Prelude.{nat_eq, not, ◌&&◌}
 use Rattle.std.specs.Int.{bit_at, bit_not}
-use Rattle.std.proofs.lemmas.Nat.Bits.{bit_at_lowest, bit_at-suc, bit_at-lt, bit_at_and, bit_at_not}
+use Rattle.std.proofs.lemmas.Nat.Bits.{bit_at_lowest, bit_at-suc, bit_at_and, bit_at_not}
 use Rattle.tl_lowering.specs.Sets.{both, minus}
 use Rattle.tl_verify.specs.Bits.{bits_of}
 

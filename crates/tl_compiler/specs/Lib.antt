@@ -1,4 +1,6 @@
 pub mod Aiming
+pub mod Compiled
+pub mod Contexts
 pub mod Faults
 pub mod Labels
 pub mod NodeSets

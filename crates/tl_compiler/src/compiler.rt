@@ -1,5 +1,11 @@
 // From a text to its procedures.
 
+ghost use Rattle.std.specs.Prelude.{◌≡◌, ◌≤◌, List, IfOk, vec_len};
+ghost use Rattle.tl_compiler.specs.Aiming.{placed};
+ghost use Rattle.tl_compiler.specs.Compiled.{IsCompiled, AreCompiled};
+ghost use Rattle.tl_compiler.specs.Contexts.{code_of};
+ghost use Rattle.tl_compiler.specs.Statements.{procedure_code};
+
 use crate::aiming::aimed;
 use crate::context::{Context, Pads};
 use crate::costs::heaviest;
@@ -21,7 +27,9 @@ pub struct Compiled {
 }
 
 // The code of a procedure. What belongs to no statement belongs to the procedure's name.
-fn draft_of(alloc: Global, procedure: &Procedure) -> Result<Draft, DraftFault> {
+fn draft_of(alloc: Global, procedure: &Procedure) -> Result<Draft, DraftFault>
+    ensures { IfOk result (λ draft. code_of draft ≡ procedure_code procedure.now.arity procedure.now.body) }
+{
     let mut draft = Draft::new(alloc);
     draft.put(procedure.offset, Instr::Return)?;
     let pads = Pads::all(draft.here());
@@ -38,8 +46,12 @@ fn draft_of(alloc: Global, procedure: &Procedure) -> Result<Draft, DraftFault> {
 }
 
 // The instructions from the first one on, with positions in place of labels.
-fn instrs_of(alloc: Global, draft: &Draft) -> Result<Vec<Instr>, CompileFault> {
-    let count = u16::try_from(draft.instrs.len()).unwrap_or(u16::MAX);
+#[tactic(auto, using(crate::proofs::CompileLemmas::map_more, crate::proofs::CodeLemmas::as_many))]
+fn instrs_of(alloc: Global, draft: &Draft) -> Result<Vec<Instr>, CompileFault>
+    requires { vec_len draft.now.instrs ≤ MAX_COUNT }
+    ensures { IfOk result (λ instrs. instrs.items ≡ placed (code_of draft.now)) }
+{
+    let count = draft.instrs.len() as u16;
     let mut instrs = Vec::with_capacity(alloc, draft.instrs.len())?;
     for instr in draft.instrs.iter().rev() {
         instrs.push(aimed(instr, count))?;
@@ -74,7 +86,9 @@ fn refused(
 }
 
 // Compiles a procedure. 294 to 298, or 290.
-fn compile_one(alloc: Global, text: &[u8], source: Procedure) -> Result<Compiled, CompileFault> {
+fn compile_one(alloc: Global, text: &[u8], source: Procedure) -> Result<Compiled, CompileFault>
+    ensures { IfOk result (IsCompiled source) }
+{
     let name_place = Position::of(text, source.offset);
     let draft = match draft_of(alloc, &source) {
         Ok(draft) => draft,
@@ -99,23 +113,36 @@ fn compile_one(alloc: Global, text: &[u8], source: Procedure) -> Result<Compiled
     }
 }
 
+// Compiles the procedures of a text in their order. 294 to 298, or 290.
+#[tactic(auto, using(crate::proofs::CompileLemmas::one_more_each))]
+fn compile_all(
+    alloc: Global,
+    text: &[u8],
+    procedures: Vec<Procedure>,
+) -> Result<Vec<Compiled>, CompileFault>
+    ensures { IfOk result (λ compiled. AreCompiled procedures.items compiled.items) }
+{
+    let mut compiled = Vec::new(alloc);
+    for procedure in procedures {
+        compiled.push(compile_one(alloc, text, procedure)?)?;
+    }
+    Ok(compiled)
+}
+
 /// The procedures of a text, in order, each accepted by the verifier.
 ///
 /// Otherwise the first fault: 255 if the text isn't UTF-8; 270 to 293 for the text; 294 to 298, procedure by procedure. 290
 /// if memory was refused.
-pub fn compile(alloc: Global, text: &[u8]) -> Result<Vec<Compiled>, CompileFault> {
+pub fn compile(alloc: Global, text: &[u8]) -> Result<Vec<Compiled>, CompileFault>
+    ensures { IfOk result (λ compiled. (procedures : List Procedure) × AreCompiled procedures compiled.items) }
+{
     if std::str::from_utf8(text).is_err() {
         return Err(CompileFault::NotUtf8);
     }
-    let program = match read(alloc, text) {
-        Ok(program) => program,
-        Err(fault) => return Err(CompileFault::of_syntax(text, fault)),
-    };
-    let mut compiled = Vec::new(alloc);
-    for procedure in program.procedures {
-        compiled.push(compile_one(alloc, text, procedure)?)?;
+    match read(alloc, text) {
+        Ok(program) => compile_all(alloc, text, program.procedures),
+        Err(fault) => Err(CompileFault::of_syntax(text, fault)),
     }
-    Ok(compiled)
 }
 
 /// The procedure of that name, or the only one. 289 if there isn't one.

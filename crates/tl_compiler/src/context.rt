@@ -1,5 +1,10 @@
 // Where a statement stands.
 
+ghost use Rattle.std.specs.Prelude.{◌≡◌, ◌+◌, Some};
+ghost use Rattle.tl_compiler.specs.Contexts.{Agrees, exit_of};
+ghost use Rattle.tl_compiler.specs.NodeSets.{nodes_of};
+ghost use Rattle.tl_lowering.specs.Sound.{nodes_behind};
+
 use crate::draft::Label;
 use crate::node_set::{NodeSet, SETS};
 use crate::outcomes::locked;
@@ -14,18 +19,30 @@ pub struct Pads {
 }
 
 impl Pads {
+    ghost use Rattle.std.specs.Prelude.{ℕ};
+    ghost use Rattle.tl_compiler.specs.Contexts.{LeadsTo};
+    ghost use Rattle.tl_compiler.specs.Statements.{pad_at};
+    ghost use Rattle.tl_lowering.specs.Sets.{Nodes};
+
     /// Each failure leads to the label.
-    pub fn all(label: Label) -> Pads {
+    pub fn all(label: Label) -> Pads
+        ensures { LeadsTo (λ held. label.0) result }
+    {
         Pads {
             labels: [label; SETS],
         }
     }
 
-    pub fn label(&self, held: NodeSet) -> Label {
+    #[tactic(auto, unfolding(crate::specs::NodeSets::nodes_of))]
+    pub fn label(&self, held: NodeSet) -> Label
+        ensures { (pad : Nodes → ℕ) → LeadsTo pad self.now → result.0 ≡ pad (nodes_of held) }
+    {
         self.labels[held.index()]
     }
 
-    pub fn set(&mut self, held: NodeSet, label: Label) {
+    pub fn set(&mut self, held: NodeSet, label: Label)
+        ensures { (pad : Nodes → ℕ) → LeadsTo pad self.old → LeadsTo (pad_at (nodes_of held) label.0 pad) self.new }
+    {
         self.labels[held.index()] = label;
     }
 }
@@ -54,16 +71,37 @@ pub struct Context<'a> {
 }
 
 impl<'a> Context<'a> {
-    pub fn with_held(self, held: NodeSet) -> Context<'a> {
+    ghost use Rattle.tl_lowering.specs.Outcomes.{locked};
+
+    pub fn with_held(self, held: NodeSet) -> Context<'a>
+        ensures held { result.held ≡ held }
+        ensures same { (x : _) → Agrees x self.entry → Agrees x result }
+    {
         Context { held, ..self }
     }
 
-    pub fn with_origin(self, origin: usize) -> Context<'a> {
+    pub fn with_origin(self, origin: usize) -> Context<'a>
+        ensures held { result.held ≡ self.entry.held }
+        ensures same { (x : _) → Agrees x self.entry → Agrees x result }
+    {
         Context { origin, ..self }
     }
 
+    pub fn with_exit(self, exit: Exit) -> Context<'a>
+        ensures held { result.held ≡ self.entry.held }
+        ensures same { (x : _) → Agrees x self.entry → Agrees (record x { exit = Some (exit_of exit) }) result }
+    {
+        Context {
+            exit: Some(exit),
+            ..self
+        }
+    }
+
     /// The context in which the value has the register, and the registers after it are free.
-    pub fn with_value(self, register: ValueRegister) -> Context<'a> {
+    pub fn with_value(self, register: ValueRegister) -> Context<'a>
+        ensures held { result.held ≡ self.entry.held }
+        ensures same { (x : _) → Agrees x self.entry → Agrees (record x { values = register + 1 }) result }
+    {
         Context {
             values: register.index() + 1,
             ..self
@@ -71,7 +109,10 @@ impl<'a> Context<'a> {
     }
 
     /// The context in which the place is locked.
-    pub fn with_place(self, place: &Place) -> Context<'a> {
+    pub fn with_place(self, place: &Place) -> Context<'a>
+        ensures held { nodes_of result.held ≡ locked place.now (nodes_of self.entry.held) }
+        ensures same { (x : _) → Agrees x self.entry → Agrees (record x { nodes = nodes_behind place.now }) result }
+    {
         Context {
             held: locked(place, self.held),
             nodes: nodes_behind(place),
@@ -80,12 +121,17 @@ impl<'a> Context<'a> {
     }
 
     /// The label that the statement's failure leads to.
-    pub fn failure(&self) -> Label {
+    pub fn failure(&self) -> Label
+        ensures { (x : _) → Agrees x self.now → result.0 ≡ x.pad (nodes_of self.now.held) }
+    {
         self.pads.label(self.held)
     }
 
     /// The site of the statement's numbers; their failure leads to the label.
-    pub fn site(&self, failure: Label) -> Site {
+    pub fn site(&self, failure: Label) -> Site
+        ensures free { result.free ≡ self.now.values }
+        ensures failure { result.failure ≡ failure }
+    {
         Site {
             free: self.values,
             failure,
@@ -94,7 +140,10 @@ impl<'a> Context<'a> {
     }
 
     /// The site of the number for the register; its failure leads to the label.
-    pub fn binding(&self, to: ValueRegister, failure: Label) -> Site {
+    pub fn binding(&self, to: ValueRegister, failure: Label) -> Site
+        ensures free { result.free ≡ to }
+        ensures failure { result.failure ≡ failure }
+    {
         Site {
             free: to.index(),
             failure,
@@ -104,7 +153,9 @@ impl<'a> Context<'a> {
 }
 
 // How many nodes have registers once the place is locked.
-fn nodes_behind(place: &Place) -> usize {
+fn nodes_behind(place: &Place) -> usize
+    ensures { result ≡ nodes_behind place.now }
+{
     let last = match *place {
         Place::Node(register, _) | Place::Child(register, _, _) => register.index(),
         Place::Pair { first, second, .. } => first.index().max(second.index()),

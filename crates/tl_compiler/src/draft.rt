@@ -1,6 +1,6 @@
 // Code that is written from its end to its start.
 
-ghost use Rattle.std.specs.Prelude.{◌≡◌, ◌∷◌, ◌<◌, length, reverse, IfOk, OnOk};
+ghost use Rattle.std.specs.Prelude.{◌≡◌, [], ◌∷◌, ◌<◌, length, reverse, IfOk, OnOk};
 ghost use Rattle.tl_instr.specs.declared.instr.Instr.TheVariants.{Jump};
 ghost use Rattle.tl_instr.specs.declared.operand.TheConstants.{VALUE_REGISTERS, NODE_REGISTERS};
 
@@ -88,7 +88,9 @@ impl Draft {
     ghost use Rattle.tl_compiler.specs.NodeSets.{nodes_of};
     ghost use Rattle.tl_compiler.specs.Statements.{release_code};
 
-    pub fn new(alloc: Global) -> Draft {
+    pub fn new(alloc: Global) -> Draft
+        ensures { result.instrs.items ≡ [] }
+    {
         Draft {
             instrs: Vec::new(alloc),
             origins: Vec::new(alloc),

@@ -1,23 +1,27 @@
 // Sets of node registers, and sets of these.
 
-ghost use Rattle.std.specs.Prelude.{◌≡◌, ◌<◌, option_map};
-ghost use Rattle.tl_compiler.specs.NodeSets.{nodes_of};
+ghost use Rattle.std.specs.Prelude.{◌≡◌, ◌<◌, List, ◌∷◌, ◌++◌};
+ghost use Rattle.tl_compiler.specs.NodeSets.{nodes_of, nodes_at, AreThose};
 ghost use Rattle.tl_lowering.specs.Sets.{both_of};
 
 use tl_instr::{NODE_REGISTERS, NodeRegister};
 
 /// A set of node registers: one bit each, the lowest for register 0.
-#[derive(Clone, Copy, Debug, PartialEq, Eq)]
+#[derive(Clone, Copy)]
 pub struct NodeSet {
     bits: u8,
 }
 
 impl NodeSet {
-    ghost use Rattle.tl_lowering.specs.Sets.{holds, with_node, without_node, minus, both};
+    ghost use Rattle.tl_verify.specs.Bits.{bits_of};
+    ghost use Rattle.tl_lowering.specs.Sets.{holds, with_node, without_node, minus, both, same};
 
     pub const EMPTY: NodeSet = NodeSet { bits: 0 };
 
-    pub fn of_bits(bits: u8) -> NodeSet {
+    #[tactic(auto, unfolding(crate::specs::NodeSets::nodes_of))]
+    pub fn of_bits(bits: u8) -> NodeSet
+        ensures { nodes_of result ≡ bits_of NODE_REGISTERS bits }
+    {
         NodeSet { bits }
     }
 
@@ -60,9 +64,16 @@ impl NodeSet {
         }
     }
 
+    pub fn is_same(self, other: NodeSet) -> bool
+        ensures { result ≡ same (nodes_of self) (nodes_of other) }
+    {
+        self.bits == other.bits
+    }
+
     /// The number of the set among all sets, 0 to 255.
     pub fn index(self) -> usize
-        ensures { result < 256 }
+        ensures same { result ≡ self.bits }
+        ensures in_range { result < 256 }
     {
         usize::from(self.bits)
     }
@@ -70,7 +81,7 @@ impl NodeSet {
 
 /// What is in both, or in the only one given.
 pub fn common(first: Option<NodeSet>, second: Option<NodeSet>) -> Option<NodeSet>
-    ensures { option_map nodes_of result ≡ both_of (option_map nodes_of first) (option_map nodes_of second) }
+    ensures { nodes_at result ≡ both_of (nodes_at first) (nodes_at second) }
 {
     match (first, second) {
         (None, other) | (other, None) => other,
@@ -88,47 +99,37 @@ pub struct NodeSets {
 }
 
 impl NodeSets {
+    ghost use Rattle.tl_lowering.specs.Sets.{Nodes, is_among};
+
     pub const NONE: NodeSets = NodeSets { words: [0; 4] };
 
-    pub fn one(set: NodeSet) -> NodeSets {
-        NodeSets::NONE.with(set)
-    }
-
-    pub fn with(mut self, set: NodeSet) -> NodeSets {
+    pub fn with(mut self, set: NodeSet) -> NodeSets
+        ensures { (list : List Nodes) → AreThose self list → AreThose result (nodes_of set ∷ list) }
+    {
         let index = set.index();
         self.words[index / 64] |= 1 << (index % 64);
         self
     }
 
-    pub fn contains(&self, set: NodeSet) -> bool {
+    #[tactic(auto, unfolding(crate::specs::NodeSets::nodes_of))]
+    pub fn contains(&self, set: NodeSet) -> bool
+        ensures { (list : List Nodes) → AreThose self.now list → result ≡ is_among (nodes_of set) list }
+    {
         let index = set.index();
         self.words[index / 64] >> (index % 64) & 1 == 1
     }
 
-    pub fn or(&self, other: &NodeSets) -> NodeSets {
-        let [a, b, c, d] = self.words;
-        let [e, f, g, h] = other.words;
+    pub fn or(&self, other: &NodeSets) -> NodeSets
+        ensures { (list more : List Nodes) → AreThose self.now list → AreThose other.now more → AreThose result (list ++ more) }
+    {
+        let (first, second) = (self.words, other.words);
         NodeSets {
-            words: [a | e, b | f, c | g, d | h],
+            words: [
+                first[0] | second[0],
+                first[1] | second[1],
+                first[2] | second[2],
+                first[3] | second[3],
+            ],
         }
-    }
-
-    fn is_none(&self) -> bool {
-        self.words == [0; 4]
-    }
-
-    /// What is in all of them; `None` if there are no sets.
-    pub fn common(&self) -> Option<NodeSet> {
-        if self.is_none() {
-            return None;
-        }
-        let mut all = None;
-        for bits in 0..=u8::MAX {
-            let set = NodeSet::of_bits(bits);
-            if self.contains(set) {
-                all = common(all, Some(set));
-            }
-        }
-        all
     }
 }

@@ -1,11 +1,15 @@
 // The code of statements.
 
-ghost use Rattle.std.specs.Prelude.{◌≡◌, reverse, OnOk};
-ghost use Rattle.tl_compiler.specs.Statements.{counted_code};
+ghost use Rattle.std.specs.Prelude.{◌≡◌, ◌∷◌, ◌||◌, false, not, List, length, reverse, is_some, option_map, OnOk, IfOk};
+ghost use Rattle.tl_compiler.specs.Contexts.{Agrees, LeadsTo, Writes, AreWays, ArePads, code_of, way_of, guarded_code};
+ghost use Rattle.tl_compiler.specs.NodeSets.{nodes_of, nodes_at, all_sets, AreThose};
+ghost use Rattle.tl_compiler.specs.Numbers.{register_of, operand_code};
+ghost use Rattle.tl_compiler.specs.Statements.{counted_code, way_out, direct, is_skip, releases, held_behind, second_way, joining_code, loop_code, leave_code, statement_code, release_code, pad_at, pads_of};
+ghost use Rattle.tl_lowering.specs.Outcomes.{after};
 
 use crate::context::{Context, Exit, Pads};
 use crate::draft::{Draft, DraftFault, Label, node_register, value_register};
-use crate::node_set::{NodeSet, NodeSets};
+use crate::node_set::{NodeSet, NodeSets, SETS};
 use crate::outcomes::outcomes_of;
 use crate::values::{Site, behind, register_of};
 use tl_instr::{Instr, NodeRegister};
@@ -24,28 +28,35 @@ struct Ways {
     kept: NodeSet,
 }
 
+// Where a break leads that frees nothing.
+fn way_out(context: Context<'_>) -> Option<Label>
+    ensures { (x : _) → Agrees x context.entry → option_map (λ label. label.0) result ≡ way_out (nodes_of context.entry.held) x.exit }
+{
+    let Some(exit) = context.exit else {
+        return None;
+    };
+    if exit.held.is_same(context.held) {
+        Some(exit.label)
+    } else {
+        None
+    }
+}
+
 // Where control goes from a statement that needs no code of its own.
-fn direct(statement: &Statement, context: Context<'_>) -> Option<Label> {
+fn direct(statement: &Statement, context: Context<'_>) -> Option<Label>
+    ensures { (x : _) → Agrees x context.entry → option_map (λ label. label.0) result ≡ direct statement.now (nodes_of context.entry.held) x }
+{
     match statement {
         Statement::At(_, inner) => direct(inner, context),
         Statement::Fail => Some(context.failure()),
-        Statement::Break => match context.exit {
-            Some(exit) if exit.held == context.held => Some(exit.label),
-            _ => None,
-        },
+        Statement::Break => way_out(context),
         _ => None,
     }
 }
 
-// Where the first of two ways leads, if it alone needs no code of its own.
-fn shortcut(first: &Statement, second: &Statement, context: Context<'_>) -> Option<Label> {
-    match direct(second, context) {
-        Some(_) => None,
-        None => direct(first, context),
-    }
-}
-
-fn is_skip(statement: &Statement) -> bool {
+fn is_skip(statement: &Statement) -> bool
+    ensures { result ≡ is_skip statement.now }
+{
     match statement {
         Statement::At(_, inner) => is_skip(inner),
         Statement::Skip => true,
@@ -54,19 +65,74 @@ fn is_skip(statement: &Statement) -> bool {
 }
 
 // What is held after a statement; nothing if it never goes on.
-fn held_behind(statement: &Statement, held: NodeSet) -> NodeSet {
+fn held_behind(statement: &Statement, held: NodeSet) -> NodeSet
+    ensures { nodes_of result ≡ held_behind (after statement.now (nodes_of held)) }
+{
     outcomes_of(statement, held).after.unwrap_or(NodeSet::EMPTY)
 }
 
+// Whether the first of two ways has to jump over the code of the second one.
+#[tactic(auto, unfolding(crate::specs::NodeSets::nodes_of))]
+fn is_jumped_over(second: &Statement, after: Option<NodeSet>, kept: NodeSet) -> bool
+    ensures { result ≡ (not (is_skip second.now) || releases (nodes_at after) (nodes_of kept)) }
+{
+    match after {
+        Some(after) => !is_skip(second) || !after.minus(kept).is_same(NodeSet::EMPTY),
+        None => !is_skip(second),
+    }
+}
+
+impl Ways {
+    // Both ways, where pads may stand between them.
+    fn padded(self, is_padded: bool) -> Ways
+        ensures { result ≡ record self { jumps = self.jumps || is_padded } }
+    {
+        Ways {
+            jumps: self.jumps || is_padded,
+            ..self
+        }
+    }
+}
+
 impl Draft {
+    ghost use Rattle.std.specs.Prelude.{ℕ};
+    ghost use Rattle.tl_instr.specs.declared.instr.Instr.TheVariants.{Child, Release, Move, Jump};
+    ghost use Rattle.tl_compiler.specs.Labels.{target_of};
+    ghost use Rattle.tl_lowering.specs.Sets.{Nodes, minus};
+
     // The second way is that of a failure.
-    fn no_second_way(&self, kept: NodeSet, context: Context<'_>) -> Ways {
+    fn no_second_way(&self, kept: NodeSet, context: Context<'_>) -> Ways
+        ensures second { (x : _) → Agrees x context.entry → result.second.0 ≡ x.pad (nodes_of context.entry.held) }
+        ensures done { result.done.0 ≡ length (code_of self.now) }
+        ensures jumps { result.jumps ≡ false }
+        ensures kept { result.kept ≡ kept }
+    {
         Ways {
             second: context.failure(),
             done: self.here(),
             jumps: false,
             kept,
         }
+    }
+
+    // What stands behind a way that goes on: what isn't kept is freed, and then control may have to jump to where both join.
+    fn join(
+        &mut self,
+        after: Option<NodeSet>,
+        kept: NodeSet,
+        jumps: bool,
+        done: Label,
+        origin: usize,
+    ) -> Result<(), DraftFault>
+        ensures { OnOk result (code_of self.new ≡ joining_code (nodes_at after) (nodes_of kept) jumps done.0 (code_of self.old)) }
+    {
+        let Some(after) = after else {
+            return Ok(());
+        };
+        if jumps {
+            self.jump(origin, done)?;
+        }
+        self.release(origin, after.minus(kept))
     }
 
     // The second of two ways, and where it begins.
@@ -76,7 +142,9 @@ impl Draft {
         statement: &Statement,
         kept: NodeSet,
         context: Context<'_>,
-    ) -> Result<Ways, DraftFault> {
+    ) -> Result<Ways, DraftFault>
+        ensures { IfOk result (λ ways. (x : _) → Agrees x context.entry → AreWays ways (second_way (way_of statement.now (nodes_of context.entry.held) x) (nodes_of kept) (code_of self.old)) (nodes_of kept) self.old self.new) }
+    {
         let done = self.here();
         if let Some(label) = direct(statement, context) {
             return Ok(Ways {
@@ -87,15 +155,12 @@ impl Draft {
             });
         }
         let after = outcomes_of(statement, context.held).after;
-        if let Some(after) = after {
-            self.release(context.origin, after.minus(kept))?;
-        }
+        self.join(after, kept, false, done, context.origin)?;
         self.statement(statement, context)?;
-        let releases = after.is_some_and(|after| after.minus(kept) != NodeSet::EMPTY);
         Ok(Ways {
             second: self.here(),
             done,
-            jumps: !is_skip(statement) || releases,
+            jumps: is_jumped_over(statement, after, kept),
             kept,
         })
     }
@@ -107,14 +172,30 @@ impl Draft {
         statement: &Statement,
         ways: Ways,
         context: Context<'_>,
-    ) -> Result<(), DraftFault> {
-        if let Some(after) = outcomes_of(statement, context.held).after {
-            if ways.jumps {
-                self.jump(context.origin, ways.done)?;
-            }
-            self.release(context.origin, after.minus(ways.kept))?;
-        }
+    ) -> Result<(), DraftFault>
+        ensures { OnOk result (Writes (λ x k. statement_code statement.now (nodes_of context.entry.held) x (joining_code (after statement.now (nodes_of context.entry.held)) (nodes_of ways.kept) ways.jumps ways.done.0 k)) context.entry self.old self.new) }
+    {
+        let after = outcomes_of(statement, context.held).after;
+        self.join(after, ways.kept, ways.jumps, ways.done, context.origin)?;
         self.statement(statement, context)
+    }
+
+    // The pad of the failures that leave these registers held.
+    fn pad(
+        &mut self,
+        held: NodeSet,
+        handled: NodeSet,
+        handler: Label,
+        pads: &mut Pads,
+        origin: usize,
+    ) -> Result<(), DraftFault>
+        ensures code { OnOk result (code_of self.new ≡ release_code (minus (nodes_of held) (nodes_of handled)) (Jump (target_of handler.0) ∷ code_of self.old)) }
+        ensures leads { OnOk result ((pad : Nodes → ℕ) → LeadsTo pad pads.old → LeadsTo (pad_at (nodes_of held) (length (code_of self.new)) pad) pads.new) }
+    {
+        self.jump(origin, handler)?;
+        self.release(origin, held.minus(handled))?;
+        pads.set(held, self.here());
+        Ok(())
     }
 
     // The pads of the failures that leave more held than the handler begins with. Returns whether there is one.
@@ -125,14 +206,14 @@ impl Draft {
         handler: Label,
         pads: &mut Pads,
         origin: usize,
-    ) -> Result<bool, DraftFault> {
+    ) -> Result<bool, DraftFault>
+        ensures { IfOk result (λ is_one. (list : List Nodes) → AreThose fails.now list → (pad : Nodes → ℕ) → LeadsTo pad pads.old → ArePads (pads_of all_sets list (nodes_of handled) handler.0 (record { code = code_of self.old; pad = pad; are_some = false })) self.new pads.new is_one) }
+    {
         let mut is_one = false;
-        for index in 0..=u8::MAX {
-            let held = NodeSet::of_bits(u8::MAX - index);
-            if fails.contains(held) && held != handled {
-                self.jump(origin, handler)?;
-                self.release(origin, held.minus(handled))?;
-                pads.set(held, self.here());
+        for index in 0..SETS {
+            let held = NodeSet::of_bits((SETS - 1 - index) as u8);
+            if fails.contains(held) && !held.is_same(handled) {
+                self.pad(held, handled, handler, pads, origin)?;
                 is_one = true;
             }
         }
@@ -147,15 +228,13 @@ impl Draft {
         handled: NodeSet,
         ways: Ways,
         context: Context<'_>,
-    ) -> Result<(), DraftFault> {
+    ) -> Result<(), DraftFault>
+        ensures { OnOk result (Writes (guarded_code body.now (nodes_of context.entry.held) (nodes_of handled) ways) context.entry self.old self.new) }
+    {
         let fails = outcomes_of(body, context.held).fails;
         let mut pads = *context.pads;
         pads.set(handled, ways.second);
         let is_padded = self.pads(&fails, handled, ways.second, &mut pads, context.origin)?;
-        let ways = Ways {
-            jumps: ways.jumps || is_padded,
-            ..ways
-        };
         let inside = Context {
             held: context.held,
             values: context.values,
@@ -164,7 +243,7 @@ impl Draft {
             exit: context.exit,
             origin: context.origin,
         };
-        self.first_way(body, ways, inside)
+        self.first_way(body, ways.padded(is_padded), inside)
     }
 
     // The code of a loop after the instruction that opens it. `may_end` says whether the loop may end before its body does.
@@ -175,7 +254,9 @@ impl Draft {
         kept: NodeSet,
         may_end: bool,
         context: Context<'_>,
-    ) -> Result<(), DraftFault> {
+    ) -> Result<(), DraftFault>
+        ensures { OnOk result (Writes (loop_code (statement_code body.now (nodes_of context.entry.held)) (may_end || is_some (after body.now (nodes_of context.entry.held))) (nodes_of context.entry.held) (nodes_of kept)) context.entry self.old self.new) }
+    {
         let exit = Exit {
             label: self.here(),
             held: kept,
@@ -184,11 +265,7 @@ impl Draft {
             self.release(context.origin, context.held.minus(kept))?;
         }
         self.put(context.origin, Instr::End)?;
-        let inside = Context {
-            exit: Some(exit),
-            ..context
-        };
-        self.statement(body, inside)
+        self.statement(body, context.with_exit(exit))
     }
 
     // Opens a loop of as many turns as the number says. If these are more than `most`, control goes to the site's failure.
@@ -217,14 +294,12 @@ impl Draft {
         self.operand(number, site)
     }
 
-    fn write(
-        &mut self,
-        number: &Expression,
-        instr: Instr,
-        context: Context<'_>,
-    ) -> Result<(), DraftFault> {
-        self.put(context.origin, instr)?;
-        self.operand(number, context.site(context.failure()))
+    // The instruction that does something with a number, after the number.
+    fn write(&mut self, number: &Expression, instr: Instr, site: Site) -> Result<(), DraftFault>
+        ensures { OnOk result (code_of self.new ≡ operand_code number.now site.free site.failure.0 (instr ∷ code_of self.old)) }
+    {
+        self.put(site.origin, instr)?;
+        self.operand(number, site)
     }
 
     // The child is locked under the next free register for a moment.
@@ -232,116 +307,51 @@ impl Draft {
         &mut self,
         node: NodeRegister,
         number: &Expression,
-        context: Context<'_>,
-    ) -> Result<(), DraftFault> {
-        let below = node_register(context.nodes)?;
-        let site = context.site(context.failure());
+        free: usize,
+        site: Site,
+    ) -> Result<(), DraftFault>
+        ensures { OnOk result (code_of self.new ≡ operand_code number.now site.free site.failure.0 (Child free node (register_of number.now site.free) (target_of site.failure.0) ∷ Release node ∷ Move node free ∷ code_of self.old)) }
+    {
+        let below = node_register(free)?;
+        let origin = site.origin;
         self.put(
-            context.origin,
+            origin,
             Instr::Move {
                 to: node,
                 from: below,
             },
         )?;
-        self.put(context.origin, Instr::Release { node })?;
-        self.put(
-            context.origin,
-            Instr::Child {
-                to: below,
-                parent: node,
-                number: register_of(number, site.free)?,
-                otherwise: site.failure.target(),
-            },
-        )?;
-        self.operand(number, site)
+        self.put(origin, Instr::Release { node })?;
+        let instr = Instr::Child {
+            to: below,
+            parent: node,
+            number: register_of(number, site.free)?,
+            otherwise: site.failure.target(),
+        };
+        self.write(number, instr, site)
     }
 
-    fn leave_loop(&mut self, context: Context<'_>) -> Result<(), DraftFault> {
+    // The first register's node is freed, and the first register takes over the second one's node.
+    fn take(
+        &mut self,
+        node: NodeRegister,
+        from: NodeRegister,
+        origin: usize,
+    ) -> Result<(), DraftFault>
+        ensures { OnOk result (code_of self.new ≡ Release node ∷ Move node from ∷ code_of self.old) }
+    {
+        self.put(origin, Instr::Move { to: node, from })?;
+        self.put(origin, Instr::Release { node })
+    }
+
+    fn leave_loop(&mut self, context: Context<'_>) -> Result<(), DraftFault>
+        ensures { OnOk result (Writes (λ x k. leave_code (nodes_of context.entry.held) x.exit k) context.entry self.old self.new) }
+    {
         let Some(exit) = context.exit else {
             return Ok(());
         };
         self.jump(context.origin, exit.label)?;
         self.release(context.origin, context.held.minus(exit.held))
-    }
-
-    // A statement without parts.
-    fn simple(&mut self, statement: &Statement, context: Context<'_>) -> Result<(), DraftFault> {
-        let origin = context.origin;
-        match statement {
-            Statement::Assign(to, number) => {
-                self.into(number, *to, context.site(context.failure()))
-            }
-            Statement::Write(node, field, number) => {
-                let instr = Instr::Put {
-                    node: *node,
-                    field: *field,
-                    from: register_of(number, context.values)?,
-                };
-                self.write(number, instr, context)
-            }
-            Statement::Emit(number) => {
-                let from = register_of(number, context.values)?;
-                self.write(number, Instr::Emit { from }, context)
-            }
-            Statement::Free(node) => self.put(origin, Instr::Release { node: *node }),
-            Statement::Take(node, from) => {
-                self.put(
-                    origin,
-                    Instr::Move {
-                        to: *node,
-                        from: *from,
-                    },
-                )?;
-                self.put(origin, Instr::Release { node: *node })
-            }
-            Statement::Descend(node, number) => self.descend(*node, number, context),
-            Statement::Break => self.leave_loop(context),
-            Statement::Return => {
-                self.put(origin, Instr::Return)?;
-                self.release(origin, context.held)
-            }
-            Statement::Fail => self.jump(origin, context.failure()),
-            _ => Ok(()),
-        }
-    }
-
-    // A statement of two ways.
-    #[cycle(statements)]
-    fn two_ways(&mut self, statement: &Statement, context: Context<'_>) -> Result<(), DraftFault> {
-        let kept = held_behind(statement, context.held);
-        match statement {
-            Statement::If(condition, first, second) => {
-                let site = context.site(context.failure());
-                if let Some(label) = shortcut(first, second, context) {
-                    self.statement(second, context)?;
-                    return self.branch(condition, true, label, site);
-                }
-                let ways = self.second_way(second, kept, context)?;
-                self.first_way(first, ways, context)?;
-                self.branch(condition, false, ways.second, site)
-            }
-            Statement::Let(to, number, body) => {
-                let ways = self.no_second_way(kept, context);
-                self.first_way(body, ways, context.with_value(*to))?;
-                self.into(number, *to, context.binding(*to, ways.second))
-            }
-            Statement::LetElse(to, number, body, otherwise) => {
-                let ways = self.second_way(otherwise, kept, context)?;
-                self.first_way(body, ways, context.with_value(*to))?;
-                self.into(number, *to, context.binding(*to, ways.second))
-            }
-            Statement::Lock(place, body, otherwise) => {
-                let ways = self.second_way(otherwise, kept, context)?;
-                self.first_way(body, ways, context.with_place(place))?;
-                self.place(place, context.site(ways.second))
-            }
-            Statement::Try(body, handler) => {
-                let handled = outcomes_of(body, context.held).handled(context.held);
-                let ways = self.second_way(handler, kept, context.with_held(handled))?;
-                self.guarded(body, handled, ways, context)
-            }
-            _ => Ok(()),
-        }
     }
 
     /// The code of a statement, put before all that was written.
@@ -350,30 +360,84 @@ impl Draft {
         &mut self,
         statement: &Statement,
         context: Context<'_>,
-    ) -> Result<(), DraftFault> {
+    ) -> Result<(), DraftFault>
+        ensures { OnOk result (Writes (statement_code statement.now (nodes_of context.entry.held)) context.entry self.old self.new) }
+    {
+        let origin = context.origin;
+        let site = context.site(context.failure());
         match statement {
+            Statement::Skip => Ok(()),
             Statement::Sequence(first, second) => {
                 let between = held_behind(first, context.held);
                 self.statement(second, context.with_held(between))?;
                 self.statement(first, context)
             }
-            Statement::If(_, _, _)
-            | Statement::Let(_, _, _)
-            | Statement::LetElse(_, _, _, _)
-            | Statement::Lock(_, _, _)
-            | Statement::Try(_, _) => self.two_ways(statement, context),
+            Statement::Assign(to, number) => self.into(number, *to, site),
+            Statement::Write(node, field, number) => {
+                let instr = Instr::Put {
+                    node: *node,
+                    field: *field,
+                    from: register_of(number, site.free)?,
+                };
+                self.write(number, instr, site)
+            }
+            Statement::Emit(number) => {
+                let from = register_of(number, site.free)?;
+                self.write(number, Instr::Emit { from }, site)
+            }
+            Statement::Free(node) => self.put(origin, Instr::Release { node: *node }),
+            Statement::Descend(node, number) => self.descend(*node, number, context.nodes, site),
+            Statement::Take(node, from) => self.take(*node, *from, origin),
+            Statement::Break => self.leave_loop(context),
+            Statement::Return => {
+                self.put(origin, Instr::Return)?;
+                self.release(origin, context.held)
+            }
+            Statement::Fail => self.jump(origin, site.failure),
+            Statement::If(condition, first, second) => {
+                let kept = held_behind(statement, context.held);
+                if let (Some(label), None) = (direct(first, context), direct(second, context)) {
+                    self.statement(second, context)?;
+                    return self.branch(condition, true, label, site);
+                }
+                let ways = self.second_way(second, kept, context)?;
+                self.first_way(first, ways, context)?;
+                self.branch(condition, false, ways.second, site)
+            }
+            Statement::Let(to, number, body) => {
+                let ways = self.no_second_way(held_behind(body, context.held), context);
+                self.first_way(body, ways, context.with_value(*to))?;
+                self.into(number, *to, context.binding(*to, ways.second))
+            }
+            Statement::LetElse(to, number, body, otherwise) => {
+                let kept = held_behind(statement, context.held);
+                let ways = self.second_way(otherwise, kept, context)?;
+                self.first_way(body, ways, context.with_value(*to))?;
+                self.into(number, *to, context.binding(*to, ways.second))
+            }
+            Statement::Lock(place, body, otherwise) => {
+                let kept = held_behind(statement, context.held);
+                let ways = self.second_way(otherwise, kept, context)?;
+                self.first_way(body, ways, context.with_place(place))?;
+                self.place(place, context.site(ways.second))
+            }
+            Statement::Try(body, handler) => {
+                let kept = held_behind(statement, context.held);
+                let handled = outcomes_of(body, context.held).handled(context.held);
+                let ways = self.second_way(handler, kept, context.with_held(handled))?;
+                self.guarded(body, handled, ways, context)
+            }
             Statement::Repeat(count, body) => {
                 let kept = held_behind(statement, context.held);
                 self.turns(body, kept, false, context)?;
-                self.put(context.origin, Instr::Repeat { count: *count })
+                self.put(origin, Instr::Repeat { count: *count })
             }
             Statement::RepeatUpTo(number, most, body) => {
                 let kept = held_behind(statement, context.held);
                 self.turns(body, kept, true, context)?;
-                self.counted(number, *most, context.site(context.failure()))
+                self.counted(number, *most, site)
             }
             Statement::At(origin, inner) => self.statement(inner, context.with_origin(*origin)),
-            _ => self.simple(statement, context),
         }
     }
 }
