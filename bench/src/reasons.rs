@@ -63,13 +63,12 @@ const WORKERS: &str = "**More workers.** Where others use the machine's processo
 turns the twin goes 2.5 to 3.4 times as fast on four workers as on one, and the product 2.2 to 3.1 times. On one path, and with 20 instructions between two \
 turns, the lock goes from processor to processor, and both sides lose by more workers.";
 
-const TURN: &str = "**A turn of an engine.** Under the lock the segment's turn is compared with the kept one by value: the parents of 4,096 nodes take 200 to \
-250 ns of it, a third of a short call, those of 128 some 10 (by `perf`, and by the same calls on both trees). A call's state of 800 bytes is \
-compared too, and copied twice, as the twin's is. Besides, a short call pays for its admission, its receipt and the session's list, which are \
-a third of it.";
+const TURN: &str = "**A turn of an engine.** Under the lock the state at which a call's instructions began is compared with the kept one, and the state after them is copied, on both \
+sides. The product's has some 1,040 bytes and the twin's 800: it also keeps how many nodes the tree has and how many children each held node has, so that no shapes are compared. Besides, a \
+short call pays for its admission, its receipt and the session's list, which `close` compares with the table.";
 
-const TRANSACTION: &str = "**A procedure a transaction through an engine.** A call has thirteen locks, frees and returns. Each is a turn \
-that is compared as above, goes through the lock, and is copied. In a core the same call takes an eighth to a tenth of the time.";
+const TRANSACTION: &str = "**A procedure a transaction through an engine.** A call has thirteen locks, frees and returns. Each is a turn through the lock, as above. In a core the \
+same call needs no lock.";
 
 /// Why such a row is short, where that is known.
 pub fn of(heading: &str, work: &str) -> Option<&'static Reason> {
