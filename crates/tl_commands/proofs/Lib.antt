@@ -7,5 +7,6 @@ pub mod ProcedureLines
 mod Rows
 pub mod SinkLemmas
 pub mod ClosingLemmas
+pub mod CompilingLemmas
 pub mod ScriptCounts
 pub mod AuditLemmas

@@ -4,7 +4,7 @@ use Rattle.serde_json.specs.Data.{Data, object, member, no_members}
 use Rattle.serde_json.specs.Written.{has_float, compact_text}
 use Rattle.serde_json.proofs.OnLiterals.{serde_json_on_literals}
 use Rattle.tl_tree.specs.Writing.{integer_data}
-use Rattle.tl_commands.specs.Procedures.{count_text, bounds_text}
+use Rattle.tl_commands.specs.Procedures.{count_text, bounds_data, bounds_text}
 use Rattle.tl_commands.specs.Widening.{nodes_text}
 
 -- ---- the values
@@ -14,12 +14,6 @@ count_data count = object (member (codes "count") (integer_data (pos count)) no_
 
 abbrev pub nodes_data : ℕ → Data
 nodes_data nodes = object (member (codes "nodes") (integer_data (pos nodes)) no_members)
-
-abbrev pub bounds_data : ℕ → ℕ → ℕ → Data
-bounds_data emits locks steps =
-    object (member (codes "bounds")
-    (object (member (codes "emits") (integer_data (pos emits)) (member (codes "locks") (integer_data (pos locks)) (member (codes "steps") (integer_data (pos steps)) no_members))))
-    no_members)
 
 pub count_whole : (count : ℕ) → has_float (count_data count) ≡ false
 count_whole count = refl

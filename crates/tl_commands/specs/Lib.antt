@@ -10,4 +10,5 @@ pub mod Audit
 pub mod Procedures
 pub mod Widening
 pub mod Closing
+pub mod Compiling
 pub mod Sinks

@@ -52,7 +52,8 @@ fn count_to_value(alloc: Global, count: Value) -> Result<Value, AllocError>
     json!(in alloc; {"count": count})
 }
 
-fn bounds_to_value(
+/// `{"bounds":{..}}`
+pub fn bounds_to_value(
     alloc: Global,
     emits: Value,
     locks: Value,

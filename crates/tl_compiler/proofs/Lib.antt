@@ -1,5 +1,7 @@
 pub mod CodeLemmas
 pub mod CompileLemmas
+pub mod FaultLemmas
+pub mod MeantLemmas
 pub mod PadLemmas
 pub mod SetBits
 pub mod SetLists

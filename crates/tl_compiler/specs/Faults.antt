@@ -1,7 +1,19 @@
--- The numbers of the faults of a text.
-use Rattle.std.specs.Prelude.{ℕ, List, [], ◌∷◌}
+-- The faults of a text and of its procedures, and their numbers.
+use Rattle.std.specs.Prelude.{◌≡◌, ◌<◌, ℕ, List, [], ◌∷◌, length, IsUtf8}
+use Rattle.std.specs.List.{Contains}
+use Rattle.tl_instr.specs.declared.instr.Instr.{Instr}
+use Rattle.tl_instr.specs.declared.code.TheConstants.{MAX_COUNT}
+use Rattle.tl_budget.specs.Loops.{budget, lock_bound, emit_bound}
+use Rattle.tl_budget.specs.declared.limits.TheConstants.{MAX_STEPS, MAX_LOCKS, MAX_EMITS}
+use Rattle.tl_budget.specs.declared.fault.NestFault.TheVariants.{StepsOver, LocksOver, EmitsOver}
+use Rattle.tl_verify.specs.declared.fault.VerifyFault.{VerifyFault}
+use Rattle.tl_verify.specs.declared.fault.VerifyFault.TheVariants.{Nest}
 use Rattle.tl_syntax.specs.Faults.{number_of}
 use Rattle.tl_syntax.specs.declared.position.Position.{Position}
+use Rattle.tl_lowering.specs.declared.program.Procedure.{Procedure}
+use Rattle.tl_lowering.specs.Reading.{IsProgram}
+use Rattle.tl_compiler.specs.Aiming.{placed as at_positions}
+use Rattle.tl_compiler.specs.Statements.{procedure_code}
 use Rattle.tl_compiler.specs.declared.fault.Excess.{Excess}
 use Rattle.tl_compiler.specs.declared.fault.Excess.TheVariants.{Instructions, Steps, Locks, Emits}
 use Rattle.tl_compiler.specs.declared.fault.CompileFault.{CompileFault}
@@ -24,3 +36,64 @@ numbers_of (Over excess sum position) = placed (excess_number excess) position
 numbers_of NotOne = 289 ∷ []
 numbers_of (Refused position) = placed 298 position
 numbers_of Memory = 290 ∷ []
+
+-- what is wrong with a text
+abbrev pub IsTextFault : CompileFault → Type 0
+IsTextFault (Wrong wrong position) = Unit {0}
+IsTextFault Memory = Unit {0}
+IsTextFault _ = ⊥
+
+-- the code of a procedure, with positions in the place of labels
+abbrev pub placed_code : Procedure → List Instr
+placed_code source = at_positions (procedure_code source.arity source.body)
+
+-- the code of a procedure has too much of something
+abbrev pub IsOver : Procedure → Excess → Type 0
+IsOver source Instructions = MAX_COUNT < length (procedure_code source.arity source.body)
+IsOver source Steps = MAX_STEPS < budget (placed_code source)
+IsOver source Locks = MAX_LOCKS < lock_bound (placed_code source)
+IsOver source Emits = MAX_EMITS < emit_bound (placed_code source)
+
+-- too much of that, or want of memory
+abbrev pub IsExcess : Excess → CompileFault → Type 0
+IsExcess excess (Over other sum position) = other ≡ excess
+IsExcess excess Memory = Unit {0}
+IsExcess excess _ = ⊥
+
+-- what the verifier's fault becomes
+abbrev pub IsRefusal : VerifyFault → CompileFault → Type 0
+IsRefusal (Nest StepsOver) e = IsExcess Steps e
+IsRefusal (Nest LocksOver) e = IsExcess Locks e
+IsRefusal (Nest EmitsOver) e = IsExcess Emits e
+IsRefusal fault (Refused position) = Unit {0}
+IsRefusal fault Memory = Unit {0}
+IsRefusal fault _ = ⊥
+
+-- what is wrong with the code of a procedure
+abbrev pub IsCodeFault : Procedure → CompileFault → Type 0
+IsCodeFault source (Over excess sum position) = IsOver source excess
+IsCodeFault source (Refused position) = Unit {0}
+IsCodeFault source Memory = Unit {0}
+IsCodeFault source _ = ⊥
+
+-- what is wrong with the code of one of these procedures
+abbrev pub IsCodesFault : List Procedure → CompileFault → Type 0
+IsCodesFault sources (Over excess sum position) = (source : Procedure) × Contains sources source × IsOver source excess
+IsCodesFault sources (Refused position) = Unit {0}
+IsCodesFault sources Memory = Unit {0}
+IsCodesFault sources _ = ⊥
+
+-- the text has procedures, and something is wrong with the code of one
+pub record HasCodeFault (text : List ℕ) (e : CompileFault) : Type 0 where
+  pub utf8 : IsUtf8 text
+  pub sources : List Procedure
+  pub program : IsProgram text sources
+  pub fault : IsCodesFault sources e
+
+-- The text isn't UTF-8, and only then is that the answer. What is wrong with a code comes only where the text can be read.
+abbrev pub IsCompileFault : List ℕ → CompileFault → Type 0
+IsCompileFault text NotUtf8 = IsUtf8 text → ⊥
+IsCompileFault text (Wrong wrong position) = IsUtf8 text
+IsCompileFault text NotOne = ⊥
+IsCompileFault text Memory = Unit {0}
+IsCompileFault text e = HasCodeFault text e

@@ -1,9 +1,12 @@
 // From a text to its procedures.
 
-ghost use Rattle.std.specs.Prelude.{◌≡◌, ◌≤◌, List, IfOk, vec_len};
+ghost use Rattle.std.specs.Prelude.{◌≡◌, ◌≤◌, Some, None, option_map, IfOk, IfErr, MatchOption, MatchResult, vec_len};
 ghost use Rattle.tl_compiler.specs.Aiming.{placed};
-ghost use Rattle.tl_compiler.specs.Compiled.{IsCompiled, AreCompiled};
+ghost use Rattle.tl_compiler.specs.Compiled.{IsCompiled, AreCompiled, Compiles, IsMeant, made_name};
 ghost use Rattle.tl_compiler.specs.Contexts.{code_of};
+ghost use Rattle.tl_compiler.specs.Faults.{IsExcess, IsRefusal, IsCodeFault, IsCodesFault, IsCompileFault};
+ghost use Rattle.tl_compiler.specs.declared.compiler.Compiled.{Compiled};
+ghost use Rattle.tl_compiler.specs.declared.fault.CompileFault.TheVariants.{NotOne};
 ghost use Rattle.tl_compiler.specs.Statements.{procedure_code};
 
 use crate::aiming::aimed;
@@ -12,7 +15,7 @@ use crate::costs::heaviest;
 use crate::draft::{Draft, DraftFault};
 use crate::fault::{CompileFault, Excess};
 use crate::node_set::NodeSet;
-use std::alloc::Global;
+use std::alloc::{AllocError, Global};
 use tl_budget::NestFault;
 use tl_instr::{Code, Instr, MAX_COUNT};
 use tl_lowering::{Procedure, read};
@@ -22,7 +25,7 @@ use tl_verify::{Proc, VerifyFault, verify};
 /// A procedure that was compiled: its name, which is ASCII, and its code.
 #[derive(Drop)]
 pub struct Compiled {
-    pub name: Vec<u8>,
+    pub name: String,
     pub procedure: Proc,
 }
 
@@ -47,7 +50,7 @@ fn draft_of(alloc: Global, procedure: &Procedure) -> Result<Draft, DraftFault>
 
 // The instructions from the first one on, with positions in place of labels.
 #[tactic(auto, using(crate::proofs::CompileLemmas::map_more, crate::proofs::CodeLemmas::as_many))]
-fn instrs_of(alloc: Global, draft: &Draft) -> Result<Vec<Instr>, CompileFault>
+fn instrs_of(alloc: Global, draft: &Draft) -> Result<Vec<Instr>, AllocError>
     requires { vec_len draft.now.instrs ≤ MAX_COUNT }
     ensures { IfOk result (λ instrs. instrs.items ≡ placed (code_of draft.now)) }
 {
@@ -60,7 +63,9 @@ fn instrs_of(alloc: Global, draft: &Draft) -> Result<Vec<Instr>, CompileFault>
 }
 
 // The fault for too much of something, at the statement that most of it is for.
-fn over(alloc: Global, text: &[u8], draft: &Draft, excess: Excess) -> CompileFault {
+fn over(alloc: Global, text: &[u8], draft: &Draft, excess: Excess) -> CompileFault
+    ensures { IsExcess excess result }
+{
     match heaviest(alloc, draft, excess) {
         Ok((offset, sum)) => CompileFault::Over(excess, sum, Position::of(text, offset)),
         Err(_) => CompileFault::Memory,
@@ -74,7 +79,9 @@ fn refused(
     draft: &Draft,
     offset: usize,
     fault: VerifyFault,
-) -> CompileFault {
+) -> CompileFault
+    ensures { IsRefusal fault result }
+{
     let excess = match fault {
         VerifyFault::Nest(NestFault::StepsOver) => Excess::Steps,
         VerifyFault::Nest(NestFault::LocksOver) => Excess::Locks,
@@ -87,7 +94,7 @@ fn refused(
 
 // Compiles a procedure. 294 to 298, or 290.
 fn compile_one(alloc: Global, text: &[u8], source: Procedure) -> Result<Compiled, CompileFault>
-    ensures { IfOk result (IsCompiled source) }
+    ensures { MatchResult result (IsCompiled source) (IsCodeFault source) }
 {
     let name_place = Position::of(text, source.offset);
     let draft = match draft_of(alloc, &source) {
@@ -104,23 +111,24 @@ fn compile_one(alloc: Global, text: &[u8], source: Procedure) -> Result<Compiled
         Err(tl_instr::CodeFault::Memory) => return Err(CompileFault::Memory),
         Err(_) => return Err(CompileFault::Refused(name_place)),
     };
-    match verify(alloc, code) {
-        Ok(procedure) => Ok(Compiled {
-            name: source.name,
-            procedure,
-        }),
-        Err((_code, fault)) => Err(refused(alloc, text, &draft, source.offset, fault)),
+    let procedure = match verify(alloc, code) {
+        Ok(procedure) => procedure,
+        Err((_code, fault)) => return Err(refused(alloc, text, &draft, source.offset, fault)),
+    };
+    match String::from_utf8(source.name) {
+        Ok(name) => Ok(Compiled { name, procedure }),
+        Err(_) => Err(CompileFault::Refused(name_place)),
     }
 }
 
 // Compiles the procedures of a text in their order. 294 to 298, or 290.
-#[tactic(auto, using(crate::proofs::CompileLemmas::one_more_each))]
+#[tactic(auto, using(crate::proofs::CompileLemmas::one_more_each, crate::proofs::FaultLemmas::one_of_codes))]
 fn compile_all(
     alloc: Global,
     text: &[u8],
     procedures: Vec<Procedure>,
 ) -> Result<Vec<Compiled>, CompileFault>
-    ensures { IfOk result (λ compiled. AreCompiled procedures.items compiled.items) }
+    ensures { MatchResult result (λ compiled. AreCompiled procedures.items compiled.items) (IsCodesFault procedures.items) }
 {
     let mut compiled = Vec::new(alloc);
     for procedure in procedures {
@@ -133,8 +141,10 @@ fn compile_all(
 ///
 /// Otherwise the first fault: 255 if the text isn't UTF-8; 270 to 293 for the text; 294 to 298, procedure by procedure. 290
 /// if memory was refused.
+#[tactic(auto, using(crate::proofs::FaultLemmas::of_text, crate::proofs::CompileLemmas::compiles))]
 pub fn compile(alloc: Global, text: &[u8]) -> Result<Vec<Compiled>, CompileFault>
-    ensures { IfOk result (λ compiled. (procedures : List Procedure) × AreCompiled procedures compiled.items) }
+    ensures compiled { IfOk result (λ compiled. Compiles text.now compiled.items) }
+    ensures fault { IfErr result (IsCompileFault text.now) }
 {
     if std::str::from_utf8(text).is_err() {
         return Err(CompileFault::NotUtf8);
@@ -145,17 +155,40 @@ pub fn compile(alloc: Global, text: &[u8]) -> Result<Vec<Compiled>, CompileFault
     }
 }
 
-/// The procedure of that name, or the only one. 289 if there isn't one.
-pub fn one_of(procedures: Vec<Compiled>, name: Option<&str>) -> Result<Compiled, CompileFault> {
-    let is_one = procedures.len() == 1;
+// The procedure of that name.
+fn named(procedures: Vec<Compiled>, name: &str) -> Option<Compiled>
+    ensures { MatchOption result
+        ((one : Compiled) → IsMeant made_name (Some name.now) procedures.items one → ⊥)
+        (IsMeant made_name (Some name.now) procedures.items) }
+{
     for compiled in procedures {
-        let is_meant = match name {
-            Some(name) => compiled.name.as_slice() == name.as_bytes(),
-            None => is_one,
-        };
-        if is_meant {
-            return Ok(compiled);
+        if compiled.name.as_str() == name {
+            return Some(compiled);
         }
     }
-    Err(CompileFault::NotOne)
+    None
+}
+
+// The only procedure.
+fn only(mut procedures: Vec<Compiled>) -> Option<Compiled>
+    ensures { MatchOption result
+        ((one : Compiled) → IsMeant made_name None procedures.items one → ⊥)
+        (IsMeant made_name None procedures.items) }
+{
+    if procedures.len() != 1 {
+        return None;
+    }
+    procedures.pop()
+}
+
+/// The procedure of that name, or the only one. 289 if there isn't one.
+pub fn one_of(procedures: Vec<Compiled>, name: Option<&str>) -> Result<Compiled, CompileFault>
+    ensures { MatchResult result
+        (IsMeant made_name (option_map (λ n. n.now) name.entry) procedures.items)
+        (λ e. (e ≡ NotOne) × ((one : Compiled) → IsMeant made_name (option_map (λ n. n.now) name.entry) procedures.items one → ⊥)) }
+{
+    match name {
+        Some(name) => named(procedures, name).ok_or(CompileFault::NotOne),
+        None => only(procedures).ok_or(CompileFault::NotOne),
+    }
 }

@@ -1,7 +1,7 @@
 // Why a text isn't compiled.
 
 ghost use Rattle.std.specs.Prelude.{◌≡◌, [], ◌∷◌};
-ghost use Rattle.tl_compiler.specs.Faults.{placed};
+ghost use Rattle.tl_compiler.specs.Faults.{IsTextFault, placed};
 ghost use Rattle.tl_compiler.specs.declared.fault.CompileFault.TheVariants.{Memory};
 
 use arrayvec::ArrayVec;
@@ -84,7 +84,9 @@ impl CompileFault {
     ghost use Rattle.tl_compiler.specs.Faults.{numbers_of};
 
     /// The first fault of a text.
-    pub fn of_syntax(text: &[u8], fault: SyntaxFault) -> CompileFault {
+    pub fn of_syntax(text: &[u8], fault: SyntaxFault) -> CompileFault
+        ensures { IsTextFault result }
+    {
         match fault {
             SyntaxFault::At { wrong, offset } => {
                 CompileFault::Wrong(wrong, Position::of(text, offset))

@@ -1,5 +1,5 @@
 -- Which statements are in order where so many values and nodes have registers and these nodes are held: what they name is there.
-use Rattle.std.specs.Prelude.{◌≡◌, ◌≢◌, ℕ, ◌+◌, ◌<◌, Bool, true, false, Option, IfSome, max}
+use Rattle.std.specs.Prelude.{◌≡◌, ◌≢◌, ℕ, ◌+◌, ◌<◌, ◌≤◌, Bool, true, false, [], Option, IfSome, max}
 use Rattle.tl_lowering.specs.declared.program.Expression.{Expression}
 use Rattle.tl_lowering.specs.declared.program.Expression.TheVariants as E
 use Rattle.tl_lowering.specs.declared.program.Condition.{Condition}
@@ -8,7 +8,9 @@ use Rattle.tl_lowering.specs.declared.program.Place.{Place}
 use Rattle.tl_lowering.specs.declared.program.Place.TheVariants as P
 use Rattle.tl_lowering.specs.declared.program.Statement.{Statement}
 use Rattle.tl_lowering.specs.declared.program.Statement.TheVariants as S
-use Rattle.tl_lowering.specs.Sets.{Nodes, holds, all_of}
+use Rattle.tl_lowering.specs.declared.program.Procedure.{Procedure}
+use Rattle.tl_instr.specs.declared.operand.TheConstants.{MAX_ARGS}
+use Rattle.tl_lowering.specs.Sets.{Nodes, none_held, holds, all_of}
 use Rattle.tl_lowering.specs.Outcomes.{locked, handled_by, after, fails}
 
 -- each value that is named has one of the first t registers, and each node that is read is held
@@ -68,3 +70,9 @@ IsSound (S.Repeat' w p a) d m held in_loop = KeepsHeld (after a held) held × Is
 IsSound (S.RepeatUpTo' e w p a) d m held in_loop =
     IsReadable d held e × KeepsHeld (after a held) held × IsSound a d m held true
 IsSound (S.At' offset p a) d m held in_loop = IsSound a d m held in_loop
+
+-- A procedure's body is in order where its arguments alone are known and nothing is held, and handles each failure.
+pub record IsInOrder (p : Procedure) : Type 0 where
+  pub sound : IsSound p.body p.arity 0 none_held false
+  pub handled : fails p.body none_held ≡ []
+  pub few : p.arity ≤ MAX_ARGS

@@ -1,5 +1,16 @@
 // Loops without their blocks, with registers in place of names.
 
+ghost use Rattle.std.specs.Prelude.{◌≡◌, ◌+◌, ◌<◌, Bool, option_map, IfOk, OnOk, IfSome};
+ghost use Rattle.std.specs.Borrow.{Bor};
+ghost use Rattle.tl_lowering.specs.declared.paths.Held.{Held};
+ghost use Rattle.tl_lowering.specs.Choosing.{IsRepeated, IsVisited, names_within, IsTurning};
+ghost use Rattle.tl_lowering.specs.Names.{names_of};
+ghost use Rattle.tl_lowering.specs.Reading.{IsVisiting};
+ghost use Rattle.tl_syntax.specs.declared.parsed.Expression.{Expression as TextExpression};
+ghost use Rattle.tl_lowering.specs.Paths.{nodes_of, known, paths_of, keeping};
+ghost use Rattle.tl_lowering.specs.Repeating.{IsRepetition, IsVisit, IsBody, IsTurn, IsWalk, begun, more_in};
+ghost use Rattle.tl_lowering.specs.Scopes.{View, view_of, IsInUse, IsAt, IsLowered, Extends};
+
 use crate::lowering::{Lowered, Lowering};
 use crate::paths::{Flow, Held, join};
 use crate::program::{Condition, Expression, Place, Statement};
@@ -27,9 +38,30 @@ pub enum Repetition {
     Children(Visit),
 }
 
+// Once a child of the register's node was locked.
+fn visited(after: Option<Held>, register: NodeRegister) -> Option<Held>
+    ensures { known result ≡ known after }
+{
+    after.map(|held| held.visiting(register))
+}
+
+// Behind a loop that began with `held`, and where it fails.
+fn leaving(after: Option<Held>, fails: Option<Held>, held: Held) -> Flow
+    ensures { paths_of result ≡ record { after = keeping (nodes_of held) (known after); fails = known fails; breaks = None } }
+{
+    let flow = Flow {
+        after,
+        fails,
+        breaks: None,
+    };
+    flow.keeping(held.nodes)
+}
+
 impl Lowering {
     // 293 inside four loops.
-    fn check_depth(&self, offset: usize) -> Result<(), SyntaxFault> {
+    fn check_depth(&self, offset: usize) -> Result<(), SyntaxFault>
+        ensures { OnOk result (self.now.scope.loops < MAX_DEPTH) }
+    {
         if usize::from(self.scope.loops) >= MAX_DEPTH {
             return Err(SyntaxFault::at(Wrong::LoopDepth, offset));
         }
@@ -43,7 +75,12 @@ impl Lowering {
         at_most: Option<&parsed::Expression>,
         offset: usize,
         held: Held,
-    ) -> Result<Repetition, SyntaxFault> {
+    ) -> Result<Repetition, SyntaxFault>
+        requires { IsInUse (view_of self.now.scope) }
+        ensures named { IfOk result (IsRepeated (names_of self.now.scope) turns.now.form (option_map (λ (e : Bor TextExpression). e.now.form) at_most.entry)) }
+        ensures repetition { IfOk result (λ r. IsRepetition (view_of self.now.scope) held r) }
+        ensures depth { OnOk result (self.now.scope.loops < MAX_DEPTH) }
+    {
         self.check_depth(offset)?;
         let Some(at_most) = at_most else {
             return Ok(Repetition::Times(self.scope.turns(turns)?));
@@ -62,7 +99,12 @@ impl Lowering {
         at_most: &parsed::Expression,
         offset: usize,
         held: Held,
-    ) -> Result<Repetition, SyntaxFault> {
+    ) -> Result<Repetition, SyntaxFault>
+        requires { IsInUse (view_of self.now.scope) }
+        ensures named { IfOk result (IsVisited (names_of self.now.scope) names.0 names.1 at_most.now.form) }
+        ensures repetition { IfOk result (λ r. IsRepetition (view_of self.now.scope) held r) }
+        ensures depth { OnOk result (self.now.scope.loops < MAX_DEPTH) }
+    {
         self.check_depth(offset)?;
         let (name, parent) = names;
         self.scope.check_new(name)?;
@@ -83,7 +125,18 @@ impl Lowering {
     }
 
     /// Enters the body of a loop and declares the loop's names. `start` holds as a turn begins; the result holds in the body.
-    pub fn begin(&mut self, repetition: &Repetition, start: Held) -> Result<Held, SyntaxFault> {
+    pub fn begin(&mut self, repetition: &Repetition, start: Held) -> Result<Held, SyntaxFault>
+        requires at { IsAt (view_of self.old.scope) start }
+        requires repetition { IsRepetition (view_of self.old.scope) start repetition.now }
+        requires depth { self.old.scope.loops < MAX_DEPTH }
+        ensures named { OnOk result (names_of self.new.scope ≡ names_within (names_of self.old.scope) repetition.now) }
+        ensures at { IfOk result (λ inside. IsAt (view_of self.new.scope) inside) }
+        ensures held { IfOk result (λ inside. nodes_of inside ≡ begun repetition.now (nodes_of start)) }
+        ensures values { OnOk result (self.new.scope.values ≡ more_in repetition.now self.old.scope.values) }
+        ensures nodes { OnOk result (self.new.scope.nodes ≡ more_in repetition.now self.old.scope.nodes) }
+        ensures loops { OnOk result (self.new.scope.loops ≡ self.old.scope.loops + 1) }
+        ensures extends { OnOk result ((outer : View) → Extends outer (view_of self.old.scope) → Extends outer (view_of self.new.scope)) }
+    {
         self.scope.loops = self.scope.loops.saturating_add(1);
         let Repetition::Children(visit) = repetition else {
             return Ok(start);
@@ -94,14 +147,17 @@ impl Lowering {
     }
 
     /// 283 if a turn that begins with `start` changes which nodes are held, or enters the tree.
-    pub fn check_turn(&self, flow: Flow, start: Held, offset: usize) -> Result<Flow, SyntaxFault> {
-        let after = flow.after.map(|after| after.keeping(start.nodes));
-        if let Some(after) = after {
+    pub fn check_turn(&self, flow: Flow, start: Held, offset: usize) -> Result<Flow, SyntaxFault>
+        ensures paths { IfOk result (λ f. paths_of f ≡ record (paths_of flow) { after = keeping (nodes_of start) (paths_of flow).after }) }
+        ensures kept { IfOk result (λ f. IfSome (paths_of f).after (λ h. h ≡ nodes_of start)) }
+    {
+        let flow = flow.keeping(start.nodes);
+        if let Some(after) = flow.after {
             if after.nodes != start.nodes || (after.is_entered && !start.is_entered) {
                 return Err(SyntaxFault::at(Wrong::LoopChanges, offset));
             }
         }
-        Ok(Flow { after, ..flow })
+        Ok(flow)
     }
 
     /// A loop with its body. `start` holds as a turn begins, `held` as the loop begins.
@@ -111,39 +167,40 @@ impl Lowering {
         lowered: Lowered,
         start: Held,
         held: Held,
-    ) -> Result<Lowered, SyntaxFault> {
+    ) -> Result<Lowered, SyntaxFault>
+        requires at { IsAt (view_of self.now.scope) held }
+        requires start { nodes_of start ≡ nodes_of held }
+        requires repetition { IsRepetition (view_of self.now.scope) held repetition }
+        requires turn { IsTurn self.now.scope.values self.now.scope.nodes (nodes_of held) repetition lowered.0 lowered.1 }
+        ensures named { IfOk result (λ l. IsTurning lowered.0 repetition l.0) }
+        ensures lowered { IfOk result (λ l. IsLowered (view_of self.now.scope) held l.0 l.1) }
+    {
         let (body, flow) = lowered;
         let turned = join(flow.after, flow.breaks);
-        let (statement, after, fails) = match repetition {
+        match repetition {
             Repetition::Times(turns) => {
-                (
-                    Statement::Repeat(turns, self.boxed(body)?),
-                    turned,
-                    flow.fails,
-                )
+                let whole = Statement::Repeat(turns, self.boxed(body)?);
+                Ok((whole, leaving(turned, flow.fails, held)))
             }
-            Repetition::UpTo(number, turns) => (
-                Statement::RepeatUpTo(number, turns, self.boxed(body)?),
-                join(Some(held), turned),
-                join(Some(held), flow.fails),
-            ),
-            Repetition::Children(visit) => (
-                self.visiting(visit, body)?,
-                join(Some(start), turned).map(|after| after.visiting(visit.parent)),
-                join(Some(start), flow.fails),
-            ),
-        };
-        let flow = Flow {
-            after: after.map(|after| after.keeping(held.nodes)),
-            fails,
-            breaks: None,
-        };
-        Ok((statement, flow))
+            Repetition::UpTo(number, turns) => {
+                let whole = Statement::RepeatUpTo(number, turns, self.boxed(body)?);
+                let after = join(Some(held), turned);
+                Ok((whole, leaving(after, join(Some(held), flow.fails), held)))
+            }
+            Repetition::Children(visit) => {
+                let whole = self.visiting(visit, body)?;
+                let after = visited(join(Some(start), turned), visit.parent);
+                Ok((whole, leaving(after, join(Some(start), flow.fails), held)))
+            }
+        }
     }
 
     // The children are counted first; if there are too many, the loop fails. Then they are locked one after another until none is
     // left.
-    fn visiting(&self, visit: Visit, body: Statement) -> Result<Statement, SyntaxFault> {
+    fn visiting(&self, visit: Visit, body: Statement) -> Result<Statement, SyntaxFault>
+        ensures named { IfOk result (IsVisiting visit.index visit.child visit.parent visit.turns body) }
+        ensures walk { (held : Held) (in_loop : Bool) → IsAt (view_of self.now.scope) held → IsVisit (view_of self.now.scope) held visit → IsBody self.now.scope.values self.now.scope.nodes (nodes_of held) (Repetition.Children visit) body → IfOk result (λ s. IsWalk self.now.scope.values self.now.scope.nodes (nodes_of held) in_loop visit.child body s) }
+    {
         let most = Expression::Constant(i32::from(visit.turns));
         let many = Condition::Greater(Expression::Children(visit.parent), most);
         let fits = negated(self.alloc, many)?;

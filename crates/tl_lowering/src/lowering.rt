@@ -1,8 +1,26 @@
 // Blocks and the statements that have blocks, with registers in place of names.
 
+ghost use Rattle.std.specs.Prelude.{◌≡◌, ◌+◌, ◌<◌, ◌≤◌, IfOk, OnOk, IfSome, take, drop, List, Some, false};
+ghost use Rattle.std.specs.Vec.Iter.{into_iter_items, into_iter_len};
+ghost use Rattle.tl_budget.specs.declared.limits.TheConstants.{MAX_DEPTH};
+ghost use Rattle.tl_lowering.specs.Blocks.{IsSequence, IsSame, IsPair, IsAttempt, IsBinding, IsClosing, Closes, IsSoundAt, AreAlike, AreFree, Reached, then_of, binding_paths, values_with, nodes_with};
+ghost use Rattle.tl_lowering.specs.Choosing.{IsEntered, names_behind, IsChosen, IsLoop};
+ghost use Rattle.tl_lowering.specs.Drafts.{opens, IsOpening, IsHeadOf, IsElse, IsElseOf, other_of, Opens, Binds, Encloses, Becomes, IsFinished, IsExtended, IsHandled};
+ghost use Rattle.tl_lowering.specs.Names.{names_of};
+ghost use Rattle.tl_lowering.specs.Naming.{IsThen, Joins};
+ghost use Rattle.tl_lowering.specs.Reading.{IsAtOffset, IsTried, IsBlock, AreStatements, IsStatement};
+ghost use Rattle.tl_lowering.specs.Lowering.{IsHead, IsEntrance, IsInside, IsRefusal, IsDraft, behind_draft, entered, nodes_in};
+ghost use Rattle.tl_lowering.specs.Paths.{nodes_of, outcomes, paths_of};
+ghost use Rattle.tl_lowering.specs.Repeating.{IsRepetition};
+ghost use Rattle.tl_lowering.specs.Scopes.{View, view_of, IsAt, IsLowered, Extends, is_in_loop};
+ghost use Rattle.tl_lowering.specs.Sets.{Nodes};
+ghost use Rattle.tl_lowering.specs.declared.program.Statement.{Statement as CoreStatement};
+ghost use Rattle.tl_syntax.specs.declared.parsed.Statement.{Statement as TextStatement};
+ghost use Rattle.tl_syntax.specs.declared.parsed.StatementForm.{StatementForm as TextForm};
+
 use crate::loops::Repetition;
 use crate::naming::{Locking, asked};
-use crate::paths::{Flow, Held, join};
+use crate::paths::{Flow, Held};
 use crate::program::{Condition, Expression, Place, Statement};
 use crate::scope::Scope;
 use crate::values::may_fail;
@@ -60,27 +78,52 @@ enum Entrance {
     Lock(Locking),
 }
 
+// A missing `else` fails.
+fn refused(otherwise: Option<Lowered>, held: Held) -> Lowered
+    ensures named { result.0 ≡ other_of otherwise }
+    ensures refusal { (scope : View) → IfSome otherwise (λ l. IsRefusal scope held l.0 l.1) → IsRefusal scope held result.0 result.1 }
+{
+    match otherwise {
+        None => (Statement::Fail, Flow::NOWHERE.failing(held)),
+        Some(otherwise) => otherwise,
+    }
+}
+
 impl Lowering {
-    pub fn boxed(&self, statement: Statement) -> Result<Box<Statement>, SyntaxFault> {
+    pub fn boxed(&self, statement: Statement) -> Result<Box<Statement>, SyntaxFault>
+        ensures { IfOk result (λ b. b.value ≡ statement) }
+    {
         Ok(Box::new(self.alloc, statement)?)
     }
 
-    fn at(&self, offset: usize, statement: Statement) -> Result<Statement, SyntaxFault> {
+    fn at(&self, offset: usize, statement: Statement) -> Result<Statement, SyntaxFault>
+        ensures named { IfOk result (IsAtOffset offset statement) }
+        ensures same { IfOk result (λ s. IsSame s statement) }
+    {
         Ok(Statement::At(offset, self.boxed(statement)?))
     }
 
     /// The statements one after another. The sequence is halved repeatedly, so that no statement is deeply nested.
-    pub fn sequence(&self, statements: Vec<Statement>) -> Result<Statement, SyntaxFault> {
+    pub fn sequence(&self, statements: Vec<Statement>) -> Result<Statement, SyntaxFault>
+        ensures named { IfOk result (λ s. Joins s statements.items) }
+        ensures sequence { IfOk result (λ s. IsSequence s statements.items) }
+    {
         let count = statements.len();
+        if count == 0 {
+            return Ok(Statement::Skip);
+        }
         let mut rest = statements.into_iter();
         self.joined(&mut rest, count)
     }
 
-    fn joined(
-        &self,
-        rest: &mut IntoIter<Statement>,
-        count: usize,
-    ) -> Result<Statement, SyntaxFault> {
+    fn joined(&self, rest: &mut IntoIter<Statement>, count: usize) -> Result<Statement, SyntaxFault>
+        requires some { 0 < count }
+        requires fits { count ≤ into_iter_len rest.old }
+        ensures named { IfOk result (λ s. Joins s (take count (into_iter_items rest.old))) }
+        ensures whole { IfOk result (λ s. IsSequence s (take count (into_iter_items rest.old))) }
+        ensures rest { OnOk result (into_iter_items rest.new ≡ drop count (into_iter_items rest.old)) }
+        ensures len { OnOk result (into_iter_len rest.new + count ≡ into_iter_len rest.old) }
+    {
         if count < 2 {
             return Ok(rest.next().unwrap_or(Statement::Skip));
         }
@@ -90,41 +133,63 @@ impl Lowering {
         self.then(first, second)
     }
 
-    pub fn then(&self, first: Statement, second: Statement) -> Result<Statement, SyntaxFault> {
+    pub fn then(&self, first: Statement, second: Statement) -> Result<Statement, SyntaxFault>
+        ensures named { IfOk result (IsThen first second) }
+        ensures pair { IfOk result (λ s. IsPair s first second) }
+    {
         let first = self.boxed(first)?;
         let second = self.boxed(second)?;
         Ok(Statement::Sequence(first, second))
     }
 
-    fn attempt(&self, body: Statement, handler: Statement) -> Result<Statement, SyntaxFault> {
+    fn attempt(&self, body: Statement, handler: Statement) -> Result<Statement, SyntaxFault>
+        ensures named { IfOk result (IsTried body handler) }
+        ensures attempt { IfOk result (λ s. IsAttempt s body handler) }
+    {
         let body = self.boxed(body)?;
         let handler = self.boxed(handler)?;
         Ok(Statement::Try(body, handler))
     }
 
     // A declaration with the rest of its block.
-    fn closed(&self, opened: Opened, rest: Statement) -> Result<Statement, SyntaxFault> {
+    fn wrapped(&self, binding: Binding, rest: Statement) -> Result<Statement, SyntaxFault>
+        ensures named { IfOk result (Binds binding rest) }
+        ensures closing { IfOk result (λ s. IsClosing binding rest s) }
+    {
+        let rest = self.boxed(rest)?;
+        match binding {
+            Binding::Value(register, number) => Ok(Statement::Let(register, number, rest)),
+            Binding::ValueElse(register, number, otherwise) => {
+                let otherwise = self.boxed(otherwise)?;
+                Ok(Statement::LetElse(register, number, rest, otherwise))
+            }
+            Binding::Nodes(place, otherwise) => {
+                let otherwise = self.boxed(otherwise)?;
+                Ok(Statement::Lock(place, rest, otherwise))
+            }
+        }
+    }
+
+    // The same, behind what the block does before it.
+    fn closed(&self, opened: Opened, rest: Statement) -> Result<Statement, SyntaxFault>
+        ensures named { IfOk result (Encloses opened rest) }
+        ensures closes { IfOk result (λ s. Closes opened rest s) }
+    {
         let Opened {
             binding,
             offset,
             mut earlier,
         } = opened;
-        let rest = self.boxed(rest)?;
-        let statement = match binding {
-            Binding::Value(register, number) => Statement::Let(register, number, rest),
-            Binding::ValueElse(register, number, otherwise) => {
-                Statement::LetElse(register, number, rest, self.boxed(otherwise)?)
-            }
-            Binding::Nodes(place, otherwise) => {
-                Statement::Lock(place, rest, self.boxed(otherwise)?)
-            }
-        };
-        earlier.push(self.at(offset, statement)?)?;
+        let whole = self.wrapped(binding, rest)?;
+        earlier.push(self.at(offset, whole)?)?;
         self.sequence(earlier)
     }
 
     // The complete block.
-    fn finished(&self, draft: Draft) -> Result<Statement, SyntaxFault> {
+    fn finished(&self, draft: Draft) -> Result<Statement, SyntaxFault>
+        ensures named { IfOk result (IsFinished draft) }
+        ensures order { (start : Reached) (scope : View) (outer : Nodes) → IsDraft start draft scope → AreFree start.nodes outer → IfOk result (λ s. AreAlike outer (then_of start.paths (outcomes s)) (behind_draft start draft) × IsSoundAt s start (is_in_loop scope)) }
+    {
         let Draft {
             mut opened,
             statements,
@@ -143,7 +208,12 @@ impl Lowering {
         &mut self,
         statements: &[parsed::Statement],
         held: Held,
-    ) -> Result<Lowered, SyntaxFault> {
+    ) -> Result<Lowered, SyntaxFault>
+        requires { IsAt (view_of self.old.scope) held }
+        ensures scope { OnOk result (view_of self.new.scope ≡ view_of self.old.scope) }
+        ensures named { IfOk result (λ l. IsBlock (names_of self.old.scope) statements.now l.0) }
+        ensures lowered { IfOk result (λ l. IsLowered (view_of self.old.scope) held l.0 l.1) }
+    {
         let mark = self.scope.mark();
         let mut draft = Draft {
             opened: Vec::new(self.alloc),
@@ -155,32 +225,28 @@ impl Lowering {
                 return Err(SyntaxFault::at(Wrong::Unreached, statement.offset));
             };
             let flow = self.extend(&mut draft, statement, held_here)?;
-            draft.flow = Flow {
-                after: flow.after,
-                fails: join(draft.flow.fails, flow.fails),
-                breaks: join(draft.flow.breaks, flow.breaks),
-            };
+            draft.flow = draft.flow.then(flow);
         }
         self.scope.return_to(mark);
-        let flow = draft.flow;
-        let kept = flow.after.map(|after| after.keeping(held.nodes));
-        let flow = Flow {
-            after: kept,
-            ..flow
-        };
+        let flow = draft.flow.keeping(held.nodes);
         Ok((self.finished(draft)?, flow))
     }
 
     // What a `let` or a `lock` declares, before its `else` is read. None for any other statement.
-    fn head(&self, form: &StatementForm, held: Held) -> Result<Option<Head>, SyntaxFault> {
-        match form {
-            StatementForm::Act(Action::Let { name, value }, _) => {
+    fn head(&self, form: &StatementForm, held: Held) -> Result<Option<Head>, SyntaxFault>
+        requires { IsAt (view_of self.now.scope) held }
+        ensures named { IfOk result (IsHeadOf (names_of self.now.scope) form.now) }
+        ensures head { IfOk result (λ head. IfSome head (IsHead (view_of self.now.scope) held)) }
+    {
+        let StatementForm::Act(action, _) = form else {
+            return Ok(None);
+        };
+        match action {
+            Action::Let { name, value } => {
                 let (register, number) = self.new_value(*name, value, held)?;
                 Ok(Some(Head::Value(*name, register, number)))
             }
-            StatementForm::Act(Action::Lock(place), _) => {
-                Ok(Some(Head::Nodes(self.place(place, held)?)))
-            }
+            Action::Lock(place) => Ok(Some(Head::Nodes(self.place(place, held)?))),
             _ => Ok(None),
         }
     }
@@ -191,7 +257,19 @@ impl Lowering {
         head: Head,
         otherwise: Option<Lowered>,
         held: Held,
-    ) -> Result<(Binding, Flow), SyntaxFault> {
+    ) -> Result<(Binding, Flow), SyntaxFault>
+        requires at { IsAt (view_of self.old.scope) held }
+        requires head { IsHead (view_of self.old.scope) held head }
+        requires otherwise { IfSome otherwise (λ l. IsRefusal (view_of self.old.scope) held l.0 l.1) }
+        ensures named { (form : TextForm) → IsOpening (names_of self.old.scope) form head → IsElse (names_of self.old.scope) form otherwise → IfOk result (λ b. Opens (names_of self.old.scope) form b.0 (names_of self.new.scope)) }
+        ensures binding { IfOk result (λ b. IsBinding b.0 self.old.scope.values self.old.scope.nodes (nodes_of held) (is_in_loop (view_of self.old.scope))) }
+        ensures paths { IfOk result (λ b. paths_of b.1 ≡ binding_paths b.0 (nodes_of held)) }
+        ensures at { IfOk result (λ b. IfSome b.1.after (IsAt (view_of self.new.scope))) }
+        ensures values { IfOk result (λ b. self.new.scope.values ≡ values_with b.0 self.old.scope.values) }
+        ensures nodes { IfOk result (λ b. self.new.scope.nodes ≡ nodes_with b.0 self.old.scope.nodes) }
+        ensures loops { OnOk result (self.new.scope.loops ≡ self.old.scope.loops) }
+        ensures extends { OnOk result ((outer : View) → Extends outer (view_of self.old.scope) → Extends outer (view_of self.new.scope)) }
+    {
         match head {
             Head::Value(name, register, number) => {
                 self.scope.declare_value(name, register)?;
@@ -204,10 +282,7 @@ impl Lowering {
             }
             Head::Nodes(locking) => {
                 self.declare(&locking)?;
-                let (statement, flow) = match otherwise {
-                    None => (Statement::Fail, Flow::NOWHERE.failing(held)),
-                    Some(otherwise) => otherwise,
-                };
+                let (statement, flow) = refused(otherwise, held);
                 let flow = flow.going_on(locking.held);
                 Ok((Binding::Nodes(locking.place, statement), flow))
             }
@@ -216,12 +291,16 @@ impl Lowering {
 
     // The `else` of a declaration. 286 if control can reach its end.
     #[cycle(lowering)]
-    fn refusal(
-        &mut self,
-        form: &StatementForm,
-        held: Held,
-    ) -> Result<Option<Lowered>, SyntaxFault> {
-        let StatementForm::Act(_, Some(otherwise)) = form else {
+    fn refusal(&mut self, form: &StatementForm, held: Held) -> Result<Option<Lowered>, SyntaxFault>
+        requires { IsAt (view_of self.old.scope) held }
+        ensures scope { OnOk result (view_of self.new.scope ≡ view_of self.old.scope) }
+        ensures named { IfOk result (IsElseOf (names_of self.old.scope) form.now) }
+        ensures refusal { IfOk result (λ o. IfSome o (λ l. IsRefusal (view_of self.old.scope) held l.0 l.1)) }
+    {
+        let StatementForm::Act(_, otherwise) = form else {
+            return Ok(None);
+        };
+        let Some(otherwise) = otherwise else {
             return Ok(None);
         };
         let (statement, flow) = self.block(&otherwise.body, held)?;
@@ -238,7 +317,16 @@ impl Lowering {
         draft: &mut Draft,
         statement: &parsed::Statement,
         held: Held,
-    ) -> Result<Flow, SyntaxFault> {
+    ) -> Result<Flow, SyntaxFault>
+        requires { IsAt (view_of self.old.scope) held }
+        ensures named { OnOk result ((rest : List TextStatement) (items all : List CoreStatement) → AreStatements (names_of self.new.scope) rest items → Becomes draft.new items all → IsExtended (names_of self.old.scope) statement.now rest draft.old all) }
+        ensures draft { (start : Reached) → IsDraft start draft.old (view_of self.old.scope) → (behind_draft start draft.old).after ≡ Some (nodes_of held) → OnOk result (IsDraft start draft.new (view_of self.new.scope)) }
+        ensures paths { (start : Reached) → (behind_draft start draft.old).after ≡ Some (nodes_of held) → IfOk result (λ f. behind_draft start draft.new ≡ then_of (behind_draft start draft.old) (λ h. paths_of f)) }
+        ensures flow { OnOk result (draft.new.flow ≡ draft.old.flow) }
+        ensures at { IfOk result (λ f. IfSome f.after (IsAt (view_of self.new.scope))) }
+        ensures loops { OnOk result (self.new.scope.loops ≡ self.old.scope.loops) }
+        ensures extends { OnOk result ((outer : View) → Extends outer (view_of self.old.scope) → Extends outer (view_of self.new.scope)) }
+    {
         let offset = statement.offset;
         let Some(head) = self.head(&statement.form, held)? else {
             let (lowered, flow) = self.statement(&statement.form, offset, held)?;
@@ -263,12 +351,19 @@ impl Lowering {
         form: &StatementForm,
         offset: usize,
         held: Held,
-    ) -> Result<Lowered, SyntaxFault> {
+    ) -> Result<Lowered, SyntaxFault>
+        requires { IsAt (view_of self.old.scope) held }
+        ensures scope { OnOk result (view_of self.new.scope ≡ view_of self.old.scope) }
+        ensures named { IfOk result (λ l. opens form.now ≡ false → IsStatement (names_of self.old.scope) form.now l.0) }
+        ensures lowered { IfOk result (λ l. IsLowered (view_of self.old.scope) held l.0 l.1) }
+    {
         match form {
-            StatementForm::Act(action, None) => self.action(action, offset, held),
-            StatementForm::Act(action, Some(otherwise)) => {
+            StatementForm::Act(action, otherwise) => {
                 let lowered = self.action(action, offset, held)?;
-                self.handled(lowered, &otherwise.body, held)
+                match otherwise {
+                    None => Ok(lowered),
+                    Some(otherwise) => self.handled(lowered, &otherwise.body, held),
+                }
             }
             StatementForm::Try(body, handler) => {
                 let lowered = self.block(body, held)?;
@@ -307,14 +402,24 @@ impl Lowering {
         lowered: Lowered,
         handler: &[parsed::Statement],
         held: Held,
-    ) -> Result<Lowered, SyntaxFault> {
+    ) -> Result<Lowered, SyntaxFault>
+        requires at { IsAt (view_of self.old.scope) held }
+        requires lowered { IsLowered (view_of self.old.scope) held lowered.0 lowered.1 }
+        ensures scope { OnOk result (view_of self.new.scope ≡ view_of self.old.scope) }
+        ensures named { IfOk result (λ l. IsHandled (names_of self.old.scope) lowered.0 handler.now l.0) }
+        ensures lowered { IfOk result (λ l. IsLowered (view_of self.old.scope) held l.0 l.1) }
+    {
         let (statement, flow) = lowered;
         let (handler, other) = self.block(handler, flow.handled(held))?;
         let attempt = self.attempt(statement, handler)?;
         Ok((attempt, flow.handled_by(other)))
     }
 
-    fn entrance(&self, question: &Question, held: Held) -> Result<Entrance, SyntaxFault> {
+    fn entrance(&self, question: &Question, held: Held) -> Result<Entrance, SyntaxFault>
+        requires { IsAt (view_of self.now.scope) held }
+        ensures named { IfOk result (IsEntered (names_of self.now.scope) question.now) }
+        ensures entrance { IfOk result (IsEntrance (view_of self.now.scope) held) }
+    {
         match question {
             Question::Condition(condition) => {
                 let condition = self.scope.condition(self.alloc, condition, held)?;
@@ -325,7 +430,17 @@ impl Lowering {
     }
 
     // Enters the first block of an `if` and declares its names. The result holds in that block.
-    fn enter(&mut self, entrance: &Entrance, held: Held) -> Result<Held, SyntaxFault> {
+    fn enter(&mut self, entrance: &Entrance, held: Held) -> Result<Held, SyntaxFault>
+        requires at { IsAt (view_of self.old.scope) held }
+        requires entrance { IsEntrance (view_of self.old.scope) held entrance.now }
+        ensures named { OnOk result (names_of self.new.scope ≡ names_behind (names_of self.old.scope) entrance.now) }
+        ensures at { IfOk result (λ inside. IsAt (view_of self.new.scope) inside) }
+        ensures held { IfOk result (λ inside. nodes_of inside ≡ entered entrance.now (nodes_of held)) }
+        ensures values { OnOk result (self.new.scope.values ≡ self.old.scope.values) }
+        ensures nodes { OnOk result (self.new.scope.nodes ≡ nodes_in entrance.now self.old.scope.nodes) }
+        ensures loops { OnOk result (self.new.scope.loops ≡ self.old.scope.loops) }
+        ensures extends { OnOk result ((outer : View) → Extends outer (view_of self.old.scope) → Extends outer (view_of self.new.scope)) }
+    {
         match entrance {
             Entrance::Condition(_) => Ok(held),
             Entrance::Lock(locking) => {
@@ -342,7 +457,14 @@ impl Lowering {
         first: Lowered,
         second: Lowered,
         held: Held,
-    ) -> Result<Lowered, SyntaxFault> {
+    ) -> Result<Lowered, SyntaxFault>
+        requires at { IsAt (view_of self.now.scope) held }
+        requires entrance { IsEntrance (view_of self.now.scope) held entrance }
+        requires first { IsInside (view_of self.now.scope) held entrance first.0 first.1 }
+        requires second { IsLowered (view_of self.now.scope) held second.0 second.1 }
+        ensures named { IfOk result (λ l. IsChosen first.0 second.0 entrance l.0) }
+        ensures lowered { IfOk result (λ l. IsLowered (view_of self.now.scope) held l.0 l.1) }
+    {
         let (first, flow) = first;
         let (second, other) = second;
         let first = self.boxed(first)?;
@@ -353,8 +475,7 @@ impl Lowering {
                 Ok((Statement::If(condition, first, second), flow))
             }
             Entrance::Lock(locking) => {
-                let after = flow.after.map(|after| after.keeping(held.nodes));
-                let flow = Flow { after, ..flow }.or(other);
+                let flow = flow.keeping(held.nodes).or(other);
                 Ok((Statement::Lock(locking.place, first, second), flow))
             }
         }
@@ -367,7 +488,13 @@ impl Lowering {
         entrance: &Entrance,
         body: &[parsed::Statement],
         held: Held,
-    ) -> Result<Lowered, SyntaxFault> {
+    ) -> Result<Lowered, SyntaxFault>
+        requires at { IsAt (view_of self.old.scope) held }
+        requires entrance { IsEntrance (view_of self.old.scope) held entrance.now }
+        ensures scope { OnOk result (view_of self.new.scope ≡ view_of self.old.scope) }
+        ensures named { IfOk result (λ l. IsBlock (names_behind (names_of self.old.scope) entrance.now) body.now l.0) }
+        ensures inside { IfOk result (λ l. IsInside (view_of self.old.scope) held entrance.now l.0 l.1) }
+    {
         let mark = self.scope.mark();
         let inside = self.enter(entrance, held)?;
         let first = self.block(body, inside)?;
@@ -383,7 +510,14 @@ impl Lowering {
         body: &[parsed::Statement],
         offset: usize,
         held: Held,
-    ) -> Result<Lowered, SyntaxFault> {
+    ) -> Result<Lowered, SyntaxFault>
+        requires at { IsAt (view_of self.old.scope) held }
+        requires repetition { IsRepetition (view_of self.old.scope) held repetition }
+        requires depth { self.old.scope.loops < MAX_DEPTH }
+        ensures scope { OnOk result (view_of self.new.scope ≡ view_of self.old.scope) }
+        ensures named { IfOk result (λ l. IsLoop (names_of self.old.scope) repetition body.now l.0) }
+        ensures lowered { IfOk result (λ l. IsLowered (view_of self.old.scope) held l.0 l.1) }
+    {
         let start = held.forgetting(self.scope.descended(body));
         let mark = self.scope.mark();
         let inside = self.begin(&repetition, start)?;

@@ -1,5 +1,18 @@
 // Statements without blocks of their own, with registers in place of names.
 
+ghost use Rattle.std.specs.Prelude.{◌≡◌, ℕ, ◌+◌, false, IfOk, OnOk};
+ghost use Rattle.tl_lowering.specs.Blocks.{nodes_more};
+ghost use Rattle.tl_lowering.specs.Declaring.{IsLocking, IsDeclarable, IsNewValue};
+ghost use Rattle.tl_lowering.specs.Names.{names_of};
+ghost use Rattle.tl_lowering.specs.Naming.{IsNumber, IsChanged, Emits, IsAction, declares, with_locking, Locks};
+ghost use Rattle.tl_lowering.specs.Outcomes.{condition_may_fail as condition_may_fail_lem};
+ghost use Rattle.tl_lowering.specs.Paths.{nodes_of, paths_of, nowhere, failing_if};
+ghost use Rattle.tl_lowering.specs.Scopes.{View, view_of, IsInUse, IsAt, IsLowered, Extends};
+ghost use Rattle.tl_lowering.specs.Sets.{Nodes};
+ghost use Rattle.tl_lowering.specs.Sound.{IsReadable};
+ghost use Rattle.tl_syntax.specs.declared.parsed.Action.TheVariants.{Assign, Write, Require, Descend, Take, Free, Leave as leave_by};
+ghost use Rattle.tl_syntax.specs.declared.parsed.Place.TheVariants.{Node as one_node, Child as one_child, Pair as two_children};
+
 use crate::lowering::{Lowered, Lowering};
 use crate::paths::{Flow, Held};
 use crate::program::{Condition, Expression, Place, Statement};
@@ -27,7 +40,10 @@ impl Lowering {
         old: Expression,
         change: Change,
         operand: Expression,
-    ) -> Result<Expression, SyntaxFault> {
+    ) -> Result<Expression, SyntaxFault>
+        ensures named { IfOk result (IsChanged old change operand) }
+        ensures readable { (values : ℕ) (held : Nodes) → IsReadable values held old → IsReadable values held operand → IfOk result (λ e. IsReadable values held e) }
+    {
         match change {
             Change::Set => Ok(operand),
             Change::Add => calculated(self.alloc, Operator::Add, old, operand),
@@ -41,7 +57,11 @@ impl Lowering {
         change: Change,
         value: &parsed::Expression,
         held: Held,
-    ) -> Result<Lowered, SyntaxFault> {
+    ) -> Result<Lowered, SyntaxFault>
+        requires { IsAt (view_of self.now.scope) held }
+        ensures named { IfOk result (λ l. IsAction (names_of self.now.scope) (Assign name change value.now) l.0) }
+        ensures lowered { IfOk result (λ l. IsLowered (view_of self.now.scope) held l.0 l.1) }
+    {
         let register = self.scope.value(name)?;
         let operand = self.scope.number(self.alloc, value, held)?;
         let number = self.changed(Expression::Value(register), change, operand)?;
@@ -57,7 +77,11 @@ impl Lowering {
         change: Change,
         value: &parsed::Expression,
         held: Held,
-    ) -> Result<Lowered, SyntaxFault> {
+    ) -> Result<Lowered, SyntaxFault>
+        requires { IsAt (view_of self.now.scope) held }
+        ensures named { IfOk result (λ l. IsAction (names_of self.now.scope) (Write names.0 names.1 change value.now) l.0) }
+        ensures lowered { IfOk result (λ l. IsLowered (view_of self.now.scope) held l.0 l.1) }
+    {
         let node = self.scope.node(names.0, held)?;
         let field = self.scope.field(names.1)?;
         let operand = self.scope.number(self.alloc, value, held)?;
@@ -68,7 +92,11 @@ impl Lowering {
         Ok((Statement::Write(node, field, number), flow))
     }
 
-    fn emit(&self, values: &[parsed::Expression], held: Held) -> Result<Lowered, SyntaxFault> {
+    fn emit(&self, values: &[parsed::Expression], held: Held) -> Result<Lowered, SyntaxFault>
+        requires { IsAt (view_of self.now.scope) held }
+        ensures named { IfOk result (λ l. Emits (names_of self.now.scope) values.now l.0) }
+        ensures lowered { IfOk result (λ l. IsLowered (view_of self.now.scope) held l.0 l.1) }
+    {
         let mut emits = Vec::new(self.alloc);
         let mut flow = Flow::on(held);
         for value in values {
@@ -79,7 +107,11 @@ impl Lowering {
         Ok((self.sequence(emits)?, flow))
     }
 
-    fn require(&self, condition: &parsed::Expression, held: Held) -> Result<Lowered, SyntaxFault> {
+    fn require(&self, condition: &parsed::Expression, held: Held) -> Result<Lowered, SyntaxFault>
+        requires { IsAt (view_of self.now.scope) held }
+        ensures named { IfOk result (λ l. IsAction (names_of self.now.scope) (Require condition.now) l.0) }
+        ensures lowered { IfOk result (λ l. IsLowered (view_of self.now.scope) held l.0 l.1) }
+    {
         let condition = self.scope.condition(self.alloc, condition, held)?;
         let skip = self.boxed(Statement::Skip)?;
         let fail = self.boxed(Statement::Fail)?;
@@ -87,7 +119,11 @@ impl Lowering {
         Ok((Statement::If(condition, skip, fail), flow))
     }
 
-    fn free(&self, name: Name, held: Held) -> Result<Lowered, SyntaxFault> {
+    fn free(&self, name: Name, held: Held) -> Result<Lowered, SyntaxFault>
+        requires { IsAt (view_of self.now.scope) held }
+        ensures named { IfOk result (λ l. IsAction (names_of self.now.scope) (Free name) l.0) }
+        ensures lowered { IfOk result (λ l. IsLowered (view_of self.now.scope) held l.0 l.1) }
+    {
         let node = self.scope.node(name, held)?;
         Ok((Statement::Free(node), Flow::on(held.without(node))))
     }
@@ -99,7 +135,11 @@ impl Lowering {
         number: &parsed::Expression,
         offset: usize,
         held: Held,
-    ) -> Result<Lowered, SyntaxFault> {
+    ) -> Result<Lowered, SyntaxFault>
+        requires { IsAt (view_of self.now.scope) held }
+        ensures named { IfOk result (λ l. IsAction (names_of self.now.scope) (Descend name number.now) l.0) }
+        ensures lowered { IfOk result (λ l. IsLowered (view_of self.now.scope) held l.0 l.1) }
+    {
         let node = self.scope.node(name, held)?;
         self.scope.next_node(0, offset)?;
         let number = self.scope.operand(self.alloc, number, held)?;
@@ -107,7 +147,11 @@ impl Lowering {
         Ok((Statement::Descend(node, number), flow))
     }
 
-    fn take(&self, name: Name, from: Name, held: Held) -> Result<Lowered, SyntaxFault> {
+    fn take(&self, name: Name, from: Name, held: Held) -> Result<Lowered, SyntaxFault>
+        requires { IsAt (view_of self.now.scope) held }
+        ensures named { IfOk result (λ l. IsAction (names_of self.now.scope) (Take name from) l.0) }
+        ensures lowered { IfOk result (λ l. IsLowered (view_of self.now.scope) held l.0 l.1) }
+    {
         let node = self.scope.node(name, held)?;
         if name.symbol == from.symbol {
             return Err(SyntaxFault::at(Wrong::Kind, from.offset));
@@ -117,10 +161,16 @@ impl Lowering {
         Ok((Statement::Take(node, other), flow))
     }
 
-    fn leave(&self, leave: Leave, offset: usize, held: Held) -> Result<Lowered, SyntaxFault> {
+    fn leave(&self, leave: Leave, offset: usize, held: Held) -> Result<Lowered, SyntaxFault>
+        requires { IsAt (view_of self.now.scope) held }
+        ensures named { IfOk result (λ l. IsAction (names_of self.now.scope) (leave_by leave) l.0) }
+        ensures lowered { IfOk result (λ l. IsLowered (view_of self.now.scope) held l.0 l.1) }
+    {
         match leave {
-            Leave::Break if self.scope.loops == 0 => Err(SyntaxFault::at(Wrong::NoLoop, offset)),
             Leave::Break => {
+                if self.scope.loops == 0 {
+                    return Err(SyntaxFault::at(Wrong::NoLoop, offset));
+                }
                 let flow = Flow {
                     breaks: Some(held),
                     ..Flow::NOWHERE
@@ -133,12 +183,11 @@ impl Lowering {
     }
 
     /// A statement that declares nothing. Its first word stands at the offset.
-    pub fn action(
-        &self,
-        action: &Action,
-        offset: usize,
-        held: Held,
-    ) -> Result<Lowered, SyntaxFault> {
+    pub fn action(&self, action: &Action, offset: usize, held: Held) -> Result<Lowered, SyntaxFault>
+        requires { IsAt (view_of self.now.scope) held }
+        ensures named { IfOk result (λ l. declares action.now ≡ false → IsAction (names_of self.now.scope) action.now l.0) }
+        ensures lowered { IfOk result (λ l. IsLowered (view_of self.now.scope) held l.0 l.1) }
+    {
         match action {
             Action::Assign {
                 name,
@@ -167,7 +216,11 @@ impl Lowering {
         name: Name,
         value: &parsed::Expression,
         held: Held,
-    ) -> Result<(ValueRegister, Expression), SyntaxFault> {
+    ) -> Result<(ValueRegister, Expression), SyntaxFault>
+        requires { IsInUse (view_of self.now.scope) }
+        ensures named { IfOk result (λ v. IsNumber (names_of self.now.scope) value.now.form v.1) }
+        ensures value { IfOk result (λ v. IsNewValue (view_of self.now.scope) held name v.0 v.1) }
+    {
         self.scope.check_new(name)?;
         let register = self.scope.next_value(name.offset)?;
         let number = self.scope.number(self.alloc, value, held)?;
@@ -182,7 +235,11 @@ impl Lowering {
         offset: usize,
         number: &parsed::Expression,
         held: Held,
-    ) -> Result<Locking, SyntaxFault> {
+    ) -> Result<Locking, SyntaxFault>
+        requires { IsAt (view_of self.now.scope) held }
+        ensures named { IfOk result (λ l. Locks (names_of self.now.scope) (one_node name offset number.now) l) }
+        ensures locking { IfOk result (λ l. IsLocking (view_of self.now.scope) held l) }
+    {
         self.scope.check_new(name)?;
         let register = self.scope.next_node(0, name.offset)?;
         if held.is_entered {
@@ -197,7 +254,11 @@ impl Lowering {
         })
     }
 
-    fn child_place(&self, child: &Child, held: Held) -> Result<Locking, SyntaxFault> {
+    fn child_place(&self, child: &Child, held: Held) -> Result<Locking, SyntaxFault>
+        requires { IsAt (view_of self.now.scope) held }
+        ensures named { IfOk result (λ l. Locks (names_of self.now.scope) (one_child child.now) l) }
+        ensures locking { IfOk result (λ l. IsLocking (view_of self.now.scope) held l) }
+    {
         self.scope.check_new(child.name)?;
         let register = self.scope.next_node(0, child.name.offset)?;
         let parent = self.scope.node(child.parent, held)?;
@@ -210,12 +271,11 @@ impl Lowering {
         })
     }
 
-    fn pair_place(
-        &self,
-        first: &Child,
-        second: &Child,
-        held: Held,
-    ) -> Result<Locking, SyntaxFault> {
+    fn pair_place(&self, first: &Child, second: &Child, held: Held) -> Result<Locking, SyntaxFault>
+        requires { IsAt (view_of self.now.scope) held }
+        ensures named { IfOk result (λ l. Locks (names_of self.now.scope) (two_children first.now second.now) l) }
+        ensures locking { IfOk result (λ l. IsLocking (view_of self.now.scope) held l) }
+    {
         self.scope.check_new(first.name)?;
         let register = self.scope.next_node(0, first.name.offset)?;
         let parent = self.scope.node(first.parent, held)?;
@@ -248,7 +308,11 @@ impl Lowering {
     }
 
     /// What is to be locked. 275 to 277, 281, 282, 285, 291 or 292 at the first part that is wrong.
-    pub fn place(&self, place: &parsed::Place, held: Held) -> Result<Locking, SyntaxFault> {
+    pub fn place(&self, place: &parsed::Place, held: Held) -> Result<Locking, SyntaxFault>
+        requires { IsAt (view_of self.now.scope) held }
+        ensures named { IfOk result (λ l. Locks (names_of self.now.scope) place.now l) }
+        ensures locking { IfOk result (λ l. IsLocking (view_of self.now.scope) held l) }
+    {
         match place {
             parsed::Place::Node {
                 name,
@@ -261,7 +325,15 @@ impl Lowering {
     }
 
     /// Declares the names of what was locked.
-    pub fn declare(&mut self, locking: &Locking) -> Result<(), SyntaxFault> {
+    pub fn declare(&mut self, locking: &Locking) -> Result<(), SyntaxFault>
+        requires { IsDeclarable (view_of self.old.scope) locking.now }
+        ensures names { OnOk result (IsInUse (view_of self.old.scope) → IsInUse (view_of self.new.scope)) }
+        ensures values { OnOk result (self.new.scope.values ≡ self.old.scope.values) }
+        ensures nodes { OnOk result (self.new.scope.nodes ≡ nodes_more locking.now.place self.old.scope.nodes) }
+        ensures loops { OnOk result (self.new.scope.loops ≡ self.old.scope.loops) }
+        ensures extends { OnOk result ((outer : View) → Extends outer (view_of self.old.scope) → Extends outer (view_of self.new.scope)) }
+        ensures named { OnOk result (names_of self.new.scope ≡ with_locking (names_of self.old.scope) locking.now) }
+    {
         self.scope.declare_node(locking.first.0, locking.first.1)?;
         if let Some((name, register)) = locking.second {
             self.scope.declare_node(name, register)?;
@@ -271,6 +343,8 @@ impl Lowering {
 }
 
 /// How a condition can fail: only if it contains an operation.
-pub fn asked(condition: &Condition, held: Held) -> Flow {
+pub fn asked(condition: &Condition, held: Held) -> Flow
+    ensures { paths_of result ≡ failing_if (condition_may_fail_lem condition.now) nowhere (nodes_of held) }
+{
     Flow::NOWHERE.failing_if(condition_may_fail(condition), held)
 }

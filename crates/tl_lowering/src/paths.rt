@@ -1,5 +1,11 @@
 // What is known of the paths that lead to a place.
 
+ghost use Rattle.std.specs.Prelude.{◌≡◌, ◌^◌};
+ghost use Rattle.tl_lowering.specs.Sets.{holds, with_node, without_node, both, both_of};
+ghost use Rattle.tl_lowering.specs.Outcomes.{handled_by};
+ghost use Rattle.tl_lowering.specs.Paths.{bits, nodes_of, known, paths_of};
+ghost use Rattle.tl_lowering.specs.Paths.{on as path_on, failing as failing_at, failing_if as failing_there, keeping as keeping_only, either, with_handler};
+
 use tl_instr::NodeRegister;
 
 /// What holds at a place on every path that leads there.
@@ -13,7 +19,9 @@ pub struct Held {
     pub is_entered: bool,
 }
 
-fn bit(register: NodeRegister) -> u8 {
+fn bit(register: NodeRegister) -> u8
+    ensures { result ≡ 2 ^ register }
+{
     1 << register.number()
 }
 
@@ -25,7 +33,9 @@ impl Held {
         is_entered: false,
     };
 
-    pub fn holds(self, register: NodeRegister) -> bool {
+    pub fn holds(self, register: NodeRegister) -> bool
+        ensures { result ≡ holds (nodes_of self) register }
+    {
         self.nodes & bit(register) != 0
     }
 
@@ -34,7 +44,9 @@ impl Held {
     }
 
     /// After the register got a node of which no child was locked.
-    pub fn with(self, register: NodeRegister) -> Held {
+    pub fn with(self, register: NodeRegister) -> Held
+        ensures { nodes_of result ≡ with_node (nodes_of self) register }
+    {
         Held {
             nodes: self.nodes | bit(register),
             visited: self.visited & !bit(register),
@@ -42,7 +54,9 @@ impl Held {
         }
     }
 
-    pub fn without(self, register: NodeRegister) -> Held {
+    pub fn without(self, register: NodeRegister) -> Held
+        ensures { nodes_of result ≡ without_node (nodes_of self) register }
+    {
         Held {
             nodes: self.nodes & !bit(register),
             ..self
@@ -50,7 +64,9 @@ impl Held {
     }
 
     /// After a child of the register's node was locked.
-    pub fn visiting(self, register: NodeRegister) -> Held {
+    pub fn visiting(self, register: NodeRegister) -> Held
+        ensures { nodes_of result ≡ nodes_of self }
+    {
         Held {
             visited: self.visited | bit(register),
             ..self
@@ -58,14 +74,18 @@ impl Held {
     }
 
     /// When it is no longer known whether children of these nodes were locked.
-    pub fn forgetting(self, nodes: u8) -> Held {
+    pub fn forgetting(self, nodes: u8) -> Held
+        ensures { nodes_of result ≡ nodes_of self }
+    {
         Held {
             visited: self.visited & !nodes,
             ..self
         }
     }
 
-    pub fn entered(self) -> Held {
+    pub fn entered(self) -> Held
+        ensures { nodes_of result ≡ nodes_of self }
+    {
         Held {
             is_entered: true,
             ..self
@@ -73,7 +93,9 @@ impl Held {
     }
 
     /// After the first register took over the second one's node.
-    pub fn taking(self, register: NodeRegister, from: NodeRegister) -> Held {
+    pub fn taking(self, register: NodeRegister, from: NodeRegister) -> Held
+        ensures { nodes_of result ≡ without_node (with_node (nodes_of self) register) from }
+    {
         let taken = self.with(register).without(from);
         if self.has_visited(from) {
             taken.visiting(register)
@@ -83,7 +105,9 @@ impl Held {
     }
 
     /// Only these registers keep their nodes.
-    pub fn keeping(self, nodes: u8) -> Held {
+    pub fn keeping(self, nodes: u8) -> Held
+        ensures { nodes_of result ≡ both (nodes_of self) (bits nodes) }
+    {
         Held {
             nodes: self.nodes & nodes,
             ..self
@@ -91,7 +115,9 @@ impl Held {
     }
 
     // What holds on paths of either kind.
-    fn and(self, other: Held) -> Held {
+    fn and(self, other: Held) -> Held
+        ensures { nodes_of result ≡ both (nodes_of self) (nodes_of other) }
+    {
         Held {
             nodes: self.nodes & other.nodes,
             visited: self.visited & other.visited,
@@ -101,7 +127,9 @@ impl Held {
 }
 
 /// What holds where paths join. None stands for no path.
-pub fn join(first: Option<Held>, second: Option<Held>) -> Option<Held> {
+pub fn join(first: Option<Held>, second: Option<Held>) -> Option<Held>
+    ensures { known result ≡ both_of (known first) (known second) }
+{
     match (first, second) {
         (None, other) | (other, None) => other,
         (Some(first), Some(second)) => Some(first.and(second)),
@@ -118,7 +146,9 @@ pub struct Flow {
 
 impl Flow {
     /// On, and nowhere else.
-    pub fn on(held: Held) -> Flow {
+    pub fn on(held: Held) -> Flow
+        ensures { paths_of result ≡ path_on (nodes_of held) }
+    {
         Flow {
             after: Some(held),
             fails: None,
@@ -134,27 +164,56 @@ impl Flow {
     };
 
     /// The statement may also fail, and `held` holds then.
-    pub fn failing(self, held: Held) -> Flow {
+    pub fn failing(self, held: Held) -> Flow
+        ensures { paths_of result ≡ failing_at (paths_of self) (nodes_of held) }
+    {
         Flow {
             fails: join(self.fails, Some(held)),
             ..self
         }
     }
 
-    pub fn failing_if(self, may_fail: bool, held: Held) -> Flow {
+    pub fn failing_if(self, may_fail: bool, held: Held) -> Flow
+        ensures { paths_of result ≡ failing_there may_fail (paths_of self) (nodes_of held) }
+    {
         if may_fail { self.failing(held) } else { self }
     }
 
     /// The statement goes on, and `held` holds then.
-    pub fn going_on(self, held: Held) -> Flow {
+    pub fn going_on(self, held: Held) -> Flow
+        ensures { paths_of result ≡ record (paths_of self) { after = Some (nodes_of held) } }
+    {
         Flow {
             after: Some(held),
             ..self
         }
     }
 
+    /// This statement, and where control goes on the next one.
+    pub fn then(self, next: Flow) -> Flow
+        ensures { paths_of result ≡ record { after = known next.after; fails = both_of (known self.fails) (known next.fails); breaks = both_of (known self.breaks) (known next.breaks) } }
+    {
+        Flow {
+            after: next.after,
+            fails: join(self.fails, next.fails),
+            breaks: join(self.breaks, next.breaks),
+        }
+    }
+
+    /// Behind the statement only these registers keep their nodes.
+    pub fn keeping(self, nodes: u8) -> Flow
+        ensures { paths_of result ≡ record (paths_of self) { after = keeping_only (bits nodes) (paths_of self).after } }
+    {
+        Flow {
+            after: self.after.map(|after| after.keeping(nodes)),
+            ..self
+        }
+    }
+
     /// One statement or the other.
-    pub fn or(self, other: Flow) -> Flow {
+    pub fn or(self, other: Flow) -> Flow
+        ensures { paths_of result ≡ either (paths_of self) (paths_of other) }
+    {
         Flow {
             after: join(self.after, other.after),
             fails: join(self.fails, other.fails),
@@ -164,7 +223,9 @@ impl Flow {
 
     /// What holds as the handler of a statement begins. `start` held when the statement began. If the statement can't fail, its
     /// handler is read as if it failed at once.
-    pub fn handled(self, start: Held) -> Held {
+    pub fn handled(self, start: Held) -> Held
+        ensures { nodes_of result ≡ handled_by (nodes_of start) (known self.fails) }
+    {
         match self.fails {
             Some(fails) => fails.keeping(start.nodes),
             None => start,
@@ -172,7 +233,9 @@ impl Flow {
     }
 
     /// The statement, and the handler of its failure.
-    pub fn handled_by(self, handler: Flow) -> Flow {
+    pub fn handled_by(self, handler: Flow) -> Flow
+        ensures { paths_of result ≡ with_handler (paths_of self) (paths_of handler) }
+    {
         Flow {
             after: join(self.after, handler.after),
             fails: handler.fails,

@@ -1,5 +1,15 @@
 // From a text to the core forms of its procedures.
 
+ghost use Rattle.std.specs.Prelude.{◌≡◌, [], ◌≤◌, IfOk, OnOk};
+ghost use Rattle.std.specs.List.{All};
+ghost use Rattle.tl_lowering.specs.Names.{names_of, with_values};
+ghost use Rattle.tl_lowering.specs.Outcomes.{fails};
+ghost use Rattle.tl_lowering.specs.Reading.{IsBody, IsProcedure, IsWithField, AreDeclared, IsProgram};
+ghost use Rattle.tl_lowering.specs.Scopes.{view_of, IsInUse, IsAt, IsBare, Extends, is_in_loop};
+ghost use Rattle.tl_lowering.specs.Sets.{none_held};
+ghost use Rattle.tl_lowering.specs.Sound.{IsSound, IsInOrder};
+ghost use Rattle.tl_syntax.specs.Tokens.{spellings};
+
 use crate::lowering::Lowering;
 use crate::paths::Held;
 use crate::program::{Procedure, Program, Statement};
@@ -11,7 +21,11 @@ use tl_syntax::parsed::{self, Declaration, Name};
 use tl_syntax::{Syntax, SyntaxFault, Wrong, parse};
 
 impl Lowering {
-    fn declare_field(&mut self, name: Name, number: i32, offset: usize) -> Result<(), SyntaxFault> {
+    fn declare_field(&mut self, name: Name, number: i32, offset: usize) -> Result<(), SyntaxFault>
+        requires { IsBare (view_of self.old.scope) }
+        ensures named { OnOk result (IsWithField (names_of self.old.scope) name number (names_of self.new.scope)) }
+        ensures bare { OnOk result (IsBare (view_of self.new.scope)) }
+    {
         self.scope.check_new_field(name)?;
         match u8::try_from(number).ok().and_then(Field::new) {
             Some(field) => {
@@ -22,7 +36,15 @@ impl Lowering {
         }
     }
 
-    fn declare_arguments(&mut self, names: &[Name]) -> Result<(), SyntaxFault> {
+    fn declare_arguments(&mut self, names: &[Name]) -> Result<(), SyntaxFault>
+        requires { IsBare (view_of self.old.scope) }
+        ensures named { OnOk result (names_of self.new.scope ≡ with_values (names_of self.old.scope) names.now) }
+        ensures names { OnOk result (IsInUse (view_of self.new.scope)) }
+        ensures values { OnOk result (self.new.scope.values ≤ MAX_ARGS) }
+        ensures nodes { OnOk result (self.new.scope.nodes ≡ 0) }
+        ensures loops { OnOk result (self.new.scope.loops ≡ 0) }
+        ensures extends { OnOk result (Extends (view_of self.old.scope) (view_of self.new.scope)) }
+    {
         for name in names {
             self.scope.check_new(*name)?;
             if usize::from(self.scope.values) >= MAX_ARGS {
@@ -35,7 +57,13 @@ impl Lowering {
     }
 
     // The body of a procedure. An absent `else` is an empty block.
-    fn body(&mut self, procedure: &parsed::Procedure) -> Result<Statement, SyntaxFault> {
+    fn body(&mut self, procedure: &parsed::Procedure) -> Result<Statement, SyntaxFault>
+        requires { IsAt (view_of self.old.scope) Held.NOTHING }
+        ensures scope { OnOk result (view_of self.new.scope ≡ view_of self.old.scope) }
+        ensures named { IfOk result (IsBody (names_of self.old.scope) procedure.now) }
+        ensures sound { IfOk result (λ s. IsSound s self.old.scope.values self.old.scope.nodes none_held (is_in_loop (view_of self.old.scope))) }
+        ensures handled { IfOk result (λ s. fails s none_held ≡ []) }
+    {
         let lowered = self.block(&procedure.body, Held::NOTHING)?;
         let (handled, _flow) = self.handled(lowered, &procedure.otherwise, Held::NOTHING)?;
         let handled = self.boxed(handled)?;
@@ -46,7 +74,13 @@ impl Lowering {
         &mut self,
         procedure: &parsed::Procedure,
         names: &IndexSet<&[u8]>,
-    ) -> Result<Procedure, SyntaxFault> {
+    ) -> Result<Procedure, SyntaxFault>
+        requires { IsBare (view_of self.old.scope) }
+        ensures named { IfOk result (IsProcedure (spellings names.now.keys) (names_of self.old.scope) procedure.now) }
+        ensures names { OnOk result (names_of self.new.scope ≡ names_of self.old.scope) }
+        ensures scope { OnOk result (IsBare (view_of self.new.scope)) }
+        ensures procedure { IfOk result IsInOrder }
+    {
         self.scope.declare_procedure(procedure.name)?;
         let mark = self.scope.mark();
         self.declare_arguments(&procedure.arguments)?;
@@ -69,7 +103,11 @@ impl Lowering {
         &mut self,
         declarations: &[Declaration],
         names: &IndexSet<&[u8]>,
-    ) -> Result<Program, SyntaxFault> {
+    ) -> Result<Program, SyntaxFault>
+        requires { IsBare (view_of self.old.scope) }
+        ensures named { IfOk result (λ p. AreDeclared (spellings names.now.keys) (names_of self.old.scope) declarations.now p.procedures.items) }
+        ensures procedures { IfOk result (λ p. All IsInOrder p.procedures.items) }
+    {
         let mut procedures = Vec::new(self.alloc);
         for declaration in declarations {
             match declaration {
@@ -93,7 +131,12 @@ impl Lowering {
 
 /// The procedures of a text, or its first fault: faults of tokens anywhere in the text come first, then those of grammar, then
 /// those of the rules.
-pub fn read(alloc: Global, text: &[u8]) -> Result<Program, SyntaxFault> {
+pub fn read(alloc: Global, text: &[u8]) -> Result<Program, SyntaxFault>
+    // Its procedures are those of the text.
+    ensures named { IfOk result (λ p. IsProgram text.now p.procedures.items) }
+    // They are in order.
+    ensures procedures { IfOk result (λ p. All IsInOrder p.procedures.items) }
+{
     let Syntax {
         declarations,
         names,

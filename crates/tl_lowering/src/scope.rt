@@ -1,5 +1,13 @@
 // What names stand for.
 
+ghost use Rattle.std.specs.Prelude.{◌≡◌, ◌+◌, ◌<◌, length, slice_set, take, drop, true, Some, IfOk, OnOk};
+ghost use Rattle.tl_instr.specs.declared.operand.TheConstants.{VALUE_REGISTERS};
+ghost use Rattle.tl_lowering.specs.declared.scope.Meaning.TheVariants.{Nothing, Value, Node};
+ghost use Rattle.tl_lowering.specs.Names.{names_of, without_meaning, stands_for, field_named, with_constant, with_field, with_unnamed, with_value, with_node};
+ghost use Rattle.tl_lowering.specs.Paths.{nodes_of};
+ghost use Rattle.tl_lowering.specs.Sets.{holds};
+ghost use Rattle.tl_lowering.specs.Scopes.{View, view_of, IsInUse, IsBare, Extends, meaning_of, forget};
+
 use crate::paths::Held;
 use std::alloc::{AllocError, Global};
 use tl_instr::{Field, NodeRegister, ValueRegister};
@@ -41,7 +49,10 @@ pub struct Mark {
 
 impl Scope {
     /// An empty scope for `names` names.
-    pub fn new(alloc: Global, names: usize) -> Result<Scope, AllocError> {
+    pub fn new(alloc: Global, names: usize) -> Result<Scope, AllocError>
+        ensures bare { IfOk result (λ s. IsBare (view_of s)) }
+        ensures named { IfOk result (λ s. names_of s ≡ without_meaning names) }
+    {
         Ok(Scope {
             meanings: vec![in alloc; Meaning::Nothing; names]?,
             fields: vec![in alloc; None; names]?,
@@ -53,39 +64,61 @@ impl Scope {
         })
     }
 
-    fn meaning(&self, name: Name) -> Meaning {
+    fn meaning(&self, name: Name) -> Meaning
+        ensures { result ≡ meaning_of (view_of self.now) name.symbol }
+    {
         match self.meanings.get(name.symbol.0) {
             Some(meaning) => *meaning,
             None => Meaning::Nothing,
         }
     }
 
-    fn set(&mut self, symbol: Symbol, meaning: Meaning) {
+    fn set(&mut self, symbol: Symbol, meaning: Meaning)
+        ensures meanings { self.new.meanings.items ≡ slice_set self.old.meanings.items symbol.0 meaning }
+        ensures fields { self.new.fields.items ≡ self.old.fields.items }
+        ensures local { self.new.local.items ≡ self.old.local.items }
+        ensures values { self.new.values ≡ self.old.values }
+        ensures nodes { self.new.nodes ≡ self.old.nodes }
+        ensures loops { self.new.loops ≡ self.old.loops }
+    {
         if symbol.0 < self.meanings.len() {
             self.meanings[symbol.0] = meaning;
         }
     }
 
     /// 276 if the name is declared already.
-    pub fn check_new(&self, name: Name) -> Result<(), SyntaxFault> {
+    pub fn check_new(&self, name: Name) -> Result<(), SyntaxFault>
+        ensures { OnOk result (meaning_of (view_of self.now) name.symbol ≡ Nothing) }
+    {
         match self.meaning(name) {
             Meaning::Nothing => Ok(()),
             _ => Err(SyntaxFault::at(Wrong::Twice, name.offset)),
         }
     }
 
-    pub fn declare_field(&mut self, name: Name, field: Field) {
+    pub fn declare_field(&mut self, name: Name, field: Field)
+        ensures bare { IsBare (view_of self.old) → IsBare (view_of self.new) }
+        ensures named { names_of self.new ≡ with_field (names_of self.old) name field }
+    {
         if name.symbol.0 < self.fields.len() {
             self.fields[name.symbol.0] = Some(field);
         }
     }
 
-    pub fn declare_constant(&mut self, name: Name, number: i32) {
+    pub fn declare_constant(&mut self, name: Name, number: i32)
+        ensures in_use { IsInUse (view_of self.old) → IsInUse (view_of self.new) }
+        ensures values { self.new.values ≡ self.old.values }
+        ensures nodes { self.new.nodes ≡ self.old.nodes }
+        ensures loops { self.new.loops ≡ self.old.loops }
+        ensures named { names_of self.new ≡ with_constant (names_of self.old) name number }
+    {
         self.set(name.symbol, Meaning::Constant(number));
     }
 
     /// Declares a procedure. 276 if one of that name is declared already.
-    pub fn declare_procedure(&mut self, name: Name) -> Result<(), SyntaxFault> {
+    pub fn declare_procedure(&mut self, name: Name) -> Result<(), SyntaxFault>
+        ensures { view_of self.new ≡ view_of self.old }
+    {
         let index = name.symbol.0;
         if self.is_procedure.get(index) == Some(&true) {
             return Err(SyntaxFault::at(Wrong::Twice, name.offset));
@@ -97,7 +130,9 @@ impl Scope {
     }
 
     /// The register of the next value. 291 at `offset` if there is none.
-    pub fn next_value(&self, offset: usize) -> Result<ValueRegister, SyntaxFault> {
+    pub fn next_value(&self, offset: usize) -> Result<ValueRegister, SyntaxFault>
+        ensures { IfOk result (λ r. r ≡ self.now.values) }
+    {
         match ValueRegister::new(self.values) {
             Some(register) => Ok(register),
             None => Err(SyntaxFault::at(Wrong::Values, offset)),
@@ -105,7 +140,9 @@ impl Scope {
     }
 
     /// The register of the next node after `skipped` others. 292 at `offset` if there is none.
-    pub fn next_node(&self, skipped: u8, offset: usize) -> Result<NodeRegister, SyntaxFault> {
+    pub fn next_node(&self, skipped: u8, offset: usize) -> Result<NodeRegister, SyntaxFault>
+        ensures { IfOk result (λ r. r ≡ self.now.nodes + skipped) }
+    {
         match NodeRegister::new(self.nodes.saturating_add(skipped)) {
             Some(register) => Ok(register),
             None => Err(SyntaxFault::at(Wrong::Nodes, offset)),
@@ -113,11 +150,16 @@ impl Scope {
     }
 
     /// From here on the name stands for a value in `register`, which must be the next one.
-    pub fn declare_value(
-        &mut self,
-        name: Name,
-        register: ValueRegister,
-    ) -> Result<(), SyntaxFault> {
+    pub fn declare_value(&mut self, name: Name, register: ValueRegister) -> Result<(), SyntaxFault>
+        requires { register ≡ self.old.values }
+        ensures in_use { OnOk result (IsInUse (view_of self.old) → IsInUse (view_of self.new)) }
+        ensures values { OnOk result (self.new.values ≡ self.old.values + 1) }
+        ensures nodes { OnOk result (self.new.nodes ≡ self.old.nodes) }
+        ensures fields { OnOk result (self.new.fields.items ≡ self.old.fields.items) }
+        ensures loops { OnOk result (self.new.loops ≡ self.old.loops) }
+        ensures names { OnOk result ((outer : View) → meaning_of (view_of self.old) name.symbol ≡ Nothing → Extends outer (view_of self.old) → Extends outer (view_of self.new)) }
+        ensures named { OnOk result (names_of self.new ≡ with_value (names_of self.old) name) }
+    {
         self.local.push(name.symbol)?;
         self.set(name.symbol, Meaning::Value(register));
         self.add_value();
@@ -125,19 +167,43 @@ impl Scope {
     }
 
     /// Adds a value without a name.
-    pub fn add_value(&mut self) {
+    pub fn add_value(&mut self)
+        requires { self.old.values < VALUE_REGISTERS }
+        ensures in_use { IsInUse (view_of self.old) → IsInUse (view_of self.new) }
+        ensures values { self.new.values ≡ self.old.values + 1 }
+        ensures nodes { self.new.nodes ≡ self.old.nodes }
+        ensures loops { self.new.loops ≡ self.old.loops }
+        ensures meanings { self.new.meanings.items ≡ self.old.meanings.items }
+        ensures fields { self.new.fields.items ≡ self.old.fields.items }
+        ensures local { self.new.local.items ≡ self.old.local.items }
+        ensures named { names_of self.new ≡ with_unnamed (names_of self.old) }
+    {
         self.values = self.values.saturating_add(1);
     }
 
     /// From here on the name owns a node in `register`, which must be the next one.
-    pub fn declare_node(&mut self, name: Name, register: NodeRegister) -> Result<(), SyntaxFault> {
+    pub fn declare_node(&mut self, name: Name, register: NodeRegister) -> Result<(), SyntaxFault>
+        requires { register ≡ self.old.nodes }
+        ensures in_use { OnOk result (IsInUse (view_of self.old) → IsInUse (view_of self.new)) }
+        ensures values { OnOk result (self.new.values ≡ self.old.values) }
+        ensures nodes { OnOk result (self.new.nodes ≡ self.old.nodes + 1) }
+        ensures meanings { OnOk result (self.new.meanings.items ≡ slice_set self.old.meanings.items name.symbol.0 (Node register)) }
+        ensures fields { OnOk result (self.new.fields.items ≡ self.old.fields.items) }
+        ensures loops { OnOk result (self.new.loops ≡ self.old.loops) }
+        ensures names { OnOk result ((outer : View) → meaning_of (view_of self.old) name.symbol ≡ Nothing → Extends outer (view_of self.old) → Extends outer (view_of self.new)) }
+        ensures named { OnOk result (names_of self.new ≡ with_node (names_of self.old) name) }
+    {
         self.local.push(name.symbol)?;
         self.set(name.symbol, Meaning::Node(register));
         self.nodes = self.nodes.saturating_add(1);
         Ok(())
     }
 
-    pub fn mark(&self) -> Mark {
+    pub fn mark(&self) -> Mark
+        ensures local { result.local ≡ length self.now.local.items }
+        ensures values { result.values ≡ self.now.values }
+        ensures nodes { result.nodes ≡ self.now.nodes }
+    {
         Mark {
             local: self.local.len(),
             values: self.values,
@@ -146,8 +212,15 @@ impl Scope {
     }
 
     /// Undoes the declarations since the mark.
-    pub fn return_to(&mut self, mark: Mark) {
-        for _ in mark.local..self.local.len() {
+    pub fn return_to(&mut self, mark: Mark)
+        ensures meanings { self.new.meanings.items ≡ forget (drop mark.local self.old.local.items) self.old.meanings.items }
+        ensures fields { self.new.fields.items ≡ self.old.fields.items }
+        ensures local { self.new.local.items ≡ take mark.local self.old.local.items }
+        ensures values { self.new.values ≡ mark.values }
+        ensures nodes { self.new.nodes ≡ mark.nodes }
+        ensures loops { self.new.loops ≡ self.old.loops }
+    {
+        while self.local.len() > mark.local {
             if let Some(symbol) = self.local.pop() {
                 self.set(symbol, Meaning::Nothing);
             }
@@ -157,7 +230,9 @@ impl Scope {
     }
 
     /// What the name stands for. 275 if it stands for nothing.
-    pub fn known(&self, name: Name) -> Result<Meaning, SyntaxFault> {
+    pub fn known(&self, name: Name) -> Result<Meaning, SyntaxFault>
+        ensures { IfOk result (λ m. m ≡ meaning_of (view_of self.now) name.symbol) }
+    {
         match self.meaning(name) {
             Meaning::Nothing => Err(SyntaxFault::at(Wrong::Unknown, name.offset)),
             meaning => Ok(meaning),
@@ -165,7 +240,10 @@ impl Scope {
     }
 
     /// The register of a value. 275 if the name is unknown, 277 if it isn't a value.
-    pub fn value(&self, name: Name) -> Result<ValueRegister, SyntaxFault> {
+    pub fn value(&self, name: Name) -> Result<ValueRegister, SyntaxFault>
+        ensures in_use { IsInUse (view_of self.now) → IfOk result (λ r. r < self.now.values) }
+        ensures named { IfOk result (λ r. stands_for (names_of self.now) name ≡ Value r) }
+    {
         match self.known(name)? {
             Meaning::Value(register) => Ok(register),
             _ => Err(SyntaxFault::at(Wrong::Kind, name.offset)),
@@ -173,7 +251,10 @@ impl Scope {
     }
 
     /// The register of a held node. 275 if the name is unknown, 277 if it isn't a node, 281 if the node isn't held.
-    pub fn node(&self, name: Name, held: Held) -> Result<NodeRegister, SyntaxFault> {
+    pub fn node(&self, name: Name, held: Held) -> Result<NodeRegister, SyntaxFault>
+        ensures held { IfOk result (λ r. holds (nodes_of held) r ≡ true) }
+        ensures meaning { IfOk result (λ r. meaning_of (view_of self.now) name.symbol ≡ Node r) }
+    {
         match self.known(name)? {
             Meaning::Node(register) if held.holds(register) => Ok(register),
             Meaning::Node(_) => Err(SyntaxFault::at(Wrong::NotHeld, name.offset)),
@@ -190,7 +271,9 @@ impl Scope {
     }
 
     /// The field of that name. 275 if there is none.
-    pub fn field(&self, name: Name) -> Result<Field, SyntaxFault> {
+    pub fn field(&self, name: Name) -> Result<Field, SyntaxFault>
+        ensures { IfOk result (λ f. field_named (names_of self.now) name ≡ Some f) }
+    {
         match self.fields.get(name.symbol.0) {
             Some(Some(field)) => Ok(*field),
             _ => Err(SyntaxFault::at(Wrong::Unknown, name.offset)),

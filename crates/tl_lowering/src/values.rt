@@ -1,5 +1,16 @@
 // Numbers and conditions, with registers in place of names.
 
+ghost use Rattle.std.specs.Prelude.{◌≡◌, ◌≤◌, ℕ, true, IfOk, OnOk};
+ghost use Rattle.tl_instr.specs.declared.operand.TheConstants.{VALUE_REGISTERS};
+ghost use Rattle.tl_lowering.specs.Names.{names_of};
+ghost use Rattle.tl_lowering.specs.Naming.{IsCalculated, IsNumber, IsCount, IsNot, IsBoth, IsComparison, IsCompared, IsCondition};
+ghost use Rattle.tl_lowering.specs.Outcomes.{may_fail as may_fail_lem, condition_may_fail as condition_may_fail_lem};
+ghost use Rattle.tl_lowering.specs.Paths.{nodes_of};
+ghost use Rattle.tl_lowering.specs.Scopes.{view_of, IsInUse};
+ghost use Rattle.tl_lowering.specs.Sets.{Nodes};
+ghost use Rattle.tl_lowering.specs.Sound.{IsReadable, IsTestable};
+ghost use Rattle.tl_syntax.specs.declared.parsed.Form.TheVariants.{Named};
+
 use crate::paths::Held;
 use crate::program::{Condition, Expression};
 use crate::scope::{Meaning, Scope};
@@ -9,12 +20,16 @@ use tl_syntax::parsed::{self, Comparison, Form, Name};
 use tl_syntax::{Operator, SyntaxFault, Wrong};
 
 /// Whether the expression is an operation, which may fail.
-pub fn may_fail(expression: &Expression) -> bool {
+pub fn may_fail(expression: &Expression) -> bool
+    ensures { result ≡ may_fail_lem expression.now }
+{
     matches!(*expression, Expression::Calculated(_, _, _))
 }
 
 /// Whether the condition contains an operation, which may fail.
-pub fn condition_may_fail(condition: &Condition) -> bool {
+pub fn condition_may_fail(condition: &Condition) -> bool
+    ensures { result ≡ condition_may_fail_lem condition.now }
+{
     match condition {
         Condition::Less(left, right)
         | Condition::Greater(left, right)
@@ -51,7 +66,9 @@ pub fn registers_for(expression: &Expression, free: usize) -> usize {
 }
 
 /// 291 at `offset` if there are fewer than `needed` registers.
-pub fn check_registers(needed: usize, offset: usize) -> Result<(), SyntaxFault> {
+pub fn check_registers(needed: usize, offset: usize) -> Result<(), SyntaxFault>
+    ensures { OnOk result (needed ≤ VALUE_REGISTERS) }
+{
     if needed > VALUE_REGISTERS {
         return Err(SyntaxFault::at(Wrong::Values, offset));
     }
@@ -64,17 +81,28 @@ pub fn calculated(
     operator: Operator,
     left: Expression,
     right: Expression,
-) -> Result<Expression, SyntaxFault> {
+) -> Result<Expression, SyntaxFault>
+    ensures readable { (values : ℕ) (held : Nodes) → IsReadable values held left → IsReadable values held right → IfOk result (λ e. IsReadable values held e) }
+    ensures fails { IfOk result (λ e. may_fail_lem e ≡ true) }
+    ensures named { IfOk result (IsCalculated operator left right) }
+{
     let left = Box::new(alloc, left)?;
     let right = Box::new(alloc, right)?;
     Ok(Expression::Calculated(operator, left, right))
 }
 
-pub fn negated(alloc: Global, condition: Condition) -> Result<Condition, SyntaxFault> {
+pub fn negated(alloc: Global, condition: Condition) -> Result<Condition, SyntaxFault>
+    ensures testable { (values : ℕ) (held : Nodes) → IsTestable values held condition → IfOk result (λ c. IsTestable values held c) }
+    ensures fails { IfOk result (λ c. condition_may_fail_lem c ≡ condition_may_fail_lem condition) }
+    ensures named { IfOk result (IsNot condition) }
+{
     Ok(Condition::Not(Box::new(alloc, condition)?))
 }
 
-fn both(alloc: Global, first: Condition, second: Condition) -> Result<Condition, SyntaxFault> {
+fn both(alloc: Global, first: Condition, second: Condition) -> Result<Condition, SyntaxFault>
+    ensures named { IfOk result (IsBoth first second) }
+    ensures testable { (values : ℕ) (held : Nodes) → IsTestable values held first → IsTestable values held second → IfOk result (λ c. IsTestable values held c) }
+{
     let first = Box::new(alloc, first)?;
     let second = Box::new(alloc, second)?;
     Ok(Condition::And(first, second))
@@ -85,7 +113,10 @@ fn compared(
     comparison: Comparison,
     left: Expression,
     right: Expression,
-) -> Result<Condition, SyntaxFault> {
+) -> Result<Condition, SyntaxFault>
+    ensures named { IfOk result (IsComparison comparison left right) }
+    ensures testable { (values : ℕ) (held : Nodes) → IsReadable values held left → IsReadable values held right → IfOk result (λ c. IsTestable values held c) }
+{
     match comparison {
         Comparison::Less => Ok(Condition::Less(left, right)),
         Comparison::LessOrEqual => negated(alloc, Condition::Greater(left, right)),
@@ -98,7 +129,11 @@ fn compared(
 
 impl Scope {
     // The number that a name stands for.
-    fn named(&self, name: Name, offset: usize) -> Result<Expression, SyntaxFault> {
+    fn named(&self, name: Name, offset: usize) -> Result<Expression, SyntaxFault>
+        requires { IsInUse (view_of self.now) }
+        ensures named { IfOk result (IsNumber (names_of self.now) (Named name)) }
+        ensures readable { (held : Nodes) → IfOk result (λ e. IsReadable self.now.values held e) }
+    {
         match self.known(name)? {
             Meaning::Constant(number) => Ok(Expression::Constant(number)),
             Meaning::Value(register) => Ok(Expression::Value(register)),
@@ -112,7 +147,11 @@ impl Scope {
         alloc: Global,
         expression: &parsed::Expression,
         held: Held,
-    ) -> Result<Expression, SyntaxFault> {
+    ) -> Result<Expression, SyntaxFault>
+        requires { IsInUse (view_of self.now) }
+        ensures named { IfOk result (IsNumber (names_of self.now) expression.now.form) }
+        ensures readable { IfOk result (λ e. IsReadable self.now.values (nodes_of held) e) }
+    {
         match &expression.form {
             Form::Number(number) => Ok(Expression::Constant(*number)),
             Form::Named(name) => self.named(*name, expression.offset),
@@ -140,7 +179,11 @@ impl Scope {
         alloc: Global,
         expression: &parsed::Expression,
         held: Held,
-    ) -> Result<Expression, SyntaxFault> {
+    ) -> Result<Expression, SyntaxFault>
+        requires { IsInUse (view_of self.now) }
+        ensures named { IfOk result (IsNumber (names_of self.now) expression.now.form) }
+        ensures readable { IfOk result (λ e. IsReadable self.now.values (nodes_of held) e) }
+    {
         self.operand_from(alloc, expression, held, usize::from(self.values))
     }
 
@@ -151,7 +194,11 @@ impl Scope {
         expression: &parsed::Expression,
         held: Held,
         free: usize,
-    ) -> Result<Expression, SyntaxFault> {
+    ) -> Result<Expression, SyntaxFault>
+        requires { IsInUse (view_of self.now) }
+        ensures named { IfOk result (IsNumber (names_of self.now) expression.now.form) }
+        ensures readable { IfOk result (λ e. IsReadable self.now.values (nodes_of held) e) }
+    {
         let number = self.number(alloc, expression, held)?;
         check_registers(registers_for(&number, free), expression.offset)?;
         Ok(number)
@@ -164,7 +211,11 @@ impl Scope {
         comparison: Comparison,
         operands: (&parsed::Expression, &parsed::Expression),
         held: Held,
-    ) -> Result<Condition, SyntaxFault> {
+    ) -> Result<Condition, SyntaxFault>
+        requires { IsInUse (view_of self.now) }
+        ensures named { IfOk result (IsCompared (names_of self.now) comparison operands.entry.0.now.form operands.entry.1.now.form) }
+        ensures testable { IfOk result (λ c. IsTestable self.now.values (nodes_of held) c) }
+    {
         let left = self.number(alloc, operands.0, held)?;
         let right = self.number(alloc, operands.1, held)?;
         let free = usize::from(self.values);
@@ -179,7 +230,11 @@ impl Scope {
         alloc: Global,
         expression: &parsed::Expression,
         held: Held,
-    ) -> Result<Condition, SyntaxFault> {
+    ) -> Result<Condition, SyntaxFault>
+        requires { IsInUse (view_of self.now) }
+        ensures named { IfOk result (IsCondition (names_of self.now) expression.now.form) }
+        ensures testable { IfOk result (λ c. IsTestable self.now.values (nodes_of held) c) }
+    {
         match &expression.form {
             Form::Compared(comparison, left, right) => {
                 self.comparison(alloc, *comparison, (left, right), held)
@@ -200,7 +255,9 @@ impl Scope {
     }
 
     /// How often a loop may turn. 275 if a name is unknown, 280 at the first token if it isn't a constant from 1 to 65,535.
-    pub fn turns(&self, expression: &parsed::Expression) -> Result<u16, SyntaxFault> {
+    pub fn turns(&self, expression: &parsed::Expression) -> Result<u16, SyntaxFault>
+        ensures { IfOk result (IsCount (names_of self.now) expression.now.form) }
+    {
         let number = match expression.form {
             Form::Number(number) => number,
             Form::Named(name) => match self.known(name)? {

@@ -12,7 +12,7 @@ use Rattle.tl_lowering.specs.Outcomes.{locked, unlocked, after, fails, breaks}
 use Rattle.tl_compiler.specs.Statements.{Site, Second, direct, place_code, held_behind}
 use Rattle.tl_lowering.specs.Sound.{nodes_behind}
 use Rattle.tl_meaning.specs.Meaning.{Outcome, On, Breaks, Fails, Returns, after_events, is_on, lock_place, leaving, meaning}
-use Rattle.tl_meaning.specs.Leading.{Tail, Runs, from_label}
+use Rattle.tl_meaning.specs.Leading.{Tail, Runs, from_label, IsInside}
 use Rattle.tl_meaning.specs.Endings.{Agrees, IsSite, LeadsBy, StatementLeads}
 use Rattle.tl_lowering.specs.Sound.{IsSound, IsLockable}
 use Rattle.tl_meaning.proofs.Steps.{tail_further, tail_length, further_in}
@@ -121,39 +121,29 @@ module _ {c : List Instr} (parents : List ℕ) (ready : Runs c) (place : Place) 
         let long = tail_length (first_tail parents ready a then_held inner (held_behind whole) second k) in
         omega (arith, le, long)
 
+-- the code of a place leads on where the place is locked, and else to the label
+place_runs : {c : List Instr} (parents : List ℕ) (ready : Runs c) (fs : List Frame) (place : Place) (t f : ℕ) (held : Nodes) (rest : List Instr) (s u : State)
+    → Tail c (place_code place t f rest) → f ≤ length rest → IsInside c fs (length rest) → IsLockable place t held → Agrees t held s u
+    → PlaceLeads parents ready fs t held (locked place held) f (length rest) (from_label c parents fs (length (place_code place t f rest)) u) (lock_place parents place s).outcome (lock_place parents place s).state (lock_place parents place s).events
+place_runs parents ready fs (P.Node n e) t f held rest s u tail bound inside lockable agrees =
+    node_runs parents ready fs n e t f held rest s u tail bound inside lockable.1 agrees
+place_runs parents ready fs (P.Child n p e) t f held rest s u tail bound inside lockable agrees =
+    kid_runs parents ready fs n p e t f held rest s u tail bound inside lockable.1 lockable.2 agrees
+place_runs parents ready fs (P.Pair n m p e g) t f held rest s u tail bound inside lockable agrees =
+    pair_runs parents ready fs n m p e g f t rest bound inside held lockable.0 lockable.1 lockable.2 lockable.3 lockable.4 lockable.5 s u tail agrees
+
 pub lock_runs : {c : List Instr} (parents : List ℕ) (ready : Runs c) (place : Place) (a o : Statement) (ones : StatementRuns parents ready a) (twos : StatementRuns parents ready o) (held : Nodes) (x : Site) (k : List Instr) (fs : List Frame)
     → IsSite c fs x (length k) → IsLockable place x.values held → IsSound a x.values (nodes_behind place) (locked place held) (is_some x.exit) → IsSound o x.values x.nodes held (is_some x.exit)
     → (s u : State) → Agrees x.values held s u → Tail c (place_code place x.values (second parents ready place a o ones twos held x k fs).label (code parents ready place a o ones twos held x k fs))
     → StatementLeads (whole parents ready place a o ones twos held x k fs) (failing parents ready place a o ones twos held x k fs) (breaking parents ready place a o ones twos held x k fs) c parents fs x (length k)
     (from_label c parents fs (length (place_code place x.values (second parents ready place a o ones twos held x k fs).label (code parents ready place a o ones twos held x k fs))) u)
     (leaving (whole parents ready place a o ones twos held x k fs) (after_events (lock_place parents place s).events (if is_on (lock_place parents place s).outcome then meaning parents a (lock_place parents place s).state else meaning parents o (lock_place parents place s).state)))
-lock_runs {c} parents ready (P.Node n e) a o ones twos held x k fs site lockable sound_a sound_o s u agrees tail =
-    let place : Place = P.Node n e in
+lock_runs {c} parents ready place a o ones twos held x k fs site lockable sound_a sound_o s u agrees tail =
     let size = held_size agrees in
     let f = (second parents ready place a o ones twos held x k fs).label in
     let inner_code = code parents ready place a o ones twos held x k fs in
     let done = lock_place parents place s in
     lock_by parents ready place a o ones twos held x k fs site sound_a sound_o size (tail_further tail (tail_of_stretch (place_stretch place x.values f inner_code)))
     (from_label c parents fs (length (place_code place x.values f inner_code)) u) done.outcome done.state done.events
-    (node_runs parents ready fs n e x.values f held inner_code s u tail (label_bound parents ready place a o ones twos held x k fs site sound_a sound_o size)
-    (further_in c fs (length k) (length inner_code) (code_long parents ready place a o ones twos held x k fs site sound_a sound_o size) site.inside) lockable.1 agrees)
-lock_runs {c} parents ready (P.Child n p e) a o ones twos held x k fs site lockable sound_a sound_o s u agrees tail =
-    let place : Place = P.Child n p e in
-    let size = held_size agrees in
-    let f = (second parents ready place a o ones twos held x k fs).label in
-    let inner_code = code parents ready place a o ones twos held x k fs in
-    let done = lock_place parents place s in
-    lock_by parents ready place a o ones twos held x k fs site sound_a sound_o size (tail_further tail (tail_of_stretch (place_stretch place x.values f inner_code)))
-    (from_label c parents fs (length (place_code place x.values f inner_code)) u) done.outcome done.state done.events
-    (kid_runs parents ready fs n p e x.values f held inner_code s u tail (label_bound parents ready place a o ones twos held x k fs site sound_a sound_o size)
-    (further_in c fs (length k) (length inner_code) (code_long parents ready place a o ones twos held x k fs site sound_a sound_o size) site.inside) lockable.1 lockable.2 agrees)
-lock_runs {c} parents ready (P.Pair n m p e g) a o ones twos held x k fs site lockable sound_a sound_o s u agrees tail =
-    let place : Place = P.Pair n m p e g in
-    let size = held_size agrees in
-    let f = (second parents ready place a o ones twos held x k fs).label in
-    let inner_code = code parents ready place a o ones twos held x k fs in
-    let done = lock_place parents place s in
-    lock_by parents ready place a o ones twos held x k fs site sound_a sound_o size (tail_further tail (tail_of_stretch (place_stretch place x.values f inner_code)))
-    (from_label c parents fs (length (place_code place x.values f inner_code)) u) done.outcome done.state done.events
-    (pair_runs parents ready fs n m p e g f x.values inner_code (label_bound parents ready place a o ones twos held x k fs site sound_a sound_o size)
-    (further_in c fs (length k) (length inner_code) (code_long parents ready place a o ones twos held x k fs site sound_a sound_o size) site.inside) held lockable.0 lockable.1 lockable.2 lockable.3 lockable.4 lockable.5 s u tail agrees)
+    (place_runs parents ready fs place x.values f held inner_code s u tail (label_bound parents ready place a o ones twos held x k fs site sound_a sound_o size)
+    (further_in c fs (length k) (length inner_code) (code_long parents ready place a o ones twos held x k fs site sound_a sound_o size) site.inside) lockable agrees)

@@ -1,1 +1,6 @@
+pub mod Declarations
 pub mod Faults
+pub mod Grammar
+pub mod Statements
+pub mod Text
+pub mod Tokens

@@ -1,12 +1,25 @@
 // Fields, constants and procedures: each function reads one rule of the grammar.
 
+ghost use Rattle.std.specs.Prelude.{IfOk};
+ghost use Rattle.tl_syntax.specs.Declarations.{
+  IsConstant,
+  AreNames,
+  AreArguments,
+  IsProcedure,
+  IsDeclaration,
+  IsFile,
+};
+
 use crate::fault::SyntaxFault;
 use crate::parsed::{Declaration, Name, Procedure};
 use crate::parser::{MAX_LEVELS, Parsed, Parser};
 use crate::token::TokenKind;
 
 impl<'a> Parser<'a> {
-    fn field(&self, at: usize) -> Parsed<Declaration> {
+    fn field(&self, at: usize) -> Parsed<Declaration>
+        ensures { IfOk result (λ read. IsDeclaration self.now.tokens.now at read.1 read.0) }
+    {
+        let at = self.skip(at, TokenKind::Field)?;
         let (name, at) = self.name(at)?;
         let at = self.skip(at, TokenKind::Assign)?;
         let offset = self.offset(at);
@@ -20,7 +33,10 @@ impl<'a> Parser<'a> {
         Ok((declaration, at))
     }
 
-    fn constant(&self, at: usize) -> Parsed<Declaration> {
+    fn constant(&self, at: usize) -> Parsed<Declaration>
+        ensures { IfOk result (λ read. IsDeclaration self.now.tokens.now at read.1 read.0) }
+    {
+        let at = self.skip(at, TokenKind::Const)?;
         let (name, at) = self.name(at)?;
         let at = self.skip(at, TokenKind::Assign)?;
         let (number, at) = self.constant_number(at)?;
@@ -28,7 +44,9 @@ impl<'a> Parser<'a> {
         Ok((Declaration::Constant { name, number }, at))
     }
 
-    fn constant_number(&self, at: usize) -> Parsed<i32> {
+    fn constant_number(&self, at: usize) -> Parsed<i32>
+        ensures { IfOk result (λ read. IsConstant self.now.tokens.now at read.1 read.0) }
+    {
         let Some(next) = self.skip_if(at, TokenKind::Minus) else {
             return self.number(at);
         };
@@ -38,66 +56,92 @@ impl<'a> Parser<'a> {
         }
     }
 
-    // The names between a procedure's parentheses, and the closing one.
-    fn arguments(&self, at: usize) -> Parsed<Vec<Name>> {
+    // One name or more, with commas between them.
+    fn names(&self, at: usize) -> Parsed<Vec<Name>>
+        ensures { IfOk result (λ read. AreNames self.now.tokens.now at read.1 read.0.items) }
+    {
         let mut names = Vec::new(self.alloc);
-        if let Some(after) = self.skip_if(at, TokenKind::RightParenthesis) {
-            return Ok((names, after));
-        }
-        let (name, mut at) = self.name(at)?;
+        let (name, mut next) = self.name(at)?;
         names.push(name)?;
         for _ in 0..self.tokens.len() {
-            let Some(next) = self.skip_if(at, TokenKind::Comma) else {
+            let Some(behind) = self.skip_if(next, TokenKind::Comma) else {
                 break;
             };
-            let (name, after) = self.name(next)?;
+            let (name, after) = self.name(behind)?;
             names.push(name)?;
-            at = after;
+            next = after;
         }
+        Ok((names, next))
+    }
+
+    // The names between a procedure's parentheses, and the closing one.
+    fn arguments(&self, at: usize) -> Parsed<Vec<Name>>
+        ensures { IfOk result (λ read. AreArguments self.now.tokens.now at read.1 read.0.items) }
+    {
+        if let Some(after) = self.skip_if(at, TokenKind::RightParenthesis) {
+            return Ok((Vec::new(self.alloc), after));
+        }
+        let (names, at) = self.names(at)?;
         let at = self.skip(at, TokenKind::RightParenthesis)?;
         Ok((names, at))
     }
 
-    fn procedure(&self, at: usize) -> Parsed<Declaration> {
+    fn procedure(&self, at: usize) -> Parsed<Procedure>
+        ensures { IfOk result (λ read. IsProcedure self.now.tokens.now at read.1 read.0) }
+    {
+        let at = self.skip(at, TokenKind::Proc)?;
         let (name, at) = self.name(at)?;
         let at = self.skip(at, TokenKind::LeftParenthesis)?;
         let (arguments, at) = self.arguments(at)?;
         let (body, at) = self.block(at, MAX_LEVELS)?;
-        let (otherwise, at) = match self.skip_if(at, TokenKind::Else) {
-            Some(next) => self.block(next, MAX_LEVELS)?,
-            None => (Vec::new(self.alloc), at),
+        let Some(next) = self.skip_if(at, TokenKind::Else) else {
+            let nothing = Vec::new(self.alloc);
+            let procedure = Procedure {
+                name,
+                arguments,
+                body,
+                otherwise: nothing,
+            };
+            return Ok((procedure, at));
         };
+        let (otherwise, after) = self.block(next, MAX_LEVELS)?;
         let procedure = Procedure {
             name,
             arguments,
             body,
             otherwise,
         };
-        Ok((Declaration::Procedure(procedure), at))
+        Ok((procedure, after))
     }
 
-    fn declaration(&self, at: usize) -> Parsed<Declaration> {
-        let next = self.behind(at);
+    fn declaration(&self, at: usize) -> Parsed<Declaration>
+        ensures { IfOk result (λ read. IsDeclaration self.now.tokens.now at read.1 read.0) }
+    {
         match self.kind(at) {
-            TokenKind::Field => self.field(next),
-            TokenKind::Const => self.constant(next),
-            TokenKind::Proc => self.procedure(next),
+            TokenKind::Field => self.field(at),
+            TokenKind::Const => self.constant(at),
+            TokenKind::Proc => {
+                let (procedure, after) = self.procedure(at)?;
+                Ok((Declaration::Procedure(procedure), after))
+            }
             _ => Err(self.misplaced(at)),
         }
     }
 
     /// All that a text declares, in order.
-    pub fn declarations(&self) -> Result<Vec<Declaration>, SyntaxFault> {
+    pub fn declarations(&self) -> Result<Vec<Declaration>, SyntaxFault>
+        ensures { IfOk result (λ read. IsFile self.now.tokens.now read.items) }
+    {
         let mut declarations = Vec::new(self.alloc);
         let mut at = 0;
         for _ in 0..self.tokens.len() {
             if self.kind(at) == TokenKind::End {
-                break;
+                return Ok(declarations);
             }
             let (declaration, after) = self.declaration(at)?;
             declarations.push(declaration)?;
             at = after;
         }
-        Ok(declarations)
+        Err(self.misplaced(at))
     }
 }

@@ -1,5 +1,23 @@
 // Expressions: each function reads one rule of the grammar. `levels` says how many levels may still be opened.
 
+ghost use Rattle.std.specs.Prelude.{IfOk, IfSome};
+ghost use Rattle.tl_syntax.specs.Grammar.{
+  IsAdditive,
+  IsMultiplicative,
+  IsComparison,
+  IsJoined,
+  IsPlain,
+  IsExpression,
+  Disjunction,
+  Conjunction,
+  Negation,
+  Relation,
+  Sum,
+  Term,
+  Unary,
+  Atom,
+};
+
 use crate::fault::SyntaxFault;
 use crate::operator::Operator;
 use crate::parsed::{Comparison, Expression, Form};
@@ -15,42 +33,56 @@ enum Join {
     Calculate(Operator),
 }
 
-fn additive(kind: TokenKind) -> Option<Operator> {
-    match kind {
-        TokenKind::Plus => Some(Operator::Add),
-        TokenKind::Minus => Some(Operator::Subtract),
-        _ => None,
-    }
-}
-
-fn multiplicative(kind: TokenKind) -> Option<Operator> {
-    match kind {
-        TokenKind::Times => Some(Operator::Multiply),
-        TokenKind::Divide => Some(Operator::Divide),
-        _ => None,
-    }
-}
-
-fn comparison(kind: TokenKind) -> Option<Comparison> {
-    match kind {
-        TokenKind::Less => Some(Comparison::Less),
-        TokenKind::LessOrEqual => Some(Comparison::LessOrEqual),
-        TokenKind::Greater => Some(Comparison::Greater),
-        TokenKind::GreaterOrEqual => Some(Comparison::GreaterOrEqual),
-        TokenKind::Equal => Some(Comparison::Equal),
-        TokenKind::NotEqual => Some(Comparison::NotEqual),
-        _ => None,
-    }
-}
-
 impl<'a> Parser<'a> {
+    // A sign of a sum, and the index after it.
+    fn additive(&self, at: usize) -> Option<(Operator, usize)>
+        ensures { IfSome result (λ read. IsAdditive self.now.tokens.now at read.1 read.0) }
+    {
+        let next = self.behind(at);
+        match self.kind(at) {
+            TokenKind::Plus => Some((Operator::Add, next)),
+            TokenKind::Minus => Some((Operator::Subtract, next)),
+            _ => None,
+        }
+    }
+
+    // A sign of a product, and the index after it.
+    fn multiplicative(&self, at: usize) -> Option<(Operator, usize)>
+        ensures { IfSome result (λ read. IsMultiplicative self.now.tokens.now at read.1 read.0) }
+    {
+        let next = self.behind(at);
+        match self.kind(at) {
+            TokenKind::Times => Some((Operator::Multiply, next)),
+            TokenKind::Divide => Some((Operator::Divide, next)),
+            _ => None,
+        }
+    }
+
+    // A sign that compares, and the index after it.
+    fn comparison(&self, at: usize) -> Option<(Comparison, usize)>
+        ensures { IfSome result (λ read. IsComparison self.now.tokens.now at read.1 read.0) }
+    {
+        let next = self.behind(at);
+        match self.kind(at) {
+            TokenKind::Less => Some((Comparison::Less, next)),
+            TokenKind::LessOrEqual => Some((Comparison::LessOrEqual, next)),
+            TokenKind::Greater => Some((Comparison::Greater, next)),
+            TokenKind::GreaterOrEqual => Some((Comparison::GreaterOrEqual, next)),
+            TokenKind::Equal => Some((Comparison::Equal, next)),
+            TokenKind::NotEqual => Some((Comparison::NotEqual, next)),
+            _ => None,
+        }
+    }
+
     // Joins two expressions. The joined expression begins where the first one does.
     fn joined(
         &self,
         left: Expression,
         right: Expression,
         join: Join,
-    ) -> Result<Expression, SyntaxFault> {
+    ) -> Result<Expression, SyntaxFault>
+        ensures { IfOk result (λ e. IsJoined join left right e) }
+    {
         let offset = left.offset;
         let left = Box::new(self.alloc, left)?;
         let right = Box::new(self.alloc, right)?;
@@ -65,7 +97,9 @@ impl<'a> Parser<'a> {
 
     /// A chain of `or`. Each operator opens a level, which stays open until the chain ends.
     #[cycle(expressions)]
-    pub fn expression(&self, at: usize, levels: u32) -> Parsed<Expression> {
+    pub fn expression(&self, at: usize, levels: u32) -> Parsed<Expression>
+        ensures { IfOk result (λ read. IsExpression self.now.tokens.now Disjunction at read.1 read.0) }
+    {
         let (mut left, mut at) = self.conjunction(at, levels)?;
         let mut spare = levels;
         while let Some(next) = self.skip_if(at, TokenKind::Or) {
@@ -78,7 +112,9 @@ impl<'a> Parser<'a> {
     }
 
     #[cycle(expressions)]
-    fn conjunction(&self, at: usize, levels: u32) -> Parsed<Expression> {
+    fn conjunction(&self, at: usize, levels: u32) -> Parsed<Expression>
+        ensures { IfOk result (λ read. IsExpression self.now.tokens.now Conjunction at read.1 read.0) }
+    {
         let (mut left, mut at) = self.negation(at, levels)?;
         let mut spare = levels;
         while let Some(next) = self.skip_if(at, TokenKind::And) {
@@ -91,7 +127,9 @@ impl<'a> Parser<'a> {
     }
 
     #[cycle(expressions)]
-    fn negation(&self, at: usize, levels: u32) -> Parsed<Expression> {
+    fn negation(&self, at: usize, levels: u32) -> Parsed<Expression>
+        ensures { IfOk result (λ read. IsExpression self.now.tokens.now Negation at read.1 read.0) }
+    {
         let Some(next) = self.skip_if(at, TokenKind::Not) else {
             return self.relation(at, levels);
         };
@@ -103,23 +141,27 @@ impl<'a> Parser<'a> {
     }
 
     #[cycle(expressions)]
-    fn relation(&self, at: usize, levels: u32) -> Parsed<Expression> {
+    fn relation(&self, at: usize, levels: u32) -> Parsed<Expression>
+        ensures { IfOk result (λ read. IsExpression self.now.tokens.now Relation at read.1 read.0) }
+    {
         let (left, at) = self.sum(at, levels)?;
-        let Some(comparison) = comparison(self.kind(at)) else {
+        let Some((comparison, next)) = self.comparison(at) else {
             return Ok((left, at));
         };
-        let (right, at) = self.sum(self.behind(at), levels)?;
+        let (right, at) = self.sum(next, levels)?;
         let compared = self.joined(left, right, Join::Compare(comparison))?;
         Ok((compared, at))
     }
 
     #[cycle(expressions)]
-    fn sum(&self, at: usize, levels: u32) -> Parsed<Expression> {
+    fn sum(&self, at: usize, levels: u32) -> Parsed<Expression>
+        ensures { IfOk result (λ read. IsExpression self.now.tokens.now Sum at read.1 read.0) }
+    {
         let (mut left, mut at) = self.product(at, levels)?;
         let mut spare = levels;
-        while let Some(operator) = additive(self.kind(at)) {
+        while let Some((operator, next)) = self.additive(at) {
             spare = self.open(at, spare)?;
-            let (right, after) = self.product(self.behind(at), spare)?;
+            let (right, after) = self.product(next, spare)?;
             left = self.joined(left, right, Join::Calculate(operator))?;
             at = after;
         }
@@ -127,12 +169,14 @@ impl<'a> Parser<'a> {
     }
 
     #[cycle(expressions)]
-    fn product(&self, at: usize, levels: u32) -> Parsed<Expression> {
+    fn product(&self, at: usize, levels: u32) -> Parsed<Expression>
+        ensures { IfOk result (λ read. IsExpression self.now.tokens.now Term at read.1 read.0) }
+    {
         let (mut left, mut at) = self.signed(at, levels)?;
         let mut spare = levels;
-        while let Some(operator) = multiplicative(self.kind(at)) {
+        while let Some((operator, next)) = self.multiplicative(at) {
             spare = self.open(at, spare)?;
-            let (right, after) = self.signed(self.behind(at), spare)?;
+            let (right, after) = self.signed(next, spare)?;
             left = self.joined(left, right, Join::Calculate(operator))?;
             at = after;
         }
@@ -141,7 +185,9 @@ impl<'a> Parser<'a> {
 
     // A minus sign directly before a number makes a negative number. Any other minus sign opens a level.
     #[cycle(expressions)]
-    fn signed(&self, at: usize, levels: u32) -> Parsed<Expression> {
+    fn signed(&self, at: usize, levels: u32) -> Parsed<Expression>
+        ensures { IfOk result (λ read. IsExpression self.now.tokens.now Unary at read.1 read.0) }
+    {
         let Some(next) = self.skip_if(at, TokenKind::Minus) else {
             return self.atom(at, levels);
         };
@@ -157,38 +203,44 @@ impl<'a> Parser<'a> {
     }
 
     #[cycle(expressions)]
-    fn atom(&self, at: usize, levels: u32) -> Parsed<Expression> {
+    fn atom(&self, at: usize, levels: u32) -> Parsed<Expression>
+        ensures { IfOk result (λ read. IsExpression self.now.tokens.now Atom at read.1 read.0) }
+    {
+        let offset = self.offset(at);
         let Some(next) = self.skip_if(at, TokenKind::LeftParenthesis) else {
-            return self.plain(at);
+            let (form, after) = self.plain(at)?;
+            return Ok((Expression { offset, form }, after));
         };
         let levels = self.open(at, levels)?;
         let (mut inner, after) = self.expression(next, levels)?;
         let after = self.skip(after, TokenKind::RightParenthesis)?;
-        inner.offset = self.offset(at);
+        inner.offset = offset;
         Ok((inner, after))
     }
 
     // A number, a name, a field of a node or the number of its children.
-    fn plain(&self, at: usize) -> Parsed<Expression> {
-        let offset = self.offset(at);
-        let (form, at) = match self.kind(at) {
+    fn plain(&self, at: usize) -> Parsed<Form>
+        ensures { IfOk result (λ read. IsPlain self.now.tokens.now at read.1 read.0) }
+    {
+        match self.kind(at) {
             TokenKind::Number(_) => {
                 let (number, at) = self.number(at)?;
-                (Form::Number(number), at)
+                Ok((Form::Number(number), at))
             }
             TokenKind::Kids => {
                 let at = self.skip(at, TokenKind::Kids)?;
                 let at = self.skip(at, TokenKind::LeftParenthesis)?;
                 let (node, at) = self.name(at)?;
                 let at = self.skip(at, TokenKind::RightParenthesis)?;
-                (Form::Children(node), at)
+                Ok((Form::Children(node), at))
             }
-            _ => self.named(at)?,
-        };
-        Ok((Expression { offset, form }, at))
+            _ => self.named(at),
+        }
     }
 
-    fn named(&self, at: usize) -> Parsed<Form> {
+    fn named(&self, at: usize) -> Parsed<Form>
+        ensures { IfOk result (λ read. IsPlain self.now.tokens.now at read.1 read.0) }
+    {
         let (name, at) = self.name(at)?;
         let Some(next) = self.skip_if(at, TokenKind::Dot) else {
             return Ok((Form::Named(name), at));

@@ -1,11 +1,21 @@
 // From bytes to tokens.
 
-ghost use Rattle.std.specs.Prelude.{◌≡◌, ◌<◌, ◌≤◌, length, IfSome};
+ghost use Rattle.std.specs.Prelude.{◌≡◌, ◌<◌, ◌≤◌, length, [], ◌∷◌, ◌++◌, IfSome, IfOk, OnOk};
+ghost use Rattle.tl_syntax.specs.Tokens.{
+  word_left,
+  line_left,
+  Begins,
+  spellings,
+  first_names,
+  Extends,
+  Adds,
+  AreTokens,
+};
 
 use crate::fault::{SyntaxFault, Wrong};
 use crate::token::{Symbol, Token, TokenKind};
 use crate::words::{
-    MAX_NAME, begins_name, continues_name, long_sign, number, reserved, short_sign,
+    MAX_NAME, begins_name, continues_name, is_blank, long_sign, number, reserved, short_sign,
 };
 use indexmap::IndexSet;
 use std::alloc::Global;
@@ -28,7 +38,8 @@ enum Piece {
 
 // How many of the first bytes can continue a name or a number.
 fn word_length(rest: &[u8]) -> usize
-    ensures { result ≤ length rest.now }
+    ensures left { result ≡ word_left rest.now }
+    ensures within { result ≤ length rest.now }
 {
     rest.iter()
         .position(|byte| !continues_name(*byte))
@@ -37,7 +48,8 @@ fn word_length(rest: &[u8]) -> usize
 
 // The length of the line, without its line end.
 fn line_length(rest: &[u8]) -> usize
-    ensures { result ≤ length rest.now }
+    ensures left { result ≡ line_left rest.now }
+    ensures within { result ≤ length rest.now }
 {
     rest.iter()
         .position(|byte| *byte == b'\n')
@@ -46,9 +58,10 @@ fn line_length(rest: &[u8]) -> usize
 
 // The first piece of a text, and how many bytes after the first one belong to it. None if no token begins like that.
 fn first_piece(first: u8, after: &[u8]) -> Option<(Piece, usize)>
-    ensures { IfSome result (λ p. p.1 ≤ length after.now) }
+    ensures begins { IfSome result (λ p. Begins first after.now p.0 p.1) }
+    ensures within { IfSome result (λ p. p.1 ≤ length after.now) }
 {
-    if matches!(first, b' ' | b'\t' | b'\r' | b'\n') {
+    if is_blank(first) {
         return Some((Piece::Blank, 0));
     }
     if begins_name(first) {
@@ -71,7 +84,10 @@ fn first_piece(first: u8, after: &[u8]) -> Option<(Piece, usize)>
 
 impl<'a> Lexed<'a> {
     // The grammar's words that may also be names get the first numbers.
-    fn new(alloc: Global) -> Result<Lexed<'a>, SyntaxFault> {
+    fn new(alloc: Global) -> Result<Lexed<'a>, SyntaxFault>
+        ensures names { IfOk result (λ lexed. spellings lexed.names.keys ≡ first_names) }
+        ensures tokens { IfOk result (λ lexed. lexed.tokens.items ≡ []) }
+    {
         let mut names = IndexSet::new(alloc);
         names.insert(b"at".as_slice())?;
         names.insert(b"each".as_slice())?;
@@ -85,32 +101,65 @@ impl<'a> Lexed<'a> {
     }
 
     // Adds a token.
-    fn push(&mut self, kind: TokenKind, offset: usize) -> Result<(), SyntaxFault> {
+    fn push(&mut self, kind: TokenKind, offset: usize) -> Result<(), SyntaxFault>
+        ensures tokens { OnOk result (self.new.tokens.items ≡ self.old.tokens.items ++ (record { kind = kind; offset = offset }) ∷ []) }
+        ensures names { self.new.names.keys ≡ self.old.names.keys }
+    {
         self.tokens.push(Token { kind, offset })?;
         Ok(())
     }
 
-    fn push_word(&mut self, word: &'a [u8], offset: usize) -> Result<(), SyntaxFault> {
+    fn push_word(&mut self, word: &'a [u8], offset: usize) -> Result<(), SyntaxFault>
+        ensures { OnOk result (Adds word.now offset (spellings self.old.names.keys) (spellings self.new.names.keys)
+            self.old.tokens.items self.new.tokens.items Piece.Word) }
+    {
         if let Some(kind) = reserved(word) {
-            return self.push(kind, offset);
+            self.push(kind, offset)?;
+            return Ok(());
         }
         if word.len() > MAX_NAME {
             return Err(SyntaxFault::at(Wrong::LongName, offset));
         }
         let (index, _) = self.names.insert_full(word)?;
-        self.push(TokenKind::Name(Symbol(index)), offset)
+        self.push(TokenKind::Name(Symbol(index)), offset)?;
+        Ok(())
     }
 
-    fn push_number(&mut self, word: &[u8], offset: usize) -> Result<(), SyntaxFault> {
+    fn push_number(&mut self, word: &[u8], offset: usize) -> Result<(), SyntaxFault>
+        ensures { OnOk result (Adds word.now offset (spellings self.old.names.keys) (spellings self.new.names.keys)
+            self.old.tokens.items self.new.tokens.items Piece.Digits) }
+    {
         match number(word) {
-            Some(number) => self.push(TokenKind::Number(number), offset),
+            Some(number) => {
+                self.push(TokenKind::Number(number), offset)?;
+                Ok(())
+            }
             None => Err(SyntaxFault::at(Wrong::Number, offset)),
+        }
+    }
+
+    // Adds the token that a piece is, if it is one.
+    fn add(&mut self, piece: Piece, word: &'a [u8], offset: usize) -> Result<(), SyntaxFault>
+        ensures { OnOk result (Adds word.now offset (spellings self.old.names.keys) (spellings self.new.names.keys)
+            self.old.tokens.items self.new.tokens.items piece) }
+    {
+        match piece {
+            Piece::Blank => Ok(()),
+            Piece::Word => self.push_word(word, offset),
+            Piece::Digits => self.push_number(word, offset),
+            Piece::Sign(kind) => {
+                self.push(kind, offset)?;
+                Ok(())
+            }
         }
     }
 }
 
 /// The tokens of a text. 270, 271 or 272 at the first piece that isn't a token.
-pub fn lex(alloc: Global, text: &[u8]) -> Result<Lexed<'_>, SyntaxFault> {
+pub fn lex(alloc: Global, text: &[u8]) -> Result<Lexed<'_>, SyntaxFault>
+    ensures tokens { IfOk result (λ lexed. AreTokens (spellings lexed.names.keys) 0 text.now lexed.tokens.items) }
+    ensures names { IfOk result (λ lexed. Extends first_names (spellings lexed.names.keys)) }
+{
     let mut lexed = Lexed::new(alloc)?;
     let mut rest = text;
     while let Some((first, after)) = rest.split_first() {
@@ -120,12 +169,7 @@ pub fn lex(alloc: Global, text: &[u8]) -> Result<Lexed<'_>, SyntaxFault> {
         };
         let (word, _) = rest.split_at(more + 1);
         let (_, remaining) = after.split_at(more);
-        match piece {
-            Piece::Blank => {}
-            Piece::Word => lexed.push_word(word, offset)?,
-            Piece::Digits => lexed.push_number(word, offset)?,
-            Piece::Sign(kind) => lexed.push(kind, offset)?,
-        }
+        lexed.add(piece, word, offset)?;
         rest = remaining;
     }
     lexed.push(TokenKind::End, text.len())?;

@@ -1,6 +1,7 @@
 // The parser's input: tokens, one after another.
 
-ghost use Rattle.std.specs.Prelude.{◌≡◌, ◌<◌, ◌≤◌, length, IfOk, IfSome};
+ghost use Rattle.std.specs.Prelude.{◌≡◌, ◌≢◌, ◌+◌, ◌<◌, ◌≤◌, length, IfOk, IfSome};
+ghost use Rattle.tl_syntax.specs.Grammar.{kind_at, offset_at, Stands, IsName, IsNumber, IsNegative};
 
 use crate::fault::{SyntaxFault, Wrong};
 use crate::parsed::Name;
@@ -22,7 +23,10 @@ pub struct Parser<'a> {
 
 impl<'a> Parser<'a> {
     /// The kind of the token; after the last token this is the end.
-    pub fn kind(&self, at: usize) -> TokenKind {
+    #[tactic(auto, unfolding(crate::specs::Grammar::kind_at))]
+    pub fn kind(&self, at: usize) -> TokenKind
+        ensures { result ≡ kind_at self.now.tokens.now at }
+    {
         match self.tokens.get(at) {
             Some(token) => token.kind,
             None => TokenKind::End,
@@ -30,12 +34,18 @@ impl<'a> Parser<'a> {
     }
 
     /// The index after the token.
-    pub fn behind(&self, at: usize) -> usize {
+    #[tactic(auto, unfolding(crate::specs::Grammar::kind_at))]
+    pub fn behind(&self, at: usize) -> usize
+        ensures { kind_at self.now.tokens.now at ≢ TokenKind.End → result ≡ at + 1 }
+    {
         at.saturating_add(1)
     }
 
     /// The offset of the token.
-    pub fn offset(&self, at: usize) -> usize {
+    #[tactic(auto, unfolding(crate::specs::Grammar::offset_at))]
+    pub fn offset(&self, at: usize) -> usize
+        ensures { result ≡ offset_at self.now.tokens.now at }
+    {
         match self.tokens.get(at).or(self.tokens.last()) {
             Some(token) => token.offset,
             None => 0,
@@ -48,15 +58,23 @@ impl<'a> Parser<'a> {
     }
 
     /// The index after the token, if the token is of that kind.
-    pub fn skip_if(&self, at: usize, kind: TokenKind) -> Option<usize> {
-        match self.tokens.get(at) {
-            Some(token) if token.kind == kind => Some(at + 1),
-            _ => None,
+    pub fn skip_if(&self, at: usize, kind: TokenKind) -> Option<usize>
+        ensures { IfSome result (λ next. Stands self.now.tokens.now kind at next) }
+    {
+        if at >= self.tokens.len() {
+            return None;
+        }
+        if self.kind(at) == kind {
+            Some(at + 1)
+        } else {
+            None
         }
     }
 
     /// The index after the token. 273 if the token isn't of that kind.
-    pub fn skip(&self, at: usize, kind: TokenKind) -> Result<usize, SyntaxFault> {
+    pub fn skip(&self, at: usize, kind: TokenKind) -> Result<usize, SyntaxFault>
+        ensures { IfOk result (λ next. Stands self.now.tokens.now kind at next) }
+    {
         match self.skip_if(at, kind) {
             Some(next) => Ok(next),
             None => Err(self.misplaced(at)),
@@ -64,11 +82,16 @@ impl<'a> Parser<'a> {
     }
 
     /// The index after a word of the grammar that may also be a name. 273 if another token stands there.
-    pub fn skip_word(&self, at: usize, word: Symbol) -> Result<usize, SyntaxFault> {
+    pub fn skip_word(&self, at: usize, word: Symbol) -> Result<usize, SyntaxFault>
+        ensures { IfOk result (λ next. Stands self.now.tokens.now (TokenKind.Name word) at next) }
+    {
         self.skip(at, TokenKind::Name(word))
     }
 
-    pub fn name(&self, at: usize) -> Parsed<Name> {
+    #[tactic(auto, unfolding(crate::specs::Grammar::kind_at, crate::specs::Grammar::offset_at))]
+    pub fn name(&self, at: usize) -> Parsed<Name>
+        ensures { IfOk result (λ read. IsName self.now.tokens.now at read.1 read.0) }
+    {
         match self.tokens.get(at) {
             Some(
                 Token {
@@ -87,7 +110,10 @@ impl<'a> Parser<'a> {
     }
 
     /// A number that isn't the operand of a minus sign. 271 if it doesn't fit 32 bits, 273 if the token isn't a number.
-    pub fn number(&self, at: usize) -> Parsed<i32> {
+    #[tactic(auto, unfolding(crate::specs::Grammar::kind_at))]
+    pub fn number(&self, at: usize) -> Parsed<i32>
+        ensures { IfOk result (λ read. IsNumber self.now.tokens.now at read.1 read.0) }
+    {
         match self.tokens.get(at) {
             Some(
                 Token {
@@ -103,7 +129,10 @@ impl<'a> Parser<'a> {
     }
 
     /// The number directly after a minus sign, negated.
-    pub fn negative(&self, at: usize) -> Option<(i32, usize)> {
+    #[tactic(auto, unfolding(crate::specs::Grammar::kind_at))]
+    pub fn negative(&self, at: usize) -> Option<(i32, usize)>
+        ensures { IfSome result (λ read. IsNegative self.now.tokens.now at read.1 read.0) }
+    {
         match self.tokens.get(at) {
             Some(
                 Token {

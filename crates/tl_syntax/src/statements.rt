@@ -1,5 +1,26 @@
 // Statements: each function reads one rule of the grammar. `levels` says how many levels may still be opened.
 
+ghost use Rattle.std.specs.Prelude.{◌≡◌, IfOk, IfSome};
+ghost use Rattle.tl_syntax.specs.Grammar.{IsExpression, Disjunction, Stands};
+ghost use Rattle.tl_syntax.specs.Statements.{
+  IsLeave,
+  IsChange,
+  IsArgument,
+  IsChild,
+  IsPlace,
+  AreExpressions,
+  IsAction,
+  IsQuestion,
+  IsCount,
+  allows_else,
+  IsBlock,
+  IsStatement,
+  IsForm,
+  IsTail,
+  IsLeaving,
+  IsOther,
+};
+
 use crate::fault::SyntaxFault;
 use crate::parsed::{
     Action, Change, Child, Expression, Form, Leave, Name, Otherwise, Place, Question, Statement,
@@ -8,26 +29,10 @@ use crate::parsed::{
 use crate::parser::{Parsed, Parser};
 use crate::token::{Symbol, TokenKind};
 
-fn leave_of(kind: TokenKind) -> Option<Leave> {
-    match kind {
-        TokenKind::Break => Some(Leave::Break),
-        TokenKind::Return => Some(Leave::Return),
-        TokenKind::Fail => Some(Leave::Fail),
-        _ => None,
-    }
-}
-
-fn change_of(kind: TokenKind) -> Option<Change> {
-    match kind {
-        TokenKind::Assign => Some(Change::Set),
-        TokenKind::AddAssign => Some(Change::Add),
-        TokenKind::SubtractAssign => Some(Change::Subtract),
-        _ => None,
-    }
-}
-
 // Whether the statement may have an `else` of its own.
-fn may_have_else(action: &Action) -> bool {
+fn may_have_else(action: &Action) -> bool
+    ensures { result ≡ allows_else action.now }
+{
     !matches!(
         *action,
         Action::Take { .. } | Action::Free(_) | Action::Leave(_)
@@ -35,14 +40,34 @@ fn may_have_else(action: &Action) -> bool {
 }
 
 impl<'a> Parser<'a> {
-    fn change(&self, at: usize) -> Parsed<Change> {
-        match change_of(self.kind(at)) {
-            Some(change) => Ok((change, self.behind(at))),
-            None => Err(self.misplaced(at)),
+    fn leave(&self, at: usize) -> Option<(Leave, usize)>
+        ensures { IfSome result (λ read. IsLeave self.now.tokens.now at read.1 read.0) }
+    {
+        let next = self.behind(at);
+        match self.kind(at) {
+            TokenKind::Break => Some((Leave::Break, next)),
+            TokenKind::Return => Some((Leave::Return, next)),
+            TokenKind::Fail => Some((Leave::Fail, next)),
+            _ => None,
         }
     }
 
-    fn let_action(&self, at: usize, levels: u32) -> Parsed<Action> {
+    fn change(&self, at: usize) -> Parsed<Change>
+        ensures { IfOk result (λ read. IsChange self.now.tokens.now at read.1 read.0) }
+    {
+        let next = self.behind(at);
+        match self.kind(at) {
+            TokenKind::Assign => Ok((Change::Set, next)),
+            TokenKind::AddAssign => Ok((Change::Add, next)),
+            TokenKind::SubtractAssign => Ok((Change::Subtract, next)),
+            _ => Err(self.misplaced(at)),
+        }
+    }
+
+    fn let_action(&self, at: usize, levels: u32) -> Parsed<Action>
+        ensures { IfOk result (λ read. IsAction self.now.tokens.now at read.1 read.0) }
+    {
+        let at = self.skip(at, TokenKind::Let)?;
         let (name, at) = self.name(at)?;
         let at = self.skip(at, TokenKind::Assign)?;
         let (value, at) = self.expression(at, levels)?;
@@ -50,7 +75,9 @@ impl<'a> Parser<'a> {
     }
 
     // An assignment to a value, or a write of a field.
-    fn assignment(&self, at: usize, levels: u32) -> Parsed<Action> {
+    fn assignment(&self, at: usize, levels: u32) -> Parsed<Action>
+        ensures { IfOk result (λ read. IsAction self.now.tokens.now at read.1 read.0) }
+    {
         let (name, at) = self.name(at)?;
         let Some(next) = self.skip_if(at, TokenKind::Dot) else {
             let (change, at) = self.change(at)?;
@@ -74,23 +101,28 @@ impl<'a> Parser<'a> {
         Ok((action, at))
     }
 
-    fn emission(&self, at: usize, levels: u32) -> Parsed<Action> {
+    // One expression or more, with commas between them.
+    fn values(&self, at: usize, levels: u32) -> Parsed<Vec<Expression>>
+        ensures { IfOk result (λ read. AreExpressions self.now.tokens.now at read.1 read.0.items) }
+    {
         let mut values = Vec::new(self.alloc);
-        let (value, mut at) = self.expression(at, levels)?;
+        let (value, mut next) = self.expression(at, levels)?;
         values.push(value)?;
         for _ in 0..self.tokens.len() {
-            let Some(next) = self.skip_if(at, TokenKind::Comma) else {
+            let Some(behind) = self.skip_if(next, TokenKind::Comma) else {
                 break;
             };
-            let (value, after) = self.expression(next, levels)?;
+            let (value, after) = self.expression(behind, levels)?;
             values.push(value)?;
-            at = after;
+            next = after;
         }
-        Ok((Action::Emit(values), at))
+        Ok((values, next))
     }
 
-    // A number in parentheses. The parentheses open no level.
-    fn argument(&self, at: usize, levels: u32) -> Parsed<Expression> {
+    // A number in parentheses.
+    fn argument(&self, at: usize, levels: u32) -> Parsed<Expression>
+        ensures { IfOk result (λ read. IsArgument self.now.tokens.now at read.1 read.0) }
+    {
         let at = self.skip(at, TokenKind::LeftParenthesis)?;
         let (number, at) = self.expression(at, levels)?;
         let at = self.skip(at, TokenKind::RightParenthesis)?;
@@ -98,7 +130,10 @@ impl<'a> Parser<'a> {
     }
 
     // The child that a name is to own, after the name and its sign.
-    fn child(&self, name: Name, at: usize, levels: u32) -> Parsed<Child> {
+    fn child(&self, name: Name, at: usize, levels: u32) -> Parsed<Child>
+        ensures read { IfOk result (λ read. IsChild self.now.tokens.now at read.1 read.0) }
+        ensures name { IfOk result (λ read. read.0.name ≡ name) }
+    {
         let at = self.skip(at, TokenKind::Child)?;
         let at = self.skip(at, TokenKind::LeftParenthesis)?;
         let (parent, at) = self.name(at)?;
@@ -113,7 +148,9 @@ impl<'a> Parser<'a> {
         Ok((child, at))
     }
 
-    fn place(&self, at: usize, levels: u32) -> Parsed<Place> {
+    fn place(&self, at: usize, levels: u32) -> Parsed<Place>
+        ensures { IfOk result (λ read. IsPlace self.now.tokens.now at read.1 read.0) }
+    {
         let (name, at) = self.name(at)?;
         let at = self.skip(at, TokenKind::Assign)?;
         if let Some(next) = self.skip_if(at, TokenKind::Node) {
@@ -137,7 +174,10 @@ impl<'a> Parser<'a> {
     }
 
     // A descent to a child, or a move to the node of another name.
-    fn descent(&self, at: usize, levels: u32) -> Parsed<Action> {
+    fn descent(&self, at: usize, levels: u32) -> Parsed<Action>
+        ensures { IfOk result (λ read. IsAction self.now.tokens.now at read.1 read.0) }
+    {
+        let at = self.skip(at, TokenKind::Descend)?;
         let (node, at) = self.name(at)?;
         let at = self.skip_word(at, Symbol::TO)?;
         let Some(next) = self.skip_if(at, TokenKind::Child) else {
@@ -149,38 +189,48 @@ impl<'a> Parser<'a> {
     }
 
     // A statement without blocks of its own, up to the token that ends it.
-    fn action(&self, at: usize, levels: u32) -> Parsed<Action> {
-        let next = self.behind(at);
+    fn action(&self, at: usize, levels: u32) -> Parsed<Action>
+        ensures { IfOk result (λ read. IsAction self.now.tokens.now at read.1 read.0) }
+    {
         match self.kind(at) {
-            TokenKind::Let => self.let_action(next, levels),
+            TokenKind::Let => self.let_action(at, levels),
             TokenKind::Name(_) => self.assignment(at, levels),
-            TokenKind::Emit => self.emission(next, levels),
+            TokenKind::Emit => {
+                let at = self.skip(at, TokenKind::Emit)?;
+                let (values, at) = self.values(at, levels)?;
+                Ok((Action::Emit(values), at))
+            }
             TokenKind::Require => {
-                let (condition, at) = self.expression(next, levels)?;
+                let at = self.skip(at, TokenKind::Require)?;
+                let (condition, at) = self.expression(at, levels)?;
                 Ok((Action::Require(condition), at))
             }
             TokenKind::Lock => {
-                let (place, at) = self.place(next, levels)?;
+                let at = self.skip(at, TokenKind::Lock)?;
+                let (place, at) = self.place(at, levels)?;
                 Ok((Action::Lock(place), at))
             }
             TokenKind::Free => {
-                let (node, at) = self.name(next)?;
+                let at = self.skip(at, TokenKind::Free)?;
+                let (node, at) = self.name(at)?;
                 Ok((Action::Free(node), at))
             }
-            TokenKind::Descend => self.descent(next, levels),
-            kind => match leave_of(kind) {
-                Some(leave) => Ok((Action::Leave(leave), next)),
+            TokenKind::Descend => self.descent(at, levels),
+            _ => match self.leave(at) {
+                Some((leave, next)) => Ok((Action::Leave(leave), next)),
                 None => Err(self.misplaced(at)),
             },
         }
     }
 
     // `break;`, `return;` or `fail;` as the only statement of an `else`.
-    fn leaving(&self, at: usize) -> Parsed<Vec<Statement>> {
-        let Some(leave) = leave_of(self.kind(at)) else {
+    fn leaving(&self, at: usize) -> Parsed<Vec<Statement>>
+        ensures { IfOk result (λ read. IsLeaving self.now.tokens.now at read.1 read.0.items) }
+    {
+        let Some((leave, next)) = self.leave(at) else {
             return Err(self.misplaced(at));
         };
-        let after = self.skip(self.behind(at), TokenKind::Semicolon)?;
+        let after = self.skip(next, TokenKind::Semicolon)?;
         let mut body = Vec::new(self.alloc);
         body.push(Statement {
             offset: self.offset(at),
@@ -191,7 +241,9 @@ impl<'a> Parser<'a> {
 
     /// A block, which opens a level.
     #[cycle(statements)]
-    pub fn block(&self, at: usize, levels: u32) -> Parsed<Vec<Statement>> {
+    pub fn block(&self, at: usize, levels: u32) -> Parsed<Vec<Statement>>
+        ensures { IfOk result (λ read. IsBlock self.now.tokens.now at read.1 read.0.items) }
+    {
         let mut statements = Vec::new(self.alloc);
         let mut next = self.skip(at, TokenKind::LeftBrace)?;
         let inside = self.open(at, levels)?;
@@ -207,51 +259,72 @@ impl<'a> Parser<'a> {
     }
 
     #[cycle(statements)]
-    fn statement(&self, at: usize, levels: u32) -> Parsed<Statement> {
-        let (form, after) = match self.kind(at) {
-            TokenKind::Try => self.attempt(at, levels)?,
-            TokenKind::If => self.choice(at, levels)?,
-            TokenKind::Repeat => self.repetition(at, levels)?,
-            TokenKind::For => self.visit(at, levels)?,
-            _ => {
-                let (action, after) = self.action(at, levels)?;
-                if may_have_else(&action) {
-                    let (otherwise, after) = self.tail(after, levels)?;
-                    (StatementForm::Act(action, otherwise), after)
-                } else {
-                    let after = self.skip(after, TokenKind::Semicolon)?;
-                    (StatementForm::Act(action, None), after)
-                }
-            }
-        };
+    fn statement(&self, at: usize, levels: u32) -> Parsed<Statement>
+        ensures { IfOk result (λ read. IsStatement self.now.tokens.now at read.1 read.0) }
+    {
         let offset = self.offset(at);
+        let (form, after) = self.form(at, levels)?;
         Ok((Statement { offset, form }, after))
+    }
+
+    #[cycle(statements)]
+    fn form(&self, at: usize, levels: u32) -> Parsed<StatementForm>
+        ensures { IfOk result (λ read. IsForm self.now.tokens.now at read.1 read.0) }
+    {
+        match self.kind(at) {
+            TokenKind::Try => self.attempt(at, levels),
+            TokenKind::If => self.choice(at, levels),
+            TokenKind::Repeat => self.repetition(at, levels),
+            TokenKind::For => self.visit(at, levels),
+            _ => self.act(at, levels),
+        }
+    }
+
+    #[cycle(statements)]
+    fn act(&self, at: usize, levels: u32) -> Parsed<StatementForm>
+        ensures { IfOk result (λ read. IsForm self.now.tokens.now at read.1 read.0) }
+    {
+        let (action, at) = self.action(at, levels)?;
+        if may_have_else(&action) {
+            let (otherwise, at) = self.tail(at, levels)?;
+            return Ok((StatementForm::Act(action, otherwise), at));
+        }
+        let at = self.skip(at, TokenKind::Semicolon)?;
+        Ok((StatementForm::Act(action, None), at))
     }
 
     // The end of a statement: a semicolon, or an `else` of its own.
     #[cycle(statements)]
-    fn tail(&self, at: usize, levels: u32) -> Parsed<Option<Otherwise>> {
+    fn tail(&self, at: usize, levels: u32) -> Parsed<Option<Otherwise>>
+        ensures { IfOk result (λ read. IsTail self.now.tokens.now at read.1 read.0) }
+    {
         if let Some(next) = self.skip_if(at, TokenKind::Semicolon) {
             return Ok((None, next));
         }
         let next = self.skip(at, TokenKind::Else)?;
-        let (body, after) = match self.kind(next) {
-            TokenKind::LeftBrace => self.block(next, levels)?,
-            _ => self.leaving(next)?,
-        };
         let offset = self.offset(at);
+        if self.kind(next) == TokenKind::LeftBrace {
+            let (body, after) = self.block(next, levels)?;
+            return Ok((Some(Otherwise { offset, body }), after));
+        }
+        let (body, after) = self.leaving(next)?;
         Ok((Some(Otherwise { offset, body }), after))
     }
 
     #[cycle(statements)]
-    fn attempt(&self, at: usize, levels: u32) -> Parsed<StatementForm> {
-        let (body, at) = self.block(self.behind(at), levels)?;
+    fn attempt(&self, at: usize, levels: u32) -> Parsed<StatementForm>
+        ensures { IfOk result (λ read. IsForm self.now.tokens.now at read.1 read.0) }
+    {
+        let at = self.skip(at, TokenKind::Try)?;
+        let (body, at) = self.block(at, levels)?;
         let at = self.skip(at, TokenKind::Else)?;
         let (otherwise, at) = self.block(at, levels)?;
         Ok((StatementForm::Try(body, otherwise), at))
     }
 
-    fn question(&self, at: usize, levels: u32) -> Parsed<Question> {
+    fn question(&self, at: usize, levels: u32) -> Parsed<Question>
+        ensures { IfOk result (λ read. IsQuestion self.now.tokens.now at read.1 read.0) }
+    {
         if let Some(next) = self.skip_if(at, TokenKind::Lock) {
             let (place, at) = self.place(next, levels)?;
             return Ok((Question::Lock(place), at));
@@ -262,64 +335,83 @@ impl<'a> Parser<'a> {
 
     // An `if`, which opens a level.
     #[cycle(statements)]
-    fn choice(&self, at: usize, levels: u32) -> Parsed<StatementForm> {
+    fn choice(&self, at: usize, levels: u32) -> Parsed<StatementForm>
+        ensures { IfOk result (λ read. IsForm self.now.tokens.now at read.1 read.0) }
+    {
         let levels = self.open(at, levels)?;
-        let (question, next) = self.question(self.behind(at), levels)?;
-        let (body, next) = self.block(next, levels)?;
-        let Some(other) = self.skip_if(next, TokenKind::Else) else {
+        let at = self.skip(at, TokenKind::If)?;
+        let (question, at) = self.question(at, levels)?;
+        let (body, at) = self.block(at, levels)?;
+        let Some(next) = self.skip_if(at, TokenKind::Else) else {
             let nothing = Vec::new(self.alloc);
-            return Ok((StatementForm::If(question, body, nothing), next));
+            return Ok((StatementForm::If(question, body, nothing), at));
         };
-        if self.kind(other) != TokenKind::If {
-            let (otherwise, after) = self.block(other, levels)?;
-            return Ok((StatementForm::If(question, body, otherwise), after));
-        }
-        let (form, after) = self.choice(other, levels)?;
-        let offset = self.offset(other);
-        let mut otherwise = Vec::new(self.alloc);
-        otherwise.push(Statement { offset, form })?;
+        let (otherwise, after) = self.other(next, levels)?;
         Ok((StatementForm::If(question, body, otherwise), after))
     }
 
+    // What stands behind the `else` of an `if`: a block, or another `if`.
+    #[cycle(statements)]
+    fn other(&self, at: usize, levels: u32) -> Parsed<Vec<Statement>>
+        ensures { IfOk result (λ read. IsOther self.now.tokens.now at read.1 read.0.items) }
+    {
+        if self.kind(at) == TokenKind::If {
+            let offset = self.offset(at);
+            let (form, after) = self.choice(at, levels)?;
+            let mut otherwise = Vec::new(self.alloc);
+            otherwise.push(Statement { offset, form })?;
+            return Ok((otherwise, after));
+        }
+        self.block(at, levels)
+    }
+
     // A number or the name of a constant.
-    fn count(&self, at: usize) -> Parsed<Expression> {
+    fn count(&self, at: usize) -> Parsed<Expression>
+        ensures { IfOk result (λ read. IsCount self.now.tokens.now at read.1 read.0) }
+    {
         let offset = self.offset(at);
-        let (form, at) = match self.kind(at) {
-            TokenKind::Name(_) => {
-                let (name, at) = self.name(at)?;
-                (Form::Named(name), at)
-            }
-            _ => {
-                let (number, at) = self.number(at)?;
-                (Form::Number(number), at)
-            }
-        };
+        if let TokenKind::Name(_) = self.kind(at) {
+            let (name, at) = self.name(at)?;
+            let form = Form::Named(name);
+            return Ok((Expression { offset, form }, at));
+        }
+        let (number, at) = self.number(at)?;
+        let form = Form::Number(number);
         Ok((Expression { offset, form }, at))
     }
 
     #[cycle(statements)]
-    fn repetition(&self, at: usize, levels: u32) -> Parsed<StatementForm> {
-        let (turns, at) = self.expression(self.behind(at), levels)?;
-        let (at_most, at) = match self.skip_if(at, TokenKind::Name(Symbol::AT)) {
-            None => (None, at),
-            Some(next) => {
-                let next = self.skip_word(next, Symbol::MOST)?;
-                let (count, after) = self.count(next)?;
-                (Some(count), after)
-            }
+    fn repetition(&self, at: usize, levels: u32) -> Parsed<StatementForm>
+        ensures { IfOk result (λ read. IsForm self.now.tokens.now at read.1 read.0) }
+    {
+        let at = self.skip(at, TokenKind::Repeat)?;
+        let (turns, at) = self.expression(at, levels)?;
+        let Some(next) = self.skip_if(at, TokenKind::Name(Symbol::AT)) else {
+            let (body, at) = self.block(at, levels)?;
+            let form = StatementForm::Repeat {
+                turns,
+                at_most: None,
+                body,
+            };
+            return Ok((form, at));
         };
-        let (body, at) = self.block(at, levels)?;
+        let next = self.skip_word(next, Symbol::MOST)?;
+        let (count, next) = self.count(next)?;
+        let (body, after) = self.block(next, levels)?;
         let form = StatementForm::Repeat {
             turns,
-            at_most,
+            at_most: Some(count),
             body,
         };
-        Ok((form, at))
+        Ok((form, after))
     }
 
     #[cycle(statements)]
-    fn visit(&self, at: usize, levels: u32) -> Parsed<StatementForm> {
-        let at = self.skip_word(self.behind(at), Symbol::EACH)?;
+    fn visit(&self, at: usize, levels: u32) -> Parsed<StatementForm>
+        ensures { IfOk result (λ read. IsForm self.now.tokens.now at read.1 read.0) }
+    {
+        let at = self.skip(at, TokenKind::For)?;
+        let at = self.skip_word(at, Symbol::EACH)?;
         let at = self.skip(at, TokenKind::Child)?;
         let (child, at) = self.name(at)?;
         let at = self.skip_word(at, Symbol::OF)?;

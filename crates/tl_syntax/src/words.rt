@@ -1,5 +1,18 @@
 // Words and signs.
 
+ghost use Rattle.std.specs.Prelude.{◌≡◌, IfSome, IfNone};
+ghost use Rattle.tl_syntax.specs.Tokens.{
+  separates,
+  starts_word,
+  stays_word,
+  IsReserved,
+  IsFree,
+  IsLongSign,
+  IsNoLongSign,
+  IsShortSign,
+  IsDecimal,
+};
+
 use crate::token::TokenKind;
 
 /// The length of the longest name, in characters.
@@ -8,16 +21,29 @@ pub const MAX_NAME: usize = 32;
 /// The greatest number that a token may have: with a minus sign directly before it, this is the least number of 32 bits.
 pub const MAX_NUMBER: u32 = 2_147_483_648;
 
-pub fn begins_name(byte: u8) -> bool {
+pub fn is_blank(byte: u8) -> bool
+    ensures { result ≡ separates byte }
+{
+    byte == b' ' || byte == b'\t' || byte == b'\r' || byte == b'\n'
+}
+
+pub fn begins_name(byte: u8) -> bool
+    ensures { result ≡ starts_word byte }
+{
     byte.is_ascii_alphabetic() || byte == b'_'
 }
 
-pub fn continues_name(byte: u8) -> bool {
+pub fn continues_name(byte: u8) -> bool
+    ensures { result ≡ stays_word byte }
+{
     byte.is_ascii_alphanumeric() || byte == b'_'
 }
 
 /// The reserved word that these bytes spell.
-pub fn reserved(word: &[u8]) -> Option<TokenKind> {
+pub fn reserved(word: &[u8]) -> Option<TokenKind>
+    ensures some { IfSome result (λ kind. IsReserved word.now kind) }
+    ensures none { IfNone result (IsFree word.now) }
+{
     match word {
         b"and" => Some(TokenKind::And),
         b"break" => Some(TokenKind::Break),
@@ -47,7 +73,10 @@ pub fn reserved(word: &[u8]) -> Option<TokenKind> {
 }
 
 /// A sign of two characters.
-pub fn long_sign(first: u8, second: u8) -> Option<TokenKind> {
+pub fn long_sign(first: u8, second: u8) -> Option<TokenKind>
+    ensures some { IfSome result (λ kind. IsLongSign first second kind) }
+    ensures none { IfNone result (IsNoLongSign first second) }
+{
     match (first, second) {
         (b'+', b'=') => Some(TokenKind::AddAssign),
         (b'-', b'=') => Some(TokenKind::SubtractAssign),
@@ -60,7 +89,9 @@ pub fn long_sign(first: u8, second: u8) -> Option<TokenKind> {
 }
 
 /// A sign of one character.
-pub fn short_sign(byte: u8) -> Option<TokenKind> {
+pub fn short_sign(byte: u8) -> Option<TokenKind>
+    ensures { IfSome result (λ kind. IsShortSign byte kind) }
+{
     match byte {
         b'(' => Some(TokenKind::LeftParenthesis),
         b')' => Some(TokenKind::RightParenthesis),
@@ -81,7 +112,9 @@ pub fn short_sign(byte: u8) -> Option<TokenKind> {
 }
 
 /// The number that these characters spell: decimal, without leading zeros, at most `MAX_NUMBER`.
-pub fn number(word: &[u8]) -> Option<u32> {
+pub fn number(word: &[u8]) -> Option<u32>
+    ensures { IfSome result (λ n. IsDecimal word.now n) }
+{
     let is_decimal = word.iter().all(|byte| byte.is_ascii_digit());
     let is_short = word.len() == 1 || word.first() != Some(&b'0');
     if !is_decimal || !is_short {

@@ -1,5 +1,8 @@
 -- Each block and each `if` opens a level.
 use Rattle.std.proofs.Common.{◌+◌, ◌*◌, ◌<◌}
+use Rattle.tl_syntax.specs.declared.token.TokenKind.TheVariants as K
+use Rattle.tl_syntax.specs.Grammar.{Stands}
+use Rattle.tl_syntax.specs.Statements.{AreStatements}
 use Rattle.tl_syntax.proofs.parser.Parser.+statements.Given as goal
 
 abbrev pub decreases-attempt : goal.decreases-attempt
@@ -24,4 +27,17 @@ abbrev pub decreases-visit : goal.decreases-visit
 decreases-visit l = 10 * l.levels + 5
 
 abbrev pub invariant-block-loop : goal.invariant-block-loop
-invariant-block-loop l = l.inside < l.fn.levels
+invariant-block-loop l = record {
+  room : l.inside < l.fn.levels;
+  begun : Stands l.self.tokens.now K.LeftBrace l.fn.at l.initial.next;
+  read : AreStatements l.self.tokens.now l.initial.next l.next l.statements.items;
+}
+
+abbrev pub decreases-form : goal.decreases-form
+decreases-form l = 10 * l.levels + 8
+
+abbrev pub decreases-act : goal.decreases-act
+decreases-act l = 10 * l.levels + 7
+
+abbrev pub decreases-other : goal.decreases-other
+decreases-other l = 10 * l.levels + 6

@@ -1,0 +1,16 @@
+pub mod BitLemmas
+pub mod BlockLemmas
+pub mod BodyLemmas
+pub mod DepthLemmas
+pub mod DraftLemmas
+pub mod JoinLemmas
+pub mod LoopLemmas
+pub mod LoweringLemmas
+pub mod NamingLemmas
+pub mod NumberLemmas
+pub mod OpeningLemmas
+pub mod PartLemmas
+pub mod PathLemmas
+pub mod ScopeLemmas
+pub mod SetLemmas
+pub mod TextLemmas

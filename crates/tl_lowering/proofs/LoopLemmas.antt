@@ -1,0 +1,178 @@
+-- Loops are in order, and lead where their flow says.
+use Rattle.std.proofs.Common.{◌≡◌, ℕ, ◌+◌, ◌<◌, [], ◌∷◌, ◌++◌, Bool, true, false, Option, Some, None, is_some, append-nil, refl, sym, ap, ap₂, ◌∙◌, subst, arith}
+use Rattle.std.specs.Prelude.{IfSome, option_map, if◌then◌else◌}
+use Rattle.tl_lowering.specs.declared.loops.Repetition.TheVariants as R
+use Rattle.tl_lowering.specs.declared.loops.Visit.{Visit}
+use Rattle.tl_lowering.specs.declared.paths.Flow.{Flow}
+use Rattle.tl_lowering.specs.declared.paths.Held.{Held}
+use Rattle.tl_lowering.specs.declared.program.Condition.{Condition}
+use Rattle.tl_lowering.specs.declared.program.Expression.{Expression}
+use Rattle.tl_lowering.specs.declared.program.Expression.TheVariants as E
+use Rattle.tl_lowering.specs.declared.program.Place.TheVariants as P
+use Rattle.tl_lowering.specs.declared.program.Statement.{Statement}
+use Rattle.tl_lowering.specs.declared.program.Statement.TheVariants as S
+use Rattle.tl_lowering.specs.Blocks.{then_of, IsPair}
+use Rattle.tl_lowering.specs.Outcomes.{may_fail, condition_may_fail, here_if, after, fails, breaks}
+use Rattle.tl_lowering.specs.Paths.{Paths, nodes_of, known, paths_of, outcomes, keeping}
+use Rattle.tl_lowering.specs.Repeating.{IsTurn, IsWalk}
+use Rattle.tl_lowering.specs.Scopes.{View, IsLowered, is_in_loop}
+use Rattle.tl_lowering.specs.Sets.{Nodes, holds, with_node, without_node, both, both_of, all_of}
+use Rattle.tl_lowering.specs.Sound.{IsReadable, IsTestable, IsSound, KeepsHeld}
+use Rattle.tl_lowering.proofs.SetLemmas.{both_without, without_with, both_of_self, both_of_comm, both_of_assoc, all_of_append}
+use Rattle.tl_lowering.proofs.PathLemmas.{keeping_after}
+
+-- ---- what is left of the ways behind a loop
+
+-- a turn's end holds what the loop began with, if there is one
+ended : (h : Nodes) (o : Option Nodes) → IfSome o (λ k. k ≡ h) → o ≡ (if is_some o then Some h else None)
+ended h None e = refl
+ended h (Some k) e = ap Some e
+
+-- the loop may be left before the first turn, and then its end makes no difference
+may_leave : (h : Nodes) (o b : Option Nodes) → IfSome o (λ k. k ≡ h) → both_of (Some h) (both_of o b) ≡ both_of (Some h) b
+may_leave h None b e = refl
+may_leave h (Some k) b e =
+    ap (λ z. both_of (Some h) (both_of (Some z) b)) e ∙ sym (both_of_assoc (Some h) (Some h) b) ∙ ap (λ z. both_of z b) (both_of_self (Some h))
+
+module _ (scope : View) (held : Held) where
+  module _ (body : Statement) (flow left : Flow) (turned : Option Nodes) where
+    -- turned: what is held behind the turns
+    pub lowered_repeat : {p : _} (w : ℕ) → IsTurn scope.values scope.nodes (nodes_of held) (R.Times w) body flow
+        → turned ≡ both_of (known flow.after) (known flow.breaks)
+        → paths_of left ≡ record { after = keeping (nodes_of held) turned; fails = known flow.fails; breaks = None }
+        → IsLowered scope held (S.Repeat' w p body) left
+    lowered_repeat w t e l =
+        let h : Nodes = nodes_of held in
+        let same : after body h ≡ keeping h (after body h) = sym (keeping_after body h) in
+        let kept : IfSome (after body h) (λ k. k ≡ h) = subst (λ o. IfSome o (λ k. k ≡ h)) (sym same) t.turn.kept in
+        record {
+          sound = (kept, t.turn.sound);
+          paths =
+              l ∙ ap (λ z. record { after = keeping h z; fails = known flow.fails; breaks = None }) e
+              ∙ ap (λ (q : Paths). record { after = keeping h (both_of q.after q.breaks); fails = q.fails; breaks = None }) t.paths
+              ∙ ap (λ z. record { after = keeping h (both_of z (all_of (breaks body h))); fails = all_of (fails body h); breaks = None }) (sym same ∙ ended h (after body h) kept);
+        }
+
+    pub lowered_up_to : {p : _} (e : Expression) (w : ℕ) → IsReadable scope.values (nodes_of held) e → IsTurn scope.values scope.nodes (nodes_of held) (R.UpTo e w) body flow
+        → turned ≡ both_of (Some (nodes_of held)) (both_of (known flow.after) (known flow.breaks))
+        → paths_of left ≡ record { after = keeping (nodes_of held) turned; fails = both_of (Some (nodes_of held)) (known flow.fails); breaks = None }
+        → IsLowered scope held (S.RepeatUpTo' e w p body) left
+    lowered_up_to x w r t e l =
+        let h : Nodes = nodes_of held in
+        let same : after body h ≡ keeping h (after body h) = sym (keeping_after body h) in
+        let kept : IfSome (after body h) (λ k. k ≡ h) = subst (λ o. IfSome o (λ k. k ≡ h)) (sym same) t.turn.kept in
+        record {
+          sound = (r, kept, t.turn.sound);
+          paths =
+              l ∙ ap (λ z. record { after = keeping h z; fails = both_of (Some h) (known flow.fails); breaks = None }) e
+              ∙ ap (λ (q : Paths). record { after = keeping h (both_of (Some h) (both_of q.after q.breaks)); fails = both_of (Some h) q.fails; breaks = None }) t.paths
+              ∙ ap (λ z. record { after = keeping h z; fails = both_of (Some h) (all_of (fails body h)); breaks = None })
+              (may_leave h (keeping h (after body h)) (all_of (breaks body h)) t.turn.kept);
+        }
+
+    pub lowered_walk : (v : Visit) (whole : Statement) → IsWalk scope.values scope.nodes (nodes_of held) (is_in_loop scope) v.child body whole
+        → IsTurn scope.values scope.nodes (nodes_of held) (R.Children v) body flow
+        → turned ≡ both_of (Some (nodes_of held)) (both_of (known flow.after) (known flow.breaks))
+        → paths_of left ≡ record { after = keeping (nodes_of held) turned; fails = both_of (Some (nodes_of held)) (known flow.fails); breaks = None }
+        → IsLowered scope held whole left
+    lowered_walk v whole k t e l =
+        let h : Nodes = nodes_of held in
+        let inside : Nodes = with_node h v.child in
+        record {
+          sound = k.sound;
+          paths =
+              l ∙ ap (λ z. record { after = keeping h z; fails = both_of (Some h) (known flow.fails); breaks = None }) e
+              ∙ ap (λ (q : Paths). record { after = keeping h (both_of (Some h) (both_of q.after q.breaks)); fails = both_of (Some h) q.fails; breaks = None }) t.paths
+              ∙ ap (λ z. record { after = keeping h z; fails = both_of (Some h) (all_of (fails body inside)); breaks = None })
+              (may_leave h (keeping h (after body inside)) (all_of (breaks body inside)) t.turn.kept)
+              ∙ sym k.paths;
+        }
+
+-- ---- all children one after another
+
+-- a child's register is empty again behind the body
+given_up : (h : Nodes) (n : ℕ) (o : Option Nodes) → keeping (with_node h n) o ≡ o → holds h n ≡ false → IfSome (keeping h o) (λ k. k ≡ h)
+    → KeepsHeld (option_map (λ a. without_node a n) (both_of o None)) h
+given_up h n None e f k = tt
+given_up h n (Some a) e f k =
+    let w : both a (with_node h n) ≡ a = cc in sym (without_with a h n w) ∙ both_without a h n f ∙ k
+
+walk_behind : (h : Nodes) (o b : Option Nodes) → keeping h (both_of (if is_some o then Some h else None) (both_of b (Some h))) ≡ keeping h (both_of (Some h) b)
+walk_behind h None b = ap (keeping h) (both_of_comm b (Some h))
+walk_behind h (Some a) b =
+    ap (keeping h) (ap (both_of (Some h)) (both_of_comm b (Some h)) ∙ sym (both_of_assoc (Some h) (Some h) b) ∙ ap (λ z. both_of z b) (both_of_self (Some h)))
+
+walk_fails : (h : Nodes) (f : Option Nodes) → both_of (Some h) (both_of (Some h) f) ≡ both_of (Some h) f
+walk_fails h f = sym (both_of_assoc (Some h) (Some h) f) ∙ ap (λ z. both_of z f) (both_of_self (Some h))
+
+pub walk : (p1 p2 p3 p4 p5 p6 : _) (c : _) (w : ℕ) (d m : ℕ) (h : Nodes) (in_loop : Bool) (x n parent : ℕ) (fits : Condition) (next : Expression) (body turn whole : Statement)
+    → IsPair whole (S.If' fits p1 S.Skip p2 S.Fail) (S.Let' x (E.Constant c) p3 (S.Repeat' w p4 turn))
+    → IsPair turn (S.Assign x next) (S.Lock' (P.Child n parent (E.Value x)) p5 body p6 S.Break)
+    → x ≡ d → n ≡ m → holds h n ≡ false → holds h parent ≡ true
+    → IsTestable d h fits → condition_may_fail fits ≡ false → IsReadable (d + 1) h next → may_fail next ≡ true
+    → IsSound body (d + 1) (m + 1) (with_node h n) true → IfSome (keeping h (after body (with_node h n))) (λ k. k ≡ h)
+    → IsWalk d m h in_loop n body whole
+walk p1 p2 p3 p4 p5 p6 c w d m h in_loop x n parent fits next body turn whole wp tp xd nm empty has testable sure readable unsure sound kept = record {
+  sound = wp.sound d m h in_loop (testable, tt, tt) (xd, tt, (subst (λ o. KeepsHeld o h) (sym turn_after) (given_up h n (after body inside) (keeping_after body inside) empty kept), turn_sound));
+  paths = wp.paths h ∙ whole_paths;
+}
+  where
+    inside : Nodes
+    inside = with_node h n
+
+    turn_paths : outcomes turn h ≡ record {
+      after = option_map (λ a. without_node a n) (both_of (after body inside) None);
+      fails = both_of (all_of (here_if (may_fail next) h)) (all_of (fails body inside ++ []));
+      breaks = all_of (breaks body inside ++ h ∷ []);
+    }
+    turn_paths = tp.paths h
+
+    turn_after : after turn h ≡ option_map (λ a. without_node a n) (both_of (after body inside) None)
+    turn_after = ap (λ (q : Paths). q.after) turn_paths
+
+    turn_sound : IsSound turn (d + 1) m h true
+    turn_sound = tp.sound (d + 1) m h true (below, readable) ((empty, has, below), subst (λ k. IsSound body (d + 1) k inside true) (omega arith) sound, refl)
+      where
+        below : x < d + 1
+        below = omega arith
+
+    turn_fails : all_of (fails turn h) ≡ both_of (Some h) (all_of (fails body inside))
+    turn_fails = ap (λ (q : Paths). q.fails) turn_paths ∙ ap₂ (λ b f. both_of (all_of (here_if b h)) (all_of f)) unsure (append-nil (fails body inside))
+
+    turn_breaks : all_of (breaks turn h) ≡ both_of (all_of (breaks body inside)) (Some h)
+    turn_breaks = ap (λ (q : Paths). q.breaks) turn_paths ∙ all_of_append (breaks body inside) (h ∷ [])
+
+    behind : keeping h (both_of (if is_some (after turn h) then Some h else None) (all_of (breaks turn h))) ≡ keeping h (both_of (Some h) (all_of (breaks body inside)))
+    behind = ap (λ z. keeping h (both_of (if is_some (after turn h) then Some h else None) z)) turn_breaks ∙ walk_behind h (after turn h) (all_of (breaks body inside))
+
+    whole_paths : then_of (outcomes (S.If' fits p1 S.Skip p2 S.Fail) h) (outcomes (S.Let' x (E.Constant c) p3 (S.Repeat' w p4 turn)))
+        ≡ record { after = keeping h (both_of (Some h) (all_of (breaks body inside))); fails = both_of (Some h) (all_of (fails body inside)); breaks = None }
+    whole_paths =
+        ap (λ b. record { after = keeping h (both_of (if is_some (after turn h) then Some h else None) (all_of (breaks turn h))); fails = both_of (all_of (here_if b h ++ h ∷ [])) (all_of (fails turn h)); breaks = None }) sure
+        ∙ ap₂ (λ a f. record { after = a; fails = both_of (Some h) f; breaks = None }) behind turn_fails
+        ∙ ap (λ f. record { after = keeping h (both_of (Some h) (all_of (breaks body inside))); fails = f; breaks = None }) (walk_fails h (all_of (fails body inside)))
+
+-- ---- the same of what lies in boxes
+
+pub repeat_of : {p : _} (scope : View) (held : Held) (body : Statement) (flow left : Flow) (turned : Option Nodes) (w : ℕ) (a : Statement) → a ≡ body → IsTurn scope.values scope.nodes (nodes_of held) (R.Times w) body flow
+    → turned ≡ both_of (known flow.after) (known flow.breaks)
+    → paths_of left ≡ record { after = keeping (nodes_of held) turned; fails = known flow.fails; breaks = None } → IsLowered scope held (S.Repeat' w p a) left
+repeat_of {p} scope held body flow left turned w a e t f l = subst (λ z. IsLowered scope held (S.Repeat' w p z) left) (sym e) (lowered_repeat scope held body flow left turned w t f l)
+
+pub up_to_of : {p : _} (scope : View) (held : Held) (body : Statement) (flow left : Flow) (turned : Option Nodes) (x : Expression) (w : ℕ) (a : Statement) → a ≡ body → IsReadable scope.values (nodes_of held) x
+    → IsTurn scope.values scope.nodes (nodes_of held) (R.UpTo x w) body flow → turned ≡ both_of (Some (nodes_of held)) (both_of (known flow.after) (known flow.breaks))
+    → paths_of left ≡ record { after = keeping (nodes_of held) turned; fails = both_of (Some (nodes_of held)) (known flow.fails); breaks = None } → IsLowered scope held (S.RepeatUpTo' x w p a) left
+up_to_of {p} scope held body flow left turned x w a e r t f l = subst (λ z. IsLowered scope held (S.RepeatUpTo' x w p z) left) (sym e) (lowered_up_to scope held body flow left turned x w r t f l)
+
+pub walk_of : (p1 p2 p3 p4 p5 p6 : _) (c : _) (w : ℕ) (d m : ℕ) (h : Nodes) (in_loop : Bool) (x n parent : ℕ) (fits : Condition) (next : Expression) (body turn whole skip fail turns inner bodied broken : Statement)
+    → IsPair whole (S.If' fits p1 skip p2 fail) (S.Let' x (E.Constant c) p3 turns) → IsPair turn (S.Assign x next) (S.Lock' (P.Child n parent (E.Value x)) p5 bodied p6 broken)
+    → skip ≡ S.Skip → fail ≡ S.Fail → turns ≡ S.Repeat' w p4 inner → inner ≡ turn → bodied ≡ body → broken ≡ S.Break
+    → x ≡ d → n ≡ m → holds h n ≡ false → holds h parent ≡ true
+    → IsTestable d h fits → condition_may_fail fits ≡ false → IsReadable (d + 1) h next → may_fail next ≡ true
+    → IsSound body (d + 1) (m + 1) (with_node h n) true → IfSome (keeping h (after body (with_node h n))) (λ k. k ≡ h)
+    → IsWalk d m h in_loop n body whole
+walk_of p1 p2 p3 p4 p5 p6 c w d m h in_loop x n parent fits next body turn whole skip fail turns inner bodied broken wp tp e1 e2 e3 e4 e5 e6 =
+    walk p1 p2 p3 p4 p5 p6 c w d m h in_loop x n parent fits next body turn whole
+    (subst (λ z. IsPair whole z (S.Let' x (E.Constant c) p3 (S.Repeat' w p4 turn))) (ap₂ (λ a b. S.If' fits p1 a p2 b) e1 e2)
+    (subst (λ z. IsPair whole (S.If' fits p1 skip p2 fail) z) (ap (λ r. S.Let' x (E.Constant c) p3 r) (e3 ∙ ap (λ t. S.Repeat' w p4 t) e4)) wp))
+    (subst (λ z. IsPair turn (S.Assign x next) z) (ap₂ (λ a b. S.Lock' (P.Child n parent (E.Value x)) p5 a p6 b) e5 e6) tp)

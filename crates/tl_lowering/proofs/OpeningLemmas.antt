@@ -1,0 +1,91 @@
+-- What a `let` or a `lock` opens, and the choice between two blocks.
+use Rattle.std.proofs.Common.{◌≡◌, ◌∙◌, ℕ, ℤ, pos, List, [], ◌∷◌, Option, None, Some, sym, ap, subst}
+use Rattle.std.specs.Prelude.{neg_ℤ}
+use Rattle.tl_syntax.specs.declared.parsed.Name.{Name}
+use Rattle.tl_syntax.specs.declared.parsed.Statement.{Statement as TextStatement}
+use Rattle.tl_syntax.specs.declared.parsed.StatementForm.{StatementForm}
+use Rattle.tl_syntax.specs.declared.parsed.StatementForm.TheVariants as T
+use Rattle.tl_lowering.specs.declared.lowering.Binding.{Binding}
+use Rattle.tl_lowering.specs.declared.lowering.Binding.TheVariants as B
+use Rattle.tl_lowering.specs.declared.lowering.Entrance.TheVariants as N
+use Rattle.tl_lowering.specs.declared.program.Expression.TheVariants as E
+use Rattle.tl_lowering.specs.declared.lowering.Head.TheVariants as H
+use Rattle.tl_lowering.specs.declared.loops.Repetition.TheVariants as R
+use Rattle.tl_lowering.specs.declared.program.Condition.TheVariants as C
+use Rattle.tl_lowering.specs.declared.program.Place.TheVariants as P
+use Rattle.tl_syntax.specs.declared.operator.Operator.TheVariants as O
+use Rattle.tl_lowering.specs.declared.naming.Locking.{Locking}
+use Rattle.tl_lowering.specs.declared.paths.Flow.{Flow}
+use Rattle.tl_lowering.specs.declared.program.Condition.{Condition}
+use Rattle.tl_lowering.specs.declared.program.Expression.{Expression}
+use Rattle.tl_lowering.specs.declared.program.Statement.{Statement}
+use Rattle.tl_lowering.specs.declared.program.Statement.TheVariants as S
+use Rattle.tl_lowering.specs.Names.{Names, with_value, with_place}
+use Rattle.tl_lowering.specs.Naming.{IsCalculated, IsNot, IsThen, with_locking}
+use Rattle.tl_lowering.specs.Reading.{IsVisiting, visiting, IsAtOffset, IsBlock, AreStatements, let_rest, let_else, lock_rest, lock_else}
+use Rattle.tl_lowering.specs.Drafts.{IsOpening, opening_value, opening_nodes, IsElse, no_else, one_else, other_of, Opens, opens_value, opens_value_else, opens_nodes, opens_nodes_else, Binds, binds_value, binds_value_else, binds_nodes}
+use Rattle.tl_lowering.specs.Choosing.{IsChosen, chosen_if, chosen_lock, IsTurning, turning_times, turning_up_to}
+use Rattle.tl_lowering.proofs.JoinLemmas.{same_else}
+
+-- ---- the choice between two statements
+
+pub chooses_if : {p q : _} {c : Condition} {a b first second : Statement} → a ≡ first → b ≡ second → IsChosen first second (N.Condition c) (S.If' c p a q b)
+chooses_if {p} {q} {c} {a} {b} {first} {second} e f =
+    subst (λ z. IsChosen z second (N.Condition c) (S.If' c p a q b)) e (subst (λ z. IsChosen a z (N.Condition c) (S.If' c p a q b)) f chosen_if)
+
+pub chooses_lock : {p q : _} (l : Locking) {a b first second : Statement} → a ≡ first → b ≡ second → IsChosen first second (N.Lock l) (S.Lock' l.place p a q b)
+chooses_lock {p} {q} l {a} {b} {first} {second} e f =
+    subst (λ z. IsChosen z second (N.Lock l) (S.Lock' l.place p a q b)) e (subst (λ z. IsChosen a z (N.Lock l) (S.Lock' l.place p a q b)) f chosen_lock)
+
+-- ---- a declaration with its `else`
+
+pub value_opens : {names later : Names} {form : StatementForm} {name : Name} {x : ℕ} {e : Expression} → later ≡ with_value names name
+    → IsOpening names form (H.Value name x e) → IsElse names form None → Opens names form (B.Value x e) later
+value_opens {names} {form = form} {x = x} {e = e} l (opening_value o f g n) (no_else h) =
+    subst (Opens names form (B.Value x e)) (sym l) (opens_value (f ∙ ap (T.Act _) (same_else _ _ o None (sym f ∙ h))) g n)
+
+pub value_else_opens : {names later : Names} {form : StatementForm} {name : Name} {x : ℕ} {e : Expression} {a : Statement} {flow : Flow} → later ≡ with_value names name
+    → IsOpening names form (H.Value name x e) → IsElse names form (Some (a, flow)) → Opens names form (B.ValueElse x e a) later
+value_else_opens {names} {form = form} {x = x} {e = e} {a = a} l (opening_value o f g n) (one_else {o = other} h b) =
+    subst (Opens names form (B.ValueElse x e a)) (sym l) (opens_value_else (f ∙ ap (T.Act _) (same_else _ _ o (Some other) (sym f ∙ h))) g n b)
+
+pub nodes_opens : {names later : Names} {form : StatementForm} {l : Locking} {a : Statement} (other : Option (Statement × Flow)) → later ≡ with_locking names l
+    → a ≡ other_of other → IsOpening names form (H.Nodes l) → IsElse names form other → Opens names form (B.Nodes l.place a) later
+nodes_opens {names} {later} {form} {l} {a} None e g (opening_nodes o {text = w} f k) (no_else h) =
+    subst (Opens names form (B.Nodes l.place a)) (sym (e ∙ k.names_are))
+    (subst (λ z. Opens names form (B.Nodes l.place z) (with_place names w)) (sym g) (opens_nodes (f ∙ ap (T.Act _) (same_else _ _ o None (sym f ∙ h))) k.place_is))
+nodes_opens {names} {later} {form} {l} {a} (Some (s, flow)) e g (opening_nodes o {text = w} f k) (one_else {o = other} h b) =
+    subst (Opens names form (B.Nodes l.place a)) (sym (e ∙ k.names_are))
+    (subst (λ z. Opens names form (B.Nodes l.place z) (with_place names w)) (sym g) (opens_nodes_else (f ∙ ap (T.Act _) (same_else _ _ o (Some other) (sym f ∙ h))) k.place_is b))
+
+-- ---- and with the rest of its block
+
+pub opens_rest : {names inner : Names} {s : TextStatement} {rest : List TextStatement} {b : Binding} {body bound placed : Statement} → Opens names s.form b inner
+    → IsBlock inner rest body → Binds b body bound → IsAtOffset s.offset bound placed → AreStatements names (s ∷ rest) (placed ∷ [])
+opens_rest {s = s} {body = body} {placed = placed} (opens_value {e = e} f g n) k (binds_value {p = p}) a =
+    let_rest f n k (subst (λ z. IsAtOffset s.offset (S.Let' z e p body) placed) g a)
+opens_rest {s = s} {body = body} {placed = placed} (opens_value_else {e = e} {other = other} f g n o) k (binds_value_else {p = p} {q = q}) a =
+    let_else f n o k (subst (λ z. IsAtOffset s.offset (S.LetElse' z e p body q other) placed) g a)
+opens_rest (opens_nodes f h) k binds_nodes a = lock_rest f h k a
+opens_rest (opens_nodes_else f h o) k binds_nodes a = lock_else f h o k a
+
+-- ---- a loop over children
+
+pub visits_of : {p q r s t u : _} {index child parent turns : ℕ} {w : ℤ} {body b empty fail out turn boxed loop whole : Statement} {fits : Condition} {next : Expression}
+    → w ≡ pos turns → b ≡ body → empty ≡ S.Skip → fail ≡ S.Fail → out ≡ S.Break → boxed ≡ turn → loop ≡ S.Repeat' turns u boxed
+    → IsNot (C.Greater (E.Children parent) (E.Constant w)) fits → IsCalculated O.Add (E.Value index) (E.Constant (pos 1)) next
+    → IsThen (S.Assign index next) (S.Lock' (P.Child child parent (E.Value index)) p b q out) turn
+    → IsThen (S.If' fits r empty s fail) (S.Let' index (E.Constant (neg_ℤ (pos 1))) t loop) whole → IsVisiting index child parent turns body whole
+visits_of {p} {q} {r} {s} {t} {u} {index} {child} {parent} {turns} {w} {body} {b} {empty} {fail} {out} {turn} {boxed} {loop} {whole} {fits} {next} e0 e1 e2 e3 e4 e5 e6 n c i j =
+    visiting (subst (λ z. IsNot (C.Greater (E.Children parent) (E.Constant z)) fits) e0 n) c
+    (subst (λ z. IsThen (S.Assign index next) (S.Lock' (P.Child child parent (E.Value index)) p z q S.Break) turn) e1
+    (subst (λ z. IsThen (S.Assign index next) (S.Lock' (P.Child child parent (E.Value index)) p b q z) turn) e4 i))
+    (subst (λ z. IsThen (S.If' fits r S.Skip s S.Fail) (S.Let' index (E.Constant (neg_ℤ (pos 1))) t z) whole) (e6 ∙ ap (S.Repeat' turns u) e5)
+    (subst (λ z. IsThen (S.If' fits r S.Skip s z) (S.Let' index (E.Constant (neg_ℤ (pos 1))) t loop) whole) e3
+    (subst (λ z. IsThen (S.If' fits r z s fail) (S.Let' index (E.Constant (neg_ℤ (pos 1))) t loop) whole) e2 j)))
+
+pub turns_times : {p : _} {w : ℕ} {a body : Statement} → a ≡ body → IsTurning body (R.Times w) (S.Repeat' w p a)
+turns_times {p} {w} {a} e = subst (λ z. IsTurning z (R.Times w) (S.Repeat' w p a)) e turning_times
+
+pub turns_up_to : {p : _} {x : Expression} {w : ℕ} {a body : Statement} → a ≡ body → IsTurning body (R.UpTo x w) (S.RepeatUpTo' x w p a)
+turns_up_to {p} {x} {w} {a} e = subst (λ z. IsTurning z (R.UpTo x w) (S.RepeatUpTo' x w p a)) e turning_up_to

@@ -1,0 +1,82 @@
+-- The declarations of a text, and its procedures.
+use Rattle.std.proofs.Common.{◌≡◌, ◌∙◌, ℕ, zero, suc, ◌+◌, ◌<◌, List, [], ◌∷◌, ◌++◌, length, take, get_or, ℤ, None, Some, refl, sym, ap, subst, append-nil, append_assoc, arith}
+use Rattle.std.specs.Prelude.{slice_get}
+use Rattle.std.specs.Borrow.{Bor}
+use Rattle.std.proofs.lemmas.List.{take_more}
+use Rattle.tl_syntax.specs.declared.parsed.Name.{Name}
+use Rattle.tl_syntax.specs.declared.parsed.Declaration.{Declaration}
+use Rattle.tl_syntax.specs.declared.parsed.Declaration.TheVariants as D
+use Rattle.tl_syntax.specs.declared.parsed.Procedure.{Procedure as TextProcedure}
+use Rattle.tl_syntax.specs.Tokens.{spellings}
+use Rattle.tl_lowering.specs.declared.program.Procedure.{Procedure}
+use Rattle.tl_lowering.specs.Names.{Names, with_constant, with_value, with_values}
+use Rattle.tl_lowering.specs.Reading.{IsWithField, IsProcedure, AreDeclared, none_declared, next_field, next_constant, next_procedure}
+
+-- ---- arguments
+
+with_values_append : (names : Names) (xs ys : List Name) → with_values names (xs ++ ys) ≡ with_values (with_values names xs) ys
+with_values_append names [] ys = refl
+with_values_append names (x ∷ xs) ys = with_values_append (with_value names x) xs ys
+
+pub argument_more : (names : Names) {old new : Names} (xs : List Name) (i : ℕ) (d : Name) → i < length xs → old ≡ with_values names (take i xs)
+    → new ≡ with_value old (get_or xs i d) → new ≡ with_values names (take (i + 1) xs)
+argument_more names xs i d lt e g =
+    g ∙ ap (λ n. with_value n (get_or xs i d)) e ∙ sym (with_values_append names (take i xs) (get_or xs i d ∷ [])) ∙ ap (with_values names) (sym (take_more xs i d lt))
+
+pub count_values : (names : Names) (xs : List Name) → (with_values names xs).values ≡ names.values + length xs
+count_values names [] = omega arith
+count_values names (x ∷ xs) = let h = count_values (with_value names x) xs in omega arith
+
+-- ---- declarations
+
+-- with whatever follows, what was read declares these procedures
+abbrev pub AreSoFar : List (List ℕ) → Names → List Declaration → List Procedure → Names → Type 0
+AreSoFar spellings names before ps now =
+    (rest : List Declaration) (more : List Procedure) → AreDeclared spellings now rest more → AreDeclared spellings names (before ++ rest) (ps ++ more)
+
+pub none_so_far : {spellings : List (List ℕ)} {names : Names} {ps : List Procedure} → ps ≡ [] → AreSoFar spellings names [] ps names
+none_so_far {spellings} {names} e rest more h = subst (λ z. AreDeclared spellings names rest (z ++ more)) (sym e) h
+
+one_more : {spellings : List (List ℕ)} {names : Names} (xs : List Declaration) (i : ℕ) (x : Declaration) (rest : List Declaration) (all : List Procedure) → i < length xs → x ≡ get_or xs i x
+    → AreDeclared spellings names (take i xs ++ x ∷ rest) all → AreDeclared spellings names (take (i + 1) xs ++ rest) all
+one_more {spellings} {names} xs i x rest all lt f h =
+    let e : take (i + 1) xs ≡ take i xs ++ x ∷ [] = take_more xs i x lt ∙ ap (λ z. take i xs ++ z ∷ []) (sym f) in
+    subst (λ z. AreDeclared spellings names z all) (sym (ap (λ z. z ++ rest) e ∙ append_assoc (take i xs) (x ∷ []) rest)) h
+
+module _ {spellings : List (List ℕ)} {names old : Names} (new : Names) (ps : List Procedure) (xs : List Declaration) (i : ℕ) (x : Declaration) (lt : i < length xs) (f : x ≡ get_or xs i x)
+    (part : AreSoFar spellings names (take i xs) ps old) where
+  pub field_more : {name : Name} {number : ℤ} {offset : ℕ} → x ≡ D.Field name number offset → IsWithField old name number new → AreSoFar spellings names (take (i + 1) xs) ps new
+  field_more e g rest more h =
+      one_more xs i x rest (ps ++ more) lt f (part (x ∷ rest) more (subst (λ d. AreDeclared spellings old (d ∷ rest) more) (sym e) (next_field g h)))
+
+  pub constant_more : {name : Name} {number : ℤ} → x ≡ D.Constant name number → new ≡ with_constant old name number → AreSoFar spellings names (take (i + 1) xs) ps new
+  constant_more e g rest more h =
+      one_more xs i x rest (ps ++ more) lt f
+      (part (x ∷ rest) more (subst (λ d. AreDeclared spellings old (d ∷ rest) more) (sym e) (next_constant (subst (λ n. AreDeclared spellings n rest more) g h))))
+
+  pub procedure_more : {text : TextProcedure} {p : Procedure} (qs : List Procedure) → x ≡ D.Procedure text → IsProcedure spellings old text p → new ≡ old → qs ≡ ps ++ p ∷ []
+      → AreSoFar spellings names (take (i + 1) xs) qs new
+  procedure_more {p = p} qs e g k q rest more h =
+      one_more xs i x rest (qs ++ more) lt f
+      (subst (AreDeclared spellings names (take i xs ++ x ∷ rest)) (sym (ap (λ z. z ++ more) q ∙ append_assoc ps (p ∷ []) more))
+      (part (x ∷ rest) (p ∷ more) (subst (λ d. AreDeclared spellings old (d ∷ rest) (p ∷ more)) (sym e) (next_procedure g (subst (λ n. AreDeclared spellings n rest more) k h)))))
+
+pub all_so_far : {spellings : List (List ℕ)} {names now : Names} {before : List Declaration} {ps : List Procedure} → AreSoFar spellings names before ps now → AreDeclared spellings names before ps
+all_so_far {spellings} {names} {before = before} {ps = ps} part =
+    subst (λ z. AreDeclared spellings names z ps) (append-nil before) (subst (AreDeclared spellings names (before ++ [])) (append-nil ps) (part [] [] none_declared))
+
+-- ---- the spelling of a name
+
+pub spelling_some : (keys : List (Bor (List ℕ))) (i : ℕ) (x : Bor (List ℕ)) → slice_get keys i ≡ Some x → get_or (spellings keys) i [] ≡ x.now
+spelling_some [] i x e = cc
+spelling_some (k ∷ keys) zero x e = let h : k ≡ x = cc in ap (λ z. z.now) h
+spelling_some (k ∷ keys) (suc i) x e = spelling_some keys i x e
+
+pub spelling_none : (keys : List (Bor (List ℕ))) (i : ℕ) → slice_get keys i ≡ None → get_or (spellings keys) i [] ≡ []
+spelling_none [] i e = refl
+spelling_none (k ∷ keys) zero e = cc
+spelling_none (k ∷ keys) (suc i) e = spelling_none keys i e
+
+pub count_spellings : (keys : List (Bor (List ℕ))) → length (spellings keys) ≡ length keys
+count_spellings [] = refl
+count_spellings (k ∷ keys) = ap suc (count_spellings keys)

@@ -1,0 +1,260 @@
+use Rattle.std.proofs.Common.{◌≡◌, Some, None, [], refl, sym, ap, ◌∙◌, subst, arith, rules}
+use Rattle.std.specs.Prelude.{nat_lt, IfSome}
+use Rattle.tl_lowering.specs.declared.lowering.Draft.{Draft}
+use Rattle.tl_lowering.specs.declared.lowering.Opened.{Opened}
+use Rattle.tl_lowering.specs.declared.paths.Flow.{Flow}
+use Rattle.tl_lowering.specs.Blocks.{Reached, at_start}
+use Rattle.tl_lowering.specs.Lowering.{IsDraft, behind_draft}
+use Rattle.tl_lowering.specs.Paths.{Paths, nodes_of, known, paths_of}
+use Rattle.tl_lowering.specs.Repeating.{IsRepetition}
+use Rattle.tl_lowering.specs.Scopes.{View, view_of, IsAt, IsLowered}
+use Rattle.tl_lowering.specs.Sound.{IsSound}
+use Rattle.tl_lowering.proofs.BodyLemmas.{on_ok, then_flow, same_draft, same_behind, back, loop_back, at_known}
+use Rattle.tl_lowering.proofs.DepthLemmas.{falls_in_try, falls_in_handler, falls_in_first, falls_in_second, falls_in_visit}
+use Rattle.tl_lowering.proofs.DraftLemmas.{none_read, none_behind, extended_paths, extended_draft, opened_paths, opened_draft, block_lowered}
+use Rattle.tl_lowering.proofs.LoweringLemmas.{at_exactly, at_behind, at_handler, extends_self}
+use Rattle.std.proofs.lemmas.List.{take_all}
+use Rattle.tl_lowering.specs.Names.{names_in, names_of}
+use Rattle.std.specs.Prelude.{option_map}
+use Rattle.tl_syntax.specs.declared.parsed.Expression.{Expression as TextExpression}
+use Rattle.tl_syntax.specs.declared.parsed.StatementForm.TheVariants as T
+use Rattle.tl_lowering.specs.Choosing.{IsRepeated}
+use Rattle.tl_lowering.specs.Drafts.{no_else, one_else}
+use Rattle.tl_lowering.specs.Reading.{IsBlock, act}
+use Rattle.tl_lowering.proofs.PathLemmas.{ok_more}
+use Rattle.tl_lowering.proofs.PartLemmas.{none_part, more_part, whole_part, plain_extended, opened_extended, opens_at, tried_statement, handled_statement, chosen_statement, repeated_statement, visited_statement, forms_of, loop_at, block_at}
+use Rattle.tl_lowering.proofs.lowering.Lowering.+lowering.Goals as goal
+
+pub block-loop-statement-init : goal.block-loop-statement-init
+block-loop-statement-init t c =
+    let scope : View = view_of c.args.self.now.scope in
+    let draft : Draft = record { opened = c.new.result; statements = c.new-2.result; flow = c.on.result } in
+    record {
+      named = none_part (names_of c.args.self.now.scope) draft c.new.ensures.items c.new-2.ensures.items;
+      draft = none_read scope c.args.held draft c.new.ensures.items c.new-2.ensures.items;
+      flow = c.on.ensures ∙ sym (none_behind scope c.args.held draft c.new.ensures.items c.new-2.ensures.items);
+      at = at_exactly scope (nodes_of c.args.held) c.on.result.after c.requires.names c.requires.nodes (ap (λ (p : Paths). p.after) c.on.ensures);
+      loops = refl;
+      extends = extends_self scope;
+    }
+
+pub block-loop-statement-preserved : goal.block-loop-statement-preserved
+block-loop-statement-preserved t c =
+    let start : Reached = at_start c.args.self.now.scope.values c.args.self.now.scope.nodes (nodes_of c.args.held) in
+    let so_far = c.loop-statement.invariant in
+    let old : Draft = c.loop-statement.draft in
+    let made : Draft = c.extend.new.draft in
+    let draft : Draft = record { opened = made.opened; statements = made.statements; flow = c.then-draft.result } in
+    let later : View = view_of c.extend.new.self.scope in
+    let more = c.in_ok-flow.ensures in
+    let here : known old.flow.after ≡ Some (nodes_of c.in-Some.held_here) = ap known c.in-Some.is in
+    let behind : (behind_draft start old).after ≡ Some (nodes_of c.in-Some.held_here) = sym (ap (λ (p : Paths). p.after) so_far.flow) ∙ here in
+    record {
+      named = more_part draft c.args.statements.now c.loop-statement.statement-index c.statement-item.result (omega arith) c.statement-item.is so_far.named more.named;
+      draft = same_draft start made draft later refl refl (more.draft start so_far.draft behind);
+      flow =
+          then_flow (behind_draft start old) (nodes_of c.in-Some.held_here) made.flow c.in_ok-flow.flow c.then-draft.result
+          (ap paths_of more.flow ∙ so_far.flow) (ap (λ (f : Flow). known f.after) more.flow ∙ here) c.then-draft.ensures
+          ∙ sym (more.paths start behind) ∙ sym (same_behind start made draft refl refl);
+      at = at_known later c.in_ok-flow.flow.after c.then-draft.result.after (ap (λ (p : Paths). p.after) c.then-draft.ensures) more.at;
+      loops = more.loops ∙ so_far.loops;
+      extends = more.extends (view_of c.args.self.now.scope) so_far.extends;
+    }
+
+pub block-returns-clause-lowered : goal.block-returns-clause-lowered
+block-returns-clause-lowered t c =
+    let scope : View = view_of c.args.self.now.scope in
+    let inner : View = view_of c.loop-statement.self.scope in
+    let start : Reached = at_start scope.values scope.nodes (nodes_of c.args.held) in
+    let so_far = c.loop-statement.invariant in
+    let whole = c.in_ok-finished.ensures.order start inner (nodes_of c.args.held) so_far.draft c.requires.nodes in
+    block_lowered scope c.args.held c.in_ok-finished.field-0 c.loop-statement.draft.flow c.keeping-flow.result (behind_draft start c.loop-statement.draft)
+    whole.0 (subst (λ n. IsSound c.in_ok-finished.field-0 scope.values scope.nodes (nodes_of c.args.held) (nat_lt 0 n)) so_far.loops whole.1) so_far.flow c.keeping-flow.ensures
+
+pub extend-returns-in_default-clause-draft : goal.extend-returns-in_default-clause-draft
+extend-returns-in_default-clause-draft t c = λ start d e.
+    let draft : Draft = record { opened = c.args.draft.now.opened; statements = c.push.new.self; flow = c.args.draft.now.flow } in
+    extended_draft start c.args.draft.now draft (view_of c.args.self.now.scope) (view_of c.statement.new.self.scope) c.args.held
+    c.in_ok-lowered.lowered c.in_ok-at.field-0 c.in_ok-lowered.flow d e c.in_ok-at.ensures.same c.in_ok-lowered.ensures.lowered c.in_ok-lowered.ensures.scope refl c.in_ok-push.ensures.items
+
+pub extend-returns-in_default-clause-paths : goal.extend-returns-in_default-clause-paths
+extend-returns-in_default-clause-paths t c = λ start e.
+    let draft : Draft = record { opened = c.args.draft.now.opened; statements = c.push.new.self; flow = c.args.draft.now.flow } in
+    extended_paths start c.args.draft.now draft (view_of c.args.self.now.scope) (view_of c.statement.new.self.scope) c.args.held
+    c.in_ok-lowered.lowered c.in_ok-at.field-0 c.in_ok-lowered.flow e c.in_ok-at.ensures.same c.in_ok-lowered.ensures.lowered refl c.in_ok-push.ensures.items
+
+pub extend-returns-in_default-clause-at : goal.extend-returns-in_default-clause-at
+extend-returns-in_default-clause-at t c =
+    subst (λ v. IfSome c.in_ok-lowered.flow.after (IsAt v)) (sym c.in_ok-lowered.ensures.scope)
+    (at_behind (view_of c.args.self.now.scope) c.args.held c.in_ok-lowered.lowered c.in_ok-lowered.flow c.requires c.in_ok-lowered.ensures.lowered)
+
+pub extend-returns-clause-draft : goal.extend-returns-clause-draft
+extend-returns-clause-draft t c = λ start d e.
+    let draft : Draft = record { opened = c.push-2.new.self; statements = c.replace-earlier.new.dest; flow = c.args.draft.now.flow } in
+    let opened : Opened = record { binding = c.in_ok-binding.binding; offset = c.args.statement.now.offset; earlier = c.replace-earlier.result } in
+    let here : View = view_of c.refusal.new.self.scope in
+    let earlier : c.replace-earlier.result.items ≡ c.args.draft.now.statements.items = search rules in
+    let none : c.replace-earlier.new.dest.items ≡ [] = search rules in
+    let b = c.in_ok-binding.ensures in
+    opened_draft start c.args.draft.now draft here (view_of c.bound.new.self.scope) c.args.held
+    opened (subst (IsDraft start c.args.draft.now) (sym c.in_ok-otherwise.ensures.scope) d) e b.binding earlier c.in_ok-push-2.ensures.items none b.values b.nodes b.loops
+
+pub extend-returns-clause-paths : goal.extend-returns-clause-paths
+extend-returns-clause-paths t c = λ start e.
+    let draft : Draft = record { opened = c.push-2.new.self; statements = c.replace-earlier.new.dest; flow = c.args.draft.now.flow } in
+    let opened : Opened = record { binding = c.in_ok-binding.binding; offset = c.args.statement.now.offset; earlier = c.replace-earlier.result } in
+    let earlier : c.replace-earlier.result.items ≡ c.args.draft.now.statements.items = search rules in
+    let none : c.replace-earlier.new.dest.items ≡ [] = search rules in
+    opened_paths start c.args.draft.now draft (view_of c.refusal.new.self.scope) (view_of c.bound.new.self.scope) c.args.held
+    opened c.in_ok-binding.flow e c.in_ok-binding.ensures.paths earlier c.in_ok-push-2.ensures.items none
+
+pub first_block-returns-clause-scope : goal.first_block-returns-clause-scope
+first_block-returns-clause-scope t c =
+    let mark = c.mark-mark.ensures in
+    let left = c.return_to.ensures in
+    let same = c.in_ok-first.ensures.scope in
+    back (view_of c.args.self.now.scope) (view_of c.enter.new.self.scope) (view_of c.block.new.self.scope) (view_of c.return_to.new.self) c.mark-mark.result.local
+    c.in_ok-inside.ensures.extends same mark.local left.meanings left.fields left.local (left.values ∙ mark.values) (left.nodes ∙ mark.nodes)
+    (left.loops ∙ ap (λ (v : View). v.loops) same ∙ c.in_ok-inside.ensures.loops)
+
+pub handled-block-requires : goal.handled-block-requires
+handled-block-requires t c =
+    (search rules, at_handler (view_of c.args.self.now.scope) c.args.held c.handled.result (known c.args.lowered.1.fails) c.requires.at c.handled.ensures)
+
+pub statement-block-requires : goal.statement-block-requires
+statement-block-requires t c =
+    (falls_in_try t 1 c.args.form.now c.in-Try.body c.in-Try.handler c.deref-in-Try.result.now c.decreases c.deref-in-Try.ensures.value (omega arith) c.in-Try.is, c.requires)
+
+pub statement-handled-requires-in-Try : goal.statement-handled-requires-in-Try
+statement-handled-requires-in-Try t c =
+    let lowered = c.in_ok-lowered-in-Try.lowered in
+    let same = sym c.in_ok-lowered-in-Try.ensures.scope in (
+      falls_in_handler t 2 c.args.form.now c.in-Try.body c.in-Try.handler c.deref-in-Try-2.result.now c.decreases c.deref-in-Try-2.ensures.value (omega arith) c.in-Try.is,
+      (subst (λ v. IsAt v c.args.held) same c.requires, subst (λ v. IsLowered v c.args.held lowered.0 lowered.1) same c.in_ok-lowered-in-Try.ensures.lowered),
+    )
+
+pub statement-first_block-requires : goal.statement-first_block-requires
+statement-first_block-requires t c = (
+  falls_in_first t 2 c.args.form.now c.in-If.question c.in-If.body c.in-If.otherwise c.deref-in-If.result.now c.decreases c.deref-in-If.ensures.value (omega arith) c.in-If.is,
+  (c.requires, c.in_ok-entrance-in-If.ensures.entrance),
+)
+
+pub statement-block-requires-in-If : goal.statement-block-requires-in-If
+statement-block-requires-in-If t c = (
+  falls_in_second t 1 c.args.form.now c.in-If.question c.in-If.body c.in-If.otherwise c.deref-in-If-2.result.now c.decreases c.deref-in-If-2.ensures.value (omega arith) c.in-If.is,
+  subst (λ v. IsAt v c.args.held) (sym c.in_ok-first-in-If.ensures.scope) c.requires,
+)
+
+pub statement-turns-requires-in-ForEach : goal.statement-turns-requires-in-ForEach
+statement-turns-requires-in-ForEach t c =
+    let v = c.in-ForEach in (
+      falls_in_visit t 2 c.args.form.now v.child v.parent v.at_most v.body c.deref-in-ForEach.result.now c.decreases c.deref-in-ForEach.ensures.value (omega arith) v.is,
+      (c.requires, (c.in_ok-repetition-in-ForEach.ensures.repetition, c.in_ok-repetition-in-ForEach.ensures.depth)),
+    )
+
+pub turns-repeated-requires-clause-at : goal.turns-repeated-requires-clause-at
+turns-repeated-requires-clause-at t c =
+    let mark = c.mark-mark.ensures in
+    let left = c.return_to.ensures in
+    let begun = c.in_ok-inside.ensures in
+    let new : View = record (view_of c.return_to.new.self) { loops = c.saturating_sub-self.result } in
+    let same : new ≡ view_of c.args.self.now.scope =
+    loop_back (view_of c.args.self.now.scope) (view_of c.begin.new.self.scope) (view_of c.block.new.self.scope) (view_of c.return_to.new.self) c.mark-mark.result.local c.saturating_sub-self.result
+    begun.extends c.in_ok-body.ensures.scope mark.local left.meanings left.fields left.local (left.values ∙ mark.values) (left.nodes ∙ mark.nodes) left.loops begun.loops (omega arith) in
+    subst (λ v. IsAt v c.args.held) (sym same) c.requires.at
+
+pub turns-repeated-requires-clause-repetition : goal.turns-repeated-requires-clause-repetition
+turns-repeated-requires-clause-repetition t c =
+    let mark = c.mark-mark.ensures in
+    let left = c.return_to.ensures in
+    let begun = c.in_ok-inside.ensures in
+    let new : View = record (view_of c.return_to.new.self) { loops = c.saturating_sub-self.result } in
+    let same : new ≡ view_of c.args.self.now.scope =
+    loop_back (view_of c.args.self.now.scope) (view_of c.begin.new.self.scope) (view_of c.block.new.self.scope) (view_of c.return_to.new.self) c.mark-mark.result.local c.saturating_sub-self.result
+    begun.extends c.in_ok-body.ensures.scope mark.local left.meanings left.fields left.local (left.values ∙ mark.values) (left.nodes ∙ mark.nodes) left.loops begun.loops (omega arith) in
+    subst (λ v. IsRepetition v c.args.held c.args.repetition) (sym same) c.requires.repetition
+
+pub turns-returns-clause-scope : goal.turns-returns-clause-scope
+turns-returns-clause-scope t c =
+    let old : View = view_of c.args.self.now.scope in
+    let mark = c.mark-mark.ensures in
+    let left = c.return_to.ensures in
+    let begun = c.in_ok-inside.ensures in
+    let new : View = record (view_of c.return_to.new.self) { loops = c.saturating_sub-self.result } in
+    let same : new ≡ old =
+    loop_back old (view_of c.begin.new.self.scope) (view_of c.block.new.self.scope) (view_of c.return_to.new.self) c.mark-mark.result.local c.saturating_sub-self.result
+    begun.extends c.in_ok-body.ensures.scope mark.local left.meanings left.fields left.local (left.values ∙ mark.values) (left.nodes ∙ mark.nodes) left.loops begun.loops (omega arith) in
+    on_ok c.repeated.result (new ≡ old) same
+
+-- ---- the core forms are those of the text
+
+pub block-returns-clause-named : goal.block-returns-clause-named
+block-returns-clause-named t c =
+    let part = c.loop-statement.invariant.named in
+    subst (λ xs. IsBlock (names_of c.args.self.now.scope) xs c.in_ok-finished.field-0) (take_all c.loop-statement.statement-index c.args.statements.now (omega arith))
+    (whole_part part c.in_ok-finished.ensures.named)
+
+pub extend-returns-in_default-clause-named : goal.extend-returns-in_default-clause-named
+extend-returns-in_default-clause-named t c =
+    let draft : Draft = record { opened = c.args.draft.now.opened; statements = c.push.new.self; flow = c.args.draft.now.flow } in
+    let plain = rw c.in_default.is at c.in_ok-head.ensures.named in
+    plain_extended c.args.statement.now c.args.draft.now draft (ap names_in c.in_ok-lowered.ensures.scope) (c.in_ok-lowered.ensures.named plain) c.in_ok-at.ensures.named refl c.in_ok-push.ensures.items
+
+pub extend-returns-clause-named : goal.extend-returns-clause-named
+extend-returns-clause-named t c =
+    let draft : Draft = record { opened = c.push-2.new.self; statements = c.replace-earlier.new.dest; flow = c.args.draft.now.flow } in
+    let opened : Opened = record { binding = c.in_ok-binding.binding; offset = c.args.statement.now.offset; earlier = c.replace-earlier.result } in
+    let earlier : c.replace-earlier.result.items ≡ c.args.draft.now.statements.items = search rules in
+    let none : c.replace-earlier.new.dest.items ≡ [] = search rules in
+    let opening = rw c.in-Some.is at c.in_ok-head.ensures.named in
+    let opens = opens_at (ap names_in c.in_ok-otherwise.ensures.scope) opening c.in_ok-otherwise.ensures.named c.in_ok-binding.ensures.named in
+    opened_extended c.args.statement.now c.args.draft.now draft opened opens refl earlier c.in_ok-push-2.ensures.items none
+
+pub statement-returns-in_ok-lowered-in-Try-clause-named : goal.statement-returns-in_ok-lowered-in-Try-clause-named
+statement-returns-in_ok-lowered-in-Try-clause-named t c =
+    rw c.in-Try.is
+    (ok_more c.handled-in-Try.result _ _ c.handled-in-Try.ensures.named
+    (λ l h plain. tried_statement c.in-Try.body c.in-Try.handler (ap names_in c.in_ok-lowered-in-Try.ensures.scope) c.deref-in-Try.ensures.value c.deref-in-Try-2.ensures.value c.in_ok-lowered-in-Try.ensures.named h))
+
+pub statement-returns-in_ok-second-in-If-clause-named : goal.statement-returns-in_ok-second-in-If-clause-named
+statement-returns-in_ok-second-in-If-clause-named t c =
+    let first = c.in_ok-first-in-If.ensures in
+    let second = c.in_ok-second-in-If.ensures in
+    rw c.in-If.is
+    (ok_more c.chosen.result _ _ c.chosen.ensures.named
+    (λ l h plain.
+    chosen_statement c.in-If.body c.in-If.otherwise c.in_ok-entrance-in-If.ensures.named (block_at refl c.deref-in-If.ensures.value first.named)
+    (block_at (ap names_in first.scope) c.deref-in-If-2.ensures.value second.named) h))
+
+pub statement-returns-in_ok-repetition-in-Repeat-clause-named : goal.statement-returns-in_ok-repetition-in-Repeat-clause-named
+statement-returns-in_ok-repetition-in-Repeat-clause-named t c =
+    let r = c.in-Repeat in
+    let names = names_of c.args.self.now.scope in
+    let repeated : IsRepeated names r.turns.form (option_map (λ (e : TextExpression). e.form) r.at_most) c.in_ok-repetition-in-Repeat.repetition =
+    subst (λ z. IsRepeated names r.turns.form z c.in_ok-repetition-in-Repeat.repetition) (forms_of c.as_ref.result r.at_most c.as_ref.ensures.value) c.in_ok-repetition-in-Repeat.ensures.named in
+    rw r.is
+    (ok_more c.turns.result _ _ c.turns.ensures.named
+    (λ l h plain. repeated_statement r.turns r.at_most r.body repeated (loop_at c.deref-in-Repeat.ensures.value h)))
+
+pub statement-returns-in_ok-repetition-in-ForEach-clause-named : goal.statement-returns-in_ok-repetition-in-ForEach-clause-named
+statement-returns-in_ok-repetition-in-ForEach-clause-named t c =
+    rw c.in-ForEach.is
+    (ok_more c.turns-in-ForEach.result _ _ c.turns-in-ForEach.ensures.named
+    (λ l h plain. visited_statement c.in-ForEach.body c.in_ok-repetition-in-ForEach.ensures.named (loop_at c.deref-in-ForEach.ensures.value h)))
+
+pub statement-returns-in-None-clause-named : goal.statement-returns-in-None-clause-named
+statement-returns-in-None-clause-named t c =
+    let form : c.args.form.now ≡ T.Act c.in-Act.action None = c.in-Act.is ∙ ap (T.Act c.in-Act.action) c.in-None.is in
+    rw form (λ plain. act (c.in_ok-lowered-in-Act.ensures.named plain))
+
+pub statement-returns-in-Some-clause-named : goal.statement-returns-in-Some-clause-named
+statement-returns-in-Some-clause-named t c =
+    let form : c.args.form.now ≡ T.Act c.in-Act.action (Some c.in-Some.otherwise) = c.in-Act.is ∙ ap (T.Act c.in-Act.action) c.in-Some.is in
+    rw form (ok_more c.handled.result _ _ c.handled.ensures.named (λ l h plain. handled_statement (c.in_ok-lowered-in-Act.ensures.named plain) c.deref.ensures.value h))
+
+pub refusal-returns-in_default-otherwise-clause-named : goal.refusal-returns-in_default-otherwise-clause-named
+refusal-returns-in_default-otherwise-clause-named t c = λ action o form. no_else (c.in-Act.is ∙ ap (T.Act c.in-Act.field-0) c.in_default-otherwise.is)
+
+pub refusal-returns-clause-named : goal.refusal-returns-clause-named
+refusal-returns-clause-named t c = λ action o form.
+    one_else (c.in-Act.is ∙ ap (T.Act c.in-Act.field-0) c.in-Some.is) (block_at refl c.deref.ensures.value c.in_ok-statement.ensures.named)

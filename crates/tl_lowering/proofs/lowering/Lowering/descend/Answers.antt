@@ -1,0 +1,5 @@
+use Rattle.tl_lowering.specs.Naming.{descends}
+use Rattle.tl_lowering.proofs.lowering.Lowering.descend.Goals as goal
+
+pub returns-clause-named : goal.returns-clause-named
+returns-clause-named c = descends c.in_ok-node.ensures.meaning c.in_ok-number.ensures.named

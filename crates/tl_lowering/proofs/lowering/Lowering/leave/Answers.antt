@@ -1,0 +1,11 @@
+use Rattle.tl_lowering.specs.Naming.{breaks, returns, fails}
+use Rattle.tl_lowering.proofs.lowering.Lowering.leave.Goals as goal
+
+pub returns-else-self-eq0-clause-named : goal.returns-else-self-eq0-clause-named
+returns-else-self-eq0-clause-named c = rw c.in-Break.is breaks
+
+pub returns-in-Return-clause-named : goal.returns-in-Return-clause-named
+returns-in-Return-clause-named c = rw c.in-Return.is returns
+
+pub returns-in-Fail-clause-named : goal.returns-in-Fail-clause-named
+returns-in-Fail-clause-named c = rw c.in-Fail.is fails

@@ -1,0 +1,8 @@
+use Rattle.std.proofs.Common.{◌≡◌, arith}
+use Rattle.tl_lowering.proofs.NumberLemmas.{node_locks}
+use Rattle.tl_lowering.proofs.lowering.Lowering.node_place.Goals as goal
+
+pub returns-clause-named : goal.returns-clause-named
+returns-clause-named c =
+    let next : c.in_ok-register.register ≡ c.args.self.now.scope.nodes = omega arith in
+    node_locks next c.in_ok-number.ensures.named

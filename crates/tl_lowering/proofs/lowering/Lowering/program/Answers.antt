@@ -1,0 +1,58 @@
+use mir.Val.{to_z, of_z}
+use Rattle.std.proofs.Common.{◌≡◌, ◌∙◌, w32, arith, rules, subst, sym}
+use Rattle.std.specs.List.{All}
+use Rattle.std.proofs.lemmas.List.{take_all}
+use Rattle.std.proofs.lemmas.List.Elements.{All-push}
+use Rattle.tl_syntax.specs.Tokens.{spellings}
+use Rattle.tl_lowering.specs.Names.{names_of, with_constant}
+use Rattle.tl_lowering.specs.Reading.{IsWithField, AreDeclared}
+use Rattle.tl_lowering.specs.Sound.{IsInOrder}
+use Rattle.tl_lowering.proofs.TextLemmas.{field_more, constant_more, procedure_more, all_so_far}
+use Rattle.tl_lowering.proofs.lowering.Lowering.program.Goals.{in-Field+in_ok-declare_field-in-Field, in-Constant+in_ok-check_new-in-Constant, in-Procedure+in_ok-procedure-in-Procedure+in_ok-push-in-Procedure}
+use Rattle.tl_lowering.proofs.lowering.Lowering.program.Goals as goal
+
+pub loop-declaration-preserved : goal.loop-declaration-preserved
+loop-declaration-preserved c =
+    let so_far = c.loop-declaration.invariant in
+    let ps = c.loop-declaration.procedures.items in
+    let xs = c.args.declarations.now in
+    let i = c.loop-declaration.declaration-index in
+    let x = c.declaration-item.result in
+    elim c.match-declaration.branch [
+      | in-Field+in_ok-declare_field-in-Field w ↦
+          let same : to_z w32 (of_z w32 w.in-Field.number) ≡ w.in-Field.number = search rules in
+          let field = subst (λ n. IsWithField (names_of c.loop-declaration.self.scope) w.in-Field.name n (names_of w.declare_field.new.self.scope)) same w.in_ok-declare_field-in-Field.ensures.named in
+          rw (w.self-is, w.procedures-is) (record {
+            named = field_more (names_of w.declare_field.new.self.scope) ps xs i x (omega arith) c.declaration-item.is so_far.named w.in-Field.is field;
+            bare = w.in_ok-declare_field-in-Field.ensures.bare;
+            procedures = so_far.procedures;
+          })
+      | in-Constant+in_ok-check_new-in-Constant w ↦
+          let same : to_z w32 (of_z w32 w.in-Constant.number) ≡ w.in-Constant.number = search rules in
+          let constant = subst (λ n. names_of w.declare_constant.new.self ≡ with_constant (names_of c.loop-declaration.self.scope) w.in-Constant.name n) same w.declare_constant.ensures.named in
+          rw (w.self-is, w.procedures-is) (record {
+            named = constant_more (names_of w.declare_constant.new.self) ps xs i x (omega arith) c.declaration-item.is so_far.named w.in-Constant.is constant;
+            bare = record {
+              names = w.declare_constant.ensures.in_use so_far.bare.names;
+              values = w.declare_constant.ensures.values ∙ so_far.bare.values;
+              nodes = w.declare_constant.ensures.nodes ∙ so_far.bare.nodes;
+              loops = w.declare_constant.ensures.loops ∙ so_far.bare.loops;
+            };
+            procedures = so_far.procedures;
+          })
+      | in-Procedure+in_ok-procedure-in-Procedure+in_ok-push-in-Procedure w ↦
+          rw (w.self-is, w.procedures-is) (record {
+            named =
+                procedure_more (names_of w.procedure.new.self.scope) ps xs i x (omega arith) c.declaration-item.is so_far.named w.push.new.self.items w.in-Procedure.is
+                w.in_ok-procedure-in-Procedure.ensures.named w.in_ok-procedure-in-Procedure.ensures.names w.in_ok-push-in-Procedure.ensures.items;
+            bare = w.in_ok-procedure-in-Procedure.ensures.scope;
+            procedures =
+                subst (All IsInOrder) (sym w.in_ok-push-in-Procedure.ensures.items)
+                (All-push IsInOrder ps w.in_ok-procedure-in-Procedure.field-0 so_far.procedures w.in_ok-procedure-in-Procedure.ensures.procedure);
+          })
+    ]
+
+pub returns-clause-named : goal.returns-clause-named
+returns-clause-named c =
+    subst (λ xs. AreDeclared (spellings c.args.names.now.keys) (names_of c.args.self.now.scope) xs c.loop-declaration.procedures.items)
+    (take_all c.loop-declaration.declaration-index c.args.declarations.now (omega arith)) (all_so_far c.loop-declaration.invariant.named)

@@ -1,0 +1,41 @@
+use Rattle.std.proofs.Common.{◌∙◌, Some, None, ap}
+use Rattle.tl_lowering.specs.Paths.{nodes_of, known, keeping}
+use Rattle.tl_lowering.specs.Scopes.{view_of, is_in_loop}
+use Rattle.tl_lowering.specs.Sets.{both_of}
+use Rattle.tl_lowering.specs.Choosing.{turning_children}
+use Rattle.tl_lowering.proofs.OpeningLemmas.{turns_times, turns_up_to}
+use Rattle.tl_lowering.proofs.LoopLemmas.{repeat_of, up_to_of, lowered_walk}
+use Rattle.tl_lowering.proofs.lowering.Lowering.repeated.Goals as goal
+
+pub returns-in_ok-boxed-in-Times : goal.returns-in_ok-boxed-in-Times
+returns-in_ok-boxed-in-Times c = record {
+  named = rw c.in-Times.is (turns_times c.in_ok-boxed-in-Times.ensures);
+  lowered =
+      repeat_of (view_of c.args.self.now.scope) c.args.held c.args.lowered.0 c.args.lowered.1 c.leaving.result (known c.join-turned.result) c.in-Times.turns c.in_ok-boxed-in-Times.field-0.value
+      c.in_ok-boxed-in-Times.ensures (rw c.in-Times.is at c.requires.turn) c.join-turned.ensures c.leaving.ensures;
+}
+
+pub returns-in_ok-boxed-in-UpTo : goal.returns-in_ok-boxed-in-UpTo
+returns-in_ok-boxed-in-UpTo c = record {
+  named = rw c.in-UpTo.is (turns_up_to c.in_ok-boxed-in-UpTo.ensures);
+  lowered =
+      let h = nodes_of c.args.held in
+      up_to_of (view_of c.args.self.now.scope) c.args.held c.args.lowered.0 c.args.lowered.1 c.leaving-in-UpTo.result (known c.join-after.result) c.in-UpTo.number c.in-UpTo.turns c.in_ok-boxed-in-UpTo.field-0.value
+      c.in_ok-boxed-in-UpTo.ensures (rw c.in-UpTo.is at c.requires.repetition) (rw c.in-UpTo.is at c.requires.turn)
+      (c.join-after.ensures ∙ ap (both_of (Some h)) c.join-turned.ensures)
+      (c.leaving-in-UpTo.ensures ∙ ap (λ f. record { after = keeping h (known c.join-after.result); fails = f; breaks = None }) c.join.ensures);
+}
+
+pub returns-in_ok-whole-in-Children : goal.returns-in_ok-whole-in-Children
+returns-in_ok-whole-in-Children c = record {
+  named = rw c.in-Children.is (turning_children c.in_ok-whole-in-Children.ensures.named);
+  lowered =
+      let h = nodes_of c.args.held in
+      let scope = view_of c.args.self.now.scope in
+      let visit = rw c.in-Children.is at c.requires.repetition in
+      let turn = rw c.in-Children.is at c.requires.turn in
+      lowered_walk scope c.args.held c.args.lowered.0 c.args.lowered.1 c.leaving-in-Children.result (known c.visited-after.result) c.in-Children.visit c.in_ok-whole-in-Children.whole
+      (c.in_ok-whole-in-Children.ensures.walk c.args.held (is_in_loop scope) c.requires.at visit turn.turn) turn
+      (c.visited-after.ensures ∙ c.join-in-Children.ensures ∙ ap (λ z. both_of (Some z) (known c.join-turned.result)) c.requires.start ∙ ap (both_of (Some h)) c.join-turned.ensures)
+      (c.leaving-in-Children.ensures ∙ ap (λ f. record { after = keeping h (known c.visited-after.result); fails = f; breaks = None }) (c.join-in-Children-2.ensures ∙ ap (λ z. both_of (Some z) (known c.args.lowered.1.fails)) c.requires.start));
+}

@@ -1,0 +1,14 @@
+use Rattle.std.proofs.Common.{◌∙◌, ap, rules}
+use Rattle.std.specs.Prelude.{◌+◌}
+use Rattle.tl_lowering.specs.declared.scope.Meaning.TheVariants.{Value}
+use Rattle.tl_lowering.specs.Scopes.{view_of}
+use Rattle.tl_lowering.proofs.ScopeLemmas.{declares, value_in_use, same_numbers}
+use Rattle.tl_lowering.proofs.scope.Scope.declare_value.Goals as goal
+
+pub returns-clause-names : goal.returns-clause-names
+returns-clause-names c = λ outer fresh e. declares outer (view_of c.args.self.now) _ c.args.name.symbol (Value c.args.register) fresh e (search rules) (search rules) (search rules)
+
+pub returns-clause-in_use : goal.returns-clause-in_use
+returns-clause-in_use c = λ h.
+    same_numbers _ _ _ _ _ _ (value_in_use _ _ _ c.args.name.symbol.0 c.args.register c.requires h)
+    (c.add_value.ensures.values ∙ ap (λ n. n + 1) c.set.ensures.values) (c.add_value.ensures.nodes ∙ c.set.ensures.nodes) (c.add_value.ensures.meanings ∙ c.set.ensures.meanings)

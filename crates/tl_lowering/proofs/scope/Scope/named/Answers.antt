@@ -1,0 +1,12 @@
+use mir.Val.{to_z, of_z}
+use Rattle.std.proofs.Common.{◌≡◌, ◌∙◌, sym, w32, rules}
+use Rattle.tl_lowering.specs.Naming.{constant, value}
+use Rattle.tl_lowering.proofs.scope.Scope.named.Goals as goal
+
+pub returns-in-Constant-clause-named : goal.returns-in-Constant-clause-named
+returns-in-Constant-clause-named c =
+    let same : to_z w32 (of_z w32 c.in-Constant.number) ≡ c.in-Constant.number = search rules in
+    rw same (constant (sym c.in_ok-number.ensures ∙ c.in-Constant.is))
+
+pub returns-in-Value-clause-named : goal.returns-in-Value-clause-named
+returns-in-Value-clause-named c = value (sym c.in_ok-number.ensures ∙ c.in-Value.is)

@@ -1,0 +1,71 @@
+-- What an `if` tests, and what a loop repeats.
+use Rattle.std.specs.Prelude.{◌≡◌, ℕ, List, Option, None, Some}
+use Rattle.tl_syntax.specs.declared.parsed.Name.{Name}
+use Rattle.tl_syntax.specs.declared.parsed.Form.{Form}
+use Rattle.tl_syntax.specs.declared.parsed.Expression.{Expression as TextExpression}
+use Rattle.tl_syntax.specs.declared.parsed.Place.{Place as TextPlace}
+use Rattle.tl_syntax.specs.declared.parsed.Question.{Question}
+use Rattle.tl_syntax.specs.declared.parsed.Question.TheVariants as Q
+use Rattle.tl_syntax.specs.declared.parsed.Statement.{Statement as TextStatement}
+use Rattle.tl_lowering.specs.declared.loops.Repetition.{Repetition}
+use Rattle.tl_lowering.specs.declared.loops.Repetition.TheVariants as R
+use Rattle.tl_lowering.specs.declared.loops.Visit.{Visit}
+use Rattle.tl_lowering.specs.declared.lowering.Entrance.{Entrance}
+use Rattle.tl_lowering.specs.declared.lowering.Entrance.TheVariants as E
+use Rattle.tl_lowering.specs.declared.naming.Locking.{Locking}
+use Rattle.tl_lowering.specs.declared.program.Condition.{Condition}
+use Rattle.tl_lowering.specs.declared.program.Expression.{Expression}
+use Rattle.tl_lowering.specs.declared.program.Statement.{Statement}
+use Rattle.tl_lowering.specs.declared.program.Statement.TheVariants as S
+use Rattle.tl_lowering.specs.declared.scope.Meaning.TheVariants as M
+use Rattle.tl_lowering.specs.Names.{Names, stands_for, with_unnamed, with_node}
+use Rattle.tl_lowering.specs.Naming.{IsNumber, IsCount, IsCondition, Locks, with_locking}
+use Rattle.tl_lowering.specs.Reading.{IsVisiting, IsBlock}
+
+-- ---- a choice
+
+pub data IsEntered (names : Names) : Question → Entrance → Type 0 where
+  enters_condition : {question : TextExpression} {c : Condition} → IsCondition names question.form c →
+      IsEntered names (Q.Condition question) (E.Condition c)
+  enters_lock : {text : TextPlace} {locking : Locking} → Locks names text locking → IsEntered names (Q.Lock text) (E.Lock locking)
+
+-- what names stand for in the first block
+abbrev pub names_behind : Names → Entrance → Names
+names_behind names (E.Condition c) = names
+names_behind names (E.Lock locking) = with_locking names locking
+
+-- the choice between two statements
+pub data IsChosen (first second : Statement) : Entrance → Statement → Type 0 where
+  chosen_if : {c : Condition} {p q : _} → IsChosen first second (E.Condition c) (S.If' c p first q second)
+  chosen_lock : {locking : Locking} {p q : _} → IsChosen first second (E.Lock locking) (S.Lock' locking.place p first q second)
+
+-- ---- a loop
+
+-- how often a `repeat` turns
+pub data IsRepeated (names : Names) (count : Form) : Option Form → Repetition → Type 0 where
+  repeated_times : {w : ℕ} → IsCount names count w → IsRepeated names count None (R.Times w)
+  repeated_up_to : {most : Form} {e : Expression} {w : ℕ} → IsNumber names count e → IsCount names most w →
+      IsRepeated names count (Some most) (R.UpTo e w)
+
+-- the loop over the children of a node takes the next registers for a child and for its index
+pub data IsVisited (names : Names) (child parent : Name) (most : Form) : Repetition → Type 0 where
+  visited : {v : Visit} → v.name ≡ child → v.child ≡ names.nodes → v.index ≡ names.values → stands_for names parent ≡ M.Node v.parent →
+      IsCount names most v.turns → IsVisited names child parent most (R.Children v)
+
+-- what names stand for in the body
+abbrev pub names_within : Names → Repetition → Names
+names_within names (R.Times w) = names
+names_within names (R.UpTo e w) = names
+names_within names (R.Children v) = with_node (with_unnamed names) v.name
+
+-- the loop with its body
+pub data IsTurning (body : Statement) : Repetition → Statement → Type 0 where
+  turning_times : {w : ℕ} {p : _} → IsTurning body (R.Times w) (S.Repeat' w p body)
+  turning_up_to : {e : Expression} {w : ℕ} {p : _} → IsTurning body (R.UpTo e w) (S.RepeatUpTo' e w p body)
+  turning_children : {v : Visit} {whole : Statement} → IsVisiting v.index v.child v.parent v.turns body whole →
+      IsTurning body (R.Children v) whole
+
+pub record IsLoop (names : Names) (repetition : Repetition) (block : List TextStatement) (whole : Statement) : Type 0 where
+  pub body : Statement
+  pub body_is : IsBlock (names_within names repetition) block body
+  pub whole_is : IsTurning body repetition whole

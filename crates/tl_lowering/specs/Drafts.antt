@@ -1,0 +1,119 @@
+-- The part of a block that was read, and what the whole block becomes.
+use Rattle.std.specs.Prelude.{◌≡◌, ℕ, List, [], ◌∷◌, ◌++◌, Bool, false, Option, None, Some, reverse}
+use Rattle.tl_syntax.specs.declared.parsed.Name.{Name}
+use Rattle.tl_syntax.specs.declared.parsed.Expression.{Expression as TextExpression}
+use Rattle.tl_syntax.specs.declared.parsed.Place.{Place as TextPlace}
+use Rattle.tl_syntax.specs.declared.parsed.Action.{Action}
+use Rattle.tl_syntax.specs.declared.parsed.Action.TheVariants as A
+use Rattle.tl_syntax.specs.declared.parsed.Otherwise.{Otherwise, out-Otherwise}
+use Rattle.tl_syntax.specs.declared.parsed.Statement.{Statement as TextStatement}
+use Rattle.tl_syntax.specs.declared.parsed.StatementForm.{StatementForm}
+use Rattle.tl_syntax.specs.declared.parsed.StatementForm.TheVariants as T
+use Rattle.tl_lowering.specs.declared.lowering.Binding.{Binding}
+use Rattle.tl_lowering.specs.declared.lowering.Binding.TheVariants as B
+use Rattle.tl_lowering.specs.declared.lowering.Draft.{Draft}
+use Rattle.tl_lowering.specs.declared.lowering.Head.{Head}
+use Rattle.tl_lowering.specs.declared.lowering.Head.TheVariants as H
+use Rattle.tl_lowering.specs.declared.lowering.Opened.{Opened}
+use Rattle.tl_lowering.specs.declared.naming.Locking.{Locking}
+use Rattle.tl_lowering.specs.declared.paths.Flow.{Flow}
+use Rattle.tl_lowering.specs.declared.program.Expression.{Expression}
+use Rattle.tl_lowering.specs.declared.program.Place.{Place}
+use Rattle.tl_lowering.specs.declared.program.Statement.{Statement}
+use Rattle.tl_lowering.specs.declared.program.Statement.TheVariants as S
+use Rattle.tl_lowering.specs.Names.{Names, with_value, with_place}
+use Rattle.tl_lowering.specs.Naming.{IsNumber, IsPlace, Locks, Joins, declares}
+use Rattle.tl_lowering.specs.Reading.{IsAtOffset, IsTried, IsBlock, AreStatements}
+
+-- ---- a declaration
+
+-- whether the statement declares names for the rest of its block
+abbrev pub opens : StatementForm → Bool
+opens (T.Act' action o) = declares action
+opens form = false
+
+-- what a `let` or a `lock` is about to declare
+pub data IsOpening (names : Names) (form : StatementForm) : Head → Type 0 where
+  opening_value : (other : Option Otherwise) {name : Name} {number : TextExpression} {x : ℕ} {e : Expression} →
+      form ≡ T.Act (A.Let name number) other → x ≡ names.values → IsNumber names number.form e →
+      IsOpening names form (H.Value name x e)
+  opening_nodes : (other : Option Otherwise) {text : TextPlace} {locking : Locking} → form ≡ T.Act (A.Lock text) other →
+      Locks names text locking → IsOpening names form (H.Nodes locking)
+
+-- it declares this; a statement that declares nothing has no head
+abbrev pub IsHeadOf : Names → StatementForm → Option Head → Type 0
+IsHeadOf names form None = opens form ≡ false
+IsHeadOf names form (Some head) = IsOpening names form head
+
+-- the `else` of a declaration, if there is one
+pub data IsElse (names : Names) (form : StatementForm) : Option (Statement × Flow) → Type 0 where
+  no_else : {action : Action} → form ≡ T.Act action None → IsElse names form None
+  one_else : {action : Action} {o : Otherwise} {a : Statement} {flow : Flow} → form ≡ T.Act action (Some o) →
+      IsBlock names (out-Otherwise o).body.items a → IsElse names form (Some (a, flow))
+
+abbrev pub IsElseOf : Names → StatementForm → Option (Statement × Flow) → Type 0
+IsElseOf names form other = (action : Action) (o : Option Otherwise) → form ≡ T.Act action o → IsElse names form other
+
+-- a missing `else` fails
+abbrev pub other_of : Option (Statement × Flow) → Statement
+other_of None = S.Fail
+other_of (Some other) = other.0
+
+-- a declaration with its `else`, and what names stand for behind it
+pub data Opens (names : Names) (form : StatementForm) : Binding → Names → Type 0 where
+  opens_value : {name : Name} {number : TextExpression} {x : ℕ} {e : Expression} → form ≡ T.Act (A.Let name number) None →
+      x ≡ names.values → IsNumber names number.form e → Opens names form (B.Value x e) (with_value names name)
+  opens_value_else : {name : Name} {number : TextExpression} {o : Otherwise} {x : ℕ} {e : Expression} {other : Statement} →
+      form ≡ T.Act (A.Let name number) (Some o) → x ≡ names.values → IsNumber names number.form e →
+      IsBlock names (out-Otherwise o).body.items other → Opens names form (B.ValueElse x e other) (with_value names name)
+  opens_nodes : {text : TextPlace} {place : Place} → form ≡ T.Act (A.Lock text) None → IsPlace names text place →
+      Opens names form (B.Nodes place S.Fail) (with_place names text)
+  opens_nodes_else : {text : TextPlace} {o : Otherwise} {place : Place} {other : Statement} → form ≡ T.Act (A.Lock text) (Some o) →
+      IsPlace names text place → IsBlock names (out-Otherwise o).body.items other →
+      Opens names form (B.Nodes place other) (with_place names text)
+
+-- the declaration with the rest of its block
+pub data Binds : Binding → Statement → Statement → Type 0 where
+  binds_value : {x : ℕ} {e : Expression} {p : _} {rest : Statement} → Binds (B.Value x e) rest (S.Let' x e p rest)
+  binds_value_else : {x : ℕ} {e : Expression} {p q : _} {rest other : Statement} →
+      Binds (B.ValueElse x e other) rest (S.LetElse' x e p rest q other)
+  binds_nodes : {place : Place} {p q : _} {rest other : Statement} → Binds (B.Nodes place other) rest (S.Lock' place p rest q other)
+
+-- behind what the block does before it
+pub record Encloses (o : Opened) (rest whole : Statement) : Type 0 where
+  pub bound : Statement
+  pub placed : Statement
+  pub bound_is : Binds o.binding rest bound
+  pub placed_is : IsAtOffset o.offset bound placed
+  pub joined : Joins whole (o.earlier.items ++ placed ∷ [])
+
+-- ---- a block
+
+-- what a block becomes whose declarations are open, the last one first
+pub data Ends : List Opened → List Statement → List Statement → Type 0 where
+  none_open : {items : List Statement} → Ends [] items items
+  last_open : {o : Opened} {outer : List Opened} {items all : List Statement} {rest bound placed : Statement} → Joins rest items →
+      Binds o.binding rest bound → IsAtOffset o.offset bound placed → Ends outer (o.earlier.items ++ placed ∷ []) all →
+      Ends (o ∷ outer) items all
+
+-- what the whole block becomes if these follow what was read
+abbrev pub Becomes : Draft → List Statement → List Statement → Type 0
+Becomes draft items all = Ends (reverse draft.opened.items) (draft.statements.items ++ items) all
+
+-- the whole block, if nothing follows
+pub record IsFinished (draft : Draft) (whole : Statement) : Type 0 where
+  pub parts : List Statement
+  pub becomes : Becomes draft [] parts
+  pub joined : Joins whole parts
+
+-- before what follows stands this statement, and what the block becomes is the same
+pub record IsExtended (names : Names) (s : TextStatement) (rest : List TextStatement) (draft : Draft) (all : List Statement) : Type 0 where
+  pub items : List Statement
+  pub are : AreStatements names (s ∷ rest) items
+  pub becomes : Becomes draft items all
+
+-- a statement with the block of its `else`
+pub record IsHandled (names : Names) (body : Statement) (handler : List TextStatement) (whole : Statement) : Type 0 where
+  pub other : Statement
+  pub block : IsBlock names handler other
+  pub tried : IsTried body other whole

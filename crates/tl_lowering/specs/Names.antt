@@ -1,0 +1,65 @@
+-- What the names of a text stand for at a place.
+use Rattle.std.specs.Prelude.{ℕ, ◌+◌, List, [], ◌∷◌, Option, Some, None, slice_set, get_or, replicate, ℤ}
+use Rattle.tl_instr.specs.declared.operand.Field.{Field}
+use Rattle.tl_lowering.specs.declared.scope.Meaning.{Meaning}
+use Rattle.tl_lowering.specs.declared.scope.Meaning.TheVariants as M
+use Rattle.tl_lowering.specs.declared.scope.Scope.{Scope}
+use Rattle.tl_lowering.specs.Scopes.{View, view_of}
+use Rattle.tl_syntax.specs.declared.parsed.Name.{Name}
+use Rattle.tl_syntax.specs.declared.parsed.Place.{Place}
+use Rattle.tl_syntax.specs.declared.parsed.Place.TheVariants as P
+
+-- at the index of a symbol stand its meaning and its field; so many values and nodes have registers
+pub record Names : Type 0 where
+  pub meanings : List Meaning
+  pub fields : List (Option Field)
+  pub values : ℕ
+  pub nodes : ℕ
+
+abbrev pub names_in : View → Names
+names_in scope = record { meanings = scope.meanings; fields = scope.fields; values = scope.values; nodes = scope.nodes }
+
+abbrev pub names_of : Scope → Names
+names_of scope = names_in (view_of scope)
+
+-- so many names, which stand for nothing
+abbrev pub without_meaning : ℕ → Names
+without_meaning count = record { meanings = replicate count M.Nothing; fields = replicate count None; values = 0; nodes = 0 }
+
+abbrev pub stands_for : Names → Name → Meaning
+stands_for names name = get_or names.meanings name.symbol.0 M.Nothing
+
+abbrev pub field_named : Names → Name → Option Field
+field_named names name = get_or names.fields name.symbol.0 None
+
+-- from here on the name stands for that
+abbrev pub meaning : Names → Name → Meaning → Names
+meaning names name m = record names { meanings = slice_set names.meanings name.symbol.0 m }
+
+abbrev pub with_constant : Names → Name → ℤ → Names
+with_constant names name number = meaning names name (M.Constant number)
+
+abbrev pub with_field : Names → Name → Field → Names
+with_field names name field = record names { fields = slice_set names.fields name.symbol.0 (Some field) }
+
+-- a value without a name takes the next register
+abbrev pub with_unnamed : Names → Names
+with_unnamed names = record names { values = names.values + 1 }
+
+-- the name stands for a value in the next register
+abbrev pub with_value : Names → Name → Names
+with_value names name = record (meaning names name (M.Value names.values)) { values = names.values + 1 }
+
+abbrev pub with_values : Names → List Name → Names
+with_values names [] = names
+with_values names (name ∷ others) = with_values (with_value names name) others
+
+-- the name owns a node in the next register
+abbrev pub with_node : Names → Name → Names
+with_node names name = record (meaning names name (M.Node names.nodes)) { nodes = names.nodes + 1 }
+
+-- the names of what is locked
+abbrev pub with_place : Names → Place → Names
+with_place names (P.Node name offset number) = with_node names name
+with_place names (P.Child child) = with_node names child.name
+with_place names (P.Pair first second) = with_node (with_node names first.name) second.name

@@ -1,0 +1,176 @@
+-- Numbers, conditions, places and actions of a text, and their core forms, where names stand for registers and fields.
+use Rattle.std.specs.Prelude.{◌≡◌, ℕ, ◌+◌, List, [], ◌∷◌, ◌++◌, Bool, true, false, Option, None, Some, ℤ, pos}
+use Rattle.std.specs.declared.vec.Vec.{Vec}
+use Rattle.std.specs.declared.boxed.Box.{Box}
+use Rattle.std.specs.declared.alloc.Global.{Global}
+use Rattle.tl_syntax.specs.declared.operator.Operator.{Operator}
+use Rattle.tl_syntax.specs.declared.operator.Operator.TheVariants as O
+use Rattle.tl_syntax.specs.declared.parsed.Name.{Name}
+use Rattle.tl_syntax.specs.declared.parsed.Comparison.{Comparison}
+use Rattle.tl_syntax.specs.declared.parsed.Comparison.TheVariants as K
+use Rattle.tl_syntax.specs.declared.parsed.Form.{Form}
+use Rattle.tl_syntax.specs.declared.parsed.Form.TheVariants as F
+use Rattle.tl_syntax.specs.declared.parsed.Expression.{Expression as TextExpression}
+use Rattle.tl_syntax.specs.declared.parsed.Child.{Child}
+use Rattle.tl_syntax.specs.declared.parsed.Place.{Place as TextPlace}
+use Rattle.tl_syntax.specs.declared.parsed.Place.TheVariants as T
+use Rattle.tl_syntax.specs.declared.parsed.Change.{Change}
+use Rattle.tl_syntax.specs.declared.parsed.Change.TheVariants as H
+use Rattle.tl_syntax.specs.declared.parsed.Leave.TheVariants as L
+use Rattle.tl_syntax.specs.declared.parsed.Action.{Action}
+use Rattle.tl_syntax.specs.declared.parsed.Action.TheVariants as A
+use Rattle.tl_instr.specs.declared.operand.NodeRegister.{NodeRegister}
+use Rattle.tl_lowering.specs.declared.naming.Locking.{Locking}
+use Rattle.tl_lowering.specs.declared.program.Expression.{Expression}
+use Rattle.tl_lowering.specs.declared.program.Expression.TheVariants as E
+use Rattle.tl_lowering.specs.declared.program.Condition.{Condition}
+use Rattle.tl_lowering.specs.declared.program.Condition.TheVariants as C
+use Rattle.tl_lowering.specs.declared.program.Place.{Place}
+use Rattle.tl_lowering.specs.declared.program.Place.TheVariants as P
+use Rattle.tl_lowering.specs.declared.program.Statement.{Statement}
+use Rattle.tl_lowering.specs.declared.program.Statement.TheVariants as S
+use Rattle.tl_lowering.specs.declared.scope.Meaning.TheVariants as M
+use Rattle.tl_lowering.specs.Names.{Names, stands_for, field_named, with_node, with_place}
+
+-- ---- numbers
+
+-- the operation on two numbers
+pub data IsCalculated (operator : Operator) (left right : Expression) : Expression → Type 0 where
+  calculated : {p q : _} → IsCalculated operator left right (E.Calculated' operator p left q right)
+
+pub data IsNumber (names : Names) : Form → Expression → Type 0 where
+  number : {w : ℤ} → IsNumber names (F.Number w) (E.Constant w)
+  constant : {name : Name} {w : ℤ} → stands_for names name ≡ M.Constant w → IsNumber names (F.Named name) (E.Constant w)
+  value : {name : Name} {x : ℕ} → stands_for names name ≡ M.Value x → IsNumber names (F.Named name) (E.Value x)
+  field : {node field : Name} {n f : ℕ} → stands_for names node ≡ M.Node n → field_named names field ≡ Some f →
+      IsNumber names (F.Field node field) (E.Field n f)
+  children : {node : Name} {n : ℕ} → stands_for names node ≡ M.Node n → IsNumber names (F.Children node) (E.Children n)
+  -- it is subtracted from 0
+  negated : {a : Box TextExpression Global} {b c : Expression} → IsNumber names a.value.form b →
+      IsCalculated O.Subtract (E.Constant (pos 0)) b c → IsNumber names (F.Negated a) c
+  operation : {operator : Operator} {a b : Box TextExpression Global} {c d e : Expression} → IsNumber names a.value.form c →
+      IsNumber names b.value.form d → IsCalculated operator c d e → IsNumber names (F.Calculated operator a b) e
+
+-- how often a loop may turn
+pub data IsCount (names : Names) : Form → ℕ → Type 0 where
+  count : {w : ℕ} → IsCount names (F.Number (pos w)) w
+  constant_count : {name : Name} {w : ℕ} → stands_for names name ≡ M.Constant (pos w) → IsCount names (F.Named name) w
+
+-- ---- conditions
+
+-- true where the other is false
+pub data IsNot (a : Condition) : Condition → Type 0 where
+  opposite : {p : _} → IsNot a (C.Not' p a)
+
+-- true where both are true
+pub data IsBoth (a b : Condition) : Condition → Type 0 where
+  together : {p q : _} → IsBoth a b (C.And' p a q b)
+
+abbrev pub IsComparison : Comparison → Expression → Expression → Condition → Type 0
+IsComparison K.Less a b c = c ≡ C.Less a b
+IsComparison K.LessOrEqual a b c = IsNot (C.Greater a b) c
+IsComparison K.Greater a b c = c ≡ C.Greater a b
+IsComparison K.GreaterOrEqual a b c = IsNot (C.Less a b) c
+IsComparison K.Equal a b c = c ≡ C.Equal a b
+IsComparison K.NotEqual a b c = IsNot (C.Equal a b) c
+
+-- the comparison of two numbers
+pub record IsCompared (names : Names) (k : Comparison) (a b : Form) (c : Condition) : Type 0 where
+  pub left : Expression
+  pub right : Expression
+  pub left_is : IsNumber names a left
+  pub right_is : IsNumber names b right
+  pub condition_is : IsComparison k left right c
+
+pub data IsCondition (names : Names) : Form → Condition → Type 0 where
+  comparison : {k : Comparison} {a b : Box TextExpression Global} {c : Condition} → IsCompared names k a.value.form b.value.form c →
+      IsCondition names (F.Compared k a b) c
+  negation : {a : Box TextExpression Global} {c d : Condition} → IsCondition names a.value.form c → IsNot c d →
+      IsCondition names (F.Not a) d
+  conjunction : {a b : Box TextExpression Global} {c d e : Condition} → IsCondition names a.value.form c →
+      IsCondition names b.value.form d → IsBoth c d e → IsCondition names (F.And a b) e
+  -- it isn't so that neither is true
+  disjunction : {a b : Box TextExpression Global} {c d not_c not_d neither either : Condition} → IsCondition names a.value.form c →
+      IsCondition names b.value.form d → IsNot c not_c → IsNot d not_d → IsBoth not_c not_d neither → IsNot neither either →
+      IsCondition names (F.Or a b) either
+
+-- ---- places
+
+-- what is locked takes the next registers
+pub data IsPlace (names : Names) : TextPlace → Place → Type 0 where
+  node : {name : Name} {offset : ℕ} {a : TextExpression} {e : Expression} → IsNumber names a.form e →
+      IsPlace names (T.Node name offset a) (P.Node names.nodes e)
+  child : {c : Child} {n : ℕ} {e : Expression} → stands_for names c.parent ≡ M.Node n → IsNumber names c.number.form e →
+      IsPlace names (T.Child c) (P.Child names.nodes n e)
+  pair : {c d : Child} {n : ℕ} {e f : Expression} → stands_for names c.parent ≡ M.Node n → stands_for names d.parent ≡ M.Node n →
+      IsNumber names c.number.form e → IsNumber names d.number.form f →
+      IsPlace names (T.Pair c d) (P.Pair names.nodes (names.nodes + 1) n e f)
+
+-- the names of what is about to be locked
+abbrev pub with_second : Names → Option (Name × NodeRegister) → Names
+with_second names None = names
+with_second names (Some second) = with_node names second.0
+
+abbrev pub with_locking : Names → Locking → Names
+with_locking names locking = with_second (with_node names locking.first.0) locking.second
+
+-- what is about to be locked is the place, by its names
+pub record Locks (names : Names) (text : TextPlace) (locking : Locking) : Type 0 where
+  pub place_is : IsPlace names text locking.place
+  pub names_are : with_locking names locking ≡ with_place names text
+
+-- ---- statements one after another
+
+pub data IsThen (first second : Statement) : Statement → Type 0 where
+  then : {p q : _} → IsThen first second (S.Sequence' p first q second)
+
+-- one statement that does these one after another
+pub data Joins : Statement → List Statement → Type 0 where
+  none : Joins S.Skip []
+  one : {a : Statement} → Joins a (a ∷ [])
+  more : {a b whole : Statement} {xs ys : List Statement} → Joins a xs → Joins b ys → IsThen a b whole → Joins whole (xs ++ ys)
+
+-- ---- actions
+
+-- the new number of a value or a field
+abbrev pub IsChanged : Expression → Change → Expression → Expression → Type 0
+IsChanged old H.Set operand new = new ≡ operand
+IsChanged old H.Add operand new = IsCalculated O.Add old operand new
+IsChanged old H.Subtract operand new = IsCalculated O.Subtract old operand new
+
+-- one statement for each number
+pub data AreEmits (names : Names) : List TextExpression → List Statement → Type 0 where
+  no_emits : AreEmits names [] []
+  next_emit : {xs : List TextExpression} {emits : List Statement} {e : Expression} (a : TextExpression) → AreEmits names xs emits →
+      IsNumber names a.form e → AreEmits names (xs ++ a ∷ []) (emits ++ S.Emit e ∷ [])
+
+-- the numbers one after another
+pub record Emits (names : Names) (xs : List TextExpression) (whole : Statement) : Type 0 where
+  pub parts : List Statement
+  pub each : AreEmits names xs parts
+  pub joined : Joins whole parts
+
+-- whether it declares names for the rest of its block
+abbrev pub declares : Action → Bool
+declares (A.Let name e) = true
+declares (A.Lock p) = true
+declares action = false
+
+-- a statement that declares nothing and has no blocks
+pub data IsAction (names : Names) : Action → Statement → Type 0 where
+  assigns : {name : Name} {change : Change} {a : TextExpression} {x : ℕ} {e f : Expression} → stands_for names name ≡ M.Value x →
+      IsNumber names a.form e → IsChanged (E.Value x) change e f → IsAction names (A.Assign name change a) (S.Assign x f)
+  writes : {node field : Name} {change : Change} {a : TextExpression} {n k : ℕ} {e f : Expression} → stands_for names node ≡ M.Node n →
+      field_named names field ≡ Some k → IsNumber names a.form e → IsChanged (E.Field n k) change e f →
+      IsAction names (A.Write node field change a) (S.Write n k f)
+  emits : {xs : Vec TextExpression Global} {whole : Statement} → Emits names xs.items whole → IsAction names (A.Emit xs) whole
+  requires : {p q : _} {a : TextExpression} {c : Condition} → IsCondition names a.form c →
+      IsAction names (A.Require a) (S.If' c p S.Skip q S.Fail)
+  descends : {node : Name} {a : TextExpression} {n : ℕ} {e : Expression} → stands_for names node ≡ M.Node n → IsNumber names a.form e →
+      IsAction names (A.Descend node a) (S.Descend n e)
+  takes : {node from : Name} {n k : ℕ} → stands_for names node ≡ M.Node n → stands_for names from ≡ M.Node k →
+      IsAction names (A.Take node from) (S.Take n k)
+  frees : {node : Name} {n : ℕ} → stands_for names node ≡ M.Node n → IsAction names (A.Free node) (S.Free n)
+  breaks : IsAction names (A.Leave L.Break) S.Break
+  returns : IsAction names (A.Leave L.Return) S.Return
+  fails : IsAction names (A.Leave L.Fail) S.Fail

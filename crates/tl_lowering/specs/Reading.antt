@@ -1,0 +1,143 @@
+-- Blocks, procedures and texts, and their core forms.
+use Rattle.std.specs.Prelude.{◌≡◌, ℕ, List, [], ◌∷◌, Some, None, length, get_or, ℤ, pos, neg_ℤ}
+use Rattle.std.specs.declared.vec.Vec.{Vec}
+use Rattle.std.specs.declared.alloc.Global.{Global}
+use Rattle.tl_syntax.specs.declared.operator.Operator.TheVariants as O
+use Rattle.tl_syntax.specs.declared.parsed.Name.{Name}
+use Rattle.tl_syntax.specs.declared.parsed.Expression.{Expression as TextExpression}
+use Rattle.tl_syntax.specs.declared.parsed.Place.{Place as TextPlace}
+use Rattle.tl_syntax.specs.declared.parsed.Action.{Action}
+use Rattle.tl_syntax.specs.declared.parsed.Action.TheVariants as A
+use Rattle.tl_syntax.specs.declared.parsed.Question.TheVariants as Q
+use Rattle.tl_syntax.specs.declared.parsed.Otherwise.{Otherwise, out-Otherwise}
+use Rattle.tl_syntax.specs.declared.parsed.Statement.{Statement as TextStatement}
+use Rattle.tl_syntax.specs.declared.parsed.StatementForm.{StatementForm}
+use Rattle.tl_syntax.specs.declared.parsed.StatementForm.TheVariants as T
+use Rattle.tl_syntax.specs.declared.parsed.Procedure.{Procedure as TextProcedure}
+use Rattle.tl_syntax.specs.declared.parsed.Declaration.{Declaration}
+use Rattle.tl_syntax.specs.declared.parsed.Declaration.TheVariants as D
+use Rattle.tl_syntax.specs.Text.{IsText}
+use Rattle.tl_instr.specs.declared.operand.Field.{Field}
+use Rattle.tl_lowering.specs.declared.program.Expression.{Expression}
+use Rattle.tl_lowering.specs.declared.program.Expression.TheVariants as E
+use Rattle.tl_lowering.specs.declared.program.Condition.{Condition}
+use Rattle.tl_lowering.specs.declared.program.Condition.TheVariants as C
+use Rattle.tl_lowering.specs.declared.program.Place.{Place}
+use Rattle.tl_lowering.specs.declared.program.Place.TheVariants as P
+use Rattle.tl_lowering.specs.declared.program.Statement.{Statement}
+use Rattle.tl_lowering.specs.declared.program.Statement.TheVariants as S
+use Rattle.tl_lowering.specs.declared.program.Procedure.{Procedure}
+use Rattle.tl_lowering.specs.declared.scope.Meaning.TheVariants as M
+use Rattle.tl_lowering.specs.Names.{Names, without_meaning, stands_for, with_constant, with_field, with_unnamed, with_value, with_values, with_node, with_place}
+use Rattle.tl_lowering.specs.Naming.{IsCalculated, IsNumber, IsCount, IsNot, IsCondition, IsPlace, IsAction, IsThen, Joins}
+
+-- a statement that stands in the text at that offset
+pub data IsAtOffset (offset : ℕ) (a : Statement) : Statement → Type 0 where
+  at : {p : _} → IsAtOffset offset a (S.At' offset p a)
+
+-- a statement, and what is done if it fails
+pub data IsTried (body handler : Statement) : Statement → Type 0 where
+  tried : {p q : _} → IsTried body handler (S.Try' p body q handler)
+
+-- unless there are too many children, they are locked one after another until none is left
+pub data IsVisiting (index child parent turns : ℕ) (body : Statement) : Statement → Type 0 where
+  visiting : {p q r s t u : _} {fits : Condition} {next : Expression} {turn whole : Statement} →
+      IsNot (C.Greater (E.Children parent) (E.Constant (pos turns))) fits →
+      IsCalculated O.Add (E.Value index) (E.Constant (pos 1)) next →
+      IsThen (S.Assign index next) (S.Lock' (P.Child child parent (E.Value index)) p body q S.Break) turn →
+      IsThen (S.If' fits r S.Skip s S.Fail) (S.Let' index (E.Constant (neg_ℤ (pos 1))) t (S.Repeat' turns u turn)) whole →
+      IsVisiting index child parent turns body whole
+
+mutual
+  pub data IsBlock : Names → List TextStatement → Statement → Type 0 where
+    block : {names : Names} {statements : List TextStatement} {parts : List Statement} {whole : Statement} →
+        AreStatements names statements parts → Joins whole parts → IsBlock names statements whole
+
+  -- behind a `let` or a `lock` the rest of its block becomes its body
+  pub data AreStatements : Names → List TextStatement → List Statement → Type 0 where
+    no_more : {names : Names} → AreStatements names [] []
+    next : {names : Names} {s : TextStatement} {rest : List TextStatement} {a b : Statement} {parts : List Statement} →
+        IsStatement names s.form a → IsAtOffset s.offset a b → AreStatements names rest parts →
+        AreStatements names (s ∷ rest) (b ∷ parts)
+    let_rest : {names : Names} {s : TextStatement} {rest : List TextStatement} {name : Name} {number : TextExpression} {e : Expression}
+        {p : _} {body a : Statement} → s.form ≡ T.Act (A.Let name number) None → IsNumber names number.form e →
+        IsBlock (with_value names name) rest body → IsAtOffset s.offset (S.Let' names.values e p body) a →
+        AreStatements names (s ∷ rest) (a ∷ [])
+    let_else : {names : Names} {s : TextStatement} {rest : List TextStatement} {name : Name} {number : TextExpression} {o : Otherwise}
+        {e : Expression} {p q : _} {body other a : Statement} → s.form ≡ T.Act (A.Let name number) (Some o) →
+        IsNumber names number.form e → IsBlock names (out-Otherwise o).body.items other → IsBlock (with_value names name) rest body →
+        IsAtOffset s.offset (S.LetElse' names.values e p body q other) a → AreStatements names (s ∷ rest) (a ∷ [])
+    -- a missing `else` fails
+    lock_rest : {names : Names} {s : TextStatement} {rest : List TextStatement} {text : TextPlace} {place : Place} {p q : _}
+        {body a : Statement} → s.form ≡ T.Act (A.Lock text) None → IsPlace names text place →
+        IsBlock (with_place names text) rest body → IsAtOffset s.offset (S.Lock' place p body q S.Fail) a →
+        AreStatements names (s ∷ rest) (a ∷ [])
+    lock_else : {names : Names} {s : TextStatement} {rest : List TextStatement} {text : TextPlace} {o : Otherwise} {place : Place} {p q : _}
+        {body other a : Statement} → s.form ≡ T.Act (A.Lock text) (Some o) → IsPlace names text place →
+        IsBlock names (out-Otherwise o).body.items other → IsBlock (with_place names text) rest body →
+        IsAtOffset s.offset (S.Lock' place p body q other) a → AreStatements names (s ∷ rest) (a ∷ [])
+
+  -- a statement that declares nothing for the rest of its block
+  pub data IsStatement : Names → StatementForm → Statement → Type 0 where
+    act : {names : Names} {action : Action} {a : Statement} → IsAction names action a → IsStatement names (T.Act action None) a
+    act_else : {names : Names} {action : Action} {o : Otherwise} {a handler whole : Statement} → IsAction names action a →
+        IsBlock names (out-Otherwise o).body.items handler → IsTried a handler whole → IsStatement names (T.Act action (Some o)) whole
+    try : {names : Names} (xs ys : Vec TextStatement Global) {body handler whole : Statement} → IsBlock names xs.items body →
+        IsBlock names ys.items handler → IsTried body handler whole → IsStatement names (T.Try xs ys) whole
+    if : {names : Names} {question : TextExpression} (xs ys : Vec TextStatement Global) {c : Condition} {p q : _} {a b : Statement} →
+        IsCondition names question.form c → IsBlock names xs.items a → IsBlock names ys.items b →
+        IsStatement names (T.If (Q.Condition question) xs ys) (S.If' c p a q b)
+    if_lock : {names : Names} {text : TextPlace} (xs ys : Vec TextStatement Global) {place : Place} {p q : _} {a b : Statement} →
+        IsPlace names text place → IsBlock (with_place names text) xs.items a → IsBlock names ys.items b →
+        IsStatement names (T.If (Q.Lock text) xs ys) (S.Lock' place p a q b)
+    repeat : {names : Names} {count : TextExpression} (xs : Vec TextStatement Global) {turns : ℕ} {p : _} {a : Statement} →
+        IsCount names count.form turns → IsBlock names xs.items a → IsStatement names (T.Repeat count None xs) (S.Repeat' turns p a)
+    repeat_up_to : {names : Names} {number most : TextExpression} (xs : Vec TextStatement Global) {e : Expression} {turns : ℕ} {p : _}
+        {a : Statement} → IsNumber names number.form e → IsCount names most.form turns → IsBlock names xs.items a →
+        IsStatement names (T.Repeat number (Some most) xs) (S.RepeatUpTo' e turns p a)
+    for_each : {names : Names} {child parent : Name} {most : TextExpression} (xs : Vec TextStatement Global) {n turns : ℕ}
+        {a whole : Statement} → stands_for names parent ≡ M.Node n → IsCount names most.form turns →
+        IsBlock (with_node (with_unnamed names) child) xs.items a → IsVisiting names.values names.nodes n turns a whole →
+        IsStatement names (T.ForEach child parent most xs) whole
+
+-- what isn't handled by its `else` ends a procedure
+pub record IsBody (names : Names) (text : TextProcedure) (whole : Statement) : Type 0 where
+  pub body : Statement
+  pub handler : Statement
+  pub handled : Statement
+  pub body_is : IsBlock names text.body.items body
+  pub handler_is : IsBlock names text.otherwise.items handler
+  pub handled_is : IsTried body handler handled
+  pub whole_is : IsTried handled S.Skip whole
+
+-- a procedure's arguments are its first values
+pub record IsProcedure (spellings : List (List ℕ)) (names : Names) (text : TextProcedure) (procedure : Procedure) : Type 0 where
+  pub name : procedure.name.items ≡ get_or spellings text.name.symbol.0 []
+  pub offset : procedure.offset ≡ text.name.offset
+  pub arity : procedure.arity ≡ length text.arguments.items
+  pub body : IsBody (with_values names text.arguments.items) text procedure.body
+
+-- the name gets the field of that number
+pub record IsWithField (names : Names) (name : Name) (number : ℤ) (later : Names) : Type 0 where
+  pub field : Field
+  pub number_is : number ≡ pos field
+  pub later_is : later ≡ with_field names name field
+
+-- the procedures among these declarations
+pub data AreDeclared (spellings : List (List ℕ)) : Names → List Declaration → List Procedure → Type 0 where
+  none_declared : {names : Names} → AreDeclared spellings names [] []
+  next_field : {names later : Names} {name : Name} {number : ℤ} {offset : ℕ} {rest : List Declaration} {ps : List Procedure} →
+      IsWithField names name number later → AreDeclared spellings later rest ps →
+      AreDeclared spellings names (D.Field name number offset ∷ rest) ps
+  next_constant : {names : Names} {name : Name} {number : ℤ} {rest : List Declaration} {ps : List Procedure} →
+      AreDeclared spellings (with_constant names name number) rest ps → AreDeclared spellings names (D.Constant name number ∷ rest) ps
+  next_procedure : {names : Names} {text : TextProcedure} {p : Procedure} {rest : List Declaration} {ps : List Procedure} →
+      IsProcedure spellings names text p → AreDeclared spellings names rest ps →
+      AreDeclared spellings names (D.Procedure text ∷ rest) (p ∷ ps)
+
+-- the procedures of a text
+pub record IsProgram (text : List ℕ) (procedures : List Procedure) : Type 0 where
+  pub names : List (List ℕ)
+  pub declarations : List Declaration
+  pub read : IsText text names declarations
+  pub declared : AreDeclared names (without_meaning (length names)) declarations procedures

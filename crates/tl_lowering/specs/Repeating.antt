@@ -1,0 +1,58 @@
+-- What a loop repeats.
+use Rattle.std.specs.Prelude.{◌≡◌, ℕ, ◌+◌, ◌≤◌, Bool, true, Some, None, IfSome}
+use Rattle.tl_instr.specs.declared.operand.TheConstants.{VALUE_REGISTERS}
+use Rattle.tl_lowering.specs.declared.loops.Repetition.{Repetition}
+use Rattle.tl_lowering.specs.declared.loops.Repetition.TheVariants as R
+use Rattle.tl_lowering.specs.declared.loops.Visit.{Visit}
+use Rattle.tl_lowering.specs.declared.paths.Flow.{Flow}
+use Rattle.tl_lowering.specs.declared.paths.Held.{Held}
+use Rattle.tl_lowering.specs.declared.program.Statement.{Statement}
+use Rattle.tl_lowering.specs.declared.scope.Meaning.TheVariants as M
+use Rattle.tl_lowering.specs.Outcomes.{after, fails, breaks}
+use Rattle.tl_lowering.specs.Paths.{nodes_of, paths_of, outcomes, keeping}
+use Rattle.tl_lowering.specs.Scopes.{View, meaning_of}
+use Rattle.tl_lowering.specs.Sets.{Nodes, holds, with_node, both_of, all_of}
+use Rattle.tl_lowering.specs.Sound.{IsReadable, IsSound}
+
+-- the child's name stands for nothing yet, its register and that of its number are the next ones, and its parent is held
+pub record IsVisit (scope : View) (held : Held) (v : Visit) : Type 0 where
+  pub name : meaning_of scope v.name.symbol ≡ M.Nothing
+  pub child : v.child ≡ scope.nodes
+  pub index : v.index ≡ scope.values
+  pub room : scope.values + 2 ≤ VALUE_REGISTERS
+  pub parent : holds (nodes_of held) v.parent ≡ true
+
+abbrev pub IsRepetition : View → Held → Repetition → Type 0
+IsRepetition scope held (R.Times w) = Unit {0}
+IsRepetition scope held (R.UpTo e w) = IsReadable scope.values (nodes_of held) e
+IsRepetition scope held (R.Children v) = IsVisit scope held v
+
+-- what is held as a body begins, and how many values and nodes have registers there
+abbrev pub begun : Repetition → Nodes → Nodes
+begun (R.Times w) held = held
+begun (R.UpTo e w) held = held
+begun (R.Children v) held = with_node held v.child
+
+abbrev pub more_in : Repetition → ℕ → ℕ
+more_in (R.Times w) n = n
+more_in (R.UpTo e w) n = n
+more_in (R.Children v) n = n + 1
+
+-- a body that is in order, and that holds at its end what was held before it
+pub record IsBody (d m : ℕ) (held : Nodes) (repetition : Repetition) (body : Statement) : Type 0 where
+  pub sound : IsSound body (more_in repetition d) (more_in repetition m) (begun repetition held) true
+  pub kept : IfSome (keeping held (after body (begun repetition held))) (λ h. h ≡ held)
+
+-- and where the paths through it lead
+pub record IsTurn (d m : ℕ) (held : Nodes) (repetition : Repetition) (body : Statement) (flow : Flow) : Type 0 where
+  pub turn : IsBody d m held repetition body
+  pub paths : paths_of flow ≡ record (outcomes body (begun repetition held)) { after = keeping held (after body (begun repetition held)) }
+
+-- a loop over all children: it may be left at each of them and behind the last, and it fails if there are too many
+pub record IsWalk (d m : ℕ) (held : Nodes) (in_loop : Bool) (child : ℕ) (body whole : Statement) : Type 0 where
+  pub sound : IsSound whole d m held in_loop
+  pub paths : outcomes whole held ≡ record {
+    after = keeping held (both_of (Some held) (all_of (breaks body (with_node held child))));
+    fails = both_of (Some held) (all_of (fails body (with_node held child)));
+    breaks = None;
+  }

@@ -1,0 +1,24 @@
+use Rattle.std.proofs.Common.{rules, ◌≡◌, [], ◌∷◌, codes, refl}
+use Rattle.tl_syntax.specs.Tokens.{spellings}
+use Rattle.tl_syntax.proofs.NameLemmas.{inserted_last}
+use Rattle.tl_syntax.proofs.lexer.Lexed.new.Goals as goal
+
+pub returns-clause-names : goal.returns-clause-names
+returns-clause-names c =
+    let none : spellings c.new-names.result.keys ≡ [] = search rules in
+    let now1 : c.as_slice.result.now ≡ codes "at" = search rules in
+    let with1 : spellings c.insert.new.self.keys ≡ codes "at" ∷ [] =
+    inserted_last c.new-names.result.keys c.insert.new.self.keys c.as_slice.result (codes "at") ([]) none now1 refl c.in_ok-insert.ensures.keys in
+    let now2 : c.as_slice-2.result.now ≡ codes "each" = search rules in
+    let with2 : spellings c.insert-2.new.self.keys ≡ codes "at" ∷ codes "each" ∷ [] =
+    inserted_last c.insert.new.self.keys c.insert-2.new.self.keys c.as_slice-2.result (codes "each") (codes "at" ∷ []) with1 now2 refl c.in_ok-insert-2.ensures.keys in
+    let now3 : c.as_slice-3.result.now ≡ codes "most" = search rules in
+    let with3 : spellings c.insert-3.new.self.keys ≡ codes "at" ∷ codes "each" ∷ codes "most" ∷ [] =
+    inserted_last c.insert-2.new.self.keys c.insert-3.new.self.keys c.as_slice-3.result (codes "most") (codes "at" ∷ codes "each" ∷ []) with2 now3 refl c.in_ok-insert-3.ensures.keys in
+    let now4 : c.as_slice-4.result.now ≡ codes "of" = search rules in
+    let with4 : spellings c.insert-4.new.self.keys ≡ codes "at" ∷ codes "each" ∷ codes "most" ∷ codes "of" ∷ [] =
+    inserted_last c.insert-3.new.self.keys c.insert-4.new.self.keys c.as_slice-4.result (codes "of") (codes "at" ∷ codes "each" ∷ codes "most" ∷ []) with3 now4 refl c.in_ok-insert-4.ensures.keys in
+    let now5 : c.as_slice-5.result.now ≡ codes "to" = search rules in
+    let with5 : spellings c.insert-5.new.self.keys ≡ codes "at" ∷ codes "each" ∷ codes "most" ∷ codes "of" ∷ codes "to" ∷ [] =
+    inserted_last c.insert-4.new.self.keys c.insert-5.new.self.keys c.as_slice-5.result (codes "to") (codes "at" ∷ codes "each" ∷ codes "most" ∷ codes "of" ∷ []) with4 now5 refl c.in_ok-insert-5.ensures.keys in
+    with5

@@ -1,0 +1,68 @@
+use Rattle.std.proofs.Common.{rules, arith, refl, sym, ◌∙◌}
+use Rattle.std.proofs.lemmas.Result.{IfOk-weaker}
+use Rattle.tl_syntax.specs.declared.token.TokenKind.TheVariants as K
+use Rattle.tl_syntax.specs.Statements.{IsBlock, IsOther, block, statement, act, try, if, if_else, repeat, repeat_at_most, for_each, other_block}
+use Rattle.tl_syntax.specs.declared.parsed.Otherwise.{Otherwise, roll-Otherwise, out-roll-Otherwise}
+use Rattle.tl_syntax.proofs.KindLemmas.{same_kind}
+use Rattle.tl_syntax.proofs.StatementLemmas.{no_statements, next_statement, act_tail, other_pushed, tail_block, tail_leaving}
+use Rattle.tl_syntax.proofs.parser.Parser.+statements.Goals as goal
+
+pub attempt-returns : goal.attempt-returns
+attempt-returns t c = try c.in_ok-body.body c.in_ok-otherwise.otherwise c.in_ok-at.ensures c.in_ok-body.ensures c.in_ok-at-2.ensures c.in_ok-otherwise.ensures
+
+pub statement-returns : goal.statement-returns
+statement-returns t c = statement c.in_ok-form.ensures c.offset-offset.ensures
+
+pub choice-returns-in_default : goal.choice-returns-in_default
+choice-returns-in_default t c = if c.in_ok-body.body c.new-nothing.result c.in_ok-at.ensures c.in_ok-question.ensures c.in_ok-body.ensures (search rules)
+
+pub choice-returns : goal.choice-returns
+choice-returns t c = if_else c.in_ok-body.body c.in_ok-otherwise.otherwise c.in_ok-at.ensures c.in_ok-question.ensures c.in_ok-body.ensures c.in-Some.ensures c.in_ok-otherwise.ensures
+
+pub repetition-returns-in_default : goal.repetition-returns-in_default
+repetition-returns-in_default t c = repeat c.in_ok-body.body c.in_ok-at.ensures c.in_ok-turns.ensures c.in_ok-body.ensures
+
+pub repetition-returns : goal.repetition-returns
+repetition-returns t c = repeat_at_most c.in_ok-body-2.body c.in_ok-at.ensures c.in_ok-turns.ensures c.in-Some.ensures c.in_ok-next.ensures c.in_ok-count.ensures c.in_ok-body-2.ensures
+
+pub visit-returns : goal.visit-returns
+visit-returns t c = for_each c.in_ok-body.body c.in_ok-at.ensures c.in_ok-at-2.ensures c.in_ok-at-3.ensures c.in_ok-child.ensures c.in_ok-at-4.ensures c.in_ok-parent.ensures c.in_ok-at-5.ensures c.in_ok-at-6.ensures c.in_ok-at_most.ensures c.in_ok-body.ensures
+
+pub block-loop-init : goal.block-loop-init
+block-loop-init t c = record { room = c.in_ok-inside.ensures; begun = c.in_ok-next.ensures; read = no_statements (search rules) }
+
+pub block-loop-preserved : goal.block-loop-preserved
+block-loop-preserved t c = record {
+  room = c.loop.invariant.room;
+  begun = c.loop.invariant.begun;
+  read = next_statement c.in_ok-push.ensures.items c.loop.invariant.read c.in_ok-statement.ensures;
+}
+
+pub block-returns-in-Some : goal.block-returns-in-Some
+block-returns-in-Some t c = block c.loop.invariant.begun c.loop.invariant.read c.in-Some.ensures
+
+pub other-returns-then-eq : goal.other-returns-then-eq
+other-returns-then-eq t c =
+    other_pushed c.in_ok-push.ensures.items (search rules) (sym c.kind.ensures ∙ same_kind c.kind.result K.If (sym c.eq.ensures ∙ c.if-eq.true))
+    c.in_ok-form.ensures c.offset-offset.ensures
+
+pub other-returns : goal.other-returns
+other-returns t c =
+    IfOk-weaker c.block.result (λ read. IsBlock c.args.self.now.tokens.now c.args.at read.1 read.0.items) (λ read. IsOther c.args.self.now.tokens.now c.args.at read.1 read.0.items)
+    (λ read h. other_block h) c.block.ensures
+
+pub tail-returns-then-eq : goal.tail-returns-then-eq
+tail-returns-then-eq t c =
+    let o : Otherwise = roll-Otherwise (record { offset = c.offset-offset.result; body = c.in_ok-body.body }) in
+    tail_block o c.in_ok-body.body (rw out-roll-Otherwise) (rw out-roll-Otherwise) c.in_ok-next.ensures c.in_ok-body.ensures c.offset-offset.ensures
+
+pub tail-returns : goal.tail-returns
+tail-returns t c =
+    let o : Otherwise = roll-Otherwise (record { offset = c.offset-offset.result; body = c.in_ok-body-2.body }) in
+    tail_leaving o c.in_ok-body-2.body (rw out-roll-Otherwise) (rw out-roll-Otherwise) c.in_ok-next.ensures c.in_ok-body-2.ensures c.offset-offset.ensures
+
+pub act-returns-then-may_have_else : goal.act-returns-then-may_have_else
+act-returns-then-may_have_else t c = act_tail c.in_ok-otherwise.otherwise c.in_ok-action.ensures (sym c.may_have_else.ensures ∙ c.if-may_have_else.true) c.in_ok-otherwise.ensures
+
+pub act-returns : goal.act-returns
+act-returns t c = act c.in_ok-action.ensures c.in_ok-at.ensures

@@ -1,0 +1,53 @@
+-- Which tokens spell which declarations. Each rule says what stands from the token i on, up to the token j.
+use Rattle.std.specs.Prelude.{◌≡◌, ℕ, List, [], ◌∷◌, ◌++◌, ℤ}
+use Rattle.tl_syntax.specs.declared.token.Token.{Token}
+use Rattle.tl_syntax.specs.declared.token.TokenKind.TheVariants as K
+use Rattle.tl_syntax.specs.declared.parsed.Name.{Name}
+use Rattle.tl_syntax.specs.declared.parsed.Procedure.{Procedure}
+use Rattle.tl_syntax.specs.declared.parsed.Declaration.{Declaration}
+use Rattle.tl_syntax.specs.declared.parsed.Declaration.TheVariants as D
+use Rattle.tl_syntax.specs.Grammar.{kind_at, offset_at, Stands, IsName, IsNumber, IsNegative}
+use Rattle.tl_syntax.specs.Statements.{IsBlock}
+
+-- the number of a constant
+pub data IsConstant (tokens : List Token) : ℕ → ℕ → ℤ → Type 0 where
+  positive : {i j : ℕ} {n : ℤ} → IsNumber tokens i j n → IsConstant tokens i j n
+  negative : {i j k : ℕ} {n : ℤ} → Stands tokens K.Minus i j → IsNegative tokens j k n → IsConstant tokens i k n
+
+-- one name or more, with commas between them
+pub data AreNames (tokens : List Token) : ℕ → ℕ → List Name → Type 0 where
+  one : {i j : ℕ} {n : Name} → IsName tokens i j n → AreNames tokens i j (n ∷ [])
+  one_more : {i j k l : ℕ} {ns : List Name} {n : Name} → AreNames tokens i j ns → Stands tokens K.Comma j k → IsName tokens k l n →
+      AreNames tokens i l (ns ++ n ∷ [])
+
+-- what stands between a procedure's parentheses, and the closing one
+pub data AreArguments (tokens : List Token) : ℕ → ℕ → List Name → Type 0 where
+  none : {i j : ℕ} → Stands tokens K.RightParenthesis i j → AreArguments tokens i j []
+  some : {i j k : ℕ} {ns : List Name} → AreNames tokens i j ns → Stands tokens K.RightParenthesis j k → AreArguments tokens i k ns
+
+-- what a procedure's name, arguments and body are
+pub data IsProcedure (tokens : List Token) : ℕ → ℕ → Procedure → Type 0 where
+  procedure : {i j k l m n : ℕ} {p : Procedure} → Stands tokens K.Proc i j → IsName tokens j k p.name → Stands tokens K.LeftParenthesis k l →
+      AreArguments tokens l m p.arguments.items → IsBlock tokens m n p.body.items → p.otherwise.items ≡ [] → IsProcedure tokens i n p
+  procedure_else : {i j k l m n o q : ℕ} {p : Procedure} → Stands tokens K.Proc i j → IsName tokens j k p.name → Stands tokens K.LeftParenthesis k l →
+      AreArguments tokens l m p.arguments.items → IsBlock tokens m n p.body.items → Stands tokens K.Else n o → IsBlock tokens o q p.otherwise.items →
+      IsProcedure tokens i q p
+
+pub data IsDeclaration (tokens : List Token) : ℕ → ℕ → Declaration → Type 0 where
+  -- the offset is that of the number
+  field : {i j k l m o offset : ℕ} {n : Name} {number : ℤ} → Stands tokens K.Field i j → IsName tokens j k n → Stands tokens K.Assign k l →
+      IsNumber tokens l m number → Stands tokens K.Semicolon m o → offset ≡ offset_at tokens l → IsDeclaration tokens i o (D.Field n number offset)
+  constant : {i j k l m o : ℕ} {n : Name} {number : ℤ} → Stands tokens K.Const i j → IsName tokens j k n → Stands tokens K.Assign k l →
+      IsConstant tokens l m number → Stands tokens K.Semicolon m o → IsDeclaration tokens i o (D.Constant n number)
+  procedures : {i j : ℕ} {p : Procedure} → IsProcedure tokens i j p → IsDeclaration tokens i j (D.Procedure p)
+
+pub data AreDeclarations (tokens : List Token) : ℕ → ℕ → List Declaration → Type 0 where
+  no_more : {i : ℕ} → AreDeclarations tokens i i []
+  next : {i j k : ℕ} {ds : List Declaration} {d : Declaration} → AreDeclarations tokens i j ds → IsDeclaration tokens j k d →
+      AreDeclarations tokens i k (ds ++ d ∷ [])
+
+-- all tokens up to the end spell these declarations
+pub record IsFile (tokens : List Token) (ds : List Declaration) : Type 0 where
+  pub end : ℕ
+  pub declarations : AreDeclarations tokens 0 end ds
+  pub ends : kind_at tokens end ≡ K.End

@@ -1,0 +1,144 @@
+-- Which tokens spell which content. Each rule says what stands from the token i on, up to the token j.
+use Rattle.std.specs.Prelude.{◌≡◌, ℕ, ◌+◌, ◌-◌, List, [], ◌∷◌, ◌++◌, length, Option, None, Some, slice_get, ℤ, pos, neg_ℤ}
+use Rattle.std.specs.declared.boxed.Box.{Box}
+use Rattle.std.specs.declared.alloc.Global.{Global}
+use Rattle.tl_syntax.specs.declared.token.Token.{Token}
+use Rattle.tl_syntax.specs.declared.token.TokenKind.{TokenKind}
+use Rattle.tl_syntax.specs.declared.token.TokenKind.TheVariants as K
+use Rattle.tl_syntax.specs.declared.operator.Operator.{Operator}
+use Rattle.tl_syntax.specs.declared.operator.Operator.TheVariants as O
+use Rattle.tl_syntax.specs.declared.parsed.Comparison.{Comparison}
+use Rattle.tl_syntax.specs.declared.parsed.Comparison.TheVariants as C
+use Rattle.tl_syntax.specs.declared.parsed.Name.{Name}
+use Rattle.tl_syntax.specs.declared.parsed.Expression.{Expression}
+use Rattle.tl_syntax.specs.declared.parsed.Form.{Form}
+use Rattle.tl_syntax.specs.declared.parsed.Form.TheVariants as F
+use Rattle.tl_syntax.specs.declared.expressions.Join.{Join}
+use Rattle.tl_syntax.specs.declared.expressions.Join.TheVariants as J
+
+-- ---- tokens
+
+abbrev pub kind_of : Option Token → TokenKind
+kind_of None = K.End
+kind_of (Some token) = token.kind
+
+-- the kind of a token; past the last one it is the end
+unfoldable pub kind_at : List Token → ℕ → TokenKind
+kind_at tokens i = kind_of (slice_get tokens i)
+
+abbrev pub offset_of : Option Token → Option Token → ℕ
+offset_of (Some token) last = token.offset
+offset_of None (Some token) = token.offset
+offset_of None None = 0
+
+-- the offset of a token; past the last one it is that of the last one
+unfoldable pub offset_at : List Token → ℕ → ℕ
+offset_at tokens i = offset_of (slice_get tokens i) (slice_get tokens (length tokens - 1))
+
+-- one token of that kind
+pub record Stands (tokens : List Token) (kind : TokenKind) (i j : ℕ) : Type 0 where
+  pub kind_is : kind_at tokens i ≡ kind
+  pub next_is : j ≡ i + 1
+
+pub record IsName (tokens : List Token) (i j : ℕ) (name : Name) : Type 0 where
+  pub stands : Stands tokens (K.Name name.symbol) i j
+  pub offset_is : name.offset ≡ offset_at tokens i
+
+pub record IsNumber (tokens : List Token) (i j : ℕ) (number : ℤ) : Type 0 where
+  pub digits : ℕ
+  pub stands : Stands tokens (K.Number digits) i j
+  pub is : number ≡ pos digits
+
+-- the number behind a minus sign
+pub record IsNegative (tokens : List Token) (i j : ℕ) (number : ℤ) : Type 0 where
+  pub digits : ℕ
+  pub stands : Stands tokens (K.Number digits) i j
+  pub is : number ≡ neg_ℤ (pos digits)
+
+-- ---- expressions
+
+abbrev pub IsAdditive : List Token → ℕ → ℕ → Operator → Type 0
+IsAdditive tokens i j O.Add = Stands tokens K.Plus i j
+IsAdditive tokens i j O.Subtract = Stands tokens K.Minus i j
+IsAdditive tokens i j operator = ⊥
+
+abbrev pub IsMultiplicative : List Token → ℕ → ℕ → Operator → Type 0
+IsMultiplicative tokens i j O.Multiply = Stands tokens K.Times i j
+IsMultiplicative tokens i j O.Divide = Stands tokens K.Divide i j
+IsMultiplicative tokens i j operator = ⊥
+
+abbrev pub IsComparison : List Token → ℕ → ℕ → Comparison → Type 0
+IsComparison tokens i j C.Less = Stands tokens K.Less i j
+IsComparison tokens i j C.LessOrEqual = Stands tokens K.LessOrEqual i j
+IsComparison tokens i j C.Greater = Stands tokens K.Greater i j
+IsComparison tokens i j C.GreaterOrEqual = Stands tokens K.GreaterOrEqual i j
+IsComparison tokens i j C.Equal = Stands tokens K.Equal i j
+IsComparison tokens i j C.NotEqual = Stands tokens K.NotEqual i j
+
+abbrev pub form_by : Join → Box Expression Global → Box Expression Global → Form
+form_by J.Or a b = F.Or a b
+form_by J.And a b = F.And a b
+form_by (J.Compare comparison) a b = F.Compared comparison a b
+form_by (J.Calculate operator) a b = F.Calculated operator a b
+
+-- two expressions, joined by an operator; it is where the first one is
+pub record IsJoined (join : Join) (a b e : Expression) : Type 0 where
+  pub left : Box Expression Global
+  pub right : Box Expression Global
+  pub left_is : left.value ≡ a
+  pub right_is : right.value ≡ b
+  pub form_is : e.form ≡ form_by join left right
+  pub offset_is : e.offset ≡ a.offset
+
+-- the rules of expressions, from the one that binds least
+pub data Rule : Type 0 where
+  Disjunction : Rule
+  Conjunction : Rule
+  Negation : Rule
+  Relation : Rule
+  Sum : Rule
+  Term : Rule
+  Unary : Rule
+  Atom : Rule
+
+-- the rule that binds next
+abbrev pub tighter : Rule → Rule
+tighter Disjunction = Conjunction
+tighter Conjunction = Negation
+tighter Negation = Relation
+tighter Relation = Sum
+tighter Sum = Term
+tighter Term = Unary
+tighter Unary = Atom
+tighter Atom = Atom
+
+-- the forms of an atom without parentheses
+pub data IsPlain (tokens : List Token) : ℕ → ℕ → Form → Type 0 where
+  number : {i j : ℕ} {n : ℤ} → IsNumber tokens i j n → IsPlain tokens i j (F.Number n)
+  named : {i j : ℕ} {n : Name} → IsName tokens i j n → IsPlain tokens i j (F.Named n)
+  field : {i j k l : ℕ} {n f : Name} → IsName tokens i j n → Stands tokens K.Dot j k → IsName tokens k l f → IsPlain tokens i l (F.Field n f)
+  kids : {i j k l m : ℕ} {n : Name} → Stands tokens K.Kids i j → Stands tokens K.LeftParenthesis j k → IsName tokens k l n →
+      Stands tokens K.RightParenthesis l m → IsPlain tokens i m (F.Children n)
+
+pub data IsExpression (tokens : List Token) : Rule → ℕ → ℕ → Expression → Type 0 where
+  alone : {rule : Rule} {i j : ℕ} {e : Expression} → IsExpression tokens (tighter rule) i j e → IsExpression tokens rule i j e
+  or : {i j k l : ℕ} {a b e : Expression} → IsExpression tokens Disjunction i j a → Stands tokens K.Or j k →
+      IsExpression tokens Conjunction k l b → IsJoined J.Or a b e → IsExpression tokens Disjunction i l e
+  and : {i j k l : ℕ} {a b e : Expression} → IsExpression tokens Conjunction i j a → Stands tokens K.And j k →
+      IsExpression tokens Negation k l b → IsJoined J.And a b e → IsExpression tokens Conjunction i l e
+  not : {i j k : ℕ} {a : Box Expression Global} {e : Expression} → Stands tokens K.Not i j → IsExpression tokens Negation j k a.value →
+      e.form ≡ F.Not a → e.offset ≡ offset_at tokens i → IsExpression tokens Negation i k e
+  compared : {i j k l : ℕ} {c : Comparison} {a b e : Expression} → IsExpression tokens Sum i j a → IsComparison tokens j k c →
+      IsExpression tokens Sum k l b → IsJoined (J.Compare c) a b e → IsExpression tokens Relation i l e
+  sum : {i j k l : ℕ} {o : Operator} {a b e : Expression} → IsExpression tokens Sum i j a → IsAdditive tokens j k o →
+      IsExpression tokens Term k l b → IsJoined (J.Calculate o) a b e → IsExpression tokens Sum i l e
+  term : {i j k l : ℕ} {o : Operator} {a b e : Expression} → IsExpression tokens Term i j a → IsMultiplicative tokens j k o →
+      IsExpression tokens Unary k l b → IsJoined (J.Calculate o) a b e → IsExpression tokens Term i l e
+  negative : {i j k : ℕ} {n : ℤ} {e : Expression} → Stands tokens K.Minus i j → IsNegative tokens j k n →
+      e.form ≡ F.Number n → e.offset ≡ offset_at tokens i → IsExpression tokens Unary i k e
+  negated : {i j k : ℕ} {a : Box Expression Global} {e : Expression} → Stands tokens K.Minus i j → IsExpression tokens Unary j k a.value →
+      e.form ≡ F.Negated a → e.offset ≡ offset_at tokens i → IsExpression tokens Unary i k e
+  -- the offset is that of the parenthesis
+  grouped : {i j k l : ℕ} {a e : Expression} → Stands tokens K.LeftParenthesis i j → IsExpression tokens Disjunction j k a →
+      Stands tokens K.RightParenthesis k l → e.form ≡ a.form → e.offset ≡ offset_at tokens i → IsExpression tokens Atom i l e
+  plain : {i j : ℕ} {e : Expression} → IsPlain tokens i j e.form → e.offset ≡ offset_at tokens i → IsExpression tokens Atom i j e

@@ -1,0 +1,158 @@
+-- What the tokens of a text are. A text is a sequence of pieces: blanks, comments, words, numbers and signs.
+use denote.Bor.{Bor}
+use Rattle.std.specs.Prelude.{◌≡◌, ◌≢◌, ℕ, suc, ◌+◌, ◌≤◌, Bool, true, false, not, ◌||◌, ◌==◌, List, [], ◌∷◌, ◌++◌, length, take, drop, Option, None, Some, slice_get, All, IsTrue, codes, map, if◌then◌else◌, ◌⊎◌}
+use Rattle.std.specs.List.{position_or_len}
+use Rattle.std.specs.Char.{is_ascii_alphabetic, is_ascii_alphanumeric, is_ascii_digit}
+use Rattle.std.specs.Str.Parse.{digits_value}
+use Rattle.tl_syntax.specs.declared.token.Token.{Token}
+use Rattle.tl_syntax.specs.declared.token.TokenKind.{TokenKind}
+use Rattle.tl_syntax.specs.declared.token.TokenKind.TheVariants as K
+use Rattle.tl_syntax.specs.declared.lexer.Piece.{Piece}
+use Rattle.tl_syntax.specs.declared.lexer.Piece.TheVariants as P
+use Rattle.tl_syntax.specs.declared.words.TheConstants.{MAX_NAME, MAX_NUMBER}
+
+-- ---- bytes
+
+-- a space, a tab or the end of a line
+abbrev pub separates : ℕ → Bool
+separates b = b == 32 || b == 9 || b == 13 || b == 10
+
+-- a letter or _
+abbrev pub starts_word : ℕ → Bool
+starts_word b = is_ascii_alphabetic b || b == 95
+
+-- a letter, a digit or _
+abbrev pub stays_word : ℕ → Bool
+stays_word b = is_ascii_alphanumeric b || b == 95
+
+-- how many bytes are left of a word or a number
+abbrev pub word_left : List ℕ → ℕ
+word_left bytes = position_or_len (λ b. not (stays_word b)) bytes
+
+-- how many bytes are left of a line
+abbrev pub line_left : List ℕ → ℕ
+line_left bytes = position_or_len (λ b. b == 10) bytes
+
+-- ---- signs and words
+
+-- the signs of two characters
+pub data IsLongSign (first second : ℕ) : TokenKind → Type 0 where
+  add : first ≡ 43 → second ≡ 61 → IsLongSign first second K.AddAssign
+  subtract : first ≡ 45 → second ≡ 61 → IsLongSign first second K.SubtractAssign
+  less : first ≡ 60 → second ≡ 61 → IsLongSign first second K.LessOrEqual
+  greater : first ≡ 62 → second ≡ 61 → IsLongSign first second K.GreaterOrEqual
+  equal : first ≡ 61 → second ≡ 61 → IsLongSign first second K.Equal
+  unequal : first ≡ 33 → second ≡ 61 → IsLongSign first second K.NotEqual
+
+-- the signs of one character
+pub data IsShortSign (byte : ℕ) : TokenKind → Type 0 where
+  left_parenthesis : byte ≡ 40 → IsShortSign byte K.LeftParenthesis
+  right_parenthesis : byte ≡ 41 → IsShortSign byte K.RightParenthesis
+  left_brace : byte ≡ 123 → IsShortSign byte K.LeftBrace
+  right_brace : byte ≡ 125 → IsShortSign byte K.RightBrace
+  comma : byte ≡ 44 → IsShortSign byte K.Comma
+  semicolon : byte ≡ 59 → IsShortSign byte K.Semicolon
+  dot : byte ≡ 46 → IsShortSign byte K.Dot
+  assign : byte ≡ 61 → IsShortSign byte K.Assign
+  plus : byte ≡ 43 → IsShortSign byte K.Plus
+  minus : byte ≡ 45 → IsShortSign byte K.Minus
+  times : byte ≡ 42 → IsShortSign byte K.Times
+  divide : byte ≡ 47 → IsShortSign byte K.Divide
+  less_sign : byte ≡ 60 → IsShortSign byte K.Less
+  greater_sign : byte ≡ 62 → IsShortSign byte K.Greater
+
+-- the reserved words
+pub data IsReserved (word : List ℕ) : TokenKind → Type 0 where
+  word_and : word ≡ codes "and" → IsReserved word K.And
+  word_break : word ≡ codes "break" → IsReserved word K.Break
+  word_child : word ≡ codes "child" → IsReserved word K.Child
+  word_const : word ≡ codes "const" → IsReserved word K.Const
+  word_descend : word ≡ codes "descend" → IsReserved word K.Descend
+  word_else : word ≡ codes "else" → IsReserved word K.Else
+  word_emit : word ≡ codes "emit" → IsReserved word K.Emit
+  word_fail : word ≡ codes "fail" → IsReserved word K.Fail
+  word_field : word ≡ codes "field" → IsReserved word K.Field
+  word_for : word ≡ codes "for" → IsReserved word K.For
+  word_free : word ≡ codes "free" → IsReserved word K.Free
+  word_if : word ≡ codes "if" → IsReserved word K.If
+  word_kids : word ≡ codes "kids" → IsReserved word K.Kids
+  word_let : word ≡ codes "let" → IsReserved word K.Let
+  word_lock : word ≡ codes "lock" → IsReserved word K.Lock
+  word_node : word ≡ codes "node" → IsReserved word K.Node
+  word_not : word ≡ codes "not" → IsReserved word K.Not
+  word_or : word ≡ codes "or" → IsReserved word K.Or
+  word_proc : word ≡ codes "proc" → IsReserved word K.Proc
+  word_repeat : word ≡ codes "repeat" → IsReserved word K.Repeat
+  word_require : word ≡ codes "require" → IsReserved word K.Require
+  word_return : word ≡ codes "return" → IsReserved word K.Return
+  word_try : word ≡ codes "try" → IsReserved word K.Try
+
+-- not a reserved word
+abbrev pub IsFree : List ℕ → Type 0
+IsFree word = (kind : TokenKind) → IsReserved word kind → ⊥
+
+-- not a sign of two characters
+abbrev pub IsNoLongSign : ℕ → ℕ → Type 0
+IsNoLongSign first second = (kind : TokenKind) → IsLongSign first second kind → ⊥
+
+-- digits without leading zeros, for a number that isn't too large
+pub record IsDecimal (word : List ℕ) (n : ℕ) : Type 0 where
+  pub digits : All (λ b. IsTrue (is_ascii_digit b)) word
+  pub no_zeros : (length word ≡ 1) ⊎ (slice_get word 0 ≢ Some 48)
+  pub is : n ≡ digits_value 10 word
+  pub fits : n ≤ MAX_NUMBER
+
+-- ---- pieces
+
+-- no comment and no sign of two characters begins here
+abbrev pub IsAlone : ℕ → Option ℕ → Type 0
+IsAlone first None = Unit {0}
+IsAlone first (Some second) = ((first ≡ 47) → second ≢ 47) × IsNoLongSign first second
+
+-- what begins with that byte before those others, and how many of these belong to it
+pub data Begins (first : ℕ) (after : List ℕ) : Piece → ℕ → Type 0 where
+  blank : separates first ≡ true → Begins first after P.Blank 0
+  comment : first ≡ 47 → slice_get after 0 ≡ Some 47 → Begins first after P.Blank (line_left after)
+  word : starts_word first ≡ true → Begins first after P.Word (word_left after)
+  digits : is_ascii_digit first ≡ true → Begins first after P.Digits (word_left after)
+  long : {second : ℕ} {kind : TokenKind} → slice_get after 0 ≡ Some second → IsLongSign first second kind → Begins first after (P.Sign kind) 1
+  -- only where no longer sign stands
+  short : {kind : TokenKind} → IsShortSign first kind → IsAlone first (slice_get after 0) → Begins first after (P.Sign kind) 0
+
+-- the bytes of each name
+abbrev pub spellings : List (Bor (List ℕ)) → List (List ℕ)
+spellings names = map (λ name. name.now) names
+
+-- the token that a piece is; the symbol of a name is its index
+pub data IsToken (names : List (List ℕ)) : Piece → List ℕ → TokenKind → Type 0 where
+  reserved : {word : List ℕ} {kind : TokenKind} → IsReserved word kind → IsToken names P.Word word kind
+  name : {word : List ℕ} {symbol : ℕ} → IsFree word → length word ≤ MAX_NAME → slice_get names symbol ≡ Some word →
+      IsToken names P.Word word (K.Name (record { 0 = symbol }))
+  number : {word : List ℕ} {n : ℕ} → IsDecimal word n → IsToken names P.Digits word (K.Number n)
+  sign : {word : List ℕ} {kind : TokenKind} → IsToken names (P.Sign kind) word kind
+
+-- the tokens of the bytes that begin at an offset of the text, with the end
+pub data AreTokens (names : List (List ℕ)) : ℕ → List ℕ → List Token → Type 0 where
+  end : {offset : ℕ} → AreTokens names offset [] (record { kind = K.End; offset = offset } ∷ [])
+  blank : {offset first n : ℕ} {after : List ℕ} {tokens : List Token} → Begins first after P.Blank n →
+      AreTokens names (offset + (n + 1)) (drop n after) tokens → AreTokens names offset (first ∷ after) tokens
+  token : {offset first n : ℕ} {after : List ℕ} {piece : Piece} {kind : TokenKind} {tokens : List Token} → Begins first after piece n →
+      IsToken names piece (first ∷ take n after) kind → AreTokens names (offset + (n + 1)) (drop n after) tokens →
+      AreTokens names offset (first ∷ after) (record { kind = kind; offset = offset } ∷ tokens)
+
+-- ---- what is read so far
+
+-- more names at the end
+pub record Extends (old new : List (List ℕ)) : Type 0 where
+  pub more : List (List ℕ)
+  pub is : new ≡ old ++ more
+
+-- the words that may also be names are the first ones
+abbrev pub first_names : List (List ℕ)
+first_names = codes "at" ∷ codes "each" ∷ codes "most" ∷ codes "of" ∷ codes "to" ∷ []
+
+-- a piece adds its token, if it is one, and maybe a name
+pub data Adds (word : List ℕ) (offset : ℕ) (names names' : List (List ℕ)) (tokens tokens' : List Token) : Piece → Type 0 where
+  nothing : names' ≡ names → tokens' ≡ tokens → Adds word offset names names' tokens tokens' P.Blank
+  one : {piece : Piece} {kind : TokenKind} → Extends names names' → IsToken names' piece word kind →
+      tokens' ≡ tokens ++ (record { kind = kind; offset = offset }) ∷ [] → Adds word offset names names' tokens tokens' piece
