@@ -1,5 +1,5 @@
 -- Which tokens spell which content. Each rule says what stands from the token i on, up to the token j.
-use Rattle.std.specs.Prelude.{◌≡◌, ℕ, ◌+◌, ◌-◌, List, [], ◌∷◌, ◌++◌, length, Option, None, Some, slice_get, ℤ, pos, neg_ℤ}
+use Rattle.std.specs.Prelude.{◌≡◌, ◌≢◌, ℕ, ◌+◌, ◌-◌, List, [], ◌∷◌, ◌++◌, length, Option, None, Some, slice_get, ℤ, pos, neg_ℤ}
 use Rattle.std.specs.declared.boxed.Box.{Box}
 use Rattle.std.specs.declared.alloc.Global.{Global}
 use Rattle.tl_syntax.specs.declared.token.Token.{Token}
@@ -54,6 +54,10 @@ pub record IsNegative (tokens : List Token) (i j : ℕ) (number : ℤ) : Type 0 
   pub digits : ℕ
   pub stands : Stands tokens (K.Number digits) i j
   pub is : number ≡ neg_ℤ (pos digits)
+
+-- no number stands there
+abbrev pub IsNoNumber : List Token → ℕ → Type 0
+IsNoNumber tokens i = (digits : ℕ) → kind_at tokens i ≢ K.Number digits
 
 -- ---- expressions
 
@@ -136,7 +140,8 @@ pub data IsExpression (tokens : List Token) : Rule → ℕ → ℕ → Expressio
       IsExpression tokens Unary k l b → IsJoined (J.Calculate o) a b e → IsExpression tokens Term i l e
   negative : {i j k : ℕ} {n : ℤ} {e : Expression} → Stands tokens K.Minus i j → IsNegative tokens j k n →
       e.form ≡ F.Number n → e.offset ≡ offset_at tokens i → IsExpression tokens Unary i k e
-  negated : {i j k : ℕ} {a : Box Expression Global} {e : Expression} → Stands tokens K.Minus i j → IsExpression tokens Unary j k a.value →
+  -- a minus sign right before a number is part of the number
+  negated : {i j k : ℕ} {a : Box Expression Global} {e : Expression} → Stands tokens K.Minus i j → IsNoNumber tokens j → IsExpression tokens Unary j k a.value →
       e.form ≡ F.Negated a → e.offset ≡ offset_at tokens i → IsExpression tokens Unary i k e
   -- the offset is that of the parenthesis
   grouped : {i j k l : ℕ} {a e : Expression} → Stands tokens K.LeftParenthesis i j → IsExpression tokens Disjunction j k a →

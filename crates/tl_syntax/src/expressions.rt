@@ -192,7 +192,7 @@ impl<'a> Parser<'a> {
             return self.atom(at, levels);
         };
         let offset = self.offset(at);
-        if let Some((number, after)) = self.negative(next) {
+        if let Some((number, after)) = self.negative(next)? {
             let form = Form::Number(number);
             return Ok((Expression { offset, form }, after));
         }

@@ -59,15 +59,16 @@ signed-returns-in_default t c =
     IfOk-weaker c.atom.result (λ read. IsExpression tokens Atom c.args.at read.1 read.0)
     (λ read. IsExpression tokens Unary c.args.at read.1 read.0) (λ read h. alone h) c.atom.ensures
 
-pub signed-returns-in-Some-negative : goal.signed-returns-in-Some-negative
-signed-returns-in-Some-negative t c =
-    let n = c.in-Some-negative.number in
+pub signed-returns-in-Some-2 : goal.signed-returns-in-Some-2
+signed-returns-in-Some-2 t c =
+    let n = c.in-Some-2.number in
     let same : to_z w32 (of_z w32 n) ≡ n = search rules in
-    rw same (negative c.in-Some.ensures c.in-Some-negative.ensures refl c.offset-offset.ensures)
+    rw same (negative c.in-Some.ensures (rw c.in-Some-2.is at c.in_ok-number.ensures.some) refl c.offset-offset.ensures)
 
 pub signed-returns : goal.signed-returns
 signed-returns t c =
-    negated {a = c.in_ok-new.field-0} c.in-Some.ensures (rw c.in_ok-new.ensures.ok c.in_ok-operand.ensures) refl c.offset-offset.ensures
+    negated {a = c.in_ok-new.field-0} c.in-Some.ensures (rw c.in_default-2.is at c.in_ok-number.ensures.none)
+    (rw c.in_ok-new.ensures.ok c.in_ok-operand.ensures) refl c.offset-offset.ensures
 
 pub sum-loop-operator-init : goal.sum-loop-operator-init
 sum-loop-operator-init t c = record { room = omega arith; spelled = alone c.in_ok-left.ensures }
