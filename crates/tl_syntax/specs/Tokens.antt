@@ -123,6 +123,10 @@ pub data Begins (first : ℕ) (after : List ℕ) : Piece → ℕ → Type 0 wher
 abbrev pub spellings : List (Bor (List ℕ)) → List (List ℕ)
 spellings names = map (λ name. name.now) names
 
+-- no name stands twice
+abbrev pub AreDistinct : List (List ℕ) → Type 0
+AreDistinct names = (i j : ℕ) (word : List ℕ) → slice_get names i ≡ Some word → slice_get names j ≡ Some word → i ≡ j
+
 -- the token that a piece is; the symbol of a name is its index
 pub data IsToken (names : List (List ℕ)) : Piece → List ℕ → TokenKind → Type 0 where
   reserved : {word : List ℕ} {kind : TokenKind} → IsReserved word kind → IsToken names P.Word word kind
