@@ -1,5 +1,5 @@
 -- Worked examples: the tokens of a text, and what a few tokens spell.
-use Rattle.std.proofs.Common.{◌≡◌, ℕ, List, [], ◌∷◌, pos, refl, codes, inl, lit≤, rules}
+use Rattle.std.proofs.Common.{◌≡◌, ℕ, List, [], ◌∷◌, pos, refl, codes, inl, lit<, lit≤, rules}
 use Rattle.tl_syntax.specs.declared.token.Token.{Token}
 use Rattle.tl_syntax.specs.declared.token.TokenKind.{TokenKind}
 use Rattle.tl_syntax.specs.declared.token.TokenKind.TheVariants as K
@@ -29,15 +29,15 @@ minus_three = record { kind_is = refl; next_is = refl }
 -- a number is a term where it stands
 three_is : IsExpression three Term 0 1 (record { offset = 0; form = F.Number (pos 3) })
 unfolding kind_at offset_at
-three_is = alone (alone (plain (number (record { digits = 3; stands = record { kind_is = refl; next_is = refl }; is = refl })) refl))
+three_is = alone (alone (plain (number (record { digits = 3; stands = record { kind_is = refl; next_is = refl }; fits = lit< tt; is = refl })) refl))
 
 two_is : IsExpression three Term 2 3 (record { offset = 2; form = F.Number (pos 2) })
 unfolding kind_at offset_at
-two_is = alone (alone (plain (number (record { digits = 2; stands = record { kind_is = refl; next_is = refl }; is = refl })) refl))
+two_is = alone (alone (plain (number (record { digits = 2; stands = record { kind_is = refl; next_is = refl }; fits = lit< tt; is = refl })) refl))
 
 one_is : IsExpression three Term 4 5 (record { offset = 4; form = F.Number (pos 1) })
 unfolding kind_at offset_at
-one_is = alone (alone (plain (number (record { digits = 1; stands = record { kind_is = refl; next_is = refl }; is = refl })) refl))
+one_is = alone (alone (plain (number (record { digits = 1; stands = record { kind_is = refl; next_is = refl }; fits = lit< tt; is = refl })) refl))
 
 -- the first two are joined first
 from_the_left : (a e : Expression) → IsJoined (J.Calculate O.Subtract) (record { offset = 0; form = F.Number (pos 3) }) (record { offset = 2; form = F.Number (pos 2) }) a →

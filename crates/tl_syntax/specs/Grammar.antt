@@ -1,5 +1,5 @@
 -- Which tokens spell which content. Each rule says what stands from the token i on, up to the token j.
-use Rattle.std.specs.Prelude.{◌≡◌, ◌≢◌, ℕ, ◌+◌, ◌-◌, List, [], ◌∷◌, ◌++◌, length, Option, None, Some, slice_get, ℤ, pos, neg_ℤ}
+use Rattle.std.specs.Prelude.{◌≡◌, ◌≢◌, ℕ, ◌+◌, ◌-◌, ◌<◌, ◌≤◌, List, [], ◌∷◌, ◌++◌, length, Option, None, Some, slice_get, ℤ, pos, neg_ℤ}
 use Rattle.std.specs.declared.boxed.Box.{Box}
 use Rattle.std.specs.declared.alloc.Global.{Global}
 use Rattle.tl_syntax.specs.declared.token.Token.{Token}
@@ -15,6 +15,7 @@ use Rattle.tl_syntax.specs.declared.parsed.Form.{Form}
 use Rattle.tl_syntax.specs.declared.parsed.Form.TheVariants as F
 use Rattle.tl_syntax.specs.declared.expressions.Join.{Join}
 use Rattle.tl_syntax.specs.declared.expressions.Join.TheVariants as J
+use Rattle.tl_syntax.specs.declared.words.TheConstants.{MAX_NUMBER}
 
 -- ---- tokens
 
@@ -44,15 +45,18 @@ pub record IsName (tokens : List Token) (i j : ℕ) (name : Name) : Type 0 where
   pub stands : Stands tokens (K.Name name.symbol) i j
   pub offset_is : name.offset ≡ offset_at tokens i
 
+-- a number of 32 bits: one less than with a minus sign before it
 pub record IsNumber (tokens : List Token) (i j : ℕ) (number : ℤ) : Type 0 where
   pub digits : ℕ
   pub stands : Stands tokens (K.Number digits) i j
+  pub fits : digits < MAX_NUMBER
   pub is : number ≡ pos digits
 
 -- the number behind a minus sign
 pub record IsNegative (tokens : List Token) (i j : ℕ) (number : ℤ) : Type 0 where
   pub digits : ℕ
   pub stands : Stands tokens (K.Number digits) i j
+  pub fits : digits ≤ MAX_NUMBER
   pub is : number ≡ neg_ℤ (pos digits)
 
 -- no number stands there
