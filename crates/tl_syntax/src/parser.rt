@@ -1,6 +1,6 @@
 // The parser's input: tokens, one after another.
 
-ghost use Rattle.std.specs.Prelude.{◌≡◌, ◌≢◌, ◌+◌, ◌<◌, ◌≤◌, length, IfOk, IfSome, IfNone};
+ghost use Rattle.std.specs.Prelude.{◌≡◌, ◌≢◌, suc, ◌+◌, ◌≤◌, length, IfOk, IfSome, IfNone};
 ghost use Rattle.tl_syntax.specs.Grammar.{kind_at, offset_at, Stands, IsName, IsNumber, IsNegative, IsNoNumber};
 
 use crate::fault::{SyntaxFault, Wrong};
@@ -145,7 +145,7 @@ impl<'a> Parser<'a> {
 
     /// How many levels are left after the token opens one. 274 if none was left.
     pub fn open(&self, at: usize, levels: u32) -> Result<u32, SyntaxFault>
-        ensures { IfOk result (λ left. left < levels) }
+        ensures { IfOk result (λ left. levels ≡ suc left) }
     {
         match levels.checked_sub(1) {
             Some(left) => Ok(left),
