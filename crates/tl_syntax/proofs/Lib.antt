@@ -5,3 +5,4 @@ mod Rows
 pub mod SearchLemmas
 pub mod StatementLemmas
 pub mod TokenLemmas
+pub mod TokensOnce
