@@ -1,6 +1,6 @@
 -- The names of a text, as an `IndexSet` keeps them.
 use denote.Bor.{Bor}
-use Rattle.std.proofs.Common.{◌≡◌, ◌≢◌, ℕ, zero, suc, Bool, true, false, List, [], ◌∷◌, ◌++◌, map, Option, None, Some, slice_get, length, ◌≤◌, refl, sym, ap, subst, ◌∙◌, append-nil, nat_eq, if◌then◌else◌, ◌||◌}
+use Rattle.std.proofs.Common.{◌≡◌, ◌≢◌, ℕ, zero, suc, Bool, true, false, List, [], ◌∷◌, ◌++◌, Some, slice_get, length, ◌≤◌, refl, sym, ap, subst, ◌∙◌, append-nil, nat_eq, if◌then◌else◌, ◌||◌}
 use Rattle.std.specs.List.{list_any, AllByRecursion, IsDistinct}
 use Rattle.std.specs.Cmp.Lexicographic.{pointwise}
 use Rattle.std.specs.Cmp.Lexicographic.{same_text, other_text}

@@ -1,5 +1,5 @@
 -- Worked examples: the tokens of a text, and what a few tokens spell.
-use Rattle.std.proofs.Common.{◌≡◌, ℕ, List, [], ◌∷◌, pos, refl, codes, inl, lit<, lit≤, rules}
+use Rattle.std.proofs.Common.{ℕ, List, [], ◌∷◌, pos, refl, codes, inl, lit<, lit≤, rules}
 use Rattle.tl_syntax.specs.declared.token.Token.{Token}
 use Rattle.tl_syntax.specs.declared.token.TokenKind.{TokenKind}
 use Rattle.tl_syntax.specs.declared.token.TokenKind.TheVariants as K
@@ -9,7 +9,7 @@ use Rattle.tl_syntax.specs.declared.parsed.Form.TheVariants as F
 use Rattle.tl_syntax.specs.declared.expressions.Join.TheVariants as J
 use Rattle.tl_syntax.specs.Tokens as T
 use Rattle.tl_syntax.specs.Tokens.{AreTokens}
-use Rattle.tl_syntax.specs.Grammar.{kind_at, offset_at, Stands, IsJoined, IsPlain, IsExpression, Disjunction, Term, number, chain, one, more, plain}
+use Rattle.tl_syntax.specs.Grammar.{kind_at, offset_at, Stands, IsJoined, IsExpression, Disjunction, Term, number, chain, one, more, plain}
 
 abbrev token : TokenKind → ℕ → Token
 token kind offset = record { kind = kind; offset = offset }

@@ -1,5 +1,5 @@
 -- A text has one list of tokens.
-use Rattle.std.proofs.Common.{◌≡◌, ℕ, ◌+◌, Bool, true, false, List, [], ◌∷◌, take, drop, Option, None, Some, slice_get, refl, sym, ap, subst, ◌∙◌, true≢false, if◌then◌else◌, ◌==◌, codes, nat_eq, arith}
+use Rattle.std.proofs.Common.{◌≡◌, ℕ, ◌+◌, Bool, true, false, List, ◌∷◌, take, drop, Some, refl, sym, ap, subst, ◌∙◌, true≢false, if◌then◌else◌, ◌==◌, codes, nat_eq, arith}
 use Rattle.std.specs.Char.{is_ascii_digit}
 use Rattle.std.specs.Cmp.Lexicographic.{pointwise}
 use Rattle.std.proofs.lemmas.Bool.Decides.{nat_tests}

@@ -1,3 +1,4 @@
+pub mod Alike
 pub mod Declarations
 pub mod Faults
 pub mod Grammar

@@ -3,7 +3,6 @@ use Rattle.std.specs.Prelude.{◌≡◌, ℕ, suc, List, [], ◌∷◌, ◌++◌
 use Rattle.std.specs.declared.vec.Vec.{Vec}
 use Rattle.std.specs.declared.alloc.Global.{Global}
 use Rattle.tl_syntax.specs.declared.token.Token.{Token}
-use Rattle.tl_syntax.specs.declared.token.Symbol.{Symbol}
 use Rattle.tl_syntax.specs.declared.token.TokenKind.{TokenKind}
 use Rattle.tl_syntax.specs.declared.token.TokenKind.TheVariants as K
 use Rattle.tl_syntax.specs.declared.parsed.Name.{Name}

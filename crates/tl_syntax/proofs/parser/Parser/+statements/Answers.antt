@@ -1,4 +1,4 @@
-use Rattle.std.proofs.Common.{rules, arith, refl, sym, ◌∙◌}
+use Rattle.std.proofs.Common.{rules, sym, ◌∙◌}
 use Rattle.std.proofs.lemmas.Result.{IfOk-weaker}
 use Rattle.tl_syntax.specs.declared.token.TokenKind.TheVariants as K
 use Rattle.tl_syntax.specs.Statements.{IsBlock, IsOther, block, statement, act, try, if, if_else, repeat, repeat_at_most, for_each, other_block}
