@@ -1,6 +1,6 @@
 -- What the tokens of a text are. A text is a sequence of pieces: blanks, comments, words, numbers and signs.
 use denote.Bor.{Bor}
-use Rattle.std.specs.Prelude.{◌≡◌, ◌≢◌, ℕ, suc, ◌+◌, ◌≤◌, Bool, true, false, not, ◌||◌, ◌==◌, List, [], ◌∷◌, ◌++◌, length, take, drop, Option, None, Some, slice_get, All, IsTrue, codes, map, if◌then◌else◌, ◌⊎◌}
+use Rattle.std.specs.Prelude.{◌≡◌, ◌≢◌, ℕ, ◌+◌, ◌≤◌, Bool, true, not, ◌||◌, ◌==◌, List, [], ◌∷◌, ◌++◌, length, take, drop, Option, None, Some, slice_get, All, IsTrue, codes, map, ◌⊎◌}
 use Rattle.std.specs.List.{position_or_len}
 use Rattle.std.specs.Char.{is_ascii_alphabetic, is_ascii_alphanumeric, is_ascii_digit}
 use Rattle.std.specs.Str.Parse.{digits_value}
@@ -122,6 +122,10 @@ pub data Begins (first : ℕ) (after : List ℕ) : Piece → ℕ → Type 0 wher
 -- the bytes of each name
 abbrev pub spellings : List (Bor (List ℕ)) → List (List ℕ)
 spellings names = map (λ name. name.now) names
+
+-- no name stands twice
+abbrev pub AreDistinct : List (List ℕ) → Type 0
+AreDistinct names = (i j : ℕ) (word : List ℕ) → slice_get names i ≡ Some word → slice_get names j ≡ Some word → i ≡ j
 
 -- the token that a piece is; the symbol of a name is its index
 pub data IsToken (names : List (List ℕ)) : Piece → List ℕ → TokenKind → Type 0 where
