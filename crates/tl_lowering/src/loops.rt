@@ -189,7 +189,7 @@ impl Lowering {
             }
             Repetition::Children(visit) => {
                 let whole = self.visiting(visit, body)?;
-                let after = visited(join(Some(start), turned), visit.parent);
+                let after = join(visited(Some(start), visit.parent), turned);
                 Ok((whole, leaving(after, join(Some(start), flow.fails), held)))
             }
         }

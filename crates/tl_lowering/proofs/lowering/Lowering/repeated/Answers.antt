@@ -34,8 +34,8 @@ returns-in_ok-whole-in-Children c = record {
       let scope = view_of c.args.self.now.scope in
       let visit = rw c.in-Children.is at c.requires.repetition in
       let turn = rw c.in-Children.is at c.requires.turn in
-      lowered_walk scope c.args.held c.args.lowered.0 c.args.lowered.1 c.leaving-in-Children.result (known c.visited-after.result) c.in-Children.visit c.in_ok-whole-in-Children.whole
+      lowered_walk scope c.args.held c.args.lowered.0 c.args.lowered.1 c.leaving-in-Children.result (known c.join-after-in-Children.result) c.in-Children.visit c.in_ok-whole-in-Children.whole
       (c.in_ok-whole-in-Children.ensures.walk c.args.held (is_in_loop scope) c.requires.at visit turn.turn) turn
-      (c.visited-after.ensures ∙ c.join-in-Children.ensures ∙ ap (λ z. both_of (Some z) (known c.join-turned.result)) c.requires.start ∙ ap (both_of (Some h)) c.join-turned.ensures)
-      (c.leaving-in-Children.ensures ∙ ap (λ f. record { after = keeping h (known c.visited-after.result); fails = f; breaks = None }) (c.join-in-Children-2.ensures ∙ ap (λ z. both_of (Some z) (known c.args.lowered.1.fails)) c.requires.start));
+      (c.join-after-in-Children.ensures ∙ ap (λ z. both_of z (known c.join-turned.result)) c.visited.ensures ∙ ap (λ z. both_of (Some z) (known c.join-turned.result)) c.requires.start ∙ ap (both_of (Some h)) c.join-turned.ensures)
+      (c.leaving-in-Children.ensures ∙ ap (λ f. record { after = keeping h (known c.join-after-in-Children.result); fails = f; breaks = None }) (c.join-in-Children.ensures ∙ ap (λ z. both_of (Some z) (known c.args.lowered.1.fails)) c.requires.start));
 }
