@@ -3,6 +3,7 @@ pub mod BlockLemmas
 pub mod BodyLemmas
 pub mod DepthLemmas
 pub mod DraftLemmas
+pub mod FitLemmas
 pub mod JoinLemmas
 pub mod LoopLemmas
 pub mod LoweringLemmas
@@ -11,6 +12,8 @@ pub mod NumberLemmas
 pub mod OpeningLemmas
 pub mod PartLemmas
 pub mod PathLemmas
+pub mod RegisterLemmas
 pub mod ScopeLemmas
 pub mod SetLemmas
 pub mod TextLemmas
+pub mod WordLemmas

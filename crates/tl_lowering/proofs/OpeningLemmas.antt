@@ -41,13 +41,13 @@ chooses_lock {p} {q} l {a} {b} {first} {second} e f =
 
 pub value_opens : {names later : Names} {form : StatementForm} {name : Name} {x : ℕ} {e : Expression} → later ≡ with_value names name
     → IsOpening names form (H.Value name x e) → IsElse names form None → Opens names form (B.Value x e) later
-value_opens {names} {form = form} {x = x} {e = e} l (opening_value o f g n) (no_else h) =
-    subst (Opens names form (B.Value x e)) (sym l) (opens_value (f ∙ ap (T.Act _) (same_else _ _ o None (sym f ∙ h))) g n)
+value_opens {names} {form = form} {x = x} {e = e} l (opening_value o f g new room n has) (no_else h) =
+    subst (Opens names form (B.Value x e)) (sym l) (opens_value (f ∙ ap (T.Act _) (same_else _ _ o None (sym f ∙ h))) g new room n has)
 
 pub value_else_opens : {names later : Names} {form : StatementForm} {name : Name} {x : ℕ} {e : Expression} {a : Statement} {flow : Flow} → later ≡ with_value names name
     → IsOpening names form (H.Value name x e) → IsElse names form (Some (a, flow)) → Opens names form (B.ValueElse x e a) later
-value_else_opens {names} {form = form} {x = x} {e = e} {a = a} l (opening_value o f g n) (one_else {o = other} h b) =
-    subst (Opens names form (B.ValueElse x e a)) (sym l) (opens_value_else (f ∙ ap (T.Act _) (same_else _ _ o (Some other) (sym f ∙ h))) g n b)
+value_else_opens {names} {form = form} {x = x} {e = e} {a = a} l (opening_value o f g new room n has) (one_else {o = other} h b) =
+    subst (Opens names form (B.ValueElse x e a)) (sym l) (opens_value_else (f ∙ ap (T.Act _) (same_else _ _ o (Some other) (sym f ∙ h))) g new room n has b)
 
 pub nodes_opens : {names later : Names} {form : StatementForm} {l : Locking} {a : Statement} (other : Option (Statement × Flow)) → later ≡ with_locking names l
     → a ≡ other_of other → IsOpening names form (H.Nodes l) → IsElse names form other → Opens names form (B.Nodes l.place a) later
@@ -62,10 +62,10 @@ nodes_opens {names} {later} {form} {l} {a} (Some (s, flow)) e g (opening_nodes o
 
 pub opens_rest : {names inner : Names} {s : TextStatement} {rest : List TextStatement} {b : Binding} {body bound placed : Statement} → Opens names s.form b inner
     → IsBlock inner rest body → Binds b body bound → IsAtOffset s.offset bound placed → AreStatements names (s ∷ rest) (placed ∷ [])
-opens_rest {s = s} {body = body} {placed = placed} (opens_value {e = e} f g n) k (binds_value {p = p}) a =
-    let_rest f n k (subst (λ z. IsAtOffset s.offset (S.Let' z e p body) placed) g a)
-opens_rest {s = s} {body = body} {placed = placed} (opens_value_else {e = e} {other = other} f g n o) k (binds_value_else {p = p} {q = q}) a =
-    let_else f n o k (subst (λ z. IsAtOffset s.offset (S.LetElse' z e p body q other) placed) g a)
+opens_rest {s = s} {body = body} {placed = placed} (opens_value {e = e} f g new room n has) k (binds_value {p = p}) a =
+    let_rest f new room n has k (subst (λ z. IsAtOffset s.offset (S.Let' z e p body) placed) g a)
+opens_rest {s = s} {body = body} {placed = placed} (opens_value_else {e = e} {other = other} f g new room n has o) k (binds_value_else {p = p} {q = q}) a =
+    let_else f new room n has o k (subst (λ z. IsAtOffset s.offset (S.LetElse' z e p body q other) placed) g a)
 opens_rest (opens_nodes f h) k binds_nodes a = lock_rest f h k a
 opens_rest (opens_nodes_else f h o) k binds_nodes a = lock_else f h o k a
 

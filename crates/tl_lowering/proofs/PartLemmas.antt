@@ -1,5 +1,5 @@
 -- The part of a block that was read, and statements with blocks: their core forms are those of the text.
-use Rattle.std.proofs.Common.{◌≡◌, ◌∙◌, ℕ, ◌+◌, ◌<◌, List, [], ◌∷◌, ◌++◌, length, take, get_or, reverse, Option, None, Some, refl, sym, ap, subst, append-nil, append_assoc}
+use Rattle.std.proofs.Common.{◌≡◌, ◌∙◌, ℕ, ◌+◌, ◌<◌, ◌≤◌, List, [], ◌∷◌, ◌++◌, length, take, get_or, reverse, Option, None, Some, refl, sym, ap, subst, append-nil, append_assoc}
 use Rattle.std.specs.Prelude.{option_map}
 use Rattle.std.specs.Borrow.{Bor}
 use Rattle.std.specs.declared.vec.Vec.{Vec}
@@ -13,6 +13,7 @@ use Rattle.tl_syntax.specs.declared.parsed.Question.{Question}
 use Rattle.tl_syntax.specs.declared.parsed.Statement.{Statement as TextStatement}
 use Rattle.tl_syntax.specs.declared.parsed.StatementForm.{StatementForm}
 use Rattle.tl_syntax.specs.declared.parsed.StatementForm.TheVariants as T
+use Rattle.tl_instr.specs.declared.operand.TheConstants.{VALUE_REGISTERS}
 use Rattle.tl_lowering.specs.declared.lowering.Binding.{Binding}
 use Rattle.tl_lowering.specs.declared.lowering.Draft.{Draft}
 use Rattle.tl_lowering.specs.declared.lowering.Head.{Head}
@@ -25,7 +26,8 @@ use Rattle.tl_lowering.specs.declared.loops.Repetition.TheVariants as R
 use Rattle.tl_lowering.specs.declared.loops.Visit.{Visit}
 use Rattle.tl_lowering.specs.declared.program.Expression.{Expression}
 use Rattle.tl_lowering.specs.declared.scope.Meaning.TheVariants as M
-use Rattle.tl_lowering.specs.Names.{Names, stands_for, with_node, with_unnamed}
+use Rattle.tl_lowering.specs.Registers.{behind, HasRegisters}
+use Rattle.tl_lowering.specs.Names.{Names, stands_for, IsNew, HasNode, HasLoop, in_loop, with_node, with_unnamed}
 use Rattle.tl_lowering.specs.Naming.{IsNumber, IsCount, IsAction}
 use Rattle.tl_lowering.specs.Reading.{IsVisiting, IsAtOffset, IsBlock, block, AreStatements, no_more, next, IsStatement, act_else, try, if, if_lock, repeat, repeat_up_to, for_each}
 use Rattle.tl_lowering.specs.Drafts.{IsOpening, opening_value, opening_nodes, IsElse, IsElseOf, Opens, Ends, none_open, last_open, Becomes, IsFinished, IsExtended, IsHandled}
@@ -108,29 +110,29 @@ chosen_statement xs ys (enters_condition c) a b chosen_if = if xs ys c a b
 chosen_statement {names} xs ys {a = first} (enters_lock l) a b (chosen_lock {p = p} {q = q}) =
     if_lock xs ys {p = p} {q = q} l.place_is (subst (λ n. IsBlock n xs.items first) l.names_are a) b
 
-loop_times : {names : Names} {count : TextExpression} {w : ℕ} (xs : Vec TextStatement Global) {a whole : Statement} → IsCount names count.form w
-    → IsBlock names xs.items a → IsTurning a (R.Times w) whole → IsStatement names (T.Repeat count None xs) whole
-loop_times xs c b turning_times = repeat xs c b
+loop_times : {names : Names} {count : TextExpression} {w : ℕ} (xs : Vec TextStatement Global) {a whole : Statement} → HasLoop names → IsCount names count.form w
+    → IsBlock (in_loop names) xs.items a → IsTurning a (R.Times w) whole → IsStatement names (T.Repeat count None xs) whole
+loop_times xs l c b turning_times = repeat xs l c b
 
-loop_up_to : {names : Names} {count most : TextExpression} {e : Expression} {w : ℕ} (xs : Vec TextStatement Global) {a whole : Statement} → IsNumber names count.form e
-    → IsCount names most.form w → IsBlock names xs.items a → IsTurning a (R.UpTo e w) whole → IsStatement names (T.Repeat count (Some most) xs) whole
-loop_up_to xs n c b turning_up_to = repeat_up_to xs n c b
+loop_up_to : {names : Names} {count most : TextExpression} {e : Expression} {w : ℕ} (xs : Vec TextStatement Global) {a whole : Statement} → HasLoop names → IsNumber names count.form e
+    → HasRegisters e names.values → behind e names.values + 1 ≤ VALUE_REGISTERS → IsCount names most.form w → IsBlock (in_loop names) xs.items a → IsTurning a (R.UpTo e w) whole → IsStatement names (T.Repeat count (Some most) xs) whole
+loop_up_to xs l n has more c b turning_up_to = repeat_up_to xs l n has more c b
 
-loop_children : {names : Names} {child parent : Name} {most : TextExpression} (xs : Vec TextStatement Global) {v : Visit} {a whole : Statement} → v.name ≡ child → v.child ≡ names.nodes
+loop_children : {names : Names} {child parent : Name} {most : TextExpression} (xs : Vec TextStatement Global) {v : Visit} {a whole : Statement} → HasLoop names → IsNew names child → HasNode names → names.values + 2 ≤ VALUE_REGISTERS → v.name ≡ child → v.child ≡ names.nodes
     → v.index ≡ names.values → stands_for names parent ≡ M.Node v.parent → IsCount names most.form v.turns → IsBlock (names_within names (R.Children v)) xs.items a
     → IsTurning a (R.Children v) whole → IsStatement names (T.ForEach child parent most xs) whole
-loop_children {names} {child} {parent} {most} xs {v} {a} {whole} n c i p t b (turning_children w) =
-    for_each xs p t (subst (λ z. IsBlock (with_node (with_unnamed names) z) xs.items a) n b)
+loop_children {names} {child} {parent} {most} xs {v} {a} {whole} l new room has n c i p t b (turning_children w) =
+    for_each xs l new room has p t (subst (λ z. IsBlock (with_node (with_unnamed (in_loop names)) z) xs.items a) n b)
     (subst (λ z. IsVisiting z names.nodes v.parent v.turns a whole) i (subst (λ z. IsVisiting v.index z v.parent v.turns a whole) c w))
 
 pub repeated_statement : {names : Names} (count : TextExpression) (most : Option TextExpression) {r : Repetition} (xs : Vec TextStatement Global) {whole : Statement}
     → IsRepeated names count.form (option_map (λ (e : TextExpression). e.form) most) r → IsLoop names r xs.items whole → IsStatement names (T.Repeat count most xs) whole
-repeated_statement count None xs (repeated_times c) l = loop_times xs c l.body_is l.whole_is
-repeated_statement count (Some most) xs (repeated_up_to n c) l = loop_up_to xs n c l.body_is l.whole_is
+repeated_statement count None xs (repeated_times d c) l = loop_times xs d c l.body_is l.whole_is
+repeated_statement count (Some most) xs (repeated_up_to d n has more c) l = loop_up_to xs d n has more c l.body_is l.whole_is
 
 pub visited_statement : {names : Names} {child parent : Name} {most : TextExpression} (xs : Vec TextStatement Global) {r : Repetition} {whole : Statement}
     → IsVisited names child parent most.form r → IsLoop names r xs.items whole → IsStatement names (T.ForEach child parent most xs) whole
-visited_statement xs (visited n c i p t) l = loop_children xs n c i p t l.body_is l.whole_is
+visited_statement xs (visited d new room has n c i p t) l = loop_children xs d new room has n c i p t l.body_is l.whole_is
 
 pub forms_of : (r : Option (Bor TextExpression)) (m : Option TextExpression) → option_map (λ (e : Bor TextExpression). e.now) r ≡ m
     → option_map (λ (e : Bor TextExpression). e.now.form) r ≡ option_map (λ (e : TextExpression). e.form) m
@@ -140,7 +142,7 @@ forms_of (Some e) m h = ap (option_map (λ (x : TextExpression). x.form)) h
 -- ---- a declaration with its `else`
 
 else_for : {names : Names} {form : StatementForm} {head : Head} {other : Option (Statement × Flow)} → IsOpening names form head → IsElseOf names form other → IsElse names form other
-else_for (opening_value o f g n) e = e _ o f
+else_for (opening_value o f g new room n has) e = e _ o f
 else_for (opening_nodes o f l) e = e _ o f
 
 pub opens_at : {names here inner : Names} {form : StatementForm} {head : Head} {other : Option (Statement × Flow)} {b : Binding} → here ≡ names → IsOpening names form head

@@ -1,13 +1,13 @@
 // Blocks and the statements that have blocks, with registers in place of names.
 
-ghost use Rattle.std.specs.Prelude.{◌≡◌, ◌+◌, ◌<◌, ◌≤◌, IfOk, OnOk, IfSome, take, drop, List, Some, false};
+ghost use Rattle.std.specs.Prelude.{◌≡◌, ◌+◌, ◌<◌, ◌≤◌, IfOk, OnOk, IfSome, length, take, drop, List, Some, false};
 ghost use Rattle.std.specs.Vec.Iter.{into_iter_items, into_iter_len};
 ghost use Rattle.tl_budget.specs.declared.limits.TheConstants.{MAX_DEPTH};
 ghost use Rattle.tl_lowering.specs.Blocks.{IsSequence, IsSame, IsPair, IsAttempt, IsBinding, IsClosing, Closes, IsSoundAt, AreAlike, AreFree, Reached, then_of, binding_paths, values_with, nodes_with};
 ghost use Rattle.tl_lowering.specs.Choosing.{IsEntered, names_behind, IsChosen, IsLoop};
 ghost use Rattle.tl_lowering.specs.Drafts.{opens, IsOpening, IsHeadOf, IsElse, IsElseOf, other_of, Opens, Binds, Encloses, Becomes, IsFinished, IsExtended, IsHandled};
 ghost use Rattle.tl_lowering.specs.Names.{names_of};
-ghost use Rattle.tl_lowering.specs.Naming.{IsThen, Joins};
+ghost use Rattle.tl_lowering.specs.Naming.{IsThen, IsHalved};
 ghost use Rattle.tl_lowering.specs.Reading.{IsAtOffset, IsTried, IsBlock, AreStatements, IsStatement};
 ghost use Rattle.tl_lowering.specs.Lowering.{IsHead, IsEntrance, IsInside, IsRefusal, IsDraft, behind_draft, entered, nodes_in};
 ghost use Rattle.tl_lowering.specs.Paths.{nodes_of, outcomes, paths_of};
@@ -105,7 +105,7 @@ impl Lowering {
 
     /// The statements one after another. The sequence is halved repeatedly, so that no statement is deeply nested.
     pub fn sequence(&self, statements: Vec<Statement>) -> Result<Statement, SyntaxFault>
-        ensures named { IfOk result (λ s. Joins s statements.items) }
+        ensures named { IfOk result (λ s. IsHalved s statements.items) }
         ensures sequence { IfOk result (λ s. IsSequence s statements.items) }
     {
         let count = statements.len();
@@ -119,7 +119,8 @@ impl Lowering {
     fn joined(&self, rest: &mut IntoIter<Statement>, count: usize) -> Result<Statement, SyntaxFault>
         requires some { 0 < count }
         requires fits { count ≤ into_iter_len rest.old }
-        ensures named { IfOk result (λ s. Joins s (take count (into_iter_items rest.old))) }
+        requires all { into_iter_len rest.old ≡ length (into_iter_items rest.old) }
+        ensures named { IfOk result (λ s. IsHalved s (take count (into_iter_items rest.old))) }
         ensures whole { IfOk result (λ s. IsSequence s (take count (into_iter_items rest.old))) }
         ensures rest { OnOk result (into_iter_items rest.new ≡ drop count (into_iter_items rest.old)) }
         ensures len { OnOk result (into_iter_len rest.new + count ≡ into_iter_len rest.old) }

@@ -2,6 +2,8 @@
 
 ghost use Rattle.std.specs.Prelude.{◌≡◌, [], ◌≤◌, IfOk, OnOk};
 ghost use Rattle.std.specs.List.{All};
+ghost use Rattle.tl_lowering.specs.declared.program.Procedure.{Procedure as CoreProcedure};
+ghost use Rattle.tl_lowering.specs.Fit.{IsWord};
 ghost use Rattle.tl_lowering.specs.Names.{names_of, with_values};
 ghost use Rattle.tl_lowering.specs.Outcomes.{fails};
 ghost use Rattle.tl_lowering.specs.Reading.{IsBody, IsProcedure, IsWithField, AreDeclared, IsProgram};
@@ -79,7 +81,7 @@ impl Lowering {
         ensures named { IfOk result (IsProcedure (spellings names.now.keys) (names_of self.old.scope) procedure.now) }
         ensures names { OnOk result (names_of self.new.scope ≡ names_of self.old.scope) }
         ensures scope { OnOk result (IsBare (view_of self.new.scope)) }
-        ensures procedure { IfOk result IsInOrder }
+        ensures procedure { IfOk result (λ p. IsWord p.name.items → IsInOrder p) }
     {
         self.scope.declare_procedure(procedure.name)?;
         let mark = self.scope.mark();
@@ -106,7 +108,7 @@ impl Lowering {
     ) -> Result<Program, SyntaxFault>
         requires { IsBare (view_of self.old.scope) }
         ensures named { IfOk result (λ p. AreDeclared (spellings names.now.keys) (names_of self.old.scope) declarations.now p.procedures.items) }
-        ensures procedures { IfOk result (λ p. All IsInOrder p.procedures.items) }
+        ensures procedures { IfOk result (λ p. All (λ (q : CoreProcedure). IsWord q.name.items → IsInOrder q) p.procedures.items) }
     {
         let mut procedures = Vec::new(self.alloc);
         for declaration in declarations {

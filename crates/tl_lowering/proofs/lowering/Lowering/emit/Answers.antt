@@ -19,7 +19,7 @@ loop-value-preserved c =
     let scope = view_of c.args.self.now.scope in
     let more : c.push.new.self.items ≡ c.loop-value.emits.items ++ S.Emit c.in_ok-number.number ∷ [] = search rules in
     record {
-      named = more_emits c.args.values.now c.loop-value.value-index c.value-item.result (omega arith) c.value-item.is more c.loop-value.invariant.named c.in_ok-number.ensures.named;
+      named = more_emits c.args.values.now c.loop-value.value-index c.value-item.result (omega arith) c.value-item.is more c.loop-value.invariant.named c.in_ok-number.ensures.named c.in_ok-number.ensures.room;
       order =
           subst (λ xs. AreEmitted scope c.args.held xs c.failing_if-flow.result) (sym more)
           (more_emitted scope c.args.held c.loop-value.emits.items c.loop-value.flow c.failing_if-flow.result c.in_ok-number.number c.may_fail.result

@@ -5,6 +5,7 @@ use Rattle.tl_lowering.specs.declared.paths.TheConstants.Held.{NOTHING}
 use Rattle.tl_lowering.specs.Reading.{IsBody}
 use Rattle.tl_lowering.specs.Scopes.{view_of}
 use Rattle.tl_lowering.proofs.BodyLemmas.{at_nothing}
+use Rattle.tl_lowering.proofs.FitLemmas.{in_order}
 use Rattle.tl_lowering.proofs.TextLemmas.{spelling_some, spelling_none, count_values}
 use Rattle.tl_lowering.proofs.lowering.Lowering.procedure.Goals.{in-Some+in_ok-name-in-Some, in-None}
 use Rattle.tl_lowering.proofs.lowering.Lowering.procedure.Goals as goal
@@ -33,3 +34,9 @@ returns-clause-named c =
 
 pub body-requires : goal.body-requires
 body-requires c = at_nothing (view_of c.declare_arguments.new.self.scope) NOTHING refl c.in_ok-declare_arguments.ensures.names
+
+pub returns-clause-procedure : goal.returns-clause-procedure
+returns-clause-procedure c =
+    let inner = c.in_ok-declare_arguments.ensures in
+    let body = c.in_ok-body.ensures in
+    in_order (view_of c.declare_arguments.new.self.scope) c.args.procedure.now _ refl inner.values inner.nodes inner.loops body.named body.sound body.handled

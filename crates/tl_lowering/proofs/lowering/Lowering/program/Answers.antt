@@ -4,6 +4,8 @@ use Rattle.std.specs.List.{All}
 use Rattle.std.proofs.lemmas.List.{take_all}
 use Rattle.std.proofs.lemmas.List.Elements.{All-push}
 use Rattle.tl_syntax.specs.Tokens.{spellings}
+use Rattle.tl_lowering.specs.declared.program.Procedure.{Procedure}
+use Rattle.tl_lowering.specs.Fit.{IsWord}
 use Rattle.tl_lowering.specs.Names.{names_of, with_constant}
 use Rattle.tl_lowering.specs.Reading.{IsWithField, AreDeclared}
 use Rattle.tl_lowering.specs.Sound.{IsInOrder}
@@ -47,8 +49,8 @@ loop-declaration-preserved c =
                 w.in_ok-procedure-in-Procedure.ensures.named w.in_ok-procedure-in-Procedure.ensures.names w.in_ok-push-in-Procedure.ensures.items;
             bare = w.in_ok-procedure-in-Procedure.ensures.scope;
             procedures =
-                subst (All IsInOrder) (sym w.in_ok-push-in-Procedure.ensures.items)
-                (All-push IsInOrder ps w.in_ok-procedure-in-Procedure.field-0 so_far.procedures w.in_ok-procedure-in-Procedure.ensures.procedure);
+                subst (All (λ (p : Procedure). IsWord p.name.items → IsInOrder p)) (sym w.in_ok-push-in-Procedure.ensures.items)
+                (All-push (λ (p : Procedure). IsWord p.name.items → IsInOrder p) ps w.in_ok-procedure-in-Procedure.field-0 so_far.procedures w.in_ok-procedure-in-Procedure.ensures.procedure);
           })
     ]
 

@@ -1,11 +1,13 @@
 use Rattle.tl_lowering.specs.Scopes.{view_of}
+use Rattle.tl_lowering.proofs.RegisterLemmas.{has_registers}
 use Rattle.tl_lowering.proofs.NamingLemmas.{lowered_write}
 use Rattle.tl_lowering.specs.Naming.{writes}
 use Rattle.tl_lowering.proofs.lowering.Lowering.write.Goals as goal
 
 pub returns : goal.returns
 returns c = record {
-  named = writes c.in_ok-node.ensures.meaning c.in_ok-field.ensures c.in_ok-operand.ensures.named c.in_ok-number.ensures.named;
+  named = writes c.in_ok-node.ensures.meaning c.in_ok-field.ensures c.in_ok-operand.ensures.named c.in_ok-number.ensures.named
+      (has_registers c.in_ok-number.number _ _ _ c.from.ensures c.registers_for-needed.ensures c.in_ok-check_registers.ensures);
   lowered =
       let held = c.in_ok-node.ensures.held in
       lowered_write (view_of c.args.self.now.scope) c.args.held c.in_ok-node.node c.in_ok-field.field c.in_ok-number.number c.may_fail.result c.on.result c.failing_if-flow.result
