@@ -22,7 +22,7 @@ use Rattle.tl_lowering.specs.declared.program.Place.{Place}
 use Rattle.tl_lowering.specs.declared.program.Procedure.{Procedure}
 use Rattle.tl_lowering.specs.declared.program.Statement.{Statement}
 use Rattle.tl_lowering.specs.declared.program.Statement.TheVariants as S
-use Rattle.tl_lowering.specs.Fit.{loops, AllTurn, AllSlots, HasBoth, IsWord, HasConditionRoom, HasRoom}
+use Rattle.tl_lowering.specs.Fit.{loops, AllTurn, AllSlots, HasBoth, IsWord, HasConditionRoom, HasRoom, EntersOnce}
 use Rattle.tl_lowering.specs.Names.{Names, names_in, HasNode, in_loop, with_node, with_unnamed, with_place}
 use Rattle.tl_lowering.specs.Naming.{IsCount, count, constant_count, IsPlace, node, child, pair, calculated, opposite, together, IsComparison, IsCondition, comparison, negation, conjunction, disjunction, then, IsHalved, none, one, more, AreEmits, no_emits, next_emit, IsAction, assigns, writes, emits, requires, descends, takes, frees, breaks, returns, fails}
 use Rattle.tl_lowering.specs.Outcomes.{fails as failures}
@@ -131,17 +131,17 @@ mutual
 
   in_statements : {names : Names} {xs : List TextStatement} {parts : List Statement} → names.loops ≤ MAX_DEPTH → AreStatements names xs parts → All (Fits names) parts
   in_statements {names} le no_more = All-nil (Fits names)
-  in_statements {names} le (next {b = b} {parts = parts} s a rest) = All-cons (Fits names) b parts (placed (in_statement le s) a) (in_statements le rest)
+  in_statements {names} le (next {b = b} {parts = parts} s a rest reached) = All-cons (Fits names) b parts (placed (in_statement le s) a) (in_statements le rest)
   in_statements {names} le (let_rest {a = a} f new room n has body o) =
       let x = in_block le body in
       All-cons (Fits names) a [] (placed (record { turns = x.turns; slots = x.slots; depth = x.depth; room = (has, x.room) }) o) (All-nil (Fits names))
-  in_statements {names} le (let_else {a = a} f new room n has other body o) =
+  in_statements {names} le (let_else {a = a} f new room n has other leaves body o) =
       let x = in_block le body in
       let y = in_block le other in
       All-cons (Fits names) a [] (placed (record { turns = (x.turns, y.turns); slots = (x.slots, y.slots); depth = omega (arith, x.depth, y.depth); room = (has, x.room, y.room) }) o) (All-nil (Fits names))
   in_statements {names} le (lock_rest {text = text} {a = a} f place body o) =
       All-cons (Fits names) a [] (placed (locking place (in_block (beside names text le) body) (failing le)) o) (All-nil (Fits names))
-  in_statements {names} le (lock_else {text = text} {a = a} f place other body o) =
+  in_statements {names} le (lock_else {text = text} {a = a} f place other leaves body o) =
       All-cons (Fits names) a [] (placed (locking place (in_block (beside names text le) body) (in_block le other)) o) (All-nil (Fits names))
 
   in_statement : {names : Names} {form : StatementForm} {s : Statement} → names.loops ≤ MAX_DEPTH → IsStatement names form s → Fits names s
@@ -162,8 +162,8 @@ in_body : {names : Names} {text : TextProcedure} {s : Statement} → names.loops
 in_body le b = handled (handled (in_block le b.body_is) (in_block le b.handler_is) b.handled_is) (record { turns = tt; slots = tt; depth = omega arith; room = tt }) b.whole_is
 
 pub in_order : (scope : View) (text : TextProcedure) (p : Procedure) → p.arity ≡ scope.values → scope.values ≤ MAX_ARGS → scope.nodes ≡ 0 → scope.loops ≡ 0
-    → IsBody (names_in scope) text p.body → IsSound p.body scope.values scope.nodes none_held (is_in_loop scope) → failures p.body none_held ≡ [] → IsWord p.name.items → IsInOrder p
-in_order scope text p arity few nodes loops body sound handled name =
+    → IsBody (names_in scope) text p.body → IsSound p.body scope.values scope.nodes none_held (is_in_loop scope) → failures p.body none_held ≡ [] → EntersOnce p.body false → IsWord p.name.items → IsInOrder p
+in_order scope text p arity few nodes loops body sound handled enters name =
     let outside : scope.loops ≤ MAX_DEPTH = omega arith in
     let f = in_body outside body in
     record {
@@ -176,5 +176,6 @@ in_order scope text p arity few nodes loops body sound handled name =
       turns = f.turns;
       depth = omega (arith, f.depth);
       name = name;
+      enters = enters;
       room = subst (HasRoom p.body) (sym arity) f.room;
     }

@@ -3,8 +3,10 @@ pub mod BlockLemmas
 pub mod BodyLemmas
 pub mod DepthLemmas
 pub mod DraftLemmas
+pub mod EnterLemmas
 pub mod FitLemmas
 pub mod JoinLemmas
+pub mod LeaveLemmas
 pub mod LoopLemmas
 pub mod LoweringLemmas
 pub mod NamingLemmas

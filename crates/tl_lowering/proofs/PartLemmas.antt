@@ -18,6 +18,7 @@ use Rattle.tl_lowering.specs.declared.lowering.Binding.{Binding}
 use Rattle.tl_lowering.specs.declared.lowering.Draft.{Draft}
 use Rattle.tl_lowering.specs.declared.lowering.Head.{Head}
 use Rattle.tl_lowering.specs.declared.paths.Flow.{Flow}
+use Rattle.tl_lowering.specs.declared.paths.Held.{Held}
 use Rattle.tl_lowering.specs.declared.lowering.Entrance.{Entrance}
 use Rattle.tl_lowering.specs.declared.lowering.Opened.{Opened}
 use Rattle.tl_lowering.specs.declared.loops.Repetition.{Repetition}
@@ -29,8 +30,9 @@ use Rattle.tl_lowering.specs.declared.scope.Meaning.TheVariants as M
 use Rattle.tl_lowering.specs.Registers.{behind, HasRegisters}
 use Rattle.tl_lowering.specs.Names.{Names, stands_for, IsNew, HasNode, HasLoop, in_loop, with_node, with_unnamed}
 use Rattle.tl_lowering.specs.Naming.{IsNumber, IsCount, IsAction}
-use Rattle.tl_lowering.specs.Reading.{IsVisiting, IsAtOffset, IsBlock, block, AreStatements, no_more, next, IsStatement, act_else, try, if, if_lock, repeat, repeat_up_to, for_each}
-use Rattle.tl_lowering.specs.Drafts.{IsOpening, opening_value, opening_nodes, IsElse, IsElseOf, Opens, Ends, none_open, last_open, Becomes, IsFinished, IsExtended, IsHandled}
+use Rattle.tl_lowering.specs.Reading.{Leaves, IsVisiting, IsAtOffset, IsBlock, block, AreStatements, no_more, next, IsStatement, act_else, try, if, if_lock, repeat, repeat_up_to, for_each}
+use Rattle.tl_lowering.specs.Paths.{known}
+use Rattle.tl_lowering.specs.Drafts.{MayFollow, IsOpening, opening_value, opening_nodes, IsElse, IsElseOf, Opens, Ends, none_open, last_open, Becomes, IsFinished, IsExtended, IsHandled}
 use Rattle.tl_lowering.specs.Choosing.{IsEntered, enters_condition, enters_lock, names_behind, IsChosen, chosen_if, chosen_lock, IsRepeated, repeated_times, repeated_up_to, IsVisited, visited, names_within, IsLoop, IsTurning, turning_times, turning_up_to, turning_children}
 use Rattle.tl_lowering.proofs.OpeningLemmas.{opens_rest}
 
@@ -39,37 +41,37 @@ use Rattle.tl_lowering.proofs.OpeningLemmas.{opens_rest}
 -- with whatever follows, what was read becomes what the block becomes
 abbrev pub IsPart : Names → List TextStatement → Draft → Names → Type 0
 IsPart names before draft now =
-    (rest : List TextStatement) (items all : List Statement) → AreStatements now rest items → Becomes draft items all → AreStatements names (before ++ rest) all
+    (rest : List TextStatement) (items all : List Statement) → MayFollow draft.flow rest → AreStatements now rest items → Becomes draft items all → AreStatements names (before ++ rest) all
 
 ends_none : {items all : List Statement} → Ends [] items all → items ≡ all
 ends_none none_open = refl
 
 pub none_part : (names : Names) (draft : Draft) → draft.opened.items ≡ [] → draft.statements.items ≡ [] → IsPart names [] draft names
-none_part names draft o s rest items all are becomes =
+none_part names draft o s rest items all may are becomes =
     let here : Ends [] (draft.statements.items ++ items) all = subst (λ z. Ends (reverse z) (draft.statements.items ++ items) all) o becomes in
     subst (AreStatements names rest) (ends_none (subst (λ z. Ends [] (z ++ items) all) s here)) are
 
-pub more_part : {names old later : Names} {draft : Draft} (new : Draft) (xs : List TextStatement) (i : ℕ) (s : TextStatement) → i < length xs → s ≡ get_or xs i s
-    → IsPart names (take i xs) draft old
-    → ((rest : List TextStatement) (items all : List Statement) → AreStatements later rest items → Becomes new items all → IsExtended old s rest draft all)
+pub more_part : {names old later : Names} {draft : Draft} (new : Draft) (flow : Flow) (here : Held) (xs : List TextStatement) (i : ℕ) (s : TextStatement) → i < length xs → s ≡ get_or xs i s
+    → draft.flow.after ≡ Some here → known new.flow.after ≡ known flow.after → IsPart names (take i xs) draft old
+    → ((rest : List TextStatement) (items all : List Statement) → MayFollow flow rest → AreStatements later rest items → Becomes new items all → IsExtended old s rest draft all)
     → IsPart names (take (i + 1) xs) new later
-more_part {names} new xs i s lt f part step rest items all are becomes =
-    let e = step rest items all are becomes in
+more_part {names} new flow here xs i s lt f goes same part step rest items all may are becomes =
+    let e = step rest items all (λ none. may (same ∙ none)) are becomes in
     let h : take (i + 1) xs ≡ take i xs ++ s ∷ [] = take_more xs i s lt ∙ ap (λ z. take i xs ++ z ∷ []) (sym f) in
-    subst (λ z. AreStatements names z all) (sym (ap (λ z. z ++ rest) h ∙ append_assoc (take i xs) (s ∷ []) rest)) (part (s ∷ rest) e.items all e.are e.becomes)
+    subst (λ z. AreStatements names z all) (sym (ap (λ z. z ++ rest) h ∙ append_assoc (take i xs) (s ∷ []) rest)) (part (s ∷ rest) e.items all (λ none. let w = sym (ap known goes) ∙ none in cc) e.are e.becomes)
 
 pub whole_part : {names now : Names} {before : List TextStatement} {draft : Draft} {whole : Statement} → IsPart names before draft now → IsFinished draft whole → IsBlock names before whole
 whole_part {names} {before = before} part f =
-    block (subst (λ z. AreStatements names z f.parts) (append-nil before) (part [] [] f.parts no_more f.becomes)) f.joined
+    block (subst (λ z. AreStatements names z f.parts) (append-nil before) (part [] [] f.parts (λ none. refl) no_more f.becomes)) f.joined
 
 -- ---- one statement more
 
-pub plain_extended : {names later : Names} (s : TextStatement) (draft new : Draft) {a b : Statement} → later ≡ names → IsStatement names s.form a → IsAtOffset s.offset a b
+pub plain_extended : {names later : Names} (s : TextStatement) (draft new : Draft) {a b : Statement} (flow : Flow) → (Leaves a → known flow.after ≡ None) → later ≡ names → IsStatement names s.form a → IsAtOffset s.offset a b
     → new.opened.items ≡ draft.opened.items → new.statements.items ≡ draft.statements.items ++ b ∷ []
-    → (rest : List TextStatement) (items all : List Statement) → AreStatements later rest items → Becomes new items all → IsExtended names s rest draft all
-plain_extended s draft new {b = b} l st placed os ss rest items all are becomes = record {
+    → (rest : List TextStatement) (items all : List Statement) → MayFollow flow rest → AreStatements later rest items → Becomes new items all → IsExtended names s rest draft all
+plain_extended s draft new {b = b} flow ends l st placed os ss rest items all may are becomes = record {
   items = b ∷ items;
-  are = next st placed (subst (λ n. AreStatements n rest items) l are);
+  are = next st placed (subst (λ n. AreStatements n rest items) l are) (λ leaves. may (ends leaves));
   becomes =
       subst (λ z. Ends (reverse draft.opened.items) z all) (ap (λ z. z ++ items) ss ∙ append_assoc draft.statements.items (b ∷ []) items)
       (subst (λ z. Ends (reverse z) (new.statements.items ++ items) all) os becomes);
@@ -83,10 +85,10 @@ ends_last s draft rest items all op f earlier are (last_open {bound = bound} {pl
   becomes = subst (λ z. Ends (reverse draft.opened.items) (z ++ placed ∷ []) all) earlier e;
 }
 
-pub opened_extended : {names inner : Names} (s : TextStatement) (draft new : Draft) (o : Opened) → Opens names s.form o.binding inner → o.offset ≡ s.offset
+pub opened_extended : {names inner : Names} (s : TextStatement) (draft new : Draft) (flow : Flow) (o : Opened) → Opens names s.form o.binding inner → o.offset ≡ s.offset
     → o.earlier.items ≡ draft.statements.items → new.opened.items ≡ draft.opened.items ++ o ∷ [] → new.statements.items ≡ []
-    → (rest : List TextStatement) (items all : List Statement) → AreStatements inner rest items → Becomes new items all → IsExtended names s rest draft all
-opened_extended s draft new o op f earlier os none rest items all are becomes =
+    → (rest : List TextStatement) (items all : List Statement) → MayFollow flow rest → AreStatements inner rest items → Becomes new items all → IsExtended names s rest draft all
+opened_extended s draft new flow o op f earlier os none rest items all may are becomes =
     let last : reverse new.opened.items ≡ o ∷ reverse draft.opened.items = ap reverse os ∙ reverse-append draft.opened.items (o ∷ []) in
     ends_last s draft rest items all op f earlier are
     (subst (λ z. Ends (o ∷ reverse draft.opened.items) (z ++ items) all) none (subst (λ z. Ends z (new.statements.items ++ items) all) last becomes))

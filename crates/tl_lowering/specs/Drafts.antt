@@ -24,7 +24,8 @@ use Rattle.tl_lowering.specs.declared.program.Statement.TheVariants as S
 use Rattle.tl_lowering.specs.Registers.{HasTemporaries}
 use Rattle.tl_lowering.specs.Names.{Names, IsNew, HasValue, with_value, with_place}
 use Rattle.tl_lowering.specs.Naming.{IsNumber, IsPlace, Locks, IsHalved, declares}
-use Rattle.tl_lowering.specs.Reading.{IsAtOffset, IsTried, IsBlock, AreStatements}
+use Rattle.tl_lowering.specs.Paths.{known}
+use Rattle.tl_lowering.specs.Reading.{Leaves, IsAtOffset, IsTried, IsBlock, AreStatements}
 
 -- ---- a declaration
 
@@ -66,11 +67,11 @@ pub data Opens (names : Names) (form : StatementForm) : Binding → Names → Ty
       x ≡ names.values → IsNew names name → HasValue names → IsNumber names number.form e → HasTemporaries e names.values → Opens names form (B.Value x e) (with_value names name)
   opens_value_else : {name : Name} {number : TextExpression} {o : Otherwise} {x : ℕ} {e : Expression} {other : Statement} →
       form ≡ T.Act (A.Let name number) (Some o) → x ≡ names.values → IsNew names name → HasValue names → IsNumber names number.form e → HasTemporaries e names.values →
-      IsBlock names (out-Otherwise o).body.items other → Opens names form (B.ValueElse x e other) (with_value names name)
+      IsBlock names (out-Otherwise o).body.items other → Leaves other → Opens names form (B.ValueElse x e other) (with_value names name)
   opens_nodes : {text : TextPlace} {place : Place} → form ≡ T.Act (A.Lock text) None → IsPlace names text place →
       Opens names form (B.Nodes place S.Fail) (with_place names text)
   opens_nodes_else : {text : TextPlace} {o : Otherwise} {place : Place} {other : Statement} → form ≡ T.Act (A.Lock text) (Some o) →
-      IsPlace names text place → IsBlock names (out-Otherwise o).body.items other →
+      IsPlace names text place → IsBlock names (out-Otherwise o).body.items other → Leaves other →
       Opens names form (B.Nodes place other) (with_place names text)
 
 -- the declaration with the rest of its block
@@ -106,6 +107,10 @@ pub record IsFinished (draft : Draft) (whole : Statement) : Type 0 where
   pub parts : List Statement
   pub becomes : Becomes draft [] parts
   pub joined : IsHalved whole parts
+
+-- where control doesn't go on nothing follows
+abbrev pub MayFollow : Flow → List TextStatement → Type 0
+MayFollow flow rest = known flow.after ≡ None → rest ≡ []
 
 -- before what follows stands this statement, and what the block becomes is the same
 pub record IsExtended (names : Names) (s : TextStatement) (rest : List TextStatement) (draft : Draft) (all : List Statement) : Type 0 where

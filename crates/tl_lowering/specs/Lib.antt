@@ -2,6 +2,7 @@ pub mod Blocks
 pub mod Choosing
 pub mod Declaring
 pub mod Drafts
+pub mod Entering
 pub mod Fit
 pub mod Lowering
 pub mod Names

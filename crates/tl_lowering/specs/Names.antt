@@ -76,6 +76,11 @@ with_values names (name ∷ others) = with_values (with_value names name) others
 abbrev pub in_loop : Names → Names
 in_loop names = record names { loops = names.loops + 1 }
 
+-- each name is free where those before it are declared
+abbrev pub AreNew : Names → List Name → Type 0
+AreNew names [] = Unit {0}
+AreNew names (name ∷ others) = IsNew names name × AreNew (with_value names name) others
+
 -- the name owns a node in the next register
 abbrev pub with_node : Names → Name → Names
 with_node names name = record (meaning names name (M.Node names.nodes)) { nodes = names.nodes + 1 }

@@ -29,8 +29,10 @@ use Rattle.tl_lowering.specs.declared.program.Statement.{Statement}
 use Rattle.tl_lowering.specs.declared.program.Statement.TheVariants as S
 use Rattle.tl_lowering.specs.declared.program.Procedure.{Procedure}
 use Rattle.tl_lowering.specs.declared.scope.Meaning.TheVariants as M
+use Rattle.tl_lowering.specs.Outcomes.{after}
+use Rattle.tl_lowering.specs.Sets.{Nodes}
 use Rattle.tl_lowering.specs.Registers.{behind, HasTemporaries, HasRegisters}
-use Rattle.tl_lowering.specs.Names.{Names, without_meaning, stands_for, IsNew, HasNode, HasValue, HasLoop, in_loop, with_constant, with_field, with_unnamed, with_value, with_values, with_node, with_place}
+use Rattle.tl_lowering.specs.Names.{Names, without_meaning, stands_for, IsNew, HasNode, HasValue, HasLoop, in_loop, with_constant, with_field, with_unnamed, with_value, with_values, AreNew, field_named, with_node, with_place}
 use Rattle.tl_lowering.specs.Naming.{IsCalculated, IsNumber, IsCount, IsNot, IsCondition, IsPlace, IsAction, IsThen, IsHalved}
 
 -- a statement that stands in the text at that offset
@@ -40,6 +42,10 @@ pub data IsAtOffset (offset : ℕ) (a : Statement) : Statement → Type 0 where
 -- a statement, and what is done if it fails
 pub data IsTried (body handler : Statement) : Statement → Type 0 where
   tried : {p q : _} → IsTried body handler (S.Try' p body q handler)
+
+-- control never goes on behind the statement
+abbrev pub Leaves : Statement → Type 0
+Leaves s = (held : Nodes) → after s held ≡ None
 
 -- unless there are too many children, they are locked one after another until none is left
 pub data IsVisiting (index child parent turns : ℕ) (body : Statement) : Statement → Type 0 where
@@ -55,11 +61,12 @@ mutual
     block : {names : Names} {statements : List TextStatement} {parts : List Statement} {whole : Statement} →
         AreStatements names statements parts → IsHalved whole parts → IsBlock names statements whole
 
-  -- behind a `let` or a `lock` the rest of its block becomes its body
+  -- behind a `let` or a `lock` the rest of its block becomes its body; its `else` leaves the block
   pub data AreStatements : Names → List TextStatement → List Statement → Type 0 where
     no_more : {names : Names} → AreStatements names [] []
+    -- nothing stands behind a statement that leaves the block
     next : {names : Names} {s : TextStatement} {rest : List TextStatement} {a b : Statement} {parts : List Statement} →
-        IsStatement names s.form a → IsAtOffset s.offset a b → AreStatements names rest parts →
+        IsStatement names s.form a → IsAtOffset s.offset a b → AreStatements names rest parts → (Leaves a → rest ≡ []) →
         AreStatements names (s ∷ rest) (b ∷ parts)
     let_rest : {names : Names} {s : TextStatement} {rest : List TextStatement} {name : Name} {number : TextExpression} {e : Expression}
         {p : _} {body a : Statement} → s.form ≡ T.Act (A.Let name number) None → IsNew names name → HasValue names →
@@ -68,7 +75,7 @@ mutual
     let_else : {names : Names} {s : TextStatement} {rest : List TextStatement} {name : Name} {number : TextExpression} {o : Otherwise}
         {e : Expression} {p q : _} {body other a : Statement} → s.form ≡ T.Act (A.Let name number) (Some o) →
         IsNew names name → HasValue names → IsNumber names number.form e → HasTemporaries e names.values →
-        IsBlock names (out-Otherwise o).body.items other → IsBlock (with_value names name) rest body →
+        IsBlock names (out-Otherwise o).body.items other → Leaves other → IsBlock (with_value names name) rest body →
         IsAtOffset s.offset (S.LetElse' names.values e p body q other) a → AreStatements names (s ∷ rest) (a ∷ [])
     -- a missing `else` fails
     lock_rest : {names : Names} {s : TextStatement} {rest : List TextStatement} {text : TextPlace} {place : Place} {p q : _}
@@ -77,7 +84,7 @@ mutual
         AreStatements names (s ∷ rest) (a ∷ [])
     lock_else : {names : Names} {s : TextStatement} {rest : List TextStatement} {text : TextPlace} {o : Otherwise} {place : Place} {p q : _}
         {body other a : Statement} → s.form ≡ T.Act (A.Lock text) (Some o) → IsPlace names text place →
-        IsBlock names (out-Otherwise o).body.items other → IsBlock (with_place names text) rest body →
+        IsBlock names (out-Otherwise o).body.items other → Leaves other → IsBlock (with_place names text) rest body →
         IsAtOffset s.offset (S.Lock' place p body q other) a → AreStatements names (s ∷ rest) (a ∷ [])
 
   -- a statement that declares nothing for the rest of its block
@@ -119,10 +126,12 @@ pub record IsProcedure (spellings : List (List ℕ)) (names : Names) (text : Tex
   pub name : procedure.name.items ≡ get_or spellings text.name.symbol.0 []
   pub offset : procedure.offset ≡ text.name.offset
   pub arity : procedure.arity ≡ length text.arguments.items
+  pub arguments : AreNew names text.arguments.items
   pub body : IsBody (with_values names text.arguments.items) text procedure.body
 
 -- the name gets the field of that number
 pub record IsWithField (names : Names) (name : Name) (number : ℤ) (later : Names) : Type 0 where
+  pub fresh : field_named names name ≡ None
   pub field : Field
   pub number_is : number ≡ pos field
   pub later_is : later ≡ with_field names name field
@@ -134,7 +143,7 @@ pub data AreDeclared (spellings : List (List ℕ)) : Names → List Declaration 
       IsWithField names name number later → AreDeclared spellings later rest ps →
       AreDeclared spellings names (D.Field name number offset ∷ rest) ps
   next_constant : {names : Names} {name : Name} {number : ℤ} {rest : List Declaration} {ps : List Procedure} →
-      AreDeclared spellings (with_constant names name number) rest ps → AreDeclared spellings names (D.Constant name number ∷ rest) ps
+      IsNew names name → AreDeclared spellings (with_constant names name number) rest ps → AreDeclared spellings names (D.Constant name number ∷ rest) ps
   next_procedure : {names : Names} {text : TextProcedure} {p : Procedure} {rest : List Declaration} {ps : List Procedure} →
       IsProcedure spellings names text p → AreDeclared spellings names rest ps →
       AreDeclared spellings names (D.Procedure text ∷ rest) (p ∷ ps)

@@ -1,10 +1,10 @@
 // From a text to the core forms of its procedures.
 
-ghost use Rattle.std.specs.Prelude.{◌≡◌, [], ◌≤◌, IfOk, OnOk};
+ghost use Rattle.std.specs.Prelude.{◌≡◌, [], ◌≤◌, false, IfOk, OnOk};
 ghost use Rattle.std.specs.List.{All};
 ghost use Rattle.tl_lowering.specs.declared.program.Procedure.{Procedure as CoreProcedure};
-ghost use Rattle.tl_lowering.specs.Fit.{IsWord};
-ghost use Rattle.tl_lowering.specs.Names.{names_of, with_values};
+ghost use Rattle.tl_lowering.specs.Fit.{IsWord, EntersOnce};
+ghost use Rattle.tl_lowering.specs.Names.{names_of, with_values, AreNew};
 ghost use Rattle.tl_lowering.specs.Outcomes.{fails};
 ghost use Rattle.tl_lowering.specs.Reading.{IsBody, IsProcedure, IsWithField, AreDeclared, IsProgram};
 ghost use Rattle.tl_lowering.specs.Scopes.{view_of, IsInUse, IsAt, IsBare, Extends, is_in_loop};
@@ -41,6 +41,7 @@ impl Lowering {
     fn declare_arguments(&mut self, names: &[Name]) -> Result<(), SyntaxFault>
         requires { IsBare (view_of self.old.scope) }
         ensures named { OnOk result (names_of self.new.scope ≡ with_values (names_of self.old.scope) names.now) }
+        ensures fresh { OnOk result (AreNew (names_of self.old.scope) names.now) }
         ensures names { OnOk result (IsInUse (view_of self.new.scope)) }
         ensures values { OnOk result (self.new.scope.values ≤ MAX_ARGS) }
         ensures nodes { OnOk result (self.new.scope.nodes ≡ 0) }
@@ -65,6 +66,7 @@ impl Lowering {
         ensures named { IfOk result (IsBody (names_of self.old.scope) procedure.now) }
         ensures sound { IfOk result (λ s. IsSound s self.old.scope.values self.old.scope.nodes none_held (is_in_loop (view_of self.old.scope))) }
         ensures handled { IfOk result (λ s. fails s none_held ≡ []) }
+        ensures enters { IfOk result (λ s. EntersOnce s false) }
     {
         let lowered = self.block(&procedure.body, Held::NOTHING)?;
         let (handled, _flow) = self.handled(lowered, &procedure.otherwise, Held::NOTHING)?;

@@ -1,6 +1,6 @@
 // What names stand for.
 
-ghost use Rattle.std.specs.Prelude.{◌≡◌, ◌+◌, ◌<◌, length, slice_set, take, drop, true, Some, IfOk, OnOk};
+ghost use Rattle.std.specs.Prelude.{◌≡◌, ◌+◌, ◌<◌, length, slice_set, take, drop, true, Some, None, IfOk, OnOk};
 ghost use Rattle.tl_instr.specs.declared.operand.TheConstants.{VALUE_REGISTERS, NODE_REGISTERS};
 ghost use Rattle.tl_lowering.specs.declared.scope.Meaning.TheVariants.{Nothing, Value, Node};
 ghost use Rattle.tl_lowering.specs.Names.{names_of, without_meaning, stands_for, field_named, with_constant, with_field, with_unnamed, with_value, with_node};
@@ -283,7 +283,9 @@ impl Scope {
     }
 
     /// 276 if a field of that name is declared already.
-    pub fn check_new_field(&self, name: Name) -> Result<(), SyntaxFault> {
+    pub fn check_new_field(&self, name: Name) -> Result<(), SyntaxFault>
+        ensures { OnOk result (field_named (names_of self.now) name ≡ None) }
+    {
         match self.fields.get(name.symbol.0) {
             Some(Some(_)) => Err(SyntaxFault::at(Wrong::Twice, name.offset)),
             _ => Ok(()),

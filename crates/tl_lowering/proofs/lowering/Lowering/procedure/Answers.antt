@@ -1,6 +1,6 @@
 use Rattle.std.proofs.Common.{◌≡◌, ◌∙◌, ℕ, ◌+◌, Vec, Global, sym, ap, ap₂, subst, refl, arith, length, get_or, []}
 use Rattle.tl_syntax.specs.Tokens.{spellings}
-use Rattle.tl_lowering.specs.Names.{Names, names_in, names_of, with_values}
+use Rattle.tl_lowering.specs.Names.{Names, names_in, names_of, with_values, AreNew}
 use Rattle.tl_lowering.specs.declared.paths.TheConstants.Held.{NOTHING}
 use Rattle.tl_lowering.specs.Reading.{IsBody}
 use Rattle.tl_lowering.specs.Scopes.{view_of}
@@ -29,6 +29,7 @@ returns-clause-named c =
       name = name;
       offset = refl;
       arity = omega (arith, many, c.requires.values);
+      arguments = subst (AreNew old) c.deref.ensures.value (subst (λ n. AreNew n c.deref.result.now) (ap names_in c.declare_procedure.ensures) c.in_ok-declare_arguments.ensures.fresh);
       body = subst (λ n. IsBody n c.args.procedure.now c.in_ok-body.body) named c.in_ok-body.ensures.named;
     }
 
@@ -39,4 +40,4 @@ pub returns-clause-procedure : goal.returns-clause-procedure
 returns-clause-procedure c =
     let inner = c.in_ok-declare_arguments.ensures in
     let body = c.in_ok-body.ensures in
-    in_order (view_of c.declare_arguments.new.self.scope) c.args.procedure.now _ refl inner.values inner.nodes inner.loops body.named body.sound body.handled
+    in_order (view_of c.declare_arguments.new.self.scope) c.args.procedure.now _ refl inner.values inner.nodes inner.loops body.named body.sound body.handled body.enters
