@@ -4,6 +4,8 @@ pub mod ExpressionsOnce
 pub mod KindLemmas
 pub mod ListsOnce
 pub mod NameLemmas
+pub mod NamesOnce
+pub mod NumberingLemmas
 mod Rows
 pub mod SearchLemmas
 pub mod StatementLemmas

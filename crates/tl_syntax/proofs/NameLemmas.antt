@@ -13,10 +13,10 @@ use Rattle.tl_syntax.specs.Tokens as T
 use Rattle.tl_syntax.specs.Tokens.{spellings, Extends, AreDistinct, Adds, IsFree}
 use Rattle.tl_syntax.proofs.TokenLemmas.{extends_more}
 
-abbrev same_name : Bor (List ℕ) → Bor (List ℕ) → Bool
+abbrev pub same_name : Bor (List ℕ) → Bor (List ℕ) → Bool
 same_name x y = pointwise nat_eq x.now y.now
 
-spellings_pushed : (names : List (Bor (List ℕ))) (name : Bor (List ℕ)) → spellings (names ++ name ∷ []) ≡ spellings names ++ name.now ∷ []
+pub spellings_pushed : (names : List (Bor (List ℕ))) (name : Bor (List ℕ)) → spellings (names ++ name ∷ []) ≡ spellings names ++ name.now ∷ []
 spellings_pushed [] name = refl
 spellings_pushed (n ∷ names) name = ap (λ l. n.now ∷ l) (spellings_pushed names name)
 

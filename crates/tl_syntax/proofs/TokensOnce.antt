@@ -178,7 +178,7 @@ same_some a b e = cc
 -- ---- pieces
 
 -- what begins with a byte is one piece
-begins_once : {first n m : ℕ} {after : List ℕ} {p q : Piece} → Begins first after p n → Begins first after q m → (p ≡ q) × (n ≡ m)
+pub begins_once : {first n m : ℕ} {after : List ℕ} {p q : Piece} → Begins first after p n → Begins first after q m → (p ≡ q) × (n ≡ m)
 begins_once (T.blank e) (T.blank f) = (refl, refl)
 begins_once (T.blank e) (T.comment f f2) = absurd (is_both e (slash_sign f).0)
 begins_once {first} (T.blank e) (T.word f) = absurd (blank_no_word first e f)
@@ -216,7 +216,7 @@ begins_once (T.short e e2) (T.digits f) = absurd (is_both f (short_sign e).2)
 begins_once {first} (T.short e e2) (T.long f f2) = absurd ((subst (λ o. T.IsAlone first o) f e2).1 _ f2)
 begins_once (T.short e e2) (T.short f f2) = (ap P.Sign (sym (short_is e) ∙ short_is f), refl)
 
-no_blank : {names : List (List ℕ)} {piece : Piece} {word : List ℕ} {kind : TokenKind} → P.Blank ≡ piece → IsToken names piece word kind → ⊥
+pub no_blank : {names : List (List ℕ)} {piece : Piece} {word : List ℕ} {kind : TokenKind} → P.Blank ≡ piece → IsToken names piece word kind → ⊥
 no_blank {names} {word = w} {kind = k} e t = by (subst (λ p. IsToken names p w k) (sym e) t)
   where
     by : IsToken names P.Blank w k → ⊥

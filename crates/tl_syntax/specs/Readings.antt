@@ -16,7 +16,7 @@ HasOneListOfTokens text = (names : List (List ℕ)) (tokens others : List Token)
 abbrev pub SpellsOneFile : List Token → Type 0
 SpellsOneFile tokens = (declarations others : List Declaration) → IsFile tokens declarations → IsFile tokens others → AlikeDeclarations declarations others
 
--- with the same names, the text has the same declarations
+-- the text has the same names and the same declarations
 abbrev pub HasOneReading : List ℕ → Type 0
-HasOneReading text = (names : List (List ℕ)) (declarations others : List Declaration) → IsText text names declarations → IsText text names others →
-    AlikeDeclarations declarations others
+HasOneReading text = (names others : List (List ℕ)) (declarations again : List Declaration) → IsText text names declarations → IsText text others again →
+    (names ≡ others) × AlikeDeclarations declarations again

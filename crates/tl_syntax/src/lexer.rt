@@ -1,6 +1,6 @@
 // From bytes to tokens.
 
-ghost use Rattle.std.specs.Prelude.{◌≡◌, ◌<◌, ◌≤◌, length, [], ◌∷◌, ◌++◌, IfSome, IfOk, OnOk};
+ghost use Rattle.std.specs.Prelude.{◌≡◌, ℕ, List, ◌<◌, ◌≤◌, length, [], ◌∷◌, ◌++◌, IfSome, IfOk, OnOk};
 ghost use Rattle.tl_syntax.specs.Tokens.{
   word_left,
   line_left,
@@ -9,6 +9,7 @@ ghost use Rattle.tl_syntax.specs.Tokens.{
   first_names,
   AreDistinct,
   Extends,
+  AreNamesOf,
   Adds,
   AreTokens,
 };
@@ -115,6 +116,8 @@ impl<'a> Lexed<'a> {
         ensures adds { OnOk result (Adds word.now offset (spellings self.old.names.keys) (spellings self.new.names.keys)
             self.old.tokens.items self.new.tokens.items Piece.Word) }
         ensures distinct { OnOk result (AreDistinct (spellings self.old.names.keys) → AreDistinct (spellings self.new.names.keys)) }
+        ensures numbered { OnOk result (AreNamesOf self.old.tokens.items (spellings self.old.names.keys) →
+            AreNamesOf self.new.tokens.items (spellings self.new.names.keys)) }
     {
         if let Some(kind) = reserved(word) {
             self.push(kind, offset)?;
@@ -132,6 +135,8 @@ impl<'a> Lexed<'a> {
         ensures adds { OnOk result (Adds word.now offset (spellings self.old.names.keys) (spellings self.new.names.keys)
             self.old.tokens.items self.new.tokens.items Piece.Digits) }
         ensures distinct { OnOk result (AreDistinct (spellings self.old.names.keys) → AreDistinct (spellings self.new.names.keys)) }
+        ensures numbered { OnOk result (AreNamesOf self.old.tokens.items (spellings self.old.names.keys) →
+            AreNamesOf self.new.tokens.items (spellings self.new.names.keys)) }
     {
         match number(word) {
             Some(number) => {
@@ -147,6 +152,8 @@ impl<'a> Lexed<'a> {
         ensures adds { OnOk result (Adds word.now offset (spellings self.old.names.keys) (spellings self.new.names.keys)
             self.old.tokens.items self.new.tokens.items piece) }
         ensures distinct { OnOk result (AreDistinct (spellings self.old.names.keys) → AreDistinct (spellings self.new.names.keys)) }
+        ensures numbered { OnOk result ((first : ℕ) (after : List ℕ) (n : ℕ) → Begins first after piece n → AreNamesOf self.old.tokens.items (spellings self.old.names.keys) →
+            AreNamesOf self.new.tokens.items (spellings self.new.names.keys)) }
     {
         match piece {
             Piece::Blank => Ok(()),
@@ -165,6 +172,7 @@ pub fn lex(alloc: Global, text: &[u8]) -> Result<Lexed<'_>, SyntaxFault>
     ensures tokens { IfOk result (λ lexed. AreTokens (spellings lexed.names.keys) 0 text.now lexed.tokens.items) }
     ensures names { IfOk result (λ lexed. Extends first_names (spellings lexed.names.keys)) }
     ensures distinct { IfOk result (λ lexed. AreDistinct (spellings lexed.names.keys)) }
+    ensures numbered { IfOk result (λ lexed. AreNamesOf lexed.tokens.items (spellings lexed.names.keys)) }
 {
     let mut lexed = Lexed::new(alloc)?;
     let mut rest = text;
