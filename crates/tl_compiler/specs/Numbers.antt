@@ -1,6 +1,6 @@
 -- The code of numbers and conditions. Code is put before the code that follows it, k, and a label is how many instructions stand
 -- from there to the end. So t is the first free value register, and f the label that a failure leads to.
-use Rattle.std.specs.Prelude.{ℕ, ◌+◌, List, ◌∷◌, Bool, true, false, not, Option, Some, None, is_some, unwrap_or, length, if◌then◌else◌}
+use Rattle.std.specs.Prelude.{ℕ, List, ◌∷◌, Bool, true, false, not, is_some, length, if◌then◌else◌}
 use Rattle.tl_instr.specs.declared.instr.Instr.{Instr}
 use Rattle.tl_instr.specs.declared.instr.Instr.TheVariants as I
 use Rattle.tl_syntax.specs.declared.operator.Operator.{Operator}
@@ -9,22 +9,10 @@ use Rattle.tl_lowering.specs.declared.program.Expression.{Expression}
 use Rattle.tl_lowering.specs.declared.program.Expression.TheVariants as E
 use Rattle.tl_lowering.specs.declared.program.Condition.{Condition}
 use Rattle.tl_lowering.specs.declared.program.Condition.TheVariants as C
+pub use Rattle.tl_lowering.specs.Registers.{own_register, register_of, behind}
 use Rattle.tl_compiler.specs.Labels.{target_of}
 use Rattle.tl_compiler.specs.declared.values.Test.{Test}
 use Rattle.tl_compiler.specs.declared.values.Test.TheVariants as T
-
--- the register that a value is in; another number is in none
-abbrev pub own_register : Expression → Option ℕ
-own_register (E.Value x) = Some x
-own_register e = None
-
--- the register that an operand is in: a value is in its own
-abbrev pub register_of : Expression → ℕ → ℕ
-register_of e t = unwrap_or (own_register e) t
-
--- the first free register behind an operand
-abbrev pub behind : Expression → ℕ → ℕ
-behind e t = if is_some (own_register e) then t else t + 1
 
 -- the instruction of an operation
 abbrev pub calculation : Operator → ℕ → ℕ → ℕ → ℕ → Instr

@@ -1,8 +1,8 @@
 -- One statement that does others one after another, and blocks whose declarations are closed.
-use Rattle.std.proofs.Common.{◌≡◌, ℕ, ◌+◌, ◌<◌, ◌≤◌, List, [], ◌∷◌, ◌++◌, take, drop, reverse, Option, Some, None, refl, sym, ap, ap₂, ◌∙◌, subst, arith, append-nil, take-add}
+use Rattle.std.proofs.Common.{◌≡◌, ℕ, ◌+◌, ◌-◌, ◌/◌, ◌<◌, ◌≤◌, List, [], ◌∷◌, ◌++◌, length, take, drop, reverse, Option, Some, None, refl, sym, ap, ap₂, ◌∙◌, subst, arith, append-nil, length-take-le, take-take}
 use Rattle.std.specs.Prelude.{MatchOption}
 use Rattle.std.specs.Option.{unwrap_or}
-use Rattle.std.proofs.lemmas.List.{reverse-append}
+use Rattle.std.proofs.lemmas.List.{reverse-append, drop-take}
 use Rattle.tl_lowering.specs.declared.lowering.Binding.TheVariants as B
 use Rattle.tl_lowering.specs.declared.lowering.Draft.{Draft}
 use Rattle.tl_lowering.specs.declared.lowering.Opened.{Opened}
@@ -10,7 +10,7 @@ use Rattle.tl_lowering.specs.declared.program.Expression.{Expression}
 use Rattle.tl_lowering.specs.declared.program.Place.{Place}
 use Rattle.tl_lowering.specs.declared.program.Statement.{Statement}
 use Rattle.tl_lowering.specs.declared.program.Statement.TheVariants as S
-use Rattle.tl_lowering.specs.Naming.{IsThen, then, Joins, none, one, more}
+use Rattle.tl_lowering.specs.Naming.{IsThen, then, IsHalved, none, one, more}
 use Rattle.tl_lowering.specs.Reading.{IsAtOffset, at, IsTried, tried}
 use Rattle.tl_syntax.specs.declared.parsed.Action.{Action}
 use Rattle.tl_syntax.specs.declared.parsed.Otherwise.{Otherwise}
@@ -44,31 +44,38 @@ binds_nodes_of {p} {q} {place} {a} {b} {rest} f g =
 
 -- ---- a list of statements, halved
 
-pub joins_none : {xs : List Statement} → xs ≡ [] → Joins S.Skip xs
-joins_none e = subst (Joins S.Skip) (sym e) none
+pub joins_none : {xs : List Statement} → xs ≡ [] → IsHalved S.Skip xs
+joins_none e = subst (IsHalved S.Skip) (sym e) none
 
 pub joins_few : (count n m : ℕ) (o : Option Statement) (xs ys : List Statement) (s : Statement) → 0 < count → count < 2 → count ≤ n
-    → MatchOption o ((n ≡ 0) × (m ≡ 0)) (λ x. (xs ≡ x ∷ ys) × (m + 1 ≡ n)) → s ≡ unwrap_or o S.Skip → Joins s (take count xs)
+    → MatchOption o ((n ≡ 0) × (m ≡ 0)) (λ x. (xs ≡ x ∷ ys) × (m + 1 ≡ n)) → s ≡ unwrap_or o S.Skip → IsHalved s (take count xs)
 joins_few count n m None xs ys s some few fits e f = absurd (let z : n ≡ 0 = e.0 in omega arith)
 joins_few count n m (Some x) xs ys s some few fits e f =
     let c : count ≡ 1 = omega arith in
     let w : xs ≡ x ∷ ys = e.0 in
-    subst (Joins s) (sym (ap₂ take c w)) (subst (λ z. Joins z (x ∷ [])) (sym f) one)
+    subst (IsHalved s) (sym (ap₂ take c w)) (subst (λ z. IsHalved z (x ∷ [])) (sym f) one)
 
-pub joins_halves : (count half left : ℕ) (xs rest : List Statement) (whole a b : Statement) → half + left ≡ count → IsThen a b whole
-    → Joins a (take half xs) → rest ≡ drop half xs → Joins b (take left rest) → Joins whole (take count xs)
-joins_halves count half left xs rest whole a b e w s f t =
-    subst (Joins whole) (ap (λ z. take half xs ++ take left z) f ∙ sym (take-add half left xs) ∙ ap (λ n. take n xs) e) (more s t w)
+pub joins_halves : (count half : ℕ) (xs rest : List Statement) (whole a b : Statement) → 2 ≤ count → count ≤ length xs → half ≡ count / 2 → IsThen a b whole
+    → IsHalved a (take half xs) → rest ≡ drop half xs → IsHalved b (take (count - half) rest) → IsHalved whole (take count xs)
+joins_halves count half xs rest whole a b two fits e w s f t =
+    let all : length (take count xs) ≡ count = length-take-le count xs fits in
+    let middle : length (take count xs) / 2 ≡ half = ap (λ n. n / 2) all ∙ sym e in
+    let within : half ≤ count = omega arith in
+    let first : take (length (take count xs) / 2) (take count xs) ≡ take half xs = ap (λ n. take n (take count xs)) middle ∙ take-take half count xs within in
+    let split : half + (count - half) ≡ count = omega arith in
+    let second : drop (length (take count xs) / 2) (take count xs) ≡ take (count - half) rest =
+    ap (λ n. drop n (take count xs)) middle ∙ ap (λ n. drop half (take n xs)) (sym split) ∙ drop-take half (count - half) xs ∙ ap (take (count - half)) (sym f) in
+    more (omega arith) (subst (IsHalved a) (sym first) s) (subst (IsHalved b) (sym second) t) w
 
 -- ---- declarations are closed one after another, the last first
 
 -- what is closed so far
 pub record IsEnding (draft : Draft) (os : List Opened) (whole : Statement) : Type 0 where
   pub parts : List Statement
-  pub joined : Joins whole parts
+  pub joined : IsHalved whole parts
   pub ends : (all : List Statement) → Ends (reverse os) parts all → Ends (reverse draft.opened.items) draft.statements.items all
 
-pub first_ending : (draft : Draft) (whole : Statement) → Joins whole draft.statements.items → IsEnding draft draft.opened.items whole
+pub first_ending : (draft : Draft) (whole : Statement) → IsHalved whole draft.statements.items → IsEnding draft draft.opened.items whole
 first_ending draft whole j = record { parts = draft.statements.items; joined = j; ends = λ all e. e }
 
 pub next_ending : (draft : Draft) (old new : List Opened) (last : Opened) (rest whole : Statement) → IsEnding draft old rest → old ≡ new ++ last ∷ []

@@ -3,7 +3,10 @@ pub mod BlockLemmas
 pub mod BodyLemmas
 pub mod DepthLemmas
 pub mod DraftLemmas
+pub mod EnterLemmas
+pub mod FitLemmas
 pub mod JoinLemmas
+pub mod LeaveLemmas
 pub mod LoopLemmas
 pub mod LoweringLemmas
 pub mod NamingLemmas
@@ -11,6 +14,8 @@ pub mod NumberLemmas
 pub mod OpeningLemmas
 pub mod PartLemmas
 pub mod PathLemmas
+pub mod RegisterLemmas
 pub mod ScopeLemmas
 pub mod SetLemmas
 pub mod TextLemmas
+pub mod WordLemmas

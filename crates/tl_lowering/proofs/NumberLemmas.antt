@@ -1,5 +1,5 @@
 -- Core forms of numbers and conditions, of what lies in boxes.
-use Rattle.std.proofs.Common.{◌≡◌, ◌∙◌, ℕ, ◌<◌, ◌+◌, ℤ, pos, negsuc, List, [], ◌∷◌, ◌++◌, take, length, get_or, Some, None, refl, sym, ap, subst, arith}
+use Rattle.std.proofs.Common.{◌≡◌, ◌≢◌, ◌∙◌, ℕ, ◌<◌, ◌≤◌, ◌+◌, ℤ, pos, negsuc, List, [], ◌∷◌, ◌++◌, take, length, get_or, Some, None, refl, sym, ap, subst, arith}
 use Rattle.std.specs.Prelude.{nat_abs}
 use Rattle.std.specs.Int.{FitsUnsignedBits}
 use Rattle.std.specs.declared.vec.Vec.{Vec}
@@ -7,7 +7,7 @@ use Rattle.std.specs.declared.alloc.Global.{Global}
 use Rattle.tl_syntax.specs.declared.parsed.Name.{Name}
 use Rattle.tl_syntax.specs.declared.parsed.Child.{Child}
 use Rattle.tl_syntax.specs.declared.parsed.Place.TheVariants as T
-use Rattle.std.proofs.lemmas.List.{take_more}
+use Rattle.std.proofs.lemmas.List.{take_more, get_or-set_other}
 use Rattle.tl_lowering.specs.declared.paths.Flow.{Flow}
 use Rattle.tl_lowering.specs.declared.paths.Held.{Held}
 use Rattle.tl_lowering.specs.Paths.{Paths, nodes_of, paths_of, on}
@@ -22,7 +22,8 @@ use Rattle.tl_lowering.specs.declared.program.Expression.TheVariants as E
 use Rattle.tl_lowering.specs.declared.program.Condition.{Condition}
 use Rattle.tl_lowering.specs.declared.program.Condition.TheVariants as C
 use Rattle.tl_lowering.specs.declared.scope.Meaning.TheVariants as M
-use Rattle.tl_lowering.specs.Names.{Names, stands_for}
+use Rattle.tl_lowering.specs.Registers.{behind, HasRegisters}
+use Rattle.tl_lowering.specs.Names.{Names, stands_for, IsNew, HasNode, with_node}
 use Rattle.tl_syntax.specs.declared.parsed.Action.TheVariants as A
 use Rattle.tl_lowering.specs.declared.program.Statement.{Statement}
 use Rattle.tl_lowering.specs.declared.program.Statement.TheVariants as S
@@ -47,7 +48,7 @@ pub condition_at : {names : Names} {a b : TextExpression} {c : Condition} → a 
 condition_at {names} {c = c} h = subst (λ (z : TextExpression). IsCondition names z.form c) h
 
 pub compared_at : {names : Names} {k : Comparison} {a b x y : TextExpression} {c : Condition} → a ≡ x → b ≡ y → IsCompared names k a.form b.form c → IsCompared names k x.form y.form c
-compared_at e f h = record { left = h.left; right = h.right; left_is = number_at e h.left_is; right_is = number_at f h.right_is; condition_is = h.condition_is }
+compared_at e f h = record { left = h.left; right = h.right; left_is = number_at e h.left_is; right_is = number_at f h.right_is; left_fits = h.left_fits; right_fits = h.right_fits; condition_is = h.condition_is }
 
 -- ---- how often a loop may turn
 
@@ -55,12 +56,16 @@ counted : (z w : ℤ) (t : ℕ) → FitsUnsignedBits 16 z → t ≡ nat_abs z �
 counted (pos n) w t f e g = sym g ∙ ap pos (sym e)
 counted (negsuc n) w t f e g = absurd f
 
-pub counts : {names : Names} {w : ℤ} (z : ℤ) (t : ℕ) → FitsUnsignedBits 16 z → t ≡ nat_abs z → z ≡ w → IsCount names (F.Number w) t
-counts {names} {w} z t f e g = subst (λ x. IsCount names (F.Number x) t) (sym (counted z w t f e g)) count
+at_most : (z : ℤ) (t : ℕ) → FitsUnsignedBits 16 z → t ≡ nat_abs z → t ≤ 65535
+at_most (pos n) t f e = omega arith
+at_most (negsuc n) t f e = absurd f
 
-pub counts_constant : {names : Names} {name : Name} {w : ℤ} (z : ℤ) (t : ℕ) → FitsUnsignedBits 16 z → t ≡ nat_abs z → z ≡ w → stands_for names name ≡ M.Constant w
+pub counts : {names : Names} {w : ℤ} (z : ℤ) (t : ℕ) → 0 < t → FitsUnsignedBits 16 z → t ≡ nat_abs z → z ≡ w → IsCount names (F.Number w) t
+counts {names} {w} z t lt f e g = subst (λ x. IsCount names (F.Number x) t) (sym (counted z w t f e g)) (count lt (at_most z t f e))
+
+pub counts_constant : {names : Names} {name : Name} {w : ℤ} (z : ℤ) (t : ℕ) → 0 < t → FitsUnsignedBits 16 z → t ≡ nat_abs z → z ≡ w → stands_for names name ≡ M.Constant w
     → IsCount names (F.Named name) t
-counts_constant {w = w} z t f e g h = constant_count (h ∙ ap M.Constant (counted z w t f e g))
+counts_constant {w = w} z t lt f e g h = constant_count lt (at_most z t f e) (h ∙ ap M.Constant (counted z w t f e g))
 
 pub counts_none : (z : ℤ) (t : ℕ) → 0 < t → t ≡ nat_abs z → z ≡ pos 0 → ⊥
 counts_none z t lt e g = let zero : t ≡ 0 = e ∙ ap nat_abs g in omega arith
@@ -77,21 +82,26 @@ emits_at {names} {whole} xs e h = emits (subst (λ z. Emits names z whole) e h)
 
 -- ---- what is locked
 
-pub node_locks : {names : Names} {name : Name} {offset r : ℕ} {x : TextExpression} {e : Expression} {h : Held} → r ≡ names.nodes → IsNumber names x.form e
-    → Locks names (T.Node name offset x) (record { place = P.Node r e; first = (name, r); second = None; held = h })
-node_locks {names} {name} {offset} {r} {x} {e} f n = record { place_is = subst (λ z. IsPlace names (T.Node name offset x) (P.Node z e)) (sym f) (node n); names_are = refl }
+pub node_locks : {names : Names} {name : Name} {offset r : ℕ} {x : TextExpression} {e : Expression} {h : Held} → IsNew names name → HasNode names → r ≡ names.nodes → IsNumber names x.form e
+    → HasRegisters e names.values → Locks names (T.Node name offset x) (record { place = P.Node r e; first = (name, r); second = None; held = h })
+node_locks {names} {name} {offset} {r} {x} {e} new room f n has = record { place_is = subst (λ z. IsPlace names (T.Node name offset x) (P.Node z e)) (sym f) (node new room n has); names_are = refl }
 
-pub child_locks : {names : Names} {c : Child} {r n : ℕ} {e : Expression} {h : Held} → r ≡ names.nodes → stands_for names c.parent ≡ M.Node n → IsNumber names c.number.form e
-    → Locks names (T.Child c) (record { place = P.Child r n e; first = (c.name, r); second = None; held = h })
-child_locks {names} {c} {r} {n} {e} f p i = record { place_is = subst (λ z. IsPlace names (T.Child c) (P.Child z n e)) (sym f) (child p i); names_are = refl }
+pub child_locks : {names : Names} {c : Child} {r n : ℕ} {e : Expression} {h : Held} → IsNew names c.name → HasNode names → r ≡ names.nodes → stands_for names c.parent ≡ M.Node n
+    → IsNumber names c.number.form e → HasRegisters e names.values → Locks names (T.Child c) (record { place = P.Child r n e; first = (c.name, r); second = None; held = h })
+child_locks {names} {c} {r} {n} {e} new room f p i has = record { place_is = subst (λ z. IsPlace names (T.Child c) (P.Child z n e)) (sym f) (child new room p i has); names_are = refl }
 
-pub pair_locks : {names : Names} {c d : Child} {r s n : ℕ} {e f : Expression} {h : Held} → r ≡ names.nodes → s ≡ names.nodes + 1 → stands_for names c.parent ≡ M.Node n
-    → stands_for names d.parent ≡ M.Node n → IsNumber names c.number.form e → IsNumber names d.number.form f
+pub pair_locks : {names : Names} {c d : Child} {r s n : ℕ} {e f : Expression} {h : Held} → IsNew names c.name → IsNew (with_node names c.name) d.name → HasNode (with_node names c.name) → r ≡ names.nodes → s ≡ names.nodes + 1 → stands_for names c.parent ≡ M.Node n
+    → stands_for names d.parent ≡ M.Node n → IsNumber names c.number.form e → HasRegisters e names.values → IsNumber names d.number.form f
+    → HasRegisters f (behind e names.values)
     → Locks names (T.Pair c d) (record { place = P.Pair r s n e f; first = (c.name, r); second = Some (d.name, s); held = h })
-pair_locks {names} {c} {d} {r} {s} {n} {e} {f} x y p q i j = record {
-  place_is = subst (λ z. IsPlace names (T.Pair c d) (P.Pair z s n e f)) (sym x) (subst (λ z. IsPlace names (T.Pair c d) (P.Pair names.nodes z n e f)) (sym y) (pair p q i j));
+pair_locks {names} {c} {d} {r} {s} {n} {e} {f} new other room x y p q i has j more = record {
+  place_is = subst (λ z. IsPlace names (T.Pair c d) (P.Pair z s n e f)) (sym x) (subst (λ z. IsPlace names (T.Pair c d) (P.Pair names.nodes z n e f)) (sym y) (pair new other room p q i has j more));
   names_are = refl;
 }
+
+-- two names that are free and differ
+pub new_beside : (names : Names) (c d : Name) → d.symbol.0 ≢ c.symbol.0 → IsNew names d → IsNew (with_node names c) d
+new_beside names c d ne new = get_or-set_other names.meanings c.symbol.0 d.symbol.0 (M.Node names.nodes) M.Nothing ne ∙ new
 
 -- ---- several values to emit
 
@@ -103,7 +113,7 @@ none_emitted scope held ys flow e p =
     subst (λ z. AreEmitted scope held z flow) (sym e) (record { sound = tt; after = ap (λ (q : Paths). q.after) p; paths = p })
 
 pub more_emits : {names : Names} {old new : List Statement} {e : Expression} (xs : List TextExpression) (i : ℕ) (x : TextExpression) → i < length xs
-    → x ≡ get_or xs i x → new ≡ old ++ S.Emit e ∷ [] → AreEmits names (take i xs) old → IsNumber names x.form e → AreEmits names (take (i + 1) xs) new
-more_emits {names} {old} {new} xs i x lt f g a n =
+    → x ≡ get_or xs i x → new ≡ old ++ S.Emit e ∷ [] → AreEmits names (take i xs) old → IsNumber names x.form e → HasRegisters e names.values → AreEmits names (take (i + 1) xs) new
+more_emits {names} {old} {new} xs i x lt f g a n has =
     let h : take (i + 1) xs ≡ take i xs ++ x ∷ [] = take_more xs i x lt ∙ ap (λ z. take i xs ++ z ∷ []) (sym f) in
-    subst (λ z. AreEmits names z new) (sym h) (subst (AreEmits names (take i xs ++ x ∷ [])) (sym g) (next_emit x a n))
+    subst (λ z. AreEmits names z new) (sym h) (subst (AreEmits names (take i xs ++ x ∷ [])) (sym g) (next_emit x a n has))

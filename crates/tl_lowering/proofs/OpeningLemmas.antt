@@ -22,7 +22,7 @@ use Rattle.tl_lowering.specs.declared.program.Statement.{Statement}
 use Rattle.tl_lowering.specs.declared.program.Statement.TheVariants as S
 use Rattle.tl_lowering.specs.Names.{Names, with_value, with_place}
 use Rattle.tl_lowering.specs.Naming.{IsCalculated, IsNot, IsThen, with_locking}
-use Rattle.tl_lowering.specs.Reading.{IsVisiting, visiting, IsAtOffset, IsBlock, AreStatements, let_rest, let_else, lock_rest, lock_else}
+use Rattle.tl_lowering.specs.Reading.{Leaves, IsVisiting, visiting, IsAtOffset, IsBlock, AreStatements, let_rest, let_else, lock_rest, lock_else}
 use Rattle.tl_lowering.specs.Drafts.{IsOpening, opening_value, opening_nodes, IsElse, no_else, one_else, other_of, Opens, opens_value, opens_value_else, opens_nodes, opens_nodes_else, Binds, binds_value, binds_value_else, binds_nodes}
 use Rattle.tl_lowering.specs.Choosing.{IsChosen, chosen_if, chosen_lock, IsTurning, turning_times, turning_up_to}
 use Rattle.tl_lowering.proofs.JoinLemmas.{same_else}
@@ -41,33 +41,33 @@ chooses_lock {p} {q} l {a} {b} {first} {second} e f =
 
 pub value_opens : {names later : Names} {form : StatementForm} {name : Name} {x : ℕ} {e : Expression} → later ≡ with_value names name
     → IsOpening names form (H.Value name x e) → IsElse names form None → Opens names form (B.Value x e) later
-value_opens {names} {form = form} {x = x} {e = e} l (opening_value o f g n) (no_else h) =
-    subst (Opens names form (B.Value x e)) (sym l) (opens_value (f ∙ ap (T.Act _) (same_else _ _ o None (sym f ∙ h))) g n)
+value_opens {names} {form = form} {x = x} {e = e} l (opening_value o f g new room n has) (no_else h) =
+    subst (Opens names form (B.Value x e)) (sym l) (opens_value (f ∙ ap (T.Act _) (same_else _ _ o None (sym f ∙ h))) g new room n has)
 
-pub value_else_opens : {names later : Names} {form : StatementForm} {name : Name} {x : ℕ} {e : Expression} {a : Statement} {flow : Flow} → later ≡ with_value names name
+pub value_else_opens : {names later : Names} {form : StatementForm} {name : Name} {x : ℕ} {e : Expression} {a : Statement} {flow : Flow} → later ≡ with_value names name → Leaves a
     → IsOpening names form (H.Value name x e) → IsElse names form (Some (a, flow)) → Opens names form (B.ValueElse x e a) later
-value_else_opens {names} {form = form} {x = x} {e = e} {a = a} l (opening_value o f g n) (one_else {o = other} h b) =
-    subst (Opens names form (B.ValueElse x e a)) (sym l) (opens_value_else (f ∙ ap (T.Act _) (same_else _ _ o (Some other) (sym f ∙ h))) g n b)
+value_else_opens {names} {form = form} {x = x} {e = e} {a = a} l leaves (opening_value o f g new room n has) (one_else {o = other} h b) =
+    subst (Opens names form (B.ValueElse x e a)) (sym l) (opens_value_else (f ∙ ap (T.Act _) (same_else _ _ o (Some other) (sym f ∙ h))) g new room n has b leaves)
 
 pub nodes_opens : {names later : Names} {form : StatementForm} {l : Locking} {a : Statement} (other : Option (Statement × Flow)) → later ≡ with_locking names l
-    → a ≡ other_of other → IsOpening names form (H.Nodes l) → IsElse names form other → Opens names form (B.Nodes l.place a) later
-nodes_opens {names} {later} {form} {l} {a} None e g (opening_nodes o {text = w} f k) (no_else h) =
+    → a ≡ other_of other → Leaves a → IsOpening names form (H.Nodes l) → IsElse names form other → Opens names form (B.Nodes l.place a) later
+nodes_opens {names} {later} {form} {l} {a} None e g leaves (opening_nodes o {text = w} f k) (no_else h) =
     subst (Opens names form (B.Nodes l.place a)) (sym (e ∙ k.names_are))
     (subst (λ z. Opens names form (B.Nodes l.place z) (with_place names w)) (sym g) (opens_nodes (f ∙ ap (T.Act _) (same_else _ _ o None (sym f ∙ h))) k.place_is))
-nodes_opens {names} {later} {form} {l} {a} (Some (s, flow)) e g (opening_nodes o {text = w} f k) (one_else {o = other} h b) =
+nodes_opens {names} {later} {form} {l} {a} (Some (s, flow)) e g leaves (opening_nodes o {text = w} f k) (one_else {o = other} h b) =
     subst (Opens names form (B.Nodes l.place a)) (sym (e ∙ k.names_are))
-    (subst (λ z. Opens names form (B.Nodes l.place z) (with_place names w)) (sym g) (opens_nodes_else (f ∙ ap (T.Act _) (same_else _ _ o (Some other) (sym f ∙ h))) k.place_is b))
+    (subst (λ z. Opens names form (B.Nodes l.place z) (with_place names w)) (sym g) (opens_nodes_else (f ∙ ap (T.Act _) (same_else _ _ o (Some other) (sym f ∙ h))) k.place_is b (subst Leaves g leaves)))
 
 -- ---- and with the rest of its block
 
 pub opens_rest : {names inner : Names} {s : TextStatement} {rest : List TextStatement} {b : Binding} {body bound placed : Statement} → Opens names s.form b inner
     → IsBlock inner rest body → Binds b body bound → IsAtOffset s.offset bound placed → AreStatements names (s ∷ rest) (placed ∷ [])
-opens_rest {s = s} {body = body} {placed = placed} (opens_value {e = e} f g n) k (binds_value {p = p}) a =
-    let_rest f n k (subst (λ z. IsAtOffset s.offset (S.Let' z e p body) placed) g a)
-opens_rest {s = s} {body = body} {placed = placed} (opens_value_else {e = e} {other = other} f g n o) k (binds_value_else {p = p} {q = q}) a =
-    let_else f n o k (subst (λ z. IsAtOffset s.offset (S.LetElse' z e p body q other) placed) g a)
+opens_rest {s = s} {body = body} {placed = placed} (opens_value {e = e} f g new room n has) k (binds_value {p = p}) a =
+    let_rest f new room n has k (subst (λ z. IsAtOffset s.offset (S.Let' z e p body) placed) g a)
+opens_rest {s = s} {body = body} {placed = placed} (opens_value_else {e = e} {other = other} f g new room n has o leaves) k (binds_value_else {p = p} {q = q}) a =
+    let_else f new room n has o leaves k (subst (λ z. IsAtOffset s.offset (S.LetElse' z e p body q other) placed) g a)
 opens_rest (opens_nodes f h) k binds_nodes a = lock_rest f h k a
-opens_rest (opens_nodes_else f h o) k binds_nodes a = lock_else f h o k a
+opens_rest (opens_nodes_else f h o leaves) k binds_nodes a = lock_else f h o leaves k a
 
 -- ---- a loop over children
 

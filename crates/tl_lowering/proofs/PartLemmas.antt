@@ -1,5 +1,5 @@
 -- The part of a block that was read, and statements with blocks: their core forms are those of the text.
-use Rattle.std.proofs.Common.{◌≡◌, ◌∙◌, ℕ, ◌+◌, ◌<◌, List, [], ◌∷◌, ◌++◌, length, take, get_or, reverse, Option, None, Some, refl, sym, ap, subst, append-nil, append_assoc}
+use Rattle.std.proofs.Common.{◌≡◌, ◌∙◌, ℕ, ◌+◌, ◌<◌, ◌≤◌, List, [], ◌∷◌, ◌++◌, length, take, get_or, reverse, Option, None, Some, refl, sym, ap, subst, append-nil, append_assoc}
 use Rattle.std.specs.Prelude.{option_map}
 use Rattle.std.specs.Borrow.{Bor}
 use Rattle.std.specs.declared.vec.Vec.{Vec}
@@ -13,10 +13,12 @@ use Rattle.tl_syntax.specs.declared.parsed.Question.{Question}
 use Rattle.tl_syntax.specs.declared.parsed.Statement.{Statement as TextStatement}
 use Rattle.tl_syntax.specs.declared.parsed.StatementForm.{StatementForm}
 use Rattle.tl_syntax.specs.declared.parsed.StatementForm.TheVariants as T
+use Rattle.tl_instr.specs.declared.operand.TheConstants.{VALUE_REGISTERS}
 use Rattle.tl_lowering.specs.declared.lowering.Binding.{Binding}
 use Rattle.tl_lowering.specs.declared.lowering.Draft.{Draft}
 use Rattle.tl_lowering.specs.declared.lowering.Head.{Head}
 use Rattle.tl_lowering.specs.declared.paths.Flow.{Flow}
+use Rattle.tl_lowering.specs.declared.paths.Held.{Held}
 use Rattle.tl_lowering.specs.declared.lowering.Entrance.{Entrance}
 use Rattle.tl_lowering.specs.declared.lowering.Opened.{Opened}
 use Rattle.tl_lowering.specs.declared.loops.Repetition.{Repetition}
@@ -25,10 +27,12 @@ use Rattle.tl_lowering.specs.declared.loops.Repetition.TheVariants as R
 use Rattle.tl_lowering.specs.declared.loops.Visit.{Visit}
 use Rattle.tl_lowering.specs.declared.program.Expression.{Expression}
 use Rattle.tl_lowering.specs.declared.scope.Meaning.TheVariants as M
-use Rattle.tl_lowering.specs.Names.{Names, stands_for, with_node, with_unnamed}
+use Rattle.tl_lowering.specs.Registers.{behind, HasRegisters}
+use Rattle.tl_lowering.specs.Names.{Names, stands_for, IsNew, HasNode, HasLoop, in_loop, with_node, with_unnamed}
 use Rattle.tl_lowering.specs.Naming.{IsNumber, IsCount, IsAction}
-use Rattle.tl_lowering.specs.Reading.{IsVisiting, IsAtOffset, IsBlock, block, AreStatements, no_more, next, IsStatement, act_else, try, if, if_lock, repeat, repeat_up_to, for_each}
-use Rattle.tl_lowering.specs.Drafts.{IsOpening, opening_value, opening_nodes, IsElse, IsElseOf, Opens, Ends, none_open, last_open, Becomes, IsFinished, IsExtended, IsHandled}
+use Rattle.tl_lowering.specs.Reading.{Leaves, IsVisiting, IsAtOffset, IsBlock, block, AreStatements, no_more, next, IsStatement, act_else, try, if, if_lock, repeat, repeat_up_to, for_each}
+use Rattle.tl_lowering.specs.Paths.{known}
+use Rattle.tl_lowering.specs.Drafts.{MayFollow, IsOpening, opening_value, opening_nodes, IsElse, IsElseOf, Opens, Ends, none_open, last_open, Becomes, IsFinished, IsExtended, IsHandled}
 use Rattle.tl_lowering.specs.Choosing.{IsEntered, enters_condition, enters_lock, names_behind, IsChosen, chosen_if, chosen_lock, IsRepeated, repeated_times, repeated_up_to, IsVisited, visited, names_within, IsLoop, IsTurning, turning_times, turning_up_to, turning_children}
 use Rattle.tl_lowering.proofs.OpeningLemmas.{opens_rest}
 
@@ -37,37 +41,37 @@ use Rattle.tl_lowering.proofs.OpeningLemmas.{opens_rest}
 -- with whatever follows, what was read becomes what the block becomes
 abbrev pub IsPart : Names → List TextStatement → Draft → Names → Type 0
 IsPart names before draft now =
-    (rest : List TextStatement) (items all : List Statement) → AreStatements now rest items → Becomes draft items all → AreStatements names (before ++ rest) all
+    (rest : List TextStatement) (items all : List Statement) → MayFollow draft.flow rest → AreStatements now rest items → Becomes draft items all → AreStatements names (before ++ rest) all
 
 ends_none : {items all : List Statement} → Ends [] items all → items ≡ all
 ends_none none_open = refl
 
 pub none_part : (names : Names) (draft : Draft) → draft.opened.items ≡ [] → draft.statements.items ≡ [] → IsPart names [] draft names
-none_part names draft o s rest items all are becomes =
+none_part names draft o s rest items all may are becomes =
     let here : Ends [] (draft.statements.items ++ items) all = subst (λ z. Ends (reverse z) (draft.statements.items ++ items) all) o becomes in
     subst (AreStatements names rest) (ends_none (subst (λ z. Ends [] (z ++ items) all) s here)) are
 
-pub more_part : {names old later : Names} {draft : Draft} (new : Draft) (xs : List TextStatement) (i : ℕ) (s : TextStatement) → i < length xs → s ≡ get_or xs i s
-    → IsPart names (take i xs) draft old
-    → ((rest : List TextStatement) (items all : List Statement) → AreStatements later rest items → Becomes new items all → IsExtended old s rest draft all)
+pub more_part : {names old later : Names} {draft : Draft} (new : Draft) (flow : Flow) (here : Held) (xs : List TextStatement) (i : ℕ) (s : TextStatement) → i < length xs → s ≡ get_or xs i s
+    → draft.flow.after ≡ Some here → known new.flow.after ≡ known flow.after → IsPart names (take i xs) draft old
+    → ((rest : List TextStatement) (items all : List Statement) → MayFollow flow rest → AreStatements later rest items → Becomes new items all → IsExtended old s rest draft all)
     → IsPart names (take (i + 1) xs) new later
-more_part {names} new xs i s lt f part step rest items all are becomes =
-    let e = step rest items all are becomes in
+more_part {names} new flow here xs i s lt f goes same part step rest items all may are becomes =
+    let e = step rest items all (λ none. may (same ∙ none)) are becomes in
     let h : take (i + 1) xs ≡ take i xs ++ s ∷ [] = take_more xs i s lt ∙ ap (λ z. take i xs ++ z ∷ []) (sym f) in
-    subst (λ z. AreStatements names z all) (sym (ap (λ z. z ++ rest) h ∙ append_assoc (take i xs) (s ∷ []) rest)) (part (s ∷ rest) e.items all e.are e.becomes)
+    subst (λ z. AreStatements names z all) (sym (ap (λ z. z ++ rest) h ∙ append_assoc (take i xs) (s ∷ []) rest)) (part (s ∷ rest) e.items all (λ none. let w = sym (ap known goes) ∙ none in cc) e.are e.becomes)
 
 pub whole_part : {names now : Names} {before : List TextStatement} {draft : Draft} {whole : Statement} → IsPart names before draft now → IsFinished draft whole → IsBlock names before whole
 whole_part {names} {before = before} part f =
-    block (subst (λ z. AreStatements names z f.parts) (append-nil before) (part [] [] f.parts no_more f.becomes)) f.joined
+    block (subst (λ z. AreStatements names z f.parts) (append-nil before) (part [] [] f.parts (λ none. refl) no_more f.becomes)) f.joined
 
 -- ---- one statement more
 
-pub plain_extended : {names later : Names} (s : TextStatement) (draft new : Draft) {a b : Statement} → later ≡ names → IsStatement names s.form a → IsAtOffset s.offset a b
+pub plain_extended : {names later : Names} (s : TextStatement) (draft new : Draft) {a b : Statement} (flow : Flow) → (Leaves a → known flow.after ≡ None) → later ≡ names → IsStatement names s.form a → IsAtOffset s.offset a b
     → new.opened.items ≡ draft.opened.items → new.statements.items ≡ draft.statements.items ++ b ∷ []
-    → (rest : List TextStatement) (items all : List Statement) → AreStatements later rest items → Becomes new items all → IsExtended names s rest draft all
-plain_extended s draft new {b = b} l st placed os ss rest items all are becomes = record {
+    → (rest : List TextStatement) (items all : List Statement) → MayFollow flow rest → AreStatements later rest items → Becomes new items all → IsExtended names s rest draft all
+plain_extended s draft new {b = b} flow ends l st placed os ss rest items all may are becomes = record {
   items = b ∷ items;
-  are = next st placed (subst (λ n. AreStatements n rest items) l are);
+  are = next st placed (subst (λ n. AreStatements n rest items) l are) (λ leaves. may (ends leaves));
   becomes =
       subst (λ z. Ends (reverse draft.opened.items) z all) (ap (λ z. z ++ items) ss ∙ append_assoc draft.statements.items (b ∷ []) items)
       (subst (λ z. Ends (reverse z) (new.statements.items ++ items) all) os becomes);
@@ -81,10 +85,10 @@ ends_last s draft rest items all op f earlier are (last_open {bound = bound} {pl
   becomes = subst (λ z. Ends (reverse draft.opened.items) (z ++ placed ∷ []) all) earlier e;
 }
 
-pub opened_extended : {names inner : Names} (s : TextStatement) (draft new : Draft) (o : Opened) → Opens names s.form o.binding inner → o.offset ≡ s.offset
+pub opened_extended : {names inner : Names} (s : TextStatement) (draft new : Draft) (flow : Flow) (o : Opened) → Opens names s.form o.binding inner → o.offset ≡ s.offset
     → o.earlier.items ≡ draft.statements.items → new.opened.items ≡ draft.opened.items ++ o ∷ [] → new.statements.items ≡ []
-    → (rest : List TextStatement) (items all : List Statement) → AreStatements inner rest items → Becomes new items all → IsExtended names s rest draft all
-opened_extended s draft new o op f earlier os none rest items all are becomes =
+    → (rest : List TextStatement) (items all : List Statement) → MayFollow flow rest → AreStatements inner rest items → Becomes new items all → IsExtended names s rest draft all
+opened_extended s draft new flow o op f earlier os none rest items all may are becomes =
     let last : reverse new.opened.items ≡ o ∷ reverse draft.opened.items = ap reverse os ∙ reverse-append draft.opened.items (o ∷ []) in
     ends_last s draft rest items all op f earlier are
     (subst (λ z. Ends (o ∷ reverse draft.opened.items) (z ++ items) all) none (subst (λ z. Ends z (new.statements.items ++ items) all) last becomes))
@@ -108,29 +112,29 @@ chosen_statement xs ys (enters_condition c) a b chosen_if = if xs ys c a b
 chosen_statement {names} xs ys {a = first} (enters_lock l) a b (chosen_lock {p = p} {q = q}) =
     if_lock xs ys {p = p} {q = q} l.place_is (subst (λ n. IsBlock n xs.items first) l.names_are a) b
 
-loop_times : {names : Names} {count : TextExpression} {w : ℕ} (xs : Vec TextStatement Global) {a whole : Statement} → IsCount names count.form w
-    → IsBlock names xs.items a → IsTurning a (R.Times w) whole → IsStatement names (T.Repeat count None xs) whole
-loop_times xs c b turning_times = repeat xs c b
+loop_times : {names : Names} {count : TextExpression} {w : ℕ} (xs : Vec TextStatement Global) {a whole : Statement} → HasLoop names → IsCount names count.form w
+    → IsBlock (in_loop names) xs.items a → IsTurning a (R.Times w) whole → IsStatement names (T.Repeat count None xs) whole
+loop_times xs l c b turning_times = repeat xs l c b
 
-loop_up_to : {names : Names} {count most : TextExpression} {e : Expression} {w : ℕ} (xs : Vec TextStatement Global) {a whole : Statement} → IsNumber names count.form e
-    → IsCount names most.form w → IsBlock names xs.items a → IsTurning a (R.UpTo e w) whole → IsStatement names (T.Repeat count (Some most) xs) whole
-loop_up_to xs n c b turning_up_to = repeat_up_to xs n c b
+loop_up_to : {names : Names} {count most : TextExpression} {e : Expression} {w : ℕ} (xs : Vec TextStatement Global) {a whole : Statement} → HasLoop names → IsNumber names count.form e
+    → HasRegisters e names.values → behind e names.values + 1 ≤ VALUE_REGISTERS → IsCount names most.form w → IsBlock (in_loop names) xs.items a → IsTurning a (R.UpTo e w) whole → IsStatement names (T.Repeat count (Some most) xs) whole
+loop_up_to xs l n has more c b turning_up_to = repeat_up_to xs l n has more c b
 
-loop_children : {names : Names} {child parent : Name} {most : TextExpression} (xs : Vec TextStatement Global) {v : Visit} {a whole : Statement} → v.name ≡ child → v.child ≡ names.nodes
+loop_children : {names : Names} {child parent : Name} {most : TextExpression} (xs : Vec TextStatement Global) {v : Visit} {a whole : Statement} → HasLoop names → IsNew names child → HasNode names → names.values + 2 ≤ VALUE_REGISTERS → v.name ≡ child → v.child ≡ names.nodes
     → v.index ≡ names.values → stands_for names parent ≡ M.Node v.parent → IsCount names most.form v.turns → IsBlock (names_within names (R.Children v)) xs.items a
     → IsTurning a (R.Children v) whole → IsStatement names (T.ForEach child parent most xs) whole
-loop_children {names} {child} {parent} {most} xs {v} {a} {whole} n c i p t b (turning_children w) =
-    for_each xs p t (subst (λ z. IsBlock (with_node (with_unnamed names) z) xs.items a) n b)
+loop_children {names} {child} {parent} {most} xs {v} {a} {whole} l new room has n c i p t b (turning_children w) =
+    for_each xs l new room has p t (subst (λ z. IsBlock (with_node (with_unnamed (in_loop names)) z) xs.items a) n b)
     (subst (λ z. IsVisiting z names.nodes v.parent v.turns a whole) i (subst (λ z. IsVisiting v.index z v.parent v.turns a whole) c w))
 
 pub repeated_statement : {names : Names} (count : TextExpression) (most : Option TextExpression) {r : Repetition} (xs : Vec TextStatement Global) {whole : Statement}
     → IsRepeated names count.form (option_map (λ (e : TextExpression). e.form) most) r → IsLoop names r xs.items whole → IsStatement names (T.Repeat count most xs) whole
-repeated_statement count None xs (repeated_times c) l = loop_times xs c l.body_is l.whole_is
-repeated_statement count (Some most) xs (repeated_up_to n c) l = loop_up_to xs n c l.body_is l.whole_is
+repeated_statement count None xs (repeated_times d c) l = loop_times xs d c l.body_is l.whole_is
+repeated_statement count (Some most) xs (repeated_up_to d n has more c) l = loop_up_to xs d n has more c l.body_is l.whole_is
 
 pub visited_statement : {names : Names} {child parent : Name} {most : TextExpression} (xs : Vec TextStatement Global) {r : Repetition} {whole : Statement}
     → IsVisited names child parent most.form r → IsLoop names r xs.items whole → IsStatement names (T.ForEach child parent most xs) whole
-visited_statement xs (visited n c i p t) l = loop_children xs n c i p t l.body_is l.whole_is
+visited_statement xs (visited d new room has n c i p t) l = loop_children xs d new room has n c i p t l.body_is l.whole_is
 
 pub forms_of : (r : Option (Bor TextExpression)) (m : Option TextExpression) → option_map (λ (e : Bor TextExpression). e.now) r ≡ m
     → option_map (λ (e : Bor TextExpression). e.now.form) r ≡ option_map (λ (e : TextExpression). e.form) m
@@ -140,7 +144,7 @@ forms_of (Some e) m h = ap (option_map (λ (x : TextExpression). x.form)) h
 -- ---- a declaration with its `else`
 
 else_for : {names : Names} {form : StatementForm} {head : Head} {other : Option (Statement × Flow)} → IsOpening names form head → IsElseOf names form other → IsElse names form other
-else_for (opening_value o f g n) e = e _ o f
+else_for (opening_value o f g new room n has) e = e _ o f
 else_for (opening_nodes o f l) e = e _ o f
 
 pub opens_at : {names here inner : Names} {form : StatementForm} {head : Head} {other : Option (Statement × Flow)} {b : Binding} → here ≡ names → IsOpening names form head

@@ -135,6 +135,10 @@ pub ok_more : {T F : Type 0} (r : Result T F) (P Q : T → Type 0) → IfOk r P 
 ok_more (Ok x) P Q h more = more x h
 ok_more (Err e) P Q h more = tt
 
+pub both_ok : {T F : Type 0} (r : Result T F) (P Q R : T → Type 0) → IfOk r P → IfOk r Q → ((x : T) → P x → Q x → R x) → IfOk r R
+both_ok (Ok x) P Q R p q more = more x p q
+both_ok (Err e) P Q R p q more = tt
+
 -- ---- a list of statements, halved
 
 pub few : (count n m : ℕ) (o : Option Statement) (xs ys : List Statement) (s : Statement) → 0 < count → count < 2 → count ≤ n

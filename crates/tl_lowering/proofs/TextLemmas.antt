@@ -9,7 +9,7 @@ use Rattle.tl_syntax.specs.declared.parsed.Declaration.TheVariants as D
 use Rattle.tl_syntax.specs.declared.parsed.Procedure.{Procedure as TextProcedure}
 use Rattle.tl_syntax.specs.Tokens.{spellings}
 use Rattle.tl_lowering.specs.declared.program.Procedure.{Procedure}
-use Rattle.tl_lowering.specs.Names.{Names, with_constant, with_value, with_values}
+use Rattle.tl_lowering.specs.Names.{Names, IsNew, AreNew, with_constant, with_value, with_values}
 use Rattle.tl_lowering.specs.Reading.{IsWithField, IsProcedure, AreDeclared, none_declared, next_field, next_constant, next_procedure}
 
 -- ---- arguments
@@ -22,6 +22,16 @@ pub argument_more : (names : Names) {old new : Names} (xs : List Name) (i : ℕ)
     → new ≡ with_value old (get_or xs i d) → new ≡ with_values names (take (i + 1) xs)
 argument_more names xs i d lt e g =
     g ∙ ap (λ n. with_value n (get_or xs i d)) e ∙ sym (with_values_append names (take i xs) (get_or xs i d ∷ [])) ∙ ap (with_values names) (sym (take_more xs i d lt))
+
+-- names that are free one after another
+pub more_new : (names : Names) {old : Names} (xs : List Name) (i : ℕ) (d : Name) → i < length xs → old ≡ with_values names (take i xs) → IsNew old (get_or xs i d) → AreNew names (take i xs)
+    → AreNew names (take (i + 1) xs)
+more_new names xs i d lt e fresh so_far =
+    subst (AreNew names) (sym (take_more xs i d lt)) (append names (take i xs) (get_or xs i d) (subst (λ n. IsNew n (get_or xs i d)) e fresh) so_far)
+  where
+    append : (names : Names) (xs : List Name) (x : Name) → IsNew (with_values names xs) x → AreNew names xs → AreNew names (xs ++ x ∷ [])
+    append names [] x f h = (f, tt)
+    append names (y ∷ xs) x f h = (h.0, append (with_value names y) xs x f h.1)
 
 pub count_values : (names : Names) (xs : List Name) → (with_values names xs).values ≡ names.values + length xs
 count_values names [] = omega arith
@@ -49,10 +59,10 @@ module _ {spellings : List (List ℕ)} {names old : Names} (new : Names) (ps : L
   field_more e g rest more h =
       one_more xs i x rest (ps ++ more) lt f (part (x ∷ rest) more (subst (λ d. AreDeclared spellings old (d ∷ rest) more) (sym e) (next_field g h)))
 
-  pub constant_more : {name : Name} {number : ℤ} → x ≡ D.Constant name number → new ≡ with_constant old name number → AreSoFar spellings names (take (i + 1) xs) ps new
-  constant_more e g rest more h =
+  pub constant_more : {name : Name} {number : ℤ} → x ≡ D.Constant name number → IsNew old name → new ≡ with_constant old name number → AreSoFar spellings names (take (i + 1) xs) ps new
+  constant_more e fresh g rest more h =
       one_more xs i x rest (ps ++ more) lt f
-      (part (x ∷ rest) more (subst (λ d. AreDeclared spellings old (d ∷ rest) more) (sym e) (next_constant (subst (λ n. AreDeclared spellings n rest more) g h))))
+      (part (x ∷ rest) more (subst (λ d. AreDeclared spellings old (d ∷ rest) more) (sym e) (next_constant fresh (subst (λ n. AreDeclared spellings n rest more) g h))))
 
   pub procedure_more : {text : TextProcedure} {p : Procedure} (qs : List Procedure) → x ≡ D.Procedure text → IsProcedure spellings old text p → new ≡ old → qs ≡ ps ++ p ∷ []
       → AreSoFar spellings names (take (i + 1) xs) qs new

@@ -1,5 +1,6 @@
 -- What an `if` tests, and what a loop repeats.
-use Rattle.std.specs.Prelude.{◌≡◌, ℕ, List, Option, None, Some}
+use Rattle.std.specs.Prelude.{◌≡◌, ◌≤◌, ◌+◌, ℕ, List, Option, None, Some}
+use Rattle.tl_instr.specs.declared.operand.TheConstants.{VALUE_REGISTERS}
 use Rattle.tl_syntax.specs.declared.parsed.Name.{Name}
 use Rattle.tl_syntax.specs.declared.parsed.Form.{Form}
 use Rattle.tl_syntax.specs.declared.parsed.Expression.{Expression as TextExpression}
@@ -18,7 +19,8 @@ use Rattle.tl_lowering.specs.declared.program.Expression.{Expression}
 use Rattle.tl_lowering.specs.declared.program.Statement.{Statement}
 use Rattle.tl_lowering.specs.declared.program.Statement.TheVariants as S
 use Rattle.tl_lowering.specs.declared.scope.Meaning.TheVariants as M
-use Rattle.tl_lowering.specs.Names.{Names, stands_for, with_unnamed, with_node}
+use Rattle.tl_lowering.specs.Registers.{behind, HasRegisters}
+use Rattle.tl_lowering.specs.Names.{Names, stands_for, IsNew, HasNode, HasLoop, in_loop, with_unnamed, with_node}
 use Rattle.tl_lowering.specs.Naming.{IsNumber, IsCount, IsCondition, Locks, with_locking}
 use Rattle.tl_lowering.specs.Reading.{IsVisiting, IsBlock}
 
@@ -43,20 +45,21 @@ pub data IsChosen (first second : Statement) : Entrance → Statement → Type 0
 
 -- how often a `repeat` turns
 pub data IsRepeated (names : Names) (count : Form) : Option Form → Repetition → Type 0 where
-  repeated_times : {w : ℕ} → IsCount names count w → IsRepeated names count None (R.Times w)
-  repeated_up_to : {most : Form} {e : Expression} {w : ℕ} → IsNumber names count e → IsCount names most w →
+  repeated_times : {w : ℕ} → HasLoop names → IsCount names count w → IsRepeated names count None (R.Times w)
+  repeated_up_to : {most : Form} {e : Expression} {w : ℕ} → HasLoop names → IsNumber names count e →
+      HasRegisters e names.values → behind e names.values + 1 ≤ VALUE_REGISTERS → IsCount names most w →
       IsRepeated names count (Some most) (R.UpTo e w)
 
 -- the loop over the children of a node takes the next registers for a child and for its index
 pub data IsVisited (names : Names) (child parent : Name) (most : Form) : Repetition → Type 0 where
-  visited : {v : Visit} → v.name ≡ child → v.child ≡ names.nodes → v.index ≡ names.values → stands_for names parent ≡ M.Node v.parent →
-      IsCount names most v.turns → IsVisited names child parent most (R.Children v)
+  visited : {v : Visit} → HasLoop names → IsNew names child → HasNode names → names.values + 2 ≤ VALUE_REGISTERS → v.name ≡ child → v.child ≡ names.nodes →
+      v.index ≡ names.values → stands_for names parent ≡ M.Node v.parent → IsCount names most v.turns → IsVisited names child parent most (R.Children v)
 
 -- what names stand for in the body
 abbrev pub names_within : Names → Repetition → Names
-names_within names (R.Times w) = names
-names_within names (R.UpTo e w) = names
-names_within names (R.Children v) = with_node (with_unnamed names) v.name
+names_within names (R.Times w) = in_loop names
+names_within names (R.UpTo e w) = in_loop names
+names_within names (R.Children v) = with_node (with_unnamed (in_loop names)) v.name
 
 -- the loop with its body
 pub data IsTurning (body : Statement) : Repetition → Statement → Type 0 where

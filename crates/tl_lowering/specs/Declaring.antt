@@ -1,5 +1,6 @@
 -- What a `let` or a `lock` is about to declare.
-use Rattle.std.specs.Prelude.{◌≡◌, ◌≢◌, ℕ, ◌+◌, IfSome, is_some, if◌then◌else◌}
+use Rattle.std.specs.Prelude.{◌≡◌, ◌≢◌, ℕ, ◌+◌, ◌<◌, IfSome, is_some, if◌then◌else◌}
+use Rattle.tl_instr.specs.declared.operand.TheConstants.{VALUE_REGISTERS}
 use Rattle.tl_lowering.specs.declared.naming.Locking.{Locking}
 use Rattle.tl_lowering.specs.declared.paths.Held.{Held}
 use Rattle.tl_lowering.specs.declared.program.Expression.{Expression}
@@ -7,6 +8,7 @@ use Rattle.tl_lowering.specs.declared.scope.Meaning.TheVariants as M
 use Rattle.tl_lowering.specs.Blocks.{IsNext, nodes_more}
 use Rattle.tl_lowering.specs.Outcomes.{locked}
 use Rattle.tl_lowering.specs.Paths.{nodes_of}
+use Rattle.tl_lowering.specs.Registers.{HasTemporaries}
 use Rattle.tl_lowering.specs.Scopes.{View, meaning_of}
 use Rattle.tl_lowering.specs.Sound.{IsReadable, IsLockable}
 use Rattle.tl_syntax.specs.declared.parsed.Name.{Name}
@@ -15,6 +17,8 @@ use Rattle.tl_syntax.specs.declared.parsed.Name.{Name}
 pub record IsNewValue (scope : View) (held : Held) (name : Name) (register : ℕ) (number : Expression) : Type 0 where
   pub is_new : meaning_of scope name.symbol ≡ M.Nothing
   pub next : register ≡ scope.values
+  pub room : scope.values < VALUE_REGISTERS
+  pub temporaries : HasTemporaries number scope.values
   pub readable : IsReadable scope.values (nodes_of held) number
 
 -- the names of one node or of two stand for nothing yet and differ, and their registers are the next ones

@@ -21,9 +21,11 @@ use Rattle.tl_lowering.specs.declared.program.Expression.{Expression}
 use Rattle.tl_lowering.specs.declared.program.Place.{Place}
 use Rattle.tl_lowering.specs.declared.program.Statement.{Statement}
 use Rattle.tl_lowering.specs.declared.program.Statement.TheVariants as S
-use Rattle.tl_lowering.specs.Names.{Names, with_value, with_place}
-use Rattle.tl_lowering.specs.Naming.{IsNumber, IsPlace, Locks, Joins, declares}
-use Rattle.tl_lowering.specs.Reading.{IsAtOffset, IsTried, IsBlock, AreStatements}
+use Rattle.tl_lowering.specs.Registers.{HasTemporaries}
+use Rattle.tl_lowering.specs.Names.{Names, IsNew, HasValue, with_value, with_place}
+use Rattle.tl_lowering.specs.Naming.{IsNumber, IsPlace, Locks, IsHalved, declares}
+use Rattle.tl_lowering.specs.Paths.{known}
+use Rattle.tl_lowering.specs.Reading.{Leaves, IsAtOffset, IsTried, IsBlock, AreStatements}
 
 -- ---- a declaration
 
@@ -35,7 +37,7 @@ opens form = false
 -- what a `let` or a `lock` is about to declare
 pub data IsOpening (names : Names) (form : StatementForm) : Head → Type 0 where
   opening_value : (other : Option Otherwise) {name : Name} {number : TextExpression} {x : ℕ} {e : Expression} →
-      form ≡ T.Act (A.Let name number) other → x ≡ names.values → IsNumber names number.form e →
+      form ≡ T.Act (A.Let name number) other → x ≡ names.values → IsNew names name → HasValue names → IsNumber names number.form e → HasTemporaries e names.values →
       IsOpening names form (H.Value name x e)
   opening_nodes : (other : Option Otherwise) {text : TextPlace} {locking : Locking} → form ≡ T.Act (A.Lock text) other →
       Locks names text locking → IsOpening names form (H.Nodes locking)
@@ -62,14 +64,14 @@ other_of (Some other) = other.0
 -- a declaration with its `else`, and what names stand for behind it
 pub data Opens (names : Names) (form : StatementForm) : Binding → Names → Type 0 where
   opens_value : {name : Name} {number : TextExpression} {x : ℕ} {e : Expression} → form ≡ T.Act (A.Let name number) None →
-      x ≡ names.values → IsNumber names number.form e → Opens names form (B.Value x e) (with_value names name)
+      x ≡ names.values → IsNew names name → HasValue names → IsNumber names number.form e → HasTemporaries e names.values → Opens names form (B.Value x e) (with_value names name)
   opens_value_else : {name : Name} {number : TextExpression} {o : Otherwise} {x : ℕ} {e : Expression} {other : Statement} →
-      form ≡ T.Act (A.Let name number) (Some o) → x ≡ names.values → IsNumber names number.form e →
-      IsBlock names (out-Otherwise o).body.items other → Opens names form (B.ValueElse x e other) (with_value names name)
+      form ≡ T.Act (A.Let name number) (Some o) → x ≡ names.values → IsNew names name → HasValue names → IsNumber names number.form e → HasTemporaries e names.values →
+      IsBlock names (out-Otherwise o).body.items other → Leaves other → Opens names form (B.ValueElse x e other) (with_value names name)
   opens_nodes : {text : TextPlace} {place : Place} → form ≡ T.Act (A.Lock text) None → IsPlace names text place →
       Opens names form (B.Nodes place S.Fail) (with_place names text)
   opens_nodes_else : {text : TextPlace} {o : Otherwise} {place : Place} {other : Statement} → form ≡ T.Act (A.Lock text) (Some o) →
-      IsPlace names text place → IsBlock names (out-Otherwise o).body.items other →
+      IsPlace names text place → IsBlock names (out-Otherwise o).body.items other → Leaves other →
       Opens names form (B.Nodes place other) (with_place names text)
 
 -- the declaration with the rest of its block
@@ -85,14 +87,14 @@ pub record Encloses (o : Opened) (rest whole : Statement) : Type 0 where
   pub placed : Statement
   pub bound_is : Binds o.binding rest bound
   pub placed_is : IsAtOffset o.offset bound placed
-  pub joined : Joins whole (o.earlier.items ++ placed ∷ [])
+  pub joined : IsHalved whole (o.earlier.items ++ placed ∷ [])
 
 -- ---- a block
 
 -- what a block becomes whose declarations are open, the last one first
 pub data Ends : List Opened → List Statement → List Statement → Type 0 where
   none_open : {items : List Statement} → Ends [] items items
-  last_open : {o : Opened} {outer : List Opened} {items all : List Statement} {rest bound placed : Statement} → Joins rest items →
+  last_open : {o : Opened} {outer : List Opened} {items all : List Statement} {rest bound placed : Statement} → IsHalved rest items →
       Binds o.binding rest bound → IsAtOffset o.offset bound placed → Ends outer (o.earlier.items ++ placed ∷ []) all →
       Ends (o ∷ outer) items all
 
@@ -104,7 +106,11 @@ Becomes draft items all = Ends (reverse draft.opened.items) (draft.statements.it
 pub record IsFinished (draft : Draft) (whole : Statement) : Type 0 where
   pub parts : List Statement
   pub becomes : Becomes draft [] parts
-  pub joined : Joins whole parts
+  pub joined : IsHalved whole parts
+
+-- where control doesn't go on nothing follows
+abbrev pub MayFollow : Flow → List TextStatement → Type 0
+MayFollow flow rest = known flow.after ≡ None → rest ≡ []
 
 -- before what follows stands this statement, and what the block becomes is the same
 pub record IsExtended (names : Names) (s : TextStatement) (rest : List TextStatement) (draft : Draft) (all : List Statement) : Type 0 where

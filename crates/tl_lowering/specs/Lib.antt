@@ -2,12 +2,15 @@ pub mod Blocks
 pub mod Choosing
 pub mod Declaring
 pub mod Drafts
+pub mod Entering
+pub mod Fit
 pub mod Lowering
 pub mod Names
 pub mod Naming
 pub mod Outcomes
 pub mod Paths
 pub mod Reading
+pub mod Registers
 pub mod Repeating
 pub mod Scopes
 pub mod Sets

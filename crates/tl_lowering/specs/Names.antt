@@ -1,6 +1,8 @@
 -- What the names of a text stand for at a place.
-use Rattle.std.specs.Prelude.{ℕ, ◌+◌, List, [], ◌∷◌, Option, Some, None, slice_set, get_or, replicate, ℤ}
+use Rattle.std.specs.Prelude.{◌≡◌, ℕ, ◌+◌, ◌<◌, List, [], ◌∷◌, Option, Some, None, slice_set, get_or, replicate, ℤ}
+use Rattle.tl_budget.specs.declared.limits.TheConstants.{MAX_DEPTH}
 use Rattle.tl_instr.specs.declared.operand.Field.{Field}
+use Rattle.tl_instr.specs.declared.operand.TheConstants.{VALUE_REGISTERS, NODE_REGISTERS}
 use Rattle.tl_lowering.specs.declared.scope.Meaning.{Meaning}
 use Rattle.tl_lowering.specs.declared.scope.Meaning.TheVariants as M
 use Rattle.tl_lowering.specs.declared.scope.Scope.{Scope}
@@ -9,25 +11,41 @@ use Rattle.tl_syntax.specs.declared.parsed.Name.{Name}
 use Rattle.tl_syntax.specs.declared.parsed.Place.{Place}
 use Rattle.tl_syntax.specs.declared.parsed.Place.TheVariants as P
 
--- at the index of a symbol stand its meaning and its field; so many values and nodes have registers
+-- at the index of a symbol stand its meaning and its field; so many values and nodes have registers, and so many loops are around
 pub record Names : Type 0 where
   pub meanings : List Meaning
   pub fields : List (Option Field)
   pub values : ℕ
   pub nodes : ℕ
+  pub loops : ℕ
 
 abbrev pub names_in : View → Names
-names_in scope = record { meanings = scope.meanings; fields = scope.fields; values = scope.values; nodes = scope.nodes }
+names_in scope = record { meanings = scope.meanings; fields = scope.fields; values = scope.values; nodes = scope.nodes; loops = scope.loops }
 
 abbrev pub names_of : Scope → Names
 names_of scope = names_in (view_of scope)
 
 -- so many names, which stand for nothing
 abbrev pub without_meaning : ℕ → Names
-without_meaning count = record { meanings = replicate count M.Nothing; fields = replicate count None; values = 0; nodes = 0 }
+without_meaning count = record { meanings = replicate count M.Nothing; fields = replicate count None; values = 0; nodes = 0; loops = 0 }
 
 abbrev pub stands_for : Names → Name → Meaning
 stands_for names name = get_or names.meanings name.symbol.0 M.Nothing
+
+-- the name is free
+abbrev pub IsNew : Names → Name → Type 0
+IsNew names name = stands_for names name ≡ M.Nothing
+
+-- there is a register for one node more, or for one value more
+abbrev pub HasNode : Names → Type 0
+HasNode names = names.nodes < NODE_REGISTERS
+
+abbrev pub HasValue : Names → Type 0
+HasValue names = names.values < VALUE_REGISTERS
+
+-- one loop more may stand here
+abbrev pub HasLoop : Names → Type 0
+HasLoop names = names.loops < MAX_DEPTH
 
 abbrev pub field_named : Names → Name → Option Field
 field_named names name = get_or names.fields name.symbol.0 None
@@ -53,6 +71,15 @@ with_value names name = record (meaning names name (M.Value names.values)) { val
 abbrev pub with_values : Names → List Name → Names
 with_values names [] = names
 with_values names (name ∷ others) = with_values (with_value names name) others
+
+-- in the body of a loop
+abbrev pub in_loop : Names → Names
+in_loop names = record names { loops = names.loops + 1 }
+
+-- each name is free where those before it are declared
+abbrev pub AreNew : Names → List Name → Type 0
+AreNew names [] = Unit {0}
+AreNew names (name ∷ others) = IsNew names name × AreNew (with_value names name) others
 
 -- the name owns a node in the next register
 abbrev pub with_node : Names → Name → Names

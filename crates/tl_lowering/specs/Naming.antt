@@ -1,5 +1,5 @@
 -- Numbers, conditions, places and actions of a text, and their core forms, where names stand for registers and fields.
-use Rattle.std.specs.Prelude.{◌≡◌, ℕ, ◌+◌, List, [], ◌∷◌, ◌++◌, Bool, true, false, Option, None, Some, ℤ, pos}
+use Rattle.std.specs.Prelude.{◌≡◌, ◌<◌, ◌≤◌, ℕ, ◌+◌, ◌/◌, List, [], ◌∷◌, ◌++◌, length, take, drop, Bool, true, false, Option, None, Some, ℤ, pos}
 use Rattle.std.specs.declared.vec.Vec.{Vec}
 use Rattle.std.specs.declared.boxed.Box.{Box}
 use Rattle.std.specs.declared.alloc.Global.{Global}
@@ -30,7 +30,8 @@ use Rattle.tl_lowering.specs.declared.program.Place.TheVariants as P
 use Rattle.tl_lowering.specs.declared.program.Statement.{Statement}
 use Rattle.tl_lowering.specs.declared.program.Statement.TheVariants as S
 use Rattle.tl_lowering.specs.declared.scope.Meaning.TheVariants as M
-use Rattle.tl_lowering.specs.Names.{Names, stands_for, field_named, with_node, with_place}
+use Rattle.tl_lowering.specs.Registers.{behind, HasTemporaries, HasRegisters}
+use Rattle.tl_lowering.specs.Names.{Names, stands_for, IsNew, HasNode, field_named, with_node, with_place}
 
 -- ---- numbers
 
@@ -51,10 +52,10 @@ pub data IsNumber (names : Names) : Form → Expression → Type 0 where
   operation : {operator : Operator} {a b : Box TextExpression Global} {c d e : Expression} → IsNumber names a.value.form c →
       IsNumber names b.value.form d → IsCalculated operator c d e → IsNumber names (F.Calculated operator a b) e
 
--- how often a loop may turn
+-- how often a loop may turn: from 1 to 65,535 times
 pub data IsCount (names : Names) : Form → ℕ → Type 0 where
-  count : {w : ℕ} → IsCount names (F.Number (pos w)) w
-  constant_count : {name : Name} {w : ℕ} → stands_for names name ≡ M.Constant (pos w) → IsCount names (F.Named name) w
+  count : {w : ℕ} → 0 < w → w ≤ 65535 → IsCount names (F.Number (pos w)) w
+  constant_count : {name : Name} {w : ℕ} → 0 < w → w ≤ 65535 → stands_for names name ≡ M.Constant (pos w) → IsCount names (F.Named name) w
 
 -- ---- conditions
 
@@ -80,6 +81,8 @@ pub record IsCompared (names : Names) (k : Comparison) (a b : Form) (c : Conditi
   pub right : Expression
   pub left_is : IsNumber names a left
   pub right_is : IsNumber names b right
+  pub left_fits : HasRegisters left names.values
+  pub right_fits : HasRegisters right (behind left names.values)
   pub condition_is : IsComparison k left right c
 
 pub data IsCondition (names : Names) : Form → Condition → Type 0 where
@@ -98,13 +101,14 @@ pub data IsCondition (names : Names) : Form → Condition → Type 0 where
 
 -- what is locked takes the next registers
 pub data IsPlace (names : Names) : TextPlace → Place → Type 0 where
-  node : {name : Name} {offset : ℕ} {a : TextExpression} {e : Expression} → IsNumber names a.form e →
-      IsPlace names (T.Node name offset a) (P.Node names.nodes e)
-  child : {c : Child} {n : ℕ} {e : Expression} → stands_for names c.parent ≡ M.Node n → IsNumber names c.number.form e →
-      IsPlace names (T.Child c) (P.Child names.nodes n e)
-  pair : {c d : Child} {n : ℕ} {e f : Expression} → stands_for names c.parent ≡ M.Node n → stands_for names d.parent ≡ M.Node n →
-      IsNumber names c.number.form e → IsNumber names d.number.form f →
-      IsPlace names (T.Pair c d) (P.Pair names.nodes (names.nodes + 1) n e f)
+  node : {name : Name} {offset : ℕ} {a : TextExpression} {e : Expression} → IsNew names name → HasNode names → IsNumber names a.form e →
+      HasRegisters e names.values → IsPlace names (T.Node name offset a) (P.Node names.nodes e)
+  child : {c : Child} {n : ℕ} {e : Expression} → IsNew names c.name → HasNode names → stands_for names c.parent ≡ M.Node n →
+      IsNumber names c.number.form e → HasRegisters e names.values → IsPlace names (T.Child c) (P.Child names.nodes n e)
+  pair : {c d : Child} {n : ℕ} {e f : Expression} → IsNew names c.name → IsNew (with_node names c.name) d.name →
+      HasNode (with_node names c.name) → stands_for names c.parent ≡ M.Node n → stands_for names d.parent ≡ M.Node n →
+      IsNumber names c.number.form e → HasRegisters e names.values → IsNumber names d.number.form f →
+      HasRegisters f (behind e names.values) → IsPlace names (T.Pair c d) (P.Pair names.nodes (names.nodes + 1) n e f)
 
 -- the names of what is about to be locked
 abbrev pub with_second : Names → Option (Name × NodeRegister) → Names
@@ -124,11 +128,12 @@ pub record Locks (names : Names) (text : TextPlace) (locking : Locking) : Type 0
 pub data IsThen (first second : Statement) : Statement → Type 0 where
   then : {p q : _} → IsThen first second (S.Sequence' p first q second)
 
--- one statement that does these one after another
-pub data Joins : Statement → List Statement → Type 0 where
-  none : Joins S.Skip []
-  one : {a : Statement} → Joins a (a ∷ [])
-  more : {a b whole : Statement} {xs ys : List Statement} → Joins a xs → Joins b ys → IsThen a b whole → Joins whole (xs ++ ys)
+-- one statement that does these one after another: first those of the first half, then the others
+pub data IsHalved : Statement → List Statement → Type 0 where
+  none : IsHalved S.Skip []
+  one : {a : Statement} → IsHalved a (a ∷ [])
+  more : {a b whole : Statement} {xs : List Statement} → 2 ≤ length xs → IsHalved a (take (length xs / 2) xs) →
+      IsHalved b (drop (length xs / 2) xs) → IsThen a b whole → IsHalved whole xs
 
 -- ---- actions
 
@@ -142,13 +147,13 @@ IsChanged old H.Subtract operand new = IsCalculated O.Subtract old operand new
 pub data AreEmits (names : Names) : List TextExpression → List Statement → Type 0 where
   no_emits : AreEmits names [] []
   next_emit : {xs : List TextExpression} {emits : List Statement} {e : Expression} (a : TextExpression) → AreEmits names xs emits →
-      IsNumber names a.form e → AreEmits names (xs ++ a ∷ []) (emits ++ S.Emit e ∷ [])
+      IsNumber names a.form e → HasRegisters e names.values → AreEmits names (xs ++ a ∷ []) (emits ++ S.Emit e ∷ [])
 
 -- the numbers one after another
 pub record Emits (names : Names) (xs : List TextExpression) (whole : Statement) : Type 0 where
   pub parts : List Statement
   pub each : AreEmits names xs parts
-  pub joined : Joins whole parts
+  pub joined : IsHalved whole parts
 
 -- whether it declares names for the rest of its block
 abbrev pub declares : Action → Bool
@@ -159,18 +164,20 @@ declares action = false
 -- a statement that declares nothing and has no blocks
 pub data IsAction (names : Names) : Action → Statement → Type 0 where
   assigns : {name : Name} {change : Change} {a : TextExpression} {x : ℕ} {e f : Expression} → stands_for names name ≡ M.Value x →
-      IsNumber names a.form e → IsChanged (E.Value x) change e f → IsAction names (A.Assign name change a) (S.Assign x f)
+      IsNumber names a.form e → IsChanged (E.Value x) change e f → HasTemporaries f names.values →
+      IsAction names (A.Assign name change a) (S.Assign x f)
   writes : {node field : Name} {change : Change} {a : TextExpression} {n k : ℕ} {e f : Expression} → stands_for names node ≡ M.Node n →
-      field_named names field ≡ Some k → IsNumber names a.form e → IsChanged (E.Field n k) change e f →
+      field_named names field ≡ Some k → IsNumber names a.form e → IsChanged (E.Field n k) change e f → HasRegisters f names.values →
       IsAction names (A.Write node field change a) (S.Write n k f)
   emits : {xs : Vec TextExpression Global} {whole : Statement} → Emits names xs.items whole → IsAction names (A.Emit xs) whole
   requires : {p q : _} {a : TextExpression} {c : Condition} → IsCondition names a.form c →
       IsAction names (A.Require a) (S.If' c p S.Skip q S.Fail)
-  descends : {node : Name} {a : TextExpression} {n : ℕ} {e : Expression} → stands_for names node ≡ M.Node n → IsNumber names a.form e →
-      IsAction names (A.Descend node a) (S.Descend n e)
+  -- the child is locked in the next register for a moment
+  descends : {node : Name} {a : TextExpression} {n : ℕ} {e : Expression} → HasNode names → stands_for names node ≡ M.Node n →
+      IsNumber names a.form e → HasRegisters e names.values → IsAction names (A.Descend node a) (S.Descend n e)
   takes : {node from : Name} {n k : ℕ} → stands_for names node ≡ M.Node n → stands_for names from ≡ M.Node k →
       IsAction names (A.Take node from) (S.Take n k)
   frees : {node : Name} {n : ℕ} → stands_for names node ≡ M.Node n → IsAction names (A.Free node) (S.Free n)
-  breaks : IsAction names (A.Leave L.Break) S.Break
+  breaks : 0 < names.loops → IsAction names (A.Leave L.Break) S.Break
   returns : IsAction names (A.Leave L.Return) S.Return
   fails : IsAction names (A.Leave L.Fail) S.Fail

@@ -1,5 +1,5 @@
 -- What is held where the paths through a statement lead: behind it, where it fails, and where it breaks out of a loop.
-use Rattle.std.specs.Prelude.{List, [], ◌∷◌, ◌++◌, Bool, true, false, ◌||◌, Option, Some, None, is_some, option_map, if◌then◌else◌}
+use Rattle.std.specs.Prelude.{ℕ, ◌+◌, max, List, [], ◌∷◌, ◌++◌, Bool, true, false, ◌||◌, Option, Some, None, is_some, option_map, if◌then◌else◌}
 use Rattle.tl_lowering.specs.declared.program.Expression.{Expression}
 use Rattle.tl_lowering.specs.declared.program.Expression.TheVariants as E
 use Rattle.tl_lowering.specs.declared.program.Condition.{Condition}
@@ -26,6 +26,12 @@ abbrev pub locked : Place → Nodes → Nodes
 locked (P.Node n e) held = with_node held n
 locked (P.Child n p e) held = with_node held n
 locked (P.Pair n k p a b) held = with_node (with_node held n) k
+
+-- how many nodes have registers once a place is locked
+abbrev pub nodes_behind : Place → ℕ
+nodes_behind (P.Node n e) = n + 1
+nodes_behind (P.Child n p e) = n + 1
+nodes_behind (P.Pair n k p a b) = max n k + 1
 
 abbrev pub unlocked : Place → Nodes → Nodes
 unlocked (P.Node n e) held = without_node held n

@@ -1,5 +1,5 @@
 -- Blocks, procedures and texts, and their core forms.
-use Rattle.std.specs.Prelude.{◌≡◌, ℕ, List, [], ◌∷◌, Some, None, length, get_or, ℤ, pos, neg_ℤ}
+use Rattle.std.specs.Prelude.{◌≡◌, ◌≤◌, ◌+◌, ℕ, List, [], ◌∷◌, Some, None, length, get_or, ℤ, pos, neg_ℤ}
 use Rattle.std.specs.declared.vec.Vec.{Vec}
 use Rattle.std.specs.declared.alloc.Global.{Global}
 use Rattle.tl_syntax.specs.declared.operator.Operator.TheVariants as O
@@ -18,6 +18,7 @@ use Rattle.tl_syntax.specs.declared.parsed.Declaration.{Declaration}
 use Rattle.tl_syntax.specs.declared.parsed.Declaration.TheVariants as D
 use Rattle.tl_syntax.specs.Text.{IsText}
 use Rattle.tl_instr.specs.declared.operand.Field.{Field}
+use Rattle.tl_instr.specs.declared.operand.TheConstants.{VALUE_REGISTERS}
 use Rattle.tl_lowering.specs.declared.program.Expression.{Expression}
 use Rattle.tl_lowering.specs.declared.program.Expression.TheVariants as E
 use Rattle.tl_lowering.specs.declared.program.Condition.{Condition}
@@ -28,8 +29,11 @@ use Rattle.tl_lowering.specs.declared.program.Statement.{Statement}
 use Rattle.tl_lowering.specs.declared.program.Statement.TheVariants as S
 use Rattle.tl_lowering.specs.declared.program.Procedure.{Procedure}
 use Rattle.tl_lowering.specs.declared.scope.Meaning.TheVariants as M
-use Rattle.tl_lowering.specs.Names.{Names, without_meaning, stands_for, with_constant, with_field, with_unnamed, with_value, with_values, with_node, with_place}
-use Rattle.tl_lowering.specs.Naming.{IsCalculated, IsNumber, IsCount, IsNot, IsCondition, IsPlace, IsAction, IsThen, Joins}
+use Rattle.tl_lowering.specs.Outcomes.{after}
+use Rattle.tl_lowering.specs.Sets.{Nodes}
+use Rattle.tl_lowering.specs.Registers.{behind, HasTemporaries, HasRegisters}
+use Rattle.tl_lowering.specs.Names.{Names, without_meaning, stands_for, IsNew, HasNode, HasValue, HasLoop, in_loop, with_constant, with_field, with_unnamed, with_value, with_values, AreNew, field_named, with_node, with_place}
+use Rattle.tl_lowering.specs.Naming.{IsCalculated, IsNumber, IsCount, IsNot, IsCondition, IsPlace, IsAction, IsThen, IsHalved}
 
 -- a statement that stands in the text at that offset
 pub data IsAtOffset (offset : ℕ) (a : Statement) : Statement → Type 0 where
@@ -38,6 +42,10 @@ pub data IsAtOffset (offset : ℕ) (a : Statement) : Statement → Type 0 where
 -- a statement, and what is done if it fails
 pub data IsTried (body handler : Statement) : Statement → Type 0 where
   tried : {p q : _} → IsTried body handler (S.Try' p body q handler)
+
+-- control never goes on behind the statement
+abbrev pub Leaves : Statement → Type 0
+Leaves s = (held : Nodes) → after s held ≡ None
 
 -- unless there are too many children, they are locked one after another until none is left
 pub data IsVisiting (index child parent turns : ℕ) (body : Statement) : Statement → Type 0 where
@@ -51,21 +59,23 @@ pub data IsVisiting (index child parent turns : ℕ) (body : Statement) : Statem
 mutual
   pub data IsBlock : Names → List TextStatement → Statement → Type 0 where
     block : {names : Names} {statements : List TextStatement} {parts : List Statement} {whole : Statement} →
-        AreStatements names statements parts → Joins whole parts → IsBlock names statements whole
+        AreStatements names statements parts → IsHalved whole parts → IsBlock names statements whole
 
-  -- behind a `let` or a `lock` the rest of its block becomes its body
+  -- behind a `let` or a `lock` the rest of its block becomes its body; its `else` leaves the block
   pub data AreStatements : Names → List TextStatement → List Statement → Type 0 where
     no_more : {names : Names} → AreStatements names [] []
+    -- nothing stands behind a statement that leaves the block
     next : {names : Names} {s : TextStatement} {rest : List TextStatement} {a b : Statement} {parts : List Statement} →
-        IsStatement names s.form a → IsAtOffset s.offset a b → AreStatements names rest parts →
+        IsStatement names s.form a → IsAtOffset s.offset a b → AreStatements names rest parts → (Leaves a → rest ≡ []) →
         AreStatements names (s ∷ rest) (b ∷ parts)
     let_rest : {names : Names} {s : TextStatement} {rest : List TextStatement} {name : Name} {number : TextExpression} {e : Expression}
-        {p : _} {body a : Statement} → s.form ≡ T.Act (A.Let name number) None → IsNumber names number.form e →
-        IsBlock (with_value names name) rest body → IsAtOffset s.offset (S.Let' names.values e p body) a →
+        {p : _} {body a : Statement} → s.form ≡ T.Act (A.Let name number) None → IsNew names name → HasValue names →
+        IsNumber names number.form e → HasTemporaries e names.values → IsBlock (with_value names name) rest body → IsAtOffset s.offset (S.Let' names.values e p body) a →
         AreStatements names (s ∷ rest) (a ∷ [])
     let_else : {names : Names} {s : TextStatement} {rest : List TextStatement} {name : Name} {number : TextExpression} {o : Otherwise}
         {e : Expression} {p q : _} {body other a : Statement} → s.form ≡ T.Act (A.Let name number) (Some o) →
-        IsNumber names number.form e → IsBlock names (out-Otherwise o).body.items other → IsBlock (with_value names name) rest body →
+        IsNew names name → HasValue names → IsNumber names number.form e → HasTemporaries e names.values →
+        IsBlock names (out-Otherwise o).body.items other → Leaves other → IsBlock (with_value names name) rest body →
         IsAtOffset s.offset (S.LetElse' names.values e p body q other) a → AreStatements names (s ∷ rest) (a ∷ [])
     -- a missing `else` fails
     lock_rest : {names : Names} {s : TextStatement} {rest : List TextStatement} {text : TextPlace} {place : Place} {p q : _}
@@ -74,7 +84,7 @@ mutual
         AreStatements names (s ∷ rest) (a ∷ [])
     lock_else : {names : Names} {s : TextStatement} {rest : List TextStatement} {text : TextPlace} {o : Otherwise} {place : Place} {p q : _}
         {body other a : Statement} → s.form ≡ T.Act (A.Lock text) (Some o) → IsPlace names text place →
-        IsBlock names (out-Otherwise o).body.items other → IsBlock (with_place names text) rest body →
+        IsBlock names (out-Otherwise o).body.items other → Leaves other → IsBlock (with_place names text) rest body →
         IsAtOffset s.offset (S.Lock' place p body q other) a → AreStatements names (s ∷ rest) (a ∷ [])
 
   -- a statement that declares nothing for the rest of its block
@@ -91,13 +101,14 @@ mutual
         IsPlace names text place → IsBlock (with_place names text) xs.items a → IsBlock names ys.items b →
         IsStatement names (T.If (Q.Lock text) xs ys) (S.Lock' place p a q b)
     repeat : {names : Names} {count : TextExpression} (xs : Vec TextStatement Global) {turns : ℕ} {p : _} {a : Statement} →
-        IsCount names count.form turns → IsBlock names xs.items a → IsStatement names (T.Repeat count None xs) (S.Repeat' turns p a)
+        HasLoop names → IsCount names count.form turns → IsBlock (in_loop names) xs.items a → IsStatement names (T.Repeat count None xs) (S.Repeat' turns p a)
     repeat_up_to : {names : Names} {number most : TextExpression} (xs : Vec TextStatement Global) {e : Expression} {turns : ℕ} {p : _}
-        {a : Statement} → IsNumber names number.form e → IsCount names most.form turns → IsBlock names xs.items a →
+        {a : Statement} → HasLoop names → IsNumber names number.form e → HasRegisters e names.values →
+        behind e names.values + 1 ≤ VALUE_REGISTERS → IsCount names most.form turns → IsBlock (in_loop names) xs.items a →
         IsStatement names (T.Repeat number (Some most) xs) (S.RepeatUpTo' e turns p a)
     for_each : {names : Names} {child parent : Name} {most : TextExpression} (xs : Vec TextStatement Global) {n turns : ℕ}
-        {a whole : Statement} → stands_for names parent ≡ M.Node n → IsCount names most.form turns →
-        IsBlock (with_node (with_unnamed names) child) xs.items a → IsVisiting names.values names.nodes n turns a whole →
+        {a whole : Statement} → HasLoop names → IsNew names child → HasNode names → names.values + 2 ≤ VALUE_REGISTERS → stands_for names parent ≡ M.Node n →
+        IsCount names most.form turns → IsBlock (with_node (with_unnamed (in_loop names)) child) xs.items a → IsVisiting names.values names.nodes n turns a whole →
         IsStatement names (T.ForEach child parent most xs) whole
 
 -- what isn't handled by its `else` ends a procedure
@@ -115,10 +126,12 @@ pub record IsProcedure (spellings : List (List ℕ)) (names : Names) (text : Tex
   pub name : procedure.name.items ≡ get_or spellings text.name.symbol.0 []
   pub offset : procedure.offset ≡ text.name.offset
   pub arity : procedure.arity ≡ length text.arguments.items
+  pub arguments : AreNew names text.arguments.items
   pub body : IsBody (with_values names text.arguments.items) text procedure.body
 
 -- the name gets the field of that number
 pub record IsWithField (names : Names) (name : Name) (number : ℤ) (later : Names) : Type 0 where
+  pub fresh : field_named names name ≡ None
   pub field : Field
   pub number_is : number ≡ pos field
   pub later_is : later ≡ with_field names name field
@@ -130,7 +143,7 @@ pub data AreDeclared (spellings : List (List ℕ)) : Names → List Declaration 
       IsWithField names name number later → AreDeclared spellings later rest ps →
       AreDeclared spellings names (D.Field name number offset ∷ rest) ps
   next_constant : {names : Names} {name : Name} {number : ℤ} {rest : List Declaration} {ps : List Procedure} →
-      AreDeclared spellings (with_constant names name number) rest ps → AreDeclared spellings names (D.Constant name number ∷ rest) ps
+      IsNew names name → AreDeclared spellings (with_constant names name number) rest ps → AreDeclared spellings names (D.Constant name number ∷ rest) ps
   next_procedure : {names : Names} {text : TextProcedure} {p : Procedure} {rest : List Declaration} {ps : List Procedure} →
       IsProcedure spellings names text p → AreDeclared spellings names rest ps →
       AreDeclared spellings names (D.Procedure text ∷ rest) (p ∷ ps)

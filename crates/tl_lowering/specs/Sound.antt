@@ -1,5 +1,5 @@
 -- Which statements are in order where so many values and nodes have registers and these nodes are held: what they name is there.
-use Rattle.std.specs.Prelude.{◌≡◌, ◌≢◌, ℕ, ◌+◌, ◌<◌, ◌≤◌, Bool, true, false, [], Option, IfSome, max}
+use Rattle.std.specs.Prelude.{◌≡◌, ◌≢◌, ℕ, ◌+◌, ◌<◌, ◌≤◌, Bool, true, false, [], Option, IfSome}
 use Rattle.tl_lowering.specs.declared.program.Expression.{Expression}
 use Rattle.tl_lowering.specs.declared.program.Expression.TheVariants as E
 use Rattle.tl_lowering.specs.declared.program.Condition.{Condition}
@@ -9,9 +9,12 @@ use Rattle.tl_lowering.specs.declared.program.Place.TheVariants as P
 use Rattle.tl_lowering.specs.declared.program.Statement.{Statement}
 use Rattle.tl_lowering.specs.declared.program.Statement.TheVariants as S
 use Rattle.tl_lowering.specs.declared.program.Procedure.{Procedure}
+use Rattle.tl_budget.specs.declared.limits.TheConstants.{MAX_DEPTH}
 use Rattle.tl_instr.specs.declared.operand.TheConstants.{MAX_ARGS}
 use Rattle.tl_lowering.specs.Sets.{Nodes, none_held, holds, all_of}
 use Rattle.tl_lowering.specs.Outcomes.{locked, handled_by, after, fails}
+pub use Rattle.tl_lowering.specs.Outcomes.{nodes_behind}
+use Rattle.tl_lowering.specs.Fit.{loops, AllTurn, AllSlots, IsWord, HasRoom, EntersOnce}
 
 -- each value that is named has one of the first t registers, and each node that is read is held
 abbrev pub IsReadable : ℕ → Nodes → Expression → Type 0
@@ -27,12 +30,6 @@ IsTestable t held (C.Greater a b) = IsReadable t held a × IsReadable t held b
 IsTestable t held (C.Equal a b) = IsReadable t held a × IsReadable t held b
 IsTestable t held (C.Not' p c) = IsTestable t held c
 IsTestable t held (C.And' p c q d) = IsTestable t held c × IsTestable t held d
-
--- how many nodes have registers once a place is locked
-abbrev pub nodes_behind : Place → ℕ
-nodes_behind (P.Node n e) = n + 1
-nodes_behind (P.Child n p e) = n + 1
-nodes_behind (P.Pair n k p a b) = max n k + 1
 
 -- the registers of what is locked are empty, and a child's parent is held
 abbrev pub IsLockable : Place → ℕ → Nodes → Type 0
@@ -71,8 +68,15 @@ IsSound (S.RepeatUpTo' e w p a) d m held in_loop =
     IsReadable d held e × KeepsHeld (after a held) held × IsSound a d m held true
 IsSound (S.At' offset p a) d m held in_loop = IsSound a d m held in_loop
 
--- A procedure's body is in order where its arguments alone are known and nothing is held, and handles each failure.
+-- A procedure's body is in order where its arguments alone are known and nothing is held, and handles each failure. It takes
+-- registers that there are, and its loops turn and don't nest too deep.
 pub record IsInOrder (p : Procedure) : Type 0 where
   pub sound : IsSound p.body p.arity 0 none_held false
   pub handled : fails p.body none_held ≡ []
   pub few : p.arity ≤ MAX_ARGS
+  pub slots : AllSlots p.body 0
+  pub turns : AllTurn p.body
+  pub depth : loops p.body ≤ MAX_DEPTH
+  pub name : IsWord p.name.items
+  pub room : HasRoom p.body p.arity
+  pub enters : EntersOnce p.body false

@@ -1,8 +1,9 @@
 // Loops without their blocks, with registers in place of names.
 
-ghost use Rattle.std.specs.Prelude.{◌≡◌, ◌+◌, ◌<◌, Bool, option_map, IfOk, OnOk, IfSome};
+ghost use Rattle.std.specs.Prelude.{◌≡◌, ◌+◌, ◌<◌, Bool, true, option_map, IfOk, OnOk, IfSome};
 ghost use Rattle.std.specs.Borrow.{Bor};
 ghost use Rattle.tl_lowering.specs.declared.paths.Held.{Held};
+ghost use Rattle.tl_lowering.specs.Entering.{entered_at, entered_of, IsEntering};
 ghost use Rattle.tl_lowering.specs.Choosing.{IsRepeated, IsVisited, names_within, IsTurning};
 ghost use Rattle.tl_lowering.specs.Names.{names_of};
 ghost use Rattle.tl_lowering.specs.Reading.{IsVisiting};
@@ -40,14 +41,16 @@ pub enum Repetition {
 
 // Once a child of the register's node was locked.
 fn visited(after: Option<Held>, register: NodeRegister) -> Option<Held>
-    ensures { known result ≡ known after }
+    ensures nodes { known result ≡ known after }
+    ensures entered { entered_at result ≡ entered_at after }
 {
     after.map(|held| held.visiting(register))
 }
 
 // Behind a loop that began with `held`, and where it fails.
 fn leaving(after: Option<Held>, fails: Option<Held>, held: Held) -> Flow
-    ensures { paths_of result ≡ record { after = keeping (nodes_of held) (known after); fails = known fails; breaks = None } }
+    ensures paths { paths_of result ≡ record { after = keeping (nodes_of held) (known after); fails = known fails; breaks = None } }
+    ensures entered { entered_of result ≡ record { after = entered_at after; fails = entered_at fails; breaks = None } }
 {
     let flow = Flow {
         after,
@@ -132,6 +135,7 @@ impl Lowering {
         ensures named { OnOk result (names_of self.new.scope ≡ names_within (names_of self.old.scope) repetition.now) }
         ensures at { IfOk result (λ inside. IsAt (view_of self.new.scope) inside) }
         ensures held { IfOk result (λ inside. nodes_of inside ≡ begun repetition.now (nodes_of start)) }
+        ensures entered { IfOk result (λ inside. inside.is_entered ≡ start.is_entered) }
         ensures values { OnOk result (self.new.scope.values ≡ more_in repetition.now self.old.scope.values) }
         ensures nodes { OnOk result (self.new.scope.nodes ≡ more_in repetition.now self.old.scope.nodes) }
         ensures loops { OnOk result (self.new.scope.loops ≡ self.old.scope.loops + 1) }
@@ -150,6 +154,8 @@ impl Lowering {
     pub fn check_turn(&self, flow: Flow, start: Held, offset: usize) -> Result<Flow, SyntaxFault>
         ensures paths { IfOk result (λ f. paths_of f ≡ record (paths_of flow) { after = keeping (nodes_of start) (paths_of flow).after }) }
         ensures kept { IfOk result (λ f. IfSome (paths_of f).after (λ h. h ≡ nodes_of start)) }
+        ensures entered { IfOk result (λ f. entered_of f ≡ entered_of flow) }
+        ensures once { IfOk result (λ f. IfSome (entered_of f).after (λ e. e ≡ true → start.is_entered ≡ true)) }
     {
         let flow = flow.keeping(start.nodes);
         if let Some(after) = flow.after {
@@ -171,9 +177,13 @@ impl Lowering {
         requires at { IsAt (view_of self.now.scope) held }
         requires start { nodes_of start ≡ nodes_of held }
         requires repetition { IsRepetition (view_of self.now.scope) held repetition }
+        requires entered { start.is_entered ≡ held.is_entered }
+        requires entering { IsEntering held.is_entered lowered.0 lowered.1 }
+        requires once { IfSome (entered_of lowered.1).after (λ e. e ≡ true → held.is_entered ≡ true) }
         requires turn { IsTurn self.now.scope.values self.now.scope.nodes (nodes_of held) repetition lowered.0 lowered.1 }
         ensures named { IfOk result (λ l. IsTurning lowered.0 repetition l.0) }
         ensures lowered { IfOk result (λ l. IsLowered (view_of self.now.scope) held l.0 l.1) }
+        ensures entering { IfOk result (λ l. IsEntering held.is_entered l.0 l.1) }
     {
         let (body, flow) = lowered;
         let turned = join(flow.after, flow.breaks);
@@ -189,7 +199,7 @@ impl Lowering {
             }
             Repetition::Children(visit) => {
                 let whole = self.visiting(visit, body)?;
-                let after = visited(join(Some(start), turned), visit.parent);
+                let after = join(visited(Some(start), visit.parent), turned);
                 Ok((whole, leaving(after, join(Some(start), flow.fails), held)))
             }
         }

@@ -1,6 +1,8 @@
 // What is known of the paths that lead to a place.
 
-ghost use Rattle.std.specs.Prelude.{◌≡◌, ◌^◌};
+ghost use Rattle.std.specs.Prelude.{◌≡◌, ◌^◌, true, ◌||◌};
+ghost use Rattle.tl_lowering.specs.Entering.{entered_at, entered_of};
+ghost use Rattle.tl_lowering.specs.Fit.{or_of, or_else_of, either_entered, failing_entered, on_entered};
 ghost use Rattle.tl_lowering.specs.Sets.{holds, with_node, without_node, both, both_of};
 ghost use Rattle.tl_lowering.specs.Outcomes.{handled_by};
 ghost use Rattle.tl_lowering.specs.Paths.{bits, nodes_of, known, paths_of};
@@ -45,7 +47,8 @@ impl Held {
 
     /// After the register got a node of which no child was locked.
     pub fn with(self, register: NodeRegister) -> Held
-        ensures { nodes_of result ≡ with_node (nodes_of self) register }
+        ensures nodes { nodes_of result ≡ with_node (nodes_of self) register }
+        ensures entered { result.is_entered ≡ self.is_entered }
     {
         Held {
             nodes: self.nodes | bit(register),
@@ -55,7 +58,8 @@ impl Held {
     }
 
     pub fn without(self, register: NodeRegister) -> Held
-        ensures { nodes_of result ≡ without_node (nodes_of self) register }
+        ensures nodes { nodes_of result ≡ without_node (nodes_of self) register }
+        ensures entered { result.is_entered ≡ self.is_entered }
     {
         Held {
             nodes: self.nodes & !bit(register),
@@ -65,7 +69,8 @@ impl Held {
 
     /// After a child of the register's node was locked.
     pub fn visiting(self, register: NodeRegister) -> Held
-        ensures { nodes_of result ≡ nodes_of self }
+        ensures nodes { nodes_of result ≡ nodes_of self }
+        ensures entered { result.is_entered ≡ self.is_entered }
     {
         Held {
             visited: self.visited | bit(register),
@@ -75,7 +80,8 @@ impl Held {
 
     /// When it is no longer known whether children of these nodes were locked.
     pub fn forgetting(self, nodes: u8) -> Held
-        ensures { nodes_of result ≡ nodes_of self }
+        ensures nodes { nodes_of result ≡ nodes_of self }
+        ensures entered { result.is_entered ≡ self.is_entered }
     {
         Held {
             visited: self.visited & !nodes,
@@ -84,7 +90,8 @@ impl Held {
     }
 
     pub fn entered(self) -> Held
-        ensures { nodes_of result ≡ nodes_of self }
+        ensures nodes { nodes_of result ≡ nodes_of self }
+        ensures entered { result.is_entered ≡ true }
     {
         Held {
             is_entered: true,
@@ -94,7 +101,8 @@ impl Held {
 
     /// After the first register took over the second one's node.
     pub fn taking(self, register: NodeRegister, from: NodeRegister) -> Held
-        ensures { nodes_of result ≡ without_node (with_node (nodes_of self) register) from }
+        ensures nodes { nodes_of result ≡ without_node (with_node (nodes_of self) register) from }
+        ensures entered { result.is_entered ≡ self.is_entered }
     {
         let taken = self.with(register).without(from);
         if self.has_visited(from) {
@@ -106,7 +114,8 @@ impl Held {
 
     /// Only these registers keep their nodes.
     pub fn keeping(self, nodes: u8) -> Held
-        ensures { nodes_of result ≡ both (nodes_of self) (bits nodes) }
+        ensures nodes { nodes_of result ≡ both (nodes_of self) (bits nodes) }
+        ensures entered { result.is_entered ≡ self.is_entered }
     {
         Held {
             nodes: self.nodes & nodes,
@@ -116,7 +125,8 @@ impl Held {
 
     // What holds on paths of either kind.
     fn and(self, other: Held) -> Held
-        ensures { nodes_of result ≡ both (nodes_of self) (nodes_of other) }
+        ensures nodes { nodes_of result ≡ both (nodes_of self) (nodes_of other) }
+        ensures entered { result.is_entered ≡ (self.is_entered || other.is_entered) }
     {
         Held {
             nodes: self.nodes & other.nodes,
@@ -128,7 +138,8 @@ impl Held {
 
 /// What holds where paths join. None stands for no path.
 pub fn join(first: Option<Held>, second: Option<Held>) -> Option<Held>
-    ensures { known result ≡ both_of (known first) (known second) }
+    ensures nodes { known result ≡ both_of (known first) (known second) }
+    ensures entered { entered_at result ≡ or_of (entered_at first) (entered_at second) }
 {
     match (first, second) {
         (None, other) | (other, None) => other,
@@ -147,7 +158,8 @@ pub struct Flow {
 impl Flow {
     /// On, and nowhere else.
     pub fn on(held: Held) -> Flow
-        ensures { paths_of result ≡ path_on (nodes_of held) }
+        ensures paths { paths_of result ≡ path_on (nodes_of held) }
+        ensures entered { entered_of result ≡ on_entered held.is_entered }
     {
         Flow {
             after: Some(held),
@@ -165,7 +177,8 @@ impl Flow {
 
     /// The statement may also fail, and `held` holds then.
     pub fn failing(self, held: Held) -> Flow
-        ensures { paths_of result ≡ failing_at (paths_of self) (nodes_of held) }
+        ensures paths { paths_of result ≡ failing_at (paths_of self) (nodes_of held) }
+        ensures entered { entered_of result ≡ failing_entered true held.is_entered (entered_of self) }
     {
         Flow {
             fails: join(self.fails, Some(held)),
@@ -174,14 +187,16 @@ impl Flow {
     }
 
     pub fn failing_if(self, may_fail: bool, held: Held) -> Flow
-        ensures { paths_of result ≡ failing_there may_fail (paths_of self) (nodes_of held) }
+        ensures paths { paths_of result ≡ failing_there may_fail (paths_of self) (nodes_of held) }
+        ensures entered { entered_of result ≡ failing_entered may_fail held.is_entered (entered_of self) }
     {
         if may_fail { self.failing(held) } else { self }
     }
 
     /// The statement goes on, and `held` holds then.
     pub fn going_on(self, held: Held) -> Flow
-        ensures { paths_of result ≡ record (paths_of self) { after = Some (nodes_of held) } }
+        ensures paths { paths_of result ≡ record (paths_of self) { after = Some (nodes_of held) } }
+        ensures entered { entered_of result ≡ record (entered_of self) { after = Some held.is_entered } }
     {
         Flow {
             after: Some(held),
@@ -191,7 +206,8 @@ impl Flow {
 
     /// This statement, and where control goes on the next one.
     pub fn then(self, next: Flow) -> Flow
-        ensures { paths_of result ≡ record { after = known next.after; fails = both_of (known self.fails) (known next.fails); breaks = both_of (known self.breaks) (known next.breaks) } }
+        ensures paths { paths_of result ≡ record { after = known next.after; fails = both_of (known self.fails) (known next.fails); breaks = both_of (known self.breaks) (known next.breaks) } }
+        ensures entered { entered_of result ≡ record { after = entered_at next.after; fails = or_of (entered_at self.fails) (entered_at next.fails); breaks = or_of (entered_at self.breaks) (entered_at next.breaks) } }
     {
         Flow {
             after: next.after,
@@ -202,7 +218,8 @@ impl Flow {
 
     /// Behind the statement only these registers keep their nodes.
     pub fn keeping(self, nodes: u8) -> Flow
-        ensures { paths_of result ≡ record (paths_of self) { after = keeping_only (bits nodes) (paths_of self).after } }
+        ensures paths { paths_of result ≡ record (paths_of self) { after = keeping_only (bits nodes) (paths_of self).after } }
+        ensures entered { entered_of result ≡ entered_of self }
     {
         Flow {
             after: self.after.map(|after| after.keeping(nodes)),
@@ -212,7 +229,8 @@ impl Flow {
 
     /// One statement or the other.
     pub fn or(self, other: Flow) -> Flow
-        ensures { paths_of result ≡ either (paths_of self) (paths_of other) }
+        ensures paths { paths_of result ≡ either (paths_of self) (paths_of other) }
+        ensures entered { entered_of result ≡ either_entered (entered_of self) (entered_of other) }
     {
         Flow {
             after: join(self.after, other.after),
@@ -224,7 +242,8 @@ impl Flow {
     /// What holds as the handler of a statement begins. `start` held when the statement began. If the statement can't fail, its
     /// handler is read as if it failed at once.
     pub fn handled(self, start: Held) -> Held
-        ensures { nodes_of result ≡ handled_by (nodes_of start) (known self.fails) }
+        ensures nodes { nodes_of result ≡ handled_by (nodes_of start) (known self.fails) }
+        ensures entered { result.is_entered ≡ or_else_of (entered_of self).fails start.is_entered }
     {
         match self.fails {
             Some(fails) => fails.keeping(start.nodes),
@@ -234,7 +253,8 @@ impl Flow {
 
     /// The statement, and the handler of its failure.
     pub fn handled_by(self, handler: Flow) -> Flow
-        ensures { paths_of result ≡ with_handler (paths_of self) (paths_of handler) }
+        ensures paths { paths_of result ≡ with_handler (paths_of self) (paths_of handler) }
+        ensures entered { entered_of result ≡ record { after = or_of (entered_at self.after) (entered_at handler.after); fails = entered_at handler.fails; breaks = or_of (entered_at self.breaks) (entered_at handler.breaks) } }
     {
         Flow {
             after: join(self.after, handler.after),

@@ -1,8 +1,10 @@
 // From a text to the core forms of its procedures.
 
-ghost use Rattle.std.specs.Prelude.{◌≡◌, [], ◌≤◌, IfOk, OnOk};
+ghost use Rattle.std.specs.Prelude.{◌≡◌, [], ◌≤◌, false, IfOk, OnOk};
 ghost use Rattle.std.specs.List.{All};
-ghost use Rattle.tl_lowering.specs.Names.{names_of, with_values};
+ghost use Rattle.tl_lowering.specs.declared.program.Procedure.{Procedure as CoreProcedure};
+ghost use Rattle.tl_lowering.specs.Fit.{IsWord, EntersOnce};
+ghost use Rattle.tl_lowering.specs.Names.{names_of, with_values, AreNew};
 ghost use Rattle.tl_lowering.specs.Outcomes.{fails};
 ghost use Rattle.tl_lowering.specs.Reading.{IsBody, IsProcedure, IsWithField, AreDeclared, IsProgram};
 ghost use Rattle.tl_lowering.specs.Scopes.{view_of, IsInUse, IsAt, IsBare, Extends, is_in_loop};
@@ -39,6 +41,7 @@ impl Lowering {
     fn declare_arguments(&mut self, names: &[Name]) -> Result<(), SyntaxFault>
         requires { IsBare (view_of self.old.scope) }
         ensures named { OnOk result (names_of self.new.scope ≡ with_values (names_of self.old.scope) names.now) }
+        ensures fresh { OnOk result (AreNew (names_of self.old.scope) names.now) }
         ensures names { OnOk result (IsInUse (view_of self.new.scope)) }
         ensures values { OnOk result (self.new.scope.values ≤ MAX_ARGS) }
         ensures nodes { OnOk result (self.new.scope.nodes ≡ 0) }
@@ -63,6 +66,7 @@ impl Lowering {
         ensures named { IfOk result (IsBody (names_of self.old.scope) procedure.now) }
         ensures sound { IfOk result (λ s. IsSound s self.old.scope.values self.old.scope.nodes none_held (is_in_loop (view_of self.old.scope))) }
         ensures handled { IfOk result (λ s. fails s none_held ≡ []) }
+        ensures enters { IfOk result (λ s. EntersOnce s false) }
     {
         let lowered = self.block(&procedure.body, Held::NOTHING)?;
         let (handled, _flow) = self.handled(lowered, &procedure.otherwise, Held::NOTHING)?;
@@ -79,7 +83,7 @@ impl Lowering {
         ensures named { IfOk result (IsProcedure (spellings names.now.keys) (names_of self.old.scope) procedure.now) }
         ensures names { OnOk result (names_of self.new.scope ≡ names_of self.old.scope) }
         ensures scope { OnOk result (IsBare (view_of self.new.scope)) }
-        ensures procedure { IfOk result IsInOrder }
+        ensures procedure { IfOk result (λ p. IsWord p.name.items → IsInOrder p) }
     {
         self.scope.declare_procedure(procedure.name)?;
         let mark = self.scope.mark();
@@ -106,7 +110,7 @@ impl Lowering {
     ) -> Result<Program, SyntaxFault>
         requires { IsBare (view_of self.old.scope) }
         ensures named { IfOk result (λ p. AreDeclared (spellings names.now.keys) (names_of self.old.scope) declarations.now p.procedures.items) }
-        ensures procedures { IfOk result (λ p. All IsInOrder p.procedures.items) }
+        ensures procedures { IfOk result (λ p. All (λ (q : CoreProcedure). IsWord q.name.items → IsInOrder q) p.procedures.items) }
     {
         let mut procedures = Vec::new(self.alloc);
         for declaration in declarations {

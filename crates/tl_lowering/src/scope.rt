@@ -1,7 +1,7 @@
 // What names stand for.
 
-ghost use Rattle.std.specs.Prelude.{◌≡◌, ◌+◌, ◌<◌, length, slice_set, take, drop, true, Some, IfOk, OnOk};
-ghost use Rattle.tl_instr.specs.declared.operand.TheConstants.{VALUE_REGISTERS};
+ghost use Rattle.std.specs.Prelude.{◌≡◌, ◌+◌, ◌<◌, length, slice_set, take, drop, true, Some, None, IfOk, OnOk};
+ghost use Rattle.tl_instr.specs.declared.operand.TheConstants.{VALUE_REGISTERS, NODE_REGISTERS};
 ghost use Rattle.tl_lowering.specs.declared.scope.Meaning.TheVariants.{Nothing, Value, Node};
 ghost use Rattle.tl_lowering.specs.Names.{names_of, without_meaning, stands_for, field_named, with_constant, with_field, with_unnamed, with_value, with_node};
 ghost use Rattle.tl_lowering.specs.Paths.{nodes_of};
@@ -131,7 +131,8 @@ impl Scope {
 
     /// The register of the next value. 291 at `offset` if there is none.
     pub fn next_value(&self, offset: usize) -> Result<ValueRegister, SyntaxFault>
-        ensures { IfOk result (λ r. r ≡ self.now.values) }
+        ensures register { IfOk result (λ r. r ≡ self.now.values) }
+        ensures room { OnOk result (self.now.values < VALUE_REGISTERS) }
     {
         match ValueRegister::new(self.values) {
             Some(register) => Ok(register),
@@ -141,7 +142,8 @@ impl Scope {
 
     /// The register of the next node after `skipped` others. 292 at `offset` if there is none.
     pub fn next_node(&self, skipped: u8, offset: usize) -> Result<NodeRegister, SyntaxFault>
-        ensures { IfOk result (λ r. r ≡ self.now.nodes + skipped) }
+        ensures register { IfOk result (λ r. r ≡ self.now.nodes + skipped) }
+        ensures room { OnOk result (self.now.nodes + skipped < NODE_REGISTERS) }
     {
         match NodeRegister::new(self.nodes.saturating_add(skipped)) {
             Some(register) => Ok(register),
@@ -281,7 +283,9 @@ impl Scope {
     }
 
     /// 276 if a field of that name is declared already.
-    pub fn check_new_field(&self, name: Name) -> Result<(), SyntaxFault> {
+    pub fn check_new_field(&self, name: Name) -> Result<(), SyntaxFault>
+        ensures { OnOk result (field_named (names_of self.now) name ≡ None) }
+    {
         match self.fields.get(name.symbol.0) {
             Some(Some(_)) => Err(SyntaxFault::at(Wrong::Twice, name.offset)),
             _ => Ok(()),

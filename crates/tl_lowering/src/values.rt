@@ -1,11 +1,12 @@
 // Numbers and conditions, with registers in place of names.
 
-ghost use Rattle.std.specs.Prelude.{◌≡◌, ◌≤◌, ℕ, true, IfOk, OnOk};
+ghost use Rattle.std.specs.Prelude.{◌≡◌, ◌≤◌, ◌-◌, ◌^◌, ℕ, min, true, IfOk, OnOk};
 ghost use Rattle.tl_instr.specs.declared.operand.TheConstants.{VALUE_REGISTERS};
 ghost use Rattle.tl_lowering.specs.Names.{names_of};
 ghost use Rattle.tl_lowering.specs.Naming.{IsCalculated, IsNumber, IsCount, IsNot, IsBoth, IsComparison, IsCompared, IsCondition};
 ghost use Rattle.tl_lowering.specs.Outcomes.{may_fail as may_fail_lem, condition_may_fail as condition_may_fail_lem};
 ghost use Rattle.tl_lowering.specs.Paths.{nodes_of};
+ghost use Rattle.tl_lowering.specs.Registers.{HasRegisters, behind as behind_lem, registers_of as registers_of_lem, registers_for as registers_for_lem};
 ghost use Rattle.tl_lowering.specs.Scopes.{view_of, IsInUse};
 ghost use Rattle.tl_lowering.specs.Sets.{Nodes};
 ghost use Rattle.tl_lowering.specs.Sound.{IsReadable, IsTestable};
@@ -40,7 +41,9 @@ pub fn condition_may_fail(condition: &Condition) -> bool
 }
 
 /// The next free register after an operand, if `free` was free before it. A value has a register already and takes none.
-pub fn behind(expression: &Expression, free: usize) -> usize {
+pub fn behind(expression: &Expression, free: usize) -> usize
+    ensures { result ≡ min (behind_lem expression.now free) (2 ^ 64 - 1) }
+{
     match expression {
         Expression::Value(_) => free,
         _ => free.saturating_add(1),
@@ -49,7 +52,9 @@ pub fn behind(expression: &Expression, free: usize) -> usize {
 
 /// How many value registers there must be to compute the number, if `free` is the first free one.
 #[cycle(registers)]
-pub fn registers_of(expression: &Expression, free: usize) -> usize {
+pub fn registers_of(expression: &Expression, free: usize) -> usize
+    ensures { result ≡ min (registers_of_lem expression.now free) (2 ^ 64 - 1) }
+{
     match expression {
         Expression::Calculated(_, left, right) => {
             let first = registers_for(left, free);
@@ -61,7 +66,9 @@ pub fn registers_of(expression: &Expression, free: usize) -> usize {
 
 /// The same for an operand: it needs a register of its own, unless it is a value.
 #[cycle(registers)]
-pub fn registers_for(expression: &Expression, free: usize) -> usize {
+pub fn registers_for(expression: &Expression, free: usize) -> usize
+    ensures { result ≡ min (registers_for_lem expression.now free) (2 ^ 64 - 1) }
+{
     registers_of(expression, free).max(behind(expression, free))
 }
 
@@ -183,6 +190,7 @@ impl Scope {
         requires { IsInUse (view_of self.now) }
         ensures named { IfOk result (IsNumber (names_of self.now) expression.now.form) }
         ensures readable { IfOk result (λ e. IsReadable self.now.values (nodes_of held) e) }
+        ensures room { IfOk result (λ e. HasRegisters e self.now.values) }
     {
         self.operand_from(alloc, expression, held, usize::from(self.values))
     }
@@ -198,6 +206,7 @@ impl Scope {
         requires { IsInUse (view_of self.now) }
         ensures named { IfOk result (IsNumber (names_of self.now) expression.now.form) }
         ensures readable { IfOk result (λ e. IsReadable self.now.values (nodes_of held) e) }
+        ensures room { IfOk result (λ e. HasRegisters e free) }
     {
         let number = self.number(alloc, expression, held)?;
         check_registers(registers_for(&number, free), expression.offset)?;

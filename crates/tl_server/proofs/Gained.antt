@@ -9,6 +9,7 @@ use Rattle.tl_workers.specs.declared.refusal.Refusal.{Refusal}
 use Rattle.tl_workers.specs.declared.session.Did.{Did}
 use Rattle.tl_workers.specs.declared.session.Did.TheVariants.{Asked, Got}
 use Rattle.tl_workers.specs.Kept.{SessionValue, Gains, asking, call_of, AnswersEach, asked_of, gots_of}
+use Rattle.tl_workers.specs.Refusals.{AreCallRefusals}
 use Rattle.tl_server.specs.declared.fault.LineFault.{LineFault}
 use Rattle.tl_server.specs.Answers.{line_text, error_text, batch_text}
 use Rattle.tl_server.specs.Faults.{numbers_of}
@@ -61,7 +62,7 @@ one_call name args r a h = ⊎_elim
 
 call_whole : (q : List ℕ × List ℤ) (gained : List Did) (answer : Result Receipt Refusal) → CallOutcome q gained answer → AllGot gained
 call_whole q gained (Ok r) h = subst AllGot (sym h.1) (one_call q.0 q.1 r)
-call_whole q gained (Err e) h = nothing gained h
+call_whole q gained (Err e) h = nothing gained h.0
 
 -- ---- a batch
 
@@ -95,7 +96,8 @@ request_whole (Registers name text) gained out h = nothing gained h.0
 request_whole (Calls name args) gained out h = call_whole (name, args) gained h.0 h.1
 request_whole (Batches calls workers) gained out h = ⊎_elim
     (λ (refused : (gained ≡ []) × (out ≡ line_text (error_text (990 ∷ [])))). nothing gained refused.0)
-    (λ (b : (answers : List (Result Receipt Refusal)) × AnswersEach h.0 answers × (gained ≡ asked_of h.0 answers ++ gots_of answers) × (out ≡ line_text (batch_text answers))). subst AllGot (sym b.2) (batch_whole h.0 b.0 b.1))
+    (λ (b : (answers : List (Result Receipt Refusal)) × AnswersEach h.0 answers × ((seals : Bool) × AreCallRefusals seals answers) × (gained ≡ asked_of h.0 answers ++ gots_of answers) × (out ≡ line_text (batch_text answers))).
+    subst AllGot (sym b.3) (batch_whole h.0 b.0 b.1))
     h.2
 request_whole Seals gained out h = nothing gained h.0
 request_whole Closes gained out h = absurd h

@@ -1,8 +1,9 @@
 -- A line's answer.
-use Rattle.std.proofs.Common.{◌≢◌, List, ℕ, [], refl, sym, append-nil, inl, inr}
-use Rattle.std.specs.Prelude.{Result, Ok, Err, IfErr}
+use Rattle.std.proofs.Common.{◌≢◌, ◌+◌, ◌<◌, List, ℕ, [], refl, sym, append-nil, inl, inr}
+use Rattle.std.specs.Prelude.{Result, Ok, Err, IfOk, IfErr}
 use Rattle.tl_workers.specs.declared.refusal.Refusal.{Refusal}
 use Rattle.tl_workers.specs.Kept.{SessionValue, Gains}
+use Rattle.tl_table.specs.declared.epoch.TheConstants.{MAX_EPOCHS}
 use Rattle.tl_workers.specs.Refusals.{IsSealRefused}
 use Rattle.tl_server.specs.declared.fault.LineFault.{LineFault}
 use Rattle.tl_server.specs.declared.fault.LineFault.TheVariants as fault
@@ -22,6 +23,6 @@ faulted line fault.NotUtf8 h = inr (inl (fault.NotUtf8, h (λ e. cc), refl, refl
 faulted line fault.Memory h = inl (refl, refl)
 
 -- what comes of a seal
-pub seal_outcome : (answer : Result ℕ Refusal) → IfErr answer (λ e. IsSealRefused e) → SealOutcome answer
-seal_outcome (Ok epoch) h = tt
-seal_outcome (Err e) h = h
+pub seal_outcome : (answer : Result ℕ Refusal) → IfOk answer (λ n. n + 1 < MAX_EPOCHS) → IfErr answer (λ e. IsSealRefused e) → SealOutcome answer
+seal_outcome (Ok epoch) few h = few
+seal_outcome (Err e) few h = h

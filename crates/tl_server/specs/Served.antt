@@ -1,5 +1,5 @@
 -- How lines are answered, and what a session gains by that.
-use Rattle.std.specs.Prelude.{◌≡◌, ◌↔◌, ◌⊎◌, ◌+◌, ℕ, ℤ, List, map, [], ◌∷◌, ◌++◌, length, Bool, true, false, Result, Ok, Err}
+use Rattle.std.specs.Prelude.{◌≡◌, ◌↔◌, ◌⊎◌, ◌+◌, ◌<◌, ℕ, ℤ, List, map, [], ◌∷◌, ◌++◌, length, Bool, true, false, Result, Ok, Err}
 use Rattle.tl_instr.specs.Codes.{CodeValue}
 use Rattle.tl_budget.specs.declared.limits.Bounds.{Bounds}
 use Rattle.tl_verify.specs.Procedure.{AreBounds}
@@ -15,7 +15,8 @@ use Rattle.tl_table.specs.declared.receipt.Receipt.{Receipt}
 use Rattle.tl_workers.specs.declared.refusal.Refusal.{Refusal}
 use Rattle.tl_workers.specs.declared.session.Did.{Did}
 use Rattle.tl_workers.specs.Kept.{call_of, AnswersEach, asked_of, gots_of}
-use Rattle.tl_workers.specs.Refusals.{IsSealRefused}
+use Rattle.tl_table.specs.declared.epoch.TheConstants.{MAX_EPOCHS}
+use Rattle.tl_workers.specs.Refusals.{IsCallRefusal, AreCallRefusals, IsSealRefused}
 use Rattle.tl_server.specs.declared.fault.LineFault.{LineFault}
 use Rattle.tl_server.specs.Faults.{numbers_of}
 use Rattle.tl_server.specs.Requests.{LineValue, Registers, Calls, Batches, Seals, Closes, IsRequest, IsLineFault}
@@ -35,10 +36,10 @@ RegisterOutcome p (Err e) = is_memory e ≡ false → IsRegisterFault p e
 
 -- ---- calls
 
--- a call's name and arguments, what the session gained, and what came of it
+-- a call's name and arguments, what the session gained, and what came of it: if it was refused, then as an engine refuses calls
 abbrev pub CallOutcome : List ℕ × List ℤ → List Did → Result Receipt Refusal → Type 0
 CallOutcome q gained (Ok r) = (r.args.items ≡ q.1) × (gained ≡ call_of q.0 q.1 r)
-CallOutcome q gained (Err e) = gained ≡ []
+CallOutcome q gained (Err e) = (gained ≡ []) × ((seals : Bool) × IsCallRefusal seals e)
 
 abbrev pub IsCallAnswer : List ℕ × List ℤ → List Did → List ℕ → Type 0
 IsCallAnswer q gained out = (answer : Result Receipt Refusal) × CallOutcome q gained answer × (out ≡ line_text (one_text answer))
@@ -51,13 +52,14 @@ IsRefused gained out = (gained ≡ []) × (out ≡ line_text (error_text (990 �
 abbrev pub IsBatchAnswer : List Request → List Did → List ℕ → Type 0
 IsBatchAnswer requests gained out =
     IsRefused gained out
-    ⊎ ((answers : List (Result Receipt Refusal)) × AnswersEach requests answers × (gained ≡ asked_of requests answers ++ gots_of answers) × (out ≡ line_text (batch_text answers)))
+    ⊎ ((answers : List (Result Receipt Refusal)) × AnswersEach requests answers × ((seals : Bool) × AreCallRefusals seals answers)
+    × (gained ≡ asked_of requests answers ++ gots_of answers) × (out ≡ line_text (batch_text answers)))
 
 -- ---- a seal
 
--- the number of the epoch that was sealed; else 606, 808 or want of memory
+-- the number of the epoch that was sealed, which isn't the last that a table may have; else 606, 808 or want of memory
 abbrev pub SealOutcome : Result ℕ Refusal → Type 0
-SealOutcome (Ok epoch) = Unit {0}
+SealOutcome (Ok epoch) = epoch + 1 < MAX_EPOCHS
 SealOutcome (Err e) = IsSealRefused e
 
 -- ---- lines

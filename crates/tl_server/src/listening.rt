@@ -1,7 +1,7 @@
 // Connections on a local port.
 
-ghost use Rattle.std.specs.Prelude.{◌≡◌, ◌⊎◌, IfErr};
-ghost use Rattle.tl_server.specs.declared.fault.ListenFault.TheVariants.{NoPort, Memory};
+ghost use Rattle.std.specs.Prelude.{◌≡◌, IfErr};
+ghost use Rattle.tl_server.specs.declared.fault.ListenFault.TheVariants.{Memory};
 
 use crate::answer::put_error_line;
 use crate::control::{Control, local};
@@ -133,9 +133,7 @@ impl Server {
         alloc: Global,
         port: u16,
         connections: u16,
-    ) -> Result<Server, ListenFault>
-        ensures { IfErr result (λ e. (e ≡ NoPort) ⊎ (e ≡ Memory)) }
-    {
+    ) -> Result<Server, ListenFault> {
         let sessions = Vec::with_capacity(alloc, usize::from(connections))?;
         let outbox = Outbox::new(alloc)?;
         let address = local(port);
@@ -237,8 +235,6 @@ pub fn listen<R: Net<Listener = TcpListener, Stream = TcpStream> + Threads + Wai
     port: u16,
     connections: u16,
     engine: &Engine,
-) -> Result<Vec<Session>, ListenFault>
-    ensures { IfErr result (λ e. (e ≡ NoPort) ⊎ (e ≡ Memory)) }
-{
+) -> Result<Vec<Session>, ListenFault> {
     Ok(Server::bind(rt, alloc, port, connections)?.serve(rt, alloc, engine))
 }

@@ -1,5 +1,5 @@
 -- The test of two kinds of tokens: where it says that they are one, they are.
-use Rattle.std.proofs.Common.{◌≡◌, Bool, true, false, refl, sym, ap, true≢false}
+use Rattle.std.proofs.Common.{◌≡◌, true, refl, sym, ap, true≢false}
 use Rattle.std.proofs.lemmas.Bool.{eqb-true}
 use Rattle.tl_syntax.specs.declared.token.TokenKind.{TokenKind}
 use Rattle.tl_syntax.specs.declared.token.TokenKind.TheVariants as K

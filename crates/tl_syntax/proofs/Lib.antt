@@ -1,7 +1,14 @@
 pub mod DeclarationLemmas
+pub mod DeclarationsOnce
+pub mod ExpressionsOnce
 pub mod KindLemmas
+pub mod ListsOnce
 pub mod NameLemmas
+pub mod NamesOnce
+pub mod NumberingLemmas
 mod Rows
 pub mod SearchLemmas
 pub mod StatementLemmas
+pub mod StatementsOnce
 pub mod TokenLemmas
+pub mod TokensOnce

@@ -1,22 +1,22 @@
 -- The names of a text, as an `IndexSet` keeps them.
 use denote.Bor.{Bor}
-use Rattle.std.proofs.Common.{◌≡◌, ℕ, zero, suc, Bool, true, false, List, [], ◌∷◌, ◌++◌, map, Option, None, Some, slice_get, length, ◌≤◌, refl, sym, ap, subst, ◌∙◌, append-nil, nat_eq, if◌then◌else◌, ◌||◌}
-use Rattle.std.specs.List.{list_any}
+use Rattle.std.proofs.Common.{◌≡◌, ◌≢◌, ℕ, zero, suc, Bool, true, false, List, [], ◌∷◌, ◌++◌, Some, slice_get, length, ◌≤◌, refl, sym, ap, subst, ◌∙◌, append-nil, nat_eq, if◌then◌else◌, ◌||◌}
+use Rattle.std.specs.List.{list_any, AllByRecursion, IsDistinct}
 use Rattle.std.specs.Cmp.Lexicographic.{pointwise}
-use Rattle.std.specs.Cmp.Lexicographic.{same_text}
+use Rattle.std.specs.Cmp.Lexicographic.{same_text, other_text}
 use Rattle.indexmap.specs.IndexSet.{insert_key}
 use Rattle.tl_syntax.specs.declared.token.Token.{Token}
 use Rattle.tl_syntax.specs.declared.token.TokenKind.TheVariants as K
 use Rattle.tl_syntax.specs.declared.lexer.Piece.TheVariants as P
 use Rattle.tl_syntax.specs.declared.words.TheConstants.{MAX_NAME}
 use Rattle.tl_syntax.specs.Tokens as T
-use Rattle.tl_syntax.specs.Tokens.{spellings, Extends, Adds, IsFree}
+use Rattle.tl_syntax.specs.Tokens.{spellings, Extends, AreDistinct, Adds, IsFree}
 use Rattle.tl_syntax.proofs.TokenLemmas.{extends_more}
 
-abbrev same_name : Bor (List ℕ) → Bor (List ℕ) → Bool
+abbrev pub same_name : Bor (List ℕ) → Bor (List ℕ) → Bool
 same_name x y = pointwise nat_eq x.now y.now
 
-spellings_pushed : (names : List (Bor (List ℕ))) (name : Bor (List ℕ)) → spellings (names ++ name ∷ []) ≡ spellings names ++ name.now ∷ []
+pub spellings_pushed : (names : List (Bor (List ℕ))) (name : Bor (List ℕ)) → spellings (names ++ name ∷ []) ≡ spellings names ++ name.now ∷ []
 spellings_pushed [] name = refl
 spellings_pushed (n ∷ names) name = ap (λ l. n.now ∷ l) (spellings_pushed names name)
 
@@ -65,3 +65,25 @@ pub named : (keys keys' keys'' : List (Bor (List ℕ))) (word : Bor (List ℕ)) 
 named keys keys' keys'' word index offset read read' e stored same free fits pushed =
     T.one (extends_more (extends_inserted keys keys' word e) (extends_same (ap spellings same)))
     (T.name free fits (ap (λ l. slice_get (spellings l) index) same ∙ symbol_is keys' index stored.0 word.now stored.1 stored.2)) pushed
+
+same_some : {A : Type 0} (a b : A) → Some a ≡ Some b → a ≡ b
+same_some a b e = cc
+
+-- a name that differs from each later one is none of them
+apart : (name : Bor (List ℕ)) (names : List (Bor (List ℕ))) (i : ℕ) (word : List ℕ) → AllByRecursion (λ n. same_name name n ≡ false) names →
+    slice_get (spellings names) i ≡ Some word → name.now ≢ word
+apart name [] i word all e = λ same. cc
+apart name (n ∷ names) zero word all e = λ same. other_text name.now n.now (sym all.0) (same ∙ sym (same_some n.now word e))
+apart name (n ∷ names) (suc i) word all e = apart name names i word all.1 e
+
+-- names that an `IndexSet` keeps are distinct
+pub distinct_spellings : (names : List (Bor (List ℕ))) → IsDistinct same_name names → AreDistinct (spellings names)
+unfolding IsDistinct
+distinct_spellings [] d i j word e f = cc
+distinct_spellings (n ∷ names) d zero zero word e f = refl
+distinct_spellings (n ∷ names) d zero (suc j) word e f = absurd (apart n names j word d.0 f (same_some n.now word e))
+distinct_spellings (n ∷ names) d (suc i) zero word e f = absurd (apart n names i word d.0 e (same_some n.now word f))
+distinct_spellings (n ∷ names) d (suc i) (suc j) word e f = ap suc (distinct_spellings names d.1 i j word e f)
+
+pub same_distinct : (old new : List (Bor (List ℕ))) → new ≡ old → AreDistinct (spellings old) → AreDistinct (spellings new)
+same_distinct old new e d = subst (λ names. AreDistinct (spellings names)) (sym e) d

@@ -1,5 +1,5 @@
 -- Worked examples: the tokens of a text, and what a few tokens spell.
-use Rattle.std.proofs.Common.{◌≡◌, ℕ, List, [], ◌∷◌, pos, refl, codes, inl, lit≤, rules}
+use Rattle.std.proofs.Common.{ℕ, List, [], ◌∷◌, pos, refl, codes, inl, lit<, lit≤, rules}
 use Rattle.tl_syntax.specs.declared.token.Token.{Token}
 use Rattle.tl_syntax.specs.declared.token.TokenKind.{TokenKind}
 use Rattle.tl_syntax.specs.declared.token.TokenKind.TheVariants as K
@@ -9,7 +9,7 @@ use Rattle.tl_syntax.specs.declared.parsed.Form.TheVariants as F
 use Rattle.tl_syntax.specs.declared.expressions.Join.TheVariants as J
 use Rattle.tl_syntax.specs.Tokens as T
 use Rattle.tl_syntax.specs.Tokens.{AreTokens}
-use Rattle.tl_syntax.specs.Grammar.{kind_at, offset_at, Stands, IsJoined, IsPlain, IsExpression, Disjunction, Term, number, alone, sum, plain}
+use Rattle.tl_syntax.specs.Grammar.{kind_at, offset_at, Stands, IsJoined, IsExpression, Disjunction, Term, number, chain, one, more, plain}
 
 abbrev token : TokenKind → ℕ → Token
 token kind offset = record { kind = kind; offset = offset }
@@ -27,22 +27,22 @@ unfolding kind_at
 minus_three = record { kind_is = refl; next_is = refl }
 
 -- a number is a term where it stands
-three_is : IsExpression three Term 0 1 (record { offset = 0; form = F.Number (pos 3) })
+three_is : {levels : ℕ} → IsExpression three levels Term 0 1 (record { offset = 0; form = F.Number (pos 3) })
 unfolding kind_at offset_at
-three_is = alone (alone (plain (number (record { digits = 3; stands = record { kind_is = refl; next_is = refl }; is = refl })) refl))
+three_is = chain (one (chain (one (plain (number (record { digits = 3; stands = record { kind_is = refl; next_is = refl }; fits = lit< tt; is = refl })) refl))))
 
-two_is : IsExpression three Term 2 3 (record { offset = 2; form = F.Number (pos 2) })
+two_is : {levels : ℕ} → IsExpression three levels Term 2 3 (record { offset = 2; form = F.Number (pos 2) })
 unfolding kind_at offset_at
-two_is = alone (alone (plain (number (record { digits = 2; stands = record { kind_is = refl; next_is = refl }; is = refl })) refl))
+two_is = chain (one (chain (one (plain (number (record { digits = 2; stands = record { kind_is = refl; next_is = refl }; fits = lit< tt; is = refl })) refl))))
 
-one_is : IsExpression three Term 4 5 (record { offset = 4; form = F.Number (pos 1) })
+one_is : {levels : ℕ} → IsExpression three levels Term 4 5 (record { offset = 4; form = F.Number (pos 1) })
 unfolding kind_at offset_at
-one_is = alone (alone (plain (number (record { digits = 1; stands = record { kind_is = refl; next_is = refl }; is = refl })) refl))
+one_is = chain (one (chain (one (plain (number (record { digits = 1; stands = record { kind_is = refl; next_is = refl }; fits = lit< tt; is = refl })) refl))))
 
 -- the first two are joined first
 from_the_left : (a e : Expression) → IsJoined (J.Calculate O.Subtract) (record { offset = 0; form = F.Number (pos 3) }) (record { offset = 2; form = F.Number (pos 2) }) a →
-    IsJoined (J.Calculate O.Subtract) a (record { offset = 4; form = F.Number (pos 1) }) e → IsExpression three Disjunction 0 5 e
-from_the_left a e p q = alone (alone (alone (alone (sum (sum (alone three_is) minus_one two_is p) minus_three one_is q))))
+    IsJoined (J.Calculate O.Subtract) a (record { offset = 4; form = F.Number (pos 1) }) e → IsExpression three 64 Disjunction 0 5 e
+from_the_left a e p q = chain (one (chain (one (chain (one (chain (one (chain {spare = 62} (more {spare = 62} (more {spare = 63} (one three_is) minus_one two_is p) minus_three one_is q)))))))))
 
 -- a reserved word, a blank, a number, a sign of two characters and a comment
 read : AreTokens [] 0 (codes "emit 1>=3//x") (token K.Emit 0 ∷ token (K.Number 1) 5 ∷ token K.GreaterOrEqual 6 ∷ token (K.Number 3) 8 ∷ token K.End 12 ∷ [])

@@ -18,38 +18,38 @@ use Rattle.tl_syntax.specs.Statements.{AreExpressions, IsLeave, IsLeaving, IsAct
 pub pushed_first : {A : Type 0} {old new : List A} {x : A} → new ≡ old ++ x ∷ [] → old ≡ [] → new ≡ x ∷ []
 pushed_first {x = x} e o = e ∙ ap (λ l. l ++ x ∷ []) o
 
-pub first_value : {tokens : List Token} {i j : ℕ} {e : Expression} {old new : List Expression} → new ≡ old ++ e ∷ [] → old ≡ [] →
-    IsExpression tokens Disjunction i j e → AreExpressions tokens i j new
-first_value {tokens} {i} {j} p o h = subst (λ es. AreExpressions tokens i j es) (sym (pushed_first p o)) (R.one h)
+pub first_value : {tokens : List Token} {levels i j : ℕ} {e : Expression} {old new : List Expression} → new ≡ old ++ e ∷ [] → old ≡ [] →
+    IsExpression tokens levels Disjunction i j e → AreExpressions tokens levels i j new
+first_value {tokens} {levels} {i} {j} p o h = subst (λ es. AreExpressions tokens levels i j es) (sym (pushed_first p o)) (R.one h)
 
-pub next_value : {tokens : List Token} {i j k l : ℕ} {e : Expression} {old new : List Expression} → new ≡ old ++ e ∷ [] →
-    AreExpressions tokens i j old → Stands tokens K.Comma j k → IsExpression tokens Disjunction k l e → AreExpressions tokens i l new
-next_value {tokens} {i} {l = l} p a b h = subst (λ es. AreExpressions tokens i l es) (sym p) (R.one_more a b h)
+pub next_value : {tokens : List Token} {levels i j k l : ℕ} {e : Expression} {old new : List Expression} → new ≡ old ++ e ∷ [] →
+    AreExpressions tokens levels i j old → Stands tokens K.Comma j k → IsExpression tokens levels Disjunction k l e → AreExpressions tokens levels i l new
+next_value {tokens} {levels} {i} {l = l} p a b h = subst (λ es. AreExpressions tokens levels i l es) (sym p) (R.one_more a b h)
 
 pub leaving_pushed : {tokens : List Token} {i j k : ℕ} (l : Leave) {s : Statement} {old new : List Statement} → new ≡ old ++ s ∷ [] → old ≡ [] →
     IsLeave tokens i j l → Stands tokens K.Semicolon j k → s.form ≡ S.Act (A.Leave l) None → s.offset ≡ offset_at tokens i → IsLeaving tokens i k new
 leaving_pushed {tokens} {i} {j} {k} l p o a b f g = subst (λ all. IsLeaving tokens i k all) (sym (pushed_first p o)) (R.leaving {l = l} a b f g)
 
-pub act_tail : {tokens : List Token} {i j k : ℕ} {a : Action} (t : Option Otherwise) → IsAction tokens i j a → allows_else a ≡ true →
-    IsTail tokens j k t → IsForm tokens i k (S.Act a t)
+pub act_tail : {tokens : List Token} {levels i j k : ℕ} {a : Action} (t : Option Otherwise) → IsAction tokens levels i j a → allows_else a ≡ true →
+    IsTail tokens levels j k t → IsForm tokens levels i k (S.Act a t)
 act_tail None h allowed t = R.act h t
 act_tail (Some o) h allowed t = R.act_else h allowed t
 
-pub no_statements : {tokens : List Token} {i : ℕ} {all : List Statement} → all ≡ [] → AreStatements tokens i i all
-no_statements {tokens} {i} e = subst (λ all. AreStatements tokens i i all) (sym e) R.no_more
+pub no_statements : {tokens : List Token} {levels i : ℕ} {all : List Statement} → all ≡ [] → AreStatements tokens levels i i all
+no_statements {tokens} {levels} {i} e = subst (λ all. AreStatements tokens levels i i all) (sym e) R.no_more
 
-pub next_statement : {tokens : List Token} {i j k : ℕ} {s : Statement} {old new : List Statement} → new ≡ old ++ s ∷ [] →
-    AreStatements tokens i j old → IsStatement tokens j k s → AreStatements tokens i k new
-next_statement {tokens} {i} {k = k} p a h = subst (λ all. AreStatements tokens i k all) (sym p) (R.next a h)
+pub next_statement : {tokens : List Token} {levels i j k : ℕ} {s : Statement} {old new : List Statement} → new ≡ old ++ s ∷ [] →
+    AreStatements tokens levels i j old → IsStatement tokens levels j k s → AreStatements tokens levels i k new
+next_statement {tokens} {levels} {i} {k = k} p a h = subst (λ all. AreStatements tokens levels i k all) (sym p) (R.next a h)
 
-pub other_pushed : {tokens : List Token} {i j : ℕ} {s : Statement} {old new : List Statement} → new ≡ old ++ s ∷ [] → old ≡ [] →
-    kind_at tokens i ≡ K.If → IsForm tokens i j s.form → s.offset ≡ offset_at tokens i → IsOther tokens i j new
-other_pushed {tokens} {i} {j} p o k f g = subst (λ all. IsOther tokens i j all) (sym (pushed_first p o)) (R.other_if k (R.statement f g))
+pub other_pushed : {tokens : List Token} {levels i j : ℕ} {s : Statement} {old new : List Statement} → new ≡ old ++ s ∷ [] → old ≡ [] →
+    kind_at tokens i ≡ K.If → IsForm tokens levels i j s.form → s.offset ≡ offset_at tokens i → IsOther tokens levels i j new
+other_pushed {tokens} {levels} {i} {j} p o k f g = subst (λ all. IsOther tokens levels i j all) (sym (pushed_first p o)) (R.other_if k (R.statement f g))
 
-pub tail_block : {tokens : List Token} {i j k offset : ℕ} (o : Otherwise) (body : Vec Statement Global) → (out-Otherwise o).offset ≡ offset →
-    (out-Otherwise o).body ≡ body → Stands tokens K.Else i j → IsBlock tokens j k body.items → offset ≡ offset_at tokens i → IsTail tokens i k (Some o)
-tail_block {tokens} {j = j} {k = k} o body p q a b f = R.block_else {o = o} a (subst (λ v. IsBlock tokens j k v.items) (sym q) b) (p ∙ f)
+pub tail_block : {tokens : List Token} {levels i j k offset : ℕ} (o : Otherwise) (body : Vec Statement Global) → (out-Otherwise o).offset ≡ offset →
+    (out-Otherwise o).body ≡ body → Stands tokens K.Else i j → IsBlock tokens levels j k body.items → offset ≡ offset_at tokens i → IsTail tokens levels i k (Some o)
+tail_block {tokens} {levels} {j = j} {k = k} o body p q a b f = R.block_else {o = o} a (subst (λ v. IsBlock tokens levels j k v.items) (sym q) b) (p ∙ f)
 
-pub tail_leaving : {tokens : List Token} {i j k offset : ℕ} (o : Otherwise) (body : Vec Statement Global) → (out-Otherwise o).offset ≡ offset →
-    (out-Otherwise o).body ≡ body → Stands tokens K.Else i j → IsLeaving tokens j k body.items → offset ≡ offset_at tokens i → IsTail tokens i k (Some o)
-tail_leaving {tokens} {j = j} {k = k} o body p q a b f = R.leave_else {o = o} a (subst (λ v. IsLeaving tokens j k v.items) (sym q) b) (p ∙ f)
+pub tail_leaving : {tokens : List Token} {levels i j k offset : ℕ} (o : Otherwise) (body : Vec Statement Global) → (out-Otherwise o).offset ≡ offset →
+    (out-Otherwise o).body ≡ body → Stands tokens K.Else i j → IsLeaving tokens j k body.items → offset ≡ offset_at tokens i → IsTail tokens levels i k (Some o)
+tail_leaving {tokens} {levels} {j = j} {k = k} o body p q a b f = R.leave_else {o = o} a (subst (λ v. IsLeaving tokens j k v.items) (sym q) b) (p ∙ f)

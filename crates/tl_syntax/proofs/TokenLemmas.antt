@@ -1,5 +1,5 @@
 -- A text is read piece by piece: what the tokens so far are of all that will follow.
-use Rattle.std.proofs.Common.{◌≡◌, ℕ, zero, suc, ◌+◌, ◌-◌, ◌≤◌, List, [], ◌∷◌, ◌++◌, length, take, drop, Option, None, Some, slice_get, refl, sym, ap, subst, ◌∙◌, arith, append_assoc, append-nil, length-drop, add-one}
+use Rattle.std.proofs.Common.{◌≡◌, ℕ, zero, suc, ◌+◌, ◌-◌, ◌≤◌, List, [], ◌∷◌, ◌++◌, length, take, drop, Option, None, Some, slice_get, sym, ap, subst, ◌∙◌, arith, append_assoc, append-nil, length-drop, add-one}
 use Rattle.tl_syntax.specs.declared.token.Token.{Token}
 use Rattle.tl_syntax.specs.declared.token.TokenKind.{TokenKind}
 use Rattle.tl_syntax.specs.declared.token.TokenKind.TheVariants as K

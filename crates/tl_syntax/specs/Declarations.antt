@@ -6,6 +6,7 @@ use Rattle.tl_syntax.specs.declared.parsed.Name.{Name}
 use Rattle.tl_syntax.specs.declared.parsed.Procedure.{Procedure}
 use Rattle.tl_syntax.specs.declared.parsed.Declaration.{Declaration}
 use Rattle.tl_syntax.specs.declared.parsed.Declaration.TheVariants as D
+use Rattle.tl_syntax.specs.declared.parser.TheConstants.{MAX_LEVELS}
 use Rattle.tl_syntax.specs.Grammar.{kind_at, offset_at, Stands, IsName, IsNumber, IsNegative}
 use Rattle.tl_syntax.specs.Statements.{IsBlock}
 
@@ -28,9 +29,9 @@ pub data AreArguments (tokens : List Token) : ℕ → ℕ → List Name → Type
 -- what a procedure's name, arguments and body are
 pub data IsProcedure (tokens : List Token) : ℕ → ℕ → Procedure → Type 0 where
   procedure : {i j k l m n : ℕ} {p : Procedure} → Stands tokens K.Proc i j → IsName tokens j k p.name → Stands tokens K.LeftParenthesis k l →
-      AreArguments tokens l m p.arguments.items → IsBlock tokens m n p.body.items → p.otherwise.items ≡ [] → IsProcedure tokens i n p
+      AreArguments tokens l m p.arguments.items → IsBlock tokens MAX_LEVELS m n p.body.items → p.otherwise.items ≡ [] → IsProcedure tokens i n p
   procedure_else : {i j k l m n o q : ℕ} {p : Procedure} → Stands tokens K.Proc i j → IsName tokens j k p.name → Stands tokens K.LeftParenthesis k l →
-      AreArguments tokens l m p.arguments.items → IsBlock tokens m n p.body.items → Stands tokens K.Else n o → IsBlock tokens o q p.otherwise.items →
+      AreArguments tokens l m p.arguments.items → IsBlock tokens MAX_LEVELS m n p.body.items → Stands tokens K.Else n o → IsBlock tokens MAX_LEVELS o q p.otherwise.items →
       IsProcedure tokens i q p
 
 pub data IsDeclaration (tokens : List Token) : ℕ → ℕ → Declaration → Type 0 where

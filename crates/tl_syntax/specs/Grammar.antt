@@ -1,5 +1,5 @@
 -- Which tokens spell which content. Each rule says what stands from the token i on, up to the token j.
-use Rattle.std.specs.Prelude.{◌≡◌, ℕ, ◌+◌, ◌-◌, List, [], ◌∷◌, ◌++◌, length, Option, None, Some, slice_get, ℤ, pos, neg_ℤ}
+use Rattle.std.specs.Prelude.{◌≡◌, ◌≢◌, ℕ, suc, ◌+◌, ◌-◌, ◌<◌, ◌≤◌, List, length, Option, None, Some, slice_get, ℤ, pos, neg_ℤ}
 use Rattle.std.specs.declared.boxed.Box.{Box}
 use Rattle.std.specs.declared.alloc.Global.{Global}
 use Rattle.tl_syntax.specs.declared.token.Token.{Token}
@@ -15,6 +15,7 @@ use Rattle.tl_syntax.specs.declared.parsed.Form.{Form}
 use Rattle.tl_syntax.specs.declared.parsed.Form.TheVariants as F
 use Rattle.tl_syntax.specs.declared.expressions.Join.{Join}
 use Rattle.tl_syntax.specs.declared.expressions.Join.TheVariants as J
+use Rattle.tl_syntax.specs.declared.words.TheConstants.{MAX_NUMBER}
 
 -- ---- tokens
 
@@ -44,16 +45,23 @@ pub record IsName (tokens : List Token) (i j : ℕ) (name : Name) : Type 0 where
   pub stands : Stands tokens (K.Name name.symbol) i j
   pub offset_is : name.offset ≡ offset_at tokens i
 
+-- a number of 32 bits: one less than with a minus sign before it
 pub record IsNumber (tokens : List Token) (i j : ℕ) (number : ℤ) : Type 0 where
   pub digits : ℕ
   pub stands : Stands tokens (K.Number digits) i j
+  pub fits : digits < MAX_NUMBER
   pub is : number ≡ pos digits
 
 -- the number behind a minus sign
 pub record IsNegative (tokens : List Token) (i j : ℕ) (number : ℤ) : Type 0 where
   pub digits : ℕ
   pub stands : Stands tokens (K.Number digits) i j
+  pub fits : digits ≤ MAX_NUMBER
   pub is : number ≡ neg_ℤ (pos digits)
+
+-- no number stands there
+abbrev pub IsNoNumber : List Token → ℕ → Type 0
+IsNoNumber tokens i = (digits : ℕ) → kind_at tokens i ≢ K.Number digits
 
 -- ---- expressions
 
@@ -120,25 +128,35 @@ pub data IsPlain (tokens : List Token) : ℕ → ℕ → Form → Type 0 where
   kids : {i j k l m : ℕ} {n : Name} → Stands tokens K.Kids i j → Stands tokens K.LeftParenthesis j k → IsName tokens k l n →
       Stands tokens K.RightParenthesis l m → IsPlain tokens i m (F.Children n)
 
-pub data IsExpression (tokens : List Token) : Rule → ℕ → ℕ → Expression → Type 0 where
-  alone : {rule : Rule} {i j : ℕ} {e : Expression} → IsExpression tokens (tighter rule) i j e → IsExpression tokens rule i j e
-  or : {i j k l : ℕ} {a b e : Expression} → IsExpression tokens Disjunction i j a → Stands tokens K.Or j k →
-      IsExpression tokens Conjunction k l b → IsJoined J.Or a b e → IsExpression tokens Disjunction i l e
-  and : {i j k l : ℕ} {a b e : Expression} → IsExpression tokens Conjunction i j a → Stands tokens K.And j k →
-      IsExpression tokens Negation k l b → IsJoined J.And a b e → IsExpression tokens Conjunction i l e
-  not : {i j k : ℕ} {a : Box Expression Global} {e : Expression} → Stands tokens K.Not i j → IsExpression tokens Negation j k a.value →
-      e.form ≡ F.Not a → e.offset ≡ offset_at tokens i → IsExpression tokens Negation i k e
-  compared : {i j k l : ℕ} {c : Comparison} {a b e : Expression} → IsExpression tokens Sum i j a → IsComparison tokens j k c →
-      IsExpression tokens Sum k l b → IsJoined (J.Compare c) a b e → IsExpression tokens Relation i l e
-  sum : {i j k l : ℕ} {o : Operator} {a b e : Expression} → IsExpression tokens Sum i j a → IsAdditive tokens j k o →
-      IsExpression tokens Term k l b → IsJoined (J.Calculate o) a b e → IsExpression tokens Sum i l e
-  term : {i j k l : ℕ} {o : Operator} {a b e : Expression} → IsExpression tokens Term i j a → IsMultiplicative tokens j k o →
-      IsExpression tokens Unary k l b → IsJoined (J.Calculate o) a b e → IsExpression tokens Term i l e
-  negative : {i j k : ℕ} {n : ℤ} {e : Expression} → Stands tokens K.Minus i j → IsNegative tokens j k n →
-      e.form ≡ F.Number n → e.offset ≡ offset_at tokens i → IsExpression tokens Unary i k e
-  negated : {i j k : ℕ} {a : Box Expression Global} {e : Expression} → Stands tokens K.Minus i j → IsExpression tokens Unary j k a.value →
-      e.form ≡ F.Negated a → e.offset ≡ offset_at tokens i → IsExpression tokens Unary i k e
-  -- the offset is that of the parenthesis
-  grouped : {i j k l : ℕ} {a e : Expression} → Stands tokens K.LeftParenthesis i j → IsExpression tokens Disjunction j k a →
-      Stands tokens K.RightParenthesis k l → e.form ≡ a.form → e.offset ≡ offset_at tokens i → IsExpression tokens Atom i l e
-  plain : {i j : ℕ} {e : Expression} → IsPlain tokens i j e.form → e.offset ≡ offset_at tokens i → IsExpression tokens Atom i j e
+-- an operator of a chain, and how it joins its operands
+abbrev pub IsOperator : List Token → Rule → ℕ → ℕ → Join → Type 0
+IsOperator tokens Disjunction i j J.Or = Stands tokens K.Or i j
+IsOperator tokens Conjunction i j J.And = Stands tokens K.And i j
+IsOperator tokens Sum i j (J.Calculate operator) = IsAdditive tokens i j operator
+IsOperator tokens Term i j (J.Calculate operator) = IsMultiplicative tokens i j operator
+IsOperator tokens rule i j join = ⊥
+
+-- `levels` is how many levels may be opened there. A `not`, a minus sign and a parenthesis each open a level for their operand. So does each operator of a chain, and that level stays open
+-- until the chain ends: `spare` is how many are left there. A comparison and a negative number open none.
+mutual
+  pub data IsExpression (tokens : List Token) : ℕ → Rule → ℕ → ℕ → Expression → Type 0 where
+    chain : {levels spare : ℕ} {rule : Rule} {i j : ℕ} {e : Expression} → IsChain tokens levels spare rule i j e → IsExpression tokens levels rule i j e
+    not : {levels i j k : ℕ} {a : Box Expression Global} {e : Expression} → Stands tokens K.Not i j → IsExpression tokens levels Negation j k a.value →
+        e.form ≡ F.Not a → e.offset ≡ offset_at tokens i → IsExpression tokens (suc levels) Negation i k e
+    compared : {levels i j k l : ℕ} {c : Comparison} {a b e : Expression} → IsExpression tokens levels Sum i j a → IsComparison tokens j k c →
+        IsExpression tokens levels Sum k l b → IsJoined (J.Compare c) a b e → IsExpression tokens levels Relation i l e
+    negative : {levels i j k : ℕ} {n : ℤ} {e : Expression} → Stands tokens K.Minus i j → IsNegative tokens j k n →
+        e.form ≡ F.Number n → e.offset ≡ offset_at tokens i → IsExpression tokens levels Unary i k e
+    -- a minus sign right before a number is part of the number
+    negated : {levels i j k : ℕ} {a : Box Expression Global} {e : Expression} → Stands tokens K.Minus i j → IsNoNumber tokens j →
+        IsExpression tokens levels Unary j k a.value → e.form ≡ F.Negated a → e.offset ≡ offset_at tokens i → IsExpression tokens (suc levels) Unary i k e
+    -- the offset is that of the parenthesis
+    grouped : {levels i j k l : ℕ} {a e : Expression} → Stands tokens K.LeftParenthesis i j → IsExpression tokens levels Disjunction j k a →
+        Stands tokens K.RightParenthesis k l → e.form ≡ a.form → e.offset ≡ offset_at tokens i → IsExpression tokens (suc levels) Atom i l e
+    plain : {levels i j : ℕ} {e : Expression} → IsPlain tokens i j e.form → e.offset ≡ offset_at tokens i → IsExpression tokens levels Atom i j e
+
+  -- one operand or more of the rule that binds next, joined from the left
+  pub data IsChain (tokens : List Token) : ℕ → ℕ → Rule → ℕ → ℕ → Expression → Type 0 where
+    one : {levels : ℕ} {rule : Rule} {i j : ℕ} {e : Expression} → IsExpression tokens levels (tighter rule) i j e → IsChain tokens levels levels rule i j e
+    more : {levels spare : ℕ} {rule : Rule} {join : Join} {i j k l : ℕ} {a b e : Expression} → IsChain tokens levels (suc spare) rule i j a →
+        IsOperator tokens rule j k join → IsExpression tokens spare (tighter rule) k l b → IsJoined join a b e → IsChain tokens levels spare rule i l e

@@ -1,9 +1,8 @@
 -- Which tokens spell which statement. Each rule says what stands from the token i on, up to the token j.
-use Rattle.std.specs.Prelude.{◌≡◌, ℕ, List, [], ◌∷◌, ◌++◌, Bool, true, false, Option, None, Some}
+use Rattle.std.specs.Prelude.{◌≡◌, ℕ, suc, List, [], ◌∷◌, ◌++◌, Bool, true, false, Option, None, Some}
 use Rattle.std.specs.declared.vec.Vec.{Vec}
 use Rattle.std.specs.declared.alloc.Global.{Global}
 use Rattle.tl_syntax.specs.declared.token.Token.{Token}
-use Rattle.tl_syntax.specs.declared.token.Symbol.{Symbol}
 use Rattle.tl_syntax.specs.declared.token.TokenKind.{TokenKind}
 use Rattle.tl_syntax.specs.declared.token.TokenKind.TheVariants as K
 use Rattle.tl_syntax.specs.declared.parsed.Name.{Name}
@@ -53,46 +52,46 @@ IsChange tokens i j C.Add = Stands tokens K.AddAssign i j
 IsChange tokens i j C.Subtract = Stands tokens K.SubtractAssign i j
 
 -- an expression in parentheses
-pub data IsArgument (tokens : List Token) : ℕ → ℕ → Expression → Type 0 where
-  argument : {i j k l : ℕ} {e : Expression} → Stands tokens K.LeftParenthesis i j → IsExpression tokens Disjunction j k e →
-      Stands tokens K.RightParenthesis k l → IsArgument tokens i l e
+pub data IsArgument (tokens : List Token) (levels : ℕ) : ℕ → ℕ → Expression → Type 0 where
+  argument : {i j k l : ℕ} {e : Expression} → Stands tokens K.LeftParenthesis i j → IsExpression tokens levels Disjunction j k e →
+      Stands tokens K.RightParenthesis k l → IsArgument tokens levels i l e
 
 -- what stands behind the name and the sign
-pub data IsChild (tokens : List Token) : ℕ → ℕ → Child → Type 0 where
+pub data IsChild (tokens : List Token) (levels : ℕ) : ℕ → ℕ → Child → Type 0 where
   child : {i j k l m n o : ℕ} {c : Child} → Stands tokens K.Child i j → Stands tokens K.LeftParenthesis j k → IsName tokens k l c.parent →
-      Stands tokens K.Comma l m → IsExpression tokens Disjunction m n c.number → Stands tokens K.RightParenthesis n o → IsChild tokens i o c
+      Stands tokens K.Comma l m → IsExpression tokens levels Disjunction m n c.number → Stands tokens K.RightParenthesis n o → IsChild tokens levels i o c
 
-pub data IsPlace (tokens : List Token) : ℕ → ℕ → Place → Type 0 where
+pub data IsPlace (tokens : List Token) (levels : ℕ) : ℕ → ℕ → Place → Type 0 where
   -- the offset is that of the word
   node : {i j k l m offset : ℕ} {name : Name} {number : Expression} → IsName tokens i j name → Stands tokens K.Assign j k →
-      Stands tokens K.Node k l → IsArgument tokens l m number → offset ≡ offset_at tokens k → IsPlace tokens i m (P.Node name offset number)
-  child : {i j k l : ℕ} {c : Child} → IsName tokens i j c.name → Stands tokens K.Assign j k → IsChild tokens k l c → IsPlace tokens i l (P.Child c)
-  pair : {i j k l m n o p : ℕ} {a b : Child} → IsName tokens i j a.name → Stands tokens K.Assign j k → IsChild tokens k l a →
-      Stands tokens K.Comma l m → IsName tokens m n b.name → Stands tokens K.Assign n o → IsChild tokens o p b → IsPlace tokens i p (P.Pair a b)
+      Stands tokens K.Node k l → IsArgument tokens levels l m number → offset ≡ offset_at tokens k → IsPlace tokens levels i m (P.Node name offset number)
+  child : {i j k l : ℕ} {c : Child} → IsName tokens i j c.name → Stands tokens K.Assign j k → IsChild tokens levels k l c → IsPlace tokens levels i l (P.Child c)
+  pair : {i j k l m n o p : ℕ} {a b : Child} → IsName tokens i j a.name → Stands tokens K.Assign j k → IsChild tokens levels k l a →
+      Stands tokens K.Comma l m → IsName tokens m n b.name → Stands tokens K.Assign n o → IsChild tokens levels o p b → IsPlace tokens levels i p (P.Pair a b)
 
 -- one expression or more, with commas between them
-pub data AreExpressions (tokens : List Token) : ℕ → ℕ → List Expression → Type 0 where
-  one : {i j : ℕ} {e : Expression} → IsExpression tokens Disjunction i j e → AreExpressions tokens i j (e ∷ [])
-  one_more : {i j k l : ℕ} {es : List Expression} {e : Expression} → AreExpressions tokens i j es → Stands tokens K.Comma j k →
-      IsExpression tokens Disjunction k l e → AreExpressions tokens i l (es ++ e ∷ [])
+pub data AreExpressions (tokens : List Token) (levels : ℕ) : ℕ → ℕ → List Expression → Type 0 where
+  one : {i j : ℕ} {e : Expression} → IsExpression tokens levels Disjunction i j e → AreExpressions tokens levels i j (e ∷ [])
+  one_more : {i j k l : ℕ} {es : List Expression} {e : Expression} → AreExpressions tokens levels i j es → Stands tokens K.Comma j k →
+      IsExpression tokens levels Disjunction k l e → AreExpressions tokens levels i l (es ++ e ∷ [])
 
 -- a statement without blocks of its own, up to what ends it
-pub data IsAction (tokens : List Token) : ℕ → ℕ → Action → Type 0 where
+pub data IsAction (tokens : List Token) (levels : ℕ) : ℕ → ℕ → Action → Type 0 where
   lets : {i j k l m : ℕ} {n : Name} {e : Expression} → Stands tokens K.Let i j → IsName tokens j k n → Stands tokens K.Assign k l →
-      IsExpression tokens Disjunction l m e → IsAction tokens i m (A.Let n e)
+      IsExpression tokens levels Disjunction l m e → IsAction tokens levels i m (A.Let n e)
   assigns : {i j k l : ℕ} {n : Name} {c : Change} {e : Expression} → IsName tokens i j n → IsChange tokens j k c →
-      IsExpression tokens Disjunction k l e → IsAction tokens i l (A.Assign n c e)
+      IsExpression tokens levels Disjunction k l e → IsAction tokens levels i l (A.Assign n c e)
   writes : {i j k l m o : ℕ} {n f : Name} {c : Change} {e : Expression} → IsName tokens i j n → Stands tokens K.Dot j k → IsName tokens k l f →
-      IsChange tokens l m c → IsExpression tokens Disjunction m o e → IsAction tokens i o (A.Write n f c e)
-  emits : {i j k : ℕ} {es : Vec Expression Global} → Stands tokens K.Emit i j → AreExpressions tokens j k es.items → IsAction tokens i k (A.Emit es)
-  requires : {i j k : ℕ} {e : Expression} → Stands tokens K.Require i j → IsExpression tokens Disjunction j k e → IsAction tokens i k (A.Require e)
-  locks : {i j k : ℕ} {p : Place} → Stands tokens K.Lock i j → IsPlace tokens j k p → IsAction tokens i k (A.Lock p)
+      IsChange tokens l m c → IsExpression tokens levels Disjunction m o e → IsAction tokens levels i o (A.Write n f c e)
+  emits : {i j k : ℕ} {es : Vec Expression Global} → Stands tokens K.Emit i j → AreExpressions tokens levels j k es.items → IsAction tokens levels i k (A.Emit es)
+  requires : {i j k : ℕ} {e : Expression} → Stands tokens K.Require i j → IsExpression tokens levels Disjunction j k e → IsAction tokens levels i k (A.Require e)
+  locks : {i j k : ℕ} {p : Place} → Stands tokens K.Lock i j → IsPlace tokens levels j k p → IsAction tokens levels i k (A.Lock p)
   descends : {i j k l m o : ℕ} {n : Name} {e : Expression} → Stands tokens K.Descend i j → IsName tokens j k n → Stands tokens word_to k l →
-      Stands tokens K.Child l m → IsArgument tokens m o e → IsAction tokens i o (A.Descend n e)
+      Stands tokens K.Child l m → IsArgument tokens levels m o e → IsAction tokens levels i o (A.Descend n e)
   takes : {i j k l m : ℕ} {n from : Name} → Stands tokens K.Descend i j → IsName tokens j k n → Stands tokens word_to k l →
-      IsName tokens l m from → IsAction tokens i m (A.Take n from)
-  frees : {i j k : ℕ} {n : Name} → Stands tokens K.Free i j → IsName tokens j k n → IsAction tokens i k (A.Free n)
-  leaves : {i j : ℕ} {l : Leave} → IsLeave tokens i j l → IsAction tokens i j (A.Leave l)
+      IsName tokens l m from → IsAction tokens levels i m (A.Take n from)
+  frees : {i j k : ℕ} {n : Name} → Stands tokens K.Free i j → IsName tokens j k n → IsAction tokens levels i k (A.Free n)
+  leaves : {i j : ℕ} {l : Leave} → IsLeave tokens i j l → IsAction tokens levels i j (A.Leave l)
 
 -- whether the statement may have an `else` of its own
 abbrev pub allows_else : Action → Bool
@@ -101,9 +100,9 @@ allows_else (A.Free n) = false
 allows_else (A.Leave l) = false
 allows_else action = true
 
-pub data IsQuestion (tokens : List Token) : ℕ → ℕ → Question → Type 0 where
-  condition : {i j : ℕ} {e : Expression} → IsExpression tokens Disjunction i j e → IsQuestion tokens i j (Q.Condition e)
-  lock : {i j k : ℕ} {p : Place} → Stands tokens K.Lock i j → IsPlace tokens j k p → IsQuestion tokens i k (Q.Lock p)
+pub data IsQuestion (tokens : List Token) (levels : ℕ) : ℕ → ℕ → Question → Type 0 where
+  condition : {i j : ℕ} {e : Expression} → IsExpression tokens levels Disjunction i j e → IsQuestion tokens levels i j (Q.Condition e)
+  lock : {i j k : ℕ} {p : Place} → Stands tokens K.Lock i j → IsPlace tokens levels j k p → IsQuestion tokens levels i k (Q.Lock p)
 
 -- how often a loop may turn
 pub data IsCount (tokens : List Token) : ℕ → ℕ → Expression → Type 0 where
@@ -115,53 +114,54 @@ pub data IsLeaving (tokens : List Token) : ℕ → ℕ → List Statement → Ty
   leaving : {i j k : ℕ} {l : Leave} {s : Statement} → IsLeave tokens i j l → Stands tokens K.Semicolon j k → s.form ≡ S.Act (A.Leave l) None →
       s.offset ≡ offset_at tokens i → IsLeaving tokens i k (s ∷ [])
 
+-- `levels` is how many levels may be opened there. A block opens one, and so does an `if`, for its condition and its blocks.
 mutual
-  pub data IsBlock (tokens : List Token) : ℕ → ℕ → List Statement → Type 0 where
-    block : {i j k l : ℕ} {all : List Statement} → Stands tokens K.LeftBrace i j → AreStatements tokens j k all →
-        Stands tokens K.RightBrace k l → IsBlock tokens i l all
+  pub data IsBlock (tokens : List Token) : ℕ → ℕ → ℕ → List Statement → Type 0 where
+    block : {levels i j k l : ℕ} {all : List Statement} → Stands tokens K.LeftBrace i j → AreStatements tokens levels j k all →
+        Stands tokens K.RightBrace k l → IsBlock tokens (suc levels) i l all
 
-  pub data AreStatements (tokens : List Token) : ℕ → ℕ → List Statement → Type 0 where
-    no_more : {i : ℕ} → AreStatements tokens i i []
-    next : {i j k : ℕ} {all : List Statement} {s : Statement} → AreStatements tokens i j all → IsStatement tokens j k s →
-        AreStatements tokens i k (all ++ s ∷ [])
+  pub data AreStatements (tokens : List Token) : ℕ → ℕ → ℕ → List Statement → Type 0 where
+    no_more : {levels i : ℕ} → AreStatements tokens levels i i []
+    next : {levels i j k : ℕ} {all : List Statement} {s : Statement} → AreStatements tokens levels i j all → IsStatement tokens levels j k s →
+        AreStatements tokens levels i k (all ++ s ∷ [])
 
   -- the offset is that of the first token
-  pub data IsStatement (tokens : List Token) : ℕ → ℕ → Statement → Type 0 where
-    statement : {i j : ℕ} {s : Statement} → IsForm tokens i j s.form → s.offset ≡ offset_at tokens i → IsStatement tokens i j s
+  pub data IsStatement (tokens : List Token) : ℕ → ℕ → ℕ → Statement → Type 0 where
+    statement : {levels i j : ℕ} {s : Statement} → IsForm tokens levels i j s.form → s.offset ≡ offset_at tokens i → IsStatement tokens levels i j s
 
-  pub data IsForm (tokens : List Token) : ℕ → ℕ → StatementForm → Type 0 where
-    act : {i j k : ℕ} {a : Action} → IsAction tokens i j a → Stands tokens K.Semicolon j k → IsForm tokens i k (S.Act a None)
-    act_else : {i j k : ℕ} {a : Action} {o : Otherwise} → IsAction tokens i j a → allows_else a ≡ true → IsOtherwise tokens j k o →
-        IsForm tokens i k (S.Act a (Some o))
-    try : {i j k l m : ℕ} (body other : Vec Statement Global) → Stands tokens K.Try i j → IsBlock tokens j k body.items → Stands tokens K.Else k l →
-        IsBlock tokens l m other.items → IsForm tokens i m (S.Try body other)
-    if : {i j k l : ℕ} {q : Question} (body other : Vec Statement Global) → Stands tokens K.If i j → IsQuestion tokens j k q → IsBlock tokens k l body.items →
-        other.items ≡ [] → IsForm tokens i l (S.If q body other)
-    if_else : {i j k l m n : ℕ} {q : Question} (body other : Vec Statement Global) → Stands tokens K.If i j → IsQuestion tokens j k q →
-        IsBlock tokens k l body.items → Stands tokens K.Else l m → IsOther tokens m n other.items → IsForm tokens i n (S.If q body other)
-    repeat : {i j k l : ℕ} {turns : Expression} (body : Vec Statement Global) → Stands tokens K.Repeat i j → IsExpression tokens Disjunction j k turns →
-        IsBlock tokens k l body.items → IsForm tokens i l (S.Repeat turns None body)
-    repeat_at_most : {i j k l m n o : ℕ} {turns most : Expression} (body : Vec Statement Global) → Stands tokens K.Repeat i j →
-        IsExpression tokens Disjunction j k turns → Stands tokens word_at k l → Stands tokens word_most l m → IsCount tokens m n most →
-        IsBlock tokens n o body.items → IsForm tokens i o (S.Repeat turns (Some most) body)
-    for_each : {i j k l m n o p q r s : ℕ} {child parent : Name} {most : Expression} (body : Vec Statement Global) → Stands tokens K.For i j →
+  pub data IsForm (tokens : List Token) : ℕ → ℕ → ℕ → StatementForm → Type 0 where
+    act : {levels i j k : ℕ} {a : Action} → IsAction tokens levels i j a → Stands tokens K.Semicolon j k → IsForm tokens levels i k (S.Act a None)
+    act_else : {levels i j k : ℕ} {a : Action} {o : Otherwise} → IsAction tokens levels i j a → allows_else a ≡ true → IsOtherwise tokens levels j k o →
+        IsForm tokens levels i k (S.Act a (Some o))
+    try : {levels i j k l m : ℕ} (body other : Vec Statement Global) → Stands tokens K.Try i j → IsBlock tokens levels j k body.items → Stands tokens K.Else k l →
+        IsBlock tokens levels l m other.items → IsForm tokens levels i m (S.Try body other)
+    if : {levels i j k l : ℕ} {q : Question} (body other : Vec Statement Global) → Stands tokens K.If i j → IsQuestion tokens levels j k q → IsBlock tokens levels k l body.items →
+        other.items ≡ [] → IsForm tokens (suc levels) i l (S.If q body other)
+    if_else : {levels i j k l m n : ℕ} {q : Question} (body other : Vec Statement Global) → Stands tokens K.If i j → IsQuestion tokens levels j k q →
+        IsBlock tokens levels k l body.items → Stands tokens K.Else l m → IsOther tokens levels m n other.items → IsForm tokens (suc levels) i n (S.If q body other)
+    repeat : {levels i j k l : ℕ} {turns : Expression} (body : Vec Statement Global) → Stands tokens K.Repeat i j → IsExpression tokens levels Disjunction j k turns →
+        IsBlock tokens levels k l body.items → IsForm tokens levels i l (S.Repeat turns None body)
+    repeat_at_most : {levels i j k l m n o : ℕ} {turns most : Expression} (body : Vec Statement Global) → Stands tokens K.Repeat i j →
+        IsExpression tokens levels Disjunction j k turns → Stands tokens word_at k l → Stands tokens word_most l m → IsCount tokens m n most →
+        IsBlock tokens levels n o body.items → IsForm tokens levels i o (S.Repeat turns (Some most) body)
+    for_each : {levels i j k l m n o p q r s : ℕ} {child parent : Name} {most : Expression} (body : Vec Statement Global) → Stands tokens K.For i j →
         Stands tokens word_each j k → Stands tokens K.Child k l → IsName tokens l m child → Stands tokens word_of m n → IsName tokens n o parent →
-        Stands tokens word_at o p → Stands tokens word_most p q → IsCount tokens q r most → IsBlock tokens r s body.items →
-        IsForm tokens i s (S.ForEach child parent most body)
+        Stands tokens word_at o p → Stands tokens word_most p q → IsCount tokens q r most → IsBlock tokens levels r s body.items →
+        IsForm tokens levels i s (S.ForEach child parent most body)
 
   -- what stands behind the `else` of an `if`
-  pub data IsOther (tokens : List Token) : ℕ → ℕ → List Statement → Type 0 where
-    other_block : {i j : ℕ} {all : List Statement} → IsBlock tokens i j all → IsOther tokens i j all
-    other_if : {i j : ℕ} {s : Statement} → kind_at tokens i ≡ K.If → IsStatement tokens i j s → IsOther tokens i j (s ∷ [])
+  pub data IsOther (tokens : List Token) : ℕ → ℕ → ℕ → List Statement → Type 0 where
+    other_block : {levels i j : ℕ} {all : List Statement} → IsBlock tokens levels i j all → IsOther tokens levels i j all
+    other_if : {levels i j : ℕ} {s : Statement} → kind_at tokens i ≡ K.If → IsStatement tokens levels i j s → IsOther tokens levels i j (s ∷ [])
 
   -- the offset is that of the word `else`
-  pub data IsOtherwise (tokens : List Token) : ℕ → ℕ → Otherwise → Type 0 where
-    block_else : {i j k : ℕ} {o : Otherwise} → Stands tokens K.Else i j → IsBlock tokens j k (out-Otherwise o).body.items →
-        (out-Otherwise o).offset ≡ offset_at tokens i → IsOtherwise tokens i k o
-    leave_else : {i j k : ℕ} {o : Otherwise} → Stands tokens K.Else i j → IsLeaving tokens j k (out-Otherwise o).body.items →
-        (out-Otherwise o).offset ≡ offset_at tokens i → IsOtherwise tokens i k o
+  pub data IsOtherwise (tokens : List Token) : ℕ → ℕ → ℕ → Otherwise → Type 0 where
+    block_else : {levels i j k : ℕ} {o : Otherwise} → Stands tokens K.Else i j → IsBlock tokens levels j k (out-Otherwise o).body.items →
+        (out-Otherwise o).offset ≡ offset_at tokens i → IsOtherwise tokens levels i k o
+    leave_else : {levels i j k : ℕ} {o : Otherwise} → Stands tokens K.Else i j → IsLeaving tokens j k (out-Otherwise o).body.items →
+        (out-Otherwise o).offset ≡ offset_at tokens i → IsOtherwise tokens levels i k o
 
 -- a semicolon, or an `else` of the statement's own
-abbrev pub IsTail : List Token → ℕ → ℕ → Option Otherwise → Type 0
-IsTail tokens i j None = Stands tokens K.Semicolon i j
-IsTail tokens i j (Some o) = IsOtherwise tokens i j o
+abbrev pub IsTail : List Token → ℕ → ℕ → ℕ → Option Otherwise → Type 0
+IsTail tokens levels i j None = Stands tokens K.Semicolon i j
+IsTail tokens levels i j (Some o) = IsOtherwise tokens levels i j o

@@ -1,6 +1,6 @@
 -- What the tokens of a text are. A text is a sequence of pieces: blanks, comments, words, numbers and signs.
 use denote.Bor.{Bor}
-use Rattle.std.specs.Prelude.{◌≡◌, ◌≢◌, ℕ, suc, ◌+◌, ◌≤◌, Bool, true, false, not, ◌||◌, ◌==◌, List, [], ◌∷◌, ◌++◌, length, take, drop, Option, None, Some, slice_get, All, IsTrue, codes, map, if◌then◌else◌, ◌⊎◌}
+use Rattle.std.specs.Prelude.{◌≡◌, ◌≢◌, ℕ, suc, ◌+◌, ◌<◌, ◌≤◌, Bool, true, not, ◌||◌, ◌==◌, List, [], ◌∷◌, ◌++◌, length, take, drop, Option, None, Some, slice_get, All, IsTrue, codes, map, ◌⊎◌}
 use Rattle.std.specs.List.{position_or_len}
 use Rattle.std.specs.Char.{is_ascii_alphabetic, is_ascii_alphanumeric, is_ascii_digit}
 use Rattle.std.specs.Str.Parse.{digits_value}
@@ -123,6 +123,10 @@ pub data Begins (first : ℕ) (after : List ℕ) : Piece → ℕ → Type 0 wher
 abbrev pub spellings : List (Bor (List ℕ)) → List (List ℕ)
 spellings names = map (λ name. name.now) names
 
+-- no name stands twice
+abbrev pub AreDistinct : List (List ℕ) → Type 0
+AreDistinct names = (i j : ℕ) (word : List ℕ) → slice_get names i ≡ Some word → slice_get names j ≡ Some word → i ≡ j
+
 -- the token that a piece is; the symbol of a name is its index
 pub data IsToken (names : List (List ℕ)) : Piece → List ℕ → TokenKind → Type 0 where
   reserved : {word : List ℕ} {kind : TokenKind} → IsReserved word kind → IsToken names P.Word word kind
@@ -140,6 +144,21 @@ pub data AreTokens (names : List (List ℕ)) : ℕ → List ℕ → List Token �
       IsToken names piece (first ∷ take n after) kind → AreTokens names (offset + (n + 1)) (drop n after) tokens →
       AreTokens names offset (first ∷ after) (record { kind = kind; offset = offset } ∷ tokens)
 
+-- ---- the order of names
+
+-- a token that brings no new name, where so many are known
+abbrev pub IsKnown : ℕ → TokenKind → Type 0
+IsKnown known (K.Name symbol) = symbol.0 < known
+IsKnown known kind = Unit {0}
+
+-- how many names are known before these tokens and behind them: each new one has the next symbol
+pub data AreNumbered : ℕ → List Token → ℕ → Type 0 where
+  no_tokens : {known : ℕ} → AreNumbered known [] known
+  known_token : {known last : ℕ} {token : Token} {tokens : List Token} → IsKnown known token.kind → AreNumbered known tokens last →
+      AreNumbered known (token ∷ tokens) last
+  new_name : {known last : ℕ} {token : Token} {tokens : List Token} → token.kind ≡ K.Name (record { 0 = known }) → AreNumbered (suc known) tokens last →
+      AreNumbered known (token ∷ tokens) last
+
 -- ---- what is read so far
 
 -- more names at the end
@@ -150,6 +169,10 @@ pub record Extends (old new : List (List ℕ)) : Type 0 where
 -- the words that may also be names are the first ones
 abbrev pub first_names : List (List ℕ)
 first_names = codes "at" ∷ codes "each" ∷ codes "most" ∷ codes "of" ∷ codes "to" ∷ []
+
+-- the names are those of the grammar and then those of the tokens, in the order in which these have them
+abbrev pub AreNamesOf : List Token → List (List ℕ) → Type 0
+AreNamesOf tokens names = AreNumbered (length first_names) tokens (length names)
 
 -- a piece adds its token, if it is one, and maybe a name
 pub data Adds (word : List ℕ) (offset : ℕ) (names names' : List (List ℕ)) (tokens tokens' : List Token) : Piece → Type 0 where

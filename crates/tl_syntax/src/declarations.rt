@@ -50,7 +50,7 @@ impl<'a> Parser<'a> {
         let Some(next) = self.skip_if(at, TokenKind::Minus) else {
             return self.number(at);
         };
-        match self.negative(next) {
+        match self.negative(next)? {
             Some((number, after)) => Ok((number, after)),
             None => Err(self.misplaced(next)),
         }

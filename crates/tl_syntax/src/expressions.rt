@@ -98,7 +98,7 @@ impl<'a> Parser<'a> {
     /// A chain of `or`. Each operator opens a level, which stays open until the chain ends.
     #[cycle(expressions)]
     pub fn expression(&self, at: usize, levels: u32) -> Parsed<Expression>
-        ensures { IfOk result (λ read. IsExpression self.now.tokens.now Disjunction at read.1 read.0) }
+        ensures { IfOk result (λ read. IsExpression self.now.tokens.now levels Disjunction at read.1 read.0) }
     {
         let (mut left, mut at) = self.conjunction(at, levels)?;
         let mut spare = levels;
@@ -113,7 +113,7 @@ impl<'a> Parser<'a> {
 
     #[cycle(expressions)]
     fn conjunction(&self, at: usize, levels: u32) -> Parsed<Expression>
-        ensures { IfOk result (λ read. IsExpression self.now.tokens.now Conjunction at read.1 read.0) }
+        ensures { IfOk result (λ read. IsExpression self.now.tokens.now levels Conjunction at read.1 read.0) }
     {
         let (mut left, mut at) = self.negation(at, levels)?;
         let mut spare = levels;
@@ -128,7 +128,7 @@ impl<'a> Parser<'a> {
 
     #[cycle(expressions)]
     fn negation(&self, at: usize, levels: u32) -> Parsed<Expression>
-        ensures { IfOk result (λ read. IsExpression self.now.tokens.now Negation at read.1 read.0) }
+        ensures { IfOk result (λ read. IsExpression self.now.tokens.now levels Negation at read.1 read.0) }
     {
         let Some(next) = self.skip_if(at, TokenKind::Not) else {
             return self.relation(at, levels);
@@ -142,7 +142,7 @@ impl<'a> Parser<'a> {
 
     #[cycle(expressions)]
     fn relation(&self, at: usize, levels: u32) -> Parsed<Expression>
-        ensures { IfOk result (λ read. IsExpression self.now.tokens.now Relation at read.1 read.0) }
+        ensures { IfOk result (λ read. IsExpression self.now.tokens.now levels Relation at read.1 read.0) }
     {
         let (left, at) = self.sum(at, levels)?;
         let Some((comparison, next)) = self.comparison(at) else {
@@ -155,7 +155,7 @@ impl<'a> Parser<'a> {
 
     #[cycle(expressions)]
     fn sum(&self, at: usize, levels: u32) -> Parsed<Expression>
-        ensures { IfOk result (λ read. IsExpression self.now.tokens.now Sum at read.1 read.0) }
+        ensures { IfOk result (λ read. IsExpression self.now.tokens.now levels Sum at read.1 read.0) }
     {
         let (mut left, mut at) = self.product(at, levels)?;
         let mut spare = levels;
@@ -170,7 +170,7 @@ impl<'a> Parser<'a> {
 
     #[cycle(expressions)]
     fn product(&self, at: usize, levels: u32) -> Parsed<Expression>
-        ensures { IfOk result (λ read. IsExpression self.now.tokens.now Term at read.1 read.0) }
+        ensures { IfOk result (λ read. IsExpression self.now.tokens.now levels Term at read.1 read.0) }
     {
         let (mut left, mut at) = self.signed(at, levels)?;
         let mut spare = levels;
@@ -186,13 +186,13 @@ impl<'a> Parser<'a> {
     // A minus sign directly before a number makes a negative number. Any other minus sign opens a level.
     #[cycle(expressions)]
     fn signed(&self, at: usize, levels: u32) -> Parsed<Expression>
-        ensures { IfOk result (λ read. IsExpression self.now.tokens.now Unary at read.1 read.0) }
+        ensures { IfOk result (λ read. IsExpression self.now.tokens.now levels Unary at read.1 read.0) }
     {
         let Some(next) = self.skip_if(at, TokenKind::Minus) else {
             return self.atom(at, levels);
         };
         let offset = self.offset(at);
-        if let Some((number, after)) = self.negative(next) {
+        if let Some((number, after)) = self.negative(next)? {
             let form = Form::Number(number);
             return Ok((Expression { offset, form }, after));
         }
@@ -204,7 +204,7 @@ impl<'a> Parser<'a> {
 
     #[cycle(expressions)]
     fn atom(&self, at: usize, levels: u32) -> Parsed<Expression>
-        ensures { IfOk result (λ read. IsExpression self.now.tokens.now Atom at read.1 read.0) }
+        ensures { IfOk result (λ read. IsExpression self.now.tokens.now levels Atom at read.1 read.0) }
     {
         let offset = self.offset(at);
         let Some(next) = self.skip_if(at, TokenKind::LeftParenthesis) else {

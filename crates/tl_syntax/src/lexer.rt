@@ -1,13 +1,15 @@
 // From bytes to tokens.
 
-ghost use Rattle.std.specs.Prelude.{◌≡◌, ◌<◌, ◌≤◌, length, [], ◌∷◌, ◌++◌, IfSome, IfOk, OnOk};
+ghost use Rattle.std.specs.Prelude.{◌≡◌, ℕ, List, ◌<◌, ◌≤◌, length, [], ◌∷◌, ◌++◌, IfSome, IfOk, OnOk};
 ghost use Rattle.tl_syntax.specs.Tokens.{
   word_left,
   line_left,
   Begins,
   spellings,
   first_names,
+  AreDistinct,
   Extends,
+  AreNamesOf,
   Adds,
   AreTokens,
 };
@@ -86,6 +88,7 @@ impl<'a> Lexed<'a> {
     // The grammar's words that may also be names get the first numbers.
     fn new(alloc: Global) -> Result<Lexed<'a>, SyntaxFault>
         ensures names { IfOk result (λ lexed. spellings lexed.names.keys ≡ first_names) }
+        ensures distinct { IfOk result (λ lexed. AreDistinct (spellings lexed.names.keys)) }
         ensures tokens { IfOk result (λ lexed. lexed.tokens.items ≡ []) }
     {
         let mut names = IndexSet::new(alloc);
@@ -110,8 +113,11 @@ impl<'a> Lexed<'a> {
     }
 
     fn push_word(&mut self, word: &'a [u8], offset: usize) -> Result<(), SyntaxFault>
-        ensures { OnOk result (Adds word.now offset (spellings self.old.names.keys) (spellings self.new.names.keys)
+        ensures adds { OnOk result (Adds word.now offset (spellings self.old.names.keys) (spellings self.new.names.keys)
             self.old.tokens.items self.new.tokens.items Piece.Word) }
+        ensures distinct { OnOk result (AreDistinct (spellings self.old.names.keys) → AreDistinct (spellings self.new.names.keys)) }
+        ensures numbered { OnOk result (AreNamesOf self.old.tokens.items (spellings self.old.names.keys) →
+            AreNamesOf self.new.tokens.items (spellings self.new.names.keys)) }
     {
         if let Some(kind) = reserved(word) {
             self.push(kind, offset)?;
@@ -126,8 +132,11 @@ impl<'a> Lexed<'a> {
     }
 
     fn push_number(&mut self, word: &[u8], offset: usize) -> Result<(), SyntaxFault>
-        ensures { OnOk result (Adds word.now offset (spellings self.old.names.keys) (spellings self.new.names.keys)
+        ensures adds { OnOk result (Adds word.now offset (spellings self.old.names.keys) (spellings self.new.names.keys)
             self.old.tokens.items self.new.tokens.items Piece.Digits) }
+        ensures distinct { OnOk result (AreDistinct (spellings self.old.names.keys) → AreDistinct (spellings self.new.names.keys)) }
+        ensures numbered { OnOk result (AreNamesOf self.old.tokens.items (spellings self.old.names.keys) →
+            AreNamesOf self.new.tokens.items (spellings self.new.names.keys)) }
     {
         match number(word) {
             Some(number) => {
@@ -140,8 +149,11 @@ impl<'a> Lexed<'a> {
 
     // Adds the token that a piece is, if it is one.
     fn add(&mut self, piece: Piece, word: &'a [u8], offset: usize) -> Result<(), SyntaxFault>
-        ensures { OnOk result (Adds word.now offset (spellings self.old.names.keys) (spellings self.new.names.keys)
+        ensures adds { OnOk result (Adds word.now offset (spellings self.old.names.keys) (spellings self.new.names.keys)
             self.old.tokens.items self.new.tokens.items piece) }
+        ensures distinct { OnOk result (AreDistinct (spellings self.old.names.keys) → AreDistinct (spellings self.new.names.keys)) }
+        ensures numbered { OnOk result ((first : ℕ) (after : List ℕ) (n : ℕ) → Begins first after piece n → AreNamesOf self.old.tokens.items (spellings self.old.names.keys) →
+            AreNamesOf self.new.tokens.items (spellings self.new.names.keys)) }
     {
         match piece {
             Piece::Blank => Ok(()),
@@ -159,6 +171,8 @@ impl<'a> Lexed<'a> {
 pub fn lex(alloc: Global, text: &[u8]) -> Result<Lexed<'_>, SyntaxFault>
     ensures tokens { IfOk result (λ lexed. AreTokens (spellings lexed.names.keys) 0 text.now lexed.tokens.items) }
     ensures names { IfOk result (λ lexed. Extends first_names (spellings lexed.names.keys)) }
+    ensures distinct { IfOk result (λ lexed. AreDistinct (spellings lexed.names.keys)) }
+    ensures numbered { IfOk result (λ lexed. AreNamesOf lexed.tokens.items (spellings lexed.names.keys)) }
 {
     let mut lexed = Lexed::new(alloc)?;
     let mut rest = text;

@@ -4,6 +4,7 @@
 mod declarations;
 mod expressions;
 mod fault;
+pub mod laws;
 mod lexer;
 mod operator;
 pub mod parsed;

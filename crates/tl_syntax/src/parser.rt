@@ -1,7 +1,7 @@
 // The parser's input: tokens, one after another.
 
-ghost use Rattle.std.specs.Prelude.{◌≡◌, ◌≢◌, ◌+◌, ◌<◌, ◌≤◌, length, IfOk, IfSome};
-ghost use Rattle.tl_syntax.specs.Grammar.{kind_at, offset_at, Stands, IsName, IsNumber, IsNegative};
+ghost use Rattle.std.specs.Prelude.{◌≡◌, ◌≢◌, suc, ◌+◌, ◌≤◌, length, IfOk, IfSome, IfNone};
+ghost use Rattle.tl_syntax.specs.Grammar.{kind_at, offset_at, Stands, IsName, IsNumber, IsNegative, IsNoNumber};
 
 use crate::fault::{SyntaxFault, Wrong};
 use crate::parsed::Name;
@@ -128,28 +128,24 @@ impl<'a> Parser<'a> {
         }
     }
 
-    /// The number directly after a minus sign, negated.
-    #[tactic(auto, unfolding(crate::specs::Grammar::kind_at))]
-    pub fn negative(&self, at: usize) -> Option<(i32, usize)>
-        ensures { IfSome result (λ read. IsNegative self.now.tokens.now at read.1 read.0) }
+    /// The number directly after a minus sign, negated; None if no number stands there. 271 if it doesn't fit 32 bits.
+    pub fn negative(&self, at: usize) -> Result<Option<(i32, usize)>, SyntaxFault>
+        ensures some { IfOk result (λ read. IfSome read (λ number. IsNegative self.now.tokens.now at number.1 number.0)) }
+        ensures none { IfOk result (λ read. IfNone read (IsNoNumber self.now.tokens.now at)) }
     {
-        match self.tokens.get(at) {
-            Some(
-                Token {
-                    kind: TokenKind::Number(number),
-                    ..
-                },
-            ) => match i32::try_from(-i64::from(*number)) {
-                Ok(number) => Some((number, at + 1)),
-                Err(_) => None,
+        let next = self.behind(at);
+        match self.kind(at) {
+            TokenKind::Number(number) => match i32::try_from(-i64::from(number)) {
+                Ok(number) => Ok(Some((number, next))),
+                Err(_) => Err(SyntaxFault::at(Wrong::Number, self.offset(at))),
             },
-            _ => None,
+            _ => Ok(None),
         }
     }
 
     /// How many levels are left after the token opens one. 274 if none was left.
     pub fn open(&self, at: usize, levels: u32) -> Result<u32, SyntaxFault>
-        ensures { IfOk result (λ left. left < levels) }
+        ensures { IfOk result (λ left. levels ≡ suc left) }
     {
         match levels.checked_sub(1) {
             Some(left) => Ok(left),

@@ -65,7 +65,7 @@ impl<'a> Parser<'a> {
     }
 
     fn let_action(&self, at: usize, levels: u32) -> Parsed<Action>
-        ensures { IfOk result (λ read. IsAction self.now.tokens.now at read.1 read.0) }
+        ensures { IfOk result (λ read. IsAction self.now.tokens.now levels at read.1 read.0) }
     {
         let at = self.skip(at, TokenKind::Let)?;
         let (name, at) = self.name(at)?;
@@ -76,7 +76,7 @@ impl<'a> Parser<'a> {
 
     // An assignment to a value, or a write of a field.
     fn assignment(&self, at: usize, levels: u32) -> Parsed<Action>
-        ensures { IfOk result (λ read. IsAction self.now.tokens.now at read.1 read.0) }
+        ensures { IfOk result (λ read. IsAction self.now.tokens.now levels at read.1 read.0) }
     {
         let (name, at) = self.name(at)?;
         let Some(next) = self.skip_if(at, TokenKind::Dot) else {
@@ -103,7 +103,7 @@ impl<'a> Parser<'a> {
 
     // One expression or more, with commas between them.
     fn values(&self, at: usize, levels: u32) -> Parsed<Vec<Expression>>
-        ensures { IfOk result (λ read. AreExpressions self.now.tokens.now at read.1 read.0.items) }
+        ensures { IfOk result (λ read. AreExpressions self.now.tokens.now levels at read.1 read.0.items) }
     {
         let mut values = Vec::new(self.alloc);
         let (value, mut next) = self.expression(at, levels)?;
@@ -121,7 +121,7 @@ impl<'a> Parser<'a> {
 
     // A number in parentheses.
     fn argument(&self, at: usize, levels: u32) -> Parsed<Expression>
-        ensures { IfOk result (λ read. IsArgument self.now.tokens.now at read.1 read.0) }
+        ensures { IfOk result (λ read. IsArgument self.now.tokens.now levels at read.1 read.0) }
     {
         let at = self.skip(at, TokenKind::LeftParenthesis)?;
         let (number, at) = self.expression(at, levels)?;
@@ -131,7 +131,7 @@ impl<'a> Parser<'a> {
 
     // The child that a name is to own, after the name and its sign.
     fn child(&self, name: Name, at: usize, levels: u32) -> Parsed<Child>
-        ensures read { IfOk result (λ read. IsChild self.now.tokens.now at read.1 read.0) }
+        ensures read { IfOk result (λ read. IsChild self.now.tokens.now levels at read.1 read.0) }
         ensures name { IfOk result (λ read. read.0.name ≡ name) }
     {
         let at = self.skip(at, TokenKind::Child)?;
@@ -149,7 +149,7 @@ impl<'a> Parser<'a> {
     }
 
     fn place(&self, at: usize, levels: u32) -> Parsed<Place>
-        ensures { IfOk result (λ read. IsPlace self.now.tokens.now at read.1 read.0) }
+        ensures { IfOk result (λ read. IsPlace self.now.tokens.now levels at read.1 read.0) }
     {
         let (name, at) = self.name(at)?;
         let at = self.skip(at, TokenKind::Assign)?;
@@ -175,7 +175,7 @@ impl<'a> Parser<'a> {
 
     // A descent to a child, or a move to the node of another name.
     fn descent(&self, at: usize, levels: u32) -> Parsed<Action>
-        ensures { IfOk result (λ read. IsAction self.now.tokens.now at read.1 read.0) }
+        ensures { IfOk result (λ read. IsAction self.now.tokens.now levels at read.1 read.0) }
     {
         let at = self.skip(at, TokenKind::Descend)?;
         let (node, at) = self.name(at)?;
@@ -190,7 +190,7 @@ impl<'a> Parser<'a> {
 
     // A statement without blocks of its own, up to the token that ends it.
     fn action(&self, at: usize, levels: u32) -> Parsed<Action>
-        ensures { IfOk result (λ read. IsAction self.now.tokens.now at read.1 read.0) }
+        ensures { IfOk result (λ read. IsAction self.now.tokens.now levels at read.1 read.0) }
     {
         match self.kind(at) {
             TokenKind::Let => self.let_action(at, levels),
@@ -242,7 +242,7 @@ impl<'a> Parser<'a> {
     /// A block, which opens a level.
     #[cycle(statements)]
     pub fn block(&self, at: usize, levels: u32) -> Parsed<Vec<Statement>>
-        ensures { IfOk result (λ read. IsBlock self.now.tokens.now at read.1 read.0.items) }
+        ensures { IfOk result (λ read. IsBlock self.now.tokens.now levels at read.1 read.0.items) }
     {
         let mut statements = Vec::new(self.alloc);
         let mut next = self.skip(at, TokenKind::LeftBrace)?;
@@ -260,7 +260,7 @@ impl<'a> Parser<'a> {
 
     #[cycle(statements)]
     fn statement(&self, at: usize, levels: u32) -> Parsed<Statement>
-        ensures { IfOk result (λ read. IsStatement self.now.tokens.now at read.1 read.0) }
+        ensures { IfOk result (λ read. IsStatement self.now.tokens.now levels at read.1 read.0) }
     {
         let offset = self.offset(at);
         let (form, after) = self.form(at, levels)?;
@@ -269,7 +269,7 @@ impl<'a> Parser<'a> {
 
     #[cycle(statements)]
     fn form(&self, at: usize, levels: u32) -> Parsed<StatementForm>
-        ensures { IfOk result (λ read. IsForm self.now.tokens.now at read.1 read.0) }
+        ensures { IfOk result (λ read. IsForm self.now.tokens.now levels at read.1 read.0) }
     {
         match self.kind(at) {
             TokenKind::Try => self.attempt(at, levels),
@@ -282,7 +282,7 @@ impl<'a> Parser<'a> {
 
     #[cycle(statements)]
     fn act(&self, at: usize, levels: u32) -> Parsed<StatementForm>
-        ensures { IfOk result (λ read. IsForm self.now.tokens.now at read.1 read.0) }
+        ensures { IfOk result (λ read. IsForm self.now.tokens.now levels at read.1 read.0) }
     {
         let (action, at) = self.action(at, levels)?;
         if may_have_else(&action) {
@@ -296,7 +296,7 @@ impl<'a> Parser<'a> {
     // The end of a statement: a semicolon, or an `else` of its own.
     #[cycle(statements)]
     fn tail(&self, at: usize, levels: u32) -> Parsed<Option<Otherwise>>
-        ensures { IfOk result (λ read. IsTail self.now.tokens.now at read.1 read.0) }
+        ensures { IfOk result (λ read. IsTail self.now.tokens.now levels at read.1 read.0) }
     {
         if let Some(next) = self.skip_if(at, TokenKind::Semicolon) {
             return Ok((None, next));
@@ -313,7 +313,7 @@ impl<'a> Parser<'a> {
 
     #[cycle(statements)]
     fn attempt(&self, at: usize, levels: u32) -> Parsed<StatementForm>
-        ensures { IfOk result (λ read. IsForm self.now.tokens.now at read.1 read.0) }
+        ensures { IfOk result (λ read. IsForm self.now.tokens.now levels at read.1 read.0) }
     {
         let at = self.skip(at, TokenKind::Try)?;
         let (body, at) = self.block(at, levels)?;
@@ -323,7 +323,7 @@ impl<'a> Parser<'a> {
     }
 
     fn question(&self, at: usize, levels: u32) -> Parsed<Question>
-        ensures { IfOk result (λ read. IsQuestion self.now.tokens.now at read.1 read.0) }
+        ensures { IfOk result (λ read. IsQuestion self.now.tokens.now levels at read.1 read.0) }
     {
         if let Some(next) = self.skip_if(at, TokenKind::Lock) {
             let (place, at) = self.place(next, levels)?;
@@ -336,7 +336,7 @@ impl<'a> Parser<'a> {
     // An `if`, which opens a level.
     #[cycle(statements)]
     fn choice(&self, at: usize, levels: u32) -> Parsed<StatementForm>
-        ensures { IfOk result (λ read. IsForm self.now.tokens.now at read.1 read.0) }
+        ensures { IfOk result (λ read. IsForm self.now.tokens.now levels at read.1 read.0) }
     {
         let levels = self.open(at, levels)?;
         let at = self.skip(at, TokenKind::If)?;
@@ -353,7 +353,7 @@ impl<'a> Parser<'a> {
     // What stands behind the `else` of an `if`: a block, or another `if`.
     #[cycle(statements)]
     fn other(&self, at: usize, levels: u32) -> Parsed<Vec<Statement>>
-        ensures { IfOk result (λ read. IsOther self.now.tokens.now at read.1 read.0.items) }
+        ensures { IfOk result (λ read. IsOther self.now.tokens.now levels at read.1 read.0.items) }
     {
         if self.kind(at) == TokenKind::If {
             let offset = self.offset(at);
@@ -382,7 +382,7 @@ impl<'a> Parser<'a> {
 
     #[cycle(statements)]
     fn repetition(&self, at: usize, levels: u32) -> Parsed<StatementForm>
-        ensures { IfOk result (λ read. IsForm self.now.tokens.now at read.1 read.0) }
+        ensures { IfOk result (λ read. IsForm self.now.tokens.now levels at read.1 read.0) }
     {
         let at = self.skip(at, TokenKind::Repeat)?;
         let (turns, at) = self.expression(at, levels)?;
@@ -408,7 +408,7 @@ impl<'a> Parser<'a> {
 
     #[cycle(statements)]
     fn visit(&self, at: usize, levels: u32) -> Parsed<StatementForm>
-        ensures { IfOk result (λ read. IsForm self.now.tokens.now at read.1 read.0) }
+        ensures { IfOk result (λ read. IsForm self.now.tokens.now levels at read.1 read.0) }
     {
         let at = self.skip(at, TokenKind::For)?;
         let at = self.skip_word(at, Symbol::EACH)?;

@@ -1,5 +1,6 @@
 pub mod AcrossEpochs
 pub mod Admitted
+pub mod BoundedChains
 pub mod ChainOrders
 pub mod Ended
 pub mod Finding

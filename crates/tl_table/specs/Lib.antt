@@ -1,4 +1,5 @@
 pub mod Across
+pub mod Bounds
 pub mod Chains
 pub mod Ends
 pub mod Faults

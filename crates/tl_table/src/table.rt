@@ -13,7 +13,7 @@ ghost use Rattle.tl_machine.specs.declared.want.Stop.TheVariants as stop;
 ghost use Rattle.tl_core.specs.Cores.{kept_turn};
 ghost use Rattle.tl_table.specs.declared.fault.TableFault.TheVariants as fault;
 ghost use Rattle.tl_core.specs.Followed.{IsLentOf, Submits, IfBlocked};
-ghost use Rattle.tl_table.specs.declared.epoch.TheConstants.{MAX_SESSIONS};
+ghost use Rattle.tl_table.specs.declared.epoch.TheConstants.{MAX_EPOCHS, MAX_SESSIONS};
 ghost use Rattle.tl_table.specs.Epochs.{EpochValue, seen, Stands, IsAtRest, IsKnown, AreOwned, GoesOn, epoch_after, IsAdmittedTo, IsAdmitFault};
 ghost use Rattle.tl_table.specs.Tables.{all_epochs, IsChain, IsSealRefusal};
 ghost use Rattle.tl_table.specs.Sent.{KeepsCalls, Sends, IsSubmitFault, IsLeadFault, IsOfCall};
@@ -88,6 +88,7 @@ impl Table {
     /// nothing.
     pub fn seal(&mut self, alloc: Global) -> Result<u32, TableFault>
         ensures number { IfOk result (λ n. n ≡ self.old.current.number) }
+        ensures few { IfOk result (λ n. n + 1 < MAX_EPOCHS) }
         ensures done { OnOk result (IsAtRest self.old.current) }
         ensures sealed { OnOk result (self.new.sealed ≡ all_epochs self.old) }
         ensures next { OnOk result (self.new.current ≡ epoch_after self.old.current) }

@@ -28,7 +28,7 @@ receipts_long (Ok a ∷ all) (Ok r ∷ rs) h = ap suc (receipts_long all rs h.3)
 receipts_long (Ok a ∷ all) (Err f ∷ rs) h = absurd h
 receipts_long (Err e ∷ all) [] h = absurd h
 receipts_long (Err e ∷ all) (Ok r ∷ rs) h = absurd h
-receipts_long (Err e ∷ all) (Err f ∷ rs) h = ap suc (receipts_long all rs h)
+receipts_long (Err e ∷ all) (Err f ∷ rs) h = ap suc (receipts_long all rs h.1)
 
 pub answers_each : (qs : List Request) (all : List (Result Asking Refusal)) (rs : List (Result Receipt Refusal)) → AdmittedEach qs all → ReceiptsEach all rs → AnswersEach qs rs
 answers_each [] [] [] h g = tt
@@ -40,7 +40,7 @@ answers_each (q ∷ qs) (Ok a ∷ all) (Ok r ∷ rs) h g = (g.2 ∙ h.1, answers
 answers_each (q ∷ qs) (Ok a ∷ all) (Err f ∷ rs) h g = absurd g
 answers_each (q ∷ qs) (Err e ∷ all) [] h g = absurd g
 answers_each (q ∷ qs) (Err e ∷ all) (Ok r ∷ rs) h g = absurd g
-answers_each (q ∷ qs) (Err e ∷ all) (Err f ∷ rs) h g = answers_each qs all rs h g
+answers_each (q ∷ qs) (Err e ∷ all) (Err f ∷ rs) h g = answers_each qs all rs h g.1
 
 same_asking : (a : Asking) (q : Request) (r : Receipt) → a.name ≡ string_bytes q.name → a.args.items ≡ q.args.items → r.epoch ≡ a.epoch → r.call ≡ a.call → asking r.epoch r.call (string_bytes q.name) q.args.items ≡ a
 same_asking a q r names args epoch call = (λ i. record { epoch = epoch i; call = call i; name = sym names i; args = record { items = sym args i } })
@@ -55,7 +55,7 @@ asked_are (q ∷ qs) (Ok a ∷ all) (Ok r ∷ rs) h g = (λ i. Asked (sym (same_
 asked_are (q ∷ qs) (Ok a ∷ all) (Err f ∷ rs) h g = absurd g
 asked_are (q ∷ qs) (Err e ∷ all) [] h g = absurd g
 asked_are (q ∷ qs) (Err e ∷ all) (Ok r ∷ rs) h g = absurd g
-asked_are (q ∷ qs) (Err e ∷ all) (Err f ∷ rs) h g = asked_are qs all rs h g
+asked_are (q ∷ qs) (Err e ∷ all) (Err f ∷ rs) h g = asked_are qs all rs h g.1
 
 -- ---- one request more
 
@@ -78,14 +78,14 @@ receipts-push : (all : List (Result Asking Refusal)) (rs : List (Result Receipt 
 receipts-push [] [] (Ok a) (Ok r) h e = (e.0, e.1, e.2, tt)
 receipts-push [] [] (Ok a) (Err f) h e = absurd e
 receipts-push [] [] (Err x) (Ok r) h e = absurd e
-receipts-push [] [] (Err x) (Err f) h e = tt
+receipts-push [] [] (Err x) (Err f) h e = (e, tt)
 receipts-push [] (r ∷ rs) a x h e = absurd h
 receipts-push (Ok a ∷ all) [] b x h e = absurd h
 receipts-push (Ok a ∷ all) (Ok r ∷ rs) b x h e = (h.0, h.1, h.2, receipts-push all rs b x h.3 e)
 receipts-push (Ok a ∷ all) (Err f ∷ rs) b x h e = absurd h
 receipts-push (Err y ∷ all) [] b x h e = absurd h
 receipts-push (Err y ∷ all) (Ok r ∷ rs) b x h e = absurd h
-receipts-push (Err y ∷ all) (Err f ∷ rs) b x h e = receipts-push all rs b x h e
+receipts-push (Err y ∷ all) (Err f ∷ rs) b x h e = (h.0, receipts-push all rs b x h.1 e)
 
 pub receipts-next : (all : List (Result Asking Refusal)) (i : ℕ) (rs now : List (Result Receipt Refusal)) (d : Result Asking Refusal) (r : Result Receipt Refusal) → i < length all → ReceiptsEach (take i all) rs
     → Answers (get_or all i d) r → now ≡ rs ++ r ∷ [] → ReceiptsEach (take (i + 1) all) now

@@ -63,18 +63,18 @@ AdmittedEach (q ∷ qs) [] = ⊥
 AdmittedEach (q ∷ qs) (Ok a ∷ rest) = (a.name ≡ string_bytes q.name) × (a.args.items ≡ q.args.items) × AdmittedEach qs rest
 AdmittedEach (q ∷ qs) (Err e ∷ rest) = AdmittedEach qs rest
 
--- what was answered is the receipt of the call that was admitted
+-- what was answered is the receipt of the call that was admitted, or why it was refused
 abbrev pub Answers : Result Asking Refusal → Result Receipt Refusal → Type 0
 Answers (Ok a) (Ok r) = (r.epoch ≡ a.epoch) × (r.call ≡ a.call) × (r.args.items ≡ a.args.items)
 Answers (Ok a) (Err f) = ⊥
 Answers (Err e) (Ok r) = ⊥
-Answers (Err e) (Err f) = Unit {0}
+Answers (Err e) (Err f) = f ≡ e
 
--- a receipt for each call that was admitted
+-- a receipt for each call that was admitted, and the refusal of each that wasn't
 abbrev pub ReceiptsEach : List (Result Asking Refusal) → List (Result Receipt Refusal) → Type 0
 ReceiptsEach [] [] = Unit {0}
 ReceiptsEach (Ok a ∷ rest) (Ok r ∷ rs) = (r.epoch ≡ a.epoch) × (r.call ≡ a.call) × (r.args.items ≡ a.args.items) × ReceiptsEach rest rs
-ReceiptsEach (Err e ∷ rest) (Err f ∷ rs) = ReceiptsEach rest rs
+ReceiptsEach (Err e ∷ rest) (Err f ∷ rs) = (f ≡ e) × ReceiptsEach rest rs
 ReceiptsEach rest rs = ⊥
 
 -- the calls that were admitted

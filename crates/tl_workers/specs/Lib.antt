@@ -1,3 +1,4 @@
+pub mod Engines
 pub mod Kept
 pub mod Lending
 pub mod Matching

@@ -1,9 +1,10 @@
 // Many requests at once.
 
-ghost use Rattle.std.specs.Prelude.{◌≡◌, ◌+◌, ◌≤◌, [], ◌++◌, length, take, vec_len, vec_capacity, IfOk, IfErr};
+ghost use Rattle.std.specs.Prelude.{◌≡◌, ◌+◌, ◌≤◌, [], ◌++◌, length, take, vec_len, vec_capacity, IfOk, IfErr, IfSome};
 ghost use Rattle.tl_workers.specs.declared.refusal.Refusal.TheVariants.{Memory};
 ghost use Rattle.tl_workers.specs.declared.batch.Handed.TheVariants.{All};
 ghost use Rattle.tl_workers.specs.declared.batch.TheConstants.{MAX_REQUESTS, MAX_WORKERS};
+ghost use Rattle.tl_workers.specs.Refusals.{IsCallRefusal, AreCallRefusals};
 ghost use Rattle.tl_workers.specs.Kept.{Gains, Answers, AnswersEach, AsksFor, AdmittedEach, ReceiptsEach, asked_of, gots_of};
 
 use crate::asking::Asking;
@@ -11,13 +12,13 @@ use crate::engine::Engine;
 use crate::gate::Gate;
 use crate::refusal::Refusal;
 use crate::session::Session;
+use crate::turnstile::Turnstile;
 use std::alloc::Global;
 use std::sync::atomic::{AtomicBool, Ordering};
 use std::sync::{MutexGuard, Wait};
 use std::thread;
 use std::thread::Threads;
 use tl_core::CoreFault;
-use tl_machine::copied;
 use tl_procedures::Request;
 use tl_ready::ReadyPass;
 use tl_table::{Receipt, Table, TableFault};
@@ -71,6 +72,7 @@ impl Engine {
         requires one { 1 ≤ workers }
         requires workers { workers ≤ MAX_WORKERS }
         ensures each { IfOk result (λ v. AnswersEach requests.now v.items) }
+        ensures refused { IfOk result (λ v. AreCallRefusals self.now.seals v.items) }
         ensures kept { IfOk result (λ v. Gains session.old session.new (asked_of requests.now v.items ++ gots_of v.items)) }
         ensures err { IfErr result (λ e. (e ≡ Memory) × Gains session.old session.new []) }
     {
@@ -109,7 +111,8 @@ impl<R: Threads + Wait + Sync, G: Gate + Sync> Batch<'_, R, G> {
         workers: usize,
     ) -> Vec<Result<Asking, Refusal>>
         requires { (admitted.items ≡ []) × (vec_len admitted ≡ 0) × (length self.now.requests.now ≤ vec_capacity admitted) }
-        ensures { AdmittedEach self.now.requests.now result.items }
+        ensures each { AdmittedEach self.now.requests.now result.items }
+        ensures refused { AreCallRefusals self.now.engine.now.seals result.items }
     {
         let others = workers.min(self.requests.len()).saturating_sub(1);
         thread::scope(
@@ -117,7 +120,8 @@ impl<R: Threads + Wait + Sync, G: Gate + Sync> Batch<'_, R, G> {
             self.rt,
             |scope| -> Vec<Result<Asking, Refusal>>
                 requires { (admitted.items ≡ []) × (vec_len admitted ≡ 0) × (length self.now.requests.now ≤ vec_capacity admitted) }
-                ensures { AdmittedEach self.entry.now.requests.now result.items }
+                ensures each { AdmittedEach self.entry.now.requests.now result.items }
+                ensures refused { AreCallRefusals self.entry.now.engine.now.seals result.items }
             {
                 for _ in 0..others {
                     // A worker that can't be started is left out.
@@ -135,10 +139,11 @@ impl<R: Threads + Wait + Sync, G: Gate + Sync> Batch<'_, R, G> {
 impl<R: Wait, G: Gate> Batch<'_, R, G> {
     // Says that no more calls of the batch become ready.
     fn end_handing_out(&self) {
-        let table = self.engine.table.lock(self.rt);
+        let engine = self.engine;
+        let turnstile = engine.turnstile.lock(self.rt);
         self.is_handed_out.store(true, Ordering::SeqCst);
-        drop(table);
-        self.engine.moved.notify_all();
+        drop(turnstile);
+        engine.moved.notify_all();
     }
 
     // Admits the requests in their order. While too many calls are open it runs some that are ready.
@@ -149,22 +154,24 @@ impl<R: Wait, G: Gate> Batch<'_, R, G> {
         admitted: Vec<Result<Asking, Refusal>>,
     ) -> Vec<Result<Asking, Refusal>>
         requires { (admitted.items ≡ []) × (vec_len admitted ≡ 0) × (length self.now.requests.now ≤ vec_capacity admitted) }
-        ensures { AdmittedEach self.now.requests.now result.items }
+        ensures each { AdmittedEach self.now.requests.now result.items }
+        ensures refused { AreCallRefusals self.now.engine.now.seals result.items }
     {
+        let engine = self.engine;
         let mut admitted = admitted;
         for _ in self.rt.forever() {
-            let mut table = self.engine.table.lock(self.rt);
-            let handed = self.admit_some(alloc, &mut table, pass, &mut admitted);
+            let mut turnstile = engine.turnstile.lock(self.rt);
+            let handed = self.admit_some(alloc, &mut turnstile, pass, &mut admitted);
             match handed {
-                Handed::Full => self.help(table, pass),
+                Handed::Full => self.help(turnstile, pass),
                 Handed::NoPlace(call) => {
-                    drop(table);
-                    self.engine.moved.notify_all();
+                    drop(turnstile);
+                    engine.moved.notify_all();
                     self.engine.run(self.rt, call, None, self.gate);
                 }
                 Handed::All => {
-                    drop(table);
-                    self.engine.moved.notify_all();
+                    drop(turnstile);
+                    engine.moved.notify_all();
                     return admitted;
                 }
             }
@@ -173,14 +180,15 @@ impl<R: Wait, G: Gate> Batch<'_, R, G> {
     }
 
     // Runs a call that is ready; if none is, waits until something has moved.
-    fn help(&self, table: MutexGuard<'_, Table>, pass: &mut ReadyPass) {
-        match self.engine.ready.pop(self.rt, pass) {
+    fn help(&self, turnstile: MutexGuard<'_, Turnstile>, pass: &mut ReadyPass) {
+        let engine = self.engine;
+        match engine.ready.pop(self.rt, pass) {
             Some(call) => {
-                drop(table);
-                self.engine.moved.notify_all();
+                drop(turnstile);
+                engine.moved.notify_all();
                 self.engine.run(self.rt, call, None, self.gate);
             }
-            None => drop(self.engine.moved.wait(self.rt, table)),
+            None => drop(engine.moved.wait(self.rt, turnstile)),
         }
     }
 
@@ -189,28 +197,33 @@ impl<R: Wait, G: Gate> Batch<'_, R, G> {
     fn admit_some(
         &self,
         alloc: Global,
-        table: &mut Table,
+        turnstile: &mut Turnstile,
         pass: &mut ReadyPass,
         admitted: &mut Vec<Result<Asking, Refusal>>,
     ) -> Handed
         requires room { length self.now.requests.now ≤ vec_capacity admitted.old }
         requires within { length admitted.old.items ≤ length self.now.requests.now }
         requires each { AdmittedEach (take (length admitted.old.items) self.now.requests.now) admitted.old.items }
+        requires refused { AreCallRefusals self.now.engine.now.seals admitted.old.items }
         ensures room { vec_capacity admitted.new ≡ vec_capacity admitted.old }
         ensures within { length admitted.new.items ≤ length self.now.requests.now }
         ensures each { AdmittedEach (take (length admitted.new.items) self.now.requests.now) admitted.new.items }
+        ensures refused { AreCallRefusals self.now.engine.now.seals admitted.new.items }
         ensures all { result ≡ All → length admitted.new.items ≡ length self.now.requests.now }
     {
+        let engine = self.engine;
         let requests = self.requests;
         for i in admitted.len()..requests.len() {
-            let one = admit_one(alloc, table, self.session, &requests[i]);
-            if is_full(&one) && has_unfinished(table, admitted.as_slice()) {
+            let Some(one) = self.admit_one(alloc, turnstile, &requests[i]) else {
+                return Handed::Full;
+            };
+            if is_full(&one) && has_unfinished(&turnstile.table, admitted.as_slice()) {
                 return Handed::Full;
             }
             let call = call_of(&one);
             admitted.push_reserved(one);
             if let Some(call) = call {
-                if self.engine.ready.push(self.rt, pass, call).is_err() {
+                if engine.ready.push(self.rt, pass, call).is_err() {
                     return Handed::NoPlace(call);
                 }
             }
@@ -218,9 +231,31 @@ impl<R: Wait, G: Gate> Batch<'_, R, G> {
         Handed::All
     }
 
+    // Asks the table for a call. `None` if the request has to wait.
+    fn admit_one(
+        &self,
+        alloc: Global,
+        turnstile: &mut Turnstile,
+        request: &Request,
+    ) -> Option<Result<Asking, Refusal>>
+        ensures asks { IfSome result (AsksFor request.now) }
+        ensures refused { IfSome result (λ one. IfErr one (IsCallRefusal self.now.engine.now.seals)) }
+    {
+        match self.engine.try_admit(alloc, turnstile, self.session, &request.name, &request.args)? {
+            Ok(call) => Some(Ok(Asking::new(
+                turnstile.table.epoch(),
+                call,
+                &request.name,
+                &request.args,
+            ))),
+            Err(fault) => Some(Err(Refusal::Table(fault))),
+        }
+    }
+
     // Works with a pass of its own. A worker that gets none is left out.
     fn join_in(&self) {
-        if let Ok(mut pass) = self.engine.ready.join() {
+        let engine = self.engine;
+        if let Ok(mut pass) = engine.ready.join() {
             self.work(&mut pass);
         }
     }
@@ -238,18 +273,19 @@ impl<R: Wait, G: Gate> Batch<'_, R, G> {
 
     // The next call that is ready, as soon as there is one. None once nothing is and the batch is handed out.
     fn next_ready(&self, pass: &mut ReadyPass) -> Option<u32> {
-        let first = self.engine.ready.pop(self.rt, pass);
+        let engine = self.engine;
+        let first = engine.ready.pop(self.rt, pass);
         if first.is_some() {
             return first;
         }
-        let mut table = self.engine.table.lock(self.rt);
+        let mut turnstile = engine.turnstile.lock(self.rt);
         for _ in self.rt.forever() {
             let is_last = self.is_handed_out.load(Ordering::SeqCst);
-            let next = self.engine.ready.pop(self.rt, pass);
+            let next = engine.ready.pop(self.rt, pass);
             if is_last || next.is_some() {
                 return next;
             }
-            table = self.engine.moved.wait(self.rt, table);
+            turnstile = engine.moved.wait(self.rt, turnstile);
         }
         unreachable!()
     }
@@ -263,11 +299,12 @@ impl<R: Wait, G: Gate> Batch<'_, R, G> {
         requires { (answers.items ≡ []) × (vec_len answers ≡ 0) × (length admitted.now ≤ vec_capacity answers) }
         ensures each { ReceiptsEach admitted.now result.items }
     {
+        let engine = self.engine;
         let mut answers = answers;
-        let mut table = self.engine.table.lock(self.rt);
+        let mut turnstile = engine.turnstile.lock(self.rt);
         for one in admitted {
-            let (answer, held) = self.answer(table, one);
-            table = held;
+            let (answer, held) = self.answer(turnstile, one);
+            turnstile = held;
             answers.push_reserved(answer);
         }
         answers
@@ -276,57 +313,18 @@ impl<R: Wait, G: Gate> Batch<'_, R, G> {
     // The answer to a request.
     fn answer<'t>(
         &self,
-        held: MutexGuard<'t, Table>,
+        held: MutexGuard<'t, Turnstile>,
         one: &Result<Asking, Refusal>,
-    ) -> (Result<Receipt, Refusal>, MutexGuard<'t, Table>)
+    ) -> (Result<Receipt, Refusal>, MutexGuard<'t, Turnstile>)
         ensures { Answers one.now result.0 }
     {
         match one {
             Ok(asked) => {
-                let (receipt, table) = self.take(held, asked);
-                (Ok(receipt), table)
+                let (receipt, turnstile) = self.engine.take(self.rt, held, asked);
+                (Ok(receipt), turnstile)
             }
             Err(refusal) => (Err(*refusal), held),
         }
-    }
-
-    // The receipt of a call, as soon as it is done.
-    fn take<'t>(
-        &self,
-        held: MutexGuard<'t, Table>,
-        asked: &Asking,
-    ) -> (Receipt, MutexGuard<'t, Table>)
-        ensures epoch { result.0.epoch ≡ asked.now.epoch }
-        ensures call { result.0.call ≡ asked.now.call }
-        ensures args { result.0.args.items ≡ asked.now.args.items }
-    {
-        let mut table = held;
-        for _ in self.rt.forever() {
-            if let Ok(Some(told)) = table.receipt(asked.epoch, asked.call) {
-                let receipt = Receipt {
-                    args: copied(asked.args.as_slice()),
-                    ..told
-                };
-                return (receipt, table);
-            }
-            table = self.engine.moved.wait(self.rt, table);
-        }
-        unreachable!()
-    }
-}
-
-// Asks the table for a call.
-fn admit_one(
-    alloc: Global,
-    table: &mut Table,
-    session: u32,
-    request: &Request,
-) -> Result<Asking, Refusal>
-    ensures { AsksFor request.now result }
-{
-    match table.admit(alloc, session, &request.name, &request.args) {
-        Ok(call) => Ok(Asking::new(table.epoch(), call, &request.name, &request.args)),
-        Err(fault) => Err(Refusal::Table(fault)),
     }
 }
 

@@ -1,19 +1,22 @@
 // A table that threads share.
 
-ghost use Rattle.std.specs.Prelude.{◌≡◌, ◌↔◌, ◌⊎◌, [], false, IsTrue, IfOk, OnOk, IfErr, All};
+ghost use Rattle.std.specs.Prelude.{◌≡◌, ◌↔◌, ◌⊎◌, ◌+◌, ◌<◌, [], true, false, IsTrue, IfOk, OnOk, IfErr, All};
 ghost use Rattle.tl_procedures.specs.Names.{is_name};
 ghost use Rattle.tl_procedures.specs.declared.fault.NamingFault.TheVariants.{BadName};
 ghost use Rattle.tl_table.specs.declared.fault.TableFault.TheVariants as fault;
 ghost use Rattle.tl_workers.specs.declared.refusal.Refusal.TheVariants as refusal;
 ghost use Rattle.tl_table.specs.Tables.{IsChain};
-ghost use Rattle.tl_workers.specs.Refusals.{IsNewEngineRefusal, IsSealRefused};
+ghost use Rattle.tl_table.specs.declared.epoch.TheConstants.{MAX_EPOCHS};
+ghost use Rattle.tl_workers.specs.Refusals.{IsNewEngineRefusal, IsSealRefused, IsRestedSealRefused};
 ghost use Rattle.tl_workers.specs.Matching.{Matches, DoesNotClose};
 ghost use Rattle.tl_workers.specs.Sessions.{AreAllOf, AskForEachOnce, FindsItsWrites};
 
 use crate::matching::all_match;
 use crate::refusal::Refusal;
 use crate::session::Session;
+use crate::turnstile::Turnstile;
 use std::alloc::Global;
+use std::marker::Model;
 use std::sync::{Condvar, Mutex, Wait};
 use tl_core::Core;
 use tl_procedures::NamingFault;
@@ -25,19 +28,30 @@ use tl_verify::Proc;
 /// A table that threads share.
 ///
 /// By its type the table is a core with a legal history, each call of which has a session of this engine. A function that
-/// takes the lock can promise no more than that about the table.
+/// takes the lock can promise no more than that about the table. A contract sees whether the engine seals its epochs by itself.
 #[derive(Drop)]
 pub struct Engine {
-    pub(crate) table: Mutex<Table>,
+    pub(crate) turnstile: Mutex<Turnstile>,
     // The calls that were admitted in batches and that nobody runs yet.
     pub(crate) ready: Ready,
-    // Notified after a node was freed, a call ended, or calls became ready.
+    // Notified after a node was freed, a call ended, calls became ready, or an epoch was sealed.
     pub(crate) moved: Condvar,
+    // Whether an epoch that has no room for a call is sealed for it.
+    pub(crate) seals: bool,
+}
+
+impl Model for Engine {
+    ghost use Rattle.tl_workers.specs.Engines.{EngineValue};
+
+    ghost Value = { EngineValue };
+
+    ghost view = { λ e. record { seals = e.seals } };
 }
 
 impl Engine {
     /// An engine for calls on the tree, without procedures. 690, 890; 990 if memory is refused.
     pub fn new(alloc: Global, tree: Tree) -> Result<Engine, Refusal>
+        ensures ok { IfOk result (λ e. e.seals ≡ false) }
         ensures err { IfErr result IsNewEngineRefusal }
     {
         match Core::new(alloc, tree) {
@@ -49,6 +63,7 @@ impl Engine {
     /// An engine for a core that has no calls yet. 690, 890; 990 if memory is refused.
     pub fn of_core(alloc: Global, core: Core) -> Result<Engine, Refusal>
         requires { core.seen.calls ≡ [] }
+        ensures ok { IfOk result (λ e. e.seals ≡ false) }
         ensures err { IfErr result IsNewEngineRefusal }
     {
         let table = match Table::new(alloc, core) {
@@ -57,10 +72,29 @@ impl Engine {
         };
         let (ready, _first) = Ready::new(alloc)?;
         Ok(Engine {
-            table: Mutex::new(table),
+            turnstile: Mutex::new(Turnstile::new(table)),
             ready,
             moved: Condvar::new(),
+            seals: false,
         })
+    }
+
+    /// The same engine, which has no calls yet, but it seals its epochs by itself: a call for which the current epoch has no room,
+    /// because of 603 or 605, waits until all calls are done and the epoch is sealed, and so do the calls after it. A call for
+    /// which there is no place among those that are open, 604, waits for one. So these three are refused only where a seal is:
+    /// 808, or for want of memory 690 or 890.
+    pub fn that_seals(self) -> Engine
+        ensures { result.seals ≡ true }
+    {
+        Engine {
+            seals: true,
+            ..self
+        }
+    }
+
+    /// The number of the current epoch.
+    pub fn epoch(&self, rt: &impl Wait) -> u32 {
+        self.turnstile.lock(rt).table.epoch()
     }
 
     /// A new session with an empty list. 821; 990 if memory is refused.
@@ -69,7 +103,7 @@ impl Engine {
         ensures err { IfErr result (λ e. (e ≡ refusal.Table fault.TooManySessions) ⊎ (e ≡ refusal.Memory)) }
     {
         let pass = self.ready.join()?;
-        match self.table.lock(rt).session() {
+        match self.turnstile.lock(rt).table.session() {
             Ok(number) => Ok(Session::new(alloc, number, pass)),
             Err(fault) => Err(Refusal::Table(fault)),
         }
@@ -87,15 +121,23 @@ impl Engine {
         ensures named { OnOk result (IsTrue (is_name name.now)) }
         ensures fault { IfErr result (λ e. (e ≡ BadName) ↔ (is_name name.now ≡ false)) }
     {
-        self.table.lock(rt).add_proc(alloc, name, procedure)
+        self.turnstile
+            .lock(rt)
+            .table
+            .add_proc(alloc, name, procedure)
     }
 
-    /// Seals the current epoch of the table and answers its number. 606, 808, 690, 890. It waits only for the lock.
-    /// Sessions go on.
+    /// Seals the current epoch of the table and answers its number. 606, 808, 690, 890. It waits only for the lock, or, if the
+    /// engine seals its epochs by itself, also until all calls are done. Sessions go on.
     pub fn seal(&self, rt: &impl Wait, alloc: Global) -> Result<u32, Refusal>
-        ensures { IfErr result (λ e. IsSealRefused e) }
+        ensures number { IfOk result (λ n. n + 1 < MAX_EPOCHS) }
+        ensures refused { IfErr result (λ e. IsSealRefused e) }
+        ensures rested { self.now.seals ≡ true → IfErr result IsRestedSealRefused }
     {
-        match self.table.lock(rt).seal(alloc) {
+        if self.seals {
+            return self.seal_at_rest(rt, alloc);
+        }
+        match self.turnstile.lock(rt).table.seal(alloc) {
             Ok(epoch) => Ok(epoch),
             Err(fault) => Err(Refusal::Table(fault)),
         }
@@ -117,11 +159,16 @@ impl Engine {
         ensures err { IfErr result (λ r. (r.1.items ≡ sessions.items) × DoesNotClose r.0 r.1.items) }
     {
         let Engine {
-            table,
+            turnstile,
             ready: _,
             moved: _,
+            seals: _,
         } = self;
-        let closed = match table.into_inner().close() {
+        let Turnstile {
+            table,
+            is_closed: _,
+        } = turnstile.into_inner();
+        let closed = match table.close() {
             Ok(closed) => closed,
             Err(table) => return Err((table, sessions)),
         };

@@ -14,7 +14,9 @@ mod matching;
 mod notes;
 mod refusal;
 mod running;
+mod sealing;
 mod session;
+mod turnstile;
 
 pub use asking::{Asking, Name};
 pub use batch::{MAX_REQUESTS, MAX_WORKERS};

@@ -1,24 +1,29 @@
 // A call that is run to its end.
 
-ghost use Rattle.std.specs.Prelude.{◌≡◌, [], IfOk, IfSome, OnErr};
+ghost use Rattle.std.specs.Prelude.{◌≡◌, [], IfOk, IfErr, OnErr};
 ghost use Rattle.tl_machine.specs.Turns.{HasRun};
 ghost use Rattle.tl_core.specs.Followed.{IfBlocked};
 ghost use Rattle.tl_workers.specs.Kept.{Gains, call_of};
+ghost use Rattle.tl_workers.specs.Refusals.{IsCallRefusal};
 
 use crate::asking::Asking;
 use crate::engine::Engine;
 use crate::gate::Gate;
 use crate::refusal::Refusal;
+use crate::sealing::Begun;
 use crate::session::Session;
+use crate::turnstile::Turnstile;
 use std::alloc::Global;
 use std::sync::{MutexGuard, Wait};
 use tl_core::{CoreFault, TurnOutcome};
 use tl_machine::{LentTurn, Stop, copied};
-use tl_table::{Receipt, Table, TableFault};
+use tl_table::{Receipt, TableFault};
 
 impl Engine {
-    /// Runs a call on this thread, to its end. 601, 501, 603, 604, 605, 890; 990 if there is no memory for the
-    /// session's list. After a refusal nothing was admitted.
+    /// Runs a call on this thread, to its end. 601, 501, 603, 604, 605, 890; 803 if the session isn't this engine's; 990 if there is
+    /// no memory for the session's list. An engine that seals its epochs by itself waits instead of 603 and 604, and 605 is then
+    /// refused only to a call that no empty epoch has room for; it refuses with 808, 690 or 890 if it can't seal. After a refusal
+    /// nothing was admitted.
     pub fn call<G: Gate>(
         &self,
         rt: &impl Wait,
@@ -30,34 +35,20 @@ impl Engine {
     ) -> Result<Receipt, Refusal>
         ensures args { IfOk result (λ r. r.args.items ≡ args.now) }
         ensures kept { IfOk result (λ r. Gains session.old session.new (call_of name.now args.now r)) }
+        ensures refused { IfErr result (IsCallRefusal self.now.seals) }
         ensures err { OnErr result (Gains session.old session.new []) }
     {
         session.reserve(1)?;
-        let mut table = self.table.lock(rt);
-        let epoch = table.epoch();
-        let admitted = table.admit(alloc, session.number(), name, args);
-        // The call is lent under the lock that admitted it. If memory is refused for that, `run` asks once more.
-        let lent = match &admitted {
-            Ok(call) => table.lend(*call).unwrap_or(None),
-            Err(_) => None,
-        };
-        drop(table);
-        let call = match admitted {
-            Ok(call) => call,
+        let begun = match self.begin(rt, alloc, session.number(), name, args) {
+            Ok(begun) => begun,
             Err(fault) => return Err(Refusal::Table(fault)),
         };
+        let Begun { epoch, call, lent } = begun;
         self.run(rt, call, lent, gate);
-        // A call that was admitted is known, and has ended.
-        let Some(told) = self.receipt(rt, epoch, call) else {
-            return Err(Refusal::Table(TableFault::Core(CoreFault::NoCall)));
-        };
-        // About a table that comes out of the lock no clause says which call was handed in. If the engine ran something else, the
-        // session's list doesn't match the table, and `close` finds that.
-        let receipt = Receipt {
-            args: copied(args),
-            ..told
-        };
-        session.record(&Asking::new(epoch, call, name, args), &receipt);
+        let asked = Asking::new(epoch, call, name, args);
+        // The call was admitted and has ended, so its receipt is there at once.
+        let (receipt, _turnstile) = self.take(rt, self.turnstile.lock(rt), &asked);
+        session.record(&asked, &receipt);
         Ok(receipt)
     }
 
@@ -70,7 +61,7 @@ impl Engine {
             passed = pass(gate, call, passed);
             let next = match lent.take() {
                 Some(lent) => Ok(Some(lent)),
-                None => self.table.lock(rt).lend(call),
+                None => self.turnstile.lock(rt).table.lend(call),
             };
             match next {
                 Ok(Some(lent)) => {
@@ -113,11 +104,31 @@ impl Engine {
         unreachable!()
     }
 
-    // The receipt of a call that has ended.
-    fn receipt(&self, rt: &impl Wait, epoch: u32, call: u32) -> Option<Receipt>
-        ensures { IfSome result (λ r. (r.epoch ≡ epoch) × (r.call ≡ call)) }
+    // The receipt of a call, as soon as it is done. About a table that comes out of the lock no clause says which call was handed in:
+    // the receipt names what was asked for. If the engine ran something else, the session's list doesn't match the table, and `close`
+    // finds that.
+    pub(crate) fn take<'t>(
+        &self,
+        rt: &impl Wait,
+        held: MutexGuard<'t, Turnstile>,
+        asked: &Asking,
+    ) -> (Receipt, MutexGuard<'t, Turnstile>)
+        ensures epoch { result.0.epoch ≡ asked.now.epoch }
+        ensures call { result.0.call ≡ asked.now.call }
+        ensures args { result.0.args.items ≡ asked.now.args.items }
     {
-        self.table.lock(rt).receipt(epoch, call).ok()?
+        let mut turnstile = held;
+        for _ in rt.forever() {
+            if let Ok(Some(told)) = turnstile.table.receipt(asked.epoch, asked.call) {
+                let receipt = Receipt {
+                    args: copied(asked.args.as_slice()),
+                    ..told
+                };
+                return (receipt, turnstile);
+            }
+            turnstile = self.moved.wait(rt, turnstile);
+        }
+        unreachable!()
     }
 
     // Submits what the call did by itself. If it is blocked, this waits until its node is free.
@@ -130,17 +141,17 @@ impl Engine {
         requires { HasRun lent.old }
         ensures { IfOk result (λ o. IfBlocked o (lent.new ≡ lent.old)) }
     {
-        let mut table = self.table.lock(rt);
-        let sent = table.lead(call, lent);
+        let mut turnstile = self.turnstile.lock(rt);
+        let sent = turnstile.table.lead(call, lent);
         match &sent {
-            Ok(TurnOutcome::Blocked { node, .. }) => self.wait_for(rt, table, *node),
+            Ok(TurnOutcome::Blocked { node, .. }) => self.wait_for(rt, turnstile, *node),
             Ok(
                 TurnOutcome::Advanced {
                     stop: Stop::Free(_),
                 }
                 | TurnOutcome::Finished,
             ) => {
-                drop(table);
+                drop(turnstile);
                 self.moved.notify_all();
             }
             _ => {}
@@ -149,13 +160,13 @@ impl Engine {
     }
 
     // Waits until nobody holds the node.
-    fn wait_for(&self, rt: &impl Wait, held: MutexGuard<'_, Table>, node: u16) {
-        let mut table = held;
+    fn wait_for(&self, rt: &impl Wait, held: MutexGuard<'_, Turnstile>, node: u16) {
+        let mut turnstile = held;
         for _ in rt.forever() {
-            if !table.is_held(node) {
+            if !turnstile.table.is_held(node) {
                 return;
             }
-            table = self.moved.wait(rt, table);
+            turnstile = self.moved.wait(rt, turnstile);
         }
         unreachable!()
     }

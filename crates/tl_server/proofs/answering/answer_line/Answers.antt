@@ -34,5 +34,5 @@ returns-in-Ok-Seal g c =
       line_text (seal_text answer),
       gains_none c.args.session.now,
       c.put_line-in-Ok-Seal.ensures,
-      inr (inr (Seals, rw c.in-Ok-Seal.field-0-is at c.in-Ok-Seal.ensures.ok, (refl, (answer, seal_outcome answer c.seal-answer.ensures, refl)))),
+      inr (inr (Seals, rw c.in-Ok-Seal.field-0-is at c.in-Ok-Seal.ensures.ok, (refl, (answer, seal_outcome answer c.seal-answer.ensures.number c.seal-answer.ensures.refused, refl)))),
     )

@@ -1,4 +1,4 @@
-use Rattle.std.proofs.Common.{rules, ◌≡◌, ◌≢◌, Some, slice_get, ap, sym, ◌∙◌}
+use Rattle.std.proofs.Common.{Some, ap, sym, ◌∙◌}
 use Rattle.tl_syntax.specs.Tokens.{blank, comment, word, digits, long, short}
 use Rattle.tl_syntax.proofs.TokenLemmas.{alone_some, alone_none}
 use Rattle.tl_syntax.proofs.lexer.first_piece.Goals.{in-Some+else-first-eq47+in_default-long_sign, else-first-eq47-via-then-first-eq47+else-second-eq47, else-first-eq47-via-else-first-eq47, in_default}

@@ -8,6 +8,8 @@ returns c =
     record {
       tokens = c.in_ok-tokens.field-0.tokens.items;
       words = c.in_ok-tokens.ensures.names;
+      distinct = c.in_ok-tokens.ensures.distinct;
       read = c.in_ok-tokens.ensures.tokens;
+      numbered = c.in_ok-tokens.ensures.numbered;
       spelled = subst (λ tokens. IsFile tokens c.in_ok-declarations.declarations.items) same c.in_ok-declarations.ensures;
     }

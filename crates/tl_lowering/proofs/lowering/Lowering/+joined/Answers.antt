@@ -1,4 +1,4 @@
-use Rattle.std.proofs.Common.{◌-◌, ◌/◌, arith}
+use Rattle.std.proofs.Common.{◌-◌, ◌/◌, refl, arith}
 use Rattle.tl_lowering.proofs.JoinLemmas.{joins_few, joins_halves}
 use Rattle.tl_lowering.proofs.PathLemmas.{few, halved, ok_more}
 use Rattle.tl_lowering.proofs.lowering.Lowering.+joined.Goals as goal
@@ -20,4 +20,5 @@ returns-then-count-lt2-clause-named t c = joins_few _ _ _ _ _ _ _ c.requires.som
 pub returns-clause-named : goal.returns-clause-named
 returns-clause-named t c =
     ok_more c.then.result _ _ c.then.ensures.named
-    (λ s is. joins_halves c.args.count (c.args.count / 2) (c.args.count - c.args.count / 2) _ _ s _ _ (omega arith) is c.in_ok-first.ensures.named c.in_ok-first.ensures.rest c.in_ok-second.ensures.named)
+    (λ s is.
+    joins_halves c.args.count (c.args.count / 2) _ _ s _ _ (omega (arith, c.if-count-lt2.false)) (omega (arith, c.requires.fits, c.requires.all)) refl is c.in_ok-first.ensures.named c.in_ok-first.ensures.rest c.in_ok-second.ensures.named)

@@ -1,4 +1,4 @@
-use Rattle.std.proofs.Common.{◌≡◌, Some, None, [], refl, sym, ap, ◌∙◌, subst, arith, rules}
+use Rattle.std.proofs.Common.{◌≡◌, true, Some, None, [], refl, sym, ap, ◌∙◌, subst, arith, rules}
 use Rattle.std.specs.Prelude.{nat_lt, IfSome}
 use Rattle.tl_lowering.specs.declared.lowering.Draft.{Draft}
 use Rattle.tl_lowering.specs.declared.lowering.Opened.{Opened}
@@ -14,6 +14,9 @@ use Rattle.tl_lowering.proofs.DepthLemmas.{falls_in_try, falls_in_handler, falls
 use Rattle.tl_lowering.proofs.DraftLemmas.{none_read, none_behind, extended_paths, extended_draft, opened_paths, opened_draft, block_lowered}
 use Rattle.tl_lowering.proofs.LoweringLemmas.{at_exactly, at_behind, at_handler, extends_self}
 use Rattle.std.proofs.lemmas.List.{take_all}
+use Rattle.tl_lowering.specs.Entering.{entered_at, entered_of, EntersSoFar}
+use Rattle.tl_lowering.specs.Fit.{or_of}
+use Rattle.tl_lowering.proofs.EnterLemmas.{none_entered, then_entered, plain_entered, opened_entered, tried_entering, entering_as, finished_entering}
 use Rattle.tl_lowering.specs.Names.{names_in, names_of}
 use Rattle.std.specs.Prelude.{option_map}
 use Rattle.tl_syntax.specs.declared.parsed.Expression.{Expression as TextExpression}
@@ -32,8 +35,9 @@ block-loop-statement-init t c =
     record {
       named = none_part (names_of c.args.self.now.scope) draft c.new.ensures.items c.new-2.ensures.items;
       draft = none_read scope c.args.held draft c.new.ensures.items c.new-2.ensures.items;
-      flow = c.on.ensures ∙ sym (none_behind scope c.args.held draft c.new.ensures.items c.new-2.ensures.items);
-      at = at_exactly scope (nodes_of c.args.held) c.on.result.after c.requires.names c.requires.nodes (ap (λ (p : Paths). p.after) c.on.ensures);
+      entering = none_entered c.args.held.is_entered draft (entered_of draft.flow) c.new.ensures.items c.new-2.ensures.items c.on.ensures.entered;
+      flow = c.on.ensures.paths ∙ sym (none_behind scope c.args.held draft c.new.ensures.items c.new-2.ensures.items);
+      at = at_exactly scope (nodes_of c.args.held) c.on.result.after c.requires.names c.requires.nodes (ap (λ (p : Paths). p.after) c.on.ensures.paths);
       loops = refl;
       extends = extends_self scope;
     }
@@ -48,15 +52,25 @@ block-loop-statement-preserved t c =
     let later : View = view_of c.extend.new.self.scope in
     let more = c.in_ok-flow.ensures in
     let here : known old.flow.after ≡ Some (nodes_of c.in-Some.held_here) = ap known c.in-Some.is in
+    let after : entered_at old.flow.after ≡ Some c.in-Some.held_here.is_entered = ap entered_at c.in-Some.is in
     let behind : (behind_draft start old).after ≡ Some (nodes_of c.in-Some.held_here) = sym (ap (λ (p : Paths). p.after) so_far.flow) ∙ here in
     record {
-      named = more_part draft c.args.statements.now c.loop-statement.statement-index c.statement-item.result (omega arith) c.statement-item.is so_far.named more.named;
+      named =
+          more_part draft c.in_ok-flow.flow c.in-Some.held_here c.args.statements.now c.loop-statement.statement-index c.statement-item.result (omega arith) c.statement-item.is
+          c.in-Some.is (ap (λ (p : Paths). p.after) c.then-draft.ensures.paths) so_far.named more.named;
       draft = same_draft start made draft later refl refl (more.draft start so_far.draft behind);
+      entering =
+          subst (EntersSoFar c.args.held.is_entered draft)
+          (then_entered (entered_of old.flow) (entered_of c.then-draft.result) (entered_of c.in_ok-flow.flow) c.in-Some.held_here.is_entered after
+          (c.then-draft.ensures.entered
+          ∙ ap (λ (f : Flow). record { after = entered_at c.in_ok-flow.flow.after; fails = or_of (entered_at f.fails) (entered_at c.in_ok-flow.flow.fails); breaks = or_of (entered_at f.breaks) (entered_at c.in_ok-flow.flow.breaks) })
+          more.flow))
+          (let so_far = more.entering c.args.held.is_entered (entered_of old.flow) after so_far.entering in record { once = λ items all b. so_far.once items all b; paths = λ items all b. so_far.paths items all b });
       flow =
           then_flow (behind_draft start old) (nodes_of c.in-Some.held_here) made.flow c.in_ok-flow.flow c.then-draft.result
-          (ap paths_of more.flow ∙ so_far.flow) (ap (λ (f : Flow). known f.after) more.flow ∙ here) c.then-draft.ensures
+          (ap paths_of more.flow ∙ so_far.flow) (ap (λ (f : Flow). known f.after) more.flow ∙ here) c.then-draft.ensures.paths
           ∙ sym (more.paths start behind) ∙ sym (same_behind start made draft refl refl);
-      at = at_known later c.in_ok-flow.flow.after c.then-draft.result.after (ap (λ (p : Paths). p.after) c.then-draft.ensures) more.at;
+      at = at_known later c.in_ok-flow.flow.after c.then-draft.result.after (ap (λ (p : Paths). p.after) c.then-draft.ensures.paths) more.at;
       loops = more.loops ∙ so_far.loops;
       extends = more.extends (view_of c.args.self.now.scope) so_far.extends;
     }
@@ -69,7 +83,23 @@ block-returns-clause-lowered t c =
     let so_far = c.loop-statement.invariant in
     let whole = c.in_ok-finished.ensures.order start inner (nodes_of c.args.held) so_far.draft c.requires.nodes in
     block_lowered scope c.args.held c.in_ok-finished.field-0 c.loop-statement.draft.flow c.keeping-flow.result (behind_draft start c.loop-statement.draft)
-    whole.0 (subst (λ n. IsSound c.in_ok-finished.field-0 scope.values scope.nodes (nodes_of c.args.held) (nat_lt 0 n)) so_far.loops whole.1) so_far.flow c.keeping-flow.ensures
+    whole.0 (subst (λ n. IsSound c.in_ok-finished.field-0 scope.values scope.nodes (nodes_of c.args.held) (nat_lt 0 n)) so_far.loops whole.1) so_far.flow c.keeping-flow.ensures.paths
+
+pub block-returns-clause-entering : goal.block-returns-clause-entering
+block-returns-clause-entering t c = finished_entering c.loop-statement.invariant.entering c.in_ok-finished.ensures.named c.keeping-flow.ensures.entered
+
+pub extend-returns-in_default-clause-entering : goal.extend-returns-in_default-clause-entering
+extend-returns-in_default-clause-entering t c = λ e x a so_far.
+    let draft : Draft = record { opened = c.args.draft.now.opened; statements = c.push.new.self; flow = c.args.draft.now.flow } in
+    plain_entered e c.args.held.is_entered c.args.draft.now draft x a so_far c.in_ok-lowered.ensures.entering c.in_ok-at.ensures.named refl c.in_ok-push.ensures.items
+
+pub extend-returns-clause-entering : goal.extend-returns-clause-entering
+extend-returns-clause-entering t c = λ e x a so_far.
+    let draft : Draft = record { opened = c.push-2.new.self; statements = c.replace-earlier.new.dest; flow = c.args.draft.now.flow } in
+    let opened : Opened = record { binding = c.in_ok-binding.binding; offset = c.args.statement.now.offset; earlier = c.replace-earlier.result } in
+    let earlier : c.replace-earlier.result.items ≡ c.args.draft.now.statements.items = search rules in
+    let none : c.replace-earlier.new.dest.items ≡ [] = search rules in
+    opened_entered e c.args.held.is_entered c.args.draft.now draft x opened c.in_ok-binding.flow a so_far c.in_ok-binding.ensures.entering earlier c.in_ok-push-2.ensures.items none
 
 pub extend-returns-in_default-clause-draft : goal.extend-returns-in_default-clause-draft
 extend-returns-in_default-clause-draft t c = λ start d e.
@@ -119,7 +149,7 @@ first_block-returns-clause-scope t c =
 
 pub handled-block-requires : goal.handled-block-requires
 handled-block-requires t c =
-    (search rules, at_handler (view_of c.args.self.now.scope) c.args.held c.handled.result (known c.args.lowered.1.fails) c.requires.at c.handled.ensures)
+    (search rules, at_handler (view_of c.args.self.now.scope) c.args.held c.handled.result (known c.args.lowered.1.fails) c.requires.at c.handled.ensures.nodes)
 
 pub statement-block-requires : goal.statement-block-requires
 statement-block-requires t c =
@@ -130,7 +160,7 @@ statement-handled-requires-in-Try t c =
     let lowered = c.in_ok-lowered-in-Try.lowered in
     let same = sym c.in_ok-lowered-in-Try.ensures.scope in (
       falls_in_handler t 2 c.args.form.now c.in-Try.body c.in-Try.handler c.deref-in-Try-2.result.now c.decreases c.deref-in-Try-2.ensures.value (omega arith) c.in-Try.is,
-      (subst (λ v. IsAt v c.args.held) same c.requires, subst (λ v. IsLowered v c.args.held lowered.0 lowered.1) same c.in_ok-lowered-in-Try.ensures.lowered),
+      (subst (λ v. IsAt v c.args.held) same c.requires, (subst (λ v. IsLowered v c.args.held lowered.0 lowered.1) same c.in_ok-lowered-in-Try.ensures.lowered, c.in_ok-lowered-in-Try.ensures.entering)),
     )
 
 pub statement-first_block-requires : goal.statement-first_block-requires
@@ -198,7 +228,8 @@ pub extend-returns-in_default-clause-named : goal.extend-returns-in_default-clau
 extend-returns-in_default-clause-named t c =
     let draft : Draft = record { opened = c.args.draft.now.opened; statements = c.push.new.self; flow = c.args.draft.now.flow } in
     let plain = rw c.in_default.is at c.in_ok-head.ensures.named in
-    plain_extended c.args.statement.now c.args.draft.now draft (ap names_in c.in_ok-lowered.ensures.scope) (c.in_ok-lowered.ensures.named plain) c.in_ok-at.ensures.named refl c.in_ok-push.ensures.items
+    let l = c.in_ok-lowered.ensures.lowered in
+    plain_extended c.args.statement.now c.args.draft.now draft c.in_ok-lowered.flow (λ leaves. ap (λ (p : Paths). p.after) l.paths ∙ leaves (nodes_of c.args.held)) (ap names_in c.in_ok-lowered.ensures.scope) (c.in_ok-lowered.ensures.named plain) c.in_ok-at.ensures.named refl c.in_ok-push.ensures.items
 
 pub extend-returns-clause-named : goal.extend-returns-clause-named
 extend-returns-clause-named t c =
@@ -208,7 +239,7 @@ extend-returns-clause-named t c =
     let none : c.replace-earlier.new.dest.items ≡ [] = search rules in
     let opening = rw c.in-Some.is at c.in_ok-head.ensures.named in
     let opens = opens_at (ap names_in c.in_ok-otherwise.ensures.scope) opening c.in_ok-otherwise.ensures.named c.in_ok-binding.ensures.named in
-    opened_extended c.args.statement.now c.args.draft.now draft opened opens refl earlier c.in_ok-push-2.ensures.items none
+    opened_extended c.args.statement.now c.args.draft.now draft c.in_ok-binding.flow opened opens refl earlier c.in_ok-push-2.ensures.items none
 
 pub statement-returns-in_ok-lowered-in-Try-clause-named : goal.statement-returns-in_ok-lowered-in-Try-clause-named
 statement-returns-in_ok-lowered-in-Try-clause-named t c =
@@ -258,3 +289,20 @@ refusal-returns-in_default-otherwise-clause-named t c = λ action o form. no_els
 pub refusal-returns-clause-named : goal.refusal-returns-clause-named
 refusal-returns-clause-named t c = λ action o form.
     one_else (c.in-Act.is ∙ ap (T.Act c.in-Act.field-0) c.in-Some.is) (block_at refl c.deref.ensures.value c.in_ok-statement.ensures.named)
+
+-- ---- where the tree may have been entered
+
+pub handled-returns-clause-entering : goal.handled-returns-clause-entering
+handled-returns-clause-entering t c =
+    tried_entering c.in_ok-attempt.ensures.named c.requires.entering c.handled.ensures.entered c.in_ok-handler.ensures.entering c.handled_by.ensures.entered
+
+pub first_block-returns-clause-entering : goal.first_block-returns-clause-entering
+first_block-returns-clause-entering t c = λ entrance. entering_as (c.in_ok-inside.ensures.entered entrance) refl c.in_ok-first.ensures.entering
+
+pub turns-repeated-requires-clause-entering : goal.turns-repeated-requires-clause-entering
+turns-repeated-requires-clause-entering t c =
+    entering_as (c.in_ok-inside.ensures.entered ∙ c.forgetting-start.ensures.entered) c.in_ok-flow.ensures.entered c.in_ok-body.ensures.entering
+
+pub turns-repeated-requires-clause-once : goal.turns-repeated-requires-clause-once
+turns-repeated-requires-clause-once t c =
+    subst (λ e. IfSome (entered_of c.in_ok-flow.flow).after (λ f. f ≡ true → e ≡ true)) c.forgetting-start.ensures.entered c.in_ok-flow.ensures.once

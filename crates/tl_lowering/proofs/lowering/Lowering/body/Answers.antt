@@ -3,6 +3,7 @@ use Rattle.tl_lowering.specs.declared.paths.TheConstants.Held.{NOTHING}
 use Rattle.tl_lowering.specs.Names.{names_in}
 use Rattle.tl_lowering.specs.Scopes.{view_of, IsLowered}
 use Rattle.tl_lowering.proofs.BodyLemmas.{body_sound}
+use Rattle.tl_lowering.proofs.EnterLemmas.{body_enters}
 use Rattle.tl_lowering.proofs.JoinLemmas.{tried_of}
 use Rattle.tl_lowering.proofs.PartLemmas.{block_at}
 use Rattle.tl_lowering.proofs.lowering.Lowering.body.Goals as goal
@@ -25,3 +26,6 @@ returns-clause-sound c =
     let h = c.in_ok-handled in
     body_sound (view_of c.args.self.now.scope) NOTHING h.handled c.in_ok-handled-2.handled.value c.in_ok-boxed.field-0.value h._flow refl
     (subst (λ v. IsLowered v NOTHING h.handled h._flow) c.in_ok-lowered.ensures.scope h.ensures.lowered) c.in_ok-handled-2.ensures c.in_ok-boxed.ensures
+
+pub returns-clause-enters : goal.returns-clause-enters
+returns-clause-enters c = body_enters _ c.in_ok-handled.handled c.in_ok-handled-2.handled.value c.in_ok-boxed.field-0.value c.in_ok-handled-2.ensures c.in_ok-boxed.ensures c.in_ok-handled.ensures.entering.once

@@ -1,10 +1,11 @@
 use Rattle.std.proofs.Common.{◌≡◌, ◌∙◌, ℕ, ◌+◌, Vec, Global, sym, ap, ap₂, subst, refl, arith, length, get_or, []}
 use Rattle.tl_syntax.specs.Tokens.{spellings}
-use Rattle.tl_lowering.specs.Names.{Names, names_in, names_of, with_values}
+use Rattle.tl_lowering.specs.Names.{Names, names_in, names_of, with_values, AreNew}
 use Rattle.tl_lowering.specs.declared.paths.TheConstants.Held.{NOTHING}
 use Rattle.tl_lowering.specs.Reading.{IsBody}
 use Rattle.tl_lowering.specs.Scopes.{view_of}
 use Rattle.tl_lowering.proofs.BodyLemmas.{at_nothing}
+use Rattle.tl_lowering.proofs.FitLemmas.{in_order}
 use Rattle.tl_lowering.proofs.TextLemmas.{spelling_some, spelling_none, count_values}
 use Rattle.tl_lowering.proofs.lowering.Lowering.procedure.Goals.{in-Some+in_ok-name-in-Some, in-None}
 use Rattle.tl_lowering.proofs.lowering.Lowering.procedure.Goals as goal
@@ -28,8 +29,15 @@ returns-clause-named c =
       name = name;
       offset = refl;
       arity = omega (arith, many, c.requires.values);
+      arguments = subst (AreNew old) c.deref.ensures.value (subst (λ n. AreNew n c.deref.result.now) (ap names_in c.declare_procedure.ensures) c.in_ok-declare_arguments.ensures.fresh);
       body = subst (λ n. IsBody n c.args.procedure.now c.in_ok-body.body) named c.in_ok-body.ensures.named;
     }
 
 pub body-requires : goal.body-requires
 body-requires c = at_nothing (view_of c.declare_arguments.new.self.scope) NOTHING refl c.in_ok-declare_arguments.ensures.names
+
+pub returns-clause-procedure : goal.returns-clause-procedure
+returns-clause-procedure c =
+    let inner = c.in_ok-declare_arguments.ensures in
+    let body = c.in_ok-body.ensures in
+    in_order (view_of c.declare_arguments.new.self.scope) c.args.procedure.now _ refl inner.values inner.nodes inner.loops body.named body.sound body.handled body.enters

@@ -4,6 +4,8 @@ use Rattle.std.specs.List.{All}
 use Rattle.std.proofs.lemmas.List.{take_all}
 use Rattle.std.proofs.lemmas.List.Elements.{All-push}
 use Rattle.tl_syntax.specs.Tokens.{spellings}
+use Rattle.tl_lowering.specs.declared.program.Procedure.{Procedure}
+use Rattle.tl_lowering.specs.Fit.{IsWord}
 use Rattle.tl_lowering.specs.Names.{names_of, with_constant}
 use Rattle.tl_lowering.specs.Reading.{IsWithField, AreDeclared}
 use Rattle.tl_lowering.specs.Sound.{IsInOrder}
@@ -31,7 +33,7 @@ loop-declaration-preserved c =
           let same : to_z w32 (of_z w32 w.in-Constant.number) ≡ w.in-Constant.number = search rules in
           let constant = subst (λ n. names_of w.declare_constant.new.self ≡ with_constant (names_of c.loop-declaration.self.scope) w.in-Constant.name n) same w.declare_constant.ensures.named in
           rw (w.self-is, w.procedures-is) (record {
-            named = constant_more (names_of w.declare_constant.new.self) ps xs i x (omega arith) c.declaration-item.is so_far.named w.in-Constant.is constant;
+            named = constant_more (names_of w.declare_constant.new.self) ps xs i x (omega arith) c.declaration-item.is so_far.named w.in-Constant.is w.in_ok-check_new-in-Constant.ensures constant;
             bare = record {
               names = w.declare_constant.ensures.in_use so_far.bare.names;
               values = w.declare_constant.ensures.values ∙ so_far.bare.values;
@@ -47,8 +49,8 @@ loop-declaration-preserved c =
                 w.in_ok-procedure-in-Procedure.ensures.named w.in_ok-procedure-in-Procedure.ensures.names w.in_ok-push-in-Procedure.ensures.items;
             bare = w.in_ok-procedure-in-Procedure.ensures.scope;
             procedures =
-                subst (All IsInOrder) (sym w.in_ok-push-in-Procedure.ensures.items)
-                (All-push IsInOrder ps w.in_ok-procedure-in-Procedure.field-0 so_far.procedures w.in_ok-procedure-in-Procedure.ensures.procedure);
+                subst (All (λ (p : Procedure). IsWord p.name.items → IsInOrder p)) (sym w.in_ok-push-in-Procedure.ensures.items)
+                (All-push (λ (p : Procedure). IsWord p.name.items → IsInOrder p) ps w.in_ok-procedure-in-Procedure.field-0 so_far.procedures w.in_ok-procedure-in-Procedure.ensures.procedure);
           })
     ]
 

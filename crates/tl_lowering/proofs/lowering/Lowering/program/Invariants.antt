@@ -1,6 +1,8 @@
 use Rattle.std.proofs.Common.{take}
 use Rattle.std.specs.List.{All}
 use Rattle.tl_syntax.specs.Tokens.{spellings}
+use Rattle.tl_lowering.specs.declared.program.Procedure.{Procedure}
+use Rattle.tl_lowering.specs.Fit.{IsWord}
 use Rattle.tl_lowering.specs.Names.{names_of}
 use Rattle.tl_lowering.specs.Scopes.{view_of, IsBare}
 use Rattle.tl_lowering.specs.Sound.{IsInOrder}
@@ -12,5 +14,5 @@ invariant-loop-declaration l =
     record {
       named : AreSoFar (spellings l.names.keys) (names_of l.initial.self.scope) (take l.declaration-index l.declarations) l.procedures.items (names_of l.self.scope);
       bare : IsBare (view_of l.self.scope);
-      procedures : All IsInOrder l.procedures.items;
+      procedures : All (λ (p : Procedure). IsWord p.name.items → IsInOrder p) l.procedures.items;
     }

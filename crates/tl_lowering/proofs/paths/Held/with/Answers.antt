@@ -2,5 +2,5 @@ use Rattle.std.proofs.Common.{arith}
 use Rattle.tl_lowering.proofs.BitLemmas.{set_bit}
 use Rattle.tl_lowering.proofs.paths.Held.with.Goals as goal
 
-pub returns : goal.returns
-returns c = rw c.bit.ensures (set_bit c.args.self.nodes c.args.register (omega arith))
+pub returns-clause-nodes : goal.returns-clause-nodes
+returns-clause-nodes c = rw c.bit.ensures (set_bit c.args.self.nodes c.args.register (omega arith))

@@ -12,10 +12,10 @@ returns-in-Ok c =
     elim c.match-expression.branch [
       | in-Number w ↦
           let same : to_z w32 (of_z w32 w.in-Number.number) ≡ w.in-Number.number = search rules in
-          rw w.in-Number.is (counts z c.in-Ok.turns fits turns (w.number-is ∙ same))
+          rw w.in-Number.is (counts z c.in-Ok.turns c.if-turns-gt0.true fits turns (w.number-is ∙ same))
       | in-Named+in_ok-number-in-Named+in-Constant w ↦
           let same : to_z w32 (of_z w32 w.in-Constant.number) ≡ w.in-Constant.number = search rules in
-          rw w.in-Named.is (counts_constant z c.in-Ok.turns fits turns (w.number-is ∙ same) (sym w.in_ok-number-in-Named.ensures ∙ w.in-Constant.is))
+          rw w.in-Named.is (counts_constant z c.in-Ok.turns c.if-turns-gt0.true fits turns (w.number-is ∙ same) (sym w.in_ok-number-in-Named.ensures ∙ w.in-Constant.is))
       | in-Named+in_ok-number-in-Named+in_default-2 w ↦ absurd (counts_none z c.in-Ok.turns c.if-turns-gt0.true turns w.number-is)
       | in_default w ↦ absurd (counts_none z c.in-Ok.turns c.if-turns-gt0.true turns w.number-is)
     ]

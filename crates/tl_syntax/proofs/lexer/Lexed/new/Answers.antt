@@ -1,6 +1,6 @@
 use Rattle.std.proofs.Common.{rules, ◌≡◌, [], ◌∷◌, codes, refl}
 use Rattle.tl_syntax.specs.Tokens.{spellings}
-use Rattle.tl_syntax.proofs.NameLemmas.{inserted_last}
+use Rattle.tl_syntax.proofs.NameLemmas.{inserted_last, distinct_spellings}
 use Rattle.tl_syntax.proofs.lexer.Lexed.new.Goals as goal
 
 pub returns-clause-names : goal.returns-clause-names
@@ -22,3 +22,6 @@ returns-clause-names c =
     let with5 : spellings c.insert-5.new.self.keys ≡ codes "at" ∷ codes "each" ∷ codes "most" ∷ codes "of" ∷ codes "to" ∷ [] =
     inserted_last c.insert-4.new.self.keys c.insert-5.new.self.keys c.as_slice-5.result (codes "to") (codes "at" ∷ codes "each" ∷ codes "most" ∷ codes "of" ∷ []) with4 now5 refl c.in_ok-insert-5.ensures.keys in
     with5
+
+pub returns-clause-distinct : goal.returns-clause-distinct
+returns-clause-distinct c = distinct_spellings c.insert-5.new.self.keys c.in_ok-insert-5.ensures.unique

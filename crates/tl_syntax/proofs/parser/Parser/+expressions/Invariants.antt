@@ -1,6 +1,6 @@
 -- Each call opens a level, or is of a rule further down. What a chain has read so far is an expression of its rule.
 use Rattle.std.proofs.Common.{◌+◌, ◌*◌, ◌≤◌}
-use Rattle.tl_syntax.specs.Grammar.{IsExpression, Disjunction, Conjunction, Sum, Term}
+use Rattle.tl_syntax.specs.Grammar.{IsChain, Disjunction, Conjunction, Sum, Term}
 use Rattle.tl_syntax.proofs.parser.Parser.+expressions.Given as goal
 
 abbrev pub decreases-atom : goal.decreases-atom
@@ -29,28 +29,28 @@ decreases-sum l = 10 * l.levels + 4
 
 abbrev pub invariant-conjunction-loop-next : goal.invariant-conjunction-loop-next
 invariant-conjunction-loop-next l =
-    record { room : l.spare ≤ l.fn.levels; spelled : IsExpression l.self.tokens.now Conjunction l.fn.at l.at l.left }
+    record { room : l.spare ≤ l.fn.levels; spelled : IsChain l.self.tokens.now l.fn.levels l.spare Conjunction l.fn.at l.at l.left }
 
 abbrev pub decreases-conjunction-loop-next : goal.decreases-conjunction-loop-next
 decreases-conjunction-loop-next l = l.spare
 
 abbrev pub invariant-expression-loop-next : goal.invariant-expression-loop-next
 invariant-expression-loop-next l =
-    record { room : l.spare ≤ l.fn.levels; spelled : IsExpression l.self.tokens.now Disjunction l.fn.at l.at l.left }
+    record { room : l.spare ≤ l.fn.levels; spelled : IsChain l.self.tokens.now l.fn.levels l.spare Disjunction l.fn.at l.at l.left }
 
 abbrev pub decreases-expression-loop-next : goal.decreases-expression-loop-next
 decreases-expression-loop-next l = l.spare
 
 abbrev pub invariant-product-loop-operator : goal.invariant-product-loop-operator
 invariant-product-loop-operator l =
-    record { room : l.spare ≤ l.fn.levels; spelled : IsExpression l.self.tokens.now Term l.fn.at l.at l.left }
+    record { room : l.spare ≤ l.fn.levels; spelled : IsChain l.self.tokens.now l.fn.levels l.spare Term l.fn.at l.at l.left }
 
 abbrev pub decreases-product-loop-operator : goal.decreases-product-loop-operator
 decreases-product-loop-operator l = l.spare
 
 abbrev pub invariant-sum-loop-operator : goal.invariant-sum-loop-operator
 invariant-sum-loop-operator l =
-    record { room : l.spare ≤ l.fn.levels; spelled : IsExpression l.self.tokens.now Sum l.fn.at l.at l.left }
+    record { room : l.spare ≤ l.fn.levels; spelled : IsChain l.self.tokens.now l.fn.levels l.spare Sum l.fn.at l.at l.left }
 
 abbrev pub decreases-sum-loop-operator : goal.decreases-sum-loop-operator
 decreases-sum-loop-operator l = l.spare

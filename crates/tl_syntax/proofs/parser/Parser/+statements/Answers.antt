@@ -1,4 +1,4 @@
-use Rattle.std.proofs.Common.{rules, arith, refl, sym, ◌∙◌}
+use Rattle.std.proofs.Common.{rules, sym, ◌∙◌}
 use Rattle.std.proofs.lemmas.Result.{IfOk-weaker}
 use Rattle.tl_syntax.specs.declared.token.TokenKind.TheVariants as K
 use Rattle.tl_syntax.specs.Statements.{IsBlock, IsOther, block, statement, act, try, if, if_else, repeat, repeat_at_most, for_each, other_block}
@@ -14,10 +14,10 @@ pub statement-returns : goal.statement-returns
 statement-returns t c = statement c.in_ok-form.ensures c.offset-offset.ensures
 
 pub choice-returns-in_default : goal.choice-returns-in_default
-choice-returns-in_default t c = if c.in_ok-body.body c.new-nothing.result c.in_ok-at.ensures c.in_ok-question.ensures c.in_ok-body.ensures (search rules)
+choice-returns-in_default t c = rw c.in_ok-levels.ensures (if c.in_ok-body.body c.new-nothing.result c.in_ok-at.ensures c.in_ok-question.ensures c.in_ok-body.ensures (search rules))
 
 pub choice-returns : goal.choice-returns
-choice-returns t c = if_else c.in_ok-body.body c.in_ok-otherwise.otherwise c.in_ok-at.ensures c.in_ok-question.ensures c.in_ok-body.ensures c.in-Some.ensures c.in_ok-otherwise.ensures
+choice-returns t c = rw c.in_ok-levels.ensures (if_else c.in_ok-body.body c.in_ok-otherwise.otherwise c.in_ok-at.ensures c.in_ok-question.ensures c.in_ok-body.ensures c.in-Some.ensures c.in_ok-otherwise.ensures)
 
 pub repetition-returns-in_default : goal.repetition-returns-in_default
 repetition-returns-in_default t c = repeat c.in_ok-body.body c.in_ok-at.ensures c.in_ok-turns.ensures c.in_ok-body.ensures
@@ -39,7 +39,7 @@ block-loop-preserved t c = record {
 }
 
 pub block-returns-in-Some : goal.block-returns-in-Some
-block-returns-in-Some t c = block c.loop.invariant.begun c.loop.invariant.read c.in-Some.ensures
+block-returns-in-Some t c = rw c.loop.invariant.room (block c.loop.invariant.begun c.loop.invariant.read c.in-Some.ensures)
 
 pub other-returns-then-eq : goal.other-returns-then-eq
 other-returns-then-eq t c =
@@ -48,7 +48,7 @@ other-returns-then-eq t c =
 
 pub other-returns : goal.other-returns
 other-returns t c =
-    IfOk-weaker c.block.result (λ read. IsBlock c.args.self.now.tokens.now c.args.at read.1 read.0.items) (λ read. IsOther c.args.self.now.tokens.now c.args.at read.1 read.0.items)
+    IfOk-weaker c.block.result (λ read. IsBlock c.args.self.now.tokens.now c.args.levels c.args.at read.1 read.0.items) (λ read. IsOther c.args.self.now.tokens.now c.args.levels c.args.at read.1 read.0.items)
     (λ read h. other_block h) c.block.ensures
 
 pub tail-returns-then-eq : goal.tail-returns-then-eq

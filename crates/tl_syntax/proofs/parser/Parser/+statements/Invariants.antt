@@ -1,5 +1,5 @@
 -- Each block and each `if` opens a level.
-use Rattle.std.proofs.Common.{◌+◌, ◌*◌, ◌<◌}
+use Rattle.std.proofs.Common.{◌≡◌, suc, ◌+◌, ◌*◌}
 use Rattle.tl_syntax.specs.declared.token.TokenKind.TheVariants as K
 use Rattle.tl_syntax.specs.Grammar.{Stands}
 use Rattle.tl_syntax.specs.Statements.{AreStatements}
@@ -28,9 +28,9 @@ decreases-visit l = 10 * l.levels + 5
 
 abbrev pub invariant-block-loop : goal.invariant-block-loop
 invariant-block-loop l = record {
-  room : l.inside < l.fn.levels;
+  room : l.fn.levels ≡ suc l.inside;
   begun : Stands l.self.tokens.now K.LeftBrace l.fn.at l.initial.next;
-  read : AreStatements l.self.tokens.now l.initial.next l.next l.statements.items;
+  read : AreStatements l.self.tokens.now l.inside l.initial.next l.next l.statements.items;
 }
 
 abbrev pub decreases-form : goal.decreases-form

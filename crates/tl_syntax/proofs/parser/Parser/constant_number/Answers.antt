@@ -5,11 +5,11 @@ use Rattle.tl_syntax.specs.Grammar.{IsNumber}
 use Rattle.tl_syntax.specs.Declarations.{IsConstant, positive, negative}
 use Rattle.tl_syntax.proofs.parser.Parser.constant_number.Goals as goal
 
-pub returns-in-Some-negative : goal.returns-in-Some-negative
-returns-in-Some-negative c =
-    let n = c.in-Some-negative.number in
+pub returns-in-Some-2 : goal.returns-in-Some-2
+returns-in-Some-2 c =
+    let n = c.in-Some-2.number in
     let same : to_z w32 (of_z w32 n) ≡ n = search rules in
-    rw same (negative c.in-Some.ensures c.in-Some-negative.ensures)
+    rw same (negative c.in-Some.ensures (rw c.in-Some-2.is at c.in_ok-number.ensures.some))
 
 pub returns-in_default : goal.returns-in_default
 returns-in_default c =

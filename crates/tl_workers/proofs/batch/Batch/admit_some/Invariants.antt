@@ -1,6 +1,7 @@
 use Rattle.std.proofs.Common.{◌≡◌, ◌≤◌, length, take, vec_len}
 use Rattle.std.specs.Prelude.{vec_capacity}
 use Rattle.tl_workers.specs.Kept.{AdmittedEach}
+use Rattle.tl_workers.specs.Refusals.{AreCallRefusals}
 use Rattle.tl_workers.proofs.batch.Batch.admit_some.Given as goal
 
 abbrev pub invariant-loop-i : goal.invariant-loop-i
@@ -10,3 +11,4 @@ invariant-loop-i g l =
     × (vec_len l.admitted ≡ l.i)
     × (vec_capacity l.admitted ≡ vec_capacity l.fn.admitted)
     × (l.i ≤ length l.requests)
+    × AreCallRefusals l.self.engine.now.seals l.admitted.items

@@ -1,11 +1,16 @@
-use Rattle.std.proofs.Common.{◌≡◌, inr, ℕ, List, sym, refl, subst, All}
+use Rattle.std.proofs.Common.{◌≡◌, inl, inr, ℕ, List, sym, refl, subst, All}
 use Rattle.std.specs.Prelude.{Some, slice_get}
 use Rattle.std.proofs.lemmas.Bool.Decides.{when_true, when_false}
-use Rattle.tl_table.specs.Epochs.{EpochValue}
+use Rattle.tl_table.specs.Epochs.{EpochValue, IsAtRest}
+use Rattle.tl_table.specs.Tables.{TableValue}
 use Rattle.tl_workers.specs.Kept.{SessionValue}
 use Rattle.tl_workers.specs.Matching.{Matches}
 use Rattle.tl_workers.proofs.AllSessions.{asked_once, all_find}
 use Rattle.tl_workers.proofs.engine.Engine.close.Goals as goal
+
+pub returns-in-Err-clause-err : goal.returns-in-Err-clause-err
+returns-in-Err-clause-err c =
+    let P : TableValue → Type 0 = λ t. ¬ IsAtRest t.current in (refl, inl (subst P (sym c.in-Err.ensures.err.0) c.in-Err.ensures.err.1))
 
 pub returns-then-not-all_match-clause-err : goal.returns-then-not-all_match-clause-err
 returns-then-not-all_match-clause-err c =

@@ -1,0 +1,64 @@
+// What generations lead to.
+
+ghost use Rattle.std.specs.Prelude.{◌≡◌, true, false, Ok, IfOk, OnErr};
+ghost use Rattle.tl_table.specs.Tables.{IsChain};
+ghost use Rattle.tl_generations.specs.Generations.{SuccessionValue, TakesUpFirst, TakesTurn, IsSuccession};
+
+use crate::legacy::Legacy;
+use std::alloc::{AllocError, Global};
+use std::marker::Model;
+use tl_core::Core;
+use tl_table::Closed;
+
+/// What the first table began with, and what the last closed table left.
+///
+/// The type guarantees that closed tables lead from the one to the other, each of which took up what the one before it left.
+#[derive(Debug, Drop)]
+pub struct Succession {
+    first: Legacy,
+    last: Legacy,
+}
+
+impl Model for Succession {
+    ghost use Rattle.tl_generations.specs.Generations.{SuccessionValue, IsSuccession};
+
+    ghost Value = { SuccessionValue };
+
+    ghost view = { λ s. record { first = s.first; last = s.last } };
+
+    ghost invariant = { λ s. IsSuccession s.first s.last };
+}
+
+impl Succession {
+    /// Before any table was closed: what the calls of this core begin with.
+    pub fn new(alloc: Global, core: &Core) -> Result<Succession, AllocError>
+        ensures { IfOk result (λ s. s.last ≡ s.first) }
+    {
+        let first = Legacy::before(alloc, core)?;
+        let last = Legacy::before(alloc, core)?;
+        Ok(Succession { first, last })
+    }
+
+    /// What the last closed table left.
+    pub fn last(&self) -> &Legacy
+        ensures same { result.now ≡ self.now.last }
+        ensures reached { IsSuccession self.now.first self.now.last }
+    {
+        &self.last
+    }
+
+    /// Takes these epochs as those of the next generation. False, with nothing changed, if they didn't take up what the last one left.
+    pub fn take(&mut self, alloc: Global, chain: &[Closed]) -> Result<bool, AllocError>
+        requires { IsChain chain.now }
+        ensures taken { result ≡ Ok true → TakesTurn self.old chain.now self.new }
+        ensures other { result ≡ Ok false → (TakesUpFirst self.old.last chain.now → ⊥) × (self.new ≡ self.old) }
+        ensures err { OnErr result (self.new ≡ self.old) }
+    {
+        if !self.last.is_taken_up(chain) {
+            return Ok(false);
+        }
+        let last = Legacy::after(alloc, chain)?;
+        self.last = last;
+        Ok(true)
+    }
+}

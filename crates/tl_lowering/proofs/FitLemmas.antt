@@ -1,0 +1,181 @@
+-- What is read takes registers that there are, and its loops turn and don't nest too deep.
+use Rattle.std.proofs.Common.{◌≡◌, ℕ, ◌+◌, ◌/◌, ◌<◌, ◌≤◌, List, [], length, sym, subst, arith}
+use Rattle.std.specs.Prelude.{max, nat_lt, false}
+use Rattle.std.specs.List.{All}
+use Rattle.std.proofs.lemmas.List.Elements.{All-nil, All-cons, All-head, All-push, All-take, All-drop}
+use Rattle.tl_budget.specs.declared.limits.TheConstants.{MAX_DEPTH}
+use Rattle.tl_instr.specs.declared.operand.TheConstants.{MAX_ARGS, NODE_REGISTERS, VALUE_REGISTERS}
+use Rattle.tl_syntax.specs.declared.parsed.Name.{Name}
+use Rattle.tl_syntax.specs.declared.parsed.Comparison.{Comparison}
+use Rattle.tl_syntax.specs.declared.parsed.Comparison.TheVariants as K
+use Rattle.tl_syntax.specs.declared.parsed.Form.{Form}
+use Rattle.tl_syntax.specs.declared.parsed.Expression.{Expression as TextExpression}
+use Rattle.tl_syntax.specs.declared.parsed.Action.{Action}
+use Rattle.tl_syntax.specs.declared.parsed.Place.{Place as TextPlace}
+use Rattle.tl_syntax.specs.declared.parsed.Place.TheVariants as T
+use Rattle.tl_syntax.specs.declared.parsed.Procedure.{Procedure as TextProcedure}
+use Rattle.tl_syntax.specs.declared.parsed.Statement.{Statement as TextStatement}
+use Rattle.tl_syntax.specs.declared.parsed.StatementForm.{StatementForm}
+use Rattle.tl_lowering.specs.declared.program.Condition.{Condition}
+use Rattle.tl_lowering.specs.declared.program.Expression.{Expression}
+use Rattle.tl_lowering.specs.declared.program.Place.{Place}
+use Rattle.tl_lowering.specs.declared.program.Procedure.{Procedure}
+use Rattle.tl_lowering.specs.declared.program.Statement.{Statement}
+use Rattle.tl_lowering.specs.declared.program.Statement.TheVariants as S
+use Rattle.tl_lowering.specs.Fit.{loops, AllTurn, AllSlots, HasBoth, IsWord, HasConditionRoom, HasRoom, EntersOnce}
+use Rattle.tl_lowering.specs.Names.{Names, names_in, HasNode, in_loop, with_node, with_unnamed, with_place}
+use Rattle.tl_lowering.specs.Naming.{IsCount, count, constant_count, IsPlace, node, child, pair, calculated, opposite, together, IsComparison, IsCondition, comparison, negation, conjunction, disjunction, then, IsHalved, none, one, more, AreEmits, no_emits, next_emit, IsAction, assigns, writes, emits, requires, descends, takes, frees, breaks, returns, fails}
+use Rattle.tl_lowering.specs.Outcomes.{fails as failures}
+use Rattle.tl_lowering.specs.Reading.{IsAtOffset, at, IsTried, tried, IsVisiting, visiting, IsBlock, block, AreStatements, no_more, next, let_rest, let_else, lock_rest, lock_else, IsStatement, act, act_else, try, if, if_lock, repeat, repeat_up_to, for_each, IsBody}
+use Rattle.tl_lowering.specs.Scopes.{View, is_in_loop}
+use Rattle.tl_lowering.specs.Sets.{none_held}
+use Rattle.tl_lowering.specs.Sound.{IsSound, IsInOrder}
+
+-- what is asked of a statement that stands where names are these
+pub record Fits (names : Names) (s : Statement) : Type 0 where
+  pub turns : AllTurn s
+  pub slots : AllSlots s names.nodes
+  pub depth : loops s + names.loops ≤ MAX_DEPTH
+  pub room : HasRoom s names.values
+
+-- ---- statements of statements
+
+two : {p q : _} {names : Names} {a b : Statement} → Fits names a → Fits names b → Fits names (S.Sequence' p a q b)
+two x y = record { turns = (x.turns, y.turns); slots = (x.slots, y.slots); depth = omega (arith, x.depth, y.depth); room = (x.room, y.room) }
+
+handled : {names : Names} {a b whole : Statement} → Fits names a → Fits names b → IsTried a b whole → Fits names whole
+handled x y tried = record { turns = (x.turns, y.turns); slots = (x.slots, y.slots); depth = omega (arith, x.depth, y.depth); room = (x.room, y.room) }
+
+placed : {names : Names} {offset : ℕ} {a b : Statement} → Fits names a → IsAtOffset offset a b → Fits names b
+placed x at = record { turns = x.turns; slots = x.slots; depth = x.depth; room = x.room }
+
+choice : {p q : _} {names : Names} {c : Condition} {a b : Statement} → HasConditionRoom c names.values → Fits names a → Fits names b → Fits names (S.If' c p a q b)
+choice c x y = record { turns = (x.turns, y.turns); slots = (x.slots, y.slots); depth = omega (arith, x.depth, y.depth); room = (c, x.room, y.room) }
+
+halved : {names : Names} {whole : Statement} {xs : List Statement} → names.loops ≤ MAX_DEPTH → IsHalved whole xs → All (Fits names) xs → Fits names whole
+halved le none h = record { turns = tt; slots = tt; depth = omega arith; room = tt }
+halved {names} le (one {a}) h = All-head (Fits names) a [] h
+halved {names} le (more {xs = xs} long s t then) h =
+    two (halved le s (All-take (Fits names) (length xs / 2) xs h)) (halved le t (All-drop (Fits names) (length xs / 2) xs h))
+
+-- how often a loop turns isn't 0
+may_turn : {names : Names} {form : Form} {w : ℕ} → IsCount names form w → 0 < w
+may_turn (count lt le) = lt
+may_turn (constant_count lt le e) = lt
+
+-- what is locked has registers, and what follows takes those above them
+locking : {p q : _} {names : Names} {text : TextPlace} {place : Place} {a o : Statement} → IsPlace names text place → Fits (with_place names text) a → Fits names o
+    → Fits names (S.Lock' place p a q o)
+locking (node new room n has) x y = record { turns = (x.turns, y.turns); slots = (room, x.slots, y.slots); depth = omega (arith, x.depth, y.depth); room = (has, x.room, y.room) }
+locking (child new room e n has) x y = record { turns = (x.turns, y.turns); slots = (room, x.slots, y.slots); depth = omega (arith, x.depth, y.depth); room = (has, x.room, y.room) }
+locking {names = names} {a = a} (pair new other room e f n has m second) x y =
+    let behind : names.nodes + 1 + 1 ≡ max names.nodes (names.nodes + 1) + 1 = omega arith in
+    let first : names.nodes < NODE_REGISTERS = omega (arith, room) in
+    record { turns = (x.turns, y.turns); slots = ((first, room), subst (AllSlots a) behind x.slots, y.slots); depth = omega (arith, x.depth, y.depth); room = ((has, second), x.room, y.room) }
+
+walk : {names : Names} (name : Name) {parent turns : ℕ} {body whole : Statement} → HasNode names → names.values + 2 ≤ VALUE_REGISTERS → 0 < turns → Fits (with_node (with_unnamed (in_loop names)) name) body
+    → IsVisiting names.values names.nodes parent turns body whole → Fits names whole
+walk name room has lt x (visiting opposite calculated then then) = record {
+  turns = ((tt, tt), (lt, (tt, (x.turns, tt))));
+  slots = ((tt, tt), (tt, (room, x.slots, tt)));
+  depth = omega (arith, x.depth);
+  room = (((omega arith, omega arith), tt, tt), (omega arith, (omega arith, (omega arith, x.room, tt))));
+}
+
+-- ---- statements without blocks
+
+compared : (k : Comparison) (a b : Expression) (c : Condition) (d : ℕ) → HasBoth a b d → IsComparison k a b c → HasConditionRoom c d
+compared K.Less a b c d h e = subst (λ z. HasConditionRoom z d) (sym e) h
+compared K.LessOrEqual a b c d h opposite = h
+compared K.Greater a b c d h e = subst (λ z. HasConditionRoom z d) (sym e) h
+compared K.GreaterOrEqual a b c d h opposite = h
+compared K.Equal a b c d h e = subst (λ z. HasConditionRoom z d) (sym e) h
+compared K.NotEqual a b c d h opposite = h
+
+tested : {names : Names} {form : Form} {c : Condition} → IsCondition names form c → HasConditionRoom c names.values
+tested {names} (comparison {k = k} {c = c} h) = compared k h.left h.right c names.values (h.left_fits, h.right_fits) h.condition_is
+tested (negation c opposite) = tested c
+tested (conjunction c d together) = (tested c, tested d)
+tested (disjunction c d opposite opposite together opposite) = (tested c, tested d)
+
+emitted : {names : Names} {xs : List TextExpression} {parts : List Statement} → names.loops ≤ MAX_DEPTH → AreEmits names xs parts → All (Fits names) parts
+emitted {names} le no_emits = All-nil (Fits names)
+emitted {names} le (next_emit {emits = so_far} {e = e} a before n has) =
+    All-push (Fits names) so_far (S.Emit e) (emitted le before) (record { turns = tt; slots = tt; depth = omega arith; room = has })
+
+action : {names : Names} {a : Action} {s : Statement} → names.loops ≤ MAX_DEPTH → IsAction names a s → Fits names s
+action le (assigns e n c has) = record { turns = tt; slots = tt; depth = omega arith; room = has }
+action le (writes e f n c has) = record { turns = tt; slots = tt; depth = omega arith; room = has }
+action le (emits e) = halved le e.joined (emitted le e.each)
+action le (requires c) = record { turns = (tt, tt); slots = (tt, tt); depth = omega arith; room = (tested c, tt, tt) }
+action le (descends room e n has) = record { turns = tt; slots = room; depth = omega arith; room = has }
+action le (takes e f) = record { turns = tt; slots = tt; depth = omega arith; room = tt }
+action le (frees e) = record { turns = tt; slots = tt; depth = omega arith; room = tt }
+action le (breaks lt) = record { turns = tt; slots = tt; depth = omega arith; room = tt }
+action le returns = record { turns = tt; slots = tt; depth = omega arith; room = tt }
+action le fails = record { turns = tt; slots = tt; depth = omega arith; room = tt }
+
+-- ---- blocks
+
+beside : (names : Names) (text : TextPlace) → names.loops ≤ MAX_DEPTH → (with_place names text).loops ≤ MAX_DEPTH
+beside names (T.Node name offset number) le = le
+beside names (T.Child c) le = le
+beside names (T.Pair c d) le = le
+
+failing : {names : Names} → names.loops ≤ MAX_DEPTH → Fits names S.Fail
+failing le = record { turns = tt; slots = tt; depth = omega arith; room = tt }
+
+mutual
+  in_block : {names : Names} {xs : List TextStatement} {s : Statement} → names.loops ≤ MAX_DEPTH → IsBlock names xs s → Fits names s
+  in_block le (block are j) = halved le j (in_statements le are)
+
+  in_statements : {names : Names} {xs : List TextStatement} {parts : List Statement} → names.loops ≤ MAX_DEPTH → AreStatements names xs parts → All (Fits names) parts
+  in_statements {names} le no_more = All-nil (Fits names)
+  in_statements {names} le (next {b = b} {parts = parts} s a rest reached) = All-cons (Fits names) b parts (placed (in_statement le s) a) (in_statements le rest)
+  in_statements {names} le (let_rest {a = a} f new room n has body o) =
+      let x = in_block le body in
+      All-cons (Fits names) a [] (placed (record { turns = x.turns; slots = x.slots; depth = x.depth; room = (has, x.room) }) o) (All-nil (Fits names))
+  in_statements {names} le (let_else {a = a} f new room n has other leaves body o) =
+      let x = in_block le body in
+      let y = in_block le other in
+      All-cons (Fits names) a [] (placed (record { turns = (x.turns, y.turns); slots = (x.slots, y.slots); depth = omega (arith, x.depth, y.depth); room = (has, x.room, y.room) }) o) (All-nil (Fits names))
+  in_statements {names} le (lock_rest {text = text} {a = a} f place body o) =
+      All-cons (Fits names) a [] (placed (locking place (in_block (beside names text le) body) (failing le)) o) (All-nil (Fits names))
+  in_statements {names} le (lock_else {text = text} {a = a} f place other leaves body o) =
+      All-cons (Fits names) a [] (placed (locking place (in_block (beside names text le) body) (in_block le other)) o) (All-nil (Fits names))
+
+  in_statement : {names : Names} {form : StatementForm} {s : Statement} → names.loops ≤ MAX_DEPTH → IsStatement names form s → Fits names s
+  in_statement le (act a) = action le a
+  in_statement le (act_else a h t) = handled (action le a) (in_block le h) t
+  in_statement le (try xs ys a b t) = handled (in_block le a) (in_block le b) t
+  in_statement le (if xs ys c a b) = choice (tested c) (in_block le a) (in_block le b)
+  in_statement {names} le (if_lock {text = text} xs ys place a b) = locking place (in_block (beside names text le) a) (in_block le b)
+  in_statement le (repeat xs deep c a) = let x = in_block (omega (arith, deep)) a in record { turns = (may_turn c, x.turns); slots = x.slots; depth = omega (arith, x.depth); room = x.room }
+  in_statement le (repeat_up_to xs deep n has turn c a) =
+      let x = in_block (omega (arith, deep)) a in
+      record { turns = (may_turn c, x.turns); slots = x.slots; depth = omega (arith, x.depth); room = (has, turn, x.room) }
+  in_statement le (for_each {child = called} xs deep new room has e c a v) = walk called room has (may_turn c) (in_block (omega (arith, deep)) a) v
+
+-- ---- procedures
+
+in_body : {names : Names} {text : TextProcedure} {s : Statement} → names.loops ≤ MAX_DEPTH → IsBody names text s → Fits names s
+in_body le b = handled (handled (in_block le b.body_is) (in_block le b.handler_is) b.handled_is) (record { turns = tt; slots = tt; depth = omega arith; room = tt }) b.whole_is
+
+pub in_order : (scope : View) (text : TextProcedure) (p : Procedure) → p.arity ≡ scope.values → scope.values ≤ MAX_ARGS → scope.nodes ≡ 0 → scope.loops ≡ 0
+    → IsBody (names_in scope) text p.body → IsSound p.body scope.values scope.nodes none_held (is_in_loop scope) → failures p.body none_held ≡ [] → EntersOnce p.body false → IsWord p.name.items → IsInOrder p
+in_order scope text p arity few nodes loops body sound handled enters name =
+    let outside : scope.loops ≤ MAX_DEPTH = omega arith in
+    let f = in_body outside body in
+    record {
+      sound =
+          subst (λ n. IsSound p.body n 0 none_held false) (sym arity)
+          (subst (λ n. IsSound p.body scope.values n none_held false) nodes (subst (λ n. IsSound p.body scope.values scope.nodes none_held (nat_lt 0 n)) loops sound));
+      handled = handled;
+      few = omega arith;
+      slots = subst (AllSlots p.body) nodes f.slots;
+      turns = f.turns;
+      depth = omega (arith, f.depth);
+      name = name;
+      enters = enters;
+      room = subst (HasRoom p.body) (sym arity) f.room;
+    }

@@ -1,0 +1,229 @@
+-- Tokens spell one list of declarations.
+use Rattle.std.proofs.Common.{◌≡◌, ℕ, ◌≤◌, ℤ, List, [], ◌∷◌, ◌++◌, refl, sym, ap, subst, ◌∙◌, arith}
+use Rattle.std.proofs.Math.Path.{subst₂}
+use Rattle.tl_syntax.specs.declared.token.Token.{Token}
+use Rattle.tl_syntax.specs.declared.token.TokenKind.{TokenKind}
+use Rattle.tl_syntax.specs.declared.token.TokenKind.TheVariants as K
+use Rattle.tl_syntax.specs.declared.parsed.Name.{Name}
+use Rattle.tl_syntax.specs.declared.parsed.Procedure.{Procedure}
+use Rattle.tl_syntax.specs.declared.parsed.Declaration.{Declaration}
+use Rattle.tl_syntax.specs.declared.parsed.Declaration.TheVariants as V
+use Rattle.tl_syntax.specs.declared.parser.TheConstants.{MAX_LEVELS}
+use Rattle.tl_syntax.specs.Grammar.{kind_at, offset_at, Stands, IsName, IsNumber, IsNegative}
+use Rattle.tl_syntax.specs.Statements.{IsBlock}
+use Rattle.tl_syntax.specs.Declarations as D
+use Rattle.tl_syntax.specs.Declarations.{IsConstant, AreNames, AreArguments, IsProcedure, IsDeclaration, AreDeclarations, IsFile}
+use Rattle.tl_syntax.specs.Alike as A
+use Rattle.tl_syntax.specs.Alike.{AlikeStatements, AlikeProcedure, AlikeDeclaration, AlikeDeclarations}
+use Rattle.tl_syntax.proofs.ListsOnce.{Rest, done, append, Compared, within, another_compared, list_end}
+use Rattle.tl_syntax.proofs.ExpressionsOnce.{same_end, differ, same_name, same_number, same_negative}
+use Rattle.tl_syntax.proofs.StatementsOnce.{at, NoComma, some_comma, comma, NoElse, some_else, no_else, block_once}
+
+-- ---- constants
+
+abbrev sign : TokenKind → ℕ
+sign K.Minus = 1
+sign (K.Number n) = 2
+sign kind = 0
+
+constant_once : {tokens : List Token} {i j k : ℕ} {n m : ℤ} → IsConstant tokens i j n → IsConstant tokens i k m → (j ≡ k) × (n ≡ m)
+constant_once (D.positive n) (D.positive m) = (same_end n.stands m.stands, same_number n m)
+constant_once (D.positive n) (D.negative s m) = differ sign s.kind_is n.stands.kind_is (omega arith)
+constant_once (D.negative s n) (D.positive m) = differ sign s.kind_is m.stands.kind_is (omega arith)
+constant_once {tokens} {k = end} (D.negative {j = a1} s n) (D.negative {n = y} t m) =
+    let m' : IsNegative tokens a1 end y = at (λ z. IsNegative tokens z end y) (same_end s t) m in
+    (same_end n.stands m'.stands, same_negative n m')
+
+-- ---- names
+
+-- a comma and a name
+record IsItem (tokens : List Token) (i k : ℕ) (n : Name) : Type 0 where
+  middle : ℕ
+  stands : Stands tokens K.Comma i middle
+  is : IsName tokens middle k n
+
+record Parts (tokens : List Token) (i k : ℕ) (ns : List Name) : Type 0 where
+  middle : ℕ
+  first_name : Name
+  first : IsName tokens i middle first_name
+  rest : Rest (IsItem tokens) middle (first_name ∷ []) k ns
+
+parts : {tokens : List Token} {i k : ℕ} {ns : List Name} → AreNames tokens i k ns → Parts tokens i k ns
+parts (D.one {j = j} {n = n} h) = record { middle = j; first_name = n; first = h; rest = done }
+parts (D.one_more {k = k} a s h) =
+    let p = parts a in record { middle = p.middle; first_name = p.first_name; first = p.first; rest = append p.rest (record { middle = k; stands = s; is = h }) }
+
+abbrev Anything : ℕ → Type 0
+Anything i = Unit {0}
+
+abbrev SameNames : List Name → List Name → Type 0
+SameNames ns ms = ns ≡ ms
+
+item_once : (tokens : List Token) (j k : ℕ) (n : Name) → IsItem tokens j k n → Anything k → (l : ℕ) (m : Name) → IsItem tokens j l m → Anything l → (k ≡ l) × (n ≡ m)
+item_once tokens j k n x a l m y b =
+    let is : IsName tokens x.middle l m = at (λ z. IsName tokens z l m) (same_end x.stands y.stands) y.is in
+    (same_end x.is.stands is.stands, same_name x.is is)
+
+pushed_same : (ns ms : List Name) (n m : Name) → SameNames ns ms → n ≡ m → SameNames (ns ++ n ∷ []) (ms ++ m ∷ [])
+pushed_same ns ms n m e f = ap (λ l. l ++ n ∷ []) e ∙ ap (λ x. ms ++ x ∷ []) f
+
+names_compared : {tokens : List Token} {i j : ℕ} {ns : List Name} → AreNames tokens i j ns → (k : ℕ) (ms : List Name) → Parts tokens i k ms →
+    Compared (IsItem tokens) SameNames j ns k ms
+names_compared {tokens} (D.one h) k ms p =
+    within (at (λ z. Rest (IsItem tokens) z (p.first_name ∷ []) k ms) (same_end h.stands p.first.stands) p.rest) (ap (λ n. n ∷ []) (same_name h p.first))
+names_compared {tokens} (D.one_more {j = j} {k = m} {l = l} {ns = ns} {n = n} a s h) k ms p =
+    let item : IsItem tokens j l n = record { middle = m; stands = s; is = h } in
+    another_compared (IsItem tokens) (λ x y. x ≡ y) SameNames Anything (λ j k x h. tt) pushed_same j l k ns ms n item (item_once tokens j l n item) tt tt (names_compared a k ms p)
+
+names_once : {tokens : List Token} {i j k : ℕ} {ns ms : List Name} → AreNames tokens i j ns → NoComma tokens j → AreNames tokens i k ms → NoComma tokens k → (j ≡ k) × (ns ≡ ms)
+names_once {j = j} {k = k} {ns = ns} {ms = ms} h a g b =
+    list_end j k ns ms (names_compared h k ms (parts g)) (λ l y q. some_comma q.stands a) (λ l y q. some_comma q.stands b)
+
+names_start : {tokens : List Token} {i j : ℕ} {ns : List Name} → AreNames tokens i j ns → (n : Name) × (kind_at tokens i ≡ K.Name n.symbol)
+names_start (D.one {n = n} h) = (n, h.stands.kind_is)
+names_start (D.one_more a s h) = names_start a
+
+abbrev closing : TokenKind → ℕ
+closing (K.Name s) = 1
+closing K.RightParenthesis = 2
+closing kind = 0
+
+no_comma : {tokens : List Token} {i j : ℕ} → Stands tokens K.RightParenthesis i j → NoComma tokens i
+no_comma s = record { is = ap comma s.kind_is }
+
+arguments_once : {tokens : List Token} {i j k : ℕ} {ns ms : List Name} → AreArguments tokens i j ns → AreArguments tokens i k ms → (j ≡ k) × (ns ≡ ms)
+arguments_once (D.none s) (D.none t) = (same_end s t, refl)
+arguments_once (D.none s) (D.some a t) = differ closing (names_start a).1 s.kind_is (omega arith)
+arguments_once (D.some a s) (D.none t) = differ closing (names_start a).1 t.kind_is (omega arith)
+arguments_once {tokens} {k = end} (D.some {j = a1} a s) (D.some b t) =
+    let same = names_once a (no_comma s) b (no_comma t) in
+    let t' : Stands tokens K.RightParenthesis a1 end = at (λ z. Stands tokens K.RightParenthesis z end) same.0 t in
+    (same_end s t', same.1)
+
+-- ---- procedures
+
+-- a procedure up to its body, and what stands behind that
+record IsHead (tokens : List Token) (i j : ℕ) (p : Procedure) : Type 0 where
+  a : ℕ
+  b : ℕ
+  c : ℕ
+  d : ℕ
+  begins : Stands tokens K.Proc i a
+  named : IsName tokens a b p.name
+  opens : Stands tokens K.LeftParenthesis b c
+  arguments : AreArguments tokens c d p.arguments.items
+  body : IsBlock tokens MAX_LEVELS d j p.body.items
+
+record SameHead (j k : ℕ) (p q : Procedure) : Type 0 where
+  ends : j ≡ k
+  named : p.name ≡ q.name
+  arguments : p.arguments.items ≡ q.arguments.items
+  body : AlikeStatements p.body.items q.body.items
+
+head_once : (tokens : List Token) (i j k : ℕ) (p q : Procedure) → IsHead tokens i j p → IsHead tokens i k q → SameHead j k p q
+head_once tokens i j k p q x y =
+    let named : IsName tokens x.a y.b q.name = at (λ z. IsName tokens z y.b q.name) (same_end x.begins y.begins) y.named in
+    let opens : Stands tokens K.LeftParenthesis x.b y.c = at (λ z. Stands tokens K.LeftParenthesis z y.c) (same_end x.named.stands named.stands) y.opens in
+    let arguments : AreArguments tokens x.c y.d q.arguments.items = at (λ z. AreArguments tokens z y.d q.arguments.items) (same_end x.opens opens) y.arguments in
+    let same = arguments_once x.arguments arguments in
+    let body : IsBlock tokens MAX_LEVELS x.d k q.body.items = at (λ z. IsBlock tokens MAX_LEVELS z k q.body.items) same.0 y.body in
+    let alike = block_once x.body body in
+    record { ends = alike.0; named = same_name x.named named; arguments = same.1; body = alike.1 }
+
+procedure_once : {tokens : List Token} {i j k : ℕ} {p q : Procedure} → IsProcedure tokens i j p → NoElse tokens j → IsProcedure tokens i k q → NoElse tokens k → (j ≡ k) × AlikeProcedure p q
+procedure_once {tokens} {i} {j} {k} {p} {q} (D.procedure {j = a1} {k = a2} {l = a3} {m = a4} s n t a b none) f (D.procedure {j = b1} {k = b2} {l = b3} {m = b4} s2 n2 t2 x2 y2 none2) g =
+    let h = head_once tokens i j k p q (record { a = a1; b = a2; c = a3; d = a4; begins = s; named = n; opens = t; arguments = a; body = b })
+    (record { a = b1; b = b2; c = b3; d = b4; begins = s2; named = n2; opens = t2; arguments = x2; body = y2 }) in
+    (h.ends, record { name = h.named; arguments = h.arguments; body = h.body; otherwise = subst₂ AlikeStatements (sym none) (sym none2) A.no_statements })
+procedure_once {tokens} {i} {j} {k} {p} {q} (D.procedure {j = a1} {k = a2} {l = a3} {m = a4} s n t a b none) f (D.procedure_else {j = b1} {k = b2} {l = b3} {m = b4} {n = b5} s2 n2 t2 x2 y2 u2 c2) g =
+    let h = head_once tokens i j b5 p q (record { a = a1; b = a2; c = a3; d = a4; begins = s; named = n; opens = t; arguments = a; body = b })
+    (record { a = b1; b = b2; c = b3; d = b4; begins = s2; named = n2; opens = t2; arguments = x2; body = y2 }) in
+    some_else u2 (subst (λ z. NoElse tokens z) h.ends f)
+procedure_once {tokens} {i} {j} {k} {p} {q} (D.procedure_else {j = a1} {k = a2} {l = a3} {m = a4} {n = a5} s n t a b u c) f (D.procedure {j = b1} {k = b2} {l = b3} {m = b4} s2 n2 t2 x2 y2 none2) g =
+    let h = head_once tokens i a5 k p q (record { a = a1; b = a2; c = a3; d = a4; begins = s; named = n; opens = t; arguments = a; body = b })
+    (record { a = b1; b = b2; c = b3; d = b4; begins = s2; named = n2; opens = t2; arguments = x2; body = y2 }) in
+    some_else u (at (λ z. NoElse tokens z) h.ends g)
+procedure_once {tokens} {i} {j} {k} {p} {q} (D.procedure_else {j = a1} {k = a2} {l = a3} {m = a4} {n = a5} {o = a6} s n t a b u c) f (D.procedure_else {j = b1} {k = b2} {l = b3} {m = b4} {n = b5} {o = b6} s2 n2 t2 x2 y2 u2 c2) g =
+    let h = head_once tokens i a5 b5 p q (record { a = a1; b = a2; c = a3; d = a4; begins = s; named = n; opens = t; arguments = a; body = b })
+    (record { a = b1; b = b2; c = b3; d = b4; begins = s2; named = n2; opens = t2; arguments = x2; body = y2 }) in
+    let u2' : Stands tokens K.Else a5 b6 = at (λ z. Stands tokens K.Else z b6) h.ends u2 in
+    let c2' : IsBlock tokens MAX_LEVELS a6 k q.otherwise.items = at (λ z. IsBlock tokens MAX_LEVELS z k q.otherwise.items) (same_end u u2') c2 in
+    let other = block_once c c2' in
+    (other.0, record { name = h.named; arguments = h.arguments; body = h.body; otherwise = other.1 })
+
+-- ---- declarations
+
+abbrev declares : TokenKind → ℕ
+declares K.Field = 1
+declares K.Const = 2
+declares K.Proc = 3
+declares kind = 0
+
+procedure_starts : {tokens : List Token} {i j : ℕ} {p : Procedure} → IsProcedure tokens i j p → kind_at tokens i ≡ K.Proc
+procedure_starts (D.procedure s n t a b none) = s.kind_is
+procedure_starts (D.procedure_else s n t a b u c) = s.kind_is
+
+abbrev rank : {tokens : List Token} {i j : ℕ} {d : Declaration} → IsDeclaration tokens i j d → ℕ
+rank (D.field s n t m u o) = 1
+rank (D.constant s n t m u) = 2
+rank (D.procedures p) = 3
+
+rank_is : {tokens : List Token} {i j : ℕ} {d : Declaration} (x : IsDeclaration tokens i j d) → declares (kind_at tokens i) ≡ rank x
+rank_is (D.field s n t m u o) = ap declares s.kind_is
+rank_is (D.constant s n t m u) = ap declares s.kind_is
+rank_is (D.procedures p) = ap declares (procedure_starts p)
+
+some_rank : {tokens : List Token} {i j : ℕ} {d : Declaration} → IsDeclaration tokens i j d → 1 ≤ declares (kind_at tokens i)
+some_rank (D.field s n t m u o) = omega (arith, ap declares s.kind_is)
+some_rank (D.constant s n t m u) = omega (arith, ap declares s.kind_is)
+some_rank (D.procedures p) = omega (arith, ap declares (procedure_starts p))
+
+declaration_once : {tokens : List Token} {i j k : ℕ} {d e : Declaration} → IsDeclaration tokens i j d → NoElse tokens j → IsDeclaration tokens i k e → NoElse tokens k →
+    (j ≡ k) × AlikeDeclaration d e
+declaration_once {tokens} {k = end} (D.field {j = a1} {k = a2} {l = a3} {m = a4} {offset = o1} {n = x} {number = v} s n t m u o) f (D.field {k = b2} {l = b3} {m = b4} {offset = o2} {n = y} {number = w} s2 n2 t2 m2 u2 p) g =
+    let n2' : IsName tokens a1 b2 y = at (λ z. IsName tokens z b2 y) (same_end s s2) n2 in
+    let t2' : Stands tokens K.Assign a2 b3 = at (λ z. Stands tokens K.Assign z b3) (same_end n.stands n2'.stands) t2 in
+    let m2' : IsNumber tokens a3 b4 w = at (λ z. IsNumber tokens z b4 w) (same_end t t2') m2 in
+    let u2' : Stands tokens K.Semicolon a4 end = at (λ z. Stands tokens K.Semicolon z end) (same_end m.stands m2'.stands) u2 in
+    let offsets : o1 ≡ o2 = o ∙ ap (λ z. offset_at tokens z) (same_end t t2') ∙ sym p in (
+      same_end u u2',
+      subst (λ z. AlikeDeclaration (V.Field x v o1) (V.Field z w o2)) (same_name n n2')
+          (subst₂ (λ z q. AlikeDeclaration (V.Field x v o1) (V.Field x z q)) (same_number m m2') offsets A.same_declaration),
+    )
+declaration_once {tokens} {k = end} (D.constant {j = a1} {k = a2} {l = a3} {m = a4} {n = x} {number = v} s n t m u) f (D.constant {k = b2} {l = b3} {m = b4} {n = y} {number = w} s2 n2 t2 m2 u2) g =
+    let n2' : IsName tokens a1 b2 y = at (λ z. IsName tokens z b2 y) (same_end s s2) n2 in
+    let t2' : Stands tokens K.Assign a2 b3 = at (λ z. Stands tokens K.Assign z b3) (same_end n.stands n2'.stands) t2 in
+    let m2' : IsConstant tokens a3 b4 w = at (λ z. IsConstant tokens z b4 w) (same_end t t2') m2 in
+    let same = constant_once m m2' in
+    let u2' : Stands tokens K.Semicolon a4 end = at (λ z. Stands tokens K.Semicolon z end) same.0 u2 in
+    (same_end u u2', subst₂ (λ z q. AlikeDeclaration (V.Constant x v) (V.Constant z q)) (same_name n n2') same.1 A.same_declaration)
+declaration_once (D.procedures p) f (D.procedures q) g = let same = procedure_once p f q g in (same.0, A.procedures same.1)
+declaration_once x f y g = absurd (omega (arith, rank_is x, rank_is y))
+
+-- ---- files
+
+no_else_before : (tokens : List Token) (j k : ℕ) (d : Declaration) → IsDeclaration tokens j k d → NoElse tokens j
+no_else_before tokens j k d h = record { is = λ e. omega (arith, some_rank h, ap declares e) }
+
+none_at_end : (tokens : List Token) (i : ℕ) → kind_at tokens i ≡ K.End → (k : ℕ) (d : Declaration) → IsDeclaration tokens i k d → ⊥
+none_at_end tokens i e k d h = omega (arith, some_rank h, ap declares e)
+
+declarations_rest : {tokens : List Token} {i k : ℕ} {ds : List Declaration} → AreDeclarations tokens i k ds → Rest (IsDeclaration tokens) i [] k ds
+declarations_rest D.no_more = done
+declarations_rest (D.next a h) = append (declarations_rest a) h
+
+declarations_compared : {tokens : List Token} {i j : ℕ} {ds : List Declaration} → AreDeclarations tokens i j ds → NoElse tokens j → (k : ℕ) (es : List Declaration) →
+    Rest (IsDeclaration tokens) i [] k es → NoElse tokens k → Compared (IsDeclaration tokens) AlikeDeclarations j ds k es
+declarations_compared D.no_more a k es r b = within r A.no_declarations
+declarations_compared {tokens} (D.next {j = j} {k = m} {ds = ds} {d = d} xs h) a k es r b =
+    another_compared (IsDeclaration tokens) AlikeDeclaration AlikeDeclarations (NoElse tokens) (no_else_before tokens) (λ xs ys x y ps q. A.next_declaration ps q) j m k ds es d h
+    (λ f l e y g. declaration_once h f y g) a b (declarations_compared xs (no_else_before tokens j m d h) k es r b)
+
+abbrev last : TokenKind → ℕ
+last K.End = 1
+last kind = 0
+
+pub file_once : {tokens : List Token} {ds es : List Declaration} → IsFile tokens ds → IsFile tokens es → AlikeDeclarations ds es
+file_once {tokens} {ds} {es} x y =
+    let compared = declarations_compared x.declarations (no_else last x.ends (omega arith)) y.end es (declarations_rest y.declarations) (no_else last y.ends (omega arith)) in
+    (list_end x.end y.end ds es compared (none_at_end tokens x.end x.ends) (none_at_end tokens y.end y.ends)).1
