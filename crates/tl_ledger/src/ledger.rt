@@ -1,0 +1,86 @@
+// A store with its counts.
+
+ghost use Rattle.std.specs.Prelude.{◌≡◌, ◌⊎◌, ◌↔◌, ◌+◌, ◌≤◌, ◌^◌, true, false, IsTrue, OnOk, OnErr};
+ghost use Rattle.sqlite_trees.specs.Tree.{Trees};
+ghost use Rattle.sqlite_trees.specs.View.{IsClean};
+ghost use Rattle.tl_ledger.specs.Contents.{Contents, Holds, IsAtRest};
+ghost use Rattle.tl_ledger.specs.News.{after_news, IsMarked};
+
+use crate::committing::{Marks, commit_news};
+use crate::news::News;
+use sqlite_trees::error::StoreError;
+use sqlite_trees::store::Store;
+use sqlite_value::row::Row;
+use std::alloc::Global;
+
+/// How many rows a table has at most.
+const MAX_ROWS: u64 = 1 << 62;
+
+/// A store with its counts. After an error it is shut: it stores nothing more, until the file is opened again.
+#[derive(Drop)]
+pub struct Ledger<S: Store> {
+    pub store: S,
+    pub marks: Marks,
+    pub is_shut: bool,
+    row: Row,
+    ghost rests: { is_shut ≡ false → IsClean (S.Store.view store) → IsAtRest (S.Store.view store) },
+}
+
+// Whether so many rows more have numbers.
+fn fits(count: u64, more: usize) -> bool
+    ensures { IsTrue result ↔ (count + more ≤ 2 ^ 62) }
+{
+    count <= MAX_ROWS && more as u64 <= MAX_ROWS - count
+}
+
+impl<S: Store> Ledger<S> {
+    /// A ledger over a store at rest.
+    pub fn new(alloc: Global, store: S, marks: Marks) -> Ledger<S>
+        requires { IsClean (S.Store.view store) → IsAtRest (S.Store.view store) }
+        ensures { (result.store ≡ store) × (result.marks ≡ marks) × (result.is_shut ≡ false) }
+    {
+        Ledger {
+            store,
+            marks,
+            is_shut: false,
+            row: Row::new(alloc),
+        }
+    }
+
+    /// Stores what came, in one transaction. A crash at any moment leaves what was stored before, or that with all of it; after `Ok`,
+    /// it leaves all of it. After an error the ledger is shut.
+    pub fn commit(&mut self, news: &News) -> Result<(), StoreError>
+        ensures open { OnOk result (self.new.is_shut ≡ false) }
+        ensures shut { OnErr result (self.new.is_shut ≡ true) }
+        ensures stored { OnOk result (IsClean (S.Store.view self.new.store) → (c : Contents) → IsMarked c self.old.marks
+            → Holds (S.Store.view self.old.store).committed c
+            → Holds (S.Store.view self.new.store).committed (after_news c news.now) × IsMarked (after_news c news.now) self.new.marks) }
+        ensures durable { OnOk result (IsClean (S.Store.view self.new.store) → (c : Contents) → IsMarked c self.old.marks
+            → Holds (S.Store.view self.old.store).committed c → (db : Trees) → S.Store.recovers self.new.store db → Holds db (after_news c news.now)) }
+        ensures crash { self.old.is_shut ≡ false → IsClean (S.Store.view self.new.store) → (c : Contents) → IsMarked c self.old.marks
+            → Holds (S.Store.view self.old.store).committed c → (db : Trees) → S.Store.recovers self.new.store db → Holds db c ⊎ Holds db (after_news c news.now) }
+    {
+        if self.is_shut {
+            return Err(StoreError::Broken);
+        }
+        let marks = self.marks;
+        let has_room = fits(marks.procedures, news.procedures.len())
+            && fits(marks.calls, news.calls.len())
+            && fits(marks.turns, news.turns.len())
+            && fits(marks.replies, news.replies.len());
+        if !has_room {
+            self.is_shut = true;
+            return Err(StoreError::Full);
+        }
+        self.is_shut = true;
+        commit_news(&mut self.store, &mut self.row, &marks, news)?;
+        self.marks = Marks {
+            procedures: marks.procedures + news.procedures.len() as u64,
+            calls: marks.calls + news.calls.len() as u64,
+            turns: marks.turns + news.turns.len() as u64,
+            replies: marks.replies + news.replies.len() as u64,
+        };
+        self.is_shut = false;
+        Ok(())
+    }
+}

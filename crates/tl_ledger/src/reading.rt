@@ -1,0 +1,129 @@
+// The rows of a table, read in their order.
+
+ghost use Rattle.std.specs.Prelude.{◌≡◌, ◌<◌, ◌^◌, [], ◌∷◌, pos, map, true, false, IsSome, IsTrue, IfOk, IfSome, IfNone, OnOk};
+ghost use Rattle.sqlite_trees.specs.View.{IsClean, IsQuiet, KeepsSchema, Advances};
+ghost use Rattle.sqlite_value.specs.Order.{column};
+ghost use Rattle.sqlite_value.specs.declared.value.Value.{Value};
+ghost use Rattle.sqlite_value.specs.declared.value.Value.TheVariants.{Int};
+ghost use Rattle.tl_ledger.specs.Rows.{rows_from, IsNumbered};
+
+use crate::entry::Entry;
+use sqlite_trees::error::StoreError;
+use sqlite_trees::store::{Direction, Shape, Store};
+use sqlite_value::row::Row;
+use sqlite_value::value::ValueRef;
+use std::alloc::{AllocError, Global};
+
+/// What can be read from a table's row.
+pub trait ReadEntry: Entry {
+    /// Reads the columns behind the row's number. None if they are no such columns.
+    fn read(alloc: Global, row: &Row) -> Result<Option<Self>, AllocError>
+        ensures { IfOk result (λ o. IfSome o (λ x. (number : _) → column row.now 0 ≡ number → IsNumbered row.now number (Self.Entry.columns x))) };
+}
+
+// Whether the row is the one that the item is written as, whatever its number.
+fn is_row_of<T: Entry>(alloc: Global, item: &T, row: &Row) -> Result<bool, AllocError>
+    ensures { IfOk result (λ same. IsTrue same → IsNumbered row.now (column row.now 0) (T.Entry.columns item.now)) }
+{
+    let mut written = Row::new(alloc);
+    written.push(row.get(0))?;
+    item.push_to(&mut written)?;
+    Ok(written.is_same(row))
+}
+
+// The item, if the row is the one that it is written as.
+pub(crate) fn if_row_of<T: Entry + Drop>(
+    alloc: Global,
+    item: T,
+    row: &Row,
+) -> Result<Option<T>, AllocError>
+    ensures { IfOk result (λ o. IfSome o (λ x. (number : Value) → column row.now 0 ≡ number → IsNumbered row.now number (T.Entry.columns x))) }
+{
+    if is_row_of(alloc, &item, row)? {
+        Ok(Some(item))
+    } else {
+        Ok(None)
+    }
+}
+
+/// How many rows a table has at most.
+const MAX_ROWS: u64 = 1 << 62;
+
+/// Why a table isn't read.
+#[derive(Clone, Copy, Debug, PartialEq, Eq)]
+pub enum ReadFault {
+    /// The store fails.
+    Store(StoreError),
+    /// A row isn't one that this program writes.
+    NotRows,
+}
+
+impl From<AllocError> for ReadFault {
+    fn from(_: AllocError) -> ReadFault {
+        ReadFault::Store(StoreError::OutOfMemory)
+    }
+}
+
+impl From<StoreError> for ReadFault {
+    fn from(error: StoreError) -> ReadFault {
+        ReadFault::Store(error)
+    }
+}
+
+// The item of the cursor's next row, which has to have that number; none at the end.
+fn next_item<S: Store, T: ReadEntry + Drop>(
+    alloc: Global,
+    store: &mut S,
+    row: &mut Row,
+    number: u64,
+) -> Result<Option<T>, ReadFault>
+    requires live { IsSome ((S.Store.view store.old).cursors 0) }
+    requires small { number < 2 ^ 62 }
+    ensures some { IfOk result (λ o. IfSome o (λ x. IsClean (S.Store.view store.new)
+        → Advances (S.Store.view store.old) (S.Store.view store.new) 0 (Int (pos number) ∷ T.Entry.columns x) true)) }
+    ensures none { IfOk result (λ o. IfNone o (IsClean (S.Store.view store.new)
+        → Advances (S.Store.view store.old) (S.Store.view store.new) 0 [] false)) }
+    ensures live { OnOk result (IsSome ((S.Store.view store.new).cursors 0)) }
+    ensures schema { KeepsSchema (S.Store.view store.old) (S.Store.view store.new) }
+    ensures quiet { IsQuiet S.Store.view S.Store.faults S.Store.recovers S.Store.is_shielded store.old store.new }
+{
+    if !store.next(0, row)? {
+        return Ok(None);
+    }
+    let ValueRef::Int(id) = row.get(0) else {
+        return Err(ReadFault::NotRows);
+    };
+    if id != number as i64 {
+        return Err(ReadFault::NotRows);
+    }
+    match T::read(alloc, row)? {
+        Some(item) => Ok(Some(item)),
+        None => Err(ReadFault::NotRows),
+    }
+}
+
+/// The rows of a table whose rows are numbered from 0 on.
+pub fn read_all<S: Store, T: ReadEntry + Drop>(
+    alloc: Global,
+    store: &mut S,
+    table: u32,
+) -> Result<Vec<T>, ReadFault>
+    requires { IsClean (S.Store.view store.old) → (S.Store.view store.old).shape table ≡ Shape.Table }
+    ensures rows { IfOk result (λ items. IsClean (S.Store.view store.new) → (S.Store.view store.old).trees table ≡ rows_from 0 (map T.Entry.columns items.items)) }
+    ensures same { OnOk result (IsClean (S.Store.view store.new) → (S.Store.view store.new).trees ≡ (S.Store.view store.old).trees) }
+    ensures schema { KeepsSchema (S.Store.view store.old) (S.Store.view store.new) }
+    ensures quiet { IsQuiet S.Store.view S.Store.faults S.Store.recovers S.Store.is_shielded store.old store.new }
+{
+    let mut row = Row::new(alloc);
+    let mut items = Vec::new(alloc);
+    store.seek(0, table, &row, Direction::Forward)?;
+    for number in 0..MAX_ROWS {
+        let Some(item) = next_item(alloc, store, &mut row, number)? else {
+            return Ok(items);
+        };
+        let Ok(()) = items.push(item) else {
+            return Err(ReadFault::Store(StoreError::OutOfMemory));
+        };
+    }
+    Err(ReadFault::NotRows)
+}

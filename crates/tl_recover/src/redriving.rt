@@ -1,0 +1,77 @@
+// The turns of a core, taken again.
+
+ghost use Rattle.std.specs.Prelude.{◌≡◌, ◌∷◌, ◌++◌, List, map, reverse, true, OnOk};
+ghost use Rattle.tl_tree_locking.specs.declared.event.Event.{Event};
+ghost use Rattle.tl_tree_locking.specs.History.{caller, AllDone};
+ghost use Rattle.tl_recover.specs.Redriven.{Fits, GoesOn};
+
+use crate::fault::RecoverFault;
+use std::alloc::Global;
+use tl_core::{Core, Stepped};
+use tl_procedures::Request;
+
+// Lets a call take its next turn: its admission, or its instructions up to and including a lock, a free or its end.
+fn take_turn(
+    alloc: Global,
+    core: &mut Core,
+    requests: &[Request],
+    turn: u32,
+    call: u32,
+) -> Result<(), RecoverFault>
+    ensures turn { OnOk result (map caller core.new.seen.past ≡ call ∷ map caller core.old.seen.past) }
+    ensures fits { Fits core.old.seen requests.now → OnOk result (Fits core.new.seen requests.now) }
+    ensures goes_on { GoesOn core.old.seen core.new.seen }
+{
+    if call as usize == core.calls() {
+        if call as usize >= requests.len() {
+            return Err(RecoverFault::NoRequest { turn });
+        }
+        let request = &requests[call as usize];
+        return match core.admit(alloc, &request.name, &request.args) {
+            Ok(_) => Ok(()),
+            Err(fault) => Err(RecoverFault::Core(fault)),
+        };
+    }
+    match core.proceed(call) {
+        Ok(Stepped::Moved { .. }) => Ok(()),
+        Ok(_) => Err(RecoverFault::OutOfTurn { turn }),
+        Err(fault) => Err(RecoverFault::Core(fault)),
+    }
+}
+
+/// Lets calls take turns, one after another. A call that wasn't admitted is admitted, by its request. Errors name the turn, counted
+/// from 0: 1004 if the call's request isn't there, 1005 if the call can't take the turn; otherwise the core's refusal of an admission.
+pub fn redrive(
+    alloc: Global,
+    core: &mut Core,
+    requests: &[Request],
+    turns: &[u32],
+) -> Result<(), RecoverFault>
+    ensures turns { OnOk result (map caller core.new.seen.past ≡ reverse turns.now ++ map caller core.old.seen.past) }
+    ensures fits { Fits core.old.seen requests.now → OnOk result (Fits core.new.seen requests.now) }
+    ensures goes_on { GoesOn core.old.seen core.new.seen }
+{
+    let mut turn = 0u32;
+    for call in turns {
+        take_turn(alloc, core, requests, turn, *call)?;
+        turn = turn.saturating_add(1);
+    }
+    Ok(())
+}
+
+/// Runs the calls that are open to their ends. False if they haven't ended after 2^64 turns; no run comes that far.
+pub fn finish(core: &mut Core) -> bool
+    ensures done { result ≡ true → AllDone core.new.seen.past }
+    ensures begins { (more : List Event) × (core.new.seen.past ≡ more ++ core.old.seen.past) }
+    ensures goes_on { GoesOn core.old.seen core.new.seen }
+{
+    for _ in 0..u64::MAX {
+        let Some(call) = core.some_enabled() else {
+            return true;
+        };
+        let Ok(_) = core.proceed(call) else {
+            return false;
+        };
+    }
+    false
+}
