@@ -11,5 +11,5 @@ at_label count i (Some label) = with_target (count - label) i
 abbrev pub aimed : ℕ → Instr → Instr
 aimed count i = at_label count i (target i)
 
-abbrev pub placed : List Instr → List Instr
-placed code = map (aimed (length code)) code
+abbrev pub at_positions : List Instr → List Instr
+at_positions code = map (aimed (length code)) code

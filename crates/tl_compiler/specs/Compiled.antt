@@ -8,12 +8,12 @@ use Rattle.tl_lowering.specs.declared.program.Procedure.{Procedure}
 use Rattle.tl_lowering.specs.Reading.{IsProgram}
 use Rattle.tl_lowering.specs.Sound.{IsInOrder}
 use Rattle.tl_compiler.specs.declared.compiler.Compiled.{Compiled}
-use Rattle.tl_compiler.specs.Aiming.{placed}
+use Rattle.tl_compiler.specs.Aiming.{at_positions}
 use Rattle.tl_compiler.specs.Statements.{procedure_code}
 
 -- the code of a procedure
 abbrev pub code_of_procedure : Procedure → CodeValue
-code_of_procedure source = record { version = Two; arity = source.arity; instrs = placed (procedure_code source.arity source.body) }
+code_of_procedure source = record { version = Two; arity = source.arity; instrs = at_positions (procedure_code source.arity source.body) }
 
 -- it has the name and the code of that procedure, and the verifier accepts the code
 pub record IsCompiled (source : Procedure) (made : Compiled) : Type 0 where

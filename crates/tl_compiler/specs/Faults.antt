@@ -12,7 +12,7 @@ use Rattle.tl_syntax.specs.Faults.{number_of}
 use Rattle.tl_syntax.specs.declared.position.Position.{Position}
 use Rattle.tl_lowering.specs.declared.program.Procedure.{Procedure}
 use Rattle.tl_lowering.specs.Reading.{IsProgram}
-use Rattle.tl_compiler.specs.Aiming.{placed as at_positions}
+use Rattle.tl_compiler.specs.Aiming.{at_positions}
 use Rattle.tl_compiler.specs.Statements.{procedure_code}
 use Rattle.tl_compiler.specs.declared.fault.Excess.{Excess}
 use Rattle.tl_compiler.specs.declared.fault.Excess.TheVariants.{Instructions, Steps, Locks, Emits}
@@ -26,15 +26,15 @@ excess_number Locks = 296
 excess_number Emits = 297
 
 -- a number, and then a line and a column
-abbrev pub placed : ℕ → Position → List ℕ
-placed number position = number ∷ position.line ∷ position.column ∷ []
+abbrev pub numbers_at : ℕ → Position → List ℕ
+numbers_at number position = number ∷ position.line ∷ position.column ∷ []
 
 abbrev pub numbers_of : CompileFault → List ℕ
 numbers_of NotUtf8 = 255 ∷ []
-numbers_of (Wrong wrong position) = placed (number_of wrong) position
-numbers_of (Over excess sum position) = placed (excess_number excess) position
+numbers_of (Wrong wrong position) = numbers_at (number_of wrong) position
+numbers_of (Over excess sum position) = numbers_at (excess_number excess) position
 numbers_of NotOne = 289 ∷ []
-numbers_of (Refused position) = placed 298 position
+numbers_of (Refused position) = numbers_at 298 position
 numbers_of Memory = 290 ∷ []
 
 -- what is wrong with a text
@@ -61,13 +61,13 @@ IsExcess excess Memory = Unit {0}
 IsExcess excess _ = ⊥
 
 -- what the verifier's fault becomes
-abbrev pub IsRefusal : VerifyFault → CompileFault → Type 0
-IsRefusal (Nest StepsOver) e = IsExcess Steps e
-IsRefusal (Nest LocksOver) e = IsExcess Locks e
-IsRefusal (Nest EmitsOver) e = IsExcess Emits e
-IsRefusal fault (Refused position) = Unit {0}
-IsRefusal fault Memory = Unit {0}
-IsRefusal fault _ = ⊥
+abbrev pub IsVerifierFault : VerifyFault → CompileFault → Type 0
+IsVerifierFault (Nest StepsOver) e = IsExcess Steps e
+IsVerifierFault (Nest LocksOver) e = IsExcess Locks e
+IsVerifierFault (Nest EmitsOver) e = IsExcess Emits e
+IsVerifierFault fault (Refused position) = Unit {0}
+IsVerifierFault fault Memory = Unit {0}
+IsVerifierFault fault _ = ⊥
 
 -- what is wrong with the code of a procedure
 abbrev pub IsCodeFault : Procedure → CompileFault → Type 0

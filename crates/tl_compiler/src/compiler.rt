@@ -1,10 +1,10 @@
 // From a text to its procedures.
 
 ghost use Rattle.std.specs.Prelude.{◌≡◌, ◌≤◌, Some, None, option_map, IfOk, IfErr, MatchOption, MatchResult, vec_len};
-ghost use Rattle.tl_compiler.specs.Aiming.{placed};
+ghost use Rattle.tl_compiler.specs.Aiming.{at_positions};
 ghost use Rattle.tl_compiler.specs.Compiled.{IsCompiled, AreCompiled, Compiles, IsMeant, made_name};
 ghost use Rattle.tl_compiler.specs.Contexts.{code_of};
-ghost use Rattle.tl_compiler.specs.Faults.{IsExcess, IsRefusal, IsCodeFault, IsCodesFault, IsCompileFault};
+ghost use Rattle.tl_compiler.specs.Faults.{IsExcess, IsVerifierFault, IsCodeFault, IsCodesFault, IsCompileFault};
 ghost use Rattle.tl_compiler.specs.declared.compiler.Compiled.{Compiled};
 ghost use Rattle.tl_compiler.specs.declared.fault.CompileFault.TheVariants.{NotOne};
 ghost use Rattle.tl_compiler.specs.Statements.{procedure_code};
@@ -52,7 +52,7 @@ fn draft_of(alloc: Global, procedure: &Procedure) -> Result<Draft, DraftFault>
 #[tactic(auto, using(crate::proofs::CompileLemmas::map_more, crate::proofs::CodeLemmas::as_many))]
 fn instrs_of(alloc: Global, draft: &Draft) -> Result<Vec<Instr>, AllocError>
     requires { vec_len draft.now.instrs ≤ MAX_COUNT }
-    ensures { IfOk result (λ instrs. instrs.items ≡ placed (code_of draft.now)) }
+    ensures { IfOk result (λ instrs. instrs.items ≡ at_positions (code_of draft.now)) }
 {
     let count = draft.instrs.len() as u16;
     let mut instrs = Vec::with_capacity(alloc, draft.instrs.len())?;
@@ -80,7 +80,7 @@ fn refused(
     offset: usize,
     fault: VerifyFault,
 ) -> CompileFault
-    ensures { IsRefusal fault result }
+    ensures { IsVerifierFault fault result }
 {
     let excess = match fault {
         VerifyFault::Nest(NestFault::StepsOver) => Excess::Steps,

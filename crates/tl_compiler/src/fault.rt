@@ -1,7 +1,7 @@
 // Why a text isn't compiled.
 
 ghost use Rattle.std.specs.Prelude.{◌≡◌, [], ◌∷◌};
-ghost use Rattle.tl_compiler.specs.Faults.{IsTextFault, placed};
+ghost use Rattle.tl_compiler.specs.Faults.{IsTextFault, numbers_at};
 ghost use Rattle.tl_compiler.specs.declared.fault.CompileFault.TheVariants.{Memory};
 
 use arrayvec::ArrayVec;
@@ -111,10 +111,10 @@ impl CompileFault {
     {
         match *self {
             CompileFault::NotUtf8 => alone(255),
-            CompileFault::Wrong(wrong, position) => placed(wrong.number(), position),
-            CompileFault::Over(excess, _, position) => placed(excess.number(), position),
+            CompileFault::Wrong(wrong, position) => numbers_at(wrong.number(), position),
+            CompileFault::Over(excess, _, position) => numbers_at(excess.number(), position),
             CompileFault::NotOne => alone(289),
-            CompileFault::Refused(position) => placed(298, position),
+            CompileFault::Refused(position) => numbers_at(298, position),
             CompileFault::Memory => alone(290),
         }
     }
@@ -128,8 +128,8 @@ fn alone(number: u64) -> ArrayVec<u64, 3>
     numbers
 }
 
-fn placed(number: u64, position: Position) -> ArrayVec<u64, 3>
-    ensures { result.items ≡ placed number position }
+fn numbers_at(number: u64, position: Position) -> ArrayVec<u64, 3>
+    ensures { result.items ≡ numbers_at number position }
 {
     let mut numbers = ArrayVec::new();
     numbers.push(number);

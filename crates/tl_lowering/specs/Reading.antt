@@ -133,6 +133,7 @@ pub record IsProcedure (spellings : List (List ℕ)) (names : Names) (text : Tex
 pub record IsWithField (names : Names) (name : Name) (number : ℤ) (later : Names) : Type 0 where
   pub fresh : field_named names name ≡ None
   pub field : Field
+  pub fits : field ≤ 7
   pub number_is : number ≡ pos field
   pub later_is : later ≡ with_field names name field
 

@@ -14,7 +14,7 @@ use Rattle.tl_machine.specs.Runs.{State, Run, Held, Ended, actions, last_state}
 use Rattle.tl_machine.specs.Alone.{alone, start}
 use Rattle.tl_machine.specs.Left.{left}
 use Rattle.tl_lowering.specs.declared.program.Statement.{Statement}
-use Rattle.tl_compiler.specs.Aiming.{aimed, placed}
+use Rattle.tl_compiler.specs.Aiming.{aimed, at_positions}
 use Rattle.tl_lowering.specs.Sets.{none_held}
 use Rattle.tl_lowering.specs.Outcomes.{after, fails, breaks}
 use Rattle.tl_compiler.specs.Statements.{Site, procedure_code}
@@ -55,7 +55,7 @@ abbrev call_of : Done → Done
 call_of d = if is_on d.outcome then d else after_events d.events (leave none_held d.state)
 
 -- an accepted procedure's code, with labels in the place of positions, is one that runs
-pub accepted_runs : (code : List Instr) (c : CodeValue) → IsCode c → Acceptable c.instrs → c.instrs ≡ placed code → Runs code
+pub accepted_runs : (code : List Instr) (c : CodeValue) → IsCode c → Acceptable c.instrs → c.instrs ≡ at_positions code → Runs code
 accepted_runs code c valid accepted is =
     let long : length c.instrs ≡ length code = ap length is ∙ length-map code (aimed (length code)) in record {
       short = omega (arith, long, valid.count.1);
@@ -80,7 +80,7 @@ module _ (arity : ℕ) (parents : List ℕ) (body : Statement) (ready : Runs (pr
   to_end from Breaks s events l = let e = l.4 in cc
   to_end from Returns s events l = l
 
-  pub call_runs : IsSound body arity 0 none_held false → (args : List ℤ) (t : Records) → length args ≤ VALUE_REGISTERS → DoesCall (placed code) parents body args t
+  pub call_runs : IsSound body arity 0 none_held false → (args : List ℤ) (t : Records) → length args ≤ VALUE_REGISTERS → DoesCall (at_positions code) parents body args t
   call_runs sound args t few =
       let s = start args t in
       let size = start_values args t few in
@@ -88,10 +88,10 @@ module _ (arity : ℕ) (parents : List ℕ) (body : Statement) (ready : Runs (pr
       let agrees : Agrees arity none_held s s = record { kept = kept_all arity s size; values = size; nodes = length-replicate NODE_REGISTERS empty; held = refl } in
       let is_site : IsSite code [] site 1 = record { inside = tt; pads = λ h. omega arith; exits = λ e is. cc; sizes = λ e is. cc } in
       let d = meaning parents body s in
-      let first : left (placed code) parents [] (length code - length code) s ≡ alone (placed code) parents args t = ap (λ p. left (placed code) parents [] p s) (omega arith) in
-      let ends = to_end (left (placed code) parents [] (length code - length code) s) d.outcome d.state d.events
+      let first : left (at_positions code) parents [] (length code - length code) s ≡ alone (at_positions code) parents args t = ap (λ p. left (at_positions code) parents [] p s) (omega arith) in
+      let ends = to_end (left (at_positions code) parents [] (length code - length code) s) d.outcome d.state d.events
       (every_runs parents ready body none_held site (I.Return ∷ []) [] s s (tail_whole code) is_site sound agrees) in
-      let run = alone (placed code) parents args t in
+      let run = alone (at_positions code) parents args t in
       let done = call_of d in
       let leads : Leads run done.events (Ended ends.0) = subst (λ r. Leads r done.events (Ended ends.0)) first ends.1 in
       (told_to_end run done.events ends.0 leads, ap (λ (w : State). w.records) (last_to_end run done.events ends.0 leads) ∙ ends.2)

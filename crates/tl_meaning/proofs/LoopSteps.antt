@@ -8,7 +8,7 @@ use Rattle.tl_machine.specs.Runs.{State, Run, Then}
 use Rattle.tl_machine.specs.Alone.{turn_count}
 use Rattle.tl_machine.specs.Left.{Frame, left}
 use Rattle.tl_machine.proofs.LeftLaws.{left_out, left_opens, left_skips, left_closes_last, left_closes_again}
-use Rattle.tl_compiler.specs.Aiming.{aimed, placed}
+use Rattle.tl_compiler.specs.Aiming.{aimed, at_positions}
 use Rattle.tl_meaning.specs.Leading.{Leads, Tail, Runs, from_label, IsInside}
 use Rattle.tl_meaning.proofs.Steps.{tail_length, fetch, onward, before, goes}
 use Rattle.tl_meaning.proofs.Stretches.{Stretch, tail_of_stretch, loop_here}
@@ -30,9 +30,9 @@ module _ {c : List Instr} (parents : List ℕ) (ready : Runs c) (fs : List Frame
   opens i w more s tail is is_aimed inside turns =
       let f = frame c body k more in
       one_step (from_label c parents fs (suc (length body)) s) (from_label c parents (f ∷ fs) (length body) s)
-      (left_opens (placed c) parents (goes parents ready) (length c - suc (length body)) w s (aimed (length c) i) (record { opening = length c - suc (length body); close = length c - suc (length k); count = w })
+      (left_opens (at_positions c) parents (goes parents ready) (length c - suc (length body)) w s (aimed (length c) i) (record { opening = length c - suc (length body); close = length c - suc (length k); count = w })
       (fetch i body tail) is_aimed (loop_here i w body k tail is ends) fs more (before c fs (length body) (tail_length tail) inside) turns
-      ∙ ap (λ p. Then did.Plain (left (placed c) parents (f ∷ fs) p s)) (onward (length c) (length body) (tail_length tail)))
+      ∙ ap (λ p. Then did.Plain (left (at_positions c) parents (f ∷ fs) p s)) (onward (length c) (length body) (tail_length tail)))
 
   -- a loop of no turn
   pub skips : (i : Instr) (w : ℕ) (s : State) → Tail c (i ∷ body) → kind i ≡ Opens w → kind (aimed (length c) i) ≡ Opens w → IsInside c fs (length body) → turn_count (aimed (length c) i) w s.values ≡ 0
@@ -41,23 +41,23 @@ module _ {c : List Instr} (parents : List ℕ) (ready : Runs c) (fs : List Frame
       let long = tail_length tail in
       let short = tail_length (tail_of_stretch ends) in
       one_step (from_label c parents fs (suc (length body)) s) (from_label c parents fs (length k) s)
-      (left_skips (placed c) parents (goes parents ready) (length c - suc (length body)) w s (aimed (length c) i) (record { opening = length c - suc (length body); close = length c - suc (length k); count = w })
+      (left_skips (at_positions c) parents (goes parents ready) (length c - suc (length body)) w s (aimed (length c) i) (record { opening = length c - suc (length body); close = length c - suc (length k); count = w })
       (fetch i body tail) is_aimed (loop_here i w body k tail is ends) fs (before c fs (length body) long inside) turns
-      ∙ ap (λ p. Then did.Plain (left (placed c) parents fs p s)) (onward (length c) (length k) (omega (arith, long, short))))
+      ∙ ap (λ p. Then did.Plain (left (at_positions c) parents fs p s)) (onward (length c) (length k) (omega (arith, long, short))))
 
   -- the end of a turn
   pub closes_last : (s : State) → suc (length k) ≤ length c → Leads (from_label c parents (frame c body k 0 ∷ fs) (suc (length k)) s) [] (from_label c parents fs (length k) s)
   closes_last s long =
       one_step (from_label c parents (frame c body k 0 ∷ fs) (suc (length k)) s) (from_label c parents fs (length k) s)
-      (left_closes_last (placed c) parents (goes parents ready) (length c - suc (length body)) (length c - suc (length k)) fs s
-      ∙ ap (λ p. Then did.Plain (left (placed c) parents fs p s)) (onward (length c) (length k) long))
+      (left_closes_last (at_positions c) parents (goes parents ready) (length c - suc (length body)) (length c - suc (length k)) fs s
+      ∙ ap (λ p. Then did.Plain (left (at_positions c) parents fs p s)) (onward (length c) (length k) long))
 
   pub closes_again : (more : ℕ) (s : State) → suc (length body) ≤ length c → Leads (from_label c parents (frame c body k (suc more) ∷ fs) (suc (length k)) s) [] (from_label c parents (frame c body k more ∷ fs) (length body) s)
   closes_again more s long =
       one_step (from_label c parents (frame c body k (suc more) ∷ fs) (suc (length k)) s) (from_label c parents (frame c body k more ∷ fs) (length body) s)
-      (left_closes_again (placed c) parents (goes parents ready) (length c - suc (length body)) (length c - suc (length k)) more fs s
-      ∙ ap (λ p. Then did.Plain (left (placed c) parents (frame c body k more ∷ fs) p s)) (onward (length c) (length body) long))
+      (left_closes_again (at_positions c) parents (goes parents ready) (length c - suc (length body)) (length c - suc (length k)) more fs s
+      ∙ ap (λ p. Then did.Plain (left (at_positions c) parents (frame c body k more ∷ fs) p s)) (onward (length c) (length body) long))
 
   -- a label behind the loop is out of it
   pub out_of : (more label : ℕ) (s : State) → suc (length k) ≤ length c → label ≤ length k → from_label c parents (frame c body k more ∷ fs) label s ≡ from_label c parents fs label s
-  out_of more label s long le = left_out (placed c) parents (goes parents ready) (frame c body k more) fs (length c - label) s (behind_end (length c) (length k) label long le)
+  out_of more label s long le = left_out (at_positions c) parents (goes parents ready) (frame c body k more) fs (length c - label) s (behind_end (length c) (length k) label long le)

@@ -14,7 +14,7 @@ use Rattle.tl_machine.specs.Left.{Frame}
 use Rattle.tl_lowering.specs.declared.program.Expression.{Expression}
 use Rattle.tl_lowering.specs.declared.program.Statement.{Statement}
 use Rattle.tl_compiler.specs.Labels.{target_of}
-use Rattle.tl_compiler.specs.Aiming.{placed}
+use Rattle.tl_compiler.specs.Aiming.{at_positions}
 use Rattle.tl_lowering.specs.Sets.{Nodes, minus}
 use Rattle.tl_lowering.specs.Outcomes.{behind_loop, after, fails, breaks}
 use Rattle.tl_compiler.specs.Statements.{Site, release_code, counted_code, held_behind, loop_code, statement_code}
@@ -37,7 +37,7 @@ use Rattle.tl_meaning.proofs.LoopRuns.{keeps_end, on_by, end_long, inside_site, 
 module _ {c : List Instr} (parents : List ℕ) (ready : Runs c) where
   -- a loop of a code that is accepted makes a turn
   some_turn : (w : ℕ) (k : List Instr) → Tail c (I.Repeat w ∷ k) → (more : ℕ) × (w ≡ suc more)
-  some_turn w k tail = by w ((nests (placed c) ready.accepted.matched).opens (length c - suc (length k)) w (I.Repeat w) (fetch (I.Repeat w) k tail) refl).3
+  some_turn w k tail = by w ((nests (at_positions c) ready.accepted.matched).opens (length c - suc (length k)) w (I.Repeat w) (fetch (I.Repeat w) k tail) refl).3
     where
       by : (w : ℕ) → 0 < w → (more : ℕ) × (w ≡ suc more)
       by zero lt = absurd (omega arith)

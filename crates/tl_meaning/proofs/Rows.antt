@@ -8,7 +8,7 @@ use Rattle.tl_lowering.specs.declared.program.Statement.{Statement}
 use Rattle.tl_lowering.specs.declared.program.Statement.TheVariants as S
 use Rattle.tl_machine.specs.Runs.{actions}
 use Rattle.tl_machine.specs.Alone.{alone}
-use Rattle.tl_compiler.specs.Aiming.{placed}
+use Rattle.tl_compiler.specs.Aiming.{at_positions}
 use Rattle.tl_lowering.specs.Sets.{none_held}
 use Rattle.tl_lowering.specs.Outcomes.{fails}
 use Rattle.tl_compiler.specs.Statements.{procedure_code}
@@ -34,6 +34,6 @@ both_children : (p : _) → (let body : Statement = S.Try' p (S.Try' p
     IsSound body 1 0 none_held false
     × (fails body none_held ≡ [])
     × ((call (0 ∷ 0 ∷ 0 ∷ []) body (pos 7 ∷ []) zeros).events ≡ events)
-    × (told (actions (alone (placed (procedure_code 1 body)) (0 ∷ 0 ∷ 0 ∷ []) (pos 7 ∷ []) zeros)) ≡ events))
+    × (told (actions (alone (at_positions (procedure_code 1 body)) (0 ∷ 0 ∷ 0 ∷ []) (pos 7 ∷ []) zeros)) ≡ events))
 both_children p =
     (((((refl, tt), ((refl, refl, tt), ((refl, omega arith), (refl, ((refl, refl, tt), refl, tt))), tt), tt), tt), tt), refl, refl, refl)

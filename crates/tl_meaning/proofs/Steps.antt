@@ -14,7 +14,7 @@ use Rattle.tl_machine.specs.Left.{Frame, left}
 use Rattle.tl_machine.proofs.RunLaws.{GoesOn}
 use Rattle.tl_machine.proofs.LeftLaws.{Before, left_acts, left_returns}
 use Rattle.tl_machine.proofs.LeftFrames.{targets_of, goes_on}
-use Rattle.tl_compiler.specs.Aiming.{aimed, placed}
+use Rattle.tl_compiler.specs.Aiming.{aimed, at_positions}
 use Rattle.tl_compiler.specs.Labels.{target_of}
 use Rattle.tl_meaning.specs.Told.{told}
 use Rattle.tl_meaning.specs.Leading.{with_actions, Leads, Tail, Runs, from_label, IsInside}
@@ -69,11 +69,11 @@ fetched : (f : Instr → Instr) (front : List Instr) (i : Instr) (k : List Instr
 fetched f [] i k = refl
 fetched f (x ∷ front) i k = fetched f front i k
 
-pub fetch : {c : List Instr} (i : Instr) (k : List Instr) → Tail c (i ∷ k) → slice_get (placed c) (length c - suc (length k)) ≡ Some (aimed (length c) i)
+pub fetch : {c : List Instr} (i : Instr) (k : List Instr) → Tail c (i ∷ k) → slice_get (at_positions c) (length c - suc (length k)) ≡ Some (aimed (length c) i)
 fetch {c} i k t =
     let e : length c ≡ length t.front + suc (length k) = ap length t.joined ∙ length-append t.front (i ∷ k) in
     let at : length c - suc (length k) ≡ length t.front = omega (arith, e) in
-    ap (λ p. slice_get (placed c) p) at
+    ap (λ p. slice_get (at_positions c) p) at
     ∙ ap (λ l. slice_get (map (aimed (length c)) l) (length t.front)) t.joined
     ∙ fetched (aimed (length c)) t.front i k
 
@@ -91,13 +91,13 @@ pub further_in : (c : List Instr) (fs : List Frame) (l m : ℕ) → l ≤ m → 
 further_in c [] l m le inside = tt
 further_in c (f ∷ outer) l m le inside = omega arith
 
-pub before : (c : List Instr) (fs : List Frame) (k : ℕ) → suc k ≤ length c → IsInside c fs k → Before (placed c) (length c - suc k) fs
+pub before : (c : List Instr) (fs : List Frame) (k : ℕ) → suc k ≤ length c → IsInside c fs k → Before (at_positions c) (length c - suc k) fs
 before c [] k le inside = rw (length-map c (aimed (length c))) (before_end (length c) k le)
 before c (f ∷ outer) k le inside = let e = onward (length c) k le in omega (arith, e)
 
 module _ {c : List Instr} (parents : List ℕ) (ready : Runs c) where
-  pub goes : GoesOn (placed c) parents
-  goes = goes_on (placed c) parents (targets_of (placed c) ready.accepted)
+  pub goes : GoesOn (at_positions c) parents
+  goes = goes_on (at_positions c) parents (targets_of (at_positions c) ready.accepted)
 
   pub in_range : (i : Instr) (k : List Instr) → Tail c (i ∷ k) → InRange (aimed (length c) i)
   in_range i k t = ready.ranges (length c - suc (length k)) (aimed (length c) i) (fetch i k t)
@@ -105,12 +105,12 @@ module _ {c : List Instr} (parents : List ℕ) (ready : Runs c) where
   -- an instruction that neither opens nor closes a loop nor ends the call
   pub acts : (fs : List Frame) (i : Instr) (k : List Instr) (s : State) (e : Step) → Tail c (i ∷ k) → IsInside c fs (length k) → kind (aimed (length c) i) ≡ Acts
       → effect parents (aimed (length c) i) (length c - suc (length k)) s ≡ e
-      → Leads (from_label c parents fs (suc (length k)) s) (told (e.act ∷ [])) (left (placed c) parents fs e.to e.state)
+      → Leads (from_label c parents fs (suc (length k)) s) (told (e.act ∷ [])) (left (at_positions c) parents fs e.to e.state)
   acts fs i k s e t inside is by = record {
     acts = e.act ∷ [];
     tells = refl;
-    runs = left_acts (placed c) parents goes fs (length c - suc (length k)) s (aimed (length c) i) (before c fs (length k) (tail_length t) inside) (fetch i k t) is
-        ∙ ap (λ (e : Step). Then e.act (left (placed c) parents fs e.to e.state)) by;
+    runs = left_acts (at_positions c) parents goes fs (length c - suc (length k)) s (aimed (length c) i) (before c fs (length k) (tail_length t) inside) (fetch i k t) is
+        ∙ ap (λ (e : Step). Then e.act (left (at_positions c) parents fs e.to e.state)) by;
   }
 
   -- one that leads to the next
@@ -119,7 +119,7 @@ module _ {c : List Instr} (parents : List ℕ) (ready : Runs c) where
       → Leads (from_label c parents fs (suc (length k)) s) (told (a ∷ [])) (from_label c parents fs (length k) u)
   goes_to_next fs i k s u a t inside is by =
       let step : Step = record { act = a; to = length c - suc (length k) + 1; state = u } in
-      subst (λ p. Leads (from_label c parents fs (suc (length k)) s) (told (a ∷ [])) (left (placed c) parents fs p u)) (onward (length c) (length k) (tail_length t))
+      subst (λ p. Leads (from_label c parents fs (suc (length k)) s) (told (a ∷ [])) (left (at_positions c) parents fs p u)) (onward (length c) (length k) (tail_length t))
       (acts fs i k s step t inside is by)
 
   -- one that leads to a label
@@ -130,7 +130,7 @@ module _ {c : List Instr} (parents : List ℕ) (ready : Runs c) where
   goes_to_label fs i k s u a label t inside is le by =
       let step : Step = record { act = a; to = length c - target_of label; state = u } in
       let long = tail_length t in
-      subst (λ p. Leads (from_label c parents fs (suc (length k)) s) (told (a ∷ [])) (left (placed c) parents fs p u)) (aimed_at (length c) label ready.short (omega arith))
+      subst (λ p. Leads (from_label c parents fs (suc (length k)) s) (told (a ∷ [])) (left (at_positions c) parents fs p u)) (aimed_at (length c) label ready.short (omega arith))
       (acts fs i k s step t inside is by)
 
   -- the end of the call
@@ -138,5 +138,5 @@ module _ {c : List Instr} (parents : List ℕ) (ready : Runs c) where
   returns fs k s t inside = record {
     acts = did.End ∷ [];
     tells = refl;
-    runs = left_returns (placed c) parents goes fs (length c - suc (length k)) s I.Return (before c fs (length k) (tail_length t) inside) (fetch I.Return k t) refl;
+    runs = left_returns (at_positions c) parents goes fs (length c - suc (length k)) s I.Return (before c fs (length k) (tail_length t) inside) (fetch I.Return k t) refl;
   }

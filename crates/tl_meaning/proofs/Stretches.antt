@@ -5,7 +5,7 @@ use Rattle.std.proofs.lemmas.List.{length-append, length-map, drop_at, map-appen
 use Rattle.tl_instr.specs.declared.instr.Instr.{Instr}
 use Rattle.tl_instr.specs.declared.instr.Instr.TheVariants as I
 use Rattle.tl_budget.specs.Loops.{Kind, Opens, Closes, Returns, Acts, kind, closing_by, closing, Loop, loop_by, loop_at}
-use Rattle.tl_compiler.specs.Aiming.{aimed, placed}
+use Rattle.tl_compiler.specs.Aiming.{aimed, at_positions}
 use Rattle.tl_meaning.specs.Leading.{Tail}
 use Rattle.tl_meaning.proofs.Steps.{fetch, tail_length}
 
@@ -120,20 +120,20 @@ drop_tail n c front i k e =
 
 -- the loop that an instruction opens ends where its body does
 pub loop_here : {c : List Instr} (i : Instr) (w : ℕ) (body k : List Instr) → Tail c (i ∷ body) → kind i ≡ Opens w → Stretch body (I.End ∷ k)
-    → loop_at (placed c) (length c - suc (length body)) ≡ Some (record { opening = length c - suc (length body); close = length c - suc (length k); count = w })
+    → loop_at (at_positions c) (length c - suc (length body)) ≡ Some (record { opening = length c - suc (length body); close = length c - suc (length k); count = w })
 unfolding loop_at
 loop_here {c} i w body k t is s =
     let p = length c - suc (length body) in
-    let at : slice_get (placed c) p ≡ Some (aimed (length c) i) = fetch i body t in
+    let at : slice_get (at_positions c) p ≡ Some (aimed (length c) i) = fetch i body t in
     let long : length body ≡ length s.front + suc (length k) = ap length s.joined ∙ length-append s.front (I.End ∷ k) in
     let short = tail_length t in
-    let ends : closing (drop (p + 1) (placed c)) 0 ≡ Some (length s.front) =
+    let ends : closing (drop (p + 1) (at_positions c)) 0 ≡ Some (length s.front) =
     ap (λ l. closing l 0) (drop_tail (length c) c t.front i body t.joined)
     ∙ closing_aimed (length c) body 0
     ∙ ap (λ l. closing l 0) s.joined
     ∙ s.closes (I.End ∷ k) 0
     ∙ ap Some (omega arith) in
-    ap (λ o. loop_by (placed c) p (option_map kind o)) at
-    ∙ ap (λ t. loop_by (placed c) p (Some t)) (same_kind (length c) i ∙ is)
+    ap (λ o. loop_by (at_positions c) p (option_map kind o)) at
+    ∙ ap (λ t. loop_by (at_positions c) p (Some t)) (same_kind (length c) i ∙ is)
     ∙ ap (option_map (λ q. let l : Loop = record { opening = p; close = p + 1 + q; count = w } in l)) ends
     ∙ ap (λ q. let l : Loop = record { opening = p; close = q; count = w } in Some l) (omega (arith, long))

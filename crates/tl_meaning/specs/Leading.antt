@@ -8,7 +8,7 @@ use Rattle.tl_verify.specs.Acceptable.{Acceptable}
 use Rattle.tl_machine.specs.Runs.{State, Run, Then}
 use Rattle.tl_machine.specs.Alone.{value}
 use Rattle.tl_machine.specs.Left.{Frame, left}
-use Rattle.tl_compiler.specs.Aiming.{placed}
+use Rattle.tl_compiler.specs.Aiming.{at_positions}
 use Rattle.tl_meaning.specs.Told.{told}
 
 -- a run behind these actions
@@ -30,12 +30,12 @@ pub record Tail (whole end : List Instr) : Type 0 where
 -- the code with positions in the place of labels is one that runs
 pub record Runs (code : List Instr) : Type 0 where
   pub short : length code ≤ 65535
-  pub accepted : Acceptable (placed code)
-  pub ranges : (p : ℕ) (i : Instr) → slice_get (placed code) p ≡ Some i → InRange i
+  pub accepted : Acceptable (at_positions code)
+  pub ranges : (p : ℕ) (i : Instr) → slice_get (at_positions code) p ≡ Some i → InRange i
 
 -- what is left to do from a label on, which counts from the end of the code
 abbrev pub from_label : List Instr → List ℕ → List Frame → ℕ → State → Run
-from_label code parents frames label s = left (placed code) parents frames (length code - label) s
+from_label code parents frames label s = left (at_positions code) parents frames (length code - label) s
 
 -- the label is no farther than the end of the loop that control is in
 abbrev pub IsInside : List Instr → List Frame → ℕ → Type 0

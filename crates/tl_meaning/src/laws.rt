@@ -11,7 +11,7 @@ ghost use Rattle.tl_machine.specs.Alone.{node, start};
 ghost use Rattle.tl_lowering.specs.declared.program.Condition.{Condition};
 ghost use Rattle.tl_lowering.specs.declared.program.Expression.{Expression};
 ghost use Rattle.tl_lowering.specs.declared.program.Statement.{Statement};
-ghost use Rattle.tl_compiler.specs.Aiming.{placed};
+ghost use Rattle.tl_compiler.specs.Aiming.{at_positions};
 ghost use Rattle.tl_compiler.specs.Numbers.{into_code, branch_code};
 ghost use Rattle.tl_lowering.specs.Outcomes.{after, fails, breaks};
 ghost use Rattle.tl_lowering.specs.Sets.{Nodes, none_held};
@@ -56,13 +56,13 @@ pub fn statements()
 /// frees and emitted values in the same order, and the same final records. Its text handles each failure, as every text
 /// that was read does.
 pub fn calls()
-    ensures { (arity : ℕ) (parents : List ℕ) (body : Statement) (args : List ℤ) (t : Records) → Runs (procedure_code arity body) → IsSound body arity 0 none_held false → fails body none_held ≡ [] → length args ≤ VALUE_REGISTERS → DoesCall (placed (procedure_code arity body)) parents body args t }
+    ensures { (arity : ℕ) (parents : List ℕ) (body : Statement) (args : List ℤ) (t : Records) → Runs (procedure_code arity body) → IsSound body arity 0 none_held false → fails body none_held ≡ [] → length args ≤ VALUE_REGISTERS → DoesCall (at_positions (procedure_code arity body)) parents body args t }
 {}
 
 /// A procedure that the verifier accepted, and that has the code of a text, does what a call of the text does: the same locks, writes,
 /// frees and emitted values in the same order, and the same records in the end, on a tree of any shape.
 pub fn procedures(procedure: &Proc)
-    ensures { (arity : ℕ) (parents : List ℕ) (body : Statement) (args : List ℤ) (t : Records) → procedure.now.instrs ≡ placed (procedure_code arity body) → IsSound body arity 0 none_held false → fails body none_held ≡ [] → length args ≤ VALUE_REGISTERS → DoesCall procedure.now.instrs parents body args t }
+    ensures { (arity : ℕ) (parents : List ℕ) (body : Statement) (args : List ℤ) (t : Records) → procedure.now.instrs ≡ at_positions (procedure_code arity body) → IsSound body arity 0 none_held false → fails body none_held ≡ [] → length args ≤ VALUE_REGISTERS → DoesCall procedure.now.instrs parents body args t }
 {
     // Its code was accepted.
     let _fact = procedure.code();
