@@ -1,5 +1,7 @@
 // The file that trails are written to.
 
+ghost use Rattle.std.specs.Prelude.{◌≡◌};
+
 use crate::CliFault;
 use std::io::Write;
 use std::rt::Files;
@@ -13,6 +15,7 @@ pub struct TrailFile<'a, R: Files> {
     path: &'a str,
     file: Option<R::File>,
     reason: Option<io::Error>,
+    failed: u64,
 }
 
 impl<'a, R: Files> TrailFile<'a, R> {
@@ -22,6 +25,7 @@ impl<'a, R: Files> TrailFile<'a, R> {
             path,
             file: None,
             reason: None,
+            failed: 0,
         }
     }
 
@@ -31,7 +35,9 @@ impl<'a, R: Files> TrailFile<'a, R> {
     }
 
     // Writes a piece after those before it.
-    fn write(&mut self, piece: &str) -> io::Result<()> {
+    fn write(&mut self, piece: &str) -> io::Result<()>
+        ensures { self.new.failed ≡ self.old.failed }
+    {
         if self.file.is_none() {
             self.file = Some(fs::create(self.rt, self.path)?);
         }
@@ -48,13 +54,18 @@ impl<R: Files> TrailSink for TrailFile<'_, R> {
     // No contract can say what is in a file.
     ghost text = { λ _. None };
 
+    ghost failures = { λ s. s.failed };
+
     fn put(&mut self, piece: &str) -> Result<(), CliFault> {
-        match self.write(piece) {
-            Ok(()) => Ok(()),
-            Err(reason) => {
-                self.reason = Some(reason);
-                Err(CliFault::Unwritable)
-            }
-        }
+        let Err(reason) = self.write(piece) else {
+            return Ok(());
+        };
+        // If the count can't rise, the fault is another. No run counts this far.
+        let Some(failed) = self.failed.checked_add(1) else {
+            return Err(CliFault::Memory);
+        };
+        self.failed = failed;
+        self.reason = Some(reason);
+        Err(CliFault::Unwritable)
     }
 }

@@ -1,19 +1,24 @@
 -- What the commands on texts of the procedure language print.
 use Rattle.std.proofs.Common.{◌≡◌, ◌<◌, ℕ, zero, suc, pos, arith, length, slice_index_or, List, [], ◌∷◌, ◌++◌, false, map, codes, decimal, Option, Some, None, All, refl, subst, append_assoc}
+use Rattle.std.proofs.lemmas.List.Elements.{All-nil, All-cons, All-head, All-tail}
 use Rattle.serde_json.specs.Data.{Data, object, member, no_members}
 use Rattle.serde_json.specs.Written.{has_float, compact_text}
 use Rattle.serde_json.proofs.OnLiterals.{serde_json_on_literals}
 use Rattle.tl_tree.specs.Writing.{integer_data}
 use Rattle.tl_tree.proofs.Texts.{whole_items}
+use Rattle.tl_instr.specs.Codes.{IsCode}
 use Rattle.tl_verify.specs.Acceptable.{Acceptable}
 use Rattle.tl_procedures.specs.Names.{Named}
 use Rattle.tl_json.specs.Lists.{list_data}
 use Rattle.tl_json.specs.Procedures.{procedure_data}
 use Rattle.tl_lowering.specs.declared.program.Procedure.{Procedure}
+use Rattle.tl_lowering.specs.Sound.{IsInOrder}
 use Rattle.tl_compiler.specs.declared.compiler.Compiled.{Compiled}
 use Rattle.tl_compiler.specs.Compiled.{IsCompiled, AreCompiled, IsMeant, made_name, source_name, code_of_procedure}
+use Rattle.tl_compiler.specs.Statements.{procedure_code}
 use Rattle.tl_compiler.proofs.MeantLemmas.{source_of}
-use Rattle.tl_commands.specs.Compiling.{compiled_text, checked_data, named, made}
+use Rattle.tl_meaning.proofs.CallRuns.{call_runs, accepted_runs}
+use Rattle.tl_commands.specs.Compiling.{compiled_text, checked_data, named, made, DoesItsCalls}
 
 -- ---- one line
 
@@ -82,3 +87,17 @@ all_accepted [] (c ∷ cs) each k d inside = absurd each
 all_accepted (p ∷ ps) [] each k d inside = absurd each
 all_accepted (p ∷ ps) (c ∷ cs) each zero d inside = each.0.accepted
 all_accepted (p ∷ ps) (c ∷ cs) each (suc k) d inside = all_accepted ps cs each.1 k d (omega (arith, inside))
+
+does_its_calls : (source : Procedure) (c : Compiled) → IsInOrder source → IsCompiled source c → IsCode c.procedure → DoesItsCalls source
+does_its_calls source c order is code = λ parents args t long.
+    let own : IsCode (code_of_procedure source) = subst IsCode is.code code in
+    let runs = accepted_runs (procedure_code source.arity source.body) (code_of_procedure source) own is.accepted refl in
+    call_runs source.arity parents source.body runs order.handled order.sound args t (omega (arith, long, order.few))
+
+pub all_do_calls : (sources : List Procedure) (cs : List Compiled) → All IsInOrder sources → AreCompiled sources cs → All (λ c. IsCode c.procedure) cs → All DoesItsCalls sources
+all_do_calls [] [] order each codes = All-nil DoesItsCalls
+all_do_calls [] (c ∷ cs) order each codes = absurd each
+all_do_calls (p ∷ ps) [] order each codes = absurd each
+all_do_calls (p ∷ ps) (c ∷ cs) order each codes =
+    All-cons DoesItsCalls p ps (does_its_calls p c (All-head IsInOrder p ps order) each.0 (All-head (λ (x : Compiled). IsCode x.procedure) c cs codes))
+    (all_do_calls ps cs (All-tail IsInOrder p ps order) each.1 (All-tail (λ (x : Compiled). IsCode x.procedure) c cs codes))

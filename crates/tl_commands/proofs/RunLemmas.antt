@@ -1,15 +1,16 @@
 -- The parts of a run of the command `run`, together.
-use Rattle.std.proofs.Common.{◌≡◌, ◌+◌, ◌<◌, ℕ, List, [], ◌∷◌, ◌++◌, length, get_or, take, map, refl, sym, ap, ◌∙◌, subst, Ok}
+use Rattle.std.proofs.Common.{◌≡◌, ◌≢◌, ◌+◌, ◌<◌, ◌⊎◌, inl, inr, ℕ, List, [], ◌∷◌, ◌++◌, length, get_or, take, map, refl, sym, ap, ◌∙◌, subst, Ok, arith}
 use Rattle.std.specs.Prelude.{Result, Vec}
 use Rattle.std.specs.declared.alloc.Global.{Global}
 use Rattle.std.specs.List.{All}
-use Rattle.std.proofs.lemmas.List.{append-nil, append_assoc, map_more, map_push}
+use Rattle.std.proofs.lemmas.List.{append-nil, append_assoc, map_more, map_push, length-map}
 use Rattle.std.proofs.lemmas.List.Elements.{All-head}
 use Rattle.serde_json.specs.Written.{compact_text}
 use Rattle.tl_tree.specs.Trees.{TreeValue}
 use Rattle.tl_tree.specs.Reading.{tree_of_text}
 use Rattle.tl_procedures.specs.declared.request.Request.{Request}
 use Rattle.tl_core.specs.Cores.{CoreValue}
+use Rattle.tl_core.proofs.StoredCalls.{more_at}
 use Rattle.tl_json.specs.declared.procedure.ProcedureText.{ProcedureText}
 use Rattle.tl_json.specs.Procedures.{procedure_form}
 use Rattle.tl_json.specs.Registering.{TakenUp}
@@ -22,7 +23,11 @@ use Rattle.tl_workers.specs.Kept.{SessionValue, Gains, AnswersEach, asked_of, go
 use Rattle.tl_workers.specs.Matching.{Matches}
 use Rattle.tl_workers.specs.declared.refusal.Refusal.{Refusal}
 use Rattle.tl_workers.specs.declared.session.Did.{Did}
-use Rattle.tl_commands.specs.Run.{IsReady, AreAnswered, AnswersBatches, kept_of, batches_of, answers_of, batch_data, batch_lines}
+use Rattle.tl_commands.specs.declared.fault.CliFault.{CliFault}
+use Rattle.tl_commands.specs.declared.fault.CliFault.TheVariants.{Unwritable, Tree, Register, Engine, NotScript}
+use Rattle.tl_commands.specs.Faults.{status_of}
+use Rattle.tl_commands.specs.Scripted.{IsWrong}
+use Rattle.tl_commands.specs.Run.{IsReady, IsLeftOpen, IsFirstRunFault, AreAnswered, AnswersBatches, IsInEpoch, AreInEpochs, kept_of, batches_of, answers_of, batch_data, batch_lines}
 
 -- ---- what is asked for
 
@@ -61,6 +66,21 @@ kept_more (b ∷ bs) (a ∷ more) requests answers each =
     let first = asked_of b a ++ gots_of a in
     let last = asked_of requests answers ++ gots_of answers in
     ap (λ dids. first ++ dids) (kept_more bs more requests answers each.1) ∙ sym (append_assoc first (kept_of bs more) last)
+
+-- the batch of the next epoch
+pub epochs_more : (all : List (List (Result Receipt Refusal))) (answers : List (Result Receipt Refusal)) (n : ℕ) → AreInEpochs all → n ≡ length all → All (IsInEpoch n) answers
+    → AreInEpochs (all ++ answers ∷ [])
+epochs_more all answers n before is one = λ k a at.
+    elim (more_at all answers a k at) as (λ _. All (IsInEpoch k) a) [
+      | inl h ↦ subst (λ m. All (IsInEpoch m) a) (is ∙ sym h.0) (subst (All (IsInEpoch n)) h.1 one)
+      | inr h ↦ before k a h
+    ]
+
+pub many_answers : (all : List (Vec (Result Receipt Refusal) Global)) → length (answers_of all) ≡ length all
+many_answers all = length-map all (λ (x : Vec (Result Receipt Refusal) Global). x.items)
+
+pub many_batches : (bs : List (Vec Request Global)) → length (batches_of bs) ≡ length bs
+many_batches bs = length-map bs (λ (x : Vec Request Global). x.items)
 
 -- ---- one batch after another
 
@@ -111,3 +131,29 @@ lines_more (a ∷ all) answers =
     ap (λ l. first ++ 10 ∷ l) (lines_more all answers)
     ∙ sym (append_assoc first ((10 ∷ batch_lines all) ++ last) (10 ∷ []))
     ∙ ap (λ l. l ++ 10 ∷ []) (sym (append_assoc first (10 ∷ batch_lines all) last))
+
+-- ---- a fault
+
+left_open : (batches : List (List Request)) (e : CliFault) → IsLeftOpen batches e → e ≢ Unwritable
+left_open batches e (inl h) is = cc
+left_open batches e (inr (inl h)) is = let other : e ≡ Engine h.1 = h.2 in cc
+left_open batches e (inr (inr h)) is = cc
+
+wrong_file : (t s : List ℕ) (e : CliFault) → IsWrong script_of_run t s e → e ≢ Unwritable
+wrong_file t s e (inl h) is = let other : e ≡ Tree h.0 = h.1 in cc
+wrong_file t s e (inr (inl h)) is = let other : e ≡ NotScript = h.0 in cc
+wrong_file t s e (inr (inr h)) is = let other : e ≡ Register h.1 = h.2 in cc
+
+either : (t s : List ℕ) (e : CliFault) → IsWrong script_of_run t s e ⊎ ((batches : List (List Request)) × IsReady t s batches × IsLeftOpen batches e) → e ≢ Unwritable
+either t s e (inl h) = wrong_file t s e h
+either t s e (inr h) = left_open h.0 e h.2
+
+-- refused memory isn't that a file can't be written
+pub memory_fault : (e : CliFault) → status_of e ≡ 4 → e ≢ Unwritable
+memory_fault e four is = let h : 3 ≡ 4 = ap status_of (sym is) ∙ four in absurd (omega (arith, h))
+
+-- nor is any fault of a run
+pub run_fault : (t s : List ℕ) (e : CliFault) → IsFirstRunFault t s e → e ≢ Unwritable
+run_fault t s e fault is =
+    let other : status_of e ≢ 4 = λ four. memory_fault e four is in
+    either t s e (fault other) is

@@ -1,19 +1,24 @@
 -- What a sink has after pieces that were put there one after another.
-use Rattle.std.proofs.Common.{◌≡◌, ◌≢◌, ◌⊎◌, inl, inr, ◌+◌, ◌<◌, ℕ, zero, suc, nat_lt, List, [], ◌∷◌, ◌++◌, length, get_or, take, map, codes, false, true, Option, Some, None, if◌then◌else◌, refl, sym, ap, ◌∙◌, subst, arith, append_assoc, append-nil}
+use Rattle.std.proofs.Common.{◌≡◌, ◌≢◌, ◌+◌, ◌<◌, ℕ, zero, suc, nat_lt, List, [], ◌∷◌, ◌++◌, length, get_or, take, map, codes, false, true, Option, Some, None, if◌then◌else◌, refl, sym, ap, ◌∙◌, subst, arith, append_assoc, append-nil}
 use Rattle.std.proofs.lemmas.Bool.{lt-ltb, ne_eqb}
+use Rattle.std.proofs.lemmas.List.Elements.{All-nil, All-cons, All-head, All-tail}
 use Rattle.std.specs.List.{join_with_byte}
 use Rattle.serde_json.specs.Data.{Data}
 use Rattle.serde_json.specs.Written.{comma_if, compact_text}
 use Rattle.serde_json.proofs.OnLiterals.{serde_json_on_literals}
 use Rattle.tl_tree.proofs.Texts.{list_written, map-map}
 use Rattle.tl_json.proofs.Texts.{joined, joined_more, list_whole}
-use Rattle.tl_table.specs.Epochs.{EpochValue}
+use Rattle.tl_tree.specs.Records.{Records}
+use Rattle.tl_tree_locking.specs.History.{records_now}
+use Rattle.tl_procedures.specs.Names.{Named}
+use Rattle.tl_table.specs.Epochs.{EpochValue, seen}
+use Rattle.tl_table.specs.Tables.{InLine, IsNext, IsChain}
+use Rattle.tl_trail.specs.Clean.{Clean}
+use Rattle.tl_trail.specs.Trails.{TrailValue}
+use Rattle.tl_audit.specs.Chains.{TakesOverFrom, CleanAfter, IsCleanChain}
 use Rattle.tl_trail.specs.Chains.{chain_text}
 use Rattle.tl_trail.specs.Writing.{trail_data, trail_text}
-use Rattle.tl_commands.specs.declared.fault.CliFault.{CliFault}
-use Rattle.tl_commands.specs.declared.fault.CliFault.TheVariants.{Unwritable}
-use Rattle.tl_commands.specs.Faults.{status_of}
-use Rattle.tl_commands.specs.Sinks.{Adds, IsSinkFault, comma_before, epoch_trail, trails_text, trails_file}
+use Rattle.tl_commands.specs.Sinks.{Adds, AreClean, comma_before, epoch_trail, trails_text, trails_file}
 
 pub added_then : (old now new : Option (List ℕ)) (xs ys : List ℕ) → Adds old xs now → Adds now ys new → Adds old (xs ++ ys) new
 added_then None now new xs ys h k = tt
@@ -24,10 +29,6 @@ added_then (Some old) now new xs ys h k =
 pub added_nothing : (o : Option (List ℕ)) → Adds o [] o
 added_nothing None = tt
 added_nothing (Some old) = ap Some (sym (append-nil old))
-
-pub sink_fault : (e : CliFault) → IsSinkFault e → (status_of e ≡ 4) ⊎ (e ≡ Unwritable)
-sink_fault e (inl is) = inr is
-sink_fault e (inr is) = inl (ap status_of is)
 
 -- ---- a list of trails
 
@@ -63,3 +64,29 @@ pub file_of_list : (es : List EpochValue) → length es ≢ 1 → trails_text es
 file_of_list [] other = refl
 file_of_list (x ∷ []) other = absurd (other refl)
 file_of_list (x ∷ y ∷ es) other = refl
+
+-- ---- the trails as a chain
+
+abbrev IsCleanEpoch : EpochValue → Type 0
+IsCleanEpoch e = Clean (epoch_trail e)
+
+pub clean_of_one : (es : List EpochValue) (e : EpochValue) → length es ≡ 1 → get_or es 0 e ≡ e → IsCleanEpoch e → AreClean es
+clean_of_one [] e one first clean = absurd (omega (arith, one))
+clean_of_one (x ∷ []) e one first clean = All-cons IsCleanEpoch x [] (subst IsCleanEpoch (sym first) clean) (All-nil IsCleanEpoch)
+clean_of_one (x ∷ y ∷ es) e one first clean = absurd (omega (arith, one))
+
+-- epochs in line are a chain of trails, where what comes before the first one leads to it
+clean_after : (n : ℕ) (parents : List ℕ) (opening : Records) (procedures : List Named) (before : Option TrailValue) (es : List EpochValue)
+    → InLine n parents opening procedures es → ((e : EpochValue) → IsNext n parents opening procedures e → TakesOverFrom before (epoch_trail e))
+    → AreClean es → CleanAfter before (map epoch_trail es)
+clean_after n parents opening procedures before [] line leads clean = tt
+clean_after n parents opening procedures before (e ∷ es) line leads clean = (
+  leads e line.0,
+  All-head IsCleanEpoch e es clean,
+  clean_after (n + 1) parents (records_now (seen e).past (seen e).opening) (seen e).procedures (Some (epoch_trail e)) es line.2
+      (λ f next. record { parents = next.parents ∙ sym line.0.parents; opening = next.opening; procedures = next.procedures })
+      (All-tail IsCleanEpoch e es clean),
+)
+
+pub clean_chain : (es : List EpochValue) → IsChain es → AreClean es → IsCleanChain (map epoch_trail es)
+clean_chain es chain clean = clean_after 0 chain.parents chain.opening [] None es chain.line (λ e next. tt) clean

@@ -10,6 +10,7 @@ use Rattle.tl_procedures.specs.Names.{Named}
 use Rattle.tl_json.specs.Lists.{list_data}
 use Rattle.tl_lowering.specs.declared.program.Procedure.{Procedure}
 use Rattle.tl_lowering.specs.Reading.{IsProgram}
+use Rattle.tl_lowering.specs.Sound.{IsInOrder}
 use Rattle.tl_compiler.specs.declared.compiler.Compiled.{Compiled}
 use Rattle.tl_compiler.specs.declared.fault.CompileFault.{CompileFault}
 use Rattle.tl_compiler.specs.declared.fault.CompileFault.TheVariants.{NotOne}
@@ -40,21 +41,28 @@ checked_data p =
     let instrs = p.code.instrs in
     list_data (string p.name ∷ bounds_data (emit_bound instrs) (lock_bound instrs) (budget instrs) ∷ [])
 
+-- ---- what a procedure's code does
+
+-- Run alone on a tree of any shape, with as many arguments as the procedure takes, its code does what a call of the text does.
+abbrev pub DoesItsCalls : Procedure → Type 0
+DoesItsCalls p =
+    (parents : List ℕ) (args : List ℤ) (t : Records) → length args ≡ p.arity
+    → DoesCall (code_of_procedure p).instrs parents p.body args t
+
 -- ---- `compile`
 
--- The procedure of that name, or the only one of the text, is accepted. What is printed tells its bounds and its count, and the file
--- has the container of its code. Run alone on a tree of any shape, with as many arguments as it takes, that code does what a call of
--- the text does.
+-- The procedure of that name, or the only one of the text, is in order and accepted. What is printed tells its bounds and its count, and
+-- the file has the container of its code, which does what calls of the text do.
 pub record CompilesTo (text : List ℕ) (name : Option (List ℕ)) (out file : List ℕ) : Type 0 where
   pub utf8 : IsUtf8 text
   pub sources : List Procedure
   pub source : Procedure
   pub program : IsProgram text sources
   pub meant : IsMeant source_name name sources source
+  pub in_order : IsInOrder source
   pub spelled : Spelled file (code_of_procedure source)
   pub accepted : Acceptable (code_of_procedure source).instrs
-  pub does : (parents : List ℕ) (args : List ℤ) (t : Records) → length args ≡ source.arity
-      → DoesCall (code_of_procedure source).instrs parents source.body args t
+  pub does : DoesItsCalls source
   pub same : (let instrs = (code_of_procedure source).instrs in out ≡ compiled_text (emit_bound instrs) (lock_bound instrs) (budget instrs) (length instrs))
 
 -- No procedure of the text has that name, or there isn't one alone.
@@ -69,12 +77,15 @@ IsFirstCompilingFault text name e = status_of e ≢ 4 → (f : CompileFault) × 
 
 -- ---- `procs`, and `check` of a text
 
--- Each procedure of the text is accepted, and what is printed tells that of each, in their order.
+-- Each procedure of the text is in order and accepted, and its code does what calls of the text do. What is printed tells that of each,
+-- in their order.
 pub record ListsText (line : Named → Data) (text out : List ℕ) : Type 0 where
   pub utf8 : IsUtf8 text
   pub sources : List Procedure
   pub program : IsProgram text sources
+  pub in_order : All IsInOrder sources
   pub accepted : All (λ p. Acceptable (code_of_procedure p).instrs) sources
+  pub does : All DoesItsCalls sources
   pub same : out ≡ compact_text (list_data (map (λ p. line (named p)) sources)) ++ 10 ∷ []
 
 abbrev pub IsFirstTextFault : List ℕ → CliFault → Type 0

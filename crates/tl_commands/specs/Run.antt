@@ -1,5 +1,6 @@
 -- What the command `run` prints, and when it answers which fault.
-use Rattle.std.specs.Prelude.{◌≡◌, ◌≢◌, ◌⊎◌, ℕ, ◌==◌, ℤ, Bool, List, [], ◌∷◌, ◌++◌, map, codes, Result, Ok, Err, Vec, Option, if◌then◌else◌}
+use Rattle.std.specs.Prelude.{◌≡◌, ◌≢◌, ◌⊎◌, ◌<◌, ℕ, ◌==◌, ℤ, Bool, List, [], ◌∷◌, ◌++◌, length, map, slice_get, codes, Result, Ok, Err, Vec, Option, Some, if◌then◌else◌}
+use Rattle.std.specs.List.{All}
 use Rattle.std.specs.declared.alloc.Global.{Global}
 use Rattle.serde_json.specs.Data.{Data, Members, object, member, no_members}
 use Rattle.serde_json.specs.Written.{compact_text}
@@ -10,11 +11,11 @@ use Rattle.tl_json.specs.Lists.{list_data, natural}
 use Rattle.tl_json.specs.Registering.{TakenUp}
 use Rattle.tl_json.specs.Requests.{request_form}
 use Rattle.tl_table.specs.Epochs.{EpochValue}
-use Rattle.tl_table.specs.Tables.{TableValue, IsChain}
+use Rattle.tl_table.specs.Tables.{IsChain}
 use Rattle.tl_table.specs.declared.fault.TableFault.TheVariants.{TooManySessions}
 use Rattle.tl_table.specs.declared.receipt.Receipt.{Receipt}
 use Rattle.tl_workers.specs.Kept.{SessionValue, AnswersEach, asked_of, gots_of}
-use Rattle.tl_workers.specs.Matching.{Matches, DoesNotClose}
+use Rattle.tl_workers.specs.Matching.{Matches}
 use Rattle.tl_workers.specs.Refusals.{numbers_of, IsSealRefused}
 use Rattle.tl_workers.specs.declared.refusal.Refusal.{Refusal}
 use Rattle.tl_workers.specs.declared.refusal.Refusal.TheVariants as refusal
@@ -26,7 +27,7 @@ use Rattle.tl_commands.specs.Closing.{IsClosing}
 use Rattle.tl_commands.specs.Faults.{status_of}
 use Rattle.tl_commands.specs.Script.{BatchesValue, IsScript, script_of_run, has_epochs}
 use Rattle.tl_commands.specs.Scripted.{IsWrong}
-use Rattle.tl_commands.specs.Sinks.{Adds, trails_file}
+use Rattle.tl_commands.specs.Sinks.{FilesTrails}
 use Rattle.tl_commands.specs.Trace.{error_data}
 
 -- ---- the first lines
@@ -73,6 +74,15 @@ AnswersBatches [] (answers ∷ rest) = ⊥
 AnswersBatches (requests ∷ batches) [] = ⊥
 AnswersBatches (requests ∷ batches) (answers ∷ rest) = AnswersEach requests answers × AnswersBatches batches rest
 
+-- an answer that is a receipt names that epoch
+abbrev pub IsInEpoch : ℕ → Result Receipt Refusal → Type 0
+IsInEpoch n (Ok r) = r.epoch ≡ n
+IsInEpoch n (Err e) = Unit {0}
+
+-- each receipt of batch n names epoch n
+abbrev pub AreInEpochs : List (List (Result Receipt Refusal)) → Type 0
+AreInEpochs all = (n : ℕ) (answers : List (Result Receipt Refusal)) → slice_get all n ≡ Some answers → All (IsInEpoch n) answers
+
 -- what a session keeps of each batch, joined: what was asked for, and then each receipt
 abbrev pub kept_of : List (List Request) → List (List (Result Receipt Refusal)) → List Did
 kept_of (requests ∷ batches) (answers ∷ rest) = (asked_of requests answers ++ gots_of answers) ++ kept_of batches rest
@@ -83,12 +93,15 @@ pub record AreAnswered (batches : List (List Request)) (answers : List (List (Re
   pub each : AnswersBatches batches answers
   pub kept : session.kept ≡ kept_of batches answers
 
--- The script's calls were asked for, and the epochs of the closed table say the same of them as the session.
+-- The script's calls were asked for, those of one batch in each epoch, and the epochs of the closed table say the same of them as the
+-- session.
 pub record IsRun (tree_bytes script_bytes : List ℕ) (answers : List (List (Result Receipt Refusal))) (es : List EpochValue) : Type 0 where
   pub batches : List (List Request)
   pub session : SessionValue
   pub ready : IsReady tree_bytes script_bytes batches
   pub answered : AreAnswered batches answers session
+  pub as_many : length es ≡ length batches
+  pub in_epochs : AreInEpochs answers
   pub chain : IsChain es
   pub matches : Matches es session
 
@@ -106,24 +119,19 @@ pub record Prints (tree_bytes script_bytes out : List ℕ) (es : List EpochValue
 abbrev pub Runs : List ℕ → List ℕ → List ℕ → Type 0
 Runs t s out = (es : List EpochValue) × Prints t s out es
 
--- The same, and the file has the trails of those epochs.
+-- The same, and the file has the trails of those epochs, with which nothing is wrong.
 abbrev pub RunsToTrail : List ℕ → List ℕ → List ℕ → Option (List ℕ) → Option (List ℕ) → Type 0
-RunsToTrail t s out old new = (es : List EpochValue) × Prints t s out es × Adds old (trails_file es) new
+RunsToTrail t s out old new = (es : List EpochValue) × Prints t s out es × FilesTrails es old new
 
 -- ---- faults
 
--- the table isn't sealed between two batches
-abbrev pub IsNotGoingOn : CliFault → Type 0
-IsNotGoingOn e = (r : Refusal) × (e ≡ Engine r) × IsSealRefused r
+-- The table isn't sealed between two batches, of which there are several, or a call isn't in the epoch of its batch.
+abbrev pub IsBrokenOff : List (List Request) → CliFault → Type 0
+IsBrokenOff batches e = ((1 < length batches) × (r : Refusal) × (e ≡ Engine r) × IsSealRefused r) ⊎ (e ≡ NotClosed)
 
--- The engine has no session left, or isn't sealed, or it doesn't close: a call is unfinished, or the epochs say something else than the
--- session.
+-- The engine has no session left, or it is broken off, or it doesn't close. Of 831 nothing more is said: the table isn't shown.
 abbrev pub IsLeftOpen : List (List Request) → CliFault → Type 0
-IsLeftOpen batches e =
-    (e ≡ Engine (refusal.Table TooManySessions))
-    ⊎ IsNotGoingOn e
-    ⊎ ((e ≡ NotClosed) × (answers : List (List (Result Receipt Refusal))) × (session : SessionValue) × (table : TableValue)
-    × AreAnswered batches answers session × DoesNotClose table (session ∷ []))
+IsLeftOpen batches e = (e ≡ Engine (refusal.Table TooManySessions)) ⊎ IsBrokenOff batches e
 
 -- what is wrong first, else why the engine doesn't close; or want of memory
 abbrev pub IsFirstRunFault : List ℕ → List ℕ → CliFault → Type 0

@@ -3,15 +3,14 @@ use Rattle.std.specs.Prelude.{◌≡◌, ◌≢◌, ℕ, nat_lt, Bool, List, len
 use Rattle.std.specs.List.{All}
 use Rattle.tl_tree.specs.declared.fault.TreeFault.{TreeFault}
 use Rattle.tl_table.specs.Epochs.{EpochValue}
-use Rattle.tl_table.specs.Tables.{TableValue}
 use Rattle.tl_workers.specs.Kept.{SessionValue}
-use Rattle.tl_workers.specs.Matching.{Matches, DoesNotClose}
+use Rattle.tl_workers.specs.Matching.{Matches}
 use Rattle.tl_commands.specs.declared.fault.CliFault.{CliFault}
 use Rattle.tl_commands.specs.declared.fault.CliFault.TheVariants.{Tree, NotClosed}
 use Rattle.tl_commands.specs.Alone.{IsTreeFault}
 use Rattle.tl_commands.specs.Closing.{IsClosing}
 use Rattle.tl_commands.specs.Faults.{status_of}
-use Rattle.tl_commands.specs.Sinks.{Adds, trails_file}
+use Rattle.tl_commands.specs.Sinks.{FilesTrails}
 
 -- there are several epochs
 abbrev pub are_many : List EpochValue → Bool
@@ -26,9 +25,9 @@ pub record ConcludesWith (sessions : List SessionValue) (out : List ℕ) (es : L
 abbrev pub Concludes : List SessionValue → List ℕ → Type 0
 Concludes sessions out = (es : List EpochValue) × ConcludesWith sessions out es
 
--- The same, and the file has the trails of those epochs.
+-- The same, and the file has the trails of those epochs, with which nothing is wrong.
 abbrev pub ConcludesToTrail : List SessionValue → List ℕ → Option (List ℕ) → Option (List ℕ) → Type 0
-ConcludesToTrail sessions out old new = (es : List EpochValue) × ConcludesWith sessions out es × Adds old (trails_file es) new
+ConcludesToTrail sessions out old new = (es : List EpochValue) × ConcludesWith sessions out es × FilesTrails es old new
 
 -- ---- faults
 
@@ -36,6 +35,6 @@ ConcludesToTrail sessions out old new = (es : List EpochValue) × ConcludesWith 
 abbrev pub IsOpeningFault : List ℕ → CliFault → Type 0
 IsOpeningFault t e = status_of e ≢ 4 → (f : TreeFault) × (e ≡ Tree f) × IsTreeFault t f
 
--- a call is unfinished, or the table says something else than a session; or want of memory
-abbrev pub IsConclusionFault : List SessionValue → CliFault → Type 0
-IsConclusionFault sessions e = status_of e ≢ 4 → (e ≡ NotClosed) × (table : TableValue) × DoesNotClose table sessions
+-- the engine doesn't close, or want of memory; of 831 nothing more is said, since the table isn't shown
+abbrev pub IsConclusionFault : CliFault → Type 0
+IsConclusionFault e = status_of e ≢ 4 → e ≡ NotClosed

@@ -1,9 +1,10 @@
 // The commands on texts of the procedure language: `compile`, `procs`, and `check` of such a text.
 
-ghost use Rattle.std.specs.Prelude.{◌≡◌, length, map, codes, option_map, string_bytes, IfOk, IfErr};
+ghost use Rattle.std.specs.Prelude.{◌≡◌, length, map, codes, option_map, string_bytes, All, IfOk, IfErr};
 ghost use Rattle.serde_json.specs.Data.{object, member, no_members};
 ghost use Rattle.serde_json.specs.View.{view};
 ghost use Rattle.tl_budget.specs.Loops.{budget, lock_bound, emit_bound};
+ghost use Rattle.tl_instr.specs.Codes.{IsCode};
 ghost use Rattle.tl_json.specs.Lists.{list_data};
 ghost use Rattle.tl_json.specs.Procedures.{procedure_data};
 ghost use Rattle.tl_compiler.specs.Compiled.{Compiles};
@@ -49,13 +50,26 @@ fn compiled_line(alloc: Global, procedure: &Proc) -> Result<String, AllocError>
     line_of(alloc, &value)
 }
 
+// Each procedure has a code, by its type.
+fn lemma_have_codes(procedures: &[Compiled])
+    ensures { All (λ c. IsCode c.procedure) procedures.now }
+{
+    for compiled in procedures {
+        let _fact = compiled.procedure.code();
+    }
+}
+
 // The procedures of a text.
 fn procedures_of_text(alloc: Global, text: &[u8]) -> Result<Vec<Compiled>, CliFault>
     ensures compiled { IfOk result (λ compiled. Compiles text.now compiled.items) }
+    ensures codes { IfOk result (λ compiled. All (λ c. IsCode c.procedure) compiled.items) }
     ensures fault { IfErr result (IsFirstTextFault text.now) }
 {
     match compile(alloc, text) {
-        Ok(compiled) => Ok(compiled),
+        Ok(compiled) => {
+            lemma_have_codes(&compiled);
+            Ok(compiled)
+        }
         Err(fault) => Err(CliFault::Compile(fault)),
     }
 }

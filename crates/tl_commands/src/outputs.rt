@@ -1,13 +1,16 @@
 // What more than one command prints or writes.
 
-ghost use Rattle.std.specs.Prelude.{◌≡◌, ◌⊎◌, [], ◌∷◌, ◌++◌, false, map, string_bytes, IfOk, IfErr, OnOk};
+ghost use Rattle.std.specs.Prelude.{◌≡◌, [], ◌∷◌, ◌++◌, false, map, string_bytes, IfOk, IfErr, OnOk};
 ghost use Rattle.serde_json.specs.View.{view};
 ghost use Rattle.serde_json.specs.Written.{has_float, compact_text};
 ghost use Rattle.tl_record.specs.Recording.{trail_value};
+ghost use Rattle.tl_tree_locking.specs.History.{AllDone};
+ghost use Rattle.tl_table.specs.Tables.{IsChain};
 ghost use Rattle.tl_trail.specs.Chains.{chain_text};
+ghost use Rattle.tl_trail.specs.Clean.{Clean};
 ghost use Rattle.tl_trail.specs.Writing.{trail_text};
 ghost use Rattle.tl_commands.specs.Faults.{status_of};
-ghost use Rattle.tl_commands.specs.Sinks.{Adds, IsSinkFault, comma_before, epoch_trail, trails_file};
+ghost use Rattle.tl_commands.specs.Sinks.{Adds, IsSinkFault, AreClean, FilesTrails, comma_before, epoch_trail};
 ghost use Rattle.tl_commands.specs.Scripted.{lines_text, two_lines_text};
 
 use crate::fault::CliFault;
@@ -68,9 +71,10 @@ pub fn three_lines(
     Ok(text)
 }
 
-// The text of the core's trail.
+// The text of the core's trail, which is clean once all calls are done.
 fn trail_of_core(alloc: Global, core: &Core) -> Result<String, CliFault>
     ensures ok { IfOk result (λ s. string_bytes s ≡ trail_text (trail_value core.now.seen)) }
+    ensures clean { OnOk result (AllDone core.now.seen.past → Clean (trail_value core.now.seen)) }
     ensures err { IfErr result (λ e. status_of e ≡ 4) }
 {
     let trail = match trail_of(alloc, core) {
@@ -96,7 +100,9 @@ pub fn trail_file(alloc: Global, core: &Core) -> Result<String, CliFault>
 // Appends the trail of an epoch.
 fn put_trail<S: TrailSink>(alloc: Global, closed: &Closed, sink: &mut S) -> Result<(), CliFault>
     ensures put { OnOk result (Adds (S.text sink.old) (trail_text (epoch_trail closed.now)) (S.text sink.new)) }
-    ensures fault { IfErr result (λ e. (status_of e ≡ 4) ⊎ (e ≡ CliFault.Unwritable)) }
+    ensures clean { OnOk result (Clean (epoch_trail closed.now)) }
+    ensures fine { OnOk result (S.failures sink.new ≡ S.failures sink.old) }
+    ensures fault { IfErr result (λ e. IsSinkFault (S.failures sink.old) (S.failures sink.new) (status_of e ≡ 4) e) }
 {
     let text = trail_of_core(alloc, closed.core())?;
     sink.put(&text)
@@ -105,7 +111,8 @@ fn put_trail<S: TrailSink>(alloc: Global, closed: &Closed, sink: &mut S) -> Resu
 // Appends a comma, except before the first trail.
 fn put_comma<S: TrailSink>(number: usize, sink: &mut S) -> Result<(), CliFault>
     ensures put { OnOk result (Adds (S.text sink.old) (comma_before number) (S.text sink.new)) }
-    ensures fault { IfErr result (λ e. IsSinkFault e) }
+    ensures fine { OnOk result (S.failures sink.new ≡ S.failures sink.old) }
+    ensures fault { IfErr result (λ e. IsSinkFault (S.failures sink.old) (S.failures sink.new) (e ≡ CliFault.Memory) e) }
 {
     if number == 0 {
         return Ok(());
@@ -116,7 +123,9 @@ fn put_comma<S: TrailSink>(number: usize, sink: &mut S) -> Result<(), CliFault>
 // Appends the list of the epochs' trails.
 fn put_list<S: TrailSink>(alloc: Global, chain: &[Closed], sink: &mut S) -> Result<(), CliFault>
     ensures put { OnOk result (Adds (S.text sink.old) (chain_text (map epoch_trail chain.now)) (S.text sink.new)) }
-    ensures fault { IfErr result (λ e. (status_of e ≡ 4) ⊎ (e ≡ CliFault.Unwritable)) }
+    ensures clean { OnOk result (AreClean chain.now) }
+    ensures fine { OnOk result (S.failures sink.new ≡ S.failures sink.old) }
+    ensures fault { IfErr result (λ e. IsSinkFault (S.failures sink.old) (S.failures sink.new) (status_of e ≡ 4) e) }
 {
     sink.put("[")?;
     for (number, closed) in chain.iter().enumerate() {
@@ -127,14 +136,16 @@ fn put_list<S: TrailSink>(alloc: Global, chain: &[Closed], sink: &mut S) -> Resu
 }
 
 /// Appends the file of a closed table's trails: the text of the one trail, or the list of all, and a line feed. The text of
-/// only one trail is in memory at a time.
+/// only one trail is in memory at a time. An auditor finds nothing wrong with them.
 pub fn put_trails<S: TrailSink>(
     alloc: Global,
     chain: &[Closed],
     sink: &mut S,
 ) -> Result<(), CliFault>
-    ensures put { OnOk result (Adds (S.text sink.old) (trails_file chain.now) (S.text sink.new)) }
-    ensures fault { IfErr result (λ e. (status_of e ≡ 4) ⊎ (e ≡ CliFault.Unwritable)) }
+    requires { IsChain chain.now }
+    ensures put { OnOk result (FilesTrails chain.now (S.text sink.old) (S.text sink.new)) }
+    ensures fine { OnOk result (S.failures sink.new ≡ S.failures sink.old) }
+    ensures fault { IfErr result (λ e. IsSinkFault (S.failures sink.old) (S.failures sink.new) (status_of e ≡ 4) e) }
 {
     match chain {
         [closed] => put_trail(alloc, closed, sink)?,

@@ -1,13 +1,14 @@
 // The command `run`.
 
-ghost use Rattle.std.specs.Prelude.{◌≡◌, ◌≢◌, ◌⊎◌, ◌≤◌, ℕ, List, [], length, All, map, string_bytes, IfOk, OnOk, IfErr};
+ghost use Rattle.std.specs.Prelude.{◌≡◌, ◌≢◌, ◌≤◌, ◌↔◌, ℕ, List, [], length, All, map, string_bytes, IsTrue, IfOk, OnOk, IfErr};
 ghost use Rattle.tl_table.specs.Tables.{IsChain};
 ghost use Rattle.tl_workers.specs.declared.batch.TheConstants.{MAX_REQUESTS, MAX_WORKERS};
 ghost use Rattle.tl_workers.specs.Kept.{SessionValue, Gains};
 ghost use Rattle.tl_workers.specs.Matching.{Matches};
 ghost use Rattle.tl_commands.specs.Faults.{status_of};
-ghost use Rattle.tl_commands.specs.Run.{AnswersBatches, AreAnswered, kept_of, IsLeftOpen, IsRun, IsNotGoingOn, Runs, RunsToTrail, IsFirstRunFault, batches_of, answers_of, batch_lines, PrintsRun};
+ghost use Rattle.tl_commands.specs.Run.{AnswersBatches, AreAnswered, AreInEpochs, IsInEpoch, kept_of, IsLeftOpen, IsRun, IsBrokenOff, Runs, RunsToTrail, IsFirstRunFault, batches_of, answers_of, batch_lines, PrintsRun};
 ghost use Rattle.tl_commands.specs.Script.{has_epochs};
+ghost use Rattle.tl_commands.specs.Sinks.{IsSinkFault};
 
 use crate::answers::batch_to_value;
 use crate::closing::closing_lines;
@@ -34,7 +35,21 @@ pub struct Ran {
     has_epochs: bool,
 }
 
-// Asks for one batch after another, and seals the table between two.
+// Whether each receipt is of the epoch of that number.
+fn are_in_epoch(answers: &[Result<Receipt, Refusal>], epoch: usize) -> bool
+    ensures { IsTrue result ↔ All (IsInEpoch epoch) answers.now }
+{
+    for answer in answers {
+        if let Ok(receipt) = answer {
+            if receipt.epoch as usize != epoch {
+                return false;
+            }
+        }
+    }
+    true
+}
+
+// Asks for one batch after another, and seals the table between two. 831 if a call isn't in the epoch of its batch.
 fn ask_each<R: Threads + Wait + Sync, G: Gate + Sync>(
     rt: &R,
     alloc: Global,
@@ -48,8 +63,9 @@ fn ask_each<R: Threads + Wait + Sync, G: Gate + Sync>(
     requires one { 1 ≤ workers }
     requires workers { workers ≤ MAX_WORKERS }
     ensures each { IfOk result (λ answers. AnswersBatches (batches_of batches.now) (answers_of answers.items)) }
+    ensures epochs { IfOk result (λ answers. AreInEpochs (answers_of answers.items)) }
     ensures kept { IfOk result (λ answers. Gains session.old session.new (kept_of (batches_of batches.now) (answers_of answers.items))) }
-    ensures fault { IfErr result (λ e. status_of e ≢ 4 → IsNotGoingOn e) }
+    ensures fault { IfErr result (λ e. status_of e ≢ 4 → IsBrokenOff (batches_of batches.now) e) }
 {
     let mut all = Vec::with_capacity(alloc, batches.len())?;
     for (number, requests) in batches.iter().enumerate() {
@@ -57,12 +73,15 @@ fn ask_each<R: Threads + Wait + Sync, G: Gate + Sync>(
             engine.seal(rt, alloc)?;
         }
         let answers = engine.batch(rt, alloc, session, requests, workers, gate)?;
+        if !are_in_epoch(&answers, number) {
+            return Err(CliFault::NotClosed);
+        }
         all.push_reserved(answers);
     }
     Ok(all)
 }
 
-// Asks the engine for the batches in one session, and closes it.
+// Asks the engine for the batches in one session, and closes it. 831 if it has more or fewer epochs than there are batches.
 fn run_batches<R: Threads + Wait + Sync, G: Gate + Sync>(
     rt: &R,
     alloc: Global,
@@ -76,6 +95,7 @@ fn run_batches<R: Threads + Wait + Sync, G: Gate + Sync>(
     requires workers { workers ≤ MAX_WORKERS }
     ensures chain { IfOk result (λ r. IsChain r.1.items) }
     ensures ok { IfOk result (λ r. (session : SessionValue) × AreAnswered (batches_of batches.now) (answers_of r.0.items) session × Matches r.1.items session) }
+    ensures epochs { IfOk result (λ r. (length r.1.items ≡ length (batches_of batches.now)) × AreInEpochs (answers_of r.0.items)) }
     ensures fault { IfErr result (λ e. status_of e ≢ 4 → IsLeftOpen (batches_of batches.now) e) }
 {
     let mut session = engine.session(rt, alloc)?;
@@ -83,7 +103,12 @@ fn run_batches<R: Threads + Wait + Sync, G: Gate + Sync>(
     let answers = ask_each(rt, alloc, &engine, &mut session, batches, workers, gate)?;
     sessions.push_reserved(session);
     match engine.close(sessions) {
-        Ok((chain, _)) => Ok((answers, chain)),
+        Ok((chain, _)) => {
+            if chain.len() != batches.len() {
+                return Err(CliFault::NotClosed);
+            }
+            Ok((answers, chain))
+        }
         Err(_) => Err(CliFault::NotClosed),
     }
 }
@@ -141,8 +166,9 @@ fn lines(alloc: Global, ran: &Ran) -> Result<String, CliFault>
 /// sealed between two.
 ///
 /// The first fault, in this order: 106 (also if the tree isn't UTF-8), 101 to 105; 731; then for each procedure the
-/// assembler's 251 to 254, the verifier's 301 to 307 and 401 to 409, and 612, 611, 613; 831 if the engine that ran the
-/// calls doesn't close. If memory was refused, 190, 290, 490, 690, 890 or 990.
+/// assembler's 251 to 254, the verifier's 301 to 307 and 401 to 409, and 612, 611, 613; 606 or 808 if the table isn't sealed
+/// between two lists; 821; 831 if the engine that ran the calls doesn't close, or has a call in another epoch than that of
+/// its list. If memory was refused, 190, 290, 490, 690, 890 or 990.
 pub fn run_cmd<R: Threads + Wait + Sync, G: Gate + Sync>(
     rt: &R,
     alloc: Global,
@@ -174,7 +200,8 @@ pub fn run_with_trail_cmd<R: Threads + Wait + Sync, G: Gate + Sync, S: TrailSink
     requires one { 1 ≤ workers }
     requires workers { workers ≤ MAX_WORKERS }
     ensures printed { IfOk result (λ s. RunsToTrail tree.now script.now (string_bytes s) (S.text sink.old) (S.text sink.new)) }
-    ensures fault { IfErr result (λ e. (e ≡ CliFault.Unwritable) ⊎ IsFirstRunFault tree.now script.now e) }
+    ensures fine { OnOk result (S.failures sink.new ≡ S.failures sink.old) }
+    ensures fault { IfErr result (λ e. IsSinkFault (S.failures sink.old) (S.failures sink.new) (IsFirstRunFault tree.now script.now e) e) }
 {
     let ran = run_script(rt, alloc, tree, script, workers, gate)?;
     let text = lines(alloc, &ran)?;

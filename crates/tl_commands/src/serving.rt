@@ -1,12 +1,13 @@
 // The command `serve`: what is done before connections are accepted, and after all have ended.
 
-ghost use Rattle.std.specs.Prelude.{◌≡◌, ◌⊎◌, string_bytes, IfOk, OnOk, IfErr, All};
+ghost use Rattle.std.specs.Prelude.{◌≡◌, string_bytes, IfOk, OnOk, IfErr, All};
 ghost use Rattle.tl_table.specs.Tables.{IsChain};
 ghost use Rattle.tl_workers.specs.Matching.{Matches};
 ghost use Rattle.tl_commands.specs.Alone.{IsTreeFile};
 ghost use Rattle.tl_commands.specs.Closing.{IsClosing};
 ghost use Rattle.tl_commands.specs.Faults.{status_of};
 ghost use Rattle.tl_commands.specs.Serve.{are_many, Concludes, ConcludesToTrail, IsConclusionFault, IsOpeningFault};
+ghost use Rattle.tl_commands.specs.Sinks.{IsSinkFault};
 
 use crate::closing::closing_lines;
 use crate::fault::CliFault;
@@ -40,7 +41,7 @@ pub fn open_engine(alloc: Global, tree: &[u8]) -> Result<Engine, CliFault>
 fn close_engine(engine: Engine, sessions: Vec<Session>) -> Result<Vec<Closed>, CliFault>
     ensures chain { IfOk result (λ r. IsChain r.items) }
     ensures ok { IfOk result (λ r. All (Matches r.items) sessions.items) }
-    ensures fault { IfErr result (λ e. IsConclusionFault sessions.items e) }
+    ensures fault { IfErr result (λ e. IsConclusionFault e) }
 {
     match engine.close(sessions) {
         Ok((chain, _)) => Ok(chain),
@@ -68,7 +69,7 @@ pub fn conclude_engine(
     sessions: Vec<Session>,
 ) -> Result<String, CliFault>
     ensures printed { IfOk result (λ s. Concludes sessions.items (string_bytes s)) }
-    ensures fault { IfErr result (λ e. IsConclusionFault sessions.items e) }
+    ensures fault { IfErr result (λ e. IsConclusionFault e) }
 {
     let chain = close_engine(engine, sessions)?;
     lines(alloc, &chain)
@@ -83,7 +84,8 @@ pub fn conclude_engine_with_trail<S: TrailSink>(
     sink: &mut S,
 ) -> Result<String, CliFault>
     ensures printed { IfOk result (λ s. ConcludesToTrail sessions.items (string_bytes s) (S.text sink.old) (S.text sink.new)) }
-    ensures fault { IfErr result (λ e. (e ≡ CliFault.Unwritable) ⊎ IsConclusionFault sessions.items e) }
+    ensures fine { OnOk result (S.failures sink.new ≡ S.failures sink.old) }
+    ensures fault { IfErr result (λ e. IsSinkFault (S.failures sink.old) (S.failures sink.new) (IsConclusionFault e) e) }
 {
     let chain = close_engine(engine, sessions)?;
     let text = lines(alloc, &chain)?;

@@ -23,6 +23,7 @@ returns-clause-printed c =
       source = found.0;
       program = text.program;
       meant = found.1;
+      in_order = order;
       spelled = subst (Spelled c.in-Ok-encode.container.items) (c.code.ensures.value ∙ is) c.in-Ok-encode.ensures.spelled;
       accepted = subst (λ (k : CodeValue). Acceptable k.instrs) is c.code.ensures.accepted;
       does = λ parents args t long.

@@ -5,7 +5,7 @@ use Rattle.tl_json.specs.Lists.{list_data}
 use Rattle.tl_compiler.specs.declared.compiler.Compiled.{Compiled}
 use Rattle.tl_json.specs.Procedures.{procedure_data}
 use Rattle.tl_commands.specs.Compiling.{made}
-use Rattle.tl_commands.proofs.CompilingLemmas.{procedures_whole, lines_of_sources, all_accepted}
+use Rattle.tl_commands.proofs.CompilingLemmas.{procedures_whole, lines_of_sources, all_accepted, all_do_calls}
 use Rattle.tl_commands.proofs.compiling.procs_cmd.Goals as goal
 
 pub returns-clause-printed : goal.returns-clause-printed
@@ -18,7 +18,9 @@ returns-clause-printed c =
       utf8 = text.utf8;
       sources = text.sources;
       program = text.program;
+      in_order = text.in_order;
       accepted = all_accepted text.sources cs text.each;
+      does = all_do_calls text.sources cs text.in_order text.each c.in_ok-compiled.ensures.codes;
       same =
           c.in_ok-line_of.ensures (ap has_float is ∙ procedures_whole cs)
           ∙ ap (λ d. compact_text d ++ 10 ∷ []) (is ∙ ap list_data (lines_of_sources procedure_data text.sources cs text.each));

@@ -1,8 +1,9 @@
 use Rattle.std.proofs.Common.{◌≡◌, ◌+◌, ◌∷◌, [], ◌++◌, take, sym, ap, ap₂, ◌∙◌, subst, arith}
+use Rattle.std.specs.List.{All}
 use Rattle.std.proofs.lemmas.Grind.{common_steps}
 use Rattle.tl_workers.specs.Kept.{Gains, AnswersEach, asked_of, gots_of}
-use Rattle.tl_commands.specs.Run.{AnswersBatches, kept_of, batches_of, answers_of}
-use Rattle.tl_commands.proofs.RunLemmas.{answers_more, kept_more, batches_more, answers_pushed, gains_more}
+use Rattle.tl_commands.specs.Run.{AnswersBatches, IsInEpoch, AreInEpochs, kept_of, batches_of, answers_of}
+use Rattle.tl_commands.proofs.RunLemmas.{answers_more, kept_more, batches_more, answers_pushed, gains_more, epochs_more, many_answers}
 use Rattle.tl_commands.proofs.running.ask_each.Goals as goal
 
 pub loop-number-preserved : goal.loop-number-preserved
@@ -28,4 +29,5 @@ loop-number-preserved g c =
       subst (Gains old new) (sym kept_is ∙ sym (ap₂ kept_of batches answers)) kept,
       grind (arith, common_steps),
       grind (arith, common_steps),
+      subst AreInEpochs (sym answers) (epochs_more all a i c.loop-number.invariant.4 (omega (arith, many_answers c.loop-number.all.items)) (subst (All (IsInEpoch i)) c.deref-in-loop-number.ensures.value (c.are_in_epoch.ensures.0 c.if-not-are_in_epoch.false))),
     )

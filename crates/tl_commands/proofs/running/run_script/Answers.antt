@@ -11,7 +11,16 @@ returns-clause-ok g c =
     let batches = c.deref-2.result.now in
     let is = ready t s c.in-Ok.tree c.in_ok-asked.asked.script c.in_ok-core.core.seen c.deref.result.now batches c.in-Ok.ensures.ok c.in_ok-asked.ensures.ok c.deref.ensures.value c.in_ok-core.ensures.taken c.deref-2.ensures.value in
     let done = c.in_ok-answers.ensures.ok in
-    record { batches = batches_of batches; session = done.0; ready = is; answered = done.1; chain = c.in_ok-answers.ensures.chain; matches = done.2 }
+    record {
+      batches = batches_of batches;
+      session = done.0;
+      ready = is;
+      answered = done.1;
+      as_many = c.in_ok-answers.ensures.epochs.0;
+      in_epochs = c.in_ok-answers.ensures.epochs.1;
+      chain = c.in_ok-answers.ensures.chain;
+      matches = done.2;
+    }
 
 pub returns-in_err-answers-clause-fault : goal.returns-in_err-answers-clause-fault
 returns-in_err-answers-clause-fault g c =
