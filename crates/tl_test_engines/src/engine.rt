@@ -1,15 +1,11 @@
 // Engines, and the sessions with which they are closed.
 
-ghost use Rattle.std.specs.Prelude.{◌≤◌};
-ghost use Rattle.tl_history.specs.declared.history.TheConstants.{MAX_EVENTS};
-
 use crate::ended::Ended;
 use std::alloc::Global;
 use std::sync::Wait;
 use std::test::Fail;
 use std::thread;
 use std::thread::Threads;
-use tl_core::Core;
 use tl_table::MAX_SESSIONS;
 use tl_test_data::{procedure_of, tree_of};
 use tl_workers::{Engine, Session};
@@ -95,52 +91,6 @@ where
     requires judge { G.IsAlwaysCallable judge }
 {
     let engine = engine_of(rt, alloc, tree, procedures)?;
-    lend(rt, alloc, engine, sessions, body, judge)
-}
-
-/// The same with an engine that seals its epochs by itself. The history of an epoch has at most `events` events.
-pub fn with_engine_that_seals<R, T, U, F, G>(
-    rt: &R,
-    alloc: Global,
-    tree: &str,
-    procedures: &[(&str, &str)],
-    events: usize,
-    sessions: usize,
-    body: F,
-    judge: G,
-) -> Result<U, Fail>
-where
-    R: Wait,
-    T: Drop,
-    F: FnOnce(&Engine, &mut [Session]) -> Result<T, Fail>,
-    G: FnOnce(T, &Ended) -> Result<U, Fail>,
-    requires events { events ≤ MAX_EVENTS }
-    requires body { F.IsAlwaysCallable body }
-    requires judge { G.IsAlwaysCallable judge }
-{
-    let core = Core::with_limit(alloc, tree_of(alloc, tree)?, events)?;
-    let engine = Engine::of_core(alloc, core)?.that_seals();
-    register_all(rt, alloc, &engine, procedures)?;
-    lend(rt, alloc, engine, sessions, body, judge)
-}
-
-// Lends the engine and so many sessions to `body`, closes it with them, and lends its results to `judge`.
-fn lend<R, T, U, F, G>(
-    rt: &R,
-    alloc: Global,
-    engine: Engine,
-    sessions: usize,
-    body: F,
-    judge: G,
-) -> Result<U, Fail>
-where
-    R: Wait,
-    T: Drop,
-    F: FnOnce(&Engine, &mut [Session]) -> Result<T, Fail>,
-    G: FnOnce(T, &Ended) -> Result<U, Fail>,
-    requires body { F.IsAlwaysCallable body }
-    requires judge { G.IsAlwaysCallable judge }
-{
     let mut sessions = sessions_of(rt, alloc, &engine, sessions)?;
     let answer = body(&engine, sessions.as_mut_slice())?;
     let ended = closed(alloc, engine, sessions)?;

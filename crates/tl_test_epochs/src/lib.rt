@@ -9,6 +9,4 @@ mod cores;
 #[cfg(test)]
 mod engines;
 #[cfg(test)]
-mod sealing;
-#[cfg(test)]
 mod tables;
