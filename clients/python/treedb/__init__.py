@@ -11,8 +11,8 @@
 
 A refusal of one request raises `Refused`, which has the numbers and says what they mean and what to do; within a batch it stands in the
 place of the answer. The connection stays open after a refusal. After a timeout it is closed: the answer may still come, and would be taken for that of
-the next request. An epoch of a server has room for 4,096 calls: `Client(7878, seals=True)`
-seals it where that has to be done, and goes on, until `Exhausted` says that the server has no epoch left. `docs/formats.md` has the lines that go to and fro, so that a
+the next request. A server with `--connections` leaves it to its clients to seal an epoch, which has room for 4,096 calls: `Client(7878, seals=True)`
+seals it where that has to be done, and goes on, until `Exhausted` says that the server has no epoch left. Any other server does that by itself. `docs/formats.md` has the lines that go to and fro, so that a
 client in another language can do the same; `docs/faults.md` has all numbers.
 """
 

@@ -1,6 +1,6 @@
 -- A chain of clean trails, and how far its audit is.
 use Rattle.std.proofs.Common.{◌≡◌, ◌≢◌, ⊎_elim, inl, inr, ℕ, zero, suc, ◌+◌, ◌≤◌, List, [], ◌∷◌, ◌++◌, length, map, drop, Option, Some, None, refl, sym, ap, ◌∙◌, subst, arith, append_assoc}
-use Rattle.std.specs.Prelude.{slice_get, Result, Ok, Err, IfErr}
+use Rattle.std.specs.Prelude.{slice_get}
 use Rattle.std.proofs.lemmas.Option.{none-some, same_Some}
 use Rattle.std.proofs.lemmas.List.{append-nil}
 use Rattle.tl_tree.specs.Records.{Records}
@@ -12,7 +12,7 @@ use Rattle.tl_trail.specs.Trails.{TrailValue, IsTrail, world_of}
 use Rattle.tl_trail.specs.Clean.{Clean}
 use Rattle.tl_audit.specs.declared.chain.ChainFault.{ChainFault}
 use Rattle.tl_audit.specs.declared.chain.ChainFault.TheVariants.{Broken, InEpoch, Memory}
-use Rattle.tl_audit.specs.Chains.{TakesOverFrom, CleanAfter, IsCleanChain, IsFirstAfter, IsFirstChainFault, IsFaultAt, order_of, ends_of, TellTheReplies, AreTrails, AreSerial, before_at, calls_in}
+use Rattle.tl_audit.specs.Chains.{TakesOverFrom, CleanAfter, IsCleanChain, IsFirstAfter, IsFaultAt, order_of, ends_of, TellTheReplies, AreTrails, AreSerial, before_at, calls_in}
 use Rattle.tl_audit.proofs.CleanTrailLemmas.{clean_sound, all_done, clean_agrees, ends_now, clean_told, clean_faultless}
 
 -- ---- what a clean chain implies
@@ -64,27 +64,28 @@ faultless n before (t ∷ ts) f clean h = ⊎_elim
     w.1)
     h
 
-pub only_memory : (ts : List TrailValue) (f : ChainFault) → IsCleanChain ts → (f ≢ Memory → IsFirstChainFault ts f) → f ≡ Memory
-only_memory ts (Broken n) clean h = absurd (faultless 0 None ts (Broken n) clean (h (λ e. cc)))
-only_memory ts (InEpoch n g) clean h = absurd (faultless 0 None ts (InEpoch n g) clean (h (λ e. cc)))
-only_memory ts Memory clean h = refl
+pub only_memory : (before : Option TrailValue) (ts : List TrailValue) (f : ChainFault) → CleanAfter before ts → (f ≢ Memory → IsFirstAfter 0 before ts f) → f ≡ Memory
+only_memory before ts (Broken n) clean h = absurd (faultless 0 before ts (Broken n) clean (h (λ e. cc)))
+only_memory before ts (InEpoch n g) clean h = absurd (faultless 0 before ts (InEpoch n g) clean (h (λ e. cc)))
+only_memory before ts Memory clean h = refl
 
-pub chain_only : {X : Type 0} (ts : List TrailValue) (r : Result X ChainFault) → IfErr r (λ f. f ≢ Memory → IsFirstChainFault ts f) → IsCleanChain ts → IfErr r (λ f. f ≡ Memory)
-chain_only ts (Ok x) fault clean = tt
-chain_only ts (Err f) fault clean = only_memory ts f clean fault
+-- what takes over from a trail is clean also by itself
+pub by_itself : (before : Option TrailValue) (ts : List TrailValue) → CleanAfter before ts → IsCleanChain ts
+by_itself before [] clean = tt
+by_itself before (t ∷ ts) clean = (tt, clean.1, clean.2)
 
 -- ---- how far the audit is
 
 -- Where the trails from number n on are clean, all are; what is wrong first with them is so of all; and these are the orders of
 -- those before.
-pub record IsAuditedTo (ts : List TrailValue) (n : ℕ) (found : List OrderValue) : Type 0 where
-  pub clean : CleanAfter (before_at ts n) (drop n ts) → CleanAfter None ts
-  pub fault : (f : ChainFault) → IsFirstAfter n (before_at ts n) (drop n ts) f → IsFirstAfter 0 None ts f
+pub record IsAuditedTo (before : Option TrailValue) (ts : List TrailValue) (n : ℕ) (found : List OrderValue) : Type 0 where
+  pub clean : CleanAfter (before_at before ts n) (drop n ts) → CleanAfter before ts
+  pub fault : (f : ChainFault) → IsFirstAfter n (before_at before ts n) (drop n ts) f → IsFirstAfter 0 before ts f
   pub orders : map calls_in found ++ map order_of (drop n ts) ≡ map order_of ts
   pub trails : AreTrails (drop n ts) → AreTrails ts
 
-pub audit_begins : (ts : List TrailValue) → IsAuditedTo ts 0 []
-audit_begins ts = record { clean = λ h. h; fault = λ f h. h; orders = refl; trails = λ h. h }
+pub audit_begins : (before : Option TrailValue) (ts : List TrailValue) → IsAuditedTo before ts 0 []
+audit_begins before ts = record { clean = λ h. h; fault = λ f h. h; orders = refl; trails = λ h. h }
 
 drop_at : (ts : List TrailValue) (n : ℕ) (t : TrailValue) → slice_get ts n ≡ Some t → drop n ts ≡ t ∷ drop (suc n) ts
 drop_at [] n t at = absurd (none-some t at)
@@ -95,15 +96,15 @@ map-more : {X Y : Type 0} (f : X → Y) (xs : List X) (x : X) → map f (xs ++ x
 map-more f [] x = refl
 map-more f (y ∷ ys) x = ap (λ zs. f y ∷ zs) (map-more f ys x)
 
-pub audit_more : (ts : List TrailValue) (n : ℕ) (orders : List OrderValue) (t : TrailValue) (o : OrderValue) → IsAuditedTo ts n orders → slice_get ts n ≡ Some t
-    → TakesOverFrom (before_at ts n) t → Clean t → IsTrail t → o.calls ≡ order_of t → (more : List OrderValue) → more ≡ orders ++ o ∷ [] → IsAuditedTo ts (suc n) more
-audit_more ts n orders t o h at takes clean trail o_is more more_is =
+pub audit_more : (before : Option TrailValue) (ts : List TrailValue) (n : ℕ) (orders : List OrderValue) (t : TrailValue) (o : OrderValue) → IsAuditedTo before ts n orders → slice_get ts n ≡ Some t
+    → TakesOverFrom (before_at before ts n) t → Clean t → IsTrail t → o.calls ≡ order_of t → (more : List OrderValue) → more ≡ orders ++ o ∷ [] → IsAuditedTo before ts (suc n) more
+audit_more before ts n orders t o h at takes clean trail o_is more more_is =
     let rest : drop n ts ≡ t ∷ drop (suc n) ts = drop_at ts n t at in
-    let before : before_at ts (suc n) ≡ Some t = at in
+    let last : before_at before ts (suc n) ≡ Some t = at in
     record {
-      clean = λ later. h.clean (subst (CleanAfter (before_at ts n)) (sym rest) (takes, clean, subst (λ b. CleanAfter b (drop (suc n) ts)) before later));
-      fault = λ f later. h.fault f (subst (λ l. IsFirstAfter n (before_at ts n) l f) (sym rest)
-          (inr (takes, inr (clean, subst (λ m. IsFirstAfter m (Some t) (drop (suc n) ts) f) (omega arith) (subst (λ b. IsFirstAfter (suc n) b (drop (suc n) ts) f) before later)))));
+      clean = λ later. h.clean (subst (CleanAfter (before_at before ts n)) (sym rest) (takes, clean, subst (λ b. CleanAfter b (drop (suc n) ts)) last later));
+      fault = λ f later. h.fault f (subst (λ l. IsFirstAfter n (before_at before ts n) l f) (sym rest)
+          (inr (takes, inr (clean, subst (λ m. IsFirstAfter m (Some t) (drop (suc n) ts) f) (omega arith) (subst (λ b. IsFirstAfter (suc n) b (drop (suc n) ts) f) last later)))));
       orders =
           (λ i. map calls_in (more_is i) ++ map order_of (drop (suc n) ts))
           ∙ ap (λ l. l ++ map order_of (drop (suc n) ts)) (map-more calls_in orders o)
@@ -114,10 +115,10 @@ audit_more ts n orders t o h at takes clean trail o_is more more_is =
       trails = λ later. h.trails (subst AreTrails (sym rest) (trail, later));
     }
 
-pub audit_fails : (ts : List TrailValue) (n : ℕ) (orders : List OrderValue) (t : TrailValue) (f : ChainFault) → IsAuditedTo ts n orders → slice_get ts n ≡ Some t
-    → IsFaultAt n (before_at ts n) t f → IsFirstChainFault ts f
-audit_fails ts n orders t f h at wrong =
-    h.fault f (subst (λ l. IsFirstAfter n (before_at ts n) l f) (sym (drop_at ts n t at))
+pub audit_fails : (before : Option TrailValue) (ts : List TrailValue) (n : ℕ) (orders : List OrderValue) (t : TrailValue) (f : ChainFault) → IsAuditedTo before ts n orders → slice_get ts n ≡ Some t
+    → IsFaultAt n (before_at before ts n) t f → IsFirstAfter 0 before ts f
+audit_fails before ts n orders t f h at wrong =
+    h.fault f (subst (λ l. IsFirstAfter n (before_at before ts n) l f) (sym (drop_at ts n t at))
     (⊎_elim (λ w. inl w) (λ w. inr (w.0, inl w.1)) wrong))
 
 drop_all : (ts : List TrailValue) (n : ℕ) → length ts ≤ n → drop n ts ≡ []
@@ -126,12 +127,12 @@ drop_all [] (suc n) le = refl
 drop_all (t ∷ ts) zero le = absurd (omega (arith, le))
 drop_all (t ∷ ts) (suc n) le = drop_all ts n (omega (arith, le))
 
-module _ (ts : List TrailValue) (n : ℕ) (orders : List OrderValue) (h : IsAuditedTo ts n orders) (over : length ts ≤ n) where
-  pub all_clean : IsCleanChain ts
-  all_clean = h.clean (subst (CleanAfter (before_at ts n)) (sym (drop_all ts n over)) tt)
+module _ (before : Option TrailValue) (ts : List TrailValue) (n : ℕ) (orders : List OrderValue) (h : IsAuditedTo before ts n orders) (over : length ts ≤ n) where
+  pub all_clean : CleanAfter before ts
+  all_clean = h.clean (subst (CleanAfter (before_at before ts n)) (sym (drop_all ts n over)) tt)
 
   pub all_orders : map calls_in orders ≡ map order_of ts
   all_orders = sym (append-nil (map calls_in orders)) ∙ ap (λ l. map calls_in orders ++ map order_of l) (sym (drop_all ts n over)) ∙ h.orders
 
   pub all_serial : AreSerial ts (map calls_in orders)
-  all_serial = subst (AreSerial ts) (sym all_orders) (chain_serial ts all_clean (h.trails (subst AreTrails (sym (drop_all ts n over)) tt)))
+  all_serial = subst (AreSerial ts) (sym all_orders) (chain_serial ts (by_itself before ts all_clean) (h.trails (subst AreTrails (sym (drop_all ts n over)) tt)))

@@ -7,4 +7,4 @@ pub mod ReplayLemmas
 pub mod LedCalls
 pub mod AuditAnswers
 pub mod ChainLemmas
-pub mod Prefixes
+pub mod JoinLemmas

@@ -4,18 +4,14 @@ use Rattle.tl_tree.specs.Records.{Records}
 use Rattle.tl_tree_locking.specs.Epochs.{run_each, joined, joined_replies}
 use Rattle.tl_tree_locking.specs.Order.{placed}
 use Rattle.tl_tree_locking.specs.World.{reply_of}
-use Rattle.tl_procedures.specs.Names.{Named}
+use Rattle.tl_procedures.specs.Names.{BeginsWith}
 use Rattle.tl_serial_order.specs.Order.{OrderValue}
 use Rattle.tl_trail.specs.Trails.{TrailValue, IsTrail, call_at, world_of}
 use Rattle.tl_trail.specs.Clean.{Clean}
 use Rattle.tl_audit.specs.Findings.{IsFirstFault}
 use Rattle.tl_audit.specs.declared.fault.AuditFault.{AuditFault}
 use Rattle.tl_audit.specs.declared.chain.ChainFault.{ChainFault}
-use Rattle.tl_audit.specs.declared.chain.ChainFault.TheVariants.{Broken, InEpoch}
-
--- the second list begins with the first
-abbrev pub BeginsWith : List Named → List Named → Type 0
-BeginsWith xs ys = (more : List Named) × (ys ≡ xs ++ more)
+use Rattle.tl_audit.specs.declared.chain.ChainFault.TheVariants.{Broken, InEpoch, Memory}
 
 -- the second trail opens with the tree that the first ends with, and its procedures begin with those of the first
 pub record TakesOver (t u : TrailValue) : Type 0 where
@@ -47,6 +43,29 @@ IsFirstAfter n before (t ∷ ts) f =
 
 abbrev pub IsFirstChainFault : List TrailValue → ChainFault → Type 0
 IsFirstChainFault ts f = IsFirstAfter 0 None ts f
+
+-- ---- chains one after another
+
+-- the trail that these end with, after the trail before
+abbrev pub last_after : Option TrailValue → List TrailValue → Option TrailValue
+last_after before [] = before
+last_after before (t ∷ ts) = last_after (Some t) ts
+
+-- each chain takes over from the last trail before it, and is clean
+abbrev pub AreCleanAfter : Option TrailValue → List (List TrailValue) → Type 0
+AreCleanAfter before [] = Unit {0}
+AreCleanAfter before (ts ∷ chains) = CleanAfter before ts × AreCleanAfter (last_after before ts) chains
+
+-- all trails of these chains
+abbrev pub trails_of : List (List TrailValue) → List TrailValue
+trails_of [] = []
+trails_of (ts ∷ chains) = ts ++ trails_of chains
+
+-- the same fault where the trails have numbers from n on
+abbrev pub numbered_from : ℕ → ChainFault → ChainFault
+numbered_from n (Broken m) = Broken (n + m)
+numbered_from n (InEpoch m f) = InEpoch (n + m) f
+numbered_from n Memory = Memory
 
 -- ---- what follows
 
@@ -80,10 +99,10 @@ pub record AreSerial (ts : List TrailValue) (orders : List (List ℕ)) : Type 0 
   pub replies : (run_each (joined (map world_of ts) orders) (opening_of ts)).replies ≡ joined_replies (map world_of ts) orders
   pub told : TellTheReplies ts
 
--- the trail before that number, if there is one
-abbrev pub before_at : List TrailValue → ℕ → Option TrailValue
-before_at ts zero = None
-before_at ts (suc n) = slice_get ts n
+-- the trail before that number, if there is one: before the first it is the one before these
+abbrev pub before_at : Option TrailValue → List TrailValue → ℕ → Option TrailValue
+before_at before ts zero = before
+before_at before ts (suc n) = slice_get ts n
 
 -- why the trail of that number ends the audit of a chain whose trails before it are clean
 abbrev pub IsFaultAt : ℕ → Option TrailValue → TrailValue → ChainFault → Type 0

@@ -1,12 +1,12 @@
 // Whether a chain of trails is clean.
 
-ghost use Rattle.std.specs.Prelude.{◌≡◌, ◌≢◌, ◌<◌, ◌≤◌, ◌↔◌, length, map, slice_get, Some, IsTrue, IfOk, IfErr};
-ghost use Rattle.tl_trail.specs.Trails.{TrailValue, IsTrail};
+ghost use Rattle.std.specs.Prelude.{◌≡◌, ◌≢◌, ◌<◌, ◌≤◌, ◌↔◌, length, map, option_copied, IsTrue, IfOk, IfErr};
+ghost use Rattle.tl_trail.specs.Trails.{IsTrail};
 ghost use Rattle.tl_trail.specs.Clean.{Clean};
 ghost use Rattle.tl_audit.specs.declared.chain.ChainFault.TheVariants as chain;
 ghost use Rattle.tl_audit.specs.declared.fault.AuditFault.TheVariants as audit;
 ghost use Rattle.tl_trail.specs.declared.chain.TheConstants.{MAX_TRAILS};
-ghost use Rattle.tl_audit.specs.Chains.{BeginsWith, TakesOver, TakesOverFrom, IsCleanChain, IsFirstChainFault, AreSerial, IsFaultAt, before_at, order_of, calls_in};
+ghost use Rattle.tl_audit.specs.Chains.{TakesOver, TakesOverFrom, CleanAfter, IsCleanChain, IsFirstAfter, IsFirstChainFault, AreSerial, IsFaultAt, before_at, order_of, calls_in};
 ghost use Rattle.tl_audit.specs.Faults.{chain_numbers_of};
 
 use crate::auditing::audit_with;
@@ -96,10 +96,30 @@ pub fn audit_chain_with<P: Progress>(
     ensures only { IsCleanChain trails.now → IfErr result (λ f. f ≡ chain.Memory) }
     ensures serial { IfOk result (λ os. AreSerial trails.now (map calls_in os.items)) }
 {
+    audit_chain_after(alloc, None, trails, progress)
+}
+
+/// The same of a chain that goes on after another one: its first trail must take over from the trail that the other one ends with, if
+/// one is given. 718 with trail 0 if it doesn't.
+pub fn audit_chain_after<P: Progress>(
+    alloc: Global,
+    before: Option<&Trail>,
+    trails: &[Trail],
+    progress: &mut P,
+) -> Result<Vec<Order>, ChainFault>
+    requires { length trails.now ≤ MAX_TRAILS }
+    ensures clean { IfOk result (λ _. CleanAfter (option_copied before.entry) trails.now) }
+    ensures orders { IfOk result (λ os. map calls_in os.items ≡ map order_of trails.now) }
+    ensures fault { IfErr result (λ f. f ≢ chain.Memory → IsFirstAfter 0 (option_copied before.entry) trails.now f) }
+    ensures only { CleanAfter (option_copied before.entry) trails.now → IfErr result (λ f. f ≡ chain.Memory) }
+    ensures serial { IfOk result (λ os. AreSerial trails.now (map calls_in os.items)) }
+{
     let mut orders = Vec::with_capacity(alloc, trails.len())?;
     let mut along = Along::new(progress, trails);
     for number in 0..trails.len() {
-        match next_order(alloc, trails, number, &mut along) {
+        let last = trail_before(before, trails, number);
+        let trail = &trails[number];
+        match next_order(alloc, last, trail, number, &mut along) {
             Ok(order) => orders.push_reserved(order),
             Err(fault) => return Err(fault),
         }
@@ -137,22 +157,34 @@ impl<P: Progress> Progress for Along<'_, P> {
     }
 }
 
-// The order of the trail with that number, which must take over from the one before it.
+// The trail before the one with that number, if there is one: for the first of the chain it is the one before the chain.
+fn trail_before<'t>(
+    before: Option<&'t Trail>,
+    trails: &'t [Trail],
+    number: usize,
+) -> Option<&'t Trail>
+    requires { number < length trails.now }
+    ensures { option_copied result ≡ before_at (option_copied before.entry) trails.now number }
+{
+    if number == 0 {
+        return before;
+    }
+    Some(&trails[number - 1])
+}
+
+// The order of a trail, which has that number and must take over from the one before it, if there is one.
 fn next_order<P: Progress>(
     alloc: Global,
-    trails: &[Trail],
+    before: Option<&Trail>,
+    trail: &Trail,
     number: usize,
     along: &mut Along<'_, P>,
 ) -> Result<Order, ChainFault>
-    requires inside { number < length trails.now }
-    requires few { length trails.now ≤ MAX_TRAILS }
-    ensures ok { IfOk result (λ o. (t : TrailValue) × (slice_get trails.now number ≡ Some t) × TakesOverFrom (before_at trails.now number) t
-        × Clean t × IsTrail t × (o.calls ≡ order_of t)) }
-    ensures fault { IfErr result (λ f. f ≢ chain.Memory → (t : TrailValue) × (slice_get trails.now number ≡ Some t)
-        × IsFaultAt number (before_at trails.now number) t f) }
+    requires { number < MAX_TRAILS }
+    ensures ok { IfOk result (λ o. TakesOverFrom (option_copied before.entry) trail.now × Clean trail.now × IsTrail trail.now × (o.calls ≡ order_of trail.now)) }
+    ensures fault { IfErr result (λ f. f ≢ chain.Memory → IsFaultAt number (option_copied before.entry) trail.now f) }
 {
-    let trail = &trails[number];
-    if !joins_on(trails, number) {
+    if !joins_on(before, trail) {
         return Err(ChainFault::Broken {
             epoch: number as u32,
         });
@@ -179,15 +211,14 @@ fn in_epoch(epoch: u32, fault: AuditFault) -> ChainFault
     }
 }
 
-// Whether the trail with that number takes over from the one before it, if there is one.
-fn joins_on(trails: &[Trail], number: usize) -> bool
-    requires { number < length trails.now }
-    ensures { (t : TrailValue) → slice_get trails.now number ≡ Some t → IsTrue result ↔ TakesOverFrom (before_at trails.now number) t }
+// Whether the trail takes over from the one before it, if there is one.
+fn joins_on(before: Option<&Trail>, trail: &Trail) -> bool
+    ensures { IsTrue result ↔ TakesOverFrom (option_copied before.entry) trail.now }
 {
-    if number == 0 {
-        return true;
+    match before {
+        Some(before) => takes_over(before, trail),
+        None => true,
     }
-    takes_over(&trails[number - 1], &trails[number])
 }
 
 // Whether the second trail opens with the tree that the first ends with, and its procedures begin with those of the first.
@@ -200,7 +231,7 @@ fn takes_over(before: &Trail, trail: &Trail) -> bool
     if !are_same(trail.opening().records(), before.ends()) {
         return false;
     }
-    begin_with(trail.procedures(), before.procedures())
+    trail.procedures().begin_with(before.procedures())
 }
 
 // Whether the records are the same.
@@ -208,22 +239,4 @@ fn are_same(records: &[Record], others: &[Record]) -> bool
     ensures { IsTrue result ↔ (records.now ≡ others.now) }
 {
     records == others
-}
-
-// Whether the procedures begin with those of `first`.
-fn begin_with(procedures: &Procedures, first: &Procedures) -> bool
-    ensures { IsTrue result ↔ BeginsWith first.now procedures.now }
-{
-    if procedures.len() < first.len() {
-        return false;
-    }
-    for number in 0..first.len() as u32 {
-        if procedures.name(number) != first.name(number) {
-            return false;
-        }
-        if !procedures.get(number).is(first.get(number)) {
-            return false;
-        }
-    }
-    true
 }

@@ -10,7 +10,8 @@ use std::alloc::Global;
 use tl_core::{Core, Stepped};
 use tl_record::trail_of;
 use tl_serial::{Running, replay};
-use tl_trail::write_trail;
+use tl_serial_order::Order;
+use tl_trail::{Trail, write_trail};
 
 // How many calls are open at a time.
 const OPEN: usize = 64;
@@ -160,8 +161,19 @@ fn interleaved(
     steps: &mut [u64],
 ) -> Option<Measured> {
     let mut core = core_of(alloc, code, parents)?;
-    let took = run_groups(alloc, &mut core, args, nanos, steps)?;
-    Some(measured_of(took.stepping, core.history().len(), &core))
+    interleave(alloc, &mut core, args, nanos, steps)
+}
+
+// A function that owns a core has one way out: each is another place where it is proved how the core is dropped.
+fn interleave(
+    alloc: Global,
+    core: &mut Core,
+    args: &[i64],
+    nanos: &mut [u64],
+    steps: &mut [u64],
+) -> Option<Measured> {
+    let took = run_groups(alloc, core, args, nanos, steps)?;
+    Some(measured_of(took.stepping, core.history().len(), core))
 }
 
 /// Calls of the container's procedure, one for each argument, on the tree with these parents, 64 at a time in turn. For each group
@@ -181,8 +193,12 @@ pub extern "C" fn treedb_interleave(
 
 fn admitted(alloc: Global, code: &[u8], parents: &[u16], args: &[i64]) -> Option<Measured> {
     let mut core = core_of(alloc, code, parents)?;
-    let took = run_groups(alloc, &mut core, args, &mut [], &mut [])?;
-    Some(measured_of(took.admitting, core.calls(), &core))
+    admit_all(alloc, &mut core, args)
+}
+
+fn admit_all(alloc: Global, core: &mut Core, args: &[i64]) -> Option<Measured> {
+    let took = run_groups(alloc, core, args, &mut [], &mut [])?;
+    Some(measured_of(took.admitting, core.calls(), core))
 }
 
 /// The same calls. The time is that of the admissions, and the count is the number of calls.
@@ -204,8 +220,10 @@ fn running_of(
     args: &[i64],
 ) -> Option<(Running, Took)> {
     let mut running = Running::new(alloc, core_of(alloc, code, parents)?).ok()?;
-    let took = run_groups(alloc, &mut running, args, &mut [], &mut [])?;
-    Some((running, took))
+    match run_groups(alloc, &mut running, args, &mut [], &mut []) {
+        Some(took) => Some((running, took)),
+        None => None,
+    }
 }
 
 fn kept(alloc: Global, code: &[u8], parents: &[u16], args: &[i64]) -> Option<Measured> {
@@ -231,11 +249,19 @@ pub extern "C" fn treedb_keep(
 
 fn replayed(alloc: Global, code: &[u8], parents: &[u16], args: &[i64]) -> Option<Measured> {
     let (running, _) = running_of(alloc, code, parents, args)?;
+    replay_all(alloc, &running)
+}
+
+fn replay_all(alloc: Global, running: &Running) -> Option<Measured> {
     let order = running.conclude(alloc).ok()?;
+    replay_along(alloc, running.core(), &order)
+}
+
+fn replay_along(alloc: Global, core: &Core, order: &Order) -> Option<Measured> {
     let mut measured = Measured::none();
-    measured.add_count(running.core().calls() as u64);
+    measured.add_count(core.calls() as u64);
     let begin = now();
-    let (tree, replies) = replay(alloc, &order, running.core()).ok()?;
+    let (tree, replies) = replay(alloc, order, core).ok()?;
     measured.add_since(begin);
     for reply in &replies {
         measured.mix_all(reply.values());
@@ -258,6 +284,10 @@ pub extern "C" fn treedb_replay(
 
 fn sealed(alloc: Global, code: &[u8], parents: &[u16], args: &[i64]) -> Option<Measured> {
     let (mut running, _) = running_of(alloc, code, parents, args)?;
+    seal(alloc, &mut running)
+}
+
+fn seal(alloc: Global, running: &mut Running) -> Option<Measured> {
     let mut measured = Measured::none();
     measured.add_count(1);
     let begin = now();
@@ -283,6 +313,10 @@ pub extern "C" fn treedb_seal(
 
 fn blocked(alloc: Global, code: &[u8], times: u32) -> Option<Measured> {
     let mut core = core_of(alloc, code, &[0])?;
+    block(alloc, &mut core, times)
+}
+
+fn block(alloc: Global, core: &mut Core, times: u32) -> Option<Measured> {
     let first = core.admit(alloc, NAME, &[0]).ok()?;
     let second = core.admit(alloc, NAME, &[0]).ok()?;
     core.step(first).ok()?;
@@ -314,9 +348,17 @@ fn told(
     text: &mut [u8],
 ) -> Option<Measured> {
     let mut core = core_of(alloc, code, parents)?;
-    run_groups(alloc, &mut core, args, &mut [], &mut [])?;
-    let trail = trail_of(alloc, &core).ok()?;
-    let written = write_trail(alloc, &trail).ok()?;
+    tell(alloc, &mut core, args, text)
+}
+
+fn tell(alloc: Global, core: &mut Core, args: &[i64], text: &mut [u8]) -> Option<Measured> {
+    run_groups(alloc, core, args, &mut [], &mut [])?;
+    let trail = trail_of(alloc, core).ok()?;
+    put_trail(alloc, &trail, text)
+}
+
+fn put_trail(alloc: Global, trail: &Trail, text: &mut [u8]) -> Option<Measured> {
+    let written = write_trail(alloc, trail).ok()?;
     let bytes = written.as_bytes();
     text.get_mut(..bytes.len())?.copy_from_slice(bytes);
     let mut measured = Measured::none();

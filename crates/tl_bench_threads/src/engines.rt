@@ -67,28 +67,59 @@ fn run_batches<R: Threads + Wait + Clock + Sync>(
 // An engine on the tree, with the container's procedure alone.
 fn engine(rt: &impl Wait, alloc: Global, container: &[u8], asked: &Asked) -> Option<Engine> {
     let tree = chains(alloc, asked.nodes, asked.chain)?;
+    let procedure = procedure_of(alloc, container)?;
     let engine = Engine::new(alloc, tree).ok()?;
-    engine
-        .register(rt, alloc, "call", procedure_of(alloc, container)?)
-        .ok()?;
-    Some(engine)
+    match engine.register(rt, alloc, "call", procedure) {
+        Ok(_) => Some(engine),
+        Err(_) => None,
+    }
+}
+
+// Runs the batches of a new session, and returns it alone, with the time that they took.
+fn run<R: Threads + Wait + Clock + Sync>(
+    rt: &R,
+    alloc: Global,
+    engine: &Engine,
+    asked: &Asked,
+) -> Option<(Vec<Session>, u64)> {
+    let mut session = engine.session(rt, alloc).ok()?;
+    let nanos = run_batches(rt, alloc, engine, &mut session, asked)?;
+    let mut sessions = Vec::new(alloc);
+    sessions.push(session).ok()?;
+    Some((sessions, nanos))
 }
 
 // Closes the engine, and adds the time and the results of its calls.
 fn close(
-    alloc: Global,
     engine: Engine,
-    session: Session,
+    sessions: Vec<Session>,
     nanos: u64,
     measured: &mut Measured,
 ) -> Option<()> {
-    let mut sessions = Vec::new(alloc);
-    sessions.push(session).ok()?;
-    let (chain, _) = engine.close(sessions).ok()?;
-    for closed in &chain {
-        measured.add(nanos, closed.core());
+    match engine.close(sessions) {
+        Ok((chain, _)) => {
+            for closed in &chain {
+                measured.add(nanos, closed.core());
+            }
+            Some(())
+        }
+        Err(_) => None,
     }
-    Some(())
+}
+
+// Adds the measurements of the batches of an engine.
+fn measure_one<R: Threads + Wait + Clock + Sync>(
+    rt: &R,
+    alloc: Global,
+    container: &[u8],
+    asked: &Asked,
+    measured: &mut Measured,
+) -> Option<()> {
+    let engine = engine(rt, alloc, container, asked)?;
+    match run(rt, alloc, &engine, asked) {
+        Some((sessions, nanos)) => close(engine, sessions, nanos, measured),
+        None => None,
+    }
 }
 
 /// The measurements of the batches of all engines. None if memory or a call was refused.
@@ -100,10 +131,7 @@ pub fn measure<R: Threads + Wait + Clock + Sync>(
 ) -> Option<Measured> {
     let mut measured = Measured::none();
     for _ in 0..asked.engines {
-        let engine = engine(rt, alloc, container, asked)?;
-        let mut session = engine.session(rt, alloc).ok()?;
-        let nanos = run_batches(rt, alloc, &engine, &mut session, asked)?;
-        close(alloc, engine, session, nanos, &mut measured)?;
+        measure_one(rt, alloc, container, asked, &mut measured)?;
     }
     Some(measured)
 }

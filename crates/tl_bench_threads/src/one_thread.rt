@@ -16,12 +16,13 @@ const NAME: &str = "call";
 
 // A core on the tree, with the container's procedure, that keeps its order up to date.
 fn running(alloc: Global, container: &[u8], asked: &Asked) -> Option<Running> {
+    let procedure = procedure_of(alloc, container)?;
     let core = Core::new(alloc, chains(alloc, asked.nodes, asked.chain)?).ok()?;
     let mut running = Running::new(alloc, core).ok()?;
-    running
-        .add_proc(alloc, NAME, procedure_of(alloc, container)?)
-        .ok()?;
-    Some(running)
+    match running.add_proc(alloc, NAME, procedure) {
+        Ok(_) => Some(running),
+        Err(_) => None,
+    }
 }
 
 // The arguments of the calls.

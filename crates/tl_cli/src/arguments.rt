@@ -145,7 +145,15 @@ fn audit_command<'a>(alloc: Global) -> Result<Command<'a>, AllocError> {
             "Says whether the calls of a trail may have done what it tells, and prints their order",
         )
         .after_help(AUDIT_HELP)
-        .arg(file_arg(alloc, "TRAIL", "The file of the trail, as JSON"))
+        .arg(
+            file_arg(
+                alloc,
+                "TRAIL",
+                "The file of the trail, as JSON; several that follow each other; or a folder of such files",
+            )
+            .action(ArgAction::Append)
+            .num_args(1..),
+        )
 }
 
 fn trail_arg<'a>(alloc: Global) -> Arg<'a> {
@@ -186,6 +194,65 @@ fn run_command<'a>(alloc: Global) -> Result<Command<'a>, AllocError> {
         .arg(file_arg(alloc, "SCRIPT", "The file of the script, as JSON"))
 }
 
+// Who is served: how many connections, how many at once, and for how long one may be silent.
+fn with_connection_args<'a>(
+    alloc: Global,
+    command: Command<'a>,
+) -> Result<Command<'a>, AllocError> {
+    let connections = Arg::new(alloc, "connections")
+        .long("connections")
+        .value_name("C")
+        .value_parser(value_parser!(u16).range(1..))
+        .required_if_eq("seal", "by-hand")?
+        .help(
+            "How many connections are served in all, 1 to 65535; if not given, any number until the server is stopped",
+        );
+    let at_once = Arg::new(alloc, "at-once")
+        .long("at-once")
+        .value_name("N")
+        .value_parser(value_parser!(u16).range(1..=1024))
+        .default_value("8")
+        .help("How many connections may be open at once, 1 to 1024");
+    let control = Arg::new(alloc, "control")
+        .long("control")
+        .value_name("P")
+        .value_parser(value_parser!(u16).range(1..))
+        .required_unless_present("connections")?
+        .help("A second port of this machine, on which `treedb stop` asks the server to end");
+    let idle = Arg::new(alloc, "idle")
+        .long("idle")
+        .value_name("S")
+        .value_parser(value_parser!(u16).range(1..))
+        .help("After how many seconds a connection is ended that sends nothing or takes no answer");
+    command
+        .arg(connections)?
+        .arg(at_once)?
+        .arg(control)?
+        .arg(idle)
+}
+
+// How a server goes on when an epoch is full.
+fn with_epoch_args<'a>(alloc: Global, command: Command<'a>) -> Result<Command<'a>, AllocError> {
+    let seal = Arg::new(alloc, "seal").long("seal").value_name("HOW").help(
+        "Who seals an epoch that is full: its clients, `by-hand`, or the server, `itself`, as it does if --connections isn't given",
+    );
+    let generation = Arg::new(alloc, "generation")
+        .long("generation")
+        .value_name("G")
+        .value_parser(value_parser!(u16).range(1..=128))
+        .help(
+            "After how many epochs a server that seals itself begins a new generation, 1 to 128; 16 if not given",
+        );
+    let trails = Arg::new(alloc, "trails")
+        .long("trails")
+        .value_name("FOLDER")
+        .conflicts_with("trail")?
+        .help(
+            "The folder that each generation's trails are written to, as 0.json, 1.json and so on",
+        );
+    command.arg(seal)?.arg(generation)?.arg(trails)
+}
+
 fn serve_command<'a>(alloc: Global) -> Result<Command<'a>, AllocError> {
     let port = Arg::new(alloc, "port")
         .long("port")
@@ -193,34 +260,15 @@ fn serve_command<'a>(alloc: Global) -> Result<Command<'a>, AllocError> {
         .required(true)
         .value_parser(value_parser!(u16).range(1..))
         .help("The port of this machine, 1 to 65535");
-    let connections = Arg::new(alloc, "connections")
-        .long("connections")
-        .value_name("C")
-        .required(true)
-        .value_parser(value_parser!(u16).range(1..))
-        .help("How many connections are served in all, 1 to 65535");
-    let control = Arg::new(alloc, "control")
-        .long("control")
-        .value_name("P")
-        .value_parser(value_parser!(u16).range(1..))
-        .help("A second port of this machine, on which `treedb stop` asks the server to end");
-    let idle = Arg::new(alloc, "idle")
-        .long("idle")
-        .value_name("S")
-        .value_parser(value_parser!(u16).range(1..))
-        .help("After how many seconds a connection is ended that sends nothing or takes no answer");
-    Command::new(alloc, "serve")
+    let command = Command::new(alloc, "serve")
         .about(
-            "Serves connections on a local port, a request a line, and prints the order of their calls",
+            "Serves connections on a local port, a request a line, and prints the tree in the end",
         )
         .after_help(SERVE_HELP)
         .arg(tree_arg(alloc))?
-        .arg(port)?
-        .arg(connections)?
-        .arg(control)?
-        .arg(idle)?
-        .arg(trail_arg(alloc))?
-        .arg(save_arg(alloc))
+        .arg(port)?;
+    let command = with_epoch_args(alloc, with_connection_args(alloc, command)?)?;
+    command.arg(trail_arg(alloc))?.arg(save_arg(alloc))
 }
 
 fn stop_command<'a>(alloc: Global) -> Result<Command<'a>, AllocError> {

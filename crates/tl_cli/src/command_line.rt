@@ -37,20 +37,47 @@ pub enum CallCommand<'a> {
         script: ScriptFiles<'a>,
     },
     /// Serve connections on a local port.
-    Serve(ServeOptions),
+    Serve(ServeOptions<'a>),
 }
 
 /// How a server is run.
 #[derive(Clone, Copy)]
-pub struct ServeOptions {
+pub struct ServeOptions<'a> {
     pub port: u16,
-    /// How many connections it serves in all.
-    pub connections: u16,
+    /// How many connections may be open at once.
+    pub at_once: u16,
     /// The local port on which it can be asked to stop.
     pub control: Option<u16>,
     /// After how many seconds a silent connection is ended.
     pub idle: Option<u16>,
+    pub sealing: Sealing<'a>,
 }
+
+/// Who seals an epoch that is full.
+#[derive(Clone, Copy)]
+pub enum Sealing<'a> {
+    /// The clients. The server ends after so many connections.
+    ByHand { connections: u16 },
+    /// The server itself.
+    Itself(LastingOptions<'a>),
+}
+
+/// How a server goes on that seals its epochs by itself.
+#[derive(Clone, Copy)]
+pub struct LastingOptions<'a> {
+    /// How many connections it serves in all; any number if `None`.
+    pub connections: Option<u16>,
+    /// After how many epochs a new generation begins.
+    pub generation: u16,
+    /// The folder of the generations' trails.
+    pub trails: Option<&'a str>,
+}
+
+/// After how many epochs a new generation begins, if the command line doesn't say.
+const GENERATION: u16 = 16;
+
+/// How many connections may be open at once, if the command line doesn't say.
+const AT_ONCE: u16 = 8;
 
 /// A command that turns a file into another, or says what is in it.
 #[derive(Clone, Copy)]
@@ -59,10 +86,6 @@ pub enum FileCommand<'a> {
     Assemble {
         text: &'a str,
         container: &'a str,
-    },
-    /// Say whether the calls of a trail may have done what it says.
-    Audit {
-        trail: &'a str,
     },
     /// Say what a procedure does at most, or where its text is wrong.
     Check {
@@ -107,6 +130,10 @@ pub enum Request<'a> {
         outputs: Outputs<'a>,
     },
     Files(FileCommand<'a>),
+    /// Say whether the calls of trails may have done what these say. Each file or folder goes on where the one before it ends.
+    Audit {
+        trails: Vec<&'a str>,
+    },
     /// Ask the server with this control port to stop.
     Stop {
         control: u16,
@@ -119,16 +146,49 @@ pub enum Asked<'a> {
     Request(Request<'a>),
     Explanation { number: u16 },
     Told(Error),
+    /// Options that don't go together, and why.
+    Mistaken(&'static str),
+}
+
+// Who seals the epochs of a server; or why the options don't go together.
+fn who_seals<'a>(words: &ArgMatches<'a>) -> Result<Sealing<'a>, &'static str> {
+    let connections = words.get_one("connections");
+    let is_by_hand = match words.get_str("seal") {
+        Some("by-hand") => true,
+        Some("itself") => false,
+        Some(_) => return Err("--seal is followed by by-hand or itself"),
+        None => connections.is_some(),
+    };
+    match connections {
+        Some(_) if is_by_hand && has_lasting_options(words) => {
+            Err("--generation and --trails are for a server that seals itself: --seal itself")
+        }
+        Some(connections) if is_by_hand => Ok(Sealing::ByHand { connections }),
+        connections => Ok(Sealing::Itself(LastingOptions {
+            connections,
+            generation: words.get_one("generation").unwrap_or(GENERATION),
+            trails: words.get_str("trails"),
+        })),
+    }
+}
+
+fn has_lasting_options(words: &ArgMatches<'_>) -> bool {
+    words.contains_id("generation") || words.contains_id("trails")
+}
+
+// The words of all arguments of that name.
+fn all_of<'a>(alloc: Global, words: &ArgMatches<'a>, name: &str) -> Option<Vec<&'a str>> {
+    let mut all = Vec::new(alloc);
+    for word in words.get_strs(name).unwrap_or(&[]) {
+        all.push(*word).ok()?;
+    }
+    Some(all)
 }
 
 fn script_of<'a>(alloc: Global, words: &ArgMatches<'a>) -> Option<ScriptFiles<'a>> {
-    let mut procedures = Vec::new(alloc);
-    for named in words.get_strs("proc").unwrap_or(&[]) {
-        procedures.push(*named).ok()?;
-    }
     Some(ScriptFiles {
         script: words.get_str("SCRIPT")?,
-        procedures,
+        procedures: all_of(alloc, words, "proc")?,
     })
 }
 
@@ -147,9 +207,10 @@ fn call_command<'a>(alloc: Global, name: &str, words: &ArgMatches<'a>) -> Option
         }),
         "serve" => Some(CallCommand::Serve(ServeOptions {
             port: words.get_one("port")?,
-            connections: words.get_one("connections")?,
+            at_once: words.get_one("at-once").unwrap_or(AT_ONCE),
             control: words.get_one("control"),
             idle: words.get_one("idle"),
+            sealing: who_seals(words).ok()?,
         })),
         _ => None,
     }
@@ -160,9 +221,6 @@ fn file_command<'a>(name: &str, words: &ArgMatches<'a>) -> Option<FileCommand<'a
         "asm" => Some(FileCommand::Assemble {
             text: words.get_str("IN")?,
             container: words.get_str("OUT")?,
-        }),
-        "audit" => Some(FileCommand::Audit {
-            trail: words.get_str("TRAIL")?,
         }),
         "check" => Some(FileCommand::Check {
             file: words.get_str("FILE")?,
@@ -205,6 +263,16 @@ fn asked_of<'a>(alloc: Global, matches: &ArgMatches<'a>) -> Option<Asked<'a>> {
         return Some(Asked::Request(Request::Stop {
             control: words.get_one("port")?,
         }));
+    }
+    if name == "audit" {
+        return Some(Asked::Request(Request::Audit {
+            trails: all_of(alloc, words, "TRAIL")?,
+        }));
+    }
+    if name == "serve" {
+        if let Err(reason) = who_seals(words) {
+            return Some(Asked::Mistaken(reason));
+        }
     }
     if let Some(command) = file_command(name, words) {
         return Some(Asked::Request(Request::Files(command)));

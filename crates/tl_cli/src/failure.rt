@@ -3,26 +3,44 @@
 use std::alloc::{AllocError, AllocFailed};
 use std::{fmt, io};
 use tl_commands::CliFault;
+use tl_language_commands::LanguageFault;
 
-/// The fault of a command; a file that can't be read or written, with the system's reason; a port that can't be opened; or
-/// a server that isn't there.
+/// The fault of a command, or of a command on a text of the procedure language; a file that can't be read or written, with the
+/// system's reason; a port that can't be opened; or a server that isn't there.
 #[derive(Drop)]
 pub enum Failure<'a> {
     Refused(CliFault),
+    RefusedText(LanguageFault),
     Unreadable { path: &'a str, reason: io::Error },
     Unwritable { path: &'a str, reason: io::Error },
     NoPort { port: u16 },
     NoServer { port: u16, reason: io::Error },
 }
 
+/// A fault whose numbers stand for a failure on standard output.
+#[derive(Clone, Copy)]
+pub enum Fault {
+    Command(CliFault),
+    Text(LanguageFault),
+}
+
 impl Failure<'_> {
     /// The fault whose numbers stand for the failure on standard output.
-    pub fn fault(&self) -> CliFault {
+    pub fn fault(&self) -> Fault {
         match self {
-            Failure::Refused(fault) => *fault,
-            Failure::Unreadable { .. } => CliFault::Unreadable,
-            Failure::Unwritable { .. } => CliFault::Unwritable,
-            Failure::NoPort { .. } | Failure::NoServer { .. } => CliFault::NoPort,
+            Failure::Refused(fault) => Fault::Command(*fault),
+            Failure::RefusedText(fault) => Fault::Text(*fault),
+            Failure::Unreadable { .. } => Fault::Command(CliFault::Unreadable),
+            Failure::Unwritable { .. } => Fault::Command(CliFault::Unwritable),
+            Failure::NoPort { .. } | Failure::NoServer { .. } => Fault::Command(CliFault::NoPort),
+        }
+    }
+
+    /// The program's exit status.
+    pub fn status(&self) -> u8 {
+        match self.fault() {
+            Fault::Command(fault) => fault.status(),
+            Fault::Text(fault) => fault.status(),
         }
     }
 }
@@ -49,6 +67,7 @@ impl fmt::Display for Failure<'_> {
     fn fmt<W: fmt::Write>(&self, f: &mut fmt::Formatter<W>) -> fmt::Result {
         match self {
             Failure::Refused(fault) => write!(f, "{fault}"),
+            Failure::RefusedText(fault) => write!(f, "{fault}"),
             Failure::Unreadable { path, reason } => write!(f, "{path} can't be read: {reason}"),
             Failure::Unwritable { path, reason } => write!(f, "{path} can't be written: {reason}"),
             Failure::NoPort { port } => write!(f, "the port {port} can't be opened"),

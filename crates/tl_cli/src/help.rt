@@ -31,6 +31,8 @@ Else it prints what is wrong first: {\"error\":[711,event]}, a rule broken; 712,
 that isn't done; 717, another reply; {\"error\":[716,node]}, another record in the end. On a terminal its progress is shown.
 A file that is a list is a chain, one trail an epoch: this prints {\"orders\":[..]}, or {\"error\":[718,trail]} where a trail
 doesn't take over where the one before it ends, or {\"error\":[719,trail,..]} with what is wrong with a trail.
+Of several files, each has to go on where the one before it ends: treedb audit 0.json 1.json prints {\"orders\":[..]} for each file,
+or what is wrong with it, and names it. So does treedb audit FOLDER with the files 0.json, 1.json and so on of a folder.
 Exit status: 0 done, 1 refused, 2 a mistake on the command line, 3 a file that can't be read, 4 memory.";
 
 pub const COMPILE_HELP: &str = "\
@@ -78,25 +80,28 @@ is the list of the epochs' trails.
 Exit status: 0 done, 1 refused, 2 a mistake on the command line, 3 a file that can't be read or written, 4 memory.";
 
 pub const SERVE_HELP: &str = "\
-Example: treedb serve --tree one-node.json --port 7878 --connections 1
+Example: treedb serve --tree one-node.json --port 7878 --control 7879
 says on standard error that it listens on 127.0.0.1:7878. Then, from another terminal,
     nc -N 127.0.0.1 7878 < requests.txt
 sends the lines of a file, each a request: {\"op\":\"register\",\"name\":\"add\",\"asm\":\"arity 2\\n..\"},
 {\"op\":\"call\",\"proc\":\"add\",\"args\":[0,3]}, {\"op\":\"batch\",\"calls\":[[\"add\",[0,3]],..],\"workers\":2}, {\"op\":\"seal\"} or
-{\"op\":\"close\"}. Each is answered by a line, in order. When all connections have ended, this prints {\"order\":[..]}, the
-order in which their calls would do the same alone, and then the tree as JSON. With --trail the calls, what they did and the
-records in the end are written to a file, which treedb audit checks. At most 8 connections are open at once.
-With --control P it also ends when treedb stop --port P asks for it: each line that was read is answered, and the connections
-are ended. With --idle S a connection ends that sends nothing for S seconds.
-After 4,096 calls a seal begins a new epoch, which goes on with the tree as it is; then this prints {\"orders\":[..]}, the order
-in each epoch, and the file is the list of the epochs' trails.
+{\"op\":\"close\"}. Each is answered by a line, in order.
+treedb stop --port 7879 ends it: each line that was read is answered, the connections are ended, and this prints
+{\"generations\":n} and the tree as JSON. An epoch that is full, after 4,096 calls, is sealed, and the next goes on with the tree as
+it is. After G epochs a new generation begins. With --trails FOLDER a file there has what the calls of a generation did, 0.json,
+1.json and so on, which is written while lines are answered; treedb audit FOLDER checks them.
+With --connections C it ends by itself after so many connections, and clients seal full epochs: after 4,096 calls each call
+is refused until one does. Then this prints {\"order\":[..]}, the order in which the calls would do the same alone, or
+{\"orders\":[..]}, the order in each epoch, and the tree. With --trail what the calls did and the records in the end are
+written to a file, which treedb audit checks. --seal itself and --seal by-hand choose between the two.
+With --idle S a connection ends that sends nothing for S seconds, or takes no answer for so long.
 Exit status: 0 done, 1 refused, 2 a mistake on the command line, 3 a file that can't be read or written, or a port
 that can't be opened, 4 memory.";
 
 pub const STOP_HELP: &str = "\
 Example: treedb stop --port 7879
 asks the server that was started with --control 7879 to end, and prints {\"stopping\":true}. The server takes up no more
-connections, answers each line that it has read whole, and prints the order and the tree.
+connections, answers each line that it has read whole, and prints the tree.
 Exit status: 0 asked, 2 a mistake on the command line, 3 nobody answers on the port, 4 memory.";
 
 pub const VERIFY_HELP: &str = "\

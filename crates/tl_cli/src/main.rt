@@ -1,6 +1,7 @@
 //! The program `treedb`.
 #![tactic(auto)]
 
+mod archive;
 mod arguments;
 mod command_line;
 mod explain;
@@ -13,6 +14,7 @@ mod progress;
 mod script;
 mod trail_file;
 
+use archive::{Archive, Finish, Trails};
 use clap::Error;
 use command_line::Asked;
 use program::Program;
@@ -24,10 +26,14 @@ use std::sync::Wait;
 use std::thread::Threads;
 use std::time::Clock;
 pub use tl_commands::{
-    CliFault, alone_cmd, asm_cmd, audit_cmd, check_cmd, check_procs_cmd, compile_cmd,
-    conclude_engine, conclude_engine_with_trail, dis_cmd, drive_cmd, drive_with_trail_cmd,
-    migrate_cmd, open_engine, procs_cmd, run_cmd, run_with_trail_cmd, verify_cmd, widen_cmd,
+    CliFault, Generation, alone_cmd, asm_cmd, audit_cmd, audit_next_cmd, check_cmd,
+    close_generation, conclude_engine, conclude_engine_with_trail, dis_cmd, drive_cmd,
+    drive_with_trail_cmd, keep_generation, migrate_cmd, next_engine, open_engine, open_generations,
+    run_cmd, run_with_trail_cmd, take_generation, verify_cmd, widen_cmd,
 };
+use tl_generations::Succession;
+pub use tl_language_commands::{LanguageFault, check_procs_cmd, compile_cmd, procs_cmd};
+use tl_server::Keeper;
 
 /// The exit status if memory is refused before a command is known. Nothing is printed then.
 const NO_MEMORY: u8 = 4;
@@ -61,7 +67,7 @@ fn tell<R: Print + Eprint>(rt: &R, error: &Error) -> u8 {
 }
 
 // Does what the words of the command line ask for, and returns the exit status.
-fn answer<R>(rt: &R, words: &[String], is_terminal: bool) -> u8
+fn answer<R, K, F>(rt: &R, words: &[String], is_terminal: bool, archive: F) -> u8
 where
     R: Files
         + Print
@@ -71,19 +77,35 @@ where
         + Threads
         + Wait
         + Clock
+        + Clone
+        + Drop
         + Sync,
+    K: Keeper + Finish + Send + Drop,
+    F: FnOnce(Trails, Succession) -> K + Drop,
+    requires { F.IsAlwaysCallable archive }
 {
     match command_line::parse(rt.alloc(), words) {
-        Ok(Asked::Request(request)) => Program::new(rt, is_terminal).execute(&request),
+        Ok(Asked::Request(request)) => Program::new(rt, is_terminal).execute(&request, archive),
         Ok(Asked::Explanation { number }) => explain::explain(rt, number),
         Ok(Asked::Told(error)) => tell(rt, &error),
+        Ok(Asked::Mistaken(reason)) => {
+            let _shown = eprintln!(rt;
+                "error: {reason}\n\nFor more information, try 'treedb --help'."
+            );
+            MISTAKE
+        }
         Err(_) => NO_MEMORY,
     }
 }
 
 fn main(rt: HostRuntime) -> ExitCode {
     let status = match words(&rt) {
-        Ok(words) => answer(&rt, &words, rt.stderr().is_terminal()),
+        Ok(words) => answer(
+            &rt,
+            &words,
+            rt.stderr().is_terminal(),
+            |trails, succession| Archive::new(rt, trails, succession),
+        ),
         Err(status) => status,
     };
     ExitCode::from(status)

@@ -1,24 +1,24 @@
 // Failures, printed.
 
-use crate::failure::Failure;
+use crate::failure::{Failure, Fault};
 use serde_json::Value;
 use std::alloc::Global;
 use std::io;
 use tl_asm::{AsmFault, instruction_lines};
 use tl_commands::CliFault;
 use tl_compiler::Position;
+use tl_language_commands::LanguageFault;
 use tl_trail::TrailFault;
 use tl_tree::TreeFault;
 
 /// The longest line that is quoted.
 const MAX_QUOTED: usize = 400;
 
-/// Prints a failure: its numbers on standard output, `{"error":[..]}`, and its message for people on standard error.
-pub fn print_failure<R: Print + Eprint>(rt: &R, failure: &Failure<'_>) -> io::Result<()> {
-    let _shown = eprintln!(rt; "treedb: {failure}");
+// Prints a fault's numbers, `{"error":[..]}`.
+fn print_numbers<R: Print>(rt: &R, numbers: &[u64]) -> io::Result<()> {
     rt.print("{\"error\":[")?;
     let mut is_first = true;
-    for number in failure.fault().numbers().as_slice() {
+    for number in numbers {
         if !is_first {
             rt.print(",")?;
         }
@@ -26,6 +26,15 @@ pub fn print_failure<R: Print + Eprint>(rt: &R, failure: &Failure<'_>) -> io::Re
         print!(rt; "{number}")?;
     }
     rt.println("]}")
+}
+
+/// Prints a failure: its numbers on standard output, `{"error":[..]}`, and its message for people on standard error.
+pub fn print_failure<R: Print + Eprint>(rt: &R, failure: &Failure<'_>) -> io::Result<()> {
+    let _shown = eprintln!(rt; "treedb: {failure}");
+    match failure.fault() {
+        Fault::Command(fault) => print_numbers(rt, fault.numbers().as_slice()),
+        Fault::Text(fault) => print_numbers(rt, fault.numbers().as_slice()),
+    }
 }
 
 /// The exit status after printing: `status`, or 3 if standard output can't be written. Standard error says so then.
@@ -73,13 +82,6 @@ pub fn place_of(alloc: Global, text: &str, fault: &CliFault) -> Option<Place> {
             line: *line,
             column: None,
         }),
-        CliFault::Compile(fault) => {
-            let Position { line, column } = fault.position()?;
-            Some(Place {
-                line,
-                column: Some(column),
-            })
-        }
         CliFault::Verify(fault) => {
             let position = *fault.numbers().as_slice().get(1)?;
             Some(Place {
@@ -92,6 +94,18 @@ pub fn place_of(alloc: Global, text: &str, fault: &CliFault) -> Option<Place> {
         | CliFault::NotScript => place_in_json(alloc, text),
         _ => None,
     }
+}
+
+/// The place of the fault of a text of the procedure language, if the fault is at one place.
+pub fn place_in_language(fault: &LanguageFault) -> Option<Place> {
+    let LanguageFault::Compile(fault) = fault else {
+        return None;
+    };
+    let Position { line, column } = fault.position()?;
+    Some(Place {
+        line,
+        column: Some(column),
+    })
 }
 
 // How many bytes of the line come before the place. If the column isn't known, these are the leading blanks.

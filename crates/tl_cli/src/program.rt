@@ -1,26 +1,29 @@
-// The commands with their files: each file is read, a command of `tl_commands` answers, and its result is written and
+// The commands with their files: each file is read, a command of `tl_commands` or `tl_language_commands` answers, and its result is written and
 // printed.
 
-use crate::command_line::{CallCommand, FileCommand, Outputs, Request, ScriptFiles, ServeOptions};
+mod auditing;
+mod serving;
+
+use crate::archive::{Finish, Trails};
+use crate::command_line::{CallCommand, FileCommand, Outputs, Request, ScriptFiles};
 use crate::failure::Failure;
-use crate::progress::Shown;
 use crate::script::{NamedText, RefusedProcedure, first_refused, named_in_list, with_procedures};
 use crate::trail_file::TrailFile;
 use crate::{
-    CliFault, alone_cmd, asm_cmd, audit_cmd, check_cmd, check_procs_cmd, compile_cmd,
-    conclude_engine, conclude_engine_with_trail, dis_cmd, drive_cmd, drive_with_trail_cmd,
-    migrate_cmd, open_engine, output, procs_cmd, run_cmd, run_with_trail_cmd, verify_cmd,
-    widen_cmd,
+    CliFault, LanguageFault, alone_cmd, asm_cmd, check_cmd, check_procs_cmd, compile_cmd, dis_cmd,
+    drive_cmd, drive_with_trail_cmd, migrate_cmd, output, procs_cmd, run_cmd, run_with_trail_cmd,
+    verify_cmd, widen_cmd,
 };
 use std::io::ErrorKind;
 use std::net::{Net, TcpListener, TcpStream};
 use std::rt::Files;
 use std::sync::Wait;
 use std::thread::Threads;
-use std::time::{Clock, Duration};
+use std::time::Clock;
 use tl_compiler::CompileFault;
-use tl_server::{Control, ListenFault, Server, ask_to_stop};
-use tl_workers::{Engine, MAX_WORKERS, NoGate, Session};
+use tl_generations::Succession;
+use tl_server::Keeper;
+use tl_workers::{MAX_WORKERS, NoGate};
 
 // A file that was read: its path, and its bytes.
 #[derive(Drop)]
@@ -87,6 +90,16 @@ impl<'a, R: Files + Print + Eprint + AllocGlobal> Program<'a, R> {
         Failure::Refused(fault)
     }
 
+    // The same of a text of the procedure language.
+    fn misread_language<'p>(&self, path: &str, text: &[u8], fault: LanguageFault) -> Failure<'p> {
+        if let Ok(text) = std::str::from_utf8(text) {
+            if let Some(place) = output::place_in_language(&fault) {
+                output::point_at(self.rt, path, text, place);
+            }
+        }
+        Failure::RefusedText(fault)
+    }
+
     fn assemble<'p>(&self, path: &'p str, container: &'p str) -> Result<String, Failure<'p>> {
         let text = self.read_file(path)?;
         let (line, bytes) = match asm_cmd(self.rt.alloc(), &text) {
@@ -99,11 +112,11 @@ impl<'a, R: Files + Print + Eprint + AllocGlobal> Program<'a, R> {
 
     fn check<'p>(&self, path: &'p str) -> Result<String, Failure<'p>> {
         let file = self.read_file(path)?;
-        let checked = if has_language(path) {
-            check_procs_cmd(self.rt.alloc(), &file)
-        } else {
-            check_cmd(self.rt.alloc(), &file)
-        };
+        if has_language(path) {
+            let checked = check_procs_cmd(self.rt.alloc(), &file);
+            return checked.map_err(|fault| self.misread_language(path, &file, fault));
+        }
+        let checked = check_cmd(self.rt.alloc(), &file);
         checked.map_err(|fault| self.misread(path, &file, fault))
     }
 
@@ -116,7 +129,7 @@ impl<'a, R: Files + Print + Eprint + AllocGlobal> Program<'a, R> {
         let text = self.read_file(path)?;
         let (line, bytes) = match compile_cmd(self.rt.alloc(), &text, procedure) {
             Ok(answer) => answer,
-            Err(fault) => return Err(self.misread(path, &text, fault)),
+            Err(fault) => return Err(self.misread_language(path, &text, fault)),
         };
         self.write_file(container, &bytes)?;
         Ok(line)
@@ -126,7 +139,7 @@ impl<'a, R: Files + Print + Eprint + AllocGlobal> Program<'a, R> {
         let text = self.read_file(path)?;
         match procs_cmd(self.rt.alloc(), &text) {
             Ok(line) => Ok(line),
-            Err(fault) => Err(self.misread(path, &text, fault)),
+            Err(fault) => Err(self.misread_language(path, &text, fault)),
         }
     }
 
@@ -163,7 +176,7 @@ impl<'a, R: Files + Print + Eprint + AllocGlobal> Program<'a, R> {
         if has_language(path) {
             let texts = named_in_list(alloc, &self.procedures(path)?, Some(name))?;
             if texts.is_empty() {
-                return Err(Failure::Refused(CliFault::Compile(CompileFault::NotOne)));
+                return Err(Failure::RefusedText(LanguageFault::Compile(CompileFault::NotOne)));
             }
             return Ok(texts);
         }
@@ -250,14 +263,6 @@ impl<'a, R: Files + Print + Eprint + AllocGlobal> Program<'a, R> {
             Err(reason) => Err(Failure::Unwritable { path, reason }),
         }
     }
-
-    fn audit<'p>(&self, path: &'p str) -> Result<String, Failure<'p>> {
-        let trail = self.read_file(path)?;
-        let mut shown = Shown::new(self.rt, self.is_terminal);
-        let answer = audit_cmd(self.rt.alloc(), &trail, &mut shown);
-        shown.end();
-        answer.map_err(|fault| self.misread(path, &trail, fault))
-    }
 }
 
 // What is printed after a trail's file was written, or why it wasn't.
@@ -306,14 +311,6 @@ impl<'a, R: Files + Print + Eprint + AllocGlobal + Threads + Wait + Sync> Progra
     }
 }
 
-// Why the program doesn't listen on a port.
-fn not_bound<'p>(port: u16, fault: ListenFault) -> Failure<'p> {
-    match fault {
-        ListenFault::NoPort => Failure::NoPort { port },
-        ListenFault::Memory => Failure::Refused(CliFault::Memory),
-    }
-}
-
 impl<'a, R> Program<'a, R>
 where
     R: Files
@@ -324,83 +321,29 @@ where
         + Threads
         + Wait
         + Clock
+        + Clone
+        + Drop
         + Sync,
 {
-    // Listens on a port, and says so to people. 33 if the port can't be opened.
-    fn listen<'p>(&self, options: ServeOptions) -> Result<Server, Failure<'p>> {
-        let ServeOptions {
-            port,
-            connections,
-            control: _,
-            idle,
-        } = options;
-        let bound = Server::bind(self.rt, self.rt.alloc(), port, connections);
-        let server = bound.map_err(|fault| not_bound(port, fault))?;
-        let _shown = eprintln!(self.rt; "treedb: listening on 127.0.0.1:{port}");
-        Ok(match idle {
-            Some(seconds) => server.ending_idle(Duration::from_secs(u64::from(seconds))),
-            None => server,
-        })
-    }
-
-    // The sessions of a server's connections, once all have ended, or once it was asked to stop.
-    fn sessions_of<'p>(
-        &self,
-        engine: &Engine,
-        options: ServeOptions,
-    ) -> Result<Vec<Session>, Failure<'p>> {
-        let alloc = self.rt.alloc();
-        let Some(port) = options.control else {
-            return Ok(self.listen(options)?.serve(self.rt, alloc, engine));
-        };
-        let bound = Control::bind(self.rt, port);
-        let control = bound.map_err(|fault| not_bound(port, fault))?;
-        let server = self.listen(options)?;
-        let _shown = eprintln!(self.rt; "treedb: treedb stop --port {port} ends it");
-        let served = server.serve_until_stopped(self.rt, alloc, engine, &control);
-        served.map_err(|fault| not_bound(port, fault))
-    }
-
-    // The trail is written to a file, if one is named, once all connections have ended.
-    fn serve<'p>(
-        &self,
-        tree: &'p str,
-        options: ServeOptions,
-        trail: Option<&'p str>,
-    ) -> Result<String, Failure<'p>> {
-        let tree = self.read_file(tree)?;
-        let alloc = self.rt.alloc();
-        let engine = open_engine(alloc, &tree)?;
-        let sessions = self.sessions_of(&engine, options)?;
-        let Some(path) = trail else {
-            return Ok(conclude_engine(alloc, engine, sessions)?);
-        };
-        let mut file = TrailFile::new(self.rt, path);
-        let concluded = conclude_engine_with_trail(alloc, engine, sessions, &mut file);
-        printed(path, file, concluded)
-    }
-
-    // Asks a server to stop.
-    fn stop<'p>(&self, port: u16) -> Result<String, Failure<'p>> {
-        match ask_to_stop(self.rt, port) {
-            Ok(()) => Ok(String::from_str(self.rt.alloc(), "{\"stopping\":true}\n")?),
-            Err(reason) => Err(Failure::NoServer { port, reason }),
-        }
-    }
-
     // What a command that runs calls prints. If a file is named for the final tree, it is written before that.
-    fn answer_calls<'p>(
+    fn answer_calls<'p, K, F>(
         &self,
         tree: &'p str,
         command: &CallCommand<'p>,
         outputs: Outputs<'p>,
-    ) -> Result<String, Failure<'p>> {
+        archive: F,
+    ) -> Result<String, Failure<'p>>
+    where
+        K: Keeper + Finish + Send + Drop,
+        F: FnOnce(Trails, Succession) -> K + Drop,
+        requires { F.IsAlwaysCallable archive }
+    {
         let trail = outputs.trail;
         let lines = match command {
             CallCommand::Alone { procedure, args } => self.alone(tree, procedure, args)?,
             CallCommand::Drive { script } => self.drive(tree, script, trail)?,
             CallCommand::Run { workers, script } => self.run(tree, *workers, script, trail)?,
-            CallCommand::Serve(options) => self.serve(tree, *options, trail)?,
+            CallCommand::Serve(options) => self.serve(tree, *options, outputs, archive)?,
         };
         if let Some(path) = outputs.tree {
             self.save(path, &lines)?;
@@ -412,7 +355,6 @@ where
     fn answer_files<'p>(&self, command: FileCommand<'p>) -> Result<String, Failure<'p>> {
         match command {
             FileCommand::Assemble { text, container } => self.assemble(text, container),
-            FileCommand::Audit { trail } => self.audit(trail),
             FileCommand::Check { file } => self.check(file),
             FileCommand::Compile {
                 text,
@@ -432,25 +374,37 @@ where
     }
 
     // What the program prints for a request.
-    fn answer<'p>(&self, request: &Request<'p>) -> Result<String, Failure<'p>> {
+    fn answer<'p, K, F>(&self, request: &Request<'p>, archive: F) -> Result<String, Failure<'p>>
+    where
+        K: Keeper + Finish + Send + Drop,
+        F: FnOnce(Trails, Succession) -> K + Drop,
+        requires { F.IsAlwaysCallable archive }
+    {
         match request {
             Request::Calls {
                 tree,
                 command,
                 outputs,
-            } => self.answer_calls(tree, command, *outputs),
+            } => self.answer_calls(tree, command, *outputs, archive),
             Request::Files(command) => self.answer_files(*command),
+            Request::Audit { trails } => self.audit(trails),
             Request::Stop { control } => self.stop(*control),
         }
     }
 
-    /// Does what a request asks for, prints the result, and returns the exit status.
-    pub fn execute(&self, request: &Request<'_>) -> u8 {
-        match self.answer(request) {
+    /// Does what a request asks for, prints the result, and returns the exit status. `archive` makes what closes the engines of a server
+    /// that lasts, of which a generic program couldn't say that it may be sent to a thread.
+    pub fn execute<'p, K, F>(&self, request: &Request<'p>, archive: F) -> u8
+    where
+        K: Keeper + Finish + Send + Drop,
+        F: FnOnce(Trails, Succession) -> K + Drop,
+        requires { F.IsAlwaysCallable archive }
+    {
+        match self.answer(request, archive) {
             Ok(text) => output::status_after(self.rt, self.rt.print(text.as_str()), 0),
             Err(failure) => {
                 let printed = output::print_failure(self.rt, &failure);
-                output::status_after(self.rt, printed, failure.fault().status())
+                output::status_after(self.rt, printed, failure.status())
             }
         }
     }

@@ -1,5 +1,5 @@
 -- Which texts begin with a list.
-use Rattle.std.proofs.Common.{◌≡◌, ◌+◌, ◌<◌, ◌≤◌, ◌==◌, ◌||◌, ◌&&◌, ℕ, nat_le, zero, suc, List, [], ◌∷◌, length, get_or, drop, true, false, if◌then◌else◌, Some, IsUtf8, inr, refl, sym, ap, ◌∙◌, subst, arith}
+use Rattle.std.proofs.Common.{◌≡◌, ◌+◌, ◌<◌, ◌≤◌, ◌==◌, ◌||◌, ◌&&◌, ℕ, nat_le, zero, suc, List, [], ◌∷◌, ◌++◌, length, get_or, drop, true, false, if◌then◌else◌, Option, Some, IsUtf8, inr, refl, sym, ap, ◌∙◌, subst, arith}
 use Rattle.std.proofs.lemmas.Bool.{leb-true, and_parts}
 use Rattle.std.proofs.lemmas.List.{drop_more}
 use Rattle.std.proofs.lemmas.Option.{cond_some, option_and_then_some}
@@ -9,6 +9,7 @@ use Rattle.tl_json.specs.Lists.{list_of}
 use Rattle.tl_trail.specs.Trails.{TrailValue}
 use Rattle.tl_trail.specs.Chains.{AreEach, IsChainText, if_chain, chain_of}
 use Rattle.tl_trail.proofs.ChainTokenLemmas.{as_many}
+use Rattle.tl_audit.specs.Chains.{last_after}
 use Rattle.tl_commands.specs.declared.fault.CliFault.{CliFault}
 use Rattle.tl_commands.specs.Audit.{begins_with_list, AuditsTrail, AuditsChain, AuditsText, Audits, IsFirstTextFault, IsFirstTrailAuditFault, IsFirstChainAuditFault, IsFirstAuditFault}
 
@@ -44,6 +45,12 @@ pub chain_count : (text : List ℕ) (ts : List TrailValue) → IsChainText text 
 chain_count text ts h =
     option_and_then_some chain_of (read text) h.items h.items_are
     (λ d found listed. option_and_then_some if_chain (list_of d) h.items listed (λ ds seen few. so_many ds h.items ts h.each few))
+
+-- ---- the last of some trails
+
+pub last_pushed : (before : Option TrailValue) (ts : List TrailValue) (t : TrailValue) → last_after before (ts ++ t ∷ []) ≡ Some t
+last_pushed before [] t = refl
+last_pushed before (u ∷ us) t = last_pushed (Some u) us t
 
 -- ---- the fault of a file
 

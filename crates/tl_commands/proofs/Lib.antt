@@ -7,6 +7,5 @@ pub mod ProcedureLines
 mod Rows
 pub mod SinkLemmas
 pub mod ClosingLemmas
-pub mod CompilingLemmas
 pub mod ScriptCounts
 pub mod AuditLemmas

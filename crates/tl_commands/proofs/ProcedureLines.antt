@@ -4,7 +4,8 @@ use Rattle.serde_json.specs.Data.{Data, object, member, no_members}
 use Rattle.serde_json.specs.Written.{has_float, compact_text}
 use Rattle.serde_json.proofs.OnLiterals.{serde_json_on_literals}
 use Rattle.tl_tree.specs.Writing.{integer_data}
-use Rattle.tl_commands.specs.Procedures.{count_text, bounds_data, bounds_text}
+use Rattle.tl_lines.specs.Bounds.{bounds_data}
+use Rattle.tl_commands.specs.Procedures.{count_text, bounds_text}
 use Rattle.tl_commands.specs.Widening.{nodes_text}
 
 -- ---- the values

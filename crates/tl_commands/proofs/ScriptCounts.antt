@@ -1,5 +1,5 @@
 -- How many calls and batches a script of the command `run` has.
-use Rattle.std.proofs.Common.{◌≡◌, ◌<◌, ◌≤◌, ℕ, ℤ, nat_le, ◌&&◌, Bool, true, false, List, [], ◌∷◌, length, get_or, map, codes, Option, Some, None, option_map, option_and_then, if◌then◌else◌, refl, sym, ap, ◌∙◌, subst, arith}
+use Rattle.std.proofs.Common.{◌≡◌, ◌≤◌, ℕ, ℤ, nat_le, ◌&&◌, Bool, true, false, List, [], ◌∷◌, length, get_or, map, codes, Option, Some, None, option_map, option_and_then, if◌then◌else◌, refl, sym, ap, ◌∙◌, subst, arith}
 use Rattle.std.specs.Prelude.{Vec}
 use Rattle.std.specs.Option.{option_or}
 use Rattle.std.specs.declared.alloc.Global.{Global}
@@ -16,7 +16,7 @@ use Rattle.tl_json.specs.Lists.{each_of}
 use Rattle.tl_json.specs.Procedures.{procedure_of}
 use Rattle.tl_json.specs.Requests.{request_form, request_of}
 use Rattle.tl_commands.specs.declared.script.Script.{Script}
-use Rattle.tl_commands.specs.Script.{ScriptValue, BatchesValue, script_view, parts_of, script_of, if_few, batch_form, batch_of, script_of_calls, script_of_epochs, script_of_run}
+use Rattle.tl_commands.specs.Script.{BatchesValue, script_view, parts_of, script_of, if_few, batch_form, batch_of, script_of_calls, script_of_epochs, script_of_run}
 
 -- ---- so many
 

@@ -1,10 +1,10 @@
 -- What a sink has after pieces that were put there one after another.
-use Rattle.std.proofs.Common.{◌≡◌, ◌≢◌, ◌+◌, ◌<◌, ℕ, zero, suc, nat_lt, List, [], ◌∷◌, ◌++◌, length, get_or, take, map, codes, false, true, Option, Some, None, if◌then◌else◌, refl, sym, ap, ◌∙◌, subst, arith, append_assoc, append-nil}
+use Rattle.std.proofs.Common.{◌≡◌, ◌≢◌, ◌+◌, ◌<◌, ℕ, zero, suc, nat_lt, List, [], ◌∷◌, ◌++◌, length, get_or, take, map, codes, false, Option, Some, None, refl, sym, ap, ◌∙◌, subst, arith, append_assoc, append-nil}
 use Rattle.std.proofs.lemmas.Bool.{lt-ltb, ne_eqb}
 use Rattle.std.proofs.lemmas.List.Elements.{All-nil, All-cons, All-head, All-tail}
 use Rattle.std.specs.List.{join_with_byte}
 use Rattle.serde_json.specs.Data.{Data}
-use Rattle.serde_json.specs.Written.{comma_if, compact_text}
+use Rattle.serde_json.specs.Written.{comma_if}
 use Rattle.serde_json.proofs.OnLiterals.{serde_json_on_literals}
 use Rattle.tl_tree.proofs.Texts.{list_written, map-map}
 use Rattle.tl_json.proofs.Texts.{joined, joined_more, list_whole}
@@ -18,7 +18,7 @@ use Rattle.tl_trail.specs.Trails.{TrailValue}
 use Rattle.tl_audit.specs.Chains.{TakesOverFrom, CleanAfter, IsCleanChain}
 use Rattle.tl_trail.specs.Chains.{chain_text}
 use Rattle.tl_trail.specs.Writing.{trail_data, trail_text}
-use Rattle.tl_commands.specs.Sinks.{Adds, AreClean, comma_before, epoch_trail, trails_text, trails_file}
+use Rattle.tl_commands.specs.Sinks.{Adds, AreClean, comma_before, epoch_trail, trails_text}
 
 pub added_then : (old now new : Option (List ℕ)) (xs ys : List ℕ) → Adds old xs now → Adds now ys new → Adds old (xs ++ ys) new
 added_then None now new xs ys h k = tt

@@ -18,7 +18,7 @@ use Rattle.tl_machine.specs.Alone.{alone}
 use Rattle.tl_tree_locking.specs.Alone.{Outcome}
 use Rattle.tl_machine.specs.Outcomes.{outcome_of}
 use Rattle.tl_commands.specs.declared.fault.CliFault.{CliFault}
-use Rattle.tl_commands.specs.declared.fault.CliFault.TheVariants.{Unreadable, Unwritable, NoPort, NotUtf8, Asm, Compile, Tree, Code, Verify, Register, Core, Trail, Audit, Chain, Engine, NotClosed, NotScript, NotArgs, WrongArgs, Memory}
+use Rattle.tl_commands.specs.declared.fault.CliFault.TheVariants.{Unreadable, Unwritable, NoPort, NotUtf8, Asm, Tree, Code, Verify, Register, Core, Trail, Audit, Chain, Engine, NotClosed, NotScript, NotArgs, WrongArgs, Memory}
 
 -- the first line: the reply, and how many instructions were done
 abbrev pub answer_text : List ℤ → ℕ → List ℕ
@@ -70,7 +70,6 @@ IsFirstAloneFault t c a Unwritable = ⊥
 IsFirstAloneFault t c a NoPort = ⊥
 IsFirstAloneFault t c a NotUtf8 = ⊥
 IsFirstAloneFault t c a (Asm f) = ⊥
-IsFirstAloneFault t c a (Compile f) = ⊥
 IsFirstAloneFault t c a (Register f) = ⊥
 IsFirstAloneFault t c a (Core f) = ⊥
 IsFirstAloneFault t c a (Trail f) = ⊥

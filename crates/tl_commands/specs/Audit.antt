@@ -1,5 +1,5 @@
 -- What the command `audit` prints, and when it answers which fault.
-use Rattle.std.specs.Prelude.{◌≡◌, ◌≢◌, ◌⊎◌, ℕ, ◌==◌, ◌||◌, Bool, true, false, List, [], ◌∷◌, ◌++◌, map, if◌then◌else◌, IsTrue, IsUtf8}
+use Rattle.std.specs.Prelude.{◌≡◌, ◌≢◌, ◌⊎◌, ℕ, ◌==◌, ◌||◌, Bool, true, false, List, [], ◌∷◌, ◌++◌, map, if◌then◌else◌, IsUtf8}
 use Rattle.serde_json.specs.Written.{compact_text}
 use Rattle.tl_tree_locking.specs.Order.{placed}
 use Rattle.tl_trail.specs.Trails.{TrailValue}

@@ -4,8 +4,6 @@ use Rattle.tl_tree.specs.Faults.{numbers_of as tree_numbers_of}
 use Rattle.tl_tree.specs.declared.fault.TreeFault.TheVariants as tree
 use Rattle.tl_asm.specs.Faults.{numbers_of as asm_numbers_of}
 use Rattle.tl_asm.specs.declared.fault.AsmFault.TheVariants as asm
-use Rattle.tl_compiler.specs.Faults.{numbers_of as compile_numbers_of}
-use Rattle.tl_compiler.specs.declared.fault.CompileFault.TheVariants as compile
 use Rattle.tl_instr.specs.Faults.{numbers_of as code_numbers_of}
 use Rattle.tl_instr.specs.declared.fault.CodeFault.TheVariants as code
 use Rattle.tl_verify.specs.Faults.{numbers_of as verify_numbers_of}
@@ -22,7 +20,7 @@ use Rattle.tl_table.specs.declared.fault.TableFault.TheVariants as table
 use Rattle.tl_workers.specs.Refusals.{numbers_of as engine_numbers_of}
 use Rattle.tl_workers.specs.declared.refusal.Refusal.TheVariants as refusal
 use Rattle.tl_commands.specs.declared.fault.CliFault.{CliFault}
-use Rattle.tl_commands.specs.declared.fault.CliFault.TheVariants.{Unreadable, Unwritable, NoPort, NotUtf8, Asm, Compile, Tree, Code, Verify, Register, Core, Trail, Audit, Chain, Engine, NotClosed, NotScript, NotArgs, WrongArgs, Memory}
+use Rattle.tl_commands.specs.declared.fault.CliFault.TheVariants.{Unreadable, Unwritable, NoPort, NotUtf8, Asm, Tree, Code, Verify, Register, Core, Trail, Audit, Chain, Engine, NotClosed, NotScript, NotArgs, WrongArgs, Memory}
 
 abbrev pub numbers_of : CliFault → List ℕ
 numbers_of Unreadable = 31 ∷ []
@@ -30,7 +28,6 @@ numbers_of Unwritable = 32 ∷ []
 numbers_of NoPort = 33 ∷ []
 numbers_of NotUtf8 = 255 ∷ []
 numbers_of (Asm f) = asm_numbers_of f
-numbers_of (Compile f) = compile_numbers_of f
 numbers_of (Tree f) = tree_numbers_of f
 numbers_of (Code f) = code_numbers_of f
 numbers_of (Verify f) = verify_numbers_of f
@@ -52,7 +49,6 @@ status_of Unreadable = 3
 status_of Unwritable = 3
 status_of NoPort = 3
 status_of (Asm asm.Memory) = 4
-status_of (Compile compile.Memory) = 4
 status_of (Tree tree.Memory) = 4
 status_of (Code code.Memory) = 4
 status_of (Verify verify.Memory) = 4

@@ -6,9 +6,10 @@ pub mod Trace
 pub mod Drive
 pub mod Run
 pub mod Serve
+pub mod Generations
 pub mod Audit
+pub mod NextAudit
 pub mod Procedures
 pub mod Widening
 pub mod Closing
-pub mod Compiling
 pub mod Sinks

@@ -1,8 +1,6 @@
 -- What the commands on one procedure print, `asm`, `dis`, `migrate` and `verify`, and when they answer which fault.
-use Rattle.std.specs.Prelude.{◌≡◌, ◌≢◌, ◌⊎◌, ℕ, Bool, nat_eq, pos, List, ◌++◌, length, codes, decimal, IsUtf8}
+use Rattle.std.specs.Prelude.{◌≡◌, ◌≢◌, ◌⊎◌, ℕ, Bool, nat_eq, List, ◌++◌, length, codes, decimal, IsUtf8}
 use Rattle.std.specs.List.{starts_with}
-use Rattle.serde_json.specs.Data.{Data, object, member, no_members}
-use Rattle.tl_tree.specs.Writing.{integer_data}
 use Rattle.tl_instr.specs.declared.version.Version.TheVariants.{One}
 use Rattle.tl_instr.specs.Codes.{CodeValue, migrated}
 use Rattle.tl_instr.specs.Spelling.{Spelled}
@@ -29,13 +27,6 @@ count_text count = codes "{\"count\":" ++ decimal count ++ codes "}\n"
 abbrev pub bounds_text : ℕ → ℕ → ℕ → List ℕ
 bounds_text emits locks steps =
     codes "{\"bounds\":{\"emits\":" ++ decimal emits ++ codes ",\"locks\":" ++ decimal locks ++ codes ",\"steps\":" ++ decimal steps ++ codes "}}\n"
-
--- the object with what a procedure does at most
-abbrev pub bounds_data : ℕ → ℕ → ℕ → Data
-bounds_data emits locks steps =
-    object (member (codes "bounds")
-    (object (member (codes "emits") (integer_data (pos emits)) (member (codes "locks") (integer_data (pos locks)) (member (codes "steps") (integer_data (pos steps)) no_members))))
-    no_members)
 
 -- a container begins so, and no assembler text does
 abbrev pub is_container : List ℕ → Bool

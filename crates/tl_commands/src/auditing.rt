@@ -1,19 +1,25 @@
 // The command `audit`.
 
-ghost use Rattle.std.specs.Prelude.{◌≡◌, ◌≢◌, [], ◌∷◌, ◌++◌, map, string_bytes, IfOk, IfErr};
+ghost use Rattle.std.specs.Prelude.{◌≡◌, ◌≢◌, ◌<◌, ◌≤◌, [], ◌∷◌, ◌++◌, length, map, string_bytes, option_copied, Option, Some, IfOk, OnOk, IfErr};
 ghost use Rattle.serde_json.specs.Written.{compact_text};
 ghost use Rattle.tl_json.specs.Lists.{order_data, orders_data};
 ghost use Rattle.tl_table.specs.Chains.{calls_in};
+ghost use Rattle.tl_trail.specs.Trails.{TrailValue};
+ghost use Rattle.tl_trail.specs.declared.chain.TheConstants.{MAX_TRAILS};
+ghost use Rattle.tl_audit.specs.declared.chain.ChainFault.{ChainFault};
+ghost use Rattle.tl_audit.specs.Chains.{AreSerial, CleanAfter, IsFirstAfter, last_after, order_of};
 ghost use Rattle.tl_commands.specs.Audit.{begins_with_list, Audits, AuditsTrail, AuditsChain, IsFirstAuditFault, IsFirstTrailAuditFault, IsFirstChainAuditFault};
+ghost use Rattle.tl_commands.specs.Faults.{status_of};
+ghost use Rattle.tl_commands.specs.NextAudit.{AreTrailsOf, AuditsNext, IsFirstNextFault, IsTextFault, fault_of_file};
 
 use crate::closing::all_orders_to_value;
 use crate::fault::CliFault;
-use crate::outputs::line_of;
 use std::alloc::{AllocError, Global};
-use tl_audit::{Progress, audit_chain_with, audit_with};
+use tl_audit::{ChainFault, Progress, audit_chain_after, audit_chain_with, audit_with};
 use tl_json::order_to_value;
+use tl_lines::line_of;
 use tl_serial_order::Order;
-use tl_trail::{TrailFault, read_chain, read_trail};
+use tl_trail::{Trail, TrailFault, read_chain, read_trail};
 
 // Whether a text is a list, provided it is JSON: whether it begins with a bracket, after any white space.
 fn begins_with_list(text: &str) -> bool
@@ -105,5 +111,95 @@ pub fn audit_cmd<P: Progress>(
         audit_chain_text(alloc, text, progress)
     } else {
         audit_trail_text(alloc, text, progress)
+    }
+}
+
+// The trails of a file: those of a chain if it is a list, else the only one.
+fn trails_of_text(alloc: Global, text: &str, is_list: bool) -> Result<Vec<Trail>, CliFault>
+    ensures ok { IfOk result (λ ts. AreTrailsOf is_list text.now ts.items) }
+    ensures some { IfOk result (λ ts. 0 < length ts.items) }
+    ensures few { IfOk result (λ ts. length ts.items ≤ MAX_TRAILS) }
+    ensures fault { IfErr result (λ e. status_of e ≢ 4 → (f : TrailFault) × (e ≡ CliFault.Trail f) × IsTextFault is_list text.now f) }
+{
+    if is_list {
+        return match read_chain(alloc, text) {
+            Ok(trails) => Ok(trails),
+            Err(fault) => Err(CliFault::Trail(fault)),
+        };
+    }
+    let mut trails = Vec::with_capacity(alloc, 1)?;
+    match read_trail(alloc, text) {
+        Ok(trail) => {
+            trails.push_reserved(trail);
+            Ok(trails)
+        }
+        Err(fault) => Err(CliFault::Trail(fault)),
+    }
+}
+
+// The fault of a file's trails. Of a file that isn't a list it is told as that of its only trail.
+fn fault_of_file(is_list: bool, fault: ChainFault) -> CliFault
+    ensures { result ≡ fault_of_file is_list fault }
+{
+    match fault {
+        ChainFault::InEpoch { epoch: _, fault } if !is_list => CliFault::Audit(fault),
+        fault => CliFault::Chain(fault),
+    }
+}
+
+// The line of the orders of these trails, the first of which has to take over from the one before.
+fn orders_after<P: Progress>(
+    alloc: Global,
+    before: Option<&Trail>,
+    trails: &[Trail],
+    is_list: bool,
+    progress: &mut P,
+) -> Result<String, CliFault>
+    requires { length trails.now ≤ MAX_TRAILS }
+    ensures clean { OnOk result (CleanAfter (option_copied before.entry) trails.now) }
+    ensures serial { OnOk result (AreSerial trails.now (map order_of trails.now)) }
+    ensures line { IfOk result (λ s. string_bytes s ≡ compact_text (orders_data (map order_of trails.now)) ++ 10 ∷ []) }
+    ensures fault { IfErr result (λ e. status_of e ≢ 4 → (f : ChainFault) × (e ≡ fault_of_file is_list f) × IsFirstAfter 0 (option_copied before.entry) trails.now f) }
+{
+    match audit_chain_after(alloc, before, trails, progress) {
+        Ok(orders) => Ok(orders_line(alloc, &orders)?),
+        Err(fault) => Err(fault_of_file(is_list, fault)),
+    }
+}
+
+// The last of these trails.
+fn last_of(trails: Vec<Trail>) -> Trail
+    requires { 0 < length trails.items }
+    ensures { (before : Option TrailValue) → last_after before trails.items ≡ Some result }
+{
+    let mut trails = trails;
+    let Some(last) = trails.pop() else {
+        // There is at least one.
+        unreachable!()
+    };
+    last
+}
+
+/// One file more of several that belong together: the line of the orders of its trails, and its last trail, from which the next file has to
+/// take over. `before` is the last trail of the file before, if there is one. So one file and one trail are in memory at a time.
+///
+/// The first fault, as of `audit_cmd`, but 718 with trail 0 if the file doesn't take over where the one before it ends.
+pub fn audit_next_cmd<P: Progress>(
+    alloc: Global,
+    file: &[u8],
+    before: Option<&Trail>,
+    progress: &mut P,
+) -> Result<(String, Trail), CliFault>
+    ensures printed { IfOk result (λ r. AuditsNext (option_copied before.entry) file.now (string_bytes r.0) r.1) }
+    ensures fault { IfErr result (λ e. IsFirstNextFault (option_copied before.entry) file.now e) }
+{
+    let Ok(text) = std::str::from_utf8(file) else {
+        return Err(CliFault::Trail(TrailFault::NotTrail));
+    };
+    let is_list = begins_with_list(text);
+    let trails = trails_of_text(alloc, text, is_list)?;
+    match orders_after(alloc, before, &trails, is_list, progress) {
+        Ok(line) => Ok((line, last_of(trails))),
+        Err(fault) => Err(fault),
     }
 }

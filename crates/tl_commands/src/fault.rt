@@ -9,7 +9,6 @@ use std::alloc::AllocError;
 use thiserror::Error;
 use tl_asm::AsmFault;
 use tl_audit::{AuditFault, ChainFault};
-use tl_compiler::CompileFault;
 use tl_core::CoreFault;
 use tl_instr::CodeFault;
 use tl_json::RegisterFault;
@@ -37,9 +36,6 @@ pub enum CliFault {
     /// 251 to 254, 290: the assembler text.
     #[error("the text: {0}")]
     Asm(AsmFault),
-    /// 255, 270 to 298: a text of the procedure language.
-    #[error("the text: {0}")]
-    Compile(CompileFault),
     /// 101 to 106, 190: the tree.
     #[error("the tree: {0}")]
     Tree(TreeFault),
@@ -96,7 +92,6 @@ impl CliFault {
             CliFault::NoPort => numbers.push(33),
             CliFault::NotUtf8 => numbers.push(255),
             CliFault::Asm(fault) => return as_many(&fault.numbers()),
-            CliFault::Compile(fault) => return as_many(&fault.numbers()),
             CliFault::Tree(fault) => return as_many(&fault.numbers()),
             CliFault::Code(fault) => return as_many(&fault.numbers()),
             CliFault::Verify(fault) => return as_many(&fault.numbers()),
@@ -124,7 +119,6 @@ impl CliFault {
             CliFault::Register(fault) if fault.is_memory() => 4,
             CliFault::Tree(TreeFault::Memory)
             | CliFault::Asm(AsmFault::Memory)
-            | CliFault::Compile(CompileFault::Memory)
             | CliFault::Code(CodeFault::Memory)
             | CliFault::Verify(VerifyFault::Memory)
             | CliFault::Core(CoreFault::Memory)

@@ -9,9 +9,9 @@ mod answers;
 mod auditing;
 mod checking;
 mod closing;
-mod compiling;
 mod driving;
 mod fault;
+mod generations;
 mod inputs;
 mod outputs;
 mod procedures;
@@ -23,11 +23,14 @@ mod trace;
 mod widening;
 
 pub use alone::alone_cmd;
-pub use auditing::audit_cmd;
+pub use auditing::{audit_cmd, audit_next_cmd};
 pub use checking::check_cmd;
-pub use compiling::{check_procs_cmd, compile_cmd, procs_cmd};
 pub use driving::{drive_cmd, drive_with_trail_cmd};
 pub use fault::CliFault;
+pub use generations::{
+    Generation, close_generation, end_generation, keep_generation, next_engine, open_generations,
+    take_generation,
+};
 pub use procedures::{asm_cmd, dis_cmd, migrate_cmd, verify_cmd};
 pub use running::{run_cmd, run_with_trail_cmd};
 pub use script::{RunScript, Script, read_calls, read_moves};

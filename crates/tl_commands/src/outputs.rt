@@ -2,7 +2,7 @@
 
 ghost use Rattle.std.specs.Prelude.{◌≡◌, [], ◌∷◌, ◌++◌, false, map, string_bytes, IfOk, IfErr, OnOk};
 ghost use Rattle.serde_json.specs.View.{view};
-ghost use Rattle.serde_json.specs.Written.{has_float, compact_text};
+ghost use Rattle.serde_json.specs.Written.{has_float};
 ghost use Rattle.tl_record.specs.Recording.{trail_value};
 ghost use Rattle.tl_tree_locking.specs.History.{AllDone};
 ghost use Rattle.tl_table.specs.Tables.{IsChain};
@@ -29,15 +29,6 @@ pub fn next_lines(text: &mut String, lines: &str) -> Result<(), AllocError>
 {
     text.push_str("\n")?;
     text.push_str(lines)
-}
-
-/// The line for a value.
-pub fn line_of(alloc: Global, value: &Value) -> Result<String, AllocError>
-    ensures { IfOk result (λ s. has_float (view value.now) ≡ false → string_bytes s ≡ compact_text (view value.now) ++ 10 ∷ []) }
-{
-    let mut line = value.to_string(alloc)?;
-    line.push_str("\n")?;
-    Ok(line)
 }
 
 /// Two lines: a value, and a tree.

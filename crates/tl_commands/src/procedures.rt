@@ -12,12 +12,12 @@ ghost use Rattle.tl_asm.specs.Texts.{Written};
 ghost use Rattle.tl_commands.specs.Procedures.{count_text, bounds_text, Assembles, IsFirstAssemblingFault, Lists, IsFirstContainerFault, Migrates, IsFirstMigratingFault, Verifies, IsFirstVerifyingFault};
 
 use crate::fault::CliFault;
-use crate::outputs::line_of;
 use serde_json::{Value, json};
 use std::alloc::{AllocError, Global};
 use tl_asm::{assemble, disassemble};
 use tl_budget::Bounds;
 use tl_instr::{Code, CodeFault, decode, encode, migrate_code};
+use tl_lines::{bounds_to_value, line_of};
 use tl_verify::verify;
 
 /// The code of an assembler text.
@@ -50,19 +50,6 @@ fn count_to_value(alloc: Global, count: Value) -> Result<Value, AllocError>
     ensures { IfOk result (λ v. view v ≡ object (member (codes "count") (view count) no_members)) }
 {
     json!(in alloc; {"count": count})
-}
-
-/// `{"bounds":{..}}`
-pub fn bounds_to_value(
-    alloc: Global,
-    emits: Value,
-    locks: Value,
-    steps: Value,
-) -> Result<Value, AllocError>
-    ensures { IfOk result (λ v. view v ≡ object (member (codes "bounds") (object
-        (member (codes "emits") (view emits) (member (codes "locks") (view locks) (member (codes "steps") (view steps) no_members)))) no_members)) }
-{
-    json!(in alloc; {"bounds": {"emits": emits, "locks": locks, "steps": steps}})
 }
 
 // The line that says how many instructions a code has.

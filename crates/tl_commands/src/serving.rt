@@ -1,11 +1,16 @@
 // The command `serve`: what is done before connections are accepted, and after all have ended.
 
-ghost use Rattle.std.specs.Prelude.{◌≡◌, string_bytes, IfOk, OnOk, IfErr, All};
+ghost use Rattle.std.specs.Prelude.{◌≡◌, [], string_bytes, Ok, IfOk, OnOk, IfErr, All};
+ghost use Rattle.tl_tree.specs.Trees.{TreeValue};
+ghost use Rattle.tl_tree.specs.Reading.{tree_of_text};
 ghost use Rattle.tl_table.specs.Tables.{IsChain};
 ghost use Rattle.tl_workers.specs.Matching.{Matches};
+ghost use Rattle.tl_workers.specs.Sessions.{AreAllOf, AskForEachOnce, FindsItsWrites};
 ghost use Rattle.tl_commands.specs.Alone.{IsTreeFile};
 ghost use Rattle.tl_commands.specs.Closing.{IsClosing};
+ghost use Rattle.tl_commands.specs.declared.fault.CliFault.TheVariants.{NotClosed};
 ghost use Rattle.tl_commands.specs.Faults.{status_of};
+ghost use Rattle.tl_commands.specs.Scripted.{core_with};
 ghost use Rattle.tl_commands.specs.Serve.{are_many, Concludes, ConcludesToTrail, IsConclusionFault, IsOpeningFault};
 ghost use Rattle.tl_commands.specs.Sinks.{IsSinkFault};
 
@@ -19,6 +24,21 @@ use tl_core::Core;
 use tl_table::Closed;
 use tl_workers::{Engine, Session};
 
+/// A core of the tree of a file, without procedures and calls.
+pub fn core_of_file(alloc: Global, tree: &[u8]) -> Result<Core, CliFault>
+    ensures ok { IfOk result (λ core. (t : TreeValue) × (tree_of_text tree.now ≡ Ok t) × (core.seen ≡ core_with t [])) }
+    ensures fault { IfErr result (λ e. IsOpeningFault tree.now e) }
+{
+    let tree = match tree_of_file(alloc, tree) {
+        Ok(tree) => tree,
+        Err(fault) => return Err(CliFault::Tree(fault)),
+    };
+    match Core::new(alloc, tree) {
+        Ok(core) => Ok(core),
+        Err(fault) => Err(CliFault::Core(fault)),
+    }
+}
+
 /// An engine for calls on the tree of a file, without procedures. Takes the bytes of the file.
 ///
 /// 106 (also if the tree isn't UTF-8), 101 to 105. If memory was refused, 190, 690, 890 or 990.
@@ -26,22 +46,17 @@ pub fn open_engine(alloc: Global, tree: &[u8]) -> Result<Engine, CliFault>
     ensures opened { OnOk result (IsTreeFile tree.now) }
     ensures fault { IfErr result (λ e. IsOpeningFault tree.now e) }
 {
-    let tree = match tree_of_file(alloc, tree) {
-        Ok(tree) => tree,
-        Err(fault) => return Err(CliFault::Tree(fault)),
-    };
-    let core = match Core::new(alloc, tree) {
-        Ok(core) => core,
-        Err(fault) => return Err(CliFault::Core(fault)),
-    };
+    let core = core_of_file(alloc, tree)?;
     Ok(Engine::of_core(alloc, core)?)
 }
 
-// Closes an engine with the sessions of its connections.
-fn close_engine(engine: Engine, sessions: Vec<Session>) -> Result<Vec<Closed>, CliFault>
+/// Closes an engine with the sessions of its connections. 831 if it doesn't close. Takes no memory.
+pub fn close_engine(engine: Engine, sessions: Vec<Session>) -> Result<Vec<Closed>, CliFault>
     ensures chain { IfOk result (λ r. IsChain r.items) }
     ensures ok { IfOk result (λ r. All (Matches r.items) sessions.items) }
-    ensures fault { IfErr result (λ e. IsConclusionFault e) }
+    ensures once { IfOk result (λ r. AreAllOf r.items sessions.items → AskForEachOnce r.items sessions.items) }
+    ensures writes { IfOk result (λ r. All (FindsItsWrites r.items) sessions.items) }
+    ensures fault { IfErr result (λ e. e ≡ NotClosed) }
 {
     match engine.close(sessions) {
         Ok((chain, _)) => Ok(chain),

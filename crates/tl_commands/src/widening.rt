@@ -9,9 +9,9 @@ ghost use Rattle.tl_commands.specs.Widening.{nodes_text, WidensTree, IsFirstWide
 
 use crate::fault::CliFault;
 use crate::inputs::tree_of_file;
-use crate::outputs::line_of;
 use serde_json::{Value, json};
 use std::alloc::{AllocError, Global};
+use tl_lines::line_of;
 use tl_tree::{Tree, write_tree};
 
 fn nodes_to_value(alloc: Global, nodes: Value) -> Result<Value, AllocError>

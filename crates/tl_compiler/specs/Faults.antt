@@ -7,7 +7,7 @@ use Rattle.tl_budget.specs.Loops.{budget, lock_bound, emit_bound}
 use Rattle.tl_budget.specs.declared.limits.TheConstants.{MAX_STEPS, MAX_LOCKS, MAX_EMITS}
 use Rattle.tl_budget.specs.declared.fault.NestFault.TheVariants.{StepsOver, LocksOver, EmitsOver}
 use Rattle.tl_verify.specs.declared.fault.VerifyFault.{VerifyFault}
-use Rattle.tl_verify.specs.declared.fault.VerifyFault.TheVariants.{Nest}
+use Rattle.tl_verify.specs.declared.fault.VerifyFault.TheVariants as verify
 use Rattle.tl_syntax.specs.Faults.{number_of}
 use Rattle.tl_syntax.specs.declared.position.Position.{Position}
 use Rattle.tl_lowering.specs.declared.program.Procedure.{Procedure}
@@ -17,7 +17,7 @@ use Rattle.tl_compiler.specs.Statements.{procedure_code}
 use Rattle.tl_compiler.specs.declared.fault.Excess.{Excess}
 use Rattle.tl_compiler.specs.declared.fault.Excess.TheVariants.{Instructions, Steps, Locks, Emits}
 use Rattle.tl_compiler.specs.declared.fault.CompileFault.{CompileFault}
-use Rattle.tl_compiler.specs.declared.fault.CompileFault.TheVariants.{NotUtf8, Wrong, Over, NotOne, Refused, Memory}
+use Rattle.tl_compiler.specs.declared.fault.CompileFault.TheVariants.{NotUtf8, Wrong, Over, NotOne, Memory}
 
 abbrev pub excess_number : Excess → ℕ
 excess_number Instructions = 294
@@ -34,7 +34,6 @@ numbers_of NotUtf8 = 255 ∷ []
 numbers_of (Wrong wrong position) = numbers_at (number_of wrong) position
 numbers_of (Over excess sum position) = numbers_at (excess_number excess) position
 numbers_of NotOne = 289 ∷ []
-numbers_of (Refused position) = numbers_at 298 position
 numbers_of Memory = 290 ∷ []
 
 -- what is wrong with a text
@@ -60,26 +59,23 @@ IsExcess excess (Over other sum position) = other ≡ excess
 IsExcess excess Memory = Unit {0}
 IsExcess excess _ = ⊥
 
--- what the verifier's fault becomes
+-- what the verifier's fault becomes: it is one of its sums, or want of memory
 abbrev pub IsVerifierFault : VerifyFault → CompileFault → Type 0
-IsVerifierFault (Nest StepsOver) e = IsExcess Steps e
-IsVerifierFault (Nest LocksOver) e = IsExcess Locks e
-IsVerifierFault (Nest EmitsOver) e = IsExcess Emits e
-IsVerifierFault fault (Refused position) = Unit {0}
-IsVerifierFault fault Memory = Unit {0}
-IsVerifierFault fault _ = ⊥
+IsVerifierFault (verify.Nest StepsOver) e = IsExcess Steps e
+IsVerifierFault (verify.Nest LocksOver) e = IsExcess Locks e
+IsVerifierFault (verify.Nest EmitsOver) e = IsExcess Emits e
+IsVerifierFault verify.Memory e = e ≡ Memory
+IsVerifierFault fault e = ⊥
 
 -- what is wrong with the code of a procedure
 abbrev pub IsCodeFault : Procedure → CompileFault → Type 0
 IsCodeFault source (Over excess sum position) = IsOver source excess
-IsCodeFault source (Refused position) = Unit {0}
 IsCodeFault source Memory = Unit {0}
 IsCodeFault source _ = ⊥
 
 -- what is wrong with the code of one of these procedures
 abbrev pub IsCodesFault : List Procedure → CompileFault → Type 0
 IsCodesFault sources (Over excess sum position) = (source : Procedure) × Contains sources source × IsOver source excess
-IsCodesFault sources (Refused position) = Unit {0}
 IsCodesFault sources Memory = Unit {0}
 IsCodesFault sources _ = ⊥
 

@@ -1,8 +1,12 @@
 pub mod Aiming
+pub mod Among
 pub mod Compiled
 pub mod Contexts
 pub mod Faults
 pub mod Labels
 pub mod NodeSets
 pub mod Numbers
+pub mod Rooms
+pub mod Safe
 pub mod Statements
+pub mod Tails

@@ -1,6 +1,15 @@
 // From a text to its procedures.
 
-ghost use Rattle.std.specs.Prelude.{◌≡◌, ◌≤◌, Some, None, option_map, IfOk, IfErr, MatchOption, MatchResult, vec_len};
+ghost use Rattle.std.specs.Prelude.{◌≡◌, ◌≢◌, ◌<◌, ◌≤◌, Some, None, option_map, IfOk, IfErr, MatchOption, MatchResult, string_bytes, vec_len};
+ghost use Rattle.std.specs.List.{All};
+ghost use Rattle.tl_instr.specs.Instructions.{InRange};
+ghost use Rattle.tl_instr.specs.declared.operand.TheConstants.{MAX_ARGS};
+ghost use Rattle.tl_instr.specs.declared.version.Version.TheVariants.{Two};
+ghost use Rattle.tl_verify.specs.Findings.{IsFirstFault};
+ghost use Rattle.tl_verify.specs.declared.fault.VerifyFault.TheVariants as verify_fault;
+ghost use Rattle.tl_lowering.specs.Fit.{IsWord};
+ghost use Rattle.tl_compiler.specs.Rooms.{IsReady};
+ghost use Rattle.tl_compiler.specs.Safe.{IsSafe};
 ghost use Rattle.tl_compiler.specs.Aiming.{at_positions};
 ghost use Rattle.tl_compiler.specs.Compiled.{IsCompiled, AreCompiled, Compiles, IsMeant, made_name};
 ghost use Rattle.tl_compiler.specs.Contexts.{code_of};
@@ -9,15 +18,15 @@ ghost use Rattle.tl_compiler.specs.declared.compiler.Compiled.{Compiled};
 ghost use Rattle.tl_compiler.specs.declared.fault.CompileFault.TheVariants.{NotOne};
 ghost use Rattle.tl_compiler.specs.Statements.{procedure_code};
 
-use crate::aiming::aimed;
+use crate::aiming::{aimed, lemma_in_range};
 use crate::context::{Context, Pads};
 use crate::costs::heaviest;
-use crate::draft::{Draft, DraftFault};
+use crate::draft::Draft;
 use crate::fault::{CompileFault, Excess};
 use crate::node_set::NodeSet;
 use std::alloc::{AllocError, Global};
 use tl_budget::NestFault;
-use tl_instr::{Code, Instr, MAX_COUNT};
+use tl_instr::{Code, CodeFault, Instr, MAX_COUNT};
 use tl_lowering::{Procedure, read};
 use tl_syntax::Position;
 use tl_verify::{Proc, VerifyFault, verify};
@@ -30,7 +39,9 @@ pub struct Compiled {
 }
 
 // The code of a procedure. What belongs to no statement belongs to the procedure's name.
-fn draft_of(alloc: Global, procedure: &Procedure) -> Result<Draft, DraftFault>
+#[tactic(auto, using(crate::proofs::RoomLemmas::procedure_fits))]
+fn draft_of(alloc: Global, procedure: &Procedure) -> Result<Draft, AllocError>
+    requires { IsReady procedure.now }
     ensures { IfOk result (λ draft. code_of draft ≡ procedure_code procedure.now.arity procedure.now.body) }
 {
     let mut draft = Draft::new(alloc);
@@ -52,12 +63,15 @@ fn draft_of(alloc: Global, procedure: &Procedure) -> Result<Draft, DraftFault>
 #[tactic(auto, using(crate::proofs::CompileLemmas::map_more, crate::proofs::CodeLemmas::as_many))]
 fn instrs_of(alloc: Global, draft: &Draft) -> Result<Vec<Instr>, AllocError>
     requires { vec_len draft.now.instrs ≤ MAX_COUNT }
-    ensures { IfOk result (λ instrs. instrs.items ≡ at_positions (code_of draft.now)) }
+    ensures instrs { IfOk result (λ instrs. instrs.items ≡ at_positions (code_of draft.now)) }
+    ensures in_range { IfOk result (λ instrs. All InRange instrs.items) }
 {
     let count = draft.instrs.len() as u16;
     let mut instrs = Vec::with_capacity(alloc, draft.instrs.len())?;
     for instr in draft.instrs.iter().rev() {
-        instrs.push(aimed(instr, count))?;
+        let aimed = aimed(instr, count);
+        lemma_in_range(&aimed);
+        instrs.push(aimed)?;
     }
     Ok(instrs)
 }
@@ -72,62 +86,82 @@ fn over(alloc: Global, text: &[u8], draft: &Draft, excess: Excess) -> CompileFau
     }
 }
 
-// Why the verifier refuses a code.
-fn refused(
-    alloc: Global,
-    text: &[u8],
-    draft: &Draft,
-    offset: usize,
-    fault: VerifyFault,
-) -> CompileFault
+// Why the verifier refuses a code: for its sums, if memory wasn't refused.
+#[tactic(auto, using(crate::proofs::Acceptance::for_sums))]
+fn refused(alloc: Global, text: &[u8], draft: &Draft, fault: VerifyFault) -> CompileFault
+    requires safe { IsSafe (at_positions (code_of draft.now)) }
+    requires first { fault ≢ verify_fault.Memory → IsFirstFault (at_positions (code_of draft.now)) fault }
     ensures { IsVerifierFault fault result }
 {
     let excess = match fault {
         VerifyFault::Nest(NestFault::StepsOver) => Excess::Steps,
         VerifyFault::Nest(NestFault::LocksOver) => Excess::Locks,
         VerifyFault::Nest(NestFault::EmitsOver) => Excess::Emits,
-        VerifyFault::Memory | VerifyFault::Nest(NestFault::Memory) => return CompileFault::Memory,
-        _ => return CompileFault::Refused(Position::of(text, offset)),
+        _ => return CompileFault::Memory,
     };
     over(alloc, text, draft, excess)
 }
 
-// Compiles a procedure. 294 to 298, or 290.
-fn compile_one(alloc: Global, text: &[u8], source: Procedure) -> Result<Compiled, CompileFault>
-    ensures { MatchResult result (IsCompiled source) (IsCodeFault source) }
+// The code of a draft of at most 1,024 instructions.
+#[tactic(auto, using(crate::proofs::CodeForms::is_code, crate::proofs::CodeLemmas::as_many))]
+fn placed(alloc: Global, arity: u8, draft: &Draft) -> Result<Code, AllocError>
+    requires arity { arity ≤ MAX_ARGS }
+    requires some { 0 < vec_len draft.now.instrs }
+    requires few { vec_len draft.now.instrs ≤ MAX_COUNT }
+    ensures { IfOk result (λ code. code ≡ record { version = Two; arity = arity; instrs = at_positions (code_of draft.now) }) }
 {
-    let name_place = Position::of(text, source.offset);
-    let draft = match draft_of(alloc, &source) {
-        Ok(draft) => draft,
-        Err(DraftFault::NoRegister) => return Err(CompileFault::Refused(name_place)),
-        Err(DraftFault::Memory) => return Err(CompileFault::Memory),
-    };
-    if draft.instrs.len() > MAX_COUNT {
-        return Err(over(alloc, text, &draft, Excess::Instructions));
-    }
-    let instrs = instrs_of(alloc, &draft)?;
-    let code = match Code::new2(alloc, source.arity, instrs) {
-        Ok(code) => code,
-        Err(tl_instr::CodeFault::Memory) => return Err(CompileFault::Memory),
-        Err(_) => return Err(CompileFault::Refused(name_place)),
-    };
-    let procedure = match verify(alloc, code) {
-        Ok(procedure) => procedure,
-        Err((_code, fault)) => return Err(refused(alloc, text, &draft, source.offset, fault)),
-    };
-    match String::from_utf8(source.name) {
-        Ok(name) => Ok(Compiled { name, procedure }),
-        Err(_) => Err(CompileFault::Refused(name_place)),
+    let instrs = instrs_of(alloc, draft)?;
+    match Code::new2(alloc, arity, instrs) {
+        Ok(code) => Ok(code),
+        Err(fault) => {
+            // It is a code, so only memory is wanting.
+            let wants_memory = fault == CodeFault::Memory;
+            prove!(wants_memory);
+            Err(AllocError)
+        }
     }
 }
 
-// Compiles the procedures of a text in their order. 294 to 298, or 290.
+// A name is ASCII.
+#[tactic(auto, using(crate::proofs::NameLemmas::word_utf8))]
+fn name_of(name: Vec<u8>) -> String
+    requires { IsWord name.items }
+    ensures { string_bytes result ≡ name.items }
+{
+    match String::from_utf8(name) {
+        Ok(name) => name,
+        Err(_) => unreachable!(),
+    }
+}
+
+// Compiles a procedure. 294 to 297, or 290.
+#[tactic(auto, using(crate::proofs::OneLemmas::some_instrs, crate::proofs::OneLemmas::safe_draft, crate::proofs::OneLemmas::of_code))]
+fn compile_one(alloc: Global, text: &[u8], source: Procedure) -> Result<Compiled, CompileFault>
+    requires { IsReady source }
+    ensures { MatchResult result (IsCompiled source) (IsCodeFault source) }
+{
+    let draft = draft_of(alloc, &source)?;
+    if draft.instrs.len() > MAX_COUNT {
+        return Err(over(alloc, text, &draft, Excess::Instructions));
+    }
+    let code = placed(alloc, source.arity, &draft)?;
+    match verify(alloc, code) {
+        Ok(procedure) => Ok(Compiled {
+            name: name_of(source.name),
+            procedure,
+        }),
+        Err((_code, fault)) => Err(refused(alloc, text, &draft, fault)),
+    }
+}
+
+// Compiles the procedures of a text in their order. 294 to 297, or 290.
 #[tactic(auto, using(crate::proofs::CompileLemmas::one_more_each, crate::proofs::FaultLemmas::one_of_codes))]
 fn compile_all(
     alloc: Global,
     text: &[u8],
     procedures: Vec<Procedure>,
 ) -> Result<Vec<Compiled>, CompileFault>
+    requires { All IsReady procedures.items }
     ensures { MatchResult result (λ compiled. AreCompiled procedures.items compiled.items) (IsCodesFault procedures.items) }
 {
     let mut compiled = Vec::new(alloc);
@@ -139,9 +173,9 @@ fn compile_all(
 
 /// The procedures of a text, in order, each accepted by the verifier.
 ///
-/// Otherwise the first fault: 255 if the text isn't UTF-8; 270 to 293 for the text; 294 to 298, procedure by procedure. 290
+/// Otherwise the first fault: 255 if the text isn't UTF-8; 270 to 293 for the text; 294 to 297, procedure by procedure. 290
 /// if memory was refused.
-#[tactic(auto, using(crate::proofs::FaultLemmas::of_text, crate::proofs::CompileLemmas::compiles))]
+#[tactic(auto, using(crate::proofs::FaultLemmas::of_text, crate::proofs::CompileLemmas::compiles, crate::proofs::NumberingLemmas::ready))]
 pub fn compile(alloc: Global, text: &[u8]) -> Result<Vec<Compiled>, CompileFault>
     ensures compiled { IfOk result (λ compiled. Compiles text.now compiled.items) }
     ensures fault { IfErr result (IsCompileFault text.now) }

@@ -76,6 +76,8 @@ impl<'a> Context<'a> {
     pub fn with_held(self, held: NodeSet) -> Context<'a>
         ensures held { result.held ≡ held }
         ensures same { (x : _) → Agrees x self.entry → Agrees x result }
+        ensures values { result.values ≡ self.entry.values }
+        ensures nodes { result.nodes ≡ self.entry.nodes }
     {
         Context { held, ..self }
     }
@@ -83,6 +85,8 @@ impl<'a> Context<'a> {
     pub fn with_origin(self, origin: usize) -> Context<'a>
         ensures held { result.held ≡ self.entry.held }
         ensures same { (x : _) → Agrees x self.entry → Agrees x result }
+        ensures values { result.values ≡ self.entry.values }
+        ensures nodes { result.nodes ≡ self.entry.nodes }
     {
         Context { origin, ..self }
     }
@@ -90,6 +94,8 @@ impl<'a> Context<'a> {
     pub fn with_exit(self, exit: Exit) -> Context<'a>
         ensures held { result.held ≡ self.entry.held }
         ensures same { (x : _) → Agrees x self.entry → Agrees (record x { exit = Some (exit_of exit) }) result }
+        ensures values { result.values ≡ self.entry.values }
+        ensures nodes { result.nodes ≡ self.entry.nodes }
     {
         Context {
             exit: Some(exit),
@@ -101,6 +107,8 @@ impl<'a> Context<'a> {
     pub fn with_value(self, register: ValueRegister) -> Context<'a>
         ensures held { result.held ≡ self.entry.held }
         ensures same { (x : _) → Agrees x self.entry → Agrees (record x { values = register + 1 }) result }
+        ensures values { result.values ≡ register + 1 }
+        ensures nodes { result.nodes ≡ self.entry.nodes }
     {
         Context {
             values: register.index() + 1,
@@ -112,6 +120,8 @@ impl<'a> Context<'a> {
     pub fn with_place(self, place: &Place) -> Context<'a>
         ensures held { nodes_of result.held ≡ locked place.now (nodes_of self.entry.held) }
         ensures same { (x : _) → Agrees x self.entry → Agrees (record x { nodes = nodes_behind place.now }) result }
+        ensures values { result.values ≡ self.entry.values }
+        ensures nodes { result.nodes ≡ nodes_behind place.now }
     {
         Context {
             held: locked(place, self.held),

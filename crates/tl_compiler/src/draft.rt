@@ -1,33 +1,12 @@
 // Code that is written from its end to its start.
 
-ghost use Rattle.std.specs.Prelude.{◌≡◌, [], ◌∷◌, ◌<◌, length, reverse, IfOk, OnOk};
+ghost use Rattle.std.specs.Prelude.{◌≡◌, [], ◌∷◌, ◌<◌, length, reverse, OnOk};
 ghost use Rattle.tl_instr.specs.declared.instr.Instr.TheVariants.{Jump};
 ghost use Rattle.tl_instr.specs.declared.operand.TheConstants.{VALUE_REGISTERS, NODE_REGISTERS};
 
 use crate::node_set::NodeSet;
-use std::alloc::{AllocError, AllocFailed, Global};
+use std::alloc::{AllocError, Global};
 use tl_instr::{Instr, NODE_REGISTERS, NodeRegister, ValueRegister};
-
-/// Why there is no code.
-#[derive(Clone, Copy, Debug, PartialEq, Eq)]
-pub enum DraftFault {
-    /// There are too few registers.
-    NoRegister,
-    /// Memory was refused.
-    Memory,
-}
-
-impl From<AllocError> for DraftFault {
-    fn from(_error: AllocError) -> DraftFault {
-        DraftFault::Memory
-    }
-}
-
-impl<T: Drop> From<AllocFailed<T>> for DraftFault {
-    fn from(_error: AllocFailed<T>) -> DraftFault {
-        DraftFault::Memory
-    }
-}
 
 /// A place in a code: how many instructions there are from it to the end.
 #[derive(Clone, Copy, Debug, PartialEq, Eq)]
@@ -55,31 +34,25 @@ pub struct Draft {
     pub origins: Vec<usize>,
 }
 
-/// The value register of that number, if there is one.
-pub fn value_register(number: usize) -> Result<ValueRegister, DraftFault>
-    ensures value { IfOk result (λ r. r ≡ number) }
-    ensures in_range { OnOk result (number < VALUE_REGISTERS) }
+/// The value register of that number.
+pub fn value_register(number: usize) -> ValueRegister
+    requires { number < VALUE_REGISTERS }
+    ensures { result ≡ number }
 {
-    let Ok(number) = u8::try_from(number) else {
-        return Err(DraftFault::NoRegister);
-    };
-    match ValueRegister::new(number) {
-        Some(register) => Ok(register),
-        None => Err(DraftFault::NoRegister),
+    match ValueRegister::new(number as u8) {
+        Some(register) => register,
+        None => unreachable!(),
     }
 }
 
-/// The node register of that number, if there is one.
-pub fn node_register(number: usize) -> Result<NodeRegister, DraftFault>
-    ensures value { IfOk result (λ r. r ≡ number) }
-    ensures in_range { OnOk result (number < NODE_REGISTERS) }
+/// The node register of that number.
+pub fn node_register(number: usize) -> NodeRegister
+    requires { number < NODE_REGISTERS }
+    ensures { result ≡ number }
 {
-    let Ok(number) = u8::try_from(number) else {
-        return Err(DraftFault::NoRegister);
-    };
-    match NodeRegister::new(number) {
-        Some(register) => Ok(register),
-        None => Err(DraftFault::NoRegister),
+    match NodeRegister::new(number as u8) {
+        Some(register) => register,
+        None => unreachable!(),
     }
 }
 
@@ -107,7 +80,7 @@ impl Draft {
 
     /// Puts one more instruction before the others.
     #[tactic(auto, using(crate::proofs::CodeLemmas::pushed))]
-    pub fn put(&mut self, origin: usize, instr: Instr) -> Result<(), DraftFault>
+    pub fn put(&mut self, origin: usize, instr: Instr) -> Result<(), AllocError>
         ensures { OnOk result (reverse self.new.instrs.items ≡ instr ∷ reverse self.old.instrs.items) }
     {
         self.origins.push(origin)?;
@@ -115,7 +88,7 @@ impl Draft {
         Ok(())
     }
 
-    pub fn jump(&mut self, origin: usize, label: Label) -> Result<(), DraftFault>
+    pub fn jump(&mut self, origin: usize, label: Label) -> Result<(), AllocError>
         ensures { OnOk result (reverse self.new.instrs.items ≡ Jump (target_of label.0) ∷ reverse self.old.instrs.items) }
     {
         let target = label.target();
@@ -123,7 +96,7 @@ impl Draft {
     }
 
     /// Frees these registers, the highest first.
-    pub fn release(&mut self, origin: usize, nodes: NodeSet) -> Result<(), DraftFault>
+    pub fn release(&mut self, origin: usize, nodes: NodeSet) -> Result<(), AllocError>
         ensures { OnOk result (reverse self.new.instrs.items ≡ release_code (nodes_of nodes) (reverse self.old.instrs.items)) }
     {
         for number in 0..NODE_REGISTERS as u8 {

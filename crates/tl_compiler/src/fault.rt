@@ -56,9 +56,6 @@ pub enum CompileFault {
     /// 289: there isn't one procedure to be compiled.
     #[error("the text has not one procedure, or none of that name")]
     NotOne,
-    /// 298: the verifier refuses the code of the procedure.
-    #[error("{0}: the verifier refuses what was compiled; please report this text")]
-    Refused(Position),
     /// 290: memory was refused.
     #[error("out of memory")]
     Memory,
@@ -98,9 +95,7 @@ impl CompileFault {
     /// Where in the text, if the fault has a place.
     pub fn position(&self) -> Option<Position> {
         match *self {
-            CompileFault::Wrong(_, position)
-            | CompileFault::Over(_, _, position)
-            | CompileFault::Refused(position) => Some(position),
+            CompileFault::Wrong(_, position) | CompileFault::Over(_, _, position) => Some(position),
             CompileFault::NotUtf8 | CompileFault::NotOne | CompileFault::Memory => None,
         }
     }
@@ -114,7 +109,6 @@ impl CompileFault {
             CompileFault::Wrong(wrong, position) => numbers_at(wrong.number(), position),
             CompileFault::Over(excess, _, position) => numbers_at(excess.number(), position),
             CompileFault::NotOne => alone(289),
-            CompileFault::Refused(position) => numbers_at(298, position),
             CompileFault::Memory => alone(290),
         }
     }

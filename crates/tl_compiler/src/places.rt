@@ -1,10 +1,12 @@
 // The code that locks places.
 
 ghost use Rattle.std.specs.Prelude.{◌≡◌, length, reverse, OnOk};
+ghost use Rattle.tl_lowering.specs.Fit.{HasPlaceRoom};
 ghost use Rattle.tl_compiler.specs.Statements.{in_order_code, pair_code, place_code};
 
-use crate::draft::{Draft, DraftFault, Label};
+use crate::draft::{Draft, Label};
 use crate::values::{Site, behind, register_of};
+use std::alloc::AllocError;
 use tl_instr::{Instr, NodeRegister, ValueRegister};
 use tl_lowering::Place;
 
@@ -17,7 +19,8 @@ struct Claim {
 
 impl Draft {
     /// The code that locks a place. If it can't be locked, control goes to the site's failure.
-    pub fn place(&mut self, place: &Place, site: Site) -> Result<(), DraftFault>
+    pub fn place(&mut self, place: &Place, site: Site) -> Result<(), AllocError>
+        requires { HasPlaceRoom place.now site.free }
         ensures { OnOk result (reverse self.new.instrs.items ≡ place_code place.now site.free site.failure.0 (reverse self.old.instrs.items)) }
     {
         let otherwise = site.failure.target();
@@ -25,7 +28,7 @@ impl Draft {
             Place::Node(to, number) => {
                 let instr = Instr::First {
                     to: *to,
-                    number: register_of(number, site.free)?,
+                    number: register_of(number, site.free),
                     otherwise,
                 };
                 self.put(site.origin, instr)?;
@@ -35,7 +38,7 @@ impl Draft {
                 let instr = Instr::Child {
                     to: *to,
                     parent: *parent,
-                    number: register_of(number, site.free)?,
+                    number: register_of(number, site.free),
                     otherwise,
                 };
                 self.put(site.origin, instr)?;
@@ -50,11 +53,11 @@ impl Draft {
             } => {
                 let first = Claim {
                     node: *first,
-                    number: register_of(first_number, site.free)?,
+                    number: register_of(first_number, site.free),
                 };
                 let second = Claim {
                     node: *second,
-                    number: register_of(second_number, behind(first_number, site.free)?)?,
+                    number: register_of(second_number, behind(first_number, site.free)),
                 };
                 self.pair(&first, &second, *parent, site)?;
                 self.operands(first_number, second_number, site)
@@ -70,7 +73,7 @@ impl Draft {
         parent: NodeRegister,
         done: Label,
         site: Site,
-    ) -> Result<(), DraftFault>
+    ) -> Result<(), AllocError>
         ensures { OnOk result (reverse self.new.instrs.items ≡ in_order_code lower.now.node lower.now.number upper.now.node upper.now.number parent done.0 site.failure.0 (reverse self.old.instrs.items)) }
     {
         let origin = site.origin;
@@ -105,7 +108,7 @@ impl Draft {
         second: &Claim,
         parent: NodeRegister,
         site: Site,
-    ) -> Result<(), DraftFault>
+    ) -> Result<(), AllocError>
         ensures { OnOk result (reverse self.new.instrs.items ≡ pair_code first.now.node first.now.number second.now.node second.now.number parent site.failure.0 (reverse self.old.instrs.items)) }
     {
         let origin = site.origin;

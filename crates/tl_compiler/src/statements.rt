@@ -1,17 +1,21 @@
 // The code of statements.
 
-ghost use Rattle.std.specs.Prelude.{◌≡◌, ◌∷◌, ◌||◌, false, not, List, length, reverse, is_some, option_map, OnOk, IfOk};
+ghost use Rattle.std.specs.Prelude.{◌≡◌, ◌+◌, ◌<◌, ◌≤◌, ◌∷◌, ◌||◌, false, not, List, length, reverse, is_some, option_map, OnOk, IfOk};
 ghost use Rattle.tl_compiler.specs.Contexts.{Agrees, LeadsTo, Writes, AreWays, ArePads, code_of, way_of, guarded_code};
 ghost use Rattle.tl_compiler.specs.NodeSets.{nodes_of, nodes_at, all_sets, AreThose};
-ghost use Rattle.tl_compiler.specs.Numbers.{register_of, operand_code};
+ghost use Rattle.tl_compiler.specs.Numbers.{register_of, behind, operand_code};
+ghost use Rattle.tl_compiler.specs.Rooms.{Fits};
+ghost use Rattle.tl_instr.specs.declared.operand.TheConstants.{VALUE_REGISTERS, NODE_REGISTERS};
+ghost use Rattle.tl_lowering.specs.Registers.{HasRegisters};
 ghost use Rattle.tl_compiler.specs.Statements.{counted_code, way_out, direct, is_skip, releases, held_behind, second_way, joining_code, loop_code, leave_code, statement_code, release_code, pad_at, pads_of};
 ghost use Rattle.tl_lowering.specs.Outcomes.{after};
 
 use crate::context::{Context, Exit, Pads};
-use crate::draft::{Draft, DraftFault, Label, node_register, value_register};
+use crate::draft::{Draft, Label, node_register, value_register};
 use crate::node_set::{NodeSet, NodeSets, SETS};
 use crate::outcomes::outcomes_of;
 use crate::values::{Site, behind, register_of};
+use std::alloc::AllocError;
 use tl_instr::{Instr, NodeRegister};
 use tl_lowering::{Expression, Statement};
 
@@ -123,7 +127,7 @@ impl Draft {
         jumps: bool,
         done: Label,
         origin: usize,
-    ) -> Result<(), DraftFault>
+    ) -> Result<(), AllocError>
         ensures { OnOk result (code_of self.new ≡ joining_code (nodes_at after) (nodes_of kept) jumps done.0 (code_of self.old)) }
     {
         let Some(after) = after else {
@@ -142,7 +146,8 @@ impl Draft {
         statement: &Statement,
         kept: NodeSet,
         context: Context<'_>,
-    ) -> Result<Ways, DraftFault>
+    ) -> Result<Ways, AllocError>
+        requires { Fits statement.now context.values context.nodes }
         ensures { IfOk result (λ ways. (x : _) → Agrees x context.entry → AreWays ways (second_way (way_of statement.now (nodes_of context.entry.held) x) (nodes_of kept) (code_of self.old)) (nodes_of kept) self.old self.new) }
     {
         let done = self.here();
@@ -172,7 +177,8 @@ impl Draft {
         statement: &Statement,
         ways: Ways,
         context: Context<'_>,
-    ) -> Result<(), DraftFault>
+    ) -> Result<(), AllocError>
+        requires { Fits statement.now context.values context.nodes }
         ensures { OnOk result (Writes (λ x k. statement_code statement.now (nodes_of context.entry.held) x (joining_code (after statement.now (nodes_of context.entry.held)) (nodes_of ways.kept) ways.jumps ways.done.0 k)) context.entry self.old self.new) }
     {
         let after = outcomes_of(statement, context.held).after;
@@ -188,7 +194,7 @@ impl Draft {
         handler: Label,
         pads: &mut Pads,
         origin: usize,
-    ) -> Result<(), DraftFault>
+    ) -> Result<(), AllocError>
         ensures code { OnOk result (code_of self.new ≡ release_code (minus (nodes_of held) (nodes_of handled)) (Jump (target_of handler.0) ∷ code_of self.old)) }
         ensures leads { OnOk result ((pad : Nodes → ℕ) → LeadsTo pad pads.old → LeadsTo (pad_at (nodes_of held) (length (code_of self.new)) pad) pads.new) }
     {
@@ -206,7 +212,7 @@ impl Draft {
         handler: Label,
         pads: &mut Pads,
         origin: usize,
-    ) -> Result<bool, DraftFault>
+    ) -> Result<bool, AllocError>
         ensures { IfOk result (λ is_one. (list : List Nodes) → AreThose fails.now list → (pad : Nodes → ℕ) → LeadsTo pad pads.old → ArePads (pads_of all_sets list (nodes_of handled) handler.0 (record { code = code_of self.old; pad = pad; are_some = false })) self.new pads.new is_one) }
     {
         let mut is_one = false;
@@ -228,7 +234,8 @@ impl Draft {
         handled: NodeSet,
         ways: Ways,
         context: Context<'_>,
-    ) -> Result<(), DraftFault>
+    ) -> Result<(), AllocError>
+        requires { Fits body.now context.values context.nodes }
         ensures { OnOk result (Writes (guarded_code body.now (nodes_of context.entry.held) (nodes_of handled) ways) context.entry self.old self.new) }
     {
         let fails = outcomes_of(body, context.held).fails;
@@ -254,7 +261,8 @@ impl Draft {
         kept: NodeSet,
         may_end: bool,
         context: Context<'_>,
-    ) -> Result<(), DraftFault>
+    ) -> Result<(), AllocError>
+        requires { Fits body.now context.values context.nodes }
         ensures { OnOk result (Writes (loop_code (statement_code body.now (nodes_of context.entry.held)) (may_end || is_some (after body.now (nodes_of context.entry.held))) (nodes_of context.entry.held) (nodes_of kept)) context.entry self.old self.new) }
     {
         let exit = Exit {
@@ -269,11 +277,12 @@ impl Draft {
     }
 
     // Opens a loop of as many turns as the number says. If these are more than `most`, control goes to the site's failure.
-    fn counted(&mut self, number: &Expression, most: u16, site: Site) -> Result<(), DraftFault>
+    fn counted(&mut self, number: &Expression, most: u16, site: Site) -> Result<(), AllocError>
+        requires { HasRegisters number.now site.free × (behind number.now site.free + 1 ≤ VALUE_REGISTERS) }
         ensures { OnOk result (reverse self.new.instrs.items ≡ counted_code number.now most site.free site.failure.0 (reverse self.old.instrs.items)) }
     {
-        let turns = register_of(number, site.free)?;
-        let bound = value_register(behind(number, site.free)?)?;
+        let turns = register_of(number, site.free);
+        let bound = value_register(behind(number, site.free));
         let origin = site.origin;
         self.put(origin, Instr::RepeatBy { turns, count: most })?;
         self.put(
@@ -295,7 +304,8 @@ impl Draft {
     }
 
     // The instruction that does something with a number, after the number.
-    fn write(&mut self, number: &Expression, instr: Instr, site: Site) -> Result<(), DraftFault>
+    fn write(&mut self, number: &Expression, instr: Instr, site: Site) -> Result<(), AllocError>
+        requires { HasRegisters number.now site.free }
         ensures { OnOk result (code_of self.new ≡ operand_code number.now site.free site.failure.0 (instr ∷ code_of self.old)) }
     {
         self.put(site.origin, instr)?;
@@ -309,10 +319,11 @@ impl Draft {
         number: &Expression,
         free: usize,
         site: Site,
-    ) -> Result<(), DraftFault>
+    ) -> Result<(), AllocError>
+        requires { HasRegisters number.now site.free × (free < NODE_REGISTERS) }
         ensures { OnOk result (code_of self.new ≡ operand_code number.now site.free site.failure.0 (Child free node (register_of number.now site.free) (target_of site.failure.0) ∷ Release node ∷ Move node free ∷ code_of self.old)) }
     {
-        let below = node_register(free)?;
+        let below = node_register(free);
         let origin = site.origin;
         self.put(
             origin,
@@ -325,7 +336,7 @@ impl Draft {
         let instr = Instr::Child {
             to: below,
             parent: node,
-            number: register_of(number, site.free)?,
+            number: register_of(number, site.free),
             otherwise: site.failure.target(),
         };
         self.write(number, instr, site)
@@ -337,14 +348,14 @@ impl Draft {
         node: NodeRegister,
         from: NodeRegister,
         origin: usize,
-    ) -> Result<(), DraftFault>
+    ) -> Result<(), AllocError>
         ensures { OnOk result (code_of self.new ≡ Release node ∷ Move node from ∷ code_of self.old) }
     {
         self.put(origin, Instr::Move { to: node, from })?;
         self.put(origin, Instr::Release { node })
     }
 
-    fn leave_loop(&mut self, context: Context<'_>) -> Result<(), DraftFault>
+    fn leave_loop(&mut self, context: Context<'_>) -> Result<(), AllocError>
         ensures { OnOk result (Writes (λ x k. leave_code (nodes_of context.entry.held) x.exit k) context.entry self.old self.new) }
     {
         let Some(exit) = context.exit else {
@@ -360,7 +371,8 @@ impl Draft {
         &mut self,
         statement: &Statement,
         context: Context<'_>,
-    ) -> Result<(), DraftFault>
+    ) -> Result<(), AllocError>
+        requires { Fits statement.now context.values context.nodes }
         ensures { OnOk result (Writes (statement_code statement.now (nodes_of context.entry.held)) context.entry self.old self.new) }
     {
         let origin = context.origin;
@@ -377,12 +389,12 @@ impl Draft {
                 let instr = Instr::Put {
                     node: *node,
                     field: *field,
-                    from: register_of(number, site.free)?,
+                    from: register_of(number, site.free),
                 };
                 self.write(number, instr, site)
             }
             Statement::Emit(number) => {
-                let from = register_of(number, site.free)?;
+                let from = register_of(number, site.free);
                 self.write(number, Instr::Emit { from }, site)
             }
             Statement::Free(node) => self.put(origin, Instr::Release { node: *node }),

@@ -1,10 +1,13 @@
 // The code of numbers and conditions.
 
-ghost use Rattle.std.specs.Prelude.{◌≡◌, length, reverse, IfOk, OnOk, if◌then◌else◌};
+ghost use Rattle.std.specs.Prelude.{◌≡◌, length, reverse, OnOk, if◌then◌else◌};
 ghost use Rattle.tl_compiler.specs.Numbers.{own_register, register_of, behind, calculation, into_code, operand_code, operands_code, jump_code, test_jump, comparison_code, branch_code};
 ghost use Rattle.tl_instr.specs.declared.instr.Instr.TheVariants.{JumpIfLess};
+ghost use Rattle.tl_lowering.specs.Fit.{HasBoth, HasConditionRoom};
+ghost use Rattle.tl_lowering.specs.Registers.{HasTemporaries, HasRegisters};
 
-use crate::draft::{Draft, DraftFault, Label, value_register};
+use crate::draft::{Draft, Label, value_register};
+use std::alloc::AllocError;
 use tl_instr::{Instr, ValueRegister};
 use tl_lowering::{Condition, Expression};
 use tl_syntax::Operator;
@@ -31,25 +34,26 @@ fn own_register(number: &Expression) -> Option<ValueRegister>
 }
 
 /// The register that an operand is in: a value is in its own.
-pub fn register_of(operand: &Expression, free: usize) -> Result<ValueRegister, DraftFault>
-    ensures { IfOk result (λ r. r ≡ register_of operand.now free) }
+#[tactic(auto, using(crate::proofs::RoomLemmas::free_register))]
+pub fn register_of(operand: &Expression, free: usize) -> ValueRegister
+    requires { HasRegisters operand.now free }
+    ensures { result ≡ register_of operand.now free }
 {
     match own_register(operand) {
-        Some(register) => Ok(register),
+        Some(register) => register,
         None => value_register(free),
     }
 }
 
 /// The next free register after an operand.
-pub fn behind(operand: &Expression, free: usize) -> Result<usize, DraftFault>
-    ensures { IfOk result (λ n. n ≡ behind operand.now free) }
+#[tactic(auto, using(crate::proofs::RoomLemmas::free_register))]
+pub fn behind(operand: &Expression, free: usize) -> usize
+    requires { HasRegisters operand.now free }
+    ensures { result ≡ behind operand.now free }
 {
     match own_register(operand) {
-        Some(_) => Ok(free),
-        None => {
-            let register = value_register(free)?;
-            Ok(register.index() + 1)
-        }
+        Some(_) => free,
+        None => free + 1,
     }
 }
 
@@ -119,13 +123,15 @@ fn test_jump(test: Test, left: ValueRegister, right: ValueRegister, target: u16)
 impl Draft {
     /// The code that puts a number into the site's first free register; a value stays in its own.
     #[cycle(numbers)]
-    pub fn operand(&mut self, operand: &Expression, site: Site) -> Result<(), DraftFault>
+    #[tactic(auto, using(crate::proofs::RoomLemmas::free_register, crate::proofs::RoomLemmas::of_registers))]
+    pub fn operand(&mut self, operand: &Expression, site: Site) -> Result<(), AllocError>
+        requires { HasRegisters operand.now site.free }
         ensures { OnOk result (reverse self.new.instrs.items ≡ operand_code operand.now site.free site.failure.0 (reverse self.old.instrs.items)) }
     {
         match own_register(operand) {
             Some(_) => Ok(()),
             None => {
-                let to = value_register(site.free)?;
+                let to = value_register(site.free);
                 self.into(operand, to, site)
             }
         }
@@ -133,12 +139,14 @@ impl Draft {
 
     /// The code that puts a number into a register. Only its last instruction writes that register.
     #[cycle(numbers)]
+    #[tactic(auto, using(crate::proofs::RoomLemmas::left_fits, crate::proofs::RoomLemmas::right_fits))]
     pub fn into(
         &mut self,
         number: &Expression,
         to: ValueRegister,
         site: Site,
-    ) -> Result<(), DraftFault>
+    ) -> Result<(), AllocError>
+        requires { HasTemporaries number.now site.free }
         ensures { OnOk result (reverse self.new.instrs.items ≡ into_code number.now to site.free site.failure.0 (reverse self.old.instrs.items)) }
     {
         let origin = site.origin;
@@ -160,9 +168,9 @@ impl Draft {
                 self.put(origin, Instr::Kids { to, node })
             }
             Expression::Calculated(operator, left, right) => {
-                let free = behind(left, site.free)?;
-                let first = register_of(left, site.free)?;
-                let second = register_of(right, free)?;
+                let free = behind(left, site.free);
+                let first = register_of(left, site.free);
+                let second = register_of(right, free);
                 let instr = operation(*operator, to, first, second, site.failure);
                 self.put(origin, instr)?;
                 self.operand(right, Site { free, ..site })?;
@@ -177,10 +185,11 @@ impl Draft {
         left: &Expression,
         right: &Expression,
         site: Site,
-    ) -> Result<(), DraftFault>
+    ) -> Result<(), AllocError>
+        requires { HasBoth left.now right.now site.free }
         ensures { OnOk result (reverse self.new.instrs.items ≡ operands_code left.now right.now site.free site.failure.0 (reverse self.old.instrs.items)) }
     {
-        let free = behind(left, site.free)?;
+        let free = behind(left, site.free);
         self.operand(right, Site { free, ..site })?;
         self.operand(left, site)
     }
@@ -193,7 +202,7 @@ impl Draft {
         sense: bool,
         label: Label,
         origin: usize,
-    ) -> Result<(), DraftFault>
+    ) -> Result<(), AllocError>
         ensures { OnOk result (reverse self.new.instrs.items ≡ jump_code (test_jump test registers.0 registers.1) sense label.0 (reverse self.old.instrs.items)) }
     {
         let (left, right) = registers;
@@ -214,12 +223,13 @@ impl Draft {
         sense: bool,
         label: Label,
         site: Site,
-    ) -> Result<(), DraftFault>
+    ) -> Result<(), AllocError>
+        requires { HasBoth left.now right.now site.free }
         ensures { OnOk result (reverse self.new.instrs.items ≡ comparison_code (test_jump test) left.now right.now sense label.0 site.free site.failure.0 (reverse self.old.instrs.items)) }
     {
-        let free = behind(left, site.free)?;
-        let first = register_of(left, site.free)?;
-        let second = register_of(right, free)?;
+        let free = behind(left, site.free);
+        let first = register_of(left, site.free);
+        let second = register_of(right, free);
         self.jump_if(test, (first, second), sense, label, site.origin)?;
         self.operands(left, right, site)
     }
@@ -232,12 +242,13 @@ impl Draft {
         sense: bool,
         label: Label,
         site: Site,
-    ) -> Result<(), DraftFault>
+    ) -> Result<(), AllocError>
+        requires { HasBoth left.now right.now site.free }
         ensures { OnOk result (reverse self.new.instrs.items ≡ comparison_code (λ x y l. JumpIfLess y x l) left.now right.now sense label.0 site.free site.failure.0 (reverse self.old.instrs.items)) }
     {
-        let free = behind(left, site.free)?;
-        let first = register_of(left, site.free)?;
-        let second = register_of(right, free)?;
+        let free = behind(left, site.free);
+        let first = register_of(left, site.free);
+        let second = register_of(right, free);
         self.jump_if(Test::Less, (second, first), sense, label, site.origin)?;
         self.operands(left, right, site)
     }
@@ -257,7 +268,8 @@ impl Draft {
         sense: bool,
         label: Label,
         site: Site,
-    ) -> Result<(), DraftFault>
+    ) -> Result<(), AllocError>
+        requires { HasConditionRoom condition.now site.free }
         ensures { OnOk result (reverse self.new.instrs.items ≡ branch_code condition.now sense label.0 site.free site.failure.0 (reverse self.old.instrs.items)) }
     {
         match condition {

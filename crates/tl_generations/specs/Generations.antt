@@ -2,8 +2,8 @@
 use Rattle.std.specs.Prelude.{◌≡◌, ℕ, List, [], ◌∷◌, ◌++◌, map}
 use Rattle.tl_tree.specs.Records.{Records}
 use Rattle.tl_tree_locking.specs.Epochs.{run_each, joined, joined_replies}
-use Rattle.tl_procedures.specs.Names.{Named}
-use Rattle.tl_table.specs.Epochs.{EpochValue, seen, BeginsWith}
+use Rattle.tl_procedures.specs.Names.{Named, BeginsWith}
+use Rattle.tl_table.specs.Epochs.{EpochValue, seen}
 use Rattle.tl_table.specs.Tables.{epoch_world, records_after, procedures_after, IsChain}
 use Rattle.tl_table.specs.Chains.{epoch_order}
 

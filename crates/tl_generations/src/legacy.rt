@@ -2,7 +2,6 @@
 
 ghost use Rattle.std.specs.Prelude.{◌≡◌, ◌↔◌, [], length, IsTrue, IfOk, IfErr};
 ghost use Rattle.tl_table.specs.Tables.{IsChain};
-ghost use Rattle.tl_table.specs.Epochs.{BeginsWith};
 ghost use Rattle.tl_generations.specs.Generations.{LegacyValue, TakesUp, TakesUpFirst, legacy_after};
 
 use std::alloc::{AllocError, Global};
@@ -80,7 +79,7 @@ impl Legacy {
         if !are_same(core.opening().records(), self.tree.records()) {
             return false;
         }
-        begin_with(core.procedures(), &self.procedures)
+        core.procedures().begin_with(&self.procedures)
     }
 
     /// The tree.
@@ -111,22 +110,4 @@ fn are_same(records: &[Record], others: &[Record]) -> bool
     ensures { IsTrue result ↔ (records.now ≡ others.now) }
 {
     records == others
-}
-
-// Whether the procedures begin with those of `first`.
-fn begin_with(procedures: &Procedures, first: &Procedures) -> bool
-    ensures { IsTrue result ↔ BeginsWith first.now procedures.now }
-{
-    if procedures.len() < first.len() {
-        return false;
-    }
-    for number in 0..first.len() as u32 {
-        if procedures.name(number) != first.name(number) {
-            return false;
-        }
-        if !procedures.get(number).is(first.get(number)) {
-            return false;
-        }
-    }
-    true
 }

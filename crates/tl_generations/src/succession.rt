@@ -32,7 +32,8 @@ impl Model for Succession {
 impl Succession {
     /// Before any table was closed: what the calls of this core begin with.
     pub fn new(alloc: Global, core: &Core) -> Result<Succession, AllocError>
-        ensures { IfOk result (λ s. s.last ≡ s.first) }
+        ensures first { IfOk result (λ s. s.first ≡ record { parents = core.now.seen.parents; records = core.now.seen.opening; procedures = core.now.seen.procedures }) }
+        ensures last { IfOk result (λ s. s.last ≡ s.first) }
     {
         let first = Legacy::before(alloc, core)?;
         let last = Legacy::before(alloc, core)?;

@@ -108,7 +108,7 @@ impl NodeRegister {
     }
 }
 
-/// A field of a record, 0 to 3.
+/// A field of a record, 0 to 7.
 #[derive(Clone, Copy, Debug, PartialEq, Eq)]
 pub struct Field {
     number: u8,

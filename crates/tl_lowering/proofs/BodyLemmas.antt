@@ -57,19 +57,19 @@ same_behind start draft new o s = rw (o, s) refl
 
 -- what the block and what was declared before it in the same place named is forgotten
 pub back : (old begun inner new : View) (k : ℕ) → ((outer : View) → Extends outer old → Extends outer begun) → inner ≡ begun → k ≡ length old.local
-    → new.meanings ≡ forget (drop k inner.local) inner.meanings → new.fields ≡ inner.fields → new.local ≡ take k inner.local → new.values ≡ old.values → new.nodes ≡ old.nodes
+    → new.meanings ≡ forget (drop k inner.local) inner.meanings → new.fields ≡ inner.fields → new.procedures ≡ inner.procedures → new.local ≡ take k inner.local → new.values ≡ old.values → new.nodes ≡ old.nodes
     → new.loops ≡ old.loops → new ≡ old
-back old begun inner new k extends same is m f l v n o =
+back old begun inner new k extends same is m f r l v n o =
     returned old inner new (subst (Extends old) (sym same) (extends old (extends_self old)))
-    (m ∙ ap (λ i. forget (drop i inner.local) inner.meanings) is) f (l ∙ ap (λ i. take i inner.local) is) v n o
+    (m ∙ ap (λ i. forget (drop i inner.local) inner.meanings) is) f r (l ∙ ap (λ i. take i inner.local) is) v n o
 
 -- and one loop less is around
 pub loop_back : (old begun inner new : View) (k turns : ℕ) → ((outer : View) → Extends outer old → Extends outer begun) → inner ≡ begun → k ≡ length old.local
-    → new.meanings ≡ forget (drop k inner.local) inner.meanings → new.fields ≡ inner.fields → new.local ≡ take k inner.local → new.values ≡ old.values → new.nodes ≡ old.nodes
+    → new.meanings ≡ forget (drop k inner.local) inner.meanings → new.fields ≡ inner.fields → new.procedures ≡ inner.procedures → new.local ≡ take k inner.local → new.values ≡ old.values → new.nodes ≡ old.nodes
     → new.loops ≡ inner.loops → begun.loops ≡ old.loops + 1 → turns ≡ new.loops - 1 → record new { loops = turns } ≡ old
-loop_back old begun inner new k turns extends same is m f l v n o more less =
+loop_back old begun inner new k turns extends same is m f r l v n o more less =
     let around : inner.loops ≡ begun.loops = ap (λ (w : View). w.loops) same in
-    back old begun inner (record new { loops = turns }) k extends same is m f l v n (omega arith)
+    back old begun inner (record new { loops = turns }) k extends same is m f r l v n (omega arith)
 
 -- ---- where the same is held
 

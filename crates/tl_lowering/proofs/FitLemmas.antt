@@ -22,10 +22,11 @@ use Rattle.tl_lowering.specs.declared.program.Place.{Place}
 use Rattle.tl_lowering.specs.declared.program.Procedure.{Procedure}
 use Rattle.tl_lowering.specs.declared.program.Statement.{Statement}
 use Rattle.tl_lowering.specs.declared.program.Statement.TheVariants as S
-use Rattle.tl_lowering.specs.Fit.{loops, AllTurn, AllSlots, HasBoth, IsWord, HasConditionRoom, HasRoom, EntersOnce}
+use Rattle.tl_lowering.specs.Fit.{loops, AllTurn, AllSlots, HasBoth, IsWord, HasConditionRoom, HasRoom}
 use Rattle.tl_lowering.specs.Names.{Names, names_in, HasNode, in_loop, with_node, with_unnamed, with_place}
 use Rattle.tl_lowering.specs.Naming.{IsCount, count, constant_count, IsPlace, node, child, pair, calculated, opposite, together, IsComparison, IsCondition, comparison, negation, conjunction, disjunction, then, IsHalved, none, one, more, AreEmits, no_emits, next_emit, IsAction, assigns, writes, emits, requires, descends, takes, frees, breaks, returns, fails}
 use Rattle.tl_lowering.specs.Outcomes.{fails as failures}
+use Rattle.tl_lowering.specs.Passing.{nothing_before, EntersOnce}
 use Rattle.tl_lowering.specs.Reading.{IsAtOffset, at, IsTried, tried, IsVisiting, visiting, IsBlock, block, AreStatements, no_more, next, let_rest, let_else, lock_rest, lock_else, IsStatement, act, act_else, try, if, if_lock, repeat, repeat_up_to, for_each, IsBody}
 use Rattle.tl_lowering.specs.Scopes.{View, is_in_loop}
 use Rattle.tl_lowering.specs.Sets.{none_held}
@@ -162,7 +163,7 @@ in_body : {names : Names} {text : TextProcedure} {s : Statement} → names.loops
 in_body le b = handled (handled (in_block le b.body_is) (in_block le b.handler_is) b.handled_is) (record { turns = tt; slots = tt; depth = omega arith; room = tt }) b.whole_is
 
 pub in_order : (scope : View) (text : TextProcedure) (p : Procedure) → p.arity ≡ scope.values → scope.values ≤ MAX_ARGS → scope.nodes ≡ 0 → scope.loops ≡ 0
-    → IsBody (names_in scope) text p.body → IsSound p.body scope.values scope.nodes none_held (is_in_loop scope) → failures p.body none_held ≡ [] → EntersOnce p.body false → IsWord p.name.items → IsInOrder p
+    → IsBody (names_in scope) text p.body → IsSound p.body scope.values scope.nodes none_held (is_in_loop scope) → failures p.body none_held ≡ [] → EntersOnce p.body nothing_before → IsWord p.name.items → IsInOrder p
 in_order scope text p arity few nodes loops body sound handled enters name =
     let outside : scope.loops ≤ MAX_DEPTH = omega arith in
     let f = in_body outside body in

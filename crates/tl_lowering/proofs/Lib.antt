@@ -1,7 +1,11 @@
+pub mod AlikeBlocks
+pub mod AlikeLemmas
+pub mod BeyondLemmas
 pub mod BitLemmas
 pub mod BlockLemmas
 pub mod BodyLemmas
 pub mod DepthLemmas
+pub mod DescendLemmas
 pub mod DraftLemmas
 pub mod EnterLemmas
 pub mod FitLemmas
@@ -15,6 +19,7 @@ pub mod OpeningLemmas
 pub mod PartLemmas
 pub mod PathLemmas
 pub mod RegisterLemmas
+pub mod Rows
 pub mod ScopeLemmas
 pub mod SetLemmas
 pub mod TextLemmas

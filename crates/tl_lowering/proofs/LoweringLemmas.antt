@@ -133,24 +133,31 @@ handled_lowered scope held start body handler whole flow other both l e m w p =
 
 -- ---- names
 
-same_view : (a b : List Meaning) (f g : List (Option Field)) (c d : List Symbol) (t u m k x y : ℕ) → a ≡ b → f ≡ g → c ≡ d → t ≡ u → m ≡ k → x ≡ y
-    → ◌≡◌ {A = View} (record { meanings = a; fields = f; local = c; values = t; nodes = m; loops = x }) (record { meanings = b; fields = g; local = d; values = u; nodes = k; loops = y })
-same_view a b f g c d t u m k x y e i j l o p = cc
+same_view : (a b : List Meaning) (f g : List (Option Field)) (r s : List Bool) (c d : List Symbol) (t u m k x y : ℕ) → a ≡ b → f ≡ g → r ≡ s → c ≡ d → t ≡ u → m ≡ k → x ≡ y
+    → ◌≡◌ {A = View} (record { meanings = a; fields = f; procedures = r; local = c; values = t; nodes = m; loops = x })
+    (record { meanings = b; fields = g; procedures = s; local = d; values = u; nodes = k; loops = y })
+same_view a b f g r s c d t u m k x y e i h j l o p = cc
 
 -- what was declared since is forgotten
 pub returned : (old inner new : View) → Extends old inner → new.meanings ≡ forget (drop (length old.local) inner.local) inner.meanings → new.fields ≡ inner.fields
-    → new.local ≡ take (length old.local) inner.local → new.values ≡ old.values → new.nodes ≡ old.nodes → new.loops ≡ old.loops → new ≡ old
-returned old inner new e m f l v n o = same_view _ _ _ _ _ _ _ _ _ _ _ _ (m ∙ e.meanings) (f ∙ e.fields) (l ∙ e.local) v n o
+    → new.procedures ≡ inner.procedures → new.local ≡ take (length old.local) inner.local → new.values ≡ old.values → new.nodes ≡ old.nodes → new.loops ≡ old.loops → new ≡ old
+returned old inner new e m f r l v n o = same_view _ _ _ _ _ _ _ _ _ _ _ _ _ _ (m ∙ e.meanings) (f ∙ e.fields) (r ∙ e.procedures) (l ∙ e.local) v n o
 
 pub extends_self : (s : View) → Extends s s
 extends_self s = record {
   meanings = ap (λ l. forget l s.meanings) (drop-length s.local);
   local = take-length s.local;
   fields = refl;
+  procedures = refl;
 }
 
-pub extends_same : (outer old new : View) → Extends outer old → new.meanings ≡ old.meanings → new.local ≡ old.local → new.fields ≡ old.fields → Extends outer new
-extends_same outer old new e m l f = record { meanings = ap₂ (λ x y. forget (drop (length outer.local) x) y) l m ∙ e.meanings; local = ap (take (length outer.local)) l ∙ e.local; fields = f ∙ e.fields }
+pub extends_same : (outer old new : View) → Extends outer old → new.meanings ≡ old.meanings → new.local ≡ old.local → new.fields ≡ old.fields → new.procedures ≡ old.procedures → Extends outer new
+extends_same outer old new e m l f r = record {
+  meanings = ap₂ (λ x y. forget (drop (length outer.local) x) y) l m ∙ e.meanings;
+  local = ap (take (length outer.local)) l ∙ e.local;
+  fields = f ∙ e.fields;
+  procedures = r ∙ e.procedures;
+}
 
 -- ---- what holds behind a declaration
 

@@ -21,8 +21,9 @@ front_fits : (k : ℕ) (xs ys : List Symbol) → length ys ≡ k → take k xs �
 front_fits k xs ys e f = let h = length-take k xs in let g = ap length f in omega arith
 
 pub declares : (outer old new : View) (s : Symbol) (m : Meaning) → get_or old.meanings s.0 M.Nothing ≡ M.Nothing → Extends outer old
-    → new.local ≡ old.local ++ s ∷ [] → new.meanings ≡ slice_set old.meanings s.0 m → new.fields ≡ old.fields → Extends outer new
-declares outer old new s m fresh e local meanings fields =
+    → new.local ≡ old.local ++ s ∷ [] → new.meanings ≡ slice_set old.meanings s.0 m → new.fields ≡ old.fields → new.procedures ≡ old.procedures
+    → Extends outer new
+declares outer old new s m fresh e local meanings fields procedures =
     let k : ℕ = length outer.local in
     let fits : k ≤ length old.local = front_fits k old.local outer.local refl e.local in
     record {
@@ -34,6 +35,7 @@ declares outer old new s m fresh e local meanings fields =
           ∙ e.meanings;
       local = ap (take k) local ∙ take-append-le k old.local (s ∷ []) fits ∙ e.local;
       fields = fields ∙ e.fields;
+      procedures = procedures ∙ e.procedures;
     }
 
 below : (k : ℕ) (new : List Symbol) (s : Symbol) → k < length (new ++ s ∷ []) → k ≤ length new

@@ -1,6 +1,7 @@
 -- Sets of node registers: what is in both, and what is left of one.
 use Rattle.std.proofs.Common.{◌≡◌, ◌≢◌, ℕ, zero, suc, List, [], ◌∷◌, ◌++◌, length, Bool, true, false, ◌&&◌, Option, Some, None, refl, sym, ap, ap₂, ◌∙◌, arith}
-use Rattle.tl_lowering.specs.Sets.{Nodes, holds, with_node, without_node, both, both_of, all_of}
+use Rattle.std.specs.Prelude.{not}
+use Rattle.tl_lowering.specs.Sets.{Nodes, holds, with_node, without_node, both, minus, both_of, all_of}
 use Rattle.tl_lowering.specs.Paths.{keeping}
 
 and_self : (x : Bool) → x && x ≡ x
@@ -40,6 +41,24 @@ length_both [] b n e f = e
 length_both (x ∷ a) [] n e f = f
 length_both (x ∷ a) (y ∷ b) zero e f = absurd (omega (arith, e))
 length_both (x ∷ a) (y ∷ b) (suc n) e f = ap suc (length_both a b n (omega (arith, e)) (omega (arith, f)))
+
+pub holds_minus : (a b : Nodes) (n : ℕ) → length a ≡ length b → holds (minus a b) n ≡ holds a n && not (holds b n)
+holds_minus [] b n e = refl
+holds_minus (x ∷ a) [] n e = absurd (omega (arith, e))
+holds_minus (x ∷ a) (y ∷ b) zero e = refl
+holds_minus (x ∷ a) (y ∷ b) (suc n) e = holds_minus a b n (omega (arith, e))
+
+pub length_minus : (a b : Nodes) (n : ℕ) → length a ≡ n → length b ≡ n → length (minus a b) ≡ n
+length_minus [] b n e f = e
+length_minus (x ∷ a) [] n e f = f
+length_minus (x ∷ a) (y ∷ b) zero e f = absurd (omega (arith, e))
+length_minus (x ∷ a) (y ∷ b) (suc n) e f = ap suc (length_minus a b n (omega (arith, e)) (omega (arith, f)))
+
+pub both_minus : (a b : Nodes) → both a (minus a b) ≡ minus a b
+both_minus [] b = refl
+both_minus (x ∷ a) [] = refl
+both_minus (true ∷ a) (y ∷ b) = ap (λ c. not y ∷ c) (both_minus a b)
+both_minus (false ∷ a) (y ∷ b) = ap (λ c. false ∷ c) (both_minus a b)
 
 pub both_self : (a : Nodes) → both a a ≡ a
 both_self [] = refl

@@ -1,5 +1,5 @@
 -- The declarations of a text, and its procedures.
-use Rattle.std.proofs.Common.{◌≡◌, ◌∙◌, ℕ, zero, suc, ◌+◌, ◌<◌, List, [], ◌∷◌, ◌++◌, length, take, get_or, ℤ, None, Some, refl, sym, ap, subst, append-nil, append_assoc, arith}
+use Rattle.std.proofs.Common.{◌≡◌, ◌∙◌, ℕ, zero, suc, ◌+◌, ◌<◌, List, [], ◌∷◌, ◌++◌, length, take, get_or, false, ℤ, None, Some, refl, sym, ap, subst, append-nil, append_assoc, arith}
 use Rattle.std.specs.Prelude.{slice_get}
 use Rattle.std.specs.Borrow.{Bor}
 use Rattle.std.proofs.lemmas.List.{take_more}
@@ -9,7 +9,7 @@ use Rattle.tl_syntax.specs.declared.parsed.Declaration.TheVariants as D
 use Rattle.tl_syntax.specs.declared.parsed.Procedure.{Procedure as TextProcedure}
 use Rattle.tl_syntax.specs.Tokens.{spellings}
 use Rattle.tl_lowering.specs.declared.program.Procedure.{Procedure}
-use Rattle.tl_lowering.specs.Names.{Names, IsNew, AreNew, with_constant, with_value, with_values}
+use Rattle.tl_lowering.specs.Names.{Names, IsNew, AreNew, is_procedure, with_procedure, with_constant, with_value, with_values}
 use Rattle.tl_lowering.specs.Reading.{IsWithField, IsProcedure, AreDeclared, none_declared, next_field, next_constant, next_procedure}
 
 -- ---- arguments
@@ -64,12 +64,12 @@ module _ {spellings : List (List ℕ)} {names old : Names} (new : Names) (ps : L
       one_more xs i x rest (ps ++ more) lt f
       (part (x ∷ rest) more (subst (λ d. AreDeclared spellings old (d ∷ rest) more) (sym e) (next_constant fresh (subst (λ n. AreDeclared spellings n rest more) g h))))
 
-  pub procedure_more : {text : TextProcedure} {p : Procedure} (qs : List Procedure) → x ≡ D.Procedure text → IsProcedure spellings old text p → new ≡ old → qs ≡ ps ++ p ∷ []
-      → AreSoFar spellings names (take (i + 1) xs) qs new
-  procedure_more {p = p} qs e g k q rest more h =
+  pub procedure_more : {text : TextProcedure} {p : Procedure} (qs : List Procedure) → x ≡ D.Procedure text → is_procedure old text.name ≡ false
+      → IsProcedure spellings (with_procedure old text.name) text p → new ≡ with_procedure old text.name → qs ≡ ps ++ p ∷ [] → AreSoFar spellings names (take (i + 1) xs) qs new
+  procedure_more {p = p} qs e fresh g k q rest more h =
       one_more xs i x rest (qs ++ more) lt f
       (subst (AreDeclared spellings names (take i xs ++ x ∷ rest)) (sym (ap (λ z. z ++ more) q ∙ append_assoc ps (p ∷ []) more))
-      (part (x ∷ rest) (p ∷ more) (subst (λ d. AreDeclared spellings old (d ∷ rest) (p ∷ more)) (sym e) (next_procedure g (subst (λ n. AreDeclared spellings n rest more) k h)))))
+      (part (x ∷ rest) (p ∷ more) (subst (λ d. AreDeclared spellings old (d ∷ rest) (p ∷ more)) (sym e) (next_procedure fresh g (subst (λ n. AreDeclared spellings n rest more) k h)))))
 
 pub all_so_far : {spellings : List (List ℕ)} {names now : Names} {before : List Declaration} {ps : List Procedure} → AreSoFar spellings names before ps now → AreDeclared spellings names before ps
 all_so_far {spellings} {names} {before = before} {ps = ps} part =

@@ -106,7 +106,7 @@ declared : {spellings : List (List ℕ)} {names : Names} {ds : List Declaration}
 declared none_declared h = All-nil _
 declared {spellings} (next_field {name = n} {number = w} {offset = offset} {rest = rest} f more) h = declared more (All-tail (IsNamed spellings) (D.Field n w offset) rest h)
 declared {spellings} (next_constant {name = n} {number = w} {rest = rest} fresh more) h = declared more (All-tail (IsNamed spellings) (D.Constant n w) rest h)
-declared {spellings} (next_procedure {text = text} {p = p} {rest = rest} {ps = ps} is more) h =
+declared {spellings} (next_procedure {text = text} {p = p} {rest = rest} {ps = ps} fresh is more) h =
     All-cons (λ (p : Procedure). IsWord p.name.items) p ps (subst IsWord (sym is.name) (All-head (IsNamed spellings) (D.Procedure text) rest h))
     (declared more (All-tail (IsNamed spellings) (D.Procedure text) rest h))
 

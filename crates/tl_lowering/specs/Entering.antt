@@ -1,5 +1,7 @@
--- Whether the tree may have been entered where the paths through a block lead.
-use Rattle.std.specs.Prelude.{◌≡◌, List, [], ◌∷◌, Bool, true, false, ◌||◌, Option, Some, None, IfSome, option_map}
+-- What was done before a place where the paths through a block lead: whether the tree was entered, and whose children were passed.
+use Rattle.std.specs.Prelude.{◌≡◌, ℕ, List, [], ◌∷◌, Bool, true, false, not, ◌&&◌, Option, Some, None, IfSome, option_map, nat_eq}
+use Rattle.tl_lowering.specs.declared.loops.Repetition.{Repetition}
+use Rattle.tl_lowering.specs.declared.loops.Repetition.TheVariants as R
 use Rattle.tl_lowering.specs.declared.lowering.Binding.{Binding}
 use Rattle.tl_lowering.specs.declared.lowering.Binding.TheVariants as B
 use Rattle.tl_lowering.specs.declared.lowering.Draft.{Draft}
@@ -11,70 +13,98 @@ use Rattle.tl_lowering.specs.declared.naming.Locking.{Locking}
 use Rattle.tl_lowering.specs.declared.paths.Flow.{Flow}
 use Rattle.tl_lowering.specs.declared.paths.Held.{Held}
 use Rattle.tl_lowering.specs.declared.program.Statement.{Statement}
+use Rattle.tl_lowering.specs.declared.program.Statement.TheVariants as S
 use Rattle.tl_lowering.specs.Drafts.{Becomes}
-use Rattle.tl_lowering.specs.Fit.{Entered, enters, then_by, on_entered, failing_entered, entered, EntersOnce}
 use Rattle.tl_lowering.specs.Outcomes.{may_fail}
+use Rattle.tl_lowering.specs.Passing.{Before, Entered, enters, behind_lock, registers, descends_from, then_by, on_entered, failing_entered, entered, EntersOnce}
+use Rattle.tl_lowering.specs.Paths.{passed_of}
+use Rattle.tl_lowering.specs.Repeating.{passed_within}
+use Rattle.tl_lowering.specs.Sets.{minus}
 
--- whether it may have been entered where paths lead, if any leads there
-abbrev pub entered_at : Option Held → Option Bool
-entered_at held = option_map (λ (h : Held). h.is_entered) held
+abbrev pub before_of : Held → Before
+before_of held = record { entered = held.is_entered; passed = passed_of held }
+
+-- where paths lead, if any leads there
+abbrev pub entered_at : Option Held → Option Before
+entered_at held = option_map before_of held
 
 abbrev pub entered_of : Flow → Entered
 entered_of flow = record { after = entered_at flow.after; fails = entered_at flow.fails; breaks = entered_at flow.breaks }
 
--- a statement that enters the tree once on each path, and where it may have been entered then
-pub record IsEntering (e : Bool) (s : Statement) (flow : Flow) : Type 0 where
+-- a statement that enters the tree once on each path and goes through no children that were passed, and what was done where its paths lead
+pub record IsEntering (e : Before) (s : Statement) (flow : Flow) : Type 0 where
   pub once : EntersOnce s e
   pub paths : entered_of flow ≡ entered s e
 
 -- ---- statements one after another
 
-abbrev pub entered_all : List Statement → Bool → Entered
+abbrev pub entered_all : List Statement → Before → Entered
 entered_all [] e = on_entered e
 entered_all (s ∷ ss) e = let x = entered s e in then_by x.after x (entered_all ss)
 
-abbrev pub AllEnterOnce : List Statement → Bool → Type 0
+abbrev pub AllEnterOnce : List Statement → Before → Type 0
 AllEnterOnce [] e = Unit {0}
 AllEnterOnce (s ∷ ss) e = EntersOnce s e × IfSome (entered s e).after (AllEnterOnce ss)
 
 -- ---- declarations
 
 -- what is about to be locked is entered once, and is held then
-pub record IsEnteringPlace (e : Bool) (l : Locking) : Type 0 where
-  pub once : enters l.place ≡ true → e ≡ false
-  pub held : l.held.is_entered ≡ (e || enters l.place)
+pub record IsEnteringPlace (e : Before) (l : Locking) : Type 0 where
+  pub once : enters l.place ≡ true → e.entered ≡ false
+  pub held : before_of l.held ≡ behind_lock l.place e
 
 -- what a `let` or a `lock` leads to
-abbrev pub binding_entered : Binding → Bool → Entered
+abbrev pub binding_entered : Binding → Before → Entered
 binding_entered (B.Value x n) e = failing_entered (may_fail n) e (on_entered e)
 binding_entered (B.ValueElse x n o) e = record (entered o e) { after = Some e }
-binding_entered (B.Nodes place o) e = record (entered o e) { after = Some (e || enters place) }
+binding_entered (B.Nodes place o) e = record (entered o e) { after = Some (behind_lock place e) }
 
-abbrev pub BindsOnce : Binding → Bool → Type 0
+-- what no block is: the end of a `for each`
+abbrev pub is_break : Statement → Bool
+is_break S.Break = true
+is_break other = false
+
+abbrev pub BindsOnce : Binding → Before → Type 0
 BindsOnce (B.Value x n) e = Unit {0}
 BindsOnce (B.ValueElse x n o) e = EntersOnce o e × ((entered o e).after ≡ None)
-BindsOnce (B.Nodes place o) e = (enters place ≡ true → e ≡ false) × EntersOnce o e × ((entered o e).after ≡ None)
+BindsOnce (B.Nodes place o) e = (enters place ≡ true → e.entered ≡ false) × EntersOnce o e × ((entered o e).after ≡ None) × (is_break o ≡ false)
 
-pub record IsEnteringBinding (e : Bool) (b : Binding) (flow : Flow) : Type 0 where
+pub record IsEnteringBinding (e : Before) (b : Binding) (flow : Flow) : Type 0 where
   pub once : BindsOnce b e
   pub paths : entered_of flow ≡ binding_entered b e
 
-abbrev pub IsEnteringHead : Bool → Head → Type 0
+abbrev pub IsEnteringHead : Before → Head → Type 0
 IsEnteringHead e (H.Value name register number) = Unit {0}
 IsEnteringHead e (H.Nodes locking) = IsEnteringPlace e locking
 
 -- where the first block of an `if` begins
-abbrev pub entrance_entered : Entrance → Bool → Bool
+abbrev pub entrance_entered : Entrance → Before → Before
 entrance_entered (E.Condition c) e = e
-entrance_entered (E.Lock locking) e = e || enters locking.place
+entrance_entered (E.Lock locking) e = behind_lock locking.place e
 
-abbrev pub IsEnteringEntrance : Bool → Entrance → Type 0
+abbrev pub IsEnteringEntrance : Before → Entrance → Type 0
 IsEnteringEntrance e (E.Condition c) = Unit {0}
 IsEnteringEntrance e (E.Lock locking) = IsEnteringPlace e locking
 
+-- ---- loops
+
+-- where the body of a loop begins
+abbrev pub before_body : Repetition → Before → Before
+before_body repetition b = record b { passed = passed_within repetition b.passed }
+
+-- whether a turn descends from the node that register n has where the loop begins: a child's register is the loop's own
+abbrev pub turn_descends : Repetition → Statement → ℕ → Bool
+turn_descends (R.Times w) body n = descends_from body n
+turn_descends (R.UpTo e w) body n = descends_from body n
+turn_descends (R.Children v) body n = descends_from body n && not (nat_eq v.child n)
+
+-- where its turns begin
+abbrev pub before_turns : Repetition → Statement → Before → Before
+before_turns repetition body b = record b { passed = minus b.passed (registers (turn_descends repetition body)) }
+
 -- ---- a block
 
--- with whatever follows, a block enters the tree where what was read of it does, and then what follows
-pub record EntersSoFar (e : Bool) (draft : Draft) (x : Entered) : Type 0 where
+-- with whatever follows, a block does what was read of it, and then what follows
+pub record EntersSoFar (e : Before) (draft : Draft) (x : Entered) : Type 0 where
   pub once : (items all : List Statement) → Becomes draft items all → IfSome x.after (AllEnterOnce items) → AllEnterOnce all e
   pub paths : (items all : List Statement) → Becomes draft items all → entered_all all e ≡ then_by x.after x (entered_all items)

@@ -1,6 +1,8 @@
+pub mod Alike
 pub mod Blocks
 pub mod Choosing
 pub mod Declaring
+pub mod Descending
 pub mod Drafts
 pub mod Entering
 pub mod Fit
@@ -8,7 +10,9 @@ pub mod Lowering
 pub mod Names
 pub mod Naming
 pub mod Outcomes
+pub mod Passing
 pub mod Paths
+pub mod Programs
 pub mod Reading
 pub mod Registers
 pub mod Repeating

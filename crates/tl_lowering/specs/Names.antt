@@ -1,5 +1,5 @@
 -- What the names of a text stand for at a place.
-use Rattle.std.specs.Prelude.{◌≡◌, ℕ, ◌+◌, ◌<◌, List, [], ◌∷◌, Option, Some, None, slice_set, get_or, replicate, ℤ}
+use Rattle.std.specs.Prelude.{◌≡◌, ℕ, ◌+◌, ◌<◌, List, [], ◌∷◌, Bool, true, false, Option, Some, None, slice_set, get_or, replicate, ℤ}
 use Rattle.tl_budget.specs.declared.limits.TheConstants.{MAX_DEPTH}
 use Rattle.tl_instr.specs.declared.operand.Field.{Field}
 use Rattle.tl_instr.specs.declared.operand.TheConstants.{VALUE_REGISTERS, NODE_REGISTERS}
@@ -11,23 +11,24 @@ use Rattle.tl_syntax.specs.declared.parsed.Name.{Name}
 use Rattle.tl_syntax.specs.declared.parsed.Place.{Place}
 use Rattle.tl_syntax.specs.declared.parsed.Place.TheVariants as P
 
--- at the index of a symbol stand its meaning and its field; so many values and nodes have registers, and so many loops are around
+-- at the index of a symbol stand its meaning, its field and whether it names a procedure; so many values and nodes have registers, and so many loops are around
 pub record Names : Type 0 where
   pub meanings : List Meaning
   pub fields : List (Option Field)
+  pub procedures : List Bool
   pub values : ℕ
   pub nodes : ℕ
   pub loops : ℕ
 
 abbrev pub names_in : View → Names
-names_in scope = record { meanings = scope.meanings; fields = scope.fields; values = scope.values; nodes = scope.nodes; loops = scope.loops }
+names_in scope = record { meanings = scope.meanings; fields = scope.fields; procedures = scope.procedures; values = scope.values; nodes = scope.nodes; loops = scope.loops }
 
 abbrev pub names_of : Scope → Names
 names_of scope = names_in (view_of scope)
 
 -- so many names, which stand for nothing
 abbrev pub without_meaning : ℕ → Names
-without_meaning count = record { meanings = replicate count M.Nothing; fields = replicate count None; values = 0; nodes = 0; loops = 0 }
+without_meaning count = record { meanings = replicate count M.Nothing; fields = replicate count None; procedures = replicate count false; values = 0; nodes = 0; loops = 0 }
 
 abbrev pub stands_for : Names → Name → Meaning
 stands_for names name = get_or names.meanings name.symbol.0 M.Nothing
@@ -50,6 +51,9 @@ HasLoop names = names.loops < MAX_DEPTH
 abbrev pub field_named : Names → Name → Option Field
 field_named names name = get_or names.fields name.symbol.0 None
 
+abbrev pub is_procedure : Names → Name → Bool
+is_procedure names name = get_or names.procedures name.symbol.0 false
+
 -- from here on the name stands for that
 abbrev pub meaning : Names → Name → Meaning → Names
 meaning names name m = record names { meanings = slice_set names.meanings name.symbol.0 m }
@@ -59,6 +63,10 @@ with_constant names name number = meaning names name (M.Constant number)
 
 abbrev pub with_field : Names → Name → Field → Names
 with_field names name field = record names { fields = slice_set names.fields name.symbol.0 (Some field) }
+
+-- and it names a procedure
+abbrev pub with_procedure : Names → Name → Names
+with_procedure names name = record names { procedures = slice_set names.procedures name.symbol.0 true }
 
 -- a value without a name takes the next register
 abbrev pub with_unnamed : Names → Names

@@ -17,6 +17,10 @@ bits byte = map (λ n. nat_eq (bit_at byte n) 1) (range_with_len 0 NODE_REGISTER
 abbrev pub nodes_of : Held → Nodes
 nodes_of held = bits held.nodes
 
+-- the registers of nodes whose children were passed: one of them was locked, or they were gone through
+abbrev pub passed_of : Held → Nodes
+passed_of held = bits held.visited
+
 -- what is held where paths lead, if any leads there
 abbrev pub known : Option Held → Option Nodes
 known held = option_map nodes_of held

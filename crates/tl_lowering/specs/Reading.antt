@@ -1,5 +1,5 @@
 -- Blocks, procedures and texts, and their core forms.
-use Rattle.std.specs.Prelude.{◌≡◌, ◌≤◌, ◌+◌, ℕ, List, [], ◌∷◌, Some, None, length, get_or, ℤ, pos, neg_ℤ}
+use Rattle.std.specs.Prelude.{◌≡◌, ◌≤◌, ◌+◌, ℕ, List, [], ◌∷◌, false, Some, None, length, get_or, ℤ, pos, neg_ℤ}
 use Rattle.std.specs.declared.vec.Vec.{Vec}
 use Rattle.std.specs.declared.alloc.Global.{Global}
 use Rattle.tl_syntax.specs.declared.operator.Operator.TheVariants as O
@@ -32,7 +32,7 @@ use Rattle.tl_lowering.specs.declared.scope.Meaning.TheVariants as M
 use Rattle.tl_lowering.specs.Outcomes.{after}
 use Rattle.tl_lowering.specs.Sets.{Nodes}
 use Rattle.tl_lowering.specs.Registers.{behind, HasTemporaries, HasRegisters}
-use Rattle.tl_lowering.specs.Names.{Names, without_meaning, stands_for, IsNew, HasNode, HasValue, HasLoop, in_loop, with_constant, with_field, with_unnamed, with_value, with_values, AreNew, field_named, with_node, with_place}
+use Rattle.tl_lowering.specs.Names.{Names, without_meaning, stands_for, IsNew, HasNode, HasValue, HasLoop, in_loop, with_constant, with_field, is_procedure, with_procedure, with_unnamed, with_value, with_values, AreNew, field_named, with_node, with_place}
 use Rattle.tl_lowering.specs.Naming.{IsCalculated, IsNumber, IsCount, IsNot, IsCondition, IsPlace, IsAction, IsThen, IsHalved}
 
 -- a statement that stands in the text at that offset
@@ -145,8 +145,10 @@ pub data AreDeclared (spellings : List (List ℕ)) : Names → List Declaration 
       AreDeclared spellings names (D.Field name number offset ∷ rest) ps
   next_constant : {names : Names} {name : Name} {number : ℤ} {rest : List Declaration} {ps : List Procedure} →
       IsNew names name → AreDeclared spellings (with_constant names name number) rest ps → AreDeclared spellings names (D.Constant name number ∷ rest) ps
+  -- no other procedure has its name
   next_procedure : {names : Names} {text : TextProcedure} {p : Procedure} {rest : List Declaration} {ps : List Procedure} →
-      IsProcedure spellings names text p → AreDeclared spellings names rest ps →
+      is_procedure names text.name ≡ false → IsProcedure spellings (with_procedure names text.name) text p →
+      AreDeclared spellings (with_procedure names text.name) rest ps →
       AreDeclared spellings names (D.Procedure text ∷ rest) (p ∷ ps)
 
 -- the procedures of a text

@@ -1,5 +1,5 @@
 -- What a loop repeats.
-use Rattle.std.specs.Prelude.{◌≡◌, ℕ, ◌+◌, ◌≤◌, Bool, true, Some, None, IfSome}
+use Rattle.std.specs.Prelude.{◌≡◌, ℕ, ◌+◌, ◌≤◌, Bool, true, false, Some, None, IfSome}
 use Rattle.tl_instr.specs.declared.operand.TheConstants.{VALUE_REGISTERS}
 use Rattle.tl_lowering.specs.declared.loops.Repetition.{Repetition}
 use Rattle.tl_lowering.specs.declared.loops.Repetition.TheVariants as R
@@ -11,7 +11,7 @@ use Rattle.tl_lowering.specs.declared.scope.Meaning.TheVariants as M
 use Rattle.tl_lowering.specs.Outcomes.{after, fails, breaks}
 use Rattle.tl_lowering.specs.Paths.{nodes_of, paths_of, outcomes, keeping}
 use Rattle.tl_lowering.specs.Scopes.{View, meaning_of}
-use Rattle.tl_lowering.specs.Sets.{Nodes, holds, with_node, both_of, all_of}
+use Rattle.tl_lowering.specs.Sets.{Nodes, holds, with_node, without_node, both_of, all_of}
 use Rattle.tl_lowering.specs.Sound.{IsReadable, IsSound}
 
 -- the child's name stands for nothing yet, its register and that of its number are the next ones, and its parent is held
@@ -32,6 +32,18 @@ abbrev pub begun : Repetition → Nodes → Nodes
 begun (R.Times w) held = held
 begun (R.UpTo e w) held = held
 begun (R.Children v) held = with_node held v.child
+
+-- whose children were passed as a body begins: its node's were, and the child's weren't
+abbrev pub passed_within : Repetition → Nodes → Nodes
+passed_within (R.Times w) passed = passed
+passed_within (R.UpTo e w) passed = passed
+passed_within (R.Children v) passed = without_node (with_node passed v.parent) v.child
+
+-- a loop over the children of a node stands where a path leads on which they weren't passed
+abbrev pub IsUnpassed : Nodes → Repetition → Type 0
+IsUnpassed passed (R.Times w) = Unit {0}
+IsUnpassed passed (R.UpTo e w) = Unit {0}
+IsUnpassed passed (R.Children v) = holds passed v.parent ≡ false
 
 abbrev pub more_in : Repetition → ℕ → ℕ
 more_in (R.Times w) n = n

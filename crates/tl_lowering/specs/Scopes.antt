@@ -23,6 +23,7 @@ IsBelow t m (M.Node n) = n < m
 pub record View : Type 0 where
   pub meanings : List Meaning
   pub fields : List (Option Field)
+  pub procedures : List Bool
   pub local : List Symbol
   pub values : ℕ
   pub nodes : ℕ
@@ -30,7 +31,7 @@ pub record View : Type 0 where
 
 abbrev pub view_of : Scope → View
 view_of scope =
-    record { meanings = scope.meanings.items; fields = scope.fields.items; local = scope.local.items; values = scope.values; nodes = scope.nodes; loops = scope.loops }
+    record { meanings = scope.meanings.items; fields = scope.fields.items; procedures = scope.is_procedure.items; local = scope.local.items; values = scope.values; nodes = scope.nodes; loops = scope.loops }
 
 -- what a name stands for
 abbrev pub meaning_of : View → Symbol → Meaning
@@ -61,6 +62,7 @@ pub record Extends (old new : View) : Type 0 where
   pub meanings : forget (drop (length old.local) new.local) new.meanings ≡ old.meanings
   pub local : take (length old.local) new.local ≡ old.local
   pub fields : new.fields ≡ old.fields
+  pub procedures : new.procedures ≡ old.procedures
 
 -- whether a loop is around
 abbrev pub is_in_loop : View → Bool

@@ -14,7 +14,8 @@ use Rattle.tl_instr.specs.declared.operand.TheConstants.{MAX_ARGS}
 use Rattle.tl_lowering.specs.Sets.{Nodes, none_held, holds, all_of}
 use Rattle.tl_lowering.specs.Outcomes.{locked, handled_by, after, fails}
 pub use Rattle.tl_lowering.specs.Outcomes.{nodes_behind}
-use Rattle.tl_lowering.specs.Fit.{loops, AllTurn, AllSlots, IsWord, HasRoom, EntersOnce}
+use Rattle.tl_lowering.specs.Fit.{loops, AllTurn, AllSlots, IsWord, HasRoom}
+use Rattle.tl_lowering.specs.Passing.{nothing_before, EntersOnce}
 
 -- each value that is named has one of the first t registers, and each node that is read is held
 abbrev pub IsReadable : ℕ → Nodes → Expression → Type 0
@@ -79,4 +80,4 @@ pub record IsInOrder (p : Procedure) : Type 0 where
   pub depth : loops p.body ≤ MAX_DEPTH
   pub name : IsWord p.name.items
   pub room : HasRoom p.body p.arity
-  pub enters : EntersOnce p.body false
+  pub enters : EntersOnce p.body nothing_before

@@ -2,6 +2,7 @@
 #![tactic(auto)]
 
 mod descents;
+pub mod laws;
 mod loops;
 mod lowering;
 mod naming;

@@ -1,15 +1,16 @@
 // Loops without their blocks, with registers in place of names.
 
-ghost use Rattle.std.specs.Prelude.{◌≡◌, ◌+◌, ◌<◌, Bool, true, option_map, IfOk, OnOk, IfSome};
+ghost use Rattle.std.specs.Prelude.{◌≡◌, ◌+◌, ◌<◌, Bool, true, None, option_map, IfOk, OnOk, IfSome};
 ghost use Rattle.std.specs.Borrow.{Bor};
 ghost use Rattle.tl_lowering.specs.declared.paths.Held.{Held};
-ghost use Rattle.tl_lowering.specs.Entering.{entered_at, entered_of, IsEntering};
+ghost use Rattle.tl_lowering.specs.Entering.{before_of, entered_at, entered_of, before_body, before_turns, IsEntering};
 ghost use Rattle.tl_lowering.specs.Choosing.{IsRepeated, IsVisited, names_within, IsTurning};
 ghost use Rattle.tl_lowering.specs.Names.{names_of};
+ghost use Rattle.tl_lowering.specs.Passing.{walks, KeepsOut};
 ghost use Rattle.tl_lowering.specs.Reading.{IsVisiting};
 ghost use Rattle.tl_syntax.specs.declared.parsed.Expression.{Expression as TextExpression};
-ghost use Rattle.tl_lowering.specs.Paths.{nodes_of, known, paths_of, keeping};
-ghost use Rattle.tl_lowering.specs.Repeating.{IsRepetition, IsVisit, IsBody, IsTurn, IsWalk, begun, more_in};
+ghost use Rattle.tl_lowering.specs.Paths.{nodes_of, passed_of, known, paths_of, keeping};
+ghost use Rattle.tl_lowering.specs.Repeating.{IsRepetition, IsVisit, IsBody, IsTurn, IsWalk, IsUnpassed, begun, passed_within, more_in};
 ghost use Rattle.tl_lowering.specs.Scopes.{View, view_of, IsInUse, IsAt, IsLowered, Extends};
 
 use crate::lowering::{Lowered, Lowering};
@@ -37,14 +38,6 @@ pub enum Repetition {
     Times(u16),
     UpTo(Expression, u16),
     Children(Visit),
-}
-
-// Once a child of the register's node was locked.
-fn visited(after: Option<Held>, register: NodeRegister) -> Option<Held>
-    ensures nodes { known result ≡ known after }
-    ensures entered { entered_at result ≡ entered_at after }
-{
-    after.map(|held| held.visiting(register))
 }
 
 // Behind a loop that began with `held`, and where it fails.
@@ -82,6 +75,7 @@ impl Lowering {
         requires { IsInUse (view_of self.now.scope) }
         ensures named { IfOk result (IsRepeated (names_of self.now.scope) turns.now.form (option_map (λ (e : Bor TextExpression). e.now.form) at_most.entry)) }
         ensures repetition { IfOk result (λ r. IsRepetition (view_of self.now.scope) held r) }
+        ensures fresh { IfOk result (IsUnpassed (passed_of held)) }
         ensures depth { OnOk result (self.now.scope.loops < MAX_DEPTH) }
     {
         self.check_depth(offset)?;
@@ -106,6 +100,7 @@ impl Lowering {
         requires { IsInUse (view_of self.now.scope) }
         ensures named { IfOk result (IsVisited (names_of self.now.scope) names.0 names.1 at_most.now.form) }
         ensures repetition { IfOk result (λ r. IsRepetition (view_of self.now.scope) held r) }
+        ensures fresh { IfOk result (IsUnpassed (passed_of held)) }
         ensures depth { OnOk result (self.now.scope.loops < MAX_DEPTH) }
     {
         self.check_depth(offset)?;
@@ -136,6 +131,7 @@ impl Lowering {
         ensures at { IfOk result (λ inside. IsAt (view_of self.new.scope) inside) }
         ensures held { IfOk result (λ inside. nodes_of inside ≡ begun repetition.now (nodes_of start)) }
         ensures entered { IfOk result (λ inside. inside.is_entered ≡ start.is_entered) }
+        ensures passed { IfOk result (λ inside. passed_of inside ≡ passed_within repetition.now (passed_of start)) }
         ensures values { OnOk result (self.new.scope.values ≡ more_in repetition.now self.old.scope.values) }
         ensures nodes { OnOk result (self.new.scope.nodes ≡ more_in repetition.now self.old.scope.nodes) }
         ensures loops { OnOk result (self.new.scope.loops ≡ self.old.scope.loops + 1) }
@@ -155,7 +151,7 @@ impl Lowering {
         ensures paths { IfOk result (λ f. paths_of f ≡ record (paths_of flow) { after = keeping (nodes_of start) (paths_of flow).after }) }
         ensures kept { IfOk result (λ f. IfSome (paths_of f).after (λ h. h ≡ nodes_of start)) }
         ensures entered { IfOk result (λ f. entered_of f ≡ entered_of flow) }
-        ensures once { IfOk result (λ f. IfSome (entered_of f).after (λ e. e ≡ true → start.is_entered ≡ true)) }
+        ensures once { IfOk result (λ f. KeepsOut (entered_of f).after (before_of start)) }
     {
         let flow = flow.keeping(start.nodes);
         if let Some(after) = flow.after {
@@ -177,13 +173,15 @@ impl Lowering {
         requires at { IsAt (view_of self.now.scope) held }
         requires start { nodes_of start ≡ nodes_of held }
         requires repetition { IsRepetition (view_of self.now.scope) held repetition }
-        requires entered { start.is_entered ≡ held.is_entered }
-        requires entering { IsEntering held.is_entered lowered.0 lowered.1 }
-        requires once { IfSome (entered_of lowered.1).after (λ e. e ≡ true → held.is_entered ≡ true) }
+        requires before { before_of start ≡ before_turns repetition lowered.0 (before_of held) }
+        requires entering { IsEntering (before_body repetition (before_of start)) lowered.0 lowered.1 }
+        requires once { KeepsOut (entered_of lowered.1).after (before_of start) }
+        requires block { walks lowered.0 ≡ None }
+        requires fresh { IsUnpassed (passed_of held) repetition }
         requires turn { IsTurn self.now.scope.values self.now.scope.nodes (nodes_of held) repetition lowered.0 lowered.1 }
         ensures named { IfOk result (λ l. IsTurning lowered.0 repetition l.0) }
         ensures lowered { IfOk result (λ l. IsLowered (view_of self.now.scope) held l.0 l.1) }
-        ensures entering { IfOk result (λ l. IsEntering held.is_entered l.0 l.1) }
+        ensures entering { IfOk result (λ l. IsEntering (before_of held) l.0 l.1) }
     {
         let (body, flow) = lowered;
         let turned = join(flow.after, flow.breaks);
@@ -199,7 +197,7 @@ impl Lowering {
             }
             Repetition::Children(visit) => {
                 let whole = self.visiting(visit, body)?;
-                let after = join(visited(Some(start), visit.parent), turned);
+                let after = join(Some(start.visiting(visit.parent)), turned);
                 Ok((whole, leaving(after, join(Some(start), flow.fails), held)))
             }
         }

@@ -1,19 +1,19 @@
 // Blocks and the statements that have blocks, with registers in place of names.
 
-ghost use Rattle.std.specs.Prelude.{◌≡◌, ◌+◌, ◌<◌, ◌≤◌, Bool, IfOk, OnOk, IfSome, length, take, drop, List, Some, false};
+ghost use Rattle.std.specs.Prelude.{◌≡◌, ◌+◌, ◌<◌, ◌≤◌, IfOk, OnOk, IfSome, length, take, drop, List, Some, false};
 ghost use Rattle.std.specs.Vec.Iter.{into_iter_items, into_iter_len};
 ghost use Rattle.tl_budget.specs.declared.limits.TheConstants.{MAX_DEPTH};
 ghost use Rattle.tl_lowering.specs.Blocks.{IsSequence, IsSame, IsPair, IsAttempt, IsBinding, IsClosing, Closes, IsSoundAt, AreAlike, AreFree, Reached, then_of, binding_paths, values_with, nodes_with};
 ghost use Rattle.tl_lowering.specs.Choosing.{IsEntered, names_behind, IsChosen, IsLoop};
 ghost use Rattle.tl_lowering.specs.Drafts.{opens, IsOpening, IsHeadOf, IsElse, IsElseOf, other_of, Opens, Binds, Encloses, Becomes, IsFinished, MayFollow, IsExtended, IsHandled};
-ghost use Rattle.tl_lowering.specs.Entering.{entered_of, IsEntering, IsEnteringHead, IsEnteringBinding, IsEnteringEntrance, entrance_entered, EntersSoFar};
-ghost use Rattle.tl_lowering.specs.Fit.{Entered, then_by};
+ghost use Rattle.tl_lowering.specs.Entering.{before_of, entered_of, is_break, IsEntering, IsEnteringHead, IsEnteringBinding, IsEnteringEntrance, entrance_entered, EntersSoFar};
+ghost use Rattle.tl_lowering.specs.Passing.{Before, Entered, then_by};
 ghost use Rattle.tl_lowering.specs.Names.{names_of};
 ghost use Rattle.tl_lowering.specs.Naming.{IsThen, IsHalved};
 ghost use Rattle.tl_lowering.specs.Reading.{IsAtOffset, IsTried, IsBlock, AreStatements, IsStatement};
 ghost use Rattle.tl_lowering.specs.Lowering.{IsHead, IsEntrance, IsInside, IsRefusal, IsDraft, behind_draft, entered, nodes_in};
-ghost use Rattle.tl_lowering.specs.Paths.{nodes_of, outcomes, paths_of};
-ghost use Rattle.tl_lowering.specs.Repeating.{IsRepetition};
+ghost use Rattle.tl_lowering.specs.Paths.{nodes_of, passed_of, outcomes, paths_of};
+ghost use Rattle.tl_lowering.specs.Repeating.{IsRepetition, IsUnpassed};
 ghost use Rattle.tl_lowering.specs.Scopes.{View, view_of, IsAt, IsLowered, Extends, is_in_loop};
 ghost use Rattle.tl_lowering.specs.Sets.{Nodes};
 ghost use Rattle.tl_lowering.specs.declared.program.Statement.{Statement as CoreStatement};
@@ -84,7 +84,8 @@ enum Entrance {
 fn refused(otherwise: Option<Lowered>, held: Held) -> Lowered
     ensures named { result.0 ≡ other_of otherwise }
     ensures refusal { (scope : View) → IfSome otherwise (λ l. IsRefusal scope held l.0 l.1) → IsRefusal scope held result.0 result.1 }
-    ensures entering { IfSome otherwise (λ l. IsEntering held.is_entered l.0 l.1) → IsEntering held.is_entered result.0 result.1 }
+    ensures entering { IfSome otherwise (λ l. IsEntering (before_of held) l.0 l.1) → IsEntering (before_of held) result.0 result.1 }
+    ensures block { IfSome otherwise (λ l. is_break l.0 ≡ false) → is_break result.0 ≡ false }
 {
     match otherwise {
         None => (Statement::Fail, Flow::NOWHERE.failing(held)),
@@ -217,7 +218,7 @@ impl Lowering {
         ensures scope { OnOk result (view_of self.new.scope ≡ view_of self.old.scope) }
         ensures named { IfOk result (λ l. IsBlock (names_of self.old.scope) statements.now l.0) }
         ensures lowered { IfOk result (λ l. IsLowered (view_of self.old.scope) held l.0 l.1) }
-        ensures entering { IfOk result (λ l. IsEntering held.is_entered l.0 l.1) }
+        ensures entering { IfOk result (λ l. IsEntering (before_of held) l.0 l.1) }
     {
         let mark = self.scope.mark();
         let mut draft = Draft {
@@ -242,7 +243,7 @@ impl Lowering {
         requires { IsAt (view_of self.now.scope) held }
         ensures named { IfOk result (IsHeadOf (names_of self.now.scope) form.now) }
         ensures head { IfOk result (λ head. IfSome head (IsHead (view_of self.now.scope) held)) }
-        ensures entering { IfOk result (λ head. IfSome head (IsEnteringHead held.is_entered)) }
+        ensures entering { IfOk result (λ head. IfSome head (IsEnteringHead (before_of held))) }
     {
         let StatementForm::Act(action, _) = form else {
             return Ok(None);
@@ -267,12 +268,13 @@ impl Lowering {
         requires at { IsAt (view_of self.old.scope) held }
         requires head { IsHead (view_of self.old.scope) held head }
         requires otherwise { IfSome otherwise (λ l. IsRefusal (view_of self.old.scope) held l.0 l.1) }
-        requires entering { IsEnteringHead held.is_entered head }
-        requires refused { IfSome otherwise (λ l. IsEntering held.is_entered l.0 l.1) }
+        requires entering { IsEnteringHead (before_of held) head }
+        requires refused { IfSome otherwise (λ l. IsEntering (before_of held) l.0 l.1) }
+        requires block { IfSome otherwise (λ l. is_break l.0 ≡ false) }
         ensures named { (form : TextForm) → IsOpening (names_of self.old.scope) form head → IsElse (names_of self.old.scope) form otherwise → IfOk result (λ b. Opens (names_of self.old.scope) form b.0 (names_of self.new.scope)) }
         ensures binding { IfOk result (λ b. IsBinding b.0 self.old.scope.values self.old.scope.nodes (nodes_of held) (is_in_loop (view_of self.old.scope))) }
         ensures paths { IfOk result (λ b. paths_of b.1 ≡ binding_paths b.0 (nodes_of held)) }
-        ensures entering { IfOk result (λ b. IsEnteringBinding held.is_entered b.0 b.1) }
+        ensures entering { IfOk result (λ b. IsEnteringBinding (before_of held) b.0 b.1) }
         ensures at { IfOk result (λ b. IfSome b.1.after (IsAt (view_of self.new.scope))) }
         ensures values { IfOk result (λ b. self.new.scope.values ≡ values_with b.0 self.old.scope.values) }
         ensures nodes { IfOk result (λ b. self.new.scope.nodes ≡ nodes_with b.0 self.old.scope.nodes) }
@@ -305,7 +307,8 @@ impl Lowering {
         ensures scope { OnOk result (view_of self.new.scope ≡ view_of self.old.scope) }
         ensures named { IfOk result (IsElseOf (names_of self.old.scope) form.now) }
         ensures refusal { IfOk result (λ o. IfSome o (λ l. IsRefusal (view_of self.old.scope) held l.0 l.1)) }
-        ensures entering { IfOk result (λ o. IfSome o (λ l. IsEntering held.is_entered l.0 l.1)) }
+        ensures entering { IfOk result (λ o. IfSome o (λ l. IsEntering (before_of held) l.0 l.1)) }
+        ensures block { IfOk result (λ o. IfSome o (λ l. is_break l.0 ≡ false)) }
     {
         let StatementForm::Act(_, otherwise) = form else {
             return Ok(None);
@@ -332,7 +335,7 @@ impl Lowering {
         ensures named { IfOk result (λ f. (rest : List TextStatement) (items all : List CoreStatement) → MayFollow f rest → AreStatements (names_of self.new.scope) rest items → Becomes draft.new items all → IsExtended (names_of self.old.scope) statement.now rest draft.old all) }
         ensures draft { (start : Reached) → IsDraft start draft.old (view_of self.old.scope) → (behind_draft start draft.old).after ≡ Some (nodes_of held) → OnOk result (IsDraft start draft.new (view_of self.new.scope)) }
         ensures paths { (start : Reached) → (behind_draft start draft.old).after ≡ Some (nodes_of held) → IfOk result (λ f. behind_draft start draft.new ≡ then_of (behind_draft start draft.old) (λ h. paths_of f)) }
-        ensures entering { (e : Bool) (x : Entered) → x.after ≡ Some held.is_entered → EntersSoFar e draft.old x → IfOk result (λ f. EntersSoFar e draft.new (then_by x.after x (λ h. entered_of f))) }
+        ensures entering { (e : Before) (x : Entered) → x.after ≡ Some (before_of held) → EntersSoFar e draft.old x → IfOk result (λ f. EntersSoFar e draft.new (then_by x.after x (λ h. entered_of f))) }
         ensures flow { OnOk result (draft.new.flow ≡ draft.old.flow) }
         ensures at { IfOk result (λ f. IfSome f.after (IsAt (view_of self.new.scope))) }
         ensures loops { OnOk result (self.new.scope.loops ≡ self.old.scope.loops) }
@@ -367,7 +370,7 @@ impl Lowering {
         ensures scope { OnOk result (view_of self.new.scope ≡ view_of self.old.scope) }
         ensures named { IfOk result (λ l. opens form.now ≡ false → IsStatement (names_of self.old.scope) form.now l.0) }
         ensures lowered { IfOk result (λ l. IsLowered (view_of self.old.scope) held l.0 l.1) }
-        ensures entering { IfOk result (λ l. IsEntering held.is_entered l.0 l.1) }
+        ensures entering { IfOk result (λ l. IsEntering (before_of held) l.0 l.1) }
     {
         match form {
             StatementForm::Act(action, otherwise) => {
@@ -417,11 +420,11 @@ impl Lowering {
     ) -> Result<Lowered, SyntaxFault>
         requires at { IsAt (view_of self.old.scope) held }
         requires lowered { IsLowered (view_of self.old.scope) held lowered.0 lowered.1 }
-        requires entering { IsEntering held.is_entered lowered.0 lowered.1 }
+        requires entering { IsEntering (before_of held) lowered.0 lowered.1 }
         ensures scope { OnOk result (view_of self.new.scope ≡ view_of self.old.scope) }
         ensures named { IfOk result (λ l. IsHandled (names_of self.old.scope) lowered.0 handler.now l.0) }
         ensures lowered { IfOk result (λ l. IsLowered (view_of self.old.scope) held l.0 l.1) }
-        ensures entering { IfOk result (λ l. IsEntering held.is_entered l.0 l.1) }
+        ensures entering { IfOk result (λ l. IsEntering (before_of held) l.0 l.1) }
     {
         let (statement, flow) = lowered;
         let (handler, other) = self.block(handler, flow.handled(held))?;
@@ -433,7 +436,7 @@ impl Lowering {
         requires { IsAt (view_of self.now.scope) held }
         ensures named { IfOk result (IsEntered (names_of self.now.scope) question.now) }
         ensures entrance { IfOk result (IsEntrance (view_of self.now.scope) held) }
-        ensures entering { IfOk result (IsEnteringEntrance held.is_entered) }
+        ensures entering { IfOk result (IsEnteringEntrance (before_of held)) }
     {
         match question {
             Question::Condition(condition) => {
@@ -451,7 +454,7 @@ impl Lowering {
         ensures named { OnOk result (names_of self.new.scope ≡ names_behind (names_of self.old.scope) entrance.now) }
         ensures at { IfOk result (λ inside. IsAt (view_of self.new.scope) inside) }
         ensures held { IfOk result (λ inside. nodes_of inside ≡ entered entrance.now (nodes_of held)) }
-        ensures entered { IfOk result (λ inside. IsEnteringEntrance held.is_entered entrance.now → inside.is_entered ≡ entrance_entered entrance.now held.is_entered) }
+        ensures entered { IfOk result (λ inside. IsEnteringEntrance (before_of held) entrance.now → before_of inside ≡ entrance_entered entrance.now (before_of held)) }
         ensures values { OnOk result (self.new.scope.values ≡ self.old.scope.values) }
         ensures nodes { OnOk result (self.new.scope.nodes ≡ nodes_in entrance.now self.old.scope.nodes) }
         ensures loops { OnOk result (self.new.scope.loops ≡ self.old.scope.loops) }
@@ -478,12 +481,13 @@ impl Lowering {
         requires entrance { IsEntrance (view_of self.now.scope) held entrance }
         requires first { IsInside (view_of self.now.scope) held entrance first.0 first.1 }
         requires second { IsLowered (view_of self.now.scope) held second.0 second.1 }
-        requires entering { IsEnteringEntrance held.is_entered entrance }
-        requires first_entering { IsEntering (entrance_entered entrance held.is_entered) first.0 first.1 }
-        requires second_entering { IsEntering held.is_entered second.0 second.1 }
+        requires entering { IsEnteringEntrance (before_of held) entrance }
+        requires first_entering { IsEntering (entrance_entered entrance (before_of held)) first.0 first.1 }
+        requires second_entering { IsEntering (before_of held) second.0 second.1 }
+        requires block { is_break second.0 ≡ false }
         ensures named { IfOk result (λ l. IsChosen first.0 second.0 entrance l.0) }
         ensures lowered { IfOk result (λ l. IsLowered (view_of self.now.scope) held l.0 l.1) }
-        ensures entering { IfOk result (λ l. IsEntering held.is_entered l.0 l.1) }
+        ensures entering { IfOk result (λ l. IsEntering (before_of held) l.0 l.1) }
     {
         let (first, flow) = first;
         let (second, other) = second;
@@ -514,7 +518,7 @@ impl Lowering {
         ensures scope { OnOk result (view_of self.new.scope ≡ view_of self.old.scope) }
         ensures named { IfOk result (λ l. IsBlock (names_behind (names_of self.old.scope) entrance.now) body.now l.0) }
         ensures inside { IfOk result (λ l. IsInside (view_of self.old.scope) held entrance.now l.0 l.1) }
-        ensures entering { IsEnteringEntrance held.is_entered entrance.now → IfOk result (λ l. IsEntering (entrance_entered entrance.now held.is_entered) l.0 l.1) }
+        ensures entering { IsEnteringEntrance (before_of held) entrance.now → IfOk result (λ l. IsEntering (entrance_entered entrance.now (before_of held)) l.0 l.1) }
     {
         let mark = self.scope.mark();
         let inside = self.enter(entrance, held)?;
@@ -535,10 +539,11 @@ impl Lowering {
         requires at { IsAt (view_of self.old.scope) held }
         requires repetition { IsRepetition (view_of self.old.scope) held repetition }
         requires depth { self.old.scope.loops < MAX_DEPTH }
+        requires fresh { IsUnpassed (passed_of held) repetition }
         ensures scope { OnOk result (view_of self.new.scope ≡ view_of self.old.scope) }
         ensures named { IfOk result (λ l. IsLoop (names_of self.old.scope) repetition body.now l.0) }
         ensures lowered { IfOk result (λ l. IsLowered (view_of self.old.scope) held l.0 l.1) }
-        ensures entering { IfOk result (λ l. IsEntering held.is_entered l.0 l.1) }
+        ensures entering { IfOk result (λ l. IsEntering (before_of held) l.0 l.1) }
     {
         let start = held.forgetting(self.scope.descended(body));
         let mark = self.scope.mark();

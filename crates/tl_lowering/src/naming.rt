@@ -3,8 +3,8 @@
 ghost use Rattle.std.specs.Prelude.{◌≡◌, ℕ, ◌+◌, false, IfOk, OnOk};
 ghost use Rattle.tl_lowering.specs.Blocks.{nodes_more};
 ghost use Rattle.tl_lowering.specs.Declaring.{IsLocking, IsDeclarable, IsNewValue};
-ghost use Rattle.tl_lowering.specs.Entering.{entered_of, IsEntering, IsEnteringPlace};
-ghost use Rattle.tl_lowering.specs.Fit.{failing_entered, nowhere_entered};
+ghost use Rattle.tl_lowering.specs.Entering.{before_of, entered_of, IsEntering, IsEnteringPlace};
+ghost use Rattle.tl_lowering.specs.Passing.{failing_entered, nowhere_entered};
 ghost use Rattle.tl_lowering.specs.Names.{names_of};
 ghost use Rattle.tl_lowering.specs.Naming.{IsNumber, IsChanged, Emits, IsAction, declares, with_locking, Locks};
 ghost use Rattle.tl_lowering.specs.Outcomes.{condition_may_fail as condition_may_fail_lem};
@@ -63,7 +63,7 @@ impl Lowering {
         requires { IsAt (view_of self.now.scope) held }
         ensures named { IfOk result (λ l. IsAction (names_of self.now.scope) (Assign name change value.now) l.0) }
         ensures lowered { IfOk result (λ l. IsLowered (view_of self.now.scope) held l.0 l.1) }
-        ensures entering { IfOk result (λ l. IsEntering held.is_entered l.0 l.1) }
+        ensures entering { IfOk result (λ l. IsEntering (before_of held) l.0 l.1) }
     {
         let register = self.scope.value(name)?;
         let operand = self.scope.number(self.alloc, value, held)?;
@@ -84,7 +84,7 @@ impl Lowering {
         requires { IsAt (view_of self.now.scope) held }
         ensures named { IfOk result (λ l. IsAction (names_of self.now.scope) (Write names.0 names.1 change value.now) l.0) }
         ensures lowered { IfOk result (λ l. IsLowered (view_of self.now.scope) held l.0 l.1) }
-        ensures entering { IfOk result (λ l. IsEntering held.is_entered l.0 l.1) }
+        ensures entering { IfOk result (λ l. IsEntering (before_of held) l.0 l.1) }
     {
         let node = self.scope.node(names.0, held)?;
         let field = self.scope.field(names.1)?;
@@ -100,7 +100,7 @@ impl Lowering {
         requires { IsAt (view_of self.now.scope) held }
         ensures named { IfOk result (λ l. Emits (names_of self.now.scope) values.now l.0) }
         ensures lowered { IfOk result (λ l. IsLowered (view_of self.now.scope) held l.0 l.1) }
-        ensures entering { IfOk result (λ l. IsEntering held.is_entered l.0 l.1) }
+        ensures entering { IfOk result (λ l. IsEntering (before_of held) l.0 l.1) }
     {
         let mut emits = Vec::new(self.alloc);
         let mut flow = Flow::on(held);
@@ -116,7 +116,7 @@ impl Lowering {
         requires { IsAt (view_of self.now.scope) held }
         ensures named { IfOk result (λ l. IsAction (names_of self.now.scope) (Require condition.now) l.0) }
         ensures lowered { IfOk result (λ l. IsLowered (view_of self.now.scope) held l.0 l.1) }
-        ensures entering { IfOk result (λ l. IsEntering held.is_entered l.0 l.1) }
+        ensures entering { IfOk result (λ l. IsEntering (before_of held) l.0 l.1) }
     {
         let condition = self.scope.condition(self.alloc, condition, held)?;
         let skip = self.boxed(Statement::Skip)?;
@@ -129,7 +129,7 @@ impl Lowering {
         requires { IsAt (view_of self.now.scope) held }
         ensures named { IfOk result (λ l. IsAction (names_of self.now.scope) (Free name) l.0) }
         ensures lowered { IfOk result (λ l. IsLowered (view_of self.now.scope) held l.0 l.1) }
-        ensures entering { IfOk result (λ l. IsEntering held.is_entered l.0 l.1) }
+        ensures entering { IfOk result (λ l. IsEntering (before_of held) l.0 l.1) }
     {
         let node = self.scope.node(name, held)?;
         Ok((Statement::Free(node), Flow::on(held.without(node))))
@@ -146,7 +146,7 @@ impl Lowering {
         requires { IsAt (view_of self.now.scope) held }
         ensures named { IfOk result (λ l. IsAction (names_of self.now.scope) (Descend name number.now) l.0) }
         ensures lowered { IfOk result (λ l. IsLowered (view_of self.now.scope) held l.0 l.1) }
-        ensures entering { IfOk result (λ l. IsEntering held.is_entered l.0 l.1) }
+        ensures entering { IfOk result (λ l. IsEntering (before_of held) l.0 l.1) }
     {
         let node = self.scope.node(name, held)?;
         self.scope.next_node(0, offset)?;
@@ -159,7 +159,7 @@ impl Lowering {
         requires { IsAt (view_of self.now.scope) held }
         ensures named { IfOk result (λ l. IsAction (names_of self.now.scope) (Take name from) l.0) }
         ensures lowered { IfOk result (λ l. IsLowered (view_of self.now.scope) held l.0 l.1) }
-        ensures entering { IfOk result (λ l. IsEntering held.is_entered l.0 l.1) }
+        ensures entering { IfOk result (λ l. IsEntering (before_of held) l.0 l.1) }
     {
         let node = self.scope.node(name, held)?;
         if name.symbol == from.symbol {
@@ -174,7 +174,7 @@ impl Lowering {
         requires { IsAt (view_of self.now.scope) held }
         ensures named { IfOk result (λ l. IsAction (names_of self.now.scope) (leave_by leave) l.0) }
         ensures lowered { IfOk result (λ l. IsLowered (view_of self.now.scope) held l.0 l.1) }
-        ensures entering { IfOk result (λ l. IsEntering held.is_entered l.0 l.1) }
+        ensures entering { IfOk result (λ l. IsEntering (before_of held) l.0 l.1) }
     {
         match leave {
             Leave::Break => {
@@ -197,7 +197,7 @@ impl Lowering {
         requires { IsAt (view_of self.now.scope) held }
         ensures named { IfOk result (λ l. declares action.now ≡ false → IsAction (names_of self.now.scope) action.now l.0) }
         ensures lowered { IfOk result (λ l. IsLowered (view_of self.now.scope) held l.0 l.1) }
-        ensures entering { IfOk result (λ l. IsEntering held.is_entered l.0 l.1) }
+        ensures entering { IfOk result (λ l. IsEntering (before_of held) l.0 l.1) }
     {
         match action {
             Action::Assign {
@@ -250,7 +250,7 @@ impl Lowering {
         requires { IsAt (view_of self.now.scope) held }
         ensures named { IfOk result (λ l. Locks (names_of self.now.scope) (one_node name offset number.now) l) }
         ensures locking { IfOk result (λ l. IsLocking (view_of self.now.scope) held l) }
-        ensures entering { IfOk result (λ l. IsEnteringPlace held.is_entered l) }
+        ensures entering { IfOk result (λ l. IsEnteringPlace (before_of held) l) }
     {
         self.scope.check_new(name)?;
         let register = self.scope.next_node(0, name.offset)?;
@@ -270,7 +270,7 @@ impl Lowering {
         requires { IsAt (view_of self.now.scope) held }
         ensures named { IfOk result (λ l. Locks (names_of self.now.scope) (one_child child.now) l) }
         ensures locking { IfOk result (λ l. IsLocking (view_of self.now.scope) held l) }
-        ensures entering { IfOk result (λ l. IsEnteringPlace held.is_entered l) }
+        ensures entering { IfOk result (λ l. IsEnteringPlace (before_of held) l) }
     {
         self.scope.check_new(child.name)?;
         let register = self.scope.next_node(0, child.name.offset)?;
@@ -288,7 +288,7 @@ impl Lowering {
         requires { IsAt (view_of self.now.scope) held }
         ensures named { IfOk result (λ l. Locks (names_of self.now.scope) (two_children first.now second.now) l) }
         ensures locking { IfOk result (λ l. IsLocking (view_of self.now.scope) held l) }
-        ensures entering { IfOk result (λ l. IsEnteringPlace held.is_entered l) }
+        ensures entering { IfOk result (λ l. IsEnteringPlace (before_of held) l) }
     {
         self.scope.check_new(first.name)?;
         let register = self.scope.next_node(0, first.name.offset)?;
@@ -326,7 +326,7 @@ impl Lowering {
         requires { IsAt (view_of self.now.scope) held }
         ensures named { IfOk result (λ l. Locks (names_of self.now.scope) place.now l) }
         ensures locking { IfOk result (λ l. IsLocking (view_of self.now.scope) held l) }
-        ensures entering { IfOk result (λ l. IsEnteringPlace held.is_entered l) }
+        ensures entering { IfOk result (λ l. IsEnteringPlace (before_of held) l) }
     {
         match place {
             parsed::Place::Node {
@@ -360,7 +360,7 @@ impl Lowering {
 /// How a condition can fail: only if it contains an operation.
 pub fn asked(condition: &Condition, held: Held) -> Flow
     ensures paths { paths_of result ≡ failing_if (condition_may_fail_lem condition.now) nowhere (nodes_of held) }
-    ensures entered { entered_of result ≡ failing_entered (condition_may_fail_lem condition.now) held.is_entered nowhere_entered }
+    ensures entered { entered_of result ≡ failing_entered (condition_may_fail_lem condition.now) (before_of held) nowhere_entered }
 {
     Flow::NOWHERE.failing_if(condition_may_fail(condition), held)
 }

@@ -1,11 +1,11 @@
 // What is known of the paths that lead to a place.
 
-ghost use Rattle.std.specs.Prelude.{◌≡◌, ◌^◌, true, ◌||◌};
-ghost use Rattle.tl_lowering.specs.Entering.{entered_at, entered_of};
-ghost use Rattle.tl_lowering.specs.Fit.{or_of, or_else_of, either_entered, failing_entered, on_entered};
-ghost use Rattle.tl_lowering.specs.Sets.{holds, with_node, without_node, both, both_of};
+ghost use Rattle.std.specs.Prelude.{◌≡◌, ◌^◌, true, ◌||◌, slice_set};
+ghost use Rattle.tl_lowering.specs.Entering.{before_of, entered_at, entered_of};
+ghost use Rattle.tl_lowering.specs.Passing.{or_of, or_else_of, either_entered, failing_entered, on_entered};
+ghost use Rattle.tl_lowering.specs.Sets.{holds, with_node, without_node, both, minus, both_of};
 ghost use Rattle.tl_lowering.specs.Outcomes.{handled_by};
-ghost use Rattle.tl_lowering.specs.Paths.{bits, nodes_of, known, paths_of};
+ghost use Rattle.tl_lowering.specs.Paths.{bits, nodes_of, passed_of, known, paths_of};
 ghost use Rattle.tl_lowering.specs.Paths.{on as path_on, failing as failing_at, failing_if as failing_there, keeping as keeping_only, either, with_handler};
 
 use tl_instr::NodeRegister;
@@ -41,13 +41,16 @@ impl Held {
         self.nodes & bit(register) != 0
     }
 
-    pub fn has_visited(self, register: NodeRegister) -> bool {
+    pub fn has_visited(self, register: NodeRegister) -> bool
+        ensures { result ≡ holds (passed_of self) register }
+    {
         self.visited & bit(register) != 0
     }
 
     /// After the register got a node of which no child was locked.
     pub fn with(self, register: NodeRegister) -> Held
         ensures nodes { nodes_of result ≡ with_node (nodes_of self) register }
+        ensures passed { passed_of result ≡ without_node (passed_of self) register }
         ensures entered { result.is_entered ≡ self.is_entered }
     {
         Held {
@@ -59,6 +62,7 @@ impl Held {
 
     pub fn without(self, register: NodeRegister) -> Held
         ensures nodes { nodes_of result ≡ without_node (nodes_of self) register }
+        ensures passed { passed_of result ≡ passed_of self }
         ensures entered { result.is_entered ≡ self.is_entered }
     {
         Held {
@@ -70,6 +74,7 @@ impl Held {
     /// After a child of the register's node was locked.
     pub fn visiting(self, register: NodeRegister) -> Held
         ensures nodes { nodes_of result ≡ nodes_of self }
+        ensures passed { passed_of result ≡ with_node (passed_of self) register }
         ensures entered { result.is_entered ≡ self.is_entered }
     {
         Held {
@@ -81,6 +86,7 @@ impl Held {
     /// When it is no longer known whether children of these nodes were locked.
     pub fn forgetting(self, nodes: u8) -> Held
         ensures nodes { nodes_of result ≡ nodes_of self }
+        ensures passed { passed_of result ≡ minus (passed_of self) (bits nodes) }
         ensures entered { result.is_entered ≡ self.is_entered }
     {
         Held {
@@ -91,6 +97,7 @@ impl Held {
 
     pub fn entered(self) -> Held
         ensures nodes { nodes_of result ≡ nodes_of self }
+        ensures passed { passed_of result ≡ passed_of self }
         ensures entered { result.is_entered ≡ true }
     {
         Held {
@@ -102,6 +109,7 @@ impl Held {
     /// After the first register took over the second one's node.
     pub fn taking(self, register: NodeRegister, from: NodeRegister) -> Held
         ensures nodes { nodes_of result ≡ without_node (with_node (nodes_of self) register) from }
+        ensures passed { passed_of result ≡ slice_set (passed_of self) register (holds (passed_of self) from) }
         ensures entered { result.is_entered ≡ self.is_entered }
     {
         let taken = self.with(register).without(from);
@@ -115,6 +123,7 @@ impl Held {
     /// Only these registers keep their nodes.
     pub fn keeping(self, nodes: u8) -> Held
         ensures nodes { nodes_of result ≡ both (nodes_of self) (bits nodes) }
+        ensures passed { passed_of result ≡ passed_of self }
         ensures entered { result.is_entered ≡ self.is_entered }
     {
         Held {
@@ -126,6 +135,7 @@ impl Held {
     // What holds on paths of either kind.
     fn and(self, other: Held) -> Held
         ensures nodes { nodes_of result ≡ both (nodes_of self) (nodes_of other) }
+        ensures passed { passed_of result ≡ both (passed_of self) (passed_of other) }
         ensures entered { result.is_entered ≡ (self.is_entered || other.is_entered) }
     {
         Held {
@@ -159,7 +169,7 @@ impl Flow {
     /// On, and nowhere else.
     pub fn on(held: Held) -> Flow
         ensures paths { paths_of result ≡ path_on (nodes_of held) }
-        ensures entered { entered_of result ≡ on_entered held.is_entered }
+        ensures entered { entered_of result ≡ on_entered (before_of held) }
     {
         Flow {
             after: Some(held),
@@ -178,7 +188,7 @@ impl Flow {
     /// The statement may also fail, and `held` holds then.
     pub fn failing(self, held: Held) -> Flow
         ensures paths { paths_of result ≡ failing_at (paths_of self) (nodes_of held) }
-        ensures entered { entered_of result ≡ failing_entered true held.is_entered (entered_of self) }
+        ensures entered { entered_of result ≡ failing_entered true (before_of held) (entered_of self) }
     {
         Flow {
             fails: join(self.fails, Some(held)),
@@ -188,7 +198,7 @@ impl Flow {
 
     pub fn failing_if(self, may_fail: bool, held: Held) -> Flow
         ensures paths { paths_of result ≡ failing_there may_fail (paths_of self) (nodes_of held) }
-        ensures entered { entered_of result ≡ failing_entered may_fail held.is_entered (entered_of self) }
+        ensures entered { entered_of result ≡ failing_entered may_fail (before_of held) (entered_of self) }
     {
         if may_fail { self.failing(held) } else { self }
     }
@@ -196,7 +206,7 @@ impl Flow {
     /// The statement goes on, and `held` holds then.
     pub fn going_on(self, held: Held) -> Flow
         ensures paths { paths_of result ≡ record (paths_of self) { after = Some (nodes_of held) } }
-        ensures entered { entered_of result ≡ record (entered_of self) { after = Some held.is_entered } }
+        ensures entered { entered_of result ≡ record (entered_of self) { after = Some (before_of held) } }
     {
         Flow {
             after: Some(held),
@@ -243,7 +253,7 @@ impl Flow {
     /// handler is read as if it failed at once.
     pub fn handled(self, start: Held) -> Held
         ensures nodes { nodes_of result ≡ handled_by (nodes_of start) (known self.fails) }
-        ensures entered { result.is_entered ≡ or_else_of (entered_of self).fails start.is_entered }
+        ensures entered { before_of result ≡ or_else_of (entered_of self).fails (before_of start) }
     {
         match self.fails {
             Some(fails) => fails.keeping(start.nodes),

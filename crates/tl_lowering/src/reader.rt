@@ -3,9 +3,10 @@
 ghost use Rattle.std.specs.Prelude.{◌≡◌, [], ◌≤◌, false, IfOk, OnOk};
 ghost use Rattle.std.specs.List.{All};
 ghost use Rattle.tl_lowering.specs.declared.program.Procedure.{Procedure as CoreProcedure};
-ghost use Rattle.tl_lowering.specs.Fit.{IsWord, EntersOnce};
-ghost use Rattle.tl_lowering.specs.Names.{names_of, with_values, AreNew};
+ghost use Rattle.tl_lowering.specs.Fit.{IsWord};
+ghost use Rattle.tl_lowering.specs.Names.{names_of, is_procedure, with_procedure, with_values, AreNew};
 ghost use Rattle.tl_lowering.specs.Outcomes.{fails};
+ghost use Rattle.tl_lowering.specs.Passing.{nothing_before, EntersOnce};
 ghost use Rattle.tl_lowering.specs.Reading.{IsBody, IsProcedure, IsWithField, AreDeclared, IsProgram};
 ghost use Rattle.tl_lowering.specs.Scopes.{view_of, IsInUse, IsAt, IsBare, Extends, is_in_loop};
 ghost use Rattle.tl_lowering.specs.Sets.{none_held};
@@ -66,7 +67,7 @@ impl Lowering {
         ensures named { IfOk result (IsBody (names_of self.old.scope) procedure.now) }
         ensures sound { IfOk result (λ s. IsSound s self.old.scope.values self.old.scope.nodes none_held (is_in_loop (view_of self.old.scope))) }
         ensures handled { IfOk result (λ s. fails s none_held ≡ []) }
-        ensures enters { IfOk result (λ s. EntersOnce s false) }
+        ensures enters { IfOk result (λ s. EntersOnce s nothing_before) }
     {
         let lowered = self.block(&procedure.body, Held::NOTHING)?;
         let (handled, _flow) = self.handled(lowered, &procedure.otherwise, Held::NOTHING)?;
@@ -80,8 +81,9 @@ impl Lowering {
         names: &IndexSet<&[u8]>,
     ) -> Result<Procedure, SyntaxFault>
         requires { IsBare (view_of self.old.scope) }
-        ensures named { IfOk result (IsProcedure (spellings names.now.keys) (names_of self.old.scope) procedure.now) }
-        ensures names { OnOk result (names_of self.new.scope ≡ names_of self.old.scope) }
+        ensures fresh { OnOk result (is_procedure (names_of self.old.scope) procedure.now.name ≡ false) }
+        ensures named { IfOk result (IsProcedure (spellings names.now.keys) (with_procedure (names_of self.old.scope) procedure.now.name) procedure.now) }
+        ensures names { OnOk result (names_of self.new.scope ≡ with_procedure (names_of self.old.scope) procedure.now.name) }
         ensures scope { OnOk result (IsBare (view_of self.new.scope)) }
         ensures procedure { IfOk result (λ p. IsWord p.name.items → IsInOrder p) }
     {

@@ -1,9 +1,10 @@
 // What names stand for.
 
-ghost use Rattle.std.specs.Prelude.{◌≡◌, ◌+◌, ◌<◌, length, slice_set, take, drop, true, Some, None, IfOk, OnOk};
+ghost use Rattle.std.specs.Prelude.{◌≡◌, ◌+◌, ◌<◌, length, slice_set, take, drop, true, false, Some, None, IfOk, OnOk};
 ghost use Rattle.tl_instr.specs.declared.operand.TheConstants.{VALUE_REGISTERS, NODE_REGISTERS};
 ghost use Rattle.tl_lowering.specs.declared.scope.Meaning.TheVariants.{Nothing, Value, Node};
-ghost use Rattle.tl_lowering.specs.Names.{names_of, without_meaning, stands_for, field_named, with_constant, with_field, with_unnamed, with_value, with_node};
+ghost use Rattle.tl_lowering.specs.Names.{names_of, without_meaning, stands_for, field_named, is_procedure, with_constant, with_field, with_procedure, with_unnamed, with_value, with_node};
+ghost use Rattle.tl_lowering.specs.Descending.{node_in};
 ghost use Rattle.tl_lowering.specs.Paths.{nodes_of};
 ghost use Rattle.tl_lowering.specs.Sets.{holds};
 ghost use Rattle.tl_lowering.specs.Scopes.{View, view_of, IsInUse, IsBare, Extends, meaning_of, forget};
@@ -76,6 +77,7 @@ impl Scope {
     fn set(&mut self, symbol: Symbol, meaning: Meaning)
         ensures meanings { self.new.meanings.items ≡ slice_set self.old.meanings.items symbol.0 meaning }
         ensures fields { self.new.fields.items ≡ self.old.fields.items }
+        ensures procedures { self.new.is_procedure.items ≡ self.old.is_procedure.items }
         ensures local { self.new.local.items ≡ self.old.local.items }
         ensures values { self.new.values ≡ self.old.values }
         ensures nodes { self.new.nodes ≡ self.old.nodes }
@@ -117,7 +119,9 @@ impl Scope {
 
     /// Declares a procedure. 276 if one of that name is declared already.
     pub fn declare_procedure(&mut self, name: Name) -> Result<(), SyntaxFault>
-        ensures { view_of self.new ≡ view_of self.old }
+        ensures bare { OnOk result (IsBare (view_of self.old) → IsBare (view_of self.new)) }
+        ensures fresh { OnOk result (is_procedure (names_of self.old) name ≡ false) }
+        ensures named { OnOk result (names_of self.new ≡ with_procedure (names_of self.old) name) }
     {
         let index = name.symbol.0;
         if self.is_procedure.get(index) == Some(&true) {
@@ -158,6 +162,7 @@ impl Scope {
         ensures values { OnOk result (self.new.values ≡ self.old.values + 1) }
         ensures nodes { OnOk result (self.new.nodes ≡ self.old.nodes) }
         ensures fields { OnOk result (self.new.fields.items ≡ self.old.fields.items) }
+        ensures procedures { OnOk result (self.new.is_procedure.items ≡ self.old.is_procedure.items) }
         ensures loops { OnOk result (self.new.loops ≡ self.old.loops) }
         ensures names { OnOk result ((outer : View) → meaning_of (view_of self.old) name.symbol ≡ Nothing → Extends outer (view_of self.old) → Extends outer (view_of self.new)) }
         ensures named { OnOk result (names_of self.new ≡ with_value (names_of self.old) name) }
@@ -177,6 +182,7 @@ impl Scope {
         ensures loops { self.new.loops ≡ self.old.loops }
         ensures meanings { self.new.meanings.items ≡ self.old.meanings.items }
         ensures fields { self.new.fields.items ≡ self.old.fields.items }
+        ensures procedures { self.new.is_procedure.items ≡ self.old.is_procedure.items }
         ensures local { self.new.local.items ≡ self.old.local.items }
         ensures named { names_of self.new ≡ with_unnamed (names_of self.old) }
     {
@@ -191,6 +197,7 @@ impl Scope {
         ensures nodes { OnOk result (self.new.nodes ≡ self.old.nodes + 1) }
         ensures meanings { OnOk result (self.new.meanings.items ≡ slice_set self.old.meanings.items name.symbol.0 (Node register)) }
         ensures fields { OnOk result (self.new.fields.items ≡ self.old.fields.items) }
+        ensures procedures { OnOk result (self.new.is_procedure.items ≡ self.old.is_procedure.items) }
         ensures loops { OnOk result (self.new.loops ≡ self.old.loops) }
         ensures names { OnOk result ((outer : View) → meaning_of (view_of self.old) name.symbol ≡ Nothing → Extends outer (view_of self.old) → Extends outer (view_of self.new)) }
         ensures named { OnOk result (names_of self.new ≡ with_node (names_of self.old) name) }
@@ -217,6 +224,7 @@ impl Scope {
     pub fn return_to(&mut self, mark: Mark)
         ensures meanings { self.new.meanings.items ≡ forget (drop mark.local self.old.local.items) self.old.meanings.items }
         ensures fields { self.new.fields.items ≡ self.old.fields.items }
+        ensures procedures { self.new.is_procedure.items ≡ self.old.is_procedure.items }
         ensures local { self.new.local.items ≡ take mark.local self.old.local.items }
         ensures values { self.new.values ≡ mark.values }
         ensures nodes { self.new.nodes ≡ mark.nodes }
@@ -265,7 +273,9 @@ impl Scope {
     }
 
     /// The register that the name owns a node by, if it may.
-    pub fn register_of(&self, name: Name) -> Option<NodeRegister> {
+    pub fn register_of(&self, name: Name) -> Option<NodeRegister>
+        ensures { result ≡ node_in (meaning_of (view_of self.now) name.symbol) }
+    {
         match self.meaning(name) {
             Meaning::Node(register) => Some(register),
             _ => None,

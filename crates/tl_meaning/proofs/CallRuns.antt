@@ -21,13 +21,15 @@ use Rattle.tl_compiler.specs.Statements.{Site, procedure_code}
 use Rattle.tl_meaning.specs.Calls.{DoesCall}
 use Rattle.tl_meaning.specs.Meaning.{Outcome, On, Breaks, Fails, Returns, Done, after_events, is_on, leave, meaning}
 use Rattle.tl_meaning.specs.Leading.{with_actions, Leads, Runs}
-use Rattle.tl_meaning.specs.Endings.{Agrees, IsSite, IsIn, LeadsBy}
+use Rattle.tl_meaning.specs.Endings.{Agrees, IsSite, LeadsBy}
+use Rattle.tl_compiler.specs.Among.{IsIn}
 use Rattle.tl_lowering.specs.Sound.{IsSound}
 use Rattle.tl_meaning.specs.Told.{told}
-use Rattle.tl_meaning.proofs.Steps.{and_on, tail_whole, returns}
-use Rattle.tl_meaning.proofs.Stretches.{tail_of_stretch}
+use Rattle.tl_meaning.proofs.Steps.{and_on, returns}
+use Rattle.tl_compiler.proofs.TailLemmas.{tail_whole}
+use Rattle.tl_compiler.proofs.Stretches.{tail_of_stretch}
 use Rattle.tl_meaning.proofs.NumberRuns.{kept_all}
-use Rattle.tl_meaning.proofs.StatementStretches.{statement_stretch}
+use Rattle.tl_compiler.proofs.StatementStretches.{statement_stretch}
 use Rattle.tl_meaning.proofs.EveryRuns.{every_runs}
 
 actions_to_end : (acts : List Action) (u : State) → actions (with_actions acts (Ended u)) ≡ acts

@@ -15,23 +15,26 @@ use Rattle.tl_lowering.specs.declared.program.Condition.TheVariants as C
 use Rattle.tl_lowering.specs.declared.program.Statement.{Statement}
 use Rattle.tl_lowering.specs.declared.program.Statement.TheVariants as S
 use Rattle.tl_compiler.specs.Numbers.{into_code}
-use Rattle.tl_lowering.specs.Sets.{Nodes, both, both_of, same}
+use Rattle.tl_lowering.specs.Sets.{Nodes, both_of, same}
 use Rattle.tl_lowering.specs.Outcomes.{may_fail, condition_may_fail, here_if, after, fails, breaks}
 use Rattle.tl_compiler.specs.Statements.{Site, Exit, way_out, direct, is_skip, joining_code, Second, second_by, held_behind, statement_code}
 use Rattle.tl_meaning.specs.Meaning.{Outcome, On, Breaks, Fails, Returns, with_both, opposite, both_true, number, truth, given, leaving, held_at, meaning}
-use Rattle.tl_meaning.specs.Leading.{Tail, Runs, from_label, IsInside, NumberLeads}
-use Rattle.tl_lowering.specs.Sound.{IsReadable, IsTestable}
+use Rattle.tl_compiler.specs.Tails.{Tail}
+use Rattle.tl_meaning.specs.Leading.{Runs, from_label, IsInside, NumberLeads}
+use Rattle.tl_lowering.specs.Sound.{IsReadable, IsTestable, IsSound}
 use Rattle.tl_meaning.specs.Endings.{Agrees, IsSite, LeadsBy, StatementLeads}
-use Rattle.tl_lowering.specs.Sound.{IsSound}
-use Rattle.tl_meaning.proofs.Steps.{tail_further, tail_length, further_in}
-use Rattle.tl_meaning.proofs.Stretches.{tail_of_stretch}
-use Rattle.tl_meaning.proofs.SetLemmas.{Within, within_self, within_left, within_right, in_left, in_right}
-use Rattle.tl_meaning.proofs.SizeLemmas.{AnySized, both_sized, sizes}
-use Rattle.tl_meaning.proofs.NumberRuns.{into_stretch, into_range, into_runs, kept_below}
-use Rattle.tl_meaning.proofs.StatementStretches.{statement_stretch, joining_stretch, second_stretch}
+use Rattle.tl_compiler.proofs.TailLemmas.{tail_further, tail_length}
+use Rattle.tl_meaning.proofs.Steps.{further_in}
+use Rattle.tl_compiler.proofs.Stretches.{tail_of_stretch}
+use Rattle.tl_compiler.proofs.SetLemmas.{in_left, in_right}
+use Rattle.tl_compiler.proofs.SizeLemmas.{sizes}
+use Rattle.tl_compiler.proofs.NumberStretches.{into_stretch}
+use Rattle.tl_meaning.proofs.NumberRuns.{into_range, into_runs, kept_below}
+use Rattle.tl_compiler.proofs.StatementStretches.{statement_stretch, joining_stretch, second_stretch}
 use Rattle.tl_meaning.proofs.StatementRuns.{agrees_kept, agrees_given, readable_there, number_there, may_fail_at, here, prefixed, widened, StatementRuns}
 use Rattle.tl_meaning.proofs.SimpleRuns.{held_size, further_site}
-use Rattle.tl_meaning.proofs.WayRuns.{Keeps, joined, second_runs, first_runs}
+use Rattle.tl_compiler.proofs.WayLemmas.{Keeps, keeps_first, keeps_second, keeps_itself}
+use Rattle.tl_meaning.proofs.WayRuns.{joined, second_runs, first_runs}
 
 pub testable_there : (d : Condition) {t : ℕ} {h : Nodes} {s u : State} → Agrees t h s u → IsTestable t h d → IsTestable t (held_at u) d
 testable_there d {t} {h} {s} {u} a r = subst (λ g. IsTestable t g d) (sym (ap (map is_some) a.kept.nodes ∙ a.held)) r
@@ -63,41 +66,6 @@ condition_may_fail_at parents (C.And' p a q b) d s r e =
     by f g None i y j e = or_left (condition_may_fail a) (condition_may_fail b) (f i)
     by f g (Some true) i y j e = or_right (condition_may_fail a) (condition_may_fail b) (g (j ∙ e))
     by f g (Some false) i y j e = cc
-
--- what is kept behind one of two ways
-pub keeps_first : (a b : Option Nodes) → AnySized a → AnySized b → Keeps a (both_of a b) (held_behind (both_of a b))
-keeps_first None b x y = record { is = λ h e. cc; within = λ h e. absurd (let f : ◌≡◌ {A = Option Nodes} None (Some h) = e in cc); size = λ h e s. absurd (let f : ◌≡◌ {A = Option Nodes} None (Some h) = e in cc) }
-keeps_first (Some g) None x y = record {
-  is = λ h e. refl;
-  within = λ h e. let same : g ≡ h = cc in subst (Within g) same (within_self g);
-  size = λ h e s. x g refl;
-}
-keeps_first (Some g) (Some k) x y = record {
-  is = λ h e. refl;
-  within = λ h e. let same : g ≡ h = cc in subst (Within (both g k)) same (within_left g k);
-  size = λ h e s. both_sized (Some g) (Some k) x y (both g k) refl;
-}
-
-pub keeps_second : (a b : Option Nodes) → AnySized a → AnySized b → Keeps b (both_of a b) (held_behind (both_of a b))
-keeps_second a None x y = record { is = λ h e. cc; within = λ h e. absurd (let f : ◌≡◌ {A = Option Nodes} None (Some h) = e in cc); size = λ h e s. absurd (let f : ◌≡◌ {A = Option Nodes} None (Some h) = e in cc) }
-keeps_second None (Some k) x y = record {
-  is = λ h e. refl;
-  within = λ h e. let same : k ≡ h = cc in subst (Within k) same (within_self k);
-  size = λ h e s. y k refl;
-}
-keeps_second (Some g) (Some k) x y = record {
-  is = λ h e. refl;
-  within = λ h e. let same : k ≡ h = cc in subst (Within (both g k)) same (within_right g k);
-  size = λ h e s. both_sized (Some g) (Some k) x y (both g k) refl;
-}
-
-pub keeps_itself : (a : Option Nodes) → AnySized a → Keeps a a (held_behind a)
-keeps_itself None x = record { is = λ h e. cc; within = λ h e. absurd (let f : ◌≡◌ {A = Option Nodes} None (Some h) = e in cc); size = λ h e s. absurd (let f : ◌≡◌ {A = Option Nodes} None (Some h) = e in cc) }
-keeps_itself (Some g) x = record {
-  is = λ h e. refl;
-  within = λ h e. let same : g ≡ h = cc in subst (Within g) same (within_self g);
-  size = λ h e s. x g refl;
-}
 
 -- where a statement leads that needs no code stands no farther than the labels of its site
 pub direct_bound : {c : List Instr} {fs : List Frame} (b : Statement) (held : Nodes) (x : Site) (on label : ℕ) → IsSite c fs x on → direct b held x ≡ Some label → label ≤ on

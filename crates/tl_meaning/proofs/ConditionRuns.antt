@@ -16,38 +16,17 @@ use Rattle.tl_lowering.specs.declared.program.Condition.{Condition}
 use Rattle.tl_lowering.specs.declared.program.Condition.TheVariants as C
 use Rattle.tl_compiler.specs.Aiming.{aimed}
 use Rattle.tl_compiler.specs.Labels.{target_of}
-use Rattle.tl_compiler.specs.Numbers.{register_of, behind, operand_code, operands_code, jump_code, comparison_code, branch_code}
+use Rattle.tl_compiler.specs.Numbers.{register_of, behind, operand_code, jump_code, comparison_code, branch_code}
 use Rattle.tl_lowering.specs.Sets.{Nodes}
 use Rattle.tl_meaning.specs.Meaning.{with_both, opposite, both_true, number, truth, held_at}
-use Rattle.tl_meaning.specs.Leading.{Leads, Tail, Runs, from_label, IsInside, Kept, led_to, ConditionLeads}
+use Rattle.tl_meaning.specs.Leading.{Leads, Runs, from_label, IsInside, Kept, led_to, ConditionLeads}
+use Rattle.tl_compiler.specs.Tails.{Tail}
 use Rattle.tl_lowering.specs.Sound.{IsReadable, IsTestable}
-use Rattle.tl_meaning.proofs.Steps.{and_on, tail_further, tail_behind, tail_length, further_in, goes_to_next, goes_to_label}
-use Rattle.tl_meaning.proofs.Stretches.{Stretch, tail_of_stretch, stretch_further, stretch_acts}
-use Rattle.tl_meaning.proofs.NumberRuns.{operand_stretch, operand_tail, readable_further, same_number, kept_on, kept_below, register_below, behind_above, OperandEnds, operand_runs}
-
-jump_stretch : (jump : ℕ → Instr) → ((l : ℕ) → kind (jump l) ≡ Acts) → (sense : Bool) (label : ℕ) (k : List Instr) → Stretch (jump_code jump sense label k) k
-jump_stretch jump acts true label k = stretch_acts (jump (target_of label)) k (acts (target_of label))
-jump_stretch jump acts false label k =
-    stretch_further (stretch_acts (jump (target_of (length k))) (I.Jump (target_of label) ∷ k) (acts (target_of (length k)))) (stretch_acts (I.Jump (target_of label)) k refl)
-
-pub operands_stretch : (a b : Expression) (t f : ℕ) (k : List Instr) → Stretch (operands_code a b t f k) k
-operands_stretch a b t f k = stretch_further (operand_stretch a t f (operand_code b (behind a t) f k)) (operand_stretch b (behind a t) f k)
-
-comparison_stretch : (jump : ℕ → ℕ → ℕ → Instr) → ((x y l : ℕ) → kind (jump x y l) ≡ Acts) → (a b : Expression) (sense : Bool) (label t f : ℕ) (k : List Instr) → Stretch (comparison_code jump a b sense label t f k) k
-comparison_stretch jump acts a b sense label t f k =
-    stretch_further (operands_stretch a b t f (jump_code (jump (register_of a t) (register_of b (behind a t))) sense label k))
-    (jump_stretch (jump (register_of a t) (register_of b (behind a t))) (acts (register_of a t) (register_of b (behind a t))) sense label k)
-
-pub branch_stretch : (d : Condition) (sense : Bool) (label t f : ℕ) (k : List Instr) → Stretch (branch_code d sense label t f k) k
-branch_stretch (C.Less a b) sense label t f k = comparison_stretch (λ x y l. I.JumpIfLess x y l) (λ x y l. refl) a b sense label t f k
-branch_stretch (C.Greater a b) sense label t f k = comparison_stretch (λ x y l. I.JumpIfLess y x l) (λ x y l. refl) a b sense label t f k
-branch_stretch (C.Equal a b) sense label t f k = comparison_stretch (λ x y l. I.JumpIfEqual x y l) (λ x y l. refl) a b sense label t f k
-branch_stretch (C.Not' p d) sense label t f k = branch_stretch d (not sense) label t f k
-branch_stretch (C.And' p d q e) sense label t f k =
-    stretch_further (branch_stretch d false (if sense then length k else label) t f (branch_code e sense label t f k)) (branch_stretch e sense label t f k)
-
-pub branch_tail : (d : Condition) (sense : Bool) (label t f : ℕ) (k : List Instr) → Tail (branch_code d sense label t f k) k
-branch_tail d sense label t f k = tail_of_stretch (branch_stretch d sense label t f k)
+use Rattle.tl_meaning.proofs.Steps.{and_on, further_in, goes_to_next, goes_to_label}
+use Rattle.tl_compiler.proofs.TailLemmas.{tail_further, tail_behind, tail_length}
+use Rattle.tl_compiler.proofs.Stretches.{tail_of_stretch}
+use Rattle.tl_compiler.proofs.NumberStretches.{operand_tail, jump_stretch, branch_tail}
+use Rattle.tl_meaning.proofs.NumberRuns.{readable_further, same_number, kept_on, kept_below, register_below, behind_above, OperandEnds, operand_runs}
 
 pub same_truth : (parents : List ℕ) (d : Condition) (t : ℕ) (held : Nodes) (s u : State) → IsTestable t held d → Kept t s u → truth parents d u ≡ truth parents d s
 same_truth parents (C.Less a b) t held s u r k = ap₂ (with_both (λ x y. Some (lt_z x y))) (same_number parents a t held s u r.0 k) (same_number parents b t held s u r.1 k)

@@ -16,10 +16,13 @@ use Rattle.tl_compiler.specs.Numbers.{register_of, operand_code}
 use Rattle.tl_lowering.specs.Sets.{Nodes, holds, with_node as also}
 use Rattle.tl_compiler.specs.Statements.{Site}
 use Rattle.tl_meaning.specs.Meaning.{given, number, lock_kid, lock_child_by, go_down, descend_by}
-use Rattle.tl_meaning.specs.Leading.{Leads, Tail, Runs, from_label}
+use Rattle.tl_meaning.specs.Leading.{Leads, Runs, from_label}
+use Rattle.tl_compiler.specs.Tails.{Tail}
 use Rattle.tl_meaning.specs.Endings.{Agrees, IsSite, StatementLeads}
-use Rattle.tl_meaning.proofs.Steps.{and_on, tail_further, tail_behind, further_in, in_range}
-use Rattle.tl_meaning.proofs.NumberRuns.{OperandEnds, operand_tail, operand_runs}
+use Rattle.tl_meaning.proofs.Steps.{and_on, further_in, in_range}
+use Rattle.tl_compiler.proofs.TailLemmas.{tail_further, tail_behind}
+use Rattle.tl_meaning.proofs.NumberRuns.{OperandEnds, operand_runs}
+use Rattle.tl_compiler.proofs.NumberStretches.{operand_tail}
 use Rattle.tl_meaning.proofs.SetLemmas.{held_set}
 use Rattle.tl_meaning.proofs.ReleaseRuns.{release_step}
 use Rattle.tl_meaning.proofs.StatementRuns.{agrees_kept, readable_there, number_there, prefixed, StatementRuns}

@@ -10,7 +10,7 @@ use Rattle.tl_compiler.specs.Statements.{direct, statement_code}
 use Rattle.tl_meaning.specs.Meaning.{number, truth, after_events, is_on, lock_place, and_then, or_else, given, chosen, counted, leave, leaving, turns, broken, meaning}
 use Rattle.tl_meaning.specs.Leading.{Runs, from_label}
 use Rattle.tl_meaning.specs.Endings.{StatementLeads}
-use Rattle.tl_meaning.proofs.SizeLemmas.{sizes}
+use Rattle.tl_compiler.proofs.SizeLemmas.{sizes}
 use Rattle.tl_meaning.proofs.StatementRuns.{StatementRuns, skip_runs, fail_runs, assign_runs, emit_runs, write_runs}
 use Rattle.tl_meaning.proofs.SimpleRuns.{held_size, free_runs, take_runs, return_runs, break_runs, sequence_runs}
 use Rattle.tl_meaning.proofs.ChoiceRuns.{let_runs, else_runs}

@@ -13,20 +13,23 @@ use Rattle.tl_lowering.specs.Sets.{Nodes, holds, both_of}
 use Rattle.tl_lowering.specs.Outcomes.{condition_may_fail, here_if, after, fails, breaks}
 use Rattle.tl_compiler.specs.Statements.{Site, direct, is_skip, Way, choice_code, held_behind, statement_code}
 use Rattle.tl_meaning.specs.Meaning.{Outcome, On, Breaks, Fails, Returns, plain, after_events, truth, chosen, leave, leaving, meaning}
-use Rattle.tl_meaning.specs.Leading.{Leads, Tail, Runs, from_label, Kept, ConditionLeads}
-use Rattle.tl_lowering.specs.Sound.{IsTestable}
+use Rattle.tl_meaning.specs.Leading.{Leads, Runs, from_label, Kept, ConditionLeads}
+use Rattle.tl_compiler.specs.Tails.{Tail}
+use Rattle.tl_lowering.specs.Sound.{IsTestable, IsSound}
 use Rattle.tl_meaning.specs.Endings.{Agrees, IsSite, LeadsBy, StatementLeads}
-use Rattle.tl_lowering.specs.Sound.{IsSound}
-use Rattle.tl_meaning.proofs.Steps.{tail_further, tail_length, further_in}
-use Rattle.tl_meaning.proofs.Stretches.{tail_of_stretch}
-use Rattle.tl_meaning.proofs.SetLemmas.{in_left, in_right}
-use Rattle.tl_meaning.proofs.SizeLemmas.{sizes}
-use Rattle.tl_meaning.proofs.ConditionRuns.{branch_tail, same_truth, branch_runs}
-use Rattle.tl_meaning.proofs.StatementStretches.{statement_stretch}
+use Rattle.tl_compiler.proofs.TailLemmas.{tail_further, tail_length}
+use Rattle.tl_meaning.proofs.Steps.{further_in}
+use Rattle.tl_compiler.proofs.Stretches.{tail_of_stretch}
+use Rattle.tl_compiler.proofs.SetLemmas.{in_left, in_right}
+use Rattle.tl_compiler.proofs.SizeLemmas.{sizes}
+use Rattle.tl_compiler.proofs.NumberStretches.{branch_tail}
+use Rattle.tl_meaning.proofs.ConditionRuns.{same_truth, branch_runs}
+use Rattle.tl_compiler.proofs.StatementStretches.{statement_stretch}
 use Rattle.tl_meaning.proofs.StatementRuns.{agrees_kept, here, prefixed, widened, StatementRuns}
 use Rattle.tl_meaning.proofs.SimpleRuns.{held_size, holds_there}
 use Rattle.tl_meaning.proofs.WayRuns.{leaves_all, second_runs}
-use Rattle.tl_meaning.proofs.ChoiceRuns.{testable_there, condition_may_fail_at, keeps_first, keeps_second, direct_bound, second_bounds, second_at, first_at, first_tail, way_runs}
+use Rattle.tl_meaning.proofs.ChoiceRuns.{testable_there, condition_may_fail_at, direct_bound, second_bounds, second_at, first_at, first_tail, way_runs}
+use Rattle.tl_compiler.proofs.WayLemmas.{keeps_first, keeps_second}
 
 direct_after : (b : Statement) (held : Nodes) (x : Site) (label : ℕ) → direct b held x ≡ Some label → after b held ≡ None
 direct_after S.Fail held x label e = refl

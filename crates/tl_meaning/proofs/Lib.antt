@@ -16,11 +16,8 @@ pub mod ReleaseRuns
 pub mod RepeatRuns
 pub mod SetLemmas
 pub mod SimpleRuns
-pub mod SizeLemmas
 pub mod StatementRuns
-pub mod StatementStretches
 pub mod Steps
-pub mod Stretches
 pub mod TryRuns
 pub mod WayRuns
 mod Rows

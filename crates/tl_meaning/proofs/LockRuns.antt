@@ -1,5 +1,5 @@
 -- A statement in which a place is locked.
-use Rattle.std.proofs.Common.{◌≡◌, ℕ, ◌≤◌, List, ◌++◌, length, Option, Some, None, is_some, option_map, if◌then◌else◌, refl, sym, subst, arith}
+use Rattle.std.proofs.Common.{ℕ, ◌≤◌, List, ◌++◌, length, Option, is_some, option_map, if◌then◌else◌, refl, sym, subst, arith}
 use Rattle.tl_instr.specs.declared.instr.Instr.{Instr}
 use Rattle.tl_tree_locking.specs.declared.action.Action.{Action}
 use Rattle.tl_machine.specs.Runs.{State, Run}
@@ -7,44 +7,27 @@ use Rattle.tl_machine.specs.Left.{Frame}
 use Rattle.tl_lowering.specs.declared.program.Place.{Place}
 use Rattle.tl_lowering.specs.declared.program.Place.TheVariants as P
 use Rattle.tl_lowering.specs.declared.program.Statement.{Statement}
-use Rattle.tl_lowering.specs.Sets.{Nodes, without_node, both_of}
+use Rattle.tl_lowering.specs.Sets.{Nodes, both_of}
 use Rattle.tl_lowering.specs.Outcomes.{locked, unlocked, after, fails, breaks}
 use Rattle.tl_compiler.specs.Statements.{Site, Second, direct, place_code, held_behind}
-use Rattle.tl_lowering.specs.Sound.{nodes_behind}
+use Rattle.tl_lowering.specs.Sound.{nodes_behind, IsSound, IsLockable}
 use Rattle.tl_meaning.specs.Meaning.{Outcome, On, Breaks, Fails, Returns, after_events, is_on, lock_place, leaving, meaning}
-use Rattle.tl_meaning.specs.Leading.{Tail, Runs, from_label, IsInside}
+use Rattle.tl_compiler.specs.Tails.{Tail}
+use Rattle.tl_meaning.specs.Leading.{Runs, from_label, IsInside}
 use Rattle.tl_meaning.specs.Endings.{Agrees, IsSite, LeadsBy, StatementLeads}
-use Rattle.tl_lowering.specs.Sound.{IsSound, IsLockable}
-use Rattle.tl_meaning.proofs.Steps.{tail_further, tail_length, further_in}
-use Rattle.tl_meaning.proofs.Stretches.{tail_of_stretch}
-use Rattle.tl_meaning.proofs.SetLemmas.{Within, without_within, in_left, in_right}
-use Rattle.tl_meaning.proofs.SizeLemmas.{IsSized, locked_sized, unlocked_sized, sizes}
-use Rattle.tl_meaning.proofs.StatementStretches.{place_stretch}
+use Rattle.tl_compiler.proofs.TailLemmas.{tail_further, tail_length}
+use Rattle.tl_meaning.proofs.Steps.{further_in}
+use Rattle.tl_compiler.proofs.Stretches.{tail_of_stretch}
+use Rattle.tl_compiler.proofs.SetLemmas.{in_left, in_right}
+use Rattle.tl_compiler.proofs.SizeLemmas.{IsSized, locked_sized, sizes}
+use Rattle.tl_compiler.proofs.StatementStretches.{place_stretch}
 use Rattle.tl_meaning.proofs.StatementRuns.{prefixed, widened, StatementRuns}
 use Rattle.tl_meaning.proofs.SimpleRuns.{held_size}
-use Rattle.tl_meaning.proofs.WayRuns.{Keeps}
-use Rattle.tl_meaning.proofs.ChoiceRuns.{keeps_first, keeps_second, second_bounds, second_at, first_at, first_tail, way_runs}
+use Rattle.tl_compiler.proofs.WayLemmas.{keeps_first, keeps_second, keeps_unlocked}
+use Rattle.tl_meaning.proofs.ChoiceRuns.{second_bounds, second_at, first_at, first_tail, way_runs}
 use Rattle.tl_meaning.proofs.TryRuns.{leaving_behind}
 use Rattle.tl_meaning.proofs.PlaceRuns.{PlaceLeads, node_runs, kid_runs}
 use Rattle.tl_meaning.proofs.PairRuns.{pair_runs}
-
-within_unlocked : (place : Place) (h : Nodes) → Within (unlocked place h) h
-within_unlocked (P.Node n e) h = without_within h n
-within_unlocked (P.Child n p e) h = without_within h n
-within_unlocked (P.Pair n k p a b) h = λ i e. without_within h n i (without_within (without_node h n) k i e)
-
--- behind the statement the place is free again
-keeps_unlocked : (place : Place) (one whole : Option Nodes) → Keeps one whole (held_behind whole) → Keeps one (option_map (unlocked place) whole) (held_behind (option_map (unlocked place) whole))
-keeps_unlocked place one None k = record {
-  is = λ h e. let f = k.is h e in cc;
-  within = λ h e. absurd (let f = k.is h e in let g : ◌≡◌ {A = Option Nodes} None (Some (held_behind None)) = f in cc);
-  size = λ h e s. absurd (let f = k.is h e in let g : ◌≡◌ {A = Option Nodes} None (Some (held_behind None)) = f in cc);
-}
-keeps_unlocked place one (Some w) k = record {
-  is = λ h e. refl;
-  within = λ h e i b. k.within h e i (within_unlocked place w i b);
-  size = λ h e s. unlocked_sized place w (k.size h e s);
-}
 
 module _ {c : List Instr} (parents : List ℕ) (ready : Runs c) (place : Place) (a o : Statement) (ones : StatementRuns parents ready a) (twos : StatementRuns parents ready o) (held : Nodes) (x : Site) (k : List Instr) (fs : List Frame) where
   abbrev then_held : Nodes

@@ -1,5 +1,5 @@
 -- Loops.
-use Rattle.std.proofs.Common.{◌≡◌, ℕ, zero, suc, ◌≤◌, List, [], ◌∷◌, ◌++◌, length, Bool, true, false, ◌||◌, Option, Some, None, is_some, option_map, if◌then◌else◌, refl, sym, ◌∙◌, subst, arith, append-nil}
+use Rattle.std.proofs.Common.{◌≡◌, ℕ, zero, suc, ◌≤◌, List, [], ◌∷◌, ◌++◌, length, Bool, true, false, ◌||◌, Option, Some, None, is_some, if◌then◌else◌, refl, sym, ◌∙◌, subst, arith, append-nil}
 use Rattle.std.proofs.lemmas.List.{length-replicate}
 use Rattle.tl_instr.specs.declared.operand.TheConstants.{NODE_REGISTERS}
 use Rattle.tl_instr.specs.declared.instr.Instr.{Instr}
@@ -11,22 +11,25 @@ use Rattle.tl_compiler.specs.Aiming.{aimed}
 use Rattle.tl_machine.specs.Runs.{State, Run}
 use Rattle.tl_machine.specs.Left.{Frame}
 use Rattle.tl_lowering.specs.declared.program.Statement.{Statement}
-use Rattle.tl_lowering.specs.Sets.{Nodes, holds, both, both_of, all_of, minus}
+use Rattle.tl_lowering.specs.Sets.{Nodes, holds, both, all_of, minus}
 use Rattle.tl_lowering.specs.Outcomes.{behind_loop, after, fails, breaks}
 use Rattle.tl_compiler.specs.Statements.{Site, Exit, release_code, held_behind, loop_code, statement_code}
 use Rattle.tl_meaning.specs.Meaning.{Outcome, On, Breaks, Fails, Returns, and_then, leave, leaving, turns, broken, meaning}
-use Rattle.tl_meaning.specs.Leading.{Leads, Tail, Runs, from_label}
-use Rattle.tl_meaning.specs.Endings.{Agrees, IsSite, IsIn, LeadsBy, StatementLeads}
+use Rattle.tl_meaning.specs.Leading.{Leads, Runs, from_label}
+use Rattle.tl_compiler.specs.Tails.{Tail}
+use Rattle.tl_meaning.specs.Endings.{Agrees, IsSite, LeadsBy, StatementLeads}
 use Rattle.tl_lowering.specs.Sound.{IsSound, KeepsHeld}
-use Rattle.tl_meaning.proofs.Steps.{and_on, tail_behind, tail_further, tail_length, further_in}
-use Rattle.tl_meaning.proofs.Stretches.{Stretch, tail_of_stretch}
-use Rattle.tl_meaning.proofs.SetLemmas.{Within, within_left, within_right, all_within, both_within}
-use Rattle.tl_meaning.proofs.SizeLemmas.{AnySized, sizes}
+use Rattle.tl_meaning.proofs.Steps.{and_on, further_in}
+use Rattle.tl_compiler.proofs.TailLemmas.{tail_behind, tail_further, tail_length}
+use Rattle.tl_compiler.proofs.Stretches.{Stretch, tail_of_stretch}
+use Rattle.tl_compiler.proofs.SetLemmas.{Within, all_within, both_within}
+use Rattle.tl_compiler.proofs.SizeLemmas.{AnySized, sizes}
 use Rattle.tl_meaning.proofs.ReleaseRuns.{leave_on}
-use Rattle.tl_meaning.proofs.StatementStretches.{statement_stretch, leaves_stretch}
+use Rattle.tl_compiler.proofs.StatementStretches.{statement_stretch, leaves_stretch}
 use Rattle.tl_meaning.proofs.StatementRuns.{prefixed, StatementRuns}
 use Rattle.tl_meaning.proofs.SimpleRuns.{held_size}
-use Rattle.tl_meaning.proofs.WayRuns.{Keeps, joined}
+use Rattle.tl_compiler.proofs.WayLemmas.{Keeps, Leaves, leaves_first, leaves_second, some_of}
+use Rattle.tl_meaning.proofs.WayRuns.{joined}
 use Rattle.tl_meaning.proofs.LoopSteps.{frame, opens, closes_last, closes_again, out_of}
 
 module _ {c : List Instr} (parents : List ℕ) (ready : Runs c) (a : Statement) (ones : StatementRuns parents ready a) (held : Nodes) (inner : Site) (rest : List Instr) (fs : List Frame) where
@@ -85,46 +88,6 @@ module _ {c : List Instr} (parents : List ℕ) (ready : Runs c) (a : Statement) 
         (λ s u agrees m e. let same : m ≡ more = omega (arith, e) in subst (λ n. StatementLeads (after a held) (fails a held) (breaks a held) c parents fs inner (length rest) (from_label c parents (frame c body rest n ∷ fs) (length body) u) (turns (suc more) (meaning parents a) s)) (sym same) (turns_run more s u agrees))
         (from_label c parents (frame c body rest (suc more) ∷ fs) (length body) u) d.outcome d.state d.events
         (ones held inner (I.End ∷ rest) (frame c body rest (suc more) ∷ fs) s u tail (in_loop (suc more)) sound agrees)
-
--- what is held behind a loop that may be left in two ways
-record Leaves (held : Nodes) (one whole : Option Nodes) : Type 0 where
-  is : (h : Nodes) → one ≡ Some h → whole ≡ Some (held_behind whole)
-  within : (h : Nodes) → one ≡ Some h → Within (held_behind whole) h
-  within_held : (h : Nodes) → one ≡ Some h → Within (held_behind whole) held
-
-leaves_first : (held : Nodes) (p q : Option Nodes) → Leaves held p (option_map (λ h. both h held) (both_of p q))
-leaves_first held None q = record { is = λ h e. cc; within = λ h e. absurd (let f : ◌≡◌ {A = Option Nodes} None (Some h) = e in cc); within_held = λ h e. absurd (let f : ◌≡◌ {A = Option Nodes} None (Some h) = e in cc) }
-leaves_first held (Some g) None = record {
-  is = λ h e. refl;
-  within = λ h e. let same : g ≡ h = cc in subst (Within (both g held)) same (within_left g held);
-  within_held = λ h e. within_right g held;
-}
-leaves_first held (Some g) (Some k) = record {
-  is = λ h e. refl;
-  within = λ h e i b. let same : g ≡ h = cc in subst (λ l. holds l i ≡ true) same (within_left g k i (within_left (both g k) held i b));
-  within_held = λ h e. within_right (both g k) held;
-}
-
-leaves_second : (held : Nodes) (p q : Option Nodes) → Leaves held q (option_map (λ h. both h held) (both_of p q))
-leaves_second held p None = record { is = λ h e. cc; within = λ h e. absurd (let f : ◌≡◌ {A = Option Nodes} None (Some h) = e in cc); within_held = λ h e. absurd (let f : ◌≡◌ {A = Option Nodes} None (Some h) = e in cc) }
-leaves_second held None (Some k) = record {
-  is = λ h e. refl;
-  within = λ h e. let same : k ≡ h = cc in subst (Within (both k held)) same (within_left k held);
-  within_held = λ h e. within_right k held;
-}
-leaves_second held (Some g) (Some k) = record {
-  is = λ h e. refl;
-  within = λ h e i b. let same : k ≡ h = cc in subst (λ l. holds l i ≡ true) same (within_right g k i (within_left (both g k) held i b));
-  within_held = λ h e. within_right (both g k) held;
-}
-
-some_of : (h : Nodes) (hs : List Nodes) → IsIn h hs → (g : Nodes) × (all_of hs ≡ Some g)
-some_of h [] m = absurd m
-some_of h (y ∷ hs) m = by (all_of hs)
-  where
-    by : (o : Option Nodes) → (g : Nodes) × (both_of (Some y) o ≡ Some g)
-    by None = (y, refl)
-    by (Some z) = (both y z, refl)
 
 module _ {c : List Instr} (parents : List ℕ) (ready : Runs c) (a : Statement) (held : Nodes) (x : Site) (may_end leaves : Bool) (k : List Instr) (fs : List Frame) (says : (h : Nodes) → after a held ≡ Some h → leaves ≡ true) (ended : (h : Nodes) → after a held ≡ Some h → (may_end || is_some (after a held)) ≡ true) where
   abbrev whole : Option Nodes

@@ -9,9 +9,11 @@ use Rattle.tl_machine.specs.Alone.{turn_count}
 use Rattle.tl_machine.specs.Left.{Frame, left}
 use Rattle.tl_machine.proofs.LeftLaws.{left_out, left_opens, left_skips, left_closes_last, left_closes_again}
 use Rattle.tl_compiler.specs.Aiming.{aimed, at_positions}
-use Rattle.tl_meaning.specs.Leading.{Leads, Tail, Runs, from_label, IsInside}
-use Rattle.tl_meaning.proofs.Steps.{tail_length, fetch, onward, before, goes}
-use Rattle.tl_meaning.proofs.Stretches.{Stretch, tail_of_stretch, loop_here}
+use Rattle.tl_meaning.specs.Leading.{Leads, Runs, from_label, IsInside}
+use Rattle.tl_compiler.specs.Tails.{Tail}
+use Rattle.tl_compiler.proofs.TailLemmas.{tail_length, fetch}
+use Rattle.tl_meaning.proofs.Steps.{onward, before, goes}
+use Rattle.tl_compiler.proofs.Stretches.{Stretch, tail_of_stretch, loop_here}
 
 -- the loop whose body is as long as this, with what stands behind its end and the turns left
 abbrev pub frame : List Instr → List Instr → List Instr → ℕ → Frame

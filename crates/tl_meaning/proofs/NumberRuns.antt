@@ -23,41 +23,12 @@ use Rattle.tl_compiler.specs.Labels.{target_of}
 use Rattle.tl_compiler.specs.Numbers.{register_of, behind, calculation, into_code, operand_code}
 use Rattle.tl_lowering.specs.Sets.{Nodes}
 use Rattle.tl_meaning.specs.Meaning.{result, with_both, of_node, number, held_at}
-use Rattle.tl_meaning.specs.Leading.{Leads, Tail, Runs, from_label, IsInside, Kept, Given, NumberLeads}
+use Rattle.tl_meaning.specs.Leading.{Leads, Runs, from_label, IsInside, Kept, Given, NumberLeads}
+use Rattle.tl_compiler.specs.Tails.{Tail}
 use Rattle.tl_lowering.specs.Sound.{IsReadable}
-use Rattle.tl_meaning.proofs.Steps.{stays, and_on, tail_further, tail_length, further_in, in_range, goes_to_next, goes_to_label}
-use Rattle.tl_meaning.proofs.Stretches.{Stretch, tail_of_stretch, stretch_whole, stretch_further, stretch_acts}
-
--- ---- what code stands in front of
-
-calculation_kind : (o : Operator) (x y z f : ℕ) → kind (calculation o x y z f) ≡ Acts
-calculation_kind O.Add x y z f = refl
-calculation_kind O.Subtract x y z f = refl
-calculation_kind O.Multiply x y z f = refl
-calculation_kind O.Divide x y z f = refl
-
-unless_stretch : (e : Expression) → ((x t f : ℕ) (k : List Instr) → Stretch (into_code e x t f k) k) → (t f : ℕ) (k : List Instr) → Stretch (operand_code e t f k) k
-unless_stretch (E.Constant w) into t f k = into t t f k
-unless_stretch (E.Value y) into t f k = stretch_whole k
-unless_stretch (E.Field n z) into t f k = into t t f k
-unless_stretch (E.Children n) into t f k = into t t f k
-unless_stretch (E.Calculated' o p a q b) into t f k = into t t f k
-
-pub into_stretch : (e : Expression) (x t f : ℕ) (k : List Instr) → Stretch (into_code e x t f k) k
-into_stretch (E.Constant w) x t f k = stretch_acts (I.Set x w) k refl
-into_stretch (E.Value y) x t f k = stretch_acts (I.Copy x y) k refl
-into_stretch (E.Field n z) x t f k = stretch_acts (I.Get x n z) k refl
-into_stretch (E.Children n) x t f k = stretch_acts (I.Kids x n) k refl
-into_stretch (E.Calculated' o p a q b) x t f k =
-    let last = calculation o x (register_of a t) (register_of b (behind a t)) f ∷ k in
-    stretch_further (unless_stretch a (into_stretch a) t f (operand_code b (behind a t) f last))
-    (stretch_further (unless_stretch b (into_stretch b) (behind a t) f last) (stretch_acts (calculation o x (register_of a t) (register_of b (behind a t)) f) k (calculation_kind o x (register_of a t) (register_of b (behind a t)) f)))
-
-pub operand_stretch : (e : Expression) (t f : ℕ) (k : List Instr) → Stretch (operand_code e t f k) k
-operand_stretch e t f k = unless_stretch e (into_stretch e) t f k
-
-pub operand_tail : (e : Expression) (t f : ℕ) (k : List Instr) → Tail (operand_code e t f k) k
-operand_tail e t f k = tail_of_stretch (operand_stretch e t f k)
+use Rattle.tl_meaning.proofs.Steps.{stays, and_on, further_in, in_range, goes_to_next, goes_to_label}
+use Rattle.tl_compiler.proofs.TailLemmas.{tail_further, tail_length}
+use Rattle.tl_compiler.proofs.NumberStretches.{operand_tail}
 
 -- ---- what numbers depend on
 

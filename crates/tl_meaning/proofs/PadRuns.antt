@@ -1,60 +1,28 @@
 -- Where a failure is handled: its pad frees what the handler doesn't begin with.
-use Rattle.std.proofs.Common.{◌≡◌, ℕ, zero, suc, ◌+◌, ◌*◌, ◌^◌, ◌/◌, ◌%◌, ◌<◌, ◌≤◌, List, [], ◌∷◌, length, map, Bool, true, false, not, ◌&&◌, if◌then◌else◌, refl, sym, ap, ap₂, ◌∙◌, subst, arith, append-nil, ◌⊎◌, inl, inr}
-use Rattle.std.specs.List.{range_with_len}
-use Rattle.std.proofs.lemmas.Bool.{not-false, false≢true, eq-eqb, ne_eqb}
-use Rattle.std.proofs.Math.Nat.{two-pow-succ, eq-or-lt_of_le}
+use Rattle.std.proofs.Common.{◌≡◌, ℕ, suc, ◌≤◌, List, [], ◌∷◌, length, Bool, true, false, not, ◌&&◌, if◌then◌else◌, refl, sym, ap, ◌∙◌, subst, arith, append-nil, ◌⊎◌, inl, inr}
+use Rattle.std.proofs.lemmas.Bool.{not-false, false≢true}
 use Rattle.tl_instr.specs.declared.operand.TheConstants.{NODE_REGISTERS}
 use Rattle.tl_instr.specs.declared.instr.Instr.{Instr}
 use Rattle.tl_instr.specs.declared.instr.Instr.TheVariants as I
 use Rattle.tl_tree_locking.specs.declared.action.Action.TheVariants as did
-use Rattle.tl_verify.specs.Bits.{bits_of, number_of}
 use Rattle.tl_machine.specs.Runs.{State, Run}
 use Rattle.tl_machine.specs.Left.{Frame}
 use Rattle.tl_compiler.specs.Labels.{target_of}
 use Rattle.tl_lowering.specs.Sets.{Nodes, both, minus, same, is_among}
-use Rattle.tl_compiler.specs.NodeSets.{all_sets}
 use Rattle.tl_compiler.specs.Statements.{release_code, Pads, pad_at, one_pad, pads_of}
 use Rattle.tl_meaning.specs.Meaning.{On, Done, plain, leave}
-use Rattle.tl_meaning.specs.Leading.{Leads, Tail, Runs, from_label, IsInside}
-use Rattle.tl_meaning.specs.Endings.{Agrees, IsIn}
-use Rattle.tl_meaning.proofs.Steps.{stays, and_on, tail_further, tail_behind, tail_length, further_in, goes_to_label}
-use Rattle.tl_meaning.proofs.Stretches.{tail_of_stretch}
-use Rattle.tl_meaning.proofs.SetLemmas.{Within, both_within, same_is, same_itself, among}
-use Rattle.tl_meaning.proofs.ReleaseRuns.{release_stretch}
-use Rattle.tl_meaning.proofs.StatementStretches.{pads_stretch}
+use Rattle.tl_meaning.specs.Leading.{Leads, Runs, from_label, IsInside}
+use Rattle.tl_compiler.specs.Tails.{Tail}
+use Rattle.tl_meaning.specs.Endings.{Agrees}
+use Rattle.tl_compiler.specs.Among.{IsIn}
+use Rattle.tl_meaning.proofs.Steps.{stays, and_on, further_in, goes_to_label}
+use Rattle.tl_compiler.proofs.TailLemmas.{tail_further, tail_behind, tail_length}
+use Rattle.tl_compiler.proofs.Stretches.{tail_of_stretch}
+use Rattle.tl_compiler.proofs.SetLemmas.{Within, both_within, same_is, same_itself, among}
+use Rattle.tl_compiler.proofs.NumberStretches.{release_stretch}
+use Rattle.tl_compiler.proofs.StatementStretches.{pads_stretch}
 use Rattle.tl_meaning.proofs.SimpleRuns.{held_size, holds_there, released}
 use Rattle.tl_meaning.proofs.WayRuns.{leaves_all}
-
--- ---- each set is one of all sets
-
-number_small : (h : Nodes) → number_of h < 2 ^ length h
-number_small [] = omega arith
-number_small (true ∷ h) = let less = number_small h in omega (arith, less, two-pow-succ (length h))
-number_small (false ∷ h) = let less = number_small h in omega (arith, less, two-pow-succ (length h))
-
-bits_again : (h : Nodes) → bits_of (length h) (number_of h) ≡ h
-bits_again [] = refl
-bits_again (true ∷ h) =
-    let rest = bits_again h in
-    let half : (2 * number_of h + 1) / 2 ≡ number_of h = omega arith in
-    ap₂ (λ b l. b ∷ l) (eq-eqb ((2 * number_of h + 1) % 2) 1 (omega arith)) (ap (bits_of (length h)) half ∙ rest)
-bits_again (false ∷ h) =
-    let rest = bits_again h in
-    let half : (2 * number_of h) / 2 ≡ number_of h = omega arith in
-    ap₂ (λ b l. b ∷ l) (ne_eqb ((2 * number_of h) % 2) 1 (λ e. absurd (omega (arith, e)))) (ap (bits_of (length h)) half ∙ rest)
-
-in_range : (f : ℕ → Nodes) (from count n : ℕ) → from ≤ n → n < from + count → IsIn (f n) (map f (range_with_len from count))
-in_range f from zero n le lt = absurd (omega arith)
-in_range f from (suc count) n le lt = by (eq-or-lt_of_le le) (λ a b. in_range f (from + 1) count n a b)
-  where
-    by : (from ≡ n) ⊎ (from < n) → (from + 1 ≤ n → n < from + 1 + count → IsIn (f n) (map f (range_with_len (from + 1) count))) → IsIn (f n) (map f (range_with_len from (suc count)))
-    by (inl e) rest = inl (ap f (sym e))
-    by (inr less) rest = inr (rest (omega arith) (omega arith))
-
-pub one_of_all : (h : Nodes) → length h ≡ NODE_REGISTERS → IsIn h all_sets
-one_of_all h size =
-    let less : number_of h < 256 = subst (λ n. number_of h < 2 ^ n) size (number_small h) in
-    subst (λ g. IsIn g all_sets) (ap (λ n. bits_of n (number_of h)) (sym size) ∙ bits_again h) (in_range (bits_of NODE_REGISTERS) 0 256 (number_of h) (omega arith) (omega (arith, less)))
 
 -- ---- pads
 
@@ -76,15 +44,6 @@ pads_bound (g ∷ others) failing handled label base le h = by (is_among g faili
             ≤ length (release_code (minus g handled) (I.Jump (target_of label) ∷ (pads_of others failing handled label base).code))
         at true le = omega arith
         at false le = le
-
-pub pads_none : (sets failing : List Nodes) (handled : Nodes) (label : ℕ) (base : Pads) → (pads_of sets failing handled label base).are_some ≡ false → (pads_of sets failing handled label base).code ≡ base.code
-pads_none [] failing handled label base e = refl
-pads_none (g ∷ others) failing handled label base e = by (is_among g failing && not (same g handled)) (λ f. pads_none others failing handled label base f) e
-  where
-    by : (b : Bool) → ((pads_of others failing handled label base).are_some ≡ false → (pads_of others failing handled label base).code ≡ base.code)
-        → (one_pad b g handled label (pads_of others failing handled label base)).are_some ≡ false → (one_pad b g handled label (pads_of others failing handled label base)).code ≡ base.code
-    by false rest e = rest e
-    by true rest e = cc
 
 -- the failure has come to where it is handled
 pub record Handled (c : List Instr) (parents : List ℕ) (fs : List Frame) (d label : ℕ) (start : Nodes) (from : Run) (s : State) : Type 0 where

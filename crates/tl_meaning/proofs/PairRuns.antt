@@ -22,13 +22,16 @@ use Rattle.tl_compiler.specs.Numbers.{register_of, behind, operand_code}
 use Rattle.tl_lowering.specs.Sets.{Nodes, holds, with_node as also}
 use Rattle.tl_compiler.specs.Statements.{in_order_code, pair_code, place_code}
 use Rattle.tl_meaning.specs.Meaning.{Outcome, On, Breaks, Fails, Returns, Done, plain, and_then, or_else, free, free_by, lock_child, lock_in_order, lock_pair, lock_place, given, number, held_at}
-use Rattle.tl_meaning.specs.Leading.{Leads, Tail, Runs, from_label, IsInside}
+use Rattle.tl_meaning.specs.Leading.{Leads, Runs, from_label, IsInside}
+use Rattle.tl_compiler.specs.Tails.{Tail}
 use Rattle.tl_lowering.specs.Sound.{IsReadable}
 use Rattle.tl_meaning.specs.Endings.{Agrees}
-use Rattle.tl_meaning.proofs.Steps.{and_on, tail_further, tail_behind, tail_length, further_in, in_range, goes_to_next, goes_to_label}
-use Rattle.tl_meaning.proofs.Stretches.{tail_of_stretch}
-use Rattle.tl_meaning.proofs.NumberRuns.{OperandEnds, operand_tail, readable_further, kept_below, register_below, behind_above, operand_runs}
-use Rattle.tl_meaning.proofs.StatementStretches.{in_order_stretch}
+use Rattle.tl_meaning.proofs.Steps.{and_on, further_in, in_range, goes_to_next, goes_to_label}
+use Rattle.tl_compiler.proofs.TailLemmas.{tail_further, tail_behind, tail_length}
+use Rattle.tl_compiler.proofs.Stretches.{tail_of_stretch}
+use Rattle.tl_meaning.proofs.NumberRuns.{OperandEnds, readable_further, kept_below, register_below, behind_above, operand_runs}
+use Rattle.tl_compiler.proofs.NumberStretches.{operand_tail}
+use Rattle.tl_compiler.proofs.StatementStretches.{in_order_stretch}
 use Rattle.tl_meaning.proofs.StatementRuns.{agrees_kept, readable_there, number_there}
 use Rattle.tl_meaning.proofs.ReleaseRuns.{release_step}
 use Rattle.tl_meaning.proofs.SimpleRuns.{agrees_free, held_size}

@@ -20,11 +20,14 @@ use Rattle.tl_lowering.specs.Sets.{Nodes, holds, with_node as also}
 use Rattle.tl_lowering.specs.Outcomes.{locked}
 use Rattle.tl_compiler.specs.Statements.{place_code}
 use Rattle.tl_meaning.specs.Meaning.{Outcome, On, Breaks, Fails, Returns, Done, given, number, lock_node, lock_kid, lock_child_by, lock_child, lock_place}
-use Rattle.tl_meaning.specs.Leading.{Leads, Tail, Runs, from_label, IsInside}
+use Rattle.tl_meaning.specs.Leading.{Leads, Runs, from_label, IsInside}
+use Rattle.tl_compiler.specs.Tails.{Tail}
 use Rattle.tl_lowering.specs.Sound.{IsReadable}
 use Rattle.tl_meaning.specs.Endings.{Agrees}
-use Rattle.tl_meaning.proofs.Steps.{and_on, tail_further, further_in, goes_to_next, goes_to_label}
-use Rattle.tl_meaning.proofs.NumberRuns.{OperandEnds, operand_tail, operand_runs}
+use Rattle.tl_meaning.proofs.Steps.{and_on, further_in, goes_to_next, goes_to_label}
+use Rattle.tl_compiler.proofs.TailLemmas.{tail_further}
+use Rattle.tl_meaning.proofs.NumberRuns.{OperandEnds, operand_runs}
+use Rattle.tl_compiler.proofs.NumberStretches.{operand_tail}
 use Rattle.tl_meaning.proofs.SetLemmas.{held_set}
 use Rattle.tl_meaning.proofs.StatementRuns.{agrees_kept, readable_there, number_there}
 

@@ -15,19 +15,15 @@ use Rattle.tl_machine.specs.Left.{Frame}
 use Rattle.tl_lowering.specs.Sets.{Nodes, holds, both}
 use Rattle.tl_compiler.specs.Statements.{release_below}
 use Rattle.tl_meaning.specs.Meaning.{On, Done, plain, after_events, is_on, and_then, free, free_by, leave_below, leave, held_at}
-use Rattle.tl_meaning.specs.Leading.{Leads, Tail, Runs, from_label, IsInside, Kept}
-use Rattle.tl_meaning.proofs.Steps.{stays, and_on, tail_further, tail_behind, tail_length, further_in, goes_to_next}
-use Rattle.tl_meaning.proofs.Stretches.{Stretch, tail_of_stretch, stretch_whole, stretch_further, stretch_acts}
-use Rattle.tl_meaning.proofs.SetLemmas.{all_held, held_is, held_length, holds_both, length_both}
+use Rattle.tl_meaning.specs.Leading.{Leads, Runs, from_label, IsInside, Kept}
+use Rattle.tl_compiler.specs.Tails.{Tail}
+use Rattle.tl_meaning.proofs.Steps.{stays, and_on, further_in, goes_to_next}
+use Rattle.tl_compiler.proofs.TailLemmas.{tail_further, tail_behind, tail_length}
+use Rattle.tl_compiler.proofs.Stretches.{tail_of_stretch}
+use Rattle.tl_compiler.proofs.SetLemmas.{all_held, holds_both, length_both}
+use Rattle.tl_meaning.proofs.SetLemmas.{held_is, held_length}
 use Rattle.tl_meaning.proofs.Leaving.{freed, others, goes_on, then_on}
-
-pub release_stretch : (n : ℕ) (set : Nodes) (k : List Instr) → Stretch (release_below n set k) k
-release_stretch zero set k = stretch_whole k
-release_stretch (suc n) set k = by (holds set n) (release_stretch n set k)
-  where
-    by : (b : Bool) → Stretch (release_below n set k) k → Stretch (if b then I.Release n ∷ release_below n set k else release_below n set k) k
-    by true rest = stretch_further (stretch_acts (I.Release n) (release_below n set k) refl) rest
-    by false rest = rest
+use Rattle.tl_compiler.proofs.NumberStretches.{release_stretch}
 
 -- control comes to a place where all of it is done
 pub record Does (code : List Instr) (parents : List ℕ) (frames : List Frame) (d on : ℕ) (from : Run) (done : Done) : Type 0 where

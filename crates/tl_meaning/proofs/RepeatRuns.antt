@@ -19,17 +19,19 @@ use Rattle.tl_lowering.specs.Sets.{Nodes, minus}
 use Rattle.tl_lowering.specs.Outcomes.{behind_loop, after, fails, breaks}
 use Rattle.tl_compiler.specs.Statements.{Site, release_code, counted_code, held_behind, loop_code, statement_code}
 use Rattle.tl_meaning.specs.Meaning.{Outcome, On, Fails, Done, plain, number, given as given_number, counted, leaving, turns, broken, meaning}
-use Rattle.tl_meaning.specs.Leading.{Leads, Tail, Runs, from_label}
-use Rattle.tl_lowering.specs.Sound.{IsReadable}
+use Rattle.tl_meaning.specs.Leading.{Leads, Runs, from_label}
+use Rattle.tl_compiler.specs.Tails.{Tail}
+use Rattle.tl_lowering.specs.Sound.{IsReadable, IsSound, KeepsHeld}
 use Rattle.tl_meaning.specs.Endings.{Agrees, IsSite, LeadsBy, StatementLeads}
-use Rattle.tl_lowering.specs.Sound.{IsSound, KeepsHeld}
-use Rattle.tl_meaning.proofs.Steps.{fetch, tail_further, tail_behind, tail_length, further_in, in_range, goes_to_next, goes_to_label}
-use Rattle.tl_meaning.proofs.NumberRuns.{OperandEnds, operand_tail, kept_below, kept_given, given, register_below, behind_above, operand_runs}
-use Rattle.tl_meaning.proofs.Stretches.{tail_of_stretch}
-use Rattle.tl_meaning.proofs.StatementStretches.{statement_stretch}
+use Rattle.tl_compiler.proofs.TailLemmas.{fetch, tail_further, tail_behind, tail_length}
+use Rattle.tl_meaning.proofs.Steps.{further_in, in_range, goes_to_next, goes_to_label}
+use Rattle.tl_meaning.proofs.NumberRuns.{OperandEnds, kept_below, kept_given, given, register_below, behind_above, operand_runs}
+use Rattle.tl_compiler.proofs.NumberStretches.{operand_tail}
+use Rattle.tl_compiler.proofs.Stretches.{tail_of_stretch}
+use Rattle.tl_compiler.proofs.StatementStretches.{statement_stretch}
 use Rattle.tl_meaning.proofs.LoopSteps.{skips}
 use Rattle.tl_compiler.specs.Numbers.{register_of, behind}
-use Rattle.tl_meaning.proofs.SizeLemmas.{AnySized}
+use Rattle.tl_compiler.proofs.SizeLemmas.{AnySized}
 use Rattle.tl_meaning.proofs.StatementRuns.{agrees_kept, readable_there, number_there, prefixed, widened, StatementRuns}
 use Rattle.tl_meaning.proofs.SimpleRuns.{held_size}
 use Rattle.tl_meaning.proofs.LoopRuns.{keeps_end, on_by, end_long, inside_site, loop_runs}

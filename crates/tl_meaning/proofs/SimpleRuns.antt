@@ -19,14 +19,18 @@ use Rattle.tl_lowering.specs.Sets.{Nodes, none_held, holds, without_node, both, 
 use Rattle.tl_lowering.specs.Outcomes.{next, going_on, after, fails, breaks}
 use Rattle.tl_compiler.specs.Statements.{Site, Exit, release_code, leave_code, statement_code, held_behind}
 use Rattle.tl_meaning.specs.Meaning.{Outcome, On, Breaks, Fails, Returns, plain, after_events, and_then, free_by, leave, held_at, meaning}
-use Rattle.tl_meaning.specs.Leading.{Leads, Tail, Runs, from_label, IsInside}
+use Rattle.tl_meaning.specs.Leading.{Leads, Runs, from_label, IsInside}
+use Rattle.tl_compiler.specs.Tails.{Tail}
 use Rattle.tl_meaning.specs.Endings.{Agrees, IsSite, LeadsBy, StatementLeads}
 use Rattle.tl_lowering.specs.Sound.{IsSound}
-use Rattle.tl_meaning.proofs.Steps.{and_on, tail_further, tail_behind, tail_length, further_in, goes_to_next, goes_to_label, returns}
-use Rattle.tl_meaning.proofs.Stretches.{tail_of_stretch}
-use Rattle.tl_meaning.proofs.SetLemmas.{held_is, held_length, held_set, holds_minus, in_left, in_right}
-use Rattle.tl_meaning.proofs.ReleaseRuns.{below, leave_sizes, held_then, release_stretch, release_step, kept_free, and_true}
-use Rattle.tl_meaning.proofs.StatementStretches.{statement_stretch}
+use Rattle.tl_meaning.proofs.Steps.{and_on, further_in, goes_to_next, goes_to_label, returns}
+use Rattle.tl_compiler.proofs.TailLemmas.{tail_further, tail_behind, tail_length}
+use Rattle.tl_compiler.proofs.Stretches.{tail_of_stretch}
+use Rattle.tl_meaning.proofs.SetLemmas.{held_is, held_length, held_set}
+use Rattle.tl_compiler.proofs.SetLemmas.{holds_minus, in_left, in_right}
+use Rattle.tl_meaning.proofs.ReleaseRuns.{below, leave_sizes, held_then, release_step, kept_free, and_true}
+use Rattle.tl_compiler.proofs.NumberStretches.{release_stretch}
+use Rattle.tl_compiler.proofs.StatementStretches.{statement_stretch}
 use Rattle.tl_meaning.proofs.StatementRuns.{prefixed, widened, StatementRuns}
 
 pub agrees_free : {d : ℕ} {h : Nodes} {s u : State} (n : ℕ) → Agrees d h s u → Agrees d (without_node h n) (with_node s n None) (with_node u n None)

@@ -24,12 +24,15 @@ use Rattle.tl_lowering.specs.Sets.{Nodes, none_held, holds}
 use Rattle.tl_lowering.specs.Outcomes.{may_fail, here_if, after, fails, breaks}
 use Rattle.tl_compiler.specs.Statements.{Site, statement_code}
 use Rattle.tl_meaning.specs.Meaning.{Outcome, On, Breaks, Fails, Returns, Done, plain, telling, given, write, leave, of_node, number, held_at, meaning}
-use Rattle.tl_meaning.specs.Leading.{Leads, Tail, Runs, from_label, Kept, Given, NumberLeads}
-use Rattle.tl_lowering.specs.Sound.{IsReadable}
-use Rattle.tl_meaning.specs.Endings.{Agrees, IsSite, IsIn, LeadsBy, StatementLeads}
-use Rattle.tl_lowering.specs.Sound.{IsSound}
-use Rattle.tl_meaning.proofs.Steps.{stays, and_on, tail_further, further_in, goes_to_next, goes_to_label}
-use Rattle.tl_meaning.proofs.NumberRuns.{Operand, OperandEnds, operand_tail, same_number, kept_on, into_runs, into_range, operand_runs}
+use Rattle.tl_meaning.specs.Leading.{Leads, Runs, from_label, Kept, Given, NumberLeads}
+use Rattle.tl_compiler.specs.Tails.{Tail}
+use Rattle.tl_lowering.specs.Sound.{IsReadable, IsSound}
+use Rattle.tl_meaning.specs.Endings.{Agrees, IsSite, LeadsBy, StatementLeads}
+use Rattle.tl_compiler.specs.Among.{IsIn}
+use Rattle.tl_meaning.proofs.Steps.{stays, and_on, further_in, goes_to_next, goes_to_label}
+use Rattle.tl_compiler.proofs.TailLemmas.{tail_further}
+use Rattle.tl_meaning.proofs.NumberRuns.{Operand, OperandEnds, same_number, kept_on, into_runs, into_range, operand_runs}
+use Rattle.tl_compiler.proofs.NumberStretches.{operand_tail}
 use Rattle.tl_meaning.proofs.ReleaseRuns.{below}
 
 -- ---- states that agree

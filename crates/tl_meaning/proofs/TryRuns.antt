@@ -11,19 +11,24 @@ use Rattle.tl_compiler.specs.NodeSets.{all_sets}
 use Rattle.tl_lowering.specs.Outcomes.{handled_by, after, fails, breaks}
 use Rattle.tl_compiler.specs.Statements.{Site, direct, joining_code, Second, Pads, pad_at, pads_of, held_behind, statement_code}
 use Rattle.tl_meaning.specs.Meaning.{Outcome, On, Breaks, Fails, Returns, Done, after_events, is_on, and_then, or_else, leave, leaving, meaning}
-use Rattle.tl_meaning.specs.Leading.{Tail, Runs, from_label}
-use Rattle.tl_meaning.specs.Endings.{Agrees, IsSite, IsIn, LeadsBy, StatementLeads}
+use Rattle.tl_compiler.specs.Tails.{Tail}
+use Rattle.tl_meaning.specs.Leading.{Runs, from_label}
+use Rattle.tl_meaning.specs.Endings.{Agrees, IsSite, LeadsBy, StatementLeads}
+use Rattle.tl_compiler.specs.Among.{IsIn}
 use Rattle.tl_lowering.specs.Sound.{IsSound}
-use Rattle.tl_meaning.proofs.Steps.{and_on, tail_further, tail_length, further_in}
-use Rattle.tl_meaning.proofs.Stretches.{tail_of_stretch}
-use Rattle.tl_meaning.proofs.SetLemmas.{Within, within_left, in_left, in_right, all_within}
-use Rattle.tl_meaning.proofs.SizeLemmas.{handled_sized, sizes}
-use Rattle.tl_meaning.proofs.StatementStretches.{statement_stretch, joining_stretch, pads_stretch}
+use Rattle.tl_meaning.proofs.Steps.{and_on, further_in}
+use Rattle.tl_compiler.proofs.TailLemmas.{tail_further, tail_length}
+use Rattle.tl_compiler.proofs.Stretches.{tail_of_stretch}
+use Rattle.tl_compiler.proofs.SetLemmas.{Within, within_left, in_left, in_right, all_within}
+use Rattle.tl_compiler.proofs.SizeLemmas.{handled_sized, sizes}
+use Rattle.tl_compiler.proofs.StatementStretches.{statement_stretch, joining_stretch, pads_stretch}
 use Rattle.tl_meaning.proofs.StatementRuns.{prefixed, widened, StatementRuns}
 use Rattle.tl_meaning.proofs.SimpleRuns.{held_size}
-use Rattle.tl_meaning.proofs.WayRuns.{joined, second_short, second_runs}
-use Rattle.tl_meaning.proofs.ChoiceRuns.{keeps_first, keeps_second, second_bounds, second_at}
-use Rattle.tl_meaning.proofs.PadRuns.{one_of_all, pads_bound, pads_none, pad_runs}
+use Rattle.tl_meaning.proofs.WayRuns.{joined, second_runs}
+use Rattle.tl_compiler.proofs.WayLemmas.{second_short, keeps_first, keeps_second}
+use Rattle.tl_meaning.proofs.ChoiceRuns.{second_bounds, second_at}
+use Rattle.tl_compiler.proofs.PadSets.{one_of_all, pads_none}
+use Rattle.tl_meaning.proofs.PadRuns.{pads_bound, pad_runs}
 
 -- what is done before stands before what is left
 pub leaving_behind : (whole : Option Nodes) (first : List Action) (d : Done) → leaving whole (after_events first d) ≡ after_events first (leaving whole d)

@@ -1,7 +1,5 @@
 -- Two ways of a statement, and where they join.
-use Rattle.std.proofs.Common.{◌≡◌, ℕ, zero, suc, ◌≤◌, List, [], ◌∷◌, ◌++◌, length, Bool, true, false, not, Option, Some, None, is_some, if◌then◌else◌, refl, sym, ap, ◌∙◌, subst, arith, append-nil, inl}
-use Rattle.std.proofs.lemmas.Bool.{or_parts, not-false}
-use Rattle.std.proofs.lemmas.List.{get_or-replicate}
+use Rattle.std.proofs.Common.{◌≡◌, ℕ, zero, suc, ◌≤◌, List, [], ◌∷◌, ◌++◌, length, Bool, true, false, Option, Some, None, is_some, if◌then◌else◌, refl, sym, ap, ◌∙◌, subst, arith, append-nil, inl}
 use Rattle.tl_instr.specs.declared.operand.TheConstants.{NODE_REGISTERS}
 use Rattle.tl_instr.specs.declared.instr.Instr.{Instr}
 use Rattle.tl_instr.specs.declared.instr.Instr.TheVariants as I
@@ -13,20 +11,23 @@ use Rattle.tl_machine.specs.Left.{Frame}
 use Rattle.tl_lowering.specs.declared.program.Statement.{Statement}
 use Rattle.tl_lowering.specs.declared.program.Statement.TheVariants as S
 use Rattle.tl_compiler.specs.Labels.{target_of}
-use Rattle.tl_lowering.specs.Sets.{Nodes, none_held, holds, both, minus, same}
+use Rattle.tl_lowering.specs.Sets.{Nodes, holds, both, minus, same}
 use Rattle.tl_lowering.specs.Outcomes.{after, fails, breaks}
-use Rattle.tl_compiler.specs.Statements.{Site, Exit, release_below, release_code, way_out, direct, is_skip, joining_code, releases, second_by, statement_code}
+use Rattle.tl_compiler.specs.Statements.{Site, Exit, release_code, way_out, direct, is_skip, joining_code, second_by, statement_code}
 use Rattle.tl_meaning.specs.Meaning.{Outcome, On, Breaks, Fails, Returns, Done, plain, and_then, free_by, leave_below, leave, leaving, meaning}
-use Rattle.tl_meaning.specs.Leading.{Leads, Tail, Runs, from_label, IsInside}
+use Rattle.tl_meaning.specs.Leading.{Leads, Runs, from_label, IsInside}
+use Rattle.tl_compiler.specs.Tails.{Tail}
 use Rattle.tl_meaning.specs.Endings.{Agrees, IsSite, LeadsBy, StatementLeads}
 use Rattle.tl_lowering.specs.Sound.{IsSound}
-use Rattle.tl_meaning.proofs.Steps.{stays, and_on, tail_further, tail_length, further_in, goes_to_label}
-use Rattle.tl_meaning.proofs.Stretches.{tail_of_stretch}
-use Rattle.tl_meaning.proofs.SetLemmas.{Within, within_self, both_within, same_is}
-use Rattle.tl_meaning.proofs.ReleaseRuns.{release_stretch}
-use Rattle.tl_meaning.proofs.StatementStretches.{statement_stretch, joining_stretch}
+use Rattle.tl_meaning.proofs.Steps.{stays, and_on, further_in, goes_to_label}
+use Rattle.tl_compiler.proofs.TailLemmas.{tail_further, tail_length}
+use Rattle.tl_compiler.proofs.Stretches.{tail_of_stretch}
+use Rattle.tl_compiler.proofs.SetLemmas.{within_self, both_within, same_is}
+use Rattle.tl_compiler.proofs.NumberStretches.{release_stretch}
+use Rattle.tl_compiler.proofs.StatementStretches.{statement_stretch, joining_stretch}
 use Rattle.tl_meaning.proofs.StatementRuns.{StatementRuns}
 use Rattle.tl_meaning.proofs.SimpleRuns.{held_size, holds_there, further_site, released}
+use Rattle.tl_compiler.proofs.WayLemmas.{second_short, Keeps}
 
 -- where nothing that is held is to be freed
 pub leaves_all : (n : ℕ) (kept : Nodes) (s : State) → ((i : ℕ) → is_some (node s i) ≡ true → holds kept i ≡ true) → leave_below n kept s ≡ plain On s
@@ -37,36 +38,6 @@ leaves_all (suc n) kept s h = by (holds kept n) refl (node s n) refl (leaves_all
     by true e o f rest = rest
     by false e None f rest = rest
     by false e (Some g) f rest = let held = h n (ap is_some f) in cc
-
-skips_code : (b : Statement) (held : Nodes) (x : Site) (k : List Instr) → is_skip b ≡ true → statement_code b held x k ≡ k
-skips_code S.Skip held x k e = refl
-skips_code (S.At' offset p a) held x k e = skips_code a held x k e
-skips_code b held x k e = cc
-
-releases_none : (n : ℕ) (k : List Instr) → n ≤ NODE_REGISTERS → release_below n none_held k ≡ k
-releases_none zero k le = refl
-releases_none (suc n) k le =
-    ap (λ b. if b then I.Release n ∷ release_below n none_held k else release_below n none_held k) (get_or-replicate NODE_REGISTERS n false false (omega arith))
-    ∙ releases_none n k (omega arith)
-
-joins_nothing : (held : Option Nodes) (kept : Nodes) (k : List Instr) → releases held kept ≡ false → joining_code held kept false 0 k ≡ k
-joins_nothing None kept k e = refl
-joins_nothing (Some h) kept k e =
-    ap (λ g. release_code g k) (same_is (minus h kept) none_held (not-false (same (minus h kept) none_held) e)) ∙ releases_none NODE_REGISTERS k (omega arith)
-
--- the way that a second way's end is the end of both, where the first one doesn't jump
-pub second_short : (to : Option ℕ) (b : Statement) (hb : Nodes) (x : Site) (kept : Nodes) (k : List Instr)
-    → (second_by to (is_skip b) (after b hb) kept (statement_code b hb x) k).jumps ≡ false → length (second_by to (is_skip b) (after b hb) kept (statement_code b hb x) k).code ≡ length k
-second_short (Some label) b hb x kept k e = refl
-second_short None b hb x kept k e =
-    let h = or_parts (not (is_skip b)) (releases (after b hb) kept) e in
-    ap length (skips_code b hb x (joining_code (after b hb) kept false 0 k) (not-false (is_skip b) h.0) ∙ joins_nothing (after b hb) kept k h.1)
-
--- what is kept behind a statement of several ways, of which this is one
-pub record Keeps (one whole : Option Nodes) (kept : Nodes) : Type 0 where
-  pub is : (h : Nodes) → one ≡ Some h → whole ≡ Some kept
-  pub within : (h : Nodes) → one ≡ Some h → Within kept h
-  pub size : (h : Nodes) → one ≡ Some h → length h ≡ NODE_REGISTERS → length kept ≡ NODE_REGISTERS
 
 module _ {c : List Instr} (parents : List ℕ) (ready : Runs c) where
   target_by : (jumps : Bool) (done : ℕ) (k : List Instr) (fs : List Frame) (w : State) → Tail c (if jumps then I.Jump (target_of done) ∷ k else k) → IsInside c fs (length k) → done ≤ length k

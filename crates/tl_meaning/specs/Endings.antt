@@ -1,11 +1,12 @@
 -- Where the code of a statement leads, by how the statement ends.
-use Rattle.std.specs.Prelude.{◌≡◌, ℕ, ◌≤◌, List, [], ◌∷◌, ◌++◌, length, Option, Some, ◌⊎◌}
+use Rattle.std.specs.Prelude.{◌≡◌, ℕ, ◌≤◌, List, ◌++◌, length, Option, Some}
 use Rattle.tl_instr.specs.declared.operand.TheConstants.{VALUE_REGISTERS, NODE_REGISTERS}
 use Rattle.tl_instr.specs.declared.instr.Instr.{Instr}
 use Rattle.tl_tree_locking.specs.declared.action.Action.{Action}
 use Rattle.tl_machine.specs.Runs.{State, Run, Ended}
 use Rattle.tl_machine.specs.Left.{Frame}
 use Rattle.tl_lowering.specs.Sets.{Nodes, none_held, both}
+use Rattle.tl_compiler.specs.Among.{IsIn}
 use Rattle.tl_compiler.specs.Statements.{Site, Exit}
 use Rattle.tl_meaning.specs.Meaning.{Outcome, On, Breaks, Fails, Returns, Done, leave, held_at}
 use Rattle.tl_meaning.specs.Leading.{Leads, Kept, from_label, IsInside}
@@ -23,10 +24,6 @@ pub record IsSite (code : List Instr) (frames : List Frame) (x : Site) (on : ℕ
   pub pads : (held : Nodes) → x.pad held ≤ on
   pub exits : (exit : Exit) → x.exit ≡ Some exit → exit.label ≤ on
   pub sizes : (exit : Exit) → x.exit ≡ Some exit → length exit.held ≡ NODE_REGISTERS
-
-abbrev pub IsIn : Nodes → List Nodes → Type 0
-IsIn held [] = ⊥
-IsIn held (other ∷ others) = (held ≡ other) ⊎ IsIn held others
 
 -- Where a run comes to by the time that a statement ends in this way and state, with these events told. What is held there is what
 -- the sets say that are known of the statement beforehand.

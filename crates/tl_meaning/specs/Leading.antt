@@ -1,5 +1,5 @@
 -- Where control comes to on the way through a code, and what it tells on the way.
-use Rattle.std.specs.Prelude.{◌≡◌, ◌≢◌, ℕ, ◌-◌, ◌<◌, ◌≤◌, List, [], ◌∷◌, ◌++◌, length, Bool, true, false, Option, Some, None, slice_get, ℤ}
+use Rattle.std.specs.Prelude.{◌≡◌, ◌≢◌, ℕ, ◌-◌, ◌<◌, ◌≤◌, List, [], ◌∷◌, length, Bool, true, false, Option, Some, None, slice_get, ℤ}
 use Rattle.tl_instr.specs.declared.operand.TheConstants.{VALUE_REGISTERS}
 use Rattle.tl_instr.specs.declared.instr.Instr.{Instr}
 use Rattle.tl_instr.specs.Instructions.{InRange}
@@ -21,11 +21,6 @@ pub record Leads (from : Run) (events : List Action) (to : Run) : Type 0 where
   pub acts : List Action
   pub tells : told acts ≡ events
   pub runs : from ≡ with_actions acts to
-
--- the second list is the end of the first one
-pub record Tail (whole end : List Instr) : Type 0 where
-  pub front : List Instr
-  pub joined : whole ≡ front ++ end
 
 -- the code with positions in the place of labels is one that runs
 pub record Runs (code : List Instr) : Type 0 where

@@ -17,6 +17,10 @@ pub record Named : Type 0 where
 abbrev pub no_procedure : Named
 no_procedure = record { name = []; code = record { version = One; arity = 0; instrs = [] } }
 
+-- the second list begins with the first
+abbrev pub BeginsWith : List Named → List Named → Type 0
+BeginsWith xs ys = (more : List Named) × (ys ≡ xs ++ more)
+
 -- the number of the procedure of that name
 abbrev pub number_of : List Named → List ℕ → Option ℕ
 number_of procedures name = position (λ p. bytes_eq name p.name) procedures

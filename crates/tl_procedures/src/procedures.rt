@@ -2,7 +2,7 @@
 
 ghost use Rattle.std.specs.Prelude.{◌≡◌, ◌≢◌, ◌≤◌, ◌<◌, ◌∷◌, ◌++◌, [], length, None, Some, IfOk, OnOk, OnErr, IfErr, slice_get, option_map, IsTrue, ◌↔◌, get_or};
 ghost use Rattle.std.specs.Arc.{arc_value};
-ghost use Rattle.tl_procedures.specs.Names.{number_of, is_name, naming_refusal, no_procedure, AreFreeAfter};
+ghost use Rattle.tl_procedures.specs.Names.{number_of, is_name, naming_refusal, no_procedure, AreFreeAfter, BeginsWith};
 ghost use Rattle.tl_procedures.specs.declared.fault.NamingFault.TheVariants as fault;
 
 use crate::fault::NamingFault;
@@ -133,6 +133,24 @@ impl Procedures {
             };
         }
         Ok(copy)
+    }
+
+    /// Whether they begin with `first`: the same codes under the same names.
+    pub fn begin_with(&self, first: &Procedures) -> bool
+        ensures { IsTrue result ↔ BeginsWith first.now self.now }
+    {
+        if self.len() < first.len() {
+            return false;
+        }
+        for number in 0..first.len() as u32 {
+            if self.name(number) != first.name(number) {
+                return false;
+            }
+            if !self.get(number).is(first.get(number)) {
+                return false;
+            }
+        }
+        true
     }
 
     // Whether a procedure may be added under the name: 612, 611, 613.

@@ -1,5 +1,5 @@
 -- What a session gains by lines that are answered.
-use Rattle.std.proofs.Common.{◌≡◌, ◌<◌, ◌⊎◌, inl, inr, zero, suc, ℕ, List, [], ◌∷◌, ◌++◌, Bool, true, false, sym, ap, ◌∙◌, subst, refl, append_assoc, append-nil, arith, ⊎_elim}
+use Rattle.std.proofs.Common.{◌≡◌, ◌<◌, ◌⊎◌, inl, inr, zero, suc, ℕ, List, [], ◌∷◌, ◌++◌, Bool, true, false, sym, ap, subst, refl, arith, ⊎_elim}
 use Rattle.std.specs.Prelude.{ℤ, Contains, Result, Ok, Err, string_bytes, slice_index_or}
 use Rattle.std.proofs.lemmas.List.Elements.{Contains-append_left, Contains-append_right, Contains-append_cases}
 use Rattle.tl_procedures.specs.declared.request.Request.{Request}
@@ -8,7 +8,7 @@ use Rattle.tl_workers.specs.declared.asking.Asking.{Asking}
 use Rattle.tl_workers.specs.declared.refusal.Refusal.{Refusal}
 use Rattle.tl_workers.specs.declared.session.Did.{Did}
 use Rattle.tl_workers.specs.declared.session.Did.TheVariants.{Asked, Got}
-use Rattle.tl_workers.specs.Kept.{SessionValue, Gains, asking, call_of, AnswersEach, asked_of, gots_of}
+use Rattle.tl_workers.specs.Kept.{asking, call_of, AnswersEach, asked_of, gots_of}
 use Rattle.tl_workers.specs.Refusals.{AreCallRefusals}
 use Rattle.tl_server.specs.declared.fault.LineFault.{LineFault}
 use Rattle.tl_server.specs.Answers.{line_text, error_text, batch_text}
@@ -16,6 +16,7 @@ use Rattle.tl_server.specs.Faults.{numbers_of}
 use Rattle.tl_server.specs.Requests.{LineValue, Registers, Calls, Batches, Seals, Closes, IsRequest, IsLineFault}
 use Rattle.tl_server.specs.Served.{CallOutcome, AnswersRequest, AnswersLine, IsAnswer}
 use Rattle.tl_server.specs.Runs.{AllGot, GainsWholeCalls}
+use Rattle.tl_server.proofs.Goings.{Laws}
 
 -- ---- lists of entries
 
@@ -60,9 +61,9 @@ one_call name args r a h = ⊎_elim
     (λ (l : Contains (Got r ∷ []) (Asked a)). absurd (⊎_elim (λ (e : Got r ≡ Asked a). let f : ⊥ = cc in f) (λ (m : Contains [] (Asked a)). no_entry (Asked a) m) (first_or_later (Got r) [] (Asked a) l)))
     (first_or_later (Asked (asking r.epoch r.call name args)) (Got r ∷ []) (Asked a) h)
 
-call_whole : (q : List ℕ × List ℤ) (gained : List Did) (answer : Result Receipt Refusal) → CallOutcome q gained answer → AllGot gained
-call_whole q gained (Ok r) h = subst AllGot (sym h.1) (one_call q.0 q.1 r)
-call_whole q gained (Err e) h = nothing gained h.0
+call_whole : (seals : Bool) (q : List ℕ × List ℤ) (gained : List Did) (answer : Result Receipt Refusal) → CallOutcome seals q gained answer → AllGot gained
+call_whole seals q gained (Ok r) h = subst AllGot (sym h.1) (one_call q.0 q.1 r)
+call_whole seals q gained (Err e) h = nothing gained h.0
 
 -- ---- a batch
 
@@ -91,42 +92,40 @@ batch_whole requests answers each a h = ⊎_elim
 
 -- ---- a line
 
-request_whole : (r : LineValue) (gained : List Did) (out : List ℕ) → AnswersRequest r gained out → AllGot gained
-request_whole (Registers name text) gained out h = nothing gained h.0
-request_whole (Calls name args) gained out h = call_whole (name, args) gained h.0 h.1
-request_whole (Batches calls workers) gained out h = ⊎_elim
+request_whole : (seals : Bool) (may_seal : ℕ → Type 0) (r : LineValue) (gained : List Did) (out : List ℕ) → AnswersRequest seals may_seal r gained out → AllGot gained
+request_whole seals may_seal (Registers name text) gained out h = nothing gained h.0
+request_whole seals may_seal (Calls name args) gained out h = call_whole seals (name, args) gained h.0 h.1
+request_whole seals may_seal (Batches calls workers) gained out h = ⊎_elim
     (λ (refused : (gained ≡ []) × (out ≡ line_text (error_text (990 ∷ [])))). nothing gained refused.0)
-    (λ (b : (answers : List (Result Receipt Refusal)) × AnswersEach h.0 answers × ((seals : Bool) × AreCallRefusals seals answers) × (gained ≡ asked_of h.0 answers ++ gots_of answers) × (out ≡ line_text (batch_text answers))).
+    (λ (b : (answers : List (Result Receipt Refusal)) × AnswersEach h.0 answers × AreCallRefusals seals answers × (gained ≡ asked_of h.0 answers ++ gots_of answers) × (out ≡ line_text (batch_text answers))).
     subst AllGot (sym b.3) (batch_whole h.0 b.0 b.1))
     h.2
-request_whole Seals gained out h = nothing gained h.0
-request_whole Closes gained out h = absurd h
+request_whole seals may_seal Seals gained out h = nothing gained h.0
+request_whole seals may_seal Closes gained out h = absurd h
 
-line_whole : (line : List ℕ) (gained : List Did) (out : List ℕ) → AnswersLine line gained out → AllGot gained
-line_whole line gained out h = ⊎_elim
+line_whole : (seals : Bool) (may_seal : ℕ → Type 0) (line : List ℕ) (gained : List Did) (out : List ℕ) → AnswersLine seals may_seal line gained out → AllGot gained
+line_whole seals may_seal line gained out h = ⊎_elim
     (λ (refused : (gained ≡ []) × (out ≡ line_text (error_text (990 ∷ [])))). nothing gained refused.0)
-    (λ (rest : ((f : LineFault) × IsLineFault line f × (gained ≡ []) × (out ≡ line_text (error_text (numbers_of f)))) ⊎ ((r : LineValue) × IsRequest line r × AnswersRequest r gained out)).
+    (λ (rest : ((f : LineFault) × IsLineFault line f × (gained ≡ []) × (out ≡ line_text (error_text (numbers_of f)))) ⊎ ((r : LineValue) × IsRequest line r × AnswersRequest seals may_seal r gained out)).
     ⊎_elim
     (λ (fault : (f : LineFault) × IsLineFault line f × (gained ≡ []) × (out ≡ line_text (error_text (numbers_of f)))). nothing gained fault.2)
-    (λ (answered : (r : LineValue) × IsRequest line r × AnswersRequest r gained out). request_whole answered.0 gained out answered.2)
+    (λ (answered : (r : LineValue) × IsRequest line r × AnswersRequest seals may_seal r gained out). request_whole seals may_seal answered.0 gained out answered.2)
     rest)
     h
 
-answer_whole : (line : List ℕ) (closes : Bool) (gained : List Did) (out : List ℕ) → IsAnswer line closes gained out → AllGot gained
-answer_whole line true gained out h = nothing gained h.1
-answer_whole line false gained out h = line_whole line gained out h
+answer_whole : (seals : Bool) (may_seal : ℕ → Type 0) (line : List ℕ) (closes : Bool) (gained : List Did) (out : List ℕ) → IsAnswer seals may_seal line closes gained out → AllGot gained
+answer_whole seals may_seal line true gained out h = nothing gained h.1
+answer_whole seals may_seal line false gained out h = line_whole seals may_seal line gained out h
 
 -- ---- lines
 
-pub gains_none : (s : SessionValue) → GainsWholeCalls s s
-gains_none s = ([], record { number = refl; kept = sym (append-nil s.kept) }, got_nothing)
+pub gains_none : {V : Type 0} {Gains : V → V → List Did → Type 0} {May : V → ℕ → Type 0} → Laws Gains May → (a : V) → GainsWholeCalls Gains a a
+gains_none x a = ([], x.none a, got_nothing)
 
-pub answered_more : (first old new : SessionValue) (line : List ℕ) (closes : Bool) (gained : List Did) (out : List ℕ) → GainsWholeCalls first old → Gains old new gained → IsAnswer line closes gained out → GainsWholeCalls first new
-answered_more first old new line closes gained out before more answer = (
+pub answered_more : {V : Type 0} {Gains : V → V → List Did → Type 0} {May : V → ℕ → Type 0} (seals : Bool) → Laws Gains May → (first old new : V) (line : List ℕ) (closes : Bool) (gained : List Did) (out : List ℕ) → GainsWholeCalls Gains first old → Gains old new gained
+    → IsAnswer seals (May old) line closes gained out → GainsWholeCalls Gains first new
+answered_more {V} {Gains} {May} seals x first old new line closes gained out before more answer = (
   before.0 ++ gained,
-  record {
-    number = more.number ∙ before.1.number;
-    kept = more.kept ∙ ap (λ kept. kept ++ gained) before.1.kept ∙ append_assoc first.kept before.0 gained;
-  },
-  got_both before.0 gained before.2 (answer_whole line closes gained out answer),
+  x.more first old new before.0 gained before.1 more,
+  got_both before.0 gained before.2 (answer_whole seals (May old) line closes gained out answer),
 )

@@ -5,3 +5,4 @@ pub mod Sending
 pub mod Lists
 pub mod LineAnswers
 pub mod Goings
+pub mod Later

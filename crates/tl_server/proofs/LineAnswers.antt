@@ -1,28 +1,45 @@
 -- A line's answer.
-use Rattle.std.proofs.Common.{◌≢◌, ◌+◌, ◌<◌, List, ℕ, [], refl, sym, append-nil, inl, inr}
-use Rattle.std.specs.Prelude.{Result, Ok, Err, IfOk, IfErr}
+use Rattle.std.proofs.Common.{◌≡◌, ◌≢◌, ◌+◌, ◌<◌, ◌⊎◌, ◌++◌, List, ℕ, [], refl, inl, inr, Bool, true}
+use Rattle.std.specs.Prelude.{Result, Ok, Err, IfOk, IfErr, Vec}
+use Rattle.std.specs.declared.alloc.Global.{Global}
+use Rattle.tl_procedures.specs.declared.request.Request.{Request}
+use Rattle.tl_table.specs.declared.receipt.Receipt.{Receipt}
+use Rattle.tl_workers.specs.declared.refusal.Refusal.TheVariants as refusal
+use Rattle.tl_workers.specs.Kept.{SessionValue, Gains, AnswersEach, asked_of, gots_of}
+use Rattle.tl_server.specs.Outcomes.{BatchOutcome}
 use Rattle.tl_workers.specs.declared.refusal.Refusal.{Refusal}
-use Rattle.tl_workers.specs.Kept.{SessionValue, Gains}
 use Rattle.tl_table.specs.declared.epoch.TheConstants.{MAX_EPOCHS}
-use Rattle.tl_workers.specs.Refusals.{IsSealRefused}
+use Rattle.tl_workers.specs.Refusals.{AreCallRefusals, IsSealRefused, IsRestedSealRefused}
 use Rattle.tl_server.specs.declared.fault.LineFault.{LineFault}
 use Rattle.tl_server.specs.declared.fault.LineFault.TheVariants as fault
 use Rattle.tl_server.specs.Faults.{numbers_of}
-use Rattle.tl_server.specs.Requests.{IsLineFault}
+use Rattle.tl_workers.specs.declared.session.Did.{Did}
+use Rattle.tl_server.specs.Requests.{LineValue, IsRequest, IsLineFault}
 use Rattle.tl_server.specs.Answers.{line_text, error_text}
-use Rattle.tl_server.specs.Served.{AnswersLine, SealOutcome}
-
-pub gains_none : (s : SessionValue) → Gains s s []
-gains_none s = record { number = refl; kept = sym (append-nil s.kept) }
+use Rattle.tl_server.specs.Served.{AnswersLine, AnswersRequest, IsRefused, IsSealable, SealOutcome}
 
 -- a line that isn't read as a request
-pub faulted : (line : List ℕ) (f : LineFault) → (f ≢ fault.Memory → IsLineFault line f) → AnswersLine line [] (line_text (error_text (numbers_of f)))
-faulted line fault.NotRequest h = inr (inl (fault.NotRequest, h (λ e. cc), refl, refl))
-faulted line fault.TooLong h = inr (inl (fault.TooLong, h (λ e. cc), refl, refl))
-faulted line fault.NotUtf8 h = inr (inl (fault.NotUtf8, h (λ e. cc), refl, refl))
-faulted line fault.Memory h = inl (refl, refl)
+pub faulted : (seals : Bool) (may_seal : ℕ → Type 0) (line : List ℕ) (f : LineFault) → (f ≢ fault.Memory → IsLineFault line f) → AnswersLine seals may_seal line [] (line_text (error_text (numbers_of f)))
+faulted seals may_seal line fault.NotRequest h = inr (inl (fault.NotRequest, h (λ e. cc), refl, refl))
+faulted seals may_seal line fault.TooLong h = inr (inl (fault.TooLong, h (λ e. cc), refl, refl))
+faulted seals may_seal line fault.NotUtf8 h = inr (inl (fault.NotUtf8, h (λ e. cc), refl, refl))
+faulted seals may_seal line fault.Memory h = inl (refl, refl)
 
 -- what comes of a seal
-pub seal_outcome : (answer : Result ℕ Refusal) → IfOk answer (λ n. n + 1 < MAX_EPOCHS) → IfErr answer (λ e. IsSealRefused e) → SealOutcome answer
-seal_outcome (Ok epoch) few h = few
-seal_outcome (Err e) few h = h
+pub seal_outcome : (seals : Bool) (answer : Result ℕ Refusal) → IfOk answer (λ n. n + 1 < MAX_EPOCHS) → IfErr answer (λ e. IsSealRefused e) → (seals ≡ true → IfErr answer IsRestedSealRefused)
+    → SealOutcome seals IsSealable answer
+seal_outcome seals (Ok epoch) few h rested = few
+seal_outcome seals (Err e) few h rested = (h, rested)
+
+-- what answers a request answers a line that is one
+pub asked_line : (seals : Bool) (may_seal : ℕ → Type 0) (line : List ℕ) (r : LineValue) (gained : List Did) (out : List ℕ) → IsRequest line r → (IsRefused gained out ⊎ AnswersRequest seals may_seal r gained out)
+    → AnswersLine seals may_seal line gained out
+asked_line seals may_seal line r gained out is (inl refused) = inl refused
+asked_line seals may_seal line r gained out is (inr answer) = inr (inr (r, is, answer))
+
+-- what comes of a batch
+pub batch_came : (requests : List Request) (s t : SessionValue) (seals : Bool) (answer : Result (Vec (Result Receipt Refusal) Global) Refusal) → IfOk answer (λ v. AnswersEach requests v.items)
+    → IfOk answer (λ v. AreCallRefusals seals v.items) → IfOk answer (λ v. Gains s t (asked_of requests v.items ++ gots_of v.items)) → IfErr answer (λ e. (e ≡ refusal.Memory) × Gains s t [])
+    → (x : List Did) × Gains s t x × BatchOutcome seals requests x answer
+batch_came requests s t seals (Ok v) each refused kept err = (asked_of requests v.items ++ gots_of v.items, kept, (each, refused, refl))
+batch_came requests s t seals (Err e) each refused kept err = ([], err.1, (refl, err.0))

@@ -6,4 +6,6 @@ pub mod Coming
 pub mod Sending
 pub mod Answers
 pub mod Served
+pub mod Outcomes
+pub mod Gaining
 pub mod Runs

@@ -16,7 +16,7 @@ use Rattle.tl_workers.specs.declared.refusal.Refusal.{Refusal}
 use Rattle.tl_workers.specs.declared.session.Did.{Did}
 use Rattle.tl_workers.specs.Kept.{call_of, AnswersEach, asked_of, gots_of}
 use Rattle.tl_table.specs.declared.epoch.TheConstants.{MAX_EPOCHS}
-use Rattle.tl_workers.specs.Refusals.{IsCallRefusal, AreCallRefusals, IsSealRefused}
+use Rattle.tl_workers.specs.Refusals.{IsCallRefusal, AreCallRefusals, IsSealRefused, IsRestedSealRefused}
 use Rattle.tl_server.specs.declared.fault.LineFault.{LineFault}
 use Rattle.tl_server.specs.Faults.{numbers_of}
 use Rattle.tl_server.specs.Requests.{LineValue, Registers, Calls, Batches, Seals, Closes, IsRequest, IsLineFault}
@@ -36,76 +36,82 @@ RegisterOutcome p (Err e) = is_memory e ≡ false → IsRegisterFault p e
 
 -- ---- calls
 
--- a call's name and arguments, what the session gained, and what came of it: if it was refused, then as an engine refuses calls
-abbrev pub CallOutcome : List ℕ × List ℤ → List Did → Result Receipt Refusal → Type 0
-CallOutcome q gained (Ok r) = (r.args.items ≡ q.1) × (gained ≡ call_of q.0 q.1 r)
-CallOutcome q gained (Err e) = (gained ≡ []) × ((seals : Bool) × IsCallRefusal seals e)
+-- a call's name and arguments, what the session gained, and what came of it: if it was refused, then as an engine refuses calls that
+-- seals its epochs by itself, or doesn't
+abbrev pub CallOutcome : Bool → List ℕ × List ℤ → List Did → Result Receipt Refusal → Type 0
+CallOutcome seals q gained (Ok r) = (r.args.items ≡ q.1) × (gained ≡ call_of q.0 q.1 r)
+CallOutcome seals q gained (Err e) = (gained ≡ []) × IsCallRefusal seals e
 
-abbrev pub IsCallAnswer : List ℕ × List ℤ → List Did → List ℕ → Type 0
-IsCallAnswer q gained out = (answer : Result Receipt Refusal) × CallOutcome q gained answer × (out ≡ line_text (one_text answer))
+abbrev pub IsCallAnswer : Bool → List ℕ × List ℤ → List Did → List ℕ → Type 0
+IsCallAnswer seals q gained out = (answer : Result Receipt Refusal) × CallOutcome seals q gained answer × (out ≡ line_text (one_text answer))
 
 -- want of memory: nothing was done
 abbrev pub IsRefused : List Did → List ℕ → Type 0
 IsRefused gained out = (gained ≡ []) × (out ≡ line_text (error_text (990 ∷ [])))
 
 -- an answer to each request, in order; what the session gained are the calls that were admitted and then their receipts
-abbrev pub IsBatchAnswer : List Request → List Did → List ℕ → Type 0
-IsBatchAnswer requests gained out =
+abbrev pub IsBatchAnswer : Bool → List Request → List Did → List ℕ → Type 0
+IsBatchAnswer seals requests gained out =
     IsRefused gained out
-    ⊎ ((answers : List (Result Receipt Refusal)) × AnswersEach requests answers × ((seals : Bool) × AreCallRefusals seals answers)
+    ⊎ ((answers : List (Result Receipt Refusal)) × AnswersEach requests answers × AreCallRefusals seals answers
     × (gained ≡ asked_of requests answers ++ gots_of answers) × (out ≡ line_text (batch_text answers)))
 
 -- ---- a seal
 
--- the number of the epoch that was sealed, which isn't the last that a table may have; else 606, 808 or want of memory
-abbrev pub SealOutcome : Result ℕ Refusal → Type 0
-SealOutcome (Ok epoch) = epoch + 1 < MAX_EPOCHS
-SealOutcome (Err e) = IsSealRefused e
+-- the number of an epoch that a table sealed, which isn't the last that it may have
+abbrev pub IsSealable : ℕ → Type 0
+IsSealable epoch = epoch + 1 < MAX_EPOCHS
 
--- ---- lines
+-- the number of the epoch that was sealed, which may be sealed; else 606, 808 or want of memory, and not 606 if the engine waits
+-- until all calls are done
+abbrev pub SealOutcome : Bool → (ℕ → Type 0) → Result ℕ Refusal → Type 0
+SealOutcome seals may_seal (Ok epoch) = may_seal epoch
+SealOutcome seals may_seal (Err e) = IsSealRefused e × (seals ≡ true → IsRestedSealRefused e)
+
+-- ---- lines, where the engine seals its epochs by itself, or doesn't, and where the epochs with such numbers may be sealed
 
 -- a request's answer, after which the next line is read, and what the session gained by it
-abbrev pub AnswersRequest : LineValue → List Did → List ℕ → Type 0
-AnswersRequest (Registers name text) gained out =
+abbrev pub AnswersRequest : Bool → (ℕ → Type 0) → LineValue → List Did → List ℕ → Type 0
+AnswersRequest seals may_seal (Registers name text) gained out =
     (gained ≡ []) × ((answer : Result Bounds RegisterFault) × RegisterOutcome (name, text) answer × (out ≡ line_text (register_text answer)))
-AnswersRequest (Calls name args) gained out = IsCallAnswer (name, args) gained out
-AnswersRequest (Batches calls workers) gained out = (requests : List Request) × (map request_form requests ≡ calls) × IsBatchAnswer requests gained out
-AnswersRequest Seals gained out = (gained ≡ []) × ((answer : Result ℕ Refusal) × SealOutcome answer × (out ≡ line_text (seal_text answer)))
-AnswersRequest Closes gained out = ⊥
+AnswersRequest seals may_seal (Calls name args) gained out = IsCallAnswer seals (name, args) gained out
+AnswersRequest seals may_seal (Batches calls workers) gained out = (requests : List Request) × (map request_form requests ≡ calls) × IsBatchAnswer seals requests gained out
+AnswersRequest seals may_seal Seals gained out = (gained ≡ []) × ((answer : Result ℕ Refusal) × SealOutcome seals may_seal answer × (out ≡ line_text (seal_text answer)))
+AnswersRequest seals may_seal Closes gained out = ⊥
 
 -- a line's answer, after which the next line is read
-abbrev pub AnswersLine : List ℕ → List Did → List ℕ → Type 0
-AnswersLine line gained out =
+abbrev pub AnswersLine : Bool → (ℕ → Type 0) → List ℕ → List Did → List ℕ → Type 0
+AnswersLine seals may_seal line gained out =
     IsRefused gained out
     ⊎ ((f : LineFault) × IsLineFault line f × (gained ≡ []) × (out ≡ line_text (error_text (numbers_of f))))
-    ⊎ ((r : LineValue) × IsRequest line r × AnswersRequest r gained out)
+    ⊎ ((r : LineValue) × IsRequest line r × AnswersRequest seals may_seal r gained out)
 
 -- a line closes the connection, and is answered so
 abbrev pub ClosesLine : List ℕ → List Did → List ℕ → Type 0
 ClosesLine line gained out = IsRequest line Closes × (gained ≡ []) × (out ≡ line_text closed_text)
 
-abbrev pub IsAnswer : List ℕ → Bool → List Did → List ℕ → Type 0
-IsAnswer line false gained out = AnswersLine line gained out
-IsAnswer line true gained out = ClosesLine line gained out
+abbrev pub IsAnswer : Bool → (ℕ → Type 0) → List ℕ → Bool → List Did → List ℕ → Type 0
+IsAnswer seals may_seal line false gained out = AnswersLine seals may_seal line gained out
+IsAnswer seals may_seal line true gained out = ClosesLine line gained out
 
 -- one answer for each line, in order, and what the session gained by them
-abbrev pub Answered : List (List ℕ) → List Did → List ℕ → Type 0
-Answered [] gained out = (gained ≡ []) × (out ≡ [])
-Answered (l ∷ ls) gained out =
-    (g : List Did) × (gs : List Did) × (o : List ℕ) × (os : List ℕ) × (gained ≡ g ++ gs) × (out ≡ o ++ os) × AnswersLine l g o × Answered ls gs os
+abbrev pub Answered : Bool → (ℕ → Type 0) → List (List ℕ) → List Did → List ℕ → Type 0
+Answered seals may_seal [] gained out = (gained ≡ []) × (out ≡ [])
+Answered seals may_seal (l ∷ ls) gained out =
+    (g : List Did) × (gs : List Did) × (o : List ℕ) × (os : List ℕ) × (gained ≡ g ++ gs) × (out ≡ o ++ os) × AnswersLine seals may_seal l g o × Answered seals may_seal ls gs os
 
 -- After these lines one came that closed the connection, and nothing more was read.
-pub record ClosedAt (lines : List (List ℕ)) (n : ℕ) (gained : List Did) (out : List ℕ) : Type 0 where
+pub record ClosedAt (seals : Bool) (may_seal : ℕ → Type 0) (lines : List (List ℕ)) (n : ℕ) (gained : List Did) (out : List ℕ) : Type 0 where
   pub before : List (List ℕ)
   pub last : List ℕ
   pub after : List (List ℕ)
   pub answers : List ℕ
   pub lines_are : lines ≡ before ++ last ∷ after
   pub count : n ≡ length before + 1
-  pub answered : Answered before gained answers
+  pub answered : Answered seals may_seal before gained answers
   pub closes : IsRequest last Closes
   pub out_is : out ≡ answers ++ line_text closed_text
 
 -- the first n of these lines were answered: all of them, or those up to one that closed the connection
-abbrev pub AnsweredAll : List (List ℕ) → ℕ → List Did → List ℕ → Type 0
-AnsweredAll lines n gained out = ((n ≡ length lines) × Answered lines gained out) ⊎ ClosedAt lines n gained out
+abbrev pub AnsweredAll : Bool → (ℕ → Type 0) → List (List ℕ) → ℕ → List Did → List ℕ → Type 0
+AnsweredAll seals may_seal lines n gained out = ((n ≡ length lines) × Answered seals may_seal lines gained out) ⊎ ClosedAt seals may_seal lines n gained out

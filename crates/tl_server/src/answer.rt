@@ -1,9 +1,10 @@
 // The texts of answers.
 
-ghost use Rattle.std.specs.Prelude.{◌≡◌, ◌==◌, ℕ, ℤ, List, [], ◌∷◌, ◌++◌, codes, decimal, Result, if◌then◌else◌};
+ghost use Rattle.std.specs.Prelude.{◌≡◌, ◌==◌, ℕ, ℤ, List, [], ◌∷◌, ◌+◌, ◌++◌, map, codes, decimal, Result, if◌then◌else◌};
 ghost use Rattle.std.specs.Fmt.{signed_decimal};
 ghost use Rattle.tl_tree.specs.Writing.{list_text};
 ghost use Rattle.tl_server.specs.Sending.{sending, Writes};
+ghost use Rattle.tl_server.specs.Outcomes.{later, later_answer};
 ghost use Rattle.tl_server.specs.Answers.{comma_before, epoch_text, call_text, error_text, one_text, batch_text, bounds_text, closed_text, line_text};
 
 use crate::device::Sink;
@@ -14,20 +15,21 @@ use tl_json::RegisterFault;
 use tl_table::Receipt;
 use tl_workers::Refusal;
 
-/// What an answer is made of.
+/// What an answer is made of. Its epochs are those of an engine, and so many were before its first, in earlier engines: its text
+/// counts these too.
 pub(crate) trait Part {
-    ghost text: { Self → List ℕ };
+    ghost text: { ℕ → Self → List ℕ };
 
-    fn put<K: Sink>(&self, outbox: &mut Outbox, sink: &mut K)
-        ensures { Writes (sending (K.output sink.old) (K.failures sink.old) outbox.old) (sending (K.output sink.new) (K.failures sink.new) outbox.new) (text self.now) };
+    fn put<K: Sink>(&self, outbox: &mut Outbox, sink: &mut K, base: u32)
+        ensures { Writes (sending (K.output sink.old) (K.failures sink.old) outbox.old) (sending (K.output sink.new) (K.failures sink.new) outbox.new) (text base self.now) };
 }
 
 impl Part for u64 {
     ghost use Rattle.std.specs.Prelude.{decimal};
 
-    ghost text = { decimal };
+    ghost text = { λ _ n. decimal n };
 
-    fn put<K: Sink>(&self, outbox: &mut Outbox, sink: &mut K) {
+    fn put<K: Sink>(&self, outbox: &mut Outbox, sink: &mut K, _base: u32) {
         put_number(outbox, sink, *self)
     }
 }
@@ -35,21 +37,22 @@ impl Part for u64 {
 impl Part for i64 {
     ghost use Rattle.std.specs.Fmt.{signed_decimal};
 
-    ghost text = { signed_decimal };
+    ghost text = { λ _ n. signed_decimal n };
 
-    fn put<K: Sink>(&self, outbox: &mut Outbox, sink: &mut K) {
+    fn put<K: Sink>(&self, outbox: &mut Outbox, sink: &mut K, _base: u32) {
         put_number(outbox, sink, *self)
     }
 }
 
 impl Part for Result<Receipt, Refusal> {
     ghost use Rattle.tl_server.specs.Answers.{one_text};
+    ghost use Rattle.tl_server.specs.Outcomes.{later_answer};
 
-    ghost text = { one_text };
+    ghost text = { λ base answer. one_text (later_answer base answer) };
 
-    fn put<K: Sink>(&self, outbox: &mut Outbox, sink: &mut K) {
+    fn put<K: Sink>(&self, outbox: &mut Outbox, sink: &mut K, base: u32) {
         match self {
-            Ok(receipt) => put_call(outbox, sink, receipt),
+            Ok(receipt) => put_call(outbox, sink, base, receipt),
             Err(refusal) => put_error(outbox, sink, refusal.numbers().as_slice()),
         }
     }
@@ -58,9 +61,9 @@ impl Part for Result<Receipt, Refusal> {
 impl Part for Result<Bounds, RegisterFault> {
     ghost use Rattle.tl_server.specs.Answers.{register_text};
 
-    ghost text = { register_text };
+    ghost text = { λ _ answer. register_text answer };
 
-    fn put<K: Sink>(&self, outbox: &mut Outbox, sink: &mut K) {
+    fn put<K: Sink>(&self, outbox: &mut Outbox, sink: &mut K, _base: u32) {
         match self {
             Ok(bounds) => put_bounds(outbox, sink, bounds),
             Err(fault) => put_error(outbox, sink, fault.numbers().as_slice()),
@@ -70,14 +73,15 @@ impl Part for Result<Bounds, RegisterFault> {
 
 impl Part for Result<u32, Refusal> {
     ghost use Rattle.tl_server.specs.Answers.{seal_text};
+    ghost use Rattle.tl_server.specs.Outcomes.{later_seal};
 
-    ghost text = { seal_text };
+    ghost text = { λ base answer. seal_text (later_seal base answer) };
 
-    fn put<K: Sink>(&self, outbox: &mut Outbox, sink: &mut K) {
+    fn put<K: Sink>(&self, outbox: &mut Outbox, sink: &mut K, base: u32) {
         match self {
             Ok(epoch) => {
                 outbox.put(sink, b"{\"sealed\":");
-                put_number(outbox, sink, *epoch);
+                put_number(outbox, sink, u64::from(base) + u64::from(*epoch));
                 outbox.put(sink, b"}");
             }
             Err(refusal) => put_error(outbox, sink, refusal.numbers().as_slice()),
@@ -102,19 +106,19 @@ fn put_comma<K: Sink>(outbox: &mut Outbox, sink: &mut K, index: usize)
     outbox.put(sink, b",");
 }
 
-fn put_list<T: Part, K: Sink>(outbox: &mut Outbox, sink: &mut K, items: &[T])
-    ensures { Writes (sending (K.output sink.old) (K.failures sink.old) outbox.old) (sending (K.output sink.new) (K.failures sink.new) outbox.new) (list_text T.text items.now) }
+fn put_list<T: Part, K: Sink>(outbox: &mut Outbox, sink: &mut K, base: u32, items: &[T])
+    ensures { Writes (sending (K.output sink.old) (K.failures sink.old) outbox.old) (sending (K.output sink.new) (K.failures sink.new) outbox.new) (list_text (T.text base) items.now) }
 {
     outbox.put(sink, b"[");
     for (index, item) in items.iter().enumerate() {
         put_comma(outbox, sink, index);
-        item.put(outbox, sink);
+        item.put(outbox, sink, base);
     }
     outbox.put(sink, b"]");
 }
 
-// `,"epoch":e`, except for the first epoch
-fn put_epoch<K: Sink>(outbox: &mut Outbox, sink: &mut K, epoch: u32)
+// `,"epoch":e`, except for the first epoch of all
+fn put_epoch<K: Sink>(outbox: &mut Outbox, sink: &mut K, epoch: u64)
     ensures { Writes (sending (K.output sink.old) (K.failures sink.old) outbox.old) (sending (K.output sink.new) (K.failures sink.new) outbox.new) (epoch_text epoch) }
 {
     if epoch == 0 {
@@ -125,14 +129,14 @@ fn put_epoch<K: Sink>(outbox: &mut Outbox, sink: &mut K, epoch: u32)
 }
 
 // `{"call":c,"reply":[..]}`, with the epoch in between from the second one on
-fn put_call<K: Sink>(outbox: &mut Outbox, sink: &mut K, receipt: &Receipt)
-    ensures { Writes (sending (K.output sink.old) (K.failures sink.old) outbox.old) (sending (K.output sink.new) (K.failures sink.new) outbox.new) (call_text receipt.now) }
+fn put_call<K: Sink>(outbox: &mut Outbox, sink: &mut K, base: u32, receipt: &Receipt)
+    ensures { Writes (sending (K.output sink.old) (K.failures sink.old) outbox.old) (sending (K.output sink.new) (K.failures sink.new) outbox.new) (call_text (later base receipt.now)) }
 {
     outbox.put(sink, b"{\"call\":");
     put_number(outbox, sink, receipt.call);
-    put_epoch(outbox, sink, receipt.epoch);
+    put_epoch(outbox, sink, u64::from(base) + u64::from(receipt.epoch));
     outbox.put(sink, b",\"reply\":");
-    put_list(outbox, sink, receipt.reply.as_slice());
+    put_list(outbox, sink, base, receipt.reply.as_slice());
     outbox.put(sink, b"}");
 }
 
@@ -141,7 +145,7 @@ fn put_error<K: Sink>(outbox: &mut Outbox, sink: &mut K, numbers: &[u64])
     ensures { Writes (sending (K.output sink.old) (K.failures sink.old) outbox.old) (sending (K.output sink.new) (K.failures sink.new) outbox.new) (error_text numbers.now) }
 {
     outbox.put(sink, b"{\"error\":");
-    put_list(outbox, sink, numbers);
+    put_list(outbox, sink, 0, numbers);
     outbox.put(sink, b"}");
 }
 
@@ -159,10 +163,10 @@ fn put_bounds<K: Sink>(outbox: &mut Outbox, sink: &mut K, bounds: &Bounds)
 }
 
 /// The line for the result of a call, a registration or a seal.
-pub(crate) fn put_line<T: Part, K: Sink>(outbox: &mut Outbox, sink: &mut K, answer: &T)
-    ensures { Writes (sending (K.output sink.old) (K.failures sink.old) outbox.old) (sending (K.output sink.new) (K.failures sink.new) outbox.new) (line_text (T.text answer.now)) }
+pub(crate) fn put_line<T: Part, K: Sink>(outbox: &mut Outbox, sink: &mut K, base: u32, answer: &T)
+    ensures { Writes (sending (K.output sink.old) (K.failures sink.old) outbox.old) (sending (K.output sink.new) (K.failures sink.new) outbox.new) (line_text (T.text base answer.now)) }
 {
-    answer.put(outbox, sink);
+    answer.put(outbox, sink, base);
     outbox.put(sink, b"\n");
 }
 
@@ -178,12 +182,13 @@ pub(crate) fn put_error_line<K: Sink>(outbox: &mut Outbox, sink: &mut K, numbers
 pub(crate) fn put_batch_line<K: Sink>(
     outbox: &mut Outbox,
     sink: &mut K,
+    base: u32,
     answers: &[Result<Receipt, Refusal>],
 )
-    ensures { Writes (sending (K.output sink.old) (K.failures sink.old) outbox.old) (sending (K.output sink.new) (K.failures sink.new) outbox.new) (line_text (batch_text answers.now)) }
+    ensures { Writes (sending (K.output sink.old) (K.failures sink.old) outbox.old) (sending (K.output sink.new) (K.failures sink.new) outbox.new) (line_text (batch_text (map (later_answer base) answers.now))) }
 {
     outbox.put(sink, b"{\"batch\":");
-    put_list(outbox, sink, answers);
+    put_list(outbox, sink, base, answers);
     outbox.put(sink, b"}");
     outbox.put(sink, b"\n");
 }

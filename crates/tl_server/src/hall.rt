@@ -7,8 +7,11 @@ use std::sync::{Condvar, Mutex, Wait};
 use std::time::{Clock, Duration};
 use tl_workers::Session;
 
-/// How many connections are open at once at most.
+/// How many connections are open at once at most, if nothing else is asked for.
 pub const MAX_CONNECTIONS: u16 = 8;
+
+/// How many may be asked for.
+pub const MAX_PLACES: u16 = 1_024;
 
 /// How far a server is.
 #[derive(Clone, Copy, PartialEq, Eq, Debug)]
@@ -26,7 +29,7 @@ pub enum Phase {
 // An open connection, by its number.
 #[derive(Drop)]
 struct Open {
-    number: u16,
+    number: u64,
     stream: TcpStream,
 }
 
@@ -44,6 +47,8 @@ struct Served {
 /// What the threads of connections share.
 #[derive(Drop)]
 pub struct Hall {
+    // How many connections are open at once at most.
+    places: u16,
     served: Mutex<Served>,
     // Notified after each change.
     changed: Condvar,
@@ -53,8 +58,9 @@ pub struct Hall {
 
 impl Hall {
     // The hall before the first connection.
-    fn of(sessions: Vec<Session>, streams: Option<Vec<Open>>) -> Hall {
+    fn of(sessions: Vec<Session>, streams: Option<Vec<Open>>, places: u16) -> Hall {
         Hall {
+            places,
             served: Mutex::new(Served {
                 phase: Phase::Serving,
                 open: 0,
@@ -66,15 +72,19 @@ impl Hall {
         }
     }
 
-    /// A hall that keeps sessions in this list.
-    pub fn new(sessions: Vec<Session>) -> Hall {
-        Hall::of(sessions, None)
+    /// A hall for so many connections at once, which keeps sessions in this list.
+    pub fn new(sessions: Vec<Session>, places: u16) -> Hall {
+        Hall::of(sessions, None, places)
     }
 
     /// The same, but a stop can end its connections.
-    pub fn that_stops(alloc: Global, sessions: Vec<Session>) -> Result<Hall, AllocError> {
-        let streams = Vec::with_capacity(alloc, usize::from(MAX_CONNECTIONS))?;
-        Ok(Hall::of(sessions, Some(streams)))
+    pub fn that_stops(
+        alloc: Global,
+        sessions: Vec<Session>,
+        places: u16,
+    ) -> Result<Hall, AllocError> {
+        let streams = Vec::with_capacity(alloc, usize::from(places))?;
+        Ok(Hall::of(sessions, Some(streams), places))
     }
 
     /// Set once connections are asked to end.
@@ -89,7 +99,7 @@ impl Hall {
             if served.phase != Phase::Serving {
                 return false;
             }
-            if served.open < MAX_CONNECTIONS {
+            if served.open < self.places {
                 served.open += 1;
                 return true;
             }
@@ -99,7 +109,7 @@ impl Hall {
     }
 
     /// Whether the connection may be served. It isn't served after a stop, nor if a stop couldn't end it.
-    pub fn lets_in(&self, rt: &impl Wait, number: u16, stream: &TcpStream) -> bool {
+    pub fn lets_in(&self, rt: &impl Wait, number: u64, stream: &TcpStream) -> bool {
         let mut served = self.served.lock(rt);
         if served.phase != Phase::Serving {
             return false;
@@ -114,7 +124,7 @@ impl Hall {
     }
 
     /// Gives back the place of a connection that has ended.
-    pub fn give_place(&self, rt: &impl Wait, number: u16) {
+    pub fn give_place(&self, rt: &impl Wait, number: u64) {
         let mut served = self.served.lock(rt);
         served.open = served.open.saturating_sub(1);
         if let Some(streams) = &mut served.streams {
@@ -165,6 +175,7 @@ impl Hall {
     /// The sessions of all connections.
     pub fn into_sessions(self) -> Vec<Session> {
         let Hall {
+            places: _,
             served,
             changed: _,
             is_ending: _,

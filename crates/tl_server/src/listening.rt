@@ -6,7 +6,7 @@ ghost use Rattle.tl_server.specs.declared.fault.ListenFault.TheVariants.{Memory}
 use crate::answer::put_error_line;
 use crate::control::{Control, local};
 use crate::fault::ListenFault;
-use crate::hall::{Hall, Phase};
+use crate::hall::{Hall, MAX_CONNECTIONS, Phase};
 use crate::outbox::Outbox;
 use crate::serving::serve;
 use crate::socket::{SocketSink, SocketSource};
@@ -18,12 +18,30 @@ use std::thread::Threads;
 use std::time::{Clock, Duration};
 use tl_workers::{Engine, Session};
 
-// Where connections come from, and how long one may be silent.
+/// Where connections come from, how many of them, and how long one may be silent. Nothing else knows of what kind the listener is.
 #[derive(Clone, Copy)]
-struct Door<'a> {
-    listener: &'a TcpListener,
-    connections: u16,
-    idle: Option<Duration>,
+pub(crate) struct Door<'a> {
+    pub(crate) listener: &'a TcpListener,
+    pub(crate) connections: u64,
+    pub(crate) idle: Option<Duration>,
+}
+
+impl Door<'_> {
+    /// The next connection, of this number, if it may be served.
+    pub(crate) fn receive(self, rt: &impl Wait, number: u64, hall: &Hall) -> Option<TcpStream> {
+        let Ok((stream, _)) = self.listener.accept() else {
+            return None;
+        };
+        if !hall.lets_in(rt, number, &stream) {
+            return None;
+        }
+        // If this fails, an answer may come later, but is the same.
+        let _ = stream.set_nodelay(true);
+        // If these fail, a silent peer keeps its place.
+        let _ = stream.set_read_timeout(self.idle);
+        let _ = stream.set_write_timeout(self.idle);
+        Some(stream)
+    }
 }
 
 // The next connection, of this number, with a session of its own. A connection that gets no session is told why, and ended.
@@ -31,22 +49,14 @@ fn welcome(
     rt: &impl Wait,
     alloc: Global,
     door: Door<'_>,
-    number: u16,
+    number: u64,
     engine: &Engine,
     hall: &Hall,
     outbox: &mut Outbox,
 ) -> Option<(TcpStream, Session)> {
-    let Ok((stream, _)) = door.listener.accept() else {
+    let Some(stream) = door.receive(rt, number, hall) else {
         return None;
     };
-    if !hall.lets_in(rt, number, &stream) {
-        return None;
-    }
-    // If this fails, an answer may come later, but is the same.
-    let _ = stream.set_nodelay(true);
-    // If these fail, a silent peer keeps its place.
-    let _ = stream.set_read_timeout(door.idle);
-    let _ = stream.set_write_timeout(door.idle);
     match engine.session(rt, alloc) {
         Ok(session) => Some((stream, session)),
         Err(refusal) => {
@@ -65,7 +75,7 @@ fn visit<R: Threads + Wait + Sync>(
     alloc: Global,
     engine: &Engine,
     hall: &Hall,
-    number: u16,
+    number: u64,
     stream: TcpStream,
     session: Session,
 ) {
@@ -118,6 +128,8 @@ pub struct Server {
     listener: TcpListener,
     address: SocketAddr,
     connections: u16,
+    // How many are open at once at most.
+    places: u16,
     idle: Option<Duration>,
     // There is room for the session of each connection.
     sessions: Vec<Session>,
@@ -144,6 +156,7 @@ impl Server {
             listener,
             address,
             connections,
+            places: MAX_CONNECTIONS,
             idle: None,
             sessions,
             outbox,
@@ -159,8 +172,13 @@ impl Server {
         }
     }
 
+    /// Holds open so many connections at once, from 1 to 1,024, in place of 8.
+    pub fn with_places(self, places: u16) -> Server {
+        Server { places, ..self }
+    }
+
     /// Serves its connections, and returns their sessions when all have ended. Each connection has a session of its own. At
-    /// most 8 are open at once, and a ninth is accepted when another ends. A failed attempt to accept a connection counts
+    /// most 8 are open at once, or as many as were asked for, and a further one is accepted when another ends. A failed attempt to accept a connection counts
     /// as one. A connection that gets no session is answered with one line, `{"error":[821]}`, or `{"error":[990]}` if
     /// memory is refused, and ended. A connection that fails is ended, and the others go on.
     pub fn serve<R: Threads + Wait + Sync>(
@@ -173,14 +191,15 @@ impl Server {
             listener,
             address: _,
             connections,
+            places,
             idle,
             sessions,
             outbox,
         } = self;
-        let hall = Hall::new(sessions);
+        let hall = Hall::new(sessions, places);
         let door = Door {
             listener: &listener,
-            connections,
+            connections: u64::from(connections),
             idle,
         };
         serve_all(rt, alloc, door, engine, &hall, outbox);
@@ -205,14 +224,15 @@ impl Server {
             listener,
             address,
             connections,
+            places,
             idle,
             sessions,
             outbox,
         } = self;
-        let hall = Hall::that_stops(alloc, sessions)?;
+        let hall = Hall::that_stops(alloc, sessions, places)?;
         let door = Door {
             listener: &listener,
-            connections,
+            connections: u64::from(connections),
             idle,
         };
         // If no thread can be started, the control is watched only after all connections have ended.

@@ -11,10 +11,10 @@ use crate::device::{Failure, Sink, Source};
 use crate::fault::ServeFault;
 use crate::outbox::Outbox;
 use crate::reader::{Came, Reader};
+use crate::service::Service;
 use std::alloc::Global;
 use std::sync::Wait;
 use std::thread::Threads;
-use tl_workers::{Engine, Session};
 
 // Writes what is gathered, unless there is a line that can be answered first.
 fn settle<K: Sink>(reader: &Reader, outbox: &mut Outbox, sink: &mut K)
@@ -37,26 +37,26 @@ fn settle<K: Sink>(reader: &Reader, outbox: &mut Outbox, sink: &mut K)
 ///
 /// 911 if the source fails: each line that was read whole was answered. 912 if the sink fails: it has a beginning of the
 /// answers, and each call that was admitted was run to its end. 990 if memory is refused before the first line.
-pub fn serve<R: Threads + Wait + Sync, S: Source, K: Sink>(
+pub fn serve<R: Threads + Wait + Sync, S: Source, K: Sink, V: Service>(
     rt: &R,
     alloc: Global,
     source: &mut S,
     sink: &mut K,
-    engine: &Engine,
-    session: &mut Session,
+    service: &V,
+    visitor: &mut V::Visitor,
 ) -> Result<u64, ServeFault>
     // What was answered.
-    ensures ok { IfOk result (λ n. AnswersAll (record { input = S.input source.old; session = session.old; output = K.output sink.old }) (record { input = S.input source.new; session = session.new; output = K.output sink.new }) n) }
-    ensures read { IsErrOf result ReadFailed → AnswersWhole (record { input = S.input source.old; session = session.old; output = K.output sink.old }) (record { input = S.input source.new; session = session.new; output = K.output sink.new }) }
-    ensures write { IsErrOf result WriteFailed → AnswersPart (record { input = S.input source.old; session = session.old; output = K.output sink.old }) (record { input = S.input source.new; session = session.new; output = K.output sink.new }) }
+    ensures ok { IfOk result (λ n. AnswersAll V.gains (V.seals service.now) V.may_seal (record { input = S.input source.old; visitor = visitor.old; output = K.output sink.old }) (record { input = S.input source.new; visitor = visitor.new; output = K.output sink.new }) n) }
+    ensures read { IsErrOf result ReadFailed → AnswersWhole V.gains (V.seals service.now) V.may_seal (record { input = S.input source.old; visitor = visitor.old; output = K.output sink.old }) (record { input = S.input source.new; visitor = visitor.new; output = K.output sink.new }) }
+    ensures write { IsErrOf result WriteFailed → AnswersPart V.gains (V.seals service.now) V.may_seal (record { input = S.input source.old; visitor = visitor.old; output = K.output sink.old }) (record { input = S.input source.new; visitor = visitor.new; output = K.output sink.new }) }
     // Whatever the devices say about their bytes.
-    ensures kept { GainsWholeCalls session.old session.new }
+    ensures kept { GainsWholeCalls V.gains visitor.old visitor.new }
     // Which device has failed.
     ensures fine { OnOk result ((S.failures source.new ≡ S.failures source.old) × (K.failures sink.new ≡ K.failures sink.old)) }
     ensures read_fails { IsErrOf result ReadFailed → (S.failures source.new ≡ S.failures source.old + 1) × (K.failures sink.new ≡ K.failures sink.old) }
     ensures write_fails { IsErrOf result WriteFailed → (S.failures source.new ≡ S.failures source.old) × (K.failures sink.new ≡ K.failures sink.old + 1) }
     // Before the first line.
-    ensures memory { IsErrOf result Memory → (S.input source.new ≡ S.input source.old) × (S.failures source.new ≡ S.failures source.old) × (session.new ≡ session.old) × (K.output sink.new ≡ K.output sink.old) × (K.failures sink.new ≡ K.failures sink.old) }
+    ensures memory { IsErrOf result Memory → (S.input source.new ≡ S.input source.old) × (S.failures source.new ≡ S.failures source.old) × (visitor.new ≡ visitor.old) × (K.output sink.new ≡ K.output sink.old) × (K.failures sink.new ≡ K.failures sink.old) }
 {
     let Ok(mut reader) = Reader::new(alloc) else {
         return Err(ServeFault::Memory);
@@ -78,7 +78,15 @@ pub fn serve<R: Threads + Wait + Sync, S: Source, K: Sink>(
             Err(Failure) => return Err(ServeFault::ReadFailed),
             Ok(Came::End) => return Ok(count),
             Ok(Came::Rest) => {
-                answer_line(rt, alloc, engine, session, &mut outbox, sink, reader.line());
+                answer_line(
+                    rt,
+                    alloc,
+                    service,
+                    visitor,
+                    &mut outbox,
+                    sink,
+                    reader.line(),
+                );
                 outbox.flush(sink);
                 if outbox.has_failed() {
                     return Err(ServeFault::WriteFailed);
@@ -86,7 +94,15 @@ pub fn serve<R: Threads + Wait + Sync, S: Source, K: Sink>(
                 return Ok(more);
             }
             Ok(Came::Whole) => {
-                if answer_line(rt, alloc, engine, session, &mut outbox, sink, reader.line()) {
+                if answer_line(
+                    rt,
+                    alloc,
+                    service,
+                    visitor,
+                    &mut outbox,
+                    sink,
+                    reader.line(),
+                ) {
                     outbox.flush(sink);
                     if outbox.has_failed() {
                         return Err(ServeFault::WriteFailed);

@@ -1,3 +1,5 @@
+pub mod AlikeForms
+pub mod AlikeParts
 pub mod DeclarationLemmas
 pub mod DeclarationsOnce
 pub mod ExpressionsOnce

@@ -3,13 +3,13 @@ use Rattle.std.proofs.Common.{◌≡◌, ℕ, List, [], ◌∷◌, ◌++◌, ref
 use Rattle.std.specs.Prelude.{IfOk, OnOk, OnErr}
 use Rattle.std.specs.Option.{option_map_or}
 use Rattle.tl_tree_locking.specs.declared.action.Action.{Action}
-use Rattle.tl_procedures.specs.Names.{Named, number_of}
+use Rattle.tl_procedures.specs.Names.{Named, BeginsWith, number_of}
 use Rattle.tl_machine.specs.Turns.{SegmentValue}
 use Rattle.tl_core.specs.declared.stepped.Stepped.TheVariants.{Moved}
 use Rattle.tl_core.specs.Cores.{CoreState, CoreValue}
 use Rattle.tl_core.specs.Entries.{after_step, after_admission, with_call_of}
 use Rattle.tl_core.specs.Followed.{Goes, HasGone}
-use Rattle.tl_table.specs.Epochs.{EpochValue, seen, BeginsWith, GoesOn}
+use Rattle.tl_table.specs.Epochs.{EpochValue, seen, GoesOn}
 use Rattle.tl_table.specs.Sent.{Sends}
 use Rattle.tl_table.specs.declared.fault.TableFault.{TableFault}
 use Rattle.tl_table.specs.declared.receipt.Sent.{Sent}

@@ -6,8 +6,8 @@ use Rattle.std.proofs.lemmas.Option.{none-some, same_Some}
 use Rattle.tl_tree.specs.Records.{Records}
 use Rattle.tl_tree_locking.specs.History.{records_now}
 use Rattle.tl_tree_locking.specs.Epochs.{left_by, FollowOn, AreAtRest}
-use Rattle.tl_procedures.specs.Names.{Named}
-use Rattle.tl_table.specs.Epochs.{EpochValue, seen, BeginsWith, GoesOn, epoch_after}
+use Rattle.tl_procedures.specs.Names.{Named, BeginsWith}
+use Rattle.tl_table.specs.Epochs.{EpochValue, seen, GoesOn, epoch_after}
 use Rattle.tl_table.specs.Tables.{epoch_world, records_after, procedures_after, IsNext, IsRested, InLine}
 
 pub begins_same : (xs : List Named) → BeginsWith xs xs

@@ -2,7 +2,7 @@
 use Rattle.std.specs.Prelude.{◌≡◌, ◌≢◌, ℕ, ◌+◌, ◌<◌, true, List, [], ◌∷◌, ◌++◌, length, get_or, Option, Some, None, option_map, if◌then◌else◌, nat_lt, ℤ}
 use Rattle.tl_tree_locking.specs.History.{is_done, AllDone}
 use Rattle.tl_tree_locking.specs.World.{reply_of}
-use Rattle.tl_procedures.specs.Names.{Named}
+use Rattle.tl_procedures.specs.Names.{Named, BeginsWith}
 use Rattle.tl_core.specs.Cores.{CoreState, CoreValue, IsSealFault, opened_after, kept_turn, call_of, world_of}
 use Rattle.tl_core.specs.Entries.{admission_refusal, after_admission}
 use Rattle.tl_table.specs.declared.fault.TableFault.{TableFault}
@@ -45,10 +45,6 @@ pub record Stands (t : EpochValue) (r : Receipt) : Type 0 where
 -- every call is done
 abbrev pub IsAtRest : EpochValue → Type 0
 IsAtRest t = AllDone (seen t).past
-
--- the second list begins with the first
-abbrev pub BeginsWith : List Named → List Named → Type 0
-BeginsWith xs ys = (more : List Named) × (ys ≡ xs ++ more)
 
 -- It is the same epoch some time later: it has the same opening tree, and maybe more procedures.
 pub record GoesOn (t u : EpochValue) : Type 0 where

@@ -4,13 +4,13 @@ use Rattle.tl_history.specs.declared.history.TheConstants.{MAX_CALLS}
 use Rattle.tl_tree.specs.Records.{Records}
 use Rattle.tl_tree_locking.specs.History.{AllDone, admits, records_now}
 use Rattle.tl_tree_locking.specs.World.{World, IsSound, Reached}
-use Rattle.tl_procedures.specs.Names.{Named}
+use Rattle.tl_procedures.specs.Names.{Named, BeginsWith}
 use Rattle.tl_core.specs.declared.fault.CoreFault.TheVariants as core_fault
 use Rattle.tl_core.specs.Cores.{IsSealFault, world_of}
 use Rattle.tl_table.specs.declared.fault.TableFault.{TableFault}
 use Rattle.tl_table.specs.declared.fault.TableFault.TheVariants as fault
 use Rattle.tl_table.specs.declared.epoch.TheConstants.{MAX_EPOCHS}
-use Rattle.tl_table.specs.Epochs.{EpochValue, seen, IsAtRest, AreOwned, BeginsWith}
+use Rattle.tl_table.specs.Epochs.{EpochValue, seen, IsAtRest, AreOwned}
 
 -- the epochs that were sealed, the first one first, and the current one
 pub record TableValue : Type 0 where

@@ -2,7 +2,7 @@
 
 use std::process::Abort;
 use std::test::Fail;
-use tl_commands::{check_procs_cmd, compile_cmd, procs_cmd};
+use tl_language_commands::{check_procs_cmd, compile_cmd, procs_cmd};
 
 const ADD: &[u8] = b"field value = 0;\n\
     proc add(place, amount) { lock n = node(place); n.value += amount else {} emit n.value; }\n";

@@ -1,19 +1,42 @@
 // Engines that are closed with sessions of another engine.
 
-use crate::engine::{end_with, engine_of};
+use crate::engine::{alone, engine_of};
 use std::alloc::Global;
 use std::sync::Wait;
 use std::test::Fail;
-use tl_table::Table;
+use tl_table::{Closed, Table};
 use tl_workers::{Engine, Session};
 
-// The table of an engine that doesn't close with this session alone. An `Err` if it does.
-fn left_open(alloc: Global, engine: Engine, session: Session) -> Result<Table, Fail> {
-    let mut sessions = Vec::new(alloc);
-    sessions.push(session)?;
-    match engine.close(sessions) {
-        Ok(_) => Err("closed with another engine's session".into()),
-        Err((table, _)) => Ok(table),
+// Lends both engines to `body`, each with a session. Answers the session of the second, and then that of the first.
+fn ask<F>(
+    rt: &impl Wait,
+    alloc: Global,
+    one: &Engine,
+    other: &Engine,
+    body: F,
+) -> Result<(Vec<Session>, Vec<Session>), Fail>
+where
+    F: FnOnce(&Engine, &mut Session, &Engine, &mut Session) -> Result<(), Fail>,
+    requires { F.IsAlwaysCallable body }
+{
+    let mut of_one = one.session(rt, alloc)?;
+    let mut of_other = other.session(rt, alloc)?;
+    body(one, &mut of_one, other, &mut of_other)?;
+    Ok((alone(alloc, of_other)?, alone(alloc, of_one)?))
+}
+
+// What closing an engine comes to.
+type Outcome = Result<(Vec<Closed>, Vec<Session>), (Table, Vec<Session>)>;
+
+// Lends the tables of two engines that didn't close to `judge`. An `Err` if one closed.
+fn judge_tables<U, G>(one: Outcome, other: Outcome, judge: G) -> Result<U, Fail>
+where
+    G: FnOnce(&Table, &Table) -> Result<U, Fail>,
+    requires { G.IsAlwaysCallable judge }
+{
+    match (one, other) {
+        (Err((one, _)), Err((other, _))) => judge(&one, &other),
+        _ => Err("closed with another engine's session".into()),
     }
 }
 
@@ -36,12 +59,10 @@ where
 {
     let one = engine_of(rt, alloc, tree, procedures)?;
     let other = engine_of(rt, alloc, tree, procedures)?;
-    let mut of_one = one.session(rt, alloc)?;
-    let mut of_other = other.session(rt, alloc)?;
-    body(&one, &mut of_one, &other, &mut of_other)?;
-    let one = left_open(alloc, one, of_other)?;
-    let other = left_open(alloc, other, of_one)?;
-    judge(&one, &other)
+    match ask(rt, alloc, &one, &other, body) {
+        Ok((first, second)) => judge_tables(one.close(first), other.close(second), judge),
+        Err(fail) => Err(fail),
+    }
 }
 
 /// The same, but each engine is handed to `end`, with the session of the other engine.
@@ -63,10 +84,8 @@ where
 {
     let one = engine_of(rt, alloc, tree, procedures)?;
     let other = engine_of(rt, alloc, tree, procedures)?;
-    let mut of_one = one.session(rt, alloc)?;
-    let mut of_other = other.session(rt, alloc)?;
-    body(&one, &mut of_one, &other, &mut of_other)?;
-    let first = end_with(alloc, one, of_other, &end)?;
-    let second = end_with(alloc, other, of_one, &end)?;
-    Ok((first, second))
+    match ask(rt, alloc, &one, &other, body) {
+        Ok((first, second)) => Ok((end(one, first), end(other, second))),
+        Err(fail) => Err(fail),
+    }
 }

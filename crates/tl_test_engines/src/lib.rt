@@ -11,6 +11,7 @@ mod asking;
 mod ended;
 mod engine;
 mod exchange;
+mod generations;
 mod opened;
 mod ready;
 mod sealed;
@@ -20,9 +21,11 @@ mod table;
 pub use asking::{Answers, Asked, batch, done};
 pub use ended::Ended;
 pub use engine::{
-    use_up_sessions, with_callers, with_engine, with_engine_on_threads, with_one_session,
+    use_up_sessions, with_callers, with_engine, with_engine_on_threads, with_engine_that_seals,
+    with_one_session,
 };
 pub use exchange::{end_exchanged, with_exchanged_sessions};
+pub use generations::{Taken, with_two_generations};
 pub use opened::end_opened;
 pub use ready::with_ready;
 pub use sealed::{with_sealed_core, with_sealed_running};

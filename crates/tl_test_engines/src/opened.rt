@@ -1,6 +1,6 @@
 // Engines that a test opens and concludes with the calls that it tests.
 
-use crate::engine::{end_with, register_all};
+use crate::engine::{ask_alone, register_all};
 use std::alloc::Global;
 use std::sync::Wait;
 use std::test::Fail;
@@ -26,8 +26,25 @@ where
     requires end { E.IsAlwaysCallable end }
 {
     let engine = begin()?;
-    register_all(rt, alloc, &engine, procedures)?;
-    let mut session = engine.session(rt, alloc)?;
-    body(&engine, &mut session)?;
-    end_with(alloc, engine, session, end)
+    match ask(rt, alloc, &engine, procedures, body) {
+        Ok(sessions) => Ok(end(engine, sessions)),
+        Err(fail) => Err(fail),
+    }
+}
+
+// Registers the procedures, and lends the engine to `body` with a session, which it answers.
+fn ask<F>(
+    rt: &impl Wait,
+    alloc: Global,
+    engine: &Engine,
+    procedures: &[(&str, &str)],
+    body: F,
+) -> Result<Vec<Session>, Fail>
+where
+    F: FnOnce(&Engine, &mut Session) -> Result<(), Fail>,
+    requires { F.IsAlwaysCallable body }
+{
+    register_all(rt, alloc, engine, procedures)?;
+    let (sessions, ()) = ask_alone(rt, alloc, engine, body)?;
+    Ok(sessions)
 }

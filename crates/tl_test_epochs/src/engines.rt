@@ -190,6 +190,93 @@ fn a_batch_is_admitted_over_two_epochs(rt: HostRuntime) -> Result<(), Fail> {
     )
 }
 
+// ---- a batch that finds the next epoch full
+
+/// As many as may be open.
+const ALL: [Asked<'static>; 1] = [(64, "look", &[2])];
+
+/// Holds the first call of the batch that fills the second epoch, until the batch that came from the first one has been answered.
+#[derive(Drop)]
+struct Filling {
+    holding: Holding,
+    has_asked: Signal,
+}
+
+impl Gate for Filling {
+    fn pass(&self, call: u32, turn: u64) {
+        if (call, turn) == (0, 1) {
+            self.holding.was_sealed.tell();
+            self.has_asked.wait();
+        }
+    }
+
+    fn answered(&self, _: u32) {}
+}
+
+/// The last request of the batch finds no place, and none of the batch's calls is open: they are those of the first epoch.
+fn look_too_often<R: Threads + Wait + Abort + Sync>(
+    rt: &R,
+    alloc: Global,
+    engine: &Engine,
+    session: &mut Session,
+    filling: &Filling,
+) {
+    let Ok(answers) = batch(rt, alloc, engine, session, &LOOKS, 1, &filling.holding) else {
+        assert!(rt; false, "a batch is refused");
+        return;
+    };
+    filling.has_asked.tell();
+    assert_eq!(rt; answers.len(), 65);
+    assert_eq!(rt; done(&answers), 64);
+    refused(rt, &answers[64], CoreFault::TooManyOpen);
+}
+
+/// Runs the calls of the first epoch, seals it, and opens as many calls in the second as may be open.
+fn fill_after_a_seal<R: Threads + Wait + Abort + Sync>(
+    rt: &R,
+    alloc: Global,
+    engine: &Engine,
+    session: &mut Session,
+    gate: &Filling,
+) {
+    gate.holding.is_full.wait();
+    let Ok(answers) = batch(rt, alloc, engine, session, &ONE, 1, &NoGate) else {
+        assert!(rt; false, "a batch is refused");
+        return;
+    };
+    assert_eq!(rt; done(&answers), 0);
+    gate.holding.others_are_done.tell();
+    gate.holding.is_at_rest.wait();
+    assert_eq!(rt; engine.seal(rt, alloc), Ok(0));
+    let Ok(answers) = batch(rt, alloc, engine, session, &ALL, 1, gate) else {
+        assert!(rt; false, "a batch is refused");
+        return;
+    };
+    assert_eq!(rt; done(&answers), 64);
+}
+
+#[test]
+fn a_batch_over_a_seal_finds_the_next_epoch_full(rt: HostRuntime) -> Result<(), Fail> {
+    let filling = Filling {
+        holding: Holding::new(),
+        has_asked: Signal::new(),
+    };
+    with_engine_on_threads(
+        &rt,
+        rt.alloc(),
+        FORK,
+        &[("look", LOOK)],
+        |engine, session| look_too_often(&rt, rt.alloc(), engine, session, &filling),
+        |engine, session| fill_after_a_seal(&rt, rt.alloc(), engine, session, &filling),
+        |_, _, ended| {
+            assert!(rt; filling.holding.came_in_time());
+            assert!(rt; filling.has_asked.came_in_time());
+            assert_eq!(rt; ended.epochs(), 2);
+            Ok(())
+        },
+    )
+}
+
 // ---- two sessions that seal at once
 
 /// How often each session seals.

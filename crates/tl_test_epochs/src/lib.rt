@@ -9,4 +9,6 @@ mod cores;
 #[cfg(test)]
 mod engines;
 #[cfg(test)]
+mod sealing;
+#[cfg(test)]
 mod tables;

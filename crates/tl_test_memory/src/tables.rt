@@ -1,5 +1,7 @@
 // Calls of a table's session.
 
+ghost use Rattle.tl_table.specs.Tables.{IsChain};
+
 use crate::halt::Halt;
 use crate::judging::{judge, judge_all, print_order, print_records};
 use crate::making::{procedure_of, tree_of};
@@ -7,7 +9,7 @@ use crate::seen::Seen;
 use std::alloc::Global;
 use tl_core::Core;
 use tl_machine::local;
-use tl_table::{Sent, Table, TableFault};
+use tl_table::{Closed, Sent, Table, TableFault};
 use tl_test_data::{FORK, STORE};
 
 /// How many calls are asked for.
@@ -133,15 +135,22 @@ fn seal(alloc: Global, table: &mut Table) -> Result<u32, Halt> {
 }
 
 fn close(rt: &impl Print, alloc: Global, table: Table) -> Result<(), Halt> {
-    let Ok(chain) = table.close() else {
-        return Err(Halt::Changed);
-    };
-    for closed in &chain {
+    match table.close() {
+        Ok(chain) => tell(rt, alloc, &chain),
+        Err(_) => Err(Halt::Changed),
+    }
+}
+
+// Prints what a closed table says, and judges it.
+fn tell(rt: &impl Print, alloc: Global, chain: &[Closed]) -> Result<(), Halt>
+    requires { IsChain chain.now }
+{
+    for closed in chain {
         Seen::of(closed.core()).print(rt)?;
         print_order(rt, "closed", closed.order().calls())?;
         print_order(rt, "of sessions", closed.owners())?;
         print_records(rt, closed.core().tree().records())?;
         judge(rt, alloc, closed.core())?;
     }
-    judge_all(rt, alloc, &chain)
+    judge_all(rt, alloc, chain)
 }

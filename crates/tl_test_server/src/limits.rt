@@ -1,15 +1,20 @@
 //! The limits of the server.
 
 use std::test::Fail;
-use tl_server::{MAX_CONNECTIONS, MAX_LINE};
+use tl_server::{MAX_CONNECTIONS, MAX_LINE, MAX_PLACES};
 
 /// Each limit's constant, and its number in the documents.
-const LIMITS: [(&str, usize, usize); 2] = [
+const LIMITS: [(&str, usize, usize); 3] = [
     ("bytes of a server's line", MAX_LINE, 65_536),
     (
-        "connections of a server at once",
+        "connections of a server at once, if not said",
         MAX_CONNECTIONS as usize,
         8,
+    ),
+    (
+        "connections of a server at once",
+        MAX_PLACES as usize,
+        1_024,
     ),
 ];
 

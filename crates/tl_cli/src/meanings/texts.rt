@@ -272,7 +272,7 @@ pub fn from_276_to_289(number: u16) -> Option<Meaning> {
     }
 }
 
-pub fn from_290_to_298(number: u16) -> Option<Meaning> {
+pub fn from_290_to_297(number: u16) -> Option<Meaning> {
     match number {
         290 => Some(Meaning {
             parts: "",
@@ -321,12 +321,6 @@ pub fn from_290_to_298(number: u16) -> Option<Meaning> {
             name: "too many emits",
             when: "the procedure may emit more than 32 values; the place is where most of them come from",
             advice: "emit fewer values, or let loops turn less often",
-        }),
-        298 => Some(Meaning {
-            parts: ", line, column",
-            name: "compiled and refused",
-            when: "the verifier refuses what was compiled",
-            advice: "report the text: this is a fault of the compiler",
         }),
         _ => None,
     }

@@ -1,10 +1,9 @@
-use Rattle.std.proofs.Common.{◌++◌, ◌∷◌, [], codes, map, take, sym, ap, ◌∙◌, subst}
+use Rattle.std.proofs.Common.{◌++◌, codes, take, ap, ◌∙◌, subst}
 use Rattle.std.proofs.lemmas.List.{take_all}
 use Rattle.std.proofs.lemmas.List.Elements.{All-more}
 use Rattle.std.proofs.lemmas.Result.{on_ok_weaker}
 use Rattle.tl_table.specs.Epochs.{EpochValue}
 use Rattle.tl_trail.specs.Clean.{Clean}
-use Rattle.tl_trail.specs.Chains.{chain_text}
 use Rattle.tl_trail.specs.Writing.{trail_text}
 use Rattle.tl_commands.specs.Sinks.{Adds, AreClean, comma_before, epoch_trail}
 use Rattle.tl_commands.proofs.SinkLemmas.{added_then, list_begun, one_more, list_ended}

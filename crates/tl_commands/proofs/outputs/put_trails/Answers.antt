@@ -1,4 +1,4 @@
-use Rattle.std.proofs.Common.{◌≡◌, ◌≢◌, length, get_or, codes, sym, ap, subst, arith}
+use Rattle.std.proofs.Common.{◌≡◌, ◌≢◌, length, codes, sym, subst, arith}
 use Rattle.std.proofs.lemmas.Result.{on_ok_weaker}
 use Rattle.tl_commands.specs.Sinks.{Adds, AreClean, trails_text}
 use Rattle.tl_commands.proofs.SinkLemmas.{added_then, file_of_one, file_of_list, clean_of_one, clean_chain}

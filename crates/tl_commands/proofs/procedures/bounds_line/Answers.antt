@@ -3,7 +3,8 @@ use Rattle.std.proofs.lemmas.Result.{IfOk-weaker}
 use Rattle.serde_json.specs.Data.{object, member, no_members}
 use Rattle.serde_json.specs.View.{view}
 use Rattle.serde_json.specs.Written.{has_float, compact_text}
-use Rattle.tl_commands.specs.Procedures.{bounds_data, bounds_text}
+use Rattle.tl_lines.specs.Bounds.{bounds_data}
+use Rattle.tl_commands.specs.Procedures.{bounds_text}
 use Rattle.tl_commands.proofs.ProcedureLines.{bounds_whole, bounds_written}
 use Rattle.tl_commands.proofs.procedures.bounds_line.Goals as goal
 

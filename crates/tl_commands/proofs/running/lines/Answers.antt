@@ -1,4 +1,4 @@
-use Rattle.std.proofs.Common.{◌≡◌, ◌+◌, ◌<◌, ◌∷◌, [], ◌++◌, length, get_or, take, codes, sym, ap, ap₂, ◌∙◌, string_bytes, arith}
+use Rattle.std.proofs.Common.{◌≡◌, ◌<◌, ◌++◌, length, get_or, take, codes, sym, ap, ap₂, ◌∙◌, string_bytes, arith}
 use Rattle.serde_json.specs.Written.{has_float, compact_text}
 use Rattle.tl_commands.specs.Run.{answers_of, batch_data, batch_lines}
 use Rattle.tl_commands.proofs.LineLemmas.{batch_whole}

@@ -9,7 +9,7 @@ pub loop-index-preserved : goal.loop-index-preserved
 loop-index-preserved g c =
     let i = c.loop-index.index in
     let items = c.args.items.now in
-    let f = g.T.Part.text in
+    let f = g.T.Part.text c.args.base in
     let item = c.index-items-index.result in
     let before = join_with_byte 44 (map f (take i items)) in
     let is : f item ≡ f (get_or items i item) = ap f c.index-items-index.is in

@@ -1,4 +1,4 @@
-use Rattle.std.proofs.Common.{◌≡◌, true, Some, None, [], refl, sym, ap, ◌∙◌, subst, arith, rules}
+use Rattle.std.proofs.Common.{◌≡◌, Some, None, [], refl, sym, ap, ap₂, ◌∙◌, subst, arith, rules}
 use Rattle.std.specs.Prelude.{nat_lt, IfSome}
 use Rattle.tl_lowering.specs.declared.lowering.Draft.{Draft}
 use Rattle.tl_lowering.specs.declared.lowering.Opened.{Opened}
@@ -9,13 +9,14 @@ use Rattle.tl_lowering.specs.Paths.{Paths, nodes_of, known, paths_of}
 use Rattle.tl_lowering.specs.Repeating.{IsRepetition}
 use Rattle.tl_lowering.specs.Scopes.{View, view_of, IsAt, IsLowered}
 use Rattle.tl_lowering.specs.Sound.{IsSound}
+use Rattle.tl_lowering.proofs.BeyondLemmas.{turns_begin, block_is_no_break, block_is_no_walk}
 use Rattle.tl_lowering.proofs.BodyLemmas.{on_ok, then_flow, same_draft, same_behind, back, loop_back, at_known}
 use Rattle.tl_lowering.proofs.DepthLemmas.{falls_in_try, falls_in_handler, falls_in_first, falls_in_second, falls_in_visit}
 use Rattle.tl_lowering.proofs.DraftLemmas.{none_read, none_behind, extended_paths, extended_draft, opened_paths, opened_draft, block_lowered}
 use Rattle.tl_lowering.proofs.LoweringLemmas.{at_exactly, at_behind, at_handler, extends_self}
 use Rattle.std.proofs.lemmas.List.{take_all}
-use Rattle.tl_lowering.specs.Entering.{entered_at, entered_of, EntersSoFar}
-use Rattle.tl_lowering.specs.Fit.{or_of}
+use Rattle.tl_lowering.specs.Entering.{before_of, entered_at, entered_of, EntersSoFar}
+use Rattle.tl_lowering.specs.Passing.{or_of}
 use Rattle.tl_lowering.proofs.EnterLemmas.{none_entered, then_entered, plain_entered, opened_entered, tried_entering, entering_as, finished_entering}
 use Rattle.tl_lowering.specs.Names.{names_in, names_of}
 use Rattle.std.specs.Prelude.{option_map}
@@ -35,7 +36,7 @@ block-loop-statement-init t c =
     record {
       named = none_part (names_of c.args.self.now.scope) draft c.new.ensures.items c.new-2.ensures.items;
       draft = none_read scope c.args.held draft c.new.ensures.items c.new-2.ensures.items;
-      entering = none_entered c.args.held.is_entered draft (entered_of draft.flow) c.new.ensures.items c.new-2.ensures.items c.on.ensures.entered;
+      entering = none_entered (before_of c.args.held) draft (entered_of draft.flow) c.new.ensures.items c.new-2.ensures.items c.on.ensures.entered;
       flow = c.on.ensures.paths ∙ sym (none_behind scope c.args.held draft c.new.ensures.items c.new-2.ensures.items);
       at = at_exactly scope (nodes_of c.args.held) c.on.result.after c.requires.names c.requires.nodes (ap (λ (p : Paths). p.after) c.on.ensures.paths);
       loops = refl;
@@ -52,7 +53,7 @@ block-loop-statement-preserved t c =
     let later : View = view_of c.extend.new.self.scope in
     let more = c.in_ok-flow.ensures in
     let here : known old.flow.after ≡ Some (nodes_of c.in-Some.held_here) = ap known c.in-Some.is in
-    let after : entered_at old.flow.after ≡ Some c.in-Some.held_here.is_entered = ap entered_at c.in-Some.is in
+    let after : entered_at old.flow.after ≡ Some (before_of c.in-Some.held_here) = ap entered_at c.in-Some.is in
     let behind : (behind_draft start old).after ≡ Some (nodes_of c.in-Some.held_here) = sym (ap (λ (p : Paths). p.after) so_far.flow) ∙ here in
     record {
       named =
@@ -60,12 +61,12 @@ block-loop-statement-preserved t c =
           c.in-Some.is (ap (λ (p : Paths). p.after) c.then-draft.ensures.paths) so_far.named more.named;
       draft = same_draft start made draft later refl refl (more.draft start so_far.draft behind);
       entering =
-          subst (EntersSoFar c.args.held.is_entered draft)
-          (then_entered (entered_of old.flow) (entered_of c.then-draft.result) (entered_of c.in_ok-flow.flow) c.in-Some.held_here.is_entered after
+          subst (EntersSoFar (before_of c.args.held) draft)
+          (then_entered (entered_of old.flow) (entered_of c.then-draft.result) (entered_of c.in_ok-flow.flow) (before_of c.in-Some.held_here) after
           (c.then-draft.ensures.entered
           ∙ ap (λ (f : Flow). record { after = entered_at c.in_ok-flow.flow.after; fails = or_of (entered_at f.fails) (entered_at c.in_ok-flow.flow.fails); breaks = or_of (entered_at f.breaks) (entered_at c.in_ok-flow.flow.breaks) })
           more.flow))
-          (let so_far = more.entering c.args.held.is_entered (entered_of old.flow) after so_far.entering in record { once = λ items all b. so_far.once items all b; paths = λ items all b. so_far.paths items all b });
+          (let so_far = more.entering (before_of c.args.held) (entered_of old.flow) after so_far.entering in record { once = λ items all b. so_far.once items all b; paths = λ items all b. so_far.paths items all b });
       flow =
           then_flow (behind_draft start old) (nodes_of c.in-Some.held_here) made.flow c.in_ok-flow.flow c.then-draft.result
           (ap paths_of more.flow ∙ so_far.flow) (ap (λ (f : Flow). known f.after) more.flow ∙ here) c.then-draft.ensures.paths
@@ -91,7 +92,7 @@ block-returns-clause-entering t c = finished_entering c.loop-statement.invariant
 pub extend-returns-in_default-clause-entering : goal.extend-returns-in_default-clause-entering
 extend-returns-in_default-clause-entering t c = λ e x a so_far.
     let draft : Draft = record { opened = c.args.draft.now.opened; statements = c.push.new.self; flow = c.args.draft.now.flow } in
-    plain_entered e c.args.held.is_entered c.args.draft.now draft x a so_far c.in_ok-lowered.ensures.entering c.in_ok-at.ensures.named refl c.in_ok-push.ensures.items
+    plain_entered e (before_of c.args.held) c.args.draft.now draft x a so_far c.in_ok-lowered.ensures.entering c.in_ok-at.ensures.named refl c.in_ok-push.ensures.items
 
 pub extend-returns-clause-entering : goal.extend-returns-clause-entering
 extend-returns-clause-entering t c = λ e x a so_far.
@@ -99,7 +100,7 @@ extend-returns-clause-entering t c = λ e x a so_far.
     let opened : Opened = record { binding = c.in_ok-binding.binding; offset = c.args.statement.now.offset; earlier = c.replace-earlier.result } in
     let earlier : c.replace-earlier.result.items ≡ c.args.draft.now.statements.items = search rules in
     let none : c.replace-earlier.new.dest.items ≡ [] = search rules in
-    opened_entered e c.args.held.is_entered c.args.draft.now draft x opened c.in_ok-binding.flow a so_far c.in_ok-binding.ensures.entering earlier c.in_ok-push-2.ensures.items none
+    opened_entered e (before_of c.args.held) c.args.draft.now draft x opened c.in_ok-binding.flow a so_far c.in_ok-binding.ensures.entering earlier c.in_ok-push-2.ensures.items none
 
 pub extend-returns-in_default-clause-draft : goal.extend-returns-in_default-clause-draft
 extend-returns-in_default-clause-draft t c = λ start d e.
@@ -144,7 +145,7 @@ first_block-returns-clause-scope t c =
     let left = c.return_to.ensures in
     let same = c.in_ok-first.ensures.scope in
     back (view_of c.args.self.now.scope) (view_of c.enter.new.self.scope) (view_of c.block.new.self.scope) (view_of c.return_to.new.self) c.mark-mark.result.local
-    c.in_ok-inside.ensures.extends same mark.local left.meanings left.fields left.local (left.values ∙ mark.values) (left.nodes ∙ mark.nodes)
+    c.in_ok-inside.ensures.extends same mark.local left.meanings left.fields left.procedures left.local (left.values ∙ mark.values) (left.nodes ∙ mark.nodes)
     (left.loops ∙ ap (λ (v : View). v.loops) same ∙ c.in_ok-inside.ensures.loops)
 
 pub handled-block-requires : goal.handled-block-requires
@@ -179,7 +180,7 @@ pub statement-turns-requires-in-ForEach : goal.statement-turns-requires-in-ForEa
 statement-turns-requires-in-ForEach t c =
     let v = c.in-ForEach in (
       falls_in_visit t 2 c.args.form.now v.child v.parent v.at_most v.body c.deref-in-ForEach.result.now c.decreases c.deref-in-ForEach.ensures.value (omega arith) v.is,
-      (c.requires, (c.in_ok-repetition-in-ForEach.ensures.repetition, c.in_ok-repetition-in-ForEach.ensures.depth)),
+      (c.requires, (c.in_ok-repetition-in-ForEach.ensures.repetition, (c.in_ok-repetition-in-ForEach.ensures.depth, c.in_ok-repetition-in-ForEach.ensures.fresh))),
     )
 
 pub turns-repeated-requires-clause-at : goal.turns-repeated-requires-clause-at
@@ -190,7 +191,7 @@ turns-repeated-requires-clause-at t c =
     let new : View = record (view_of c.return_to.new.self) { loops = c.saturating_sub-self.result } in
     let same : new ≡ view_of c.args.self.now.scope =
     loop_back (view_of c.args.self.now.scope) (view_of c.begin.new.self.scope) (view_of c.block.new.self.scope) (view_of c.return_to.new.self) c.mark-mark.result.local c.saturating_sub-self.result
-    begun.extends c.in_ok-body.ensures.scope mark.local left.meanings left.fields left.local (left.values ∙ mark.values) (left.nodes ∙ mark.nodes) left.loops begun.loops (omega arith) in
+    begun.extends c.in_ok-body.ensures.scope mark.local left.meanings left.fields left.procedures left.local (left.values ∙ mark.values) (left.nodes ∙ mark.nodes) left.loops begun.loops (omega arith) in
     subst (λ v. IsAt v c.args.held) (sym same) c.requires.at
 
 pub turns-repeated-requires-clause-repetition : goal.turns-repeated-requires-clause-repetition
@@ -201,7 +202,7 @@ turns-repeated-requires-clause-repetition t c =
     let new : View = record (view_of c.return_to.new.self) { loops = c.saturating_sub-self.result } in
     let same : new ≡ view_of c.args.self.now.scope =
     loop_back (view_of c.args.self.now.scope) (view_of c.begin.new.self.scope) (view_of c.block.new.self.scope) (view_of c.return_to.new.self) c.mark-mark.result.local c.saturating_sub-self.result
-    begun.extends c.in_ok-body.ensures.scope mark.local left.meanings left.fields left.local (left.values ∙ mark.values) (left.nodes ∙ mark.nodes) left.loops begun.loops (omega arith) in
+    begun.extends c.in_ok-body.ensures.scope mark.local left.meanings left.fields left.procedures left.local (left.values ∙ mark.values) (left.nodes ∙ mark.nodes) left.loops begun.loops (omega arith) in
     subst (λ v. IsRepetition v c.args.held c.args.repetition) (sym same) c.requires.repetition
 
 pub turns-returns-clause-scope : goal.turns-returns-clause-scope
@@ -213,7 +214,7 @@ turns-returns-clause-scope t c =
     let new : View = record (view_of c.return_to.new.self) { loops = c.saturating_sub-self.result } in
     let same : new ≡ old =
     loop_back old (view_of c.begin.new.self.scope) (view_of c.block.new.self.scope) (view_of c.return_to.new.self) c.mark-mark.result.local c.saturating_sub-self.result
-    begun.extends c.in_ok-body.ensures.scope mark.local left.meanings left.fields left.local (left.values ∙ mark.values) (left.nodes ∙ mark.nodes) left.loops begun.loops (omega arith) in
+    begun.extends c.in_ok-body.ensures.scope mark.local left.meanings left.fields left.procedures left.local (left.values ∙ mark.values) (left.nodes ∙ mark.nodes) left.loops begun.loops (omega arith) in
     on_ok c.repeated.result (new ≡ old) same
 
 -- ---- the core forms are those of the text
@@ -299,10 +300,27 @@ handled-returns-clause-entering t c =
 pub first_block-returns-clause-entering : goal.first_block-returns-clause-entering
 first_block-returns-clause-entering t c = λ entrance. entering_as (c.in_ok-inside.ensures.entered entrance) refl c.in_ok-first.ensures.entering
 
+pub turns-repeated-requires-clause-before : goal.turns-repeated-requires-clause-before
+turns-repeated-requires-clause-before t c =
+    let scope : View = view_of c.args.self.now.scope in
+    let d = c.descended.ensures in
+    turns_begin scope c.args.held c.forgetting-start.result c.args.repetition c.args.body.now c.descended.result c.in_ok-body.body c.requires.at.names c.requires.repetition
+    (λ n le. d.beyond c.requires.at.names n le) (λ names parts n k lt are. d.nodes names parts n k lt are)
+    (subst (λ n. IsBlock n c.args.body.now c.in_ok-body.body) c.in_ok-inside.ensures.named c.in_ok-body.ensures.named) c.forgetting-start.ensures.entered c.forgetting-start.ensures.passed
+
 pub turns-repeated-requires-clause-entering : goal.turns-repeated-requires-clause-entering
 turns-repeated-requires-clause-entering t c =
-    entering_as (c.in_ok-inside.ensures.entered ∙ c.forgetting-start.ensures.entered) c.in_ok-flow.ensures.entered c.in_ok-body.ensures.entering
+    let inside = c.in_ok-inside.ensures in
+    entering_as (ap₂ (λ e p. record { entered = e; passed = p }) inside.entered inside.passed) c.in_ok-flow.ensures.entered c.in_ok-body.ensures.entering
 
 pub turns-repeated-requires-clause-once : goal.turns-repeated-requires-clause-once
-turns-repeated-requires-clause-once t c =
-    subst (λ e. IfSome (entered_of c.in_ok-flow.flow).after (λ f. f ≡ true → e ≡ true)) c.forgetting-start.ensures.entered c.in_ok-flow.ensures.once
+turns-repeated-requires-clause-once t c = c.in_ok-flow.ensures.once
+
+pub turns-repeated-requires-clause-block : goal.turns-repeated-requires-clause-block
+turns-repeated-requires-clause-block t c = block_is_no_walk c.in_ok-body.ensures.named
+
+pub refusal-returns-clause-block : goal.refusal-returns-clause-block
+refusal-returns-clause-block t c = block_is_no_break c.in_ok-statement.ensures.named
+
+pub statement-chosen-requires-clause-block : goal.statement-chosen-requires-clause-block
+statement-chosen-requires-clause-block t c = block_is_no_break c.in_ok-second-in-If.ensures.named

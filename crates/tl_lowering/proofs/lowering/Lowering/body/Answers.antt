@@ -1,6 +1,7 @@
 use Rattle.std.proofs.Common.{refl, ap, subst}
 use Rattle.tl_lowering.specs.declared.paths.TheConstants.Held.{NOTHING}
 use Rattle.tl_lowering.specs.Names.{names_in}
+use Rattle.tl_lowering.specs.Paths.{bits}
 use Rattle.tl_lowering.specs.Scopes.{view_of, IsLowered}
 use Rattle.tl_lowering.proofs.BodyLemmas.{body_sound}
 use Rattle.tl_lowering.proofs.EnterLemmas.{body_enters}
@@ -28,4 +29,5 @@ returns-clause-sound c =
     (subst (λ v. IsLowered v NOTHING h.handled h._flow) c.in_ok-lowered.ensures.scope h.ensures.lowered) c.in_ok-handled-2.ensures c.in_ok-boxed.ensures
 
 pub returns-clause-enters : goal.returns-clause-enters
+unfolding bits
 returns-clause-enters c = body_enters _ c.in_ok-handled.handled c.in_ok-handled-2.handled.value c.in_ok-boxed.field-0.value c.in_ok-handled-2.ensures c.in_ok-boxed.ensures c.in_ok-handled.ensures.entering.once

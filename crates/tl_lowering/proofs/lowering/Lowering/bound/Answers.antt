@@ -1,3 +1,4 @@
+use Rattle.tl_lowering.specs.Entering.{before_of}
 use Rattle.std.proofs.Common.{Some, ◌∙◌, ap₂}
 use Rattle.tl_lowering.specs.Paths.{Paths, nodes_of}
 use Rattle.tl_lowering.proofs.LeaveLemmas.{leaves_here}
@@ -36,7 +37,7 @@ returns-in_ok-declare-in-Nodes-clause-named c = λ form opening other.
     nodes_opens c.args.otherwise c.in_ok-declare-in-Nodes.ensures.named c.refused-statement.ensures.named leaves (rw c.in-Nodes.is at opening) other
 
 pub returns-in_default-clause-entering : goal.returns-in_default-clause-entering
-returns-in_default-clause-entering c = record { once = tt; paths = failing_as c.may_fail.result c.args.held.is_entered c.may_fail.ensures c.on.ensures.entered c.failing_if-flow.ensures.entered }
+returns-in_default-clause-entering c = record { once = tt; paths = failing_as c.may_fail.result (before_of c.args.held) c.may_fail.ensures c.on.ensures.entered c.failing_if-flow.ensures.entered }
 
 pub returns-in-Some-clause-entering : goal.returns-in-Some-clause-entering
 returns-in-Some-clause-entering c =
@@ -46,4 +47,4 @@ returns-in-Some-clause-entering c =
 pub returns-in_ok-declare-in-Nodes-clause-entering : goal.returns-in_ok-declare-in-Nodes-clause-entering
 returns-in_ok-declare-in-Nodes-clause-entering c =
     let refusal = c.refused-statement.ensures.refusal (view_of c.args.self.now.scope) c.requires.otherwise in
-    nodes_entering c.in-Nodes.locking (rw c.in-Nodes.is at c.requires.entering) (c.refused-statement.ensures.entering c.requires.refused) refusal.ends c.going_on-flow.ensures.entered
+    nodes_entering c.in-Nodes.locking (rw c.in-Nodes.is at c.requires.entering) (c.refused-statement.ensures.entering c.requires.refused) (c.refused-statement.ensures.block c.requires.block) refusal.ends c.going_on-flow.ensures.entered

@@ -1,3 +1,4 @@
+use Rattle.tl_lowering.specs.Entering.{before_of}
 use Rattle.std.proofs.Common.{◌≡◌, ◌++◌, ◌∷◌, [], arith, rules, subst, sym}
 use Rattle.std.proofs.lemmas.List.{take_all}
 use Rattle.tl_lowering.specs.declared.program.Statement.TheVariants as S
@@ -23,7 +24,7 @@ loop-value-preserved c =
     record {
       named = more_emits c.args.values.now c.loop-value.value-index c.value-item.result (omega arith) c.value-item.is more c.loop-value.invariant.named c.in_ok-number.ensures.named c.in_ok-number.ensures.room;
       entering =
-          subst (λ xs. HasEmitted c.args.held.is_entered xs c.failing_if-flow.result) (sym more)
+          subst (λ xs. HasEmitted (before_of c.args.held) xs c.failing_if-flow.result) (sym more)
           (one_emitted c.in_ok-number.number c.may_fail.result c.loop-value.invariant.entering c.may_fail.ensures c.failing_if-flow.ensures.entered);
       order =
           subst (λ xs. AreEmitted scope c.args.held xs c.failing_if-flow.result) (sym more)

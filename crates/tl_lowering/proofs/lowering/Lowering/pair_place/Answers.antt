@@ -1,9 +1,11 @@
+use Rattle.tl_lowering.specs.Entering.{before_of}
+use Rattle.tl_lowering.specs.Sets.{without_node}
 use Rattle.std.proofs.Common.{◌≡◌, ◌+◌, ◌∙◌, refl, ap, subst, arith, rules}
 use Rattle.tl_lowering.specs.declared.scope.Meaning.TheVariants as M
 use Rattle.tl_lowering.specs.Names.{names_of}
 use Rattle.tl_lowering.specs.Registers.{HasRegisters}
 use Rattle.tl_lowering.proofs.RegisterLemmas.{free_behind}
-use Rattle.tl_lowering.proofs.EnterLemmas.{child_enters}
+use Rattle.tl_lowering.proofs.EnterLemmas.{pair_enters}
 use Rattle.tl_lowering.proofs.NumberLemmas.{new_beside, pair_locks}
 use Rattle.tl_lowering.proofs.lowering.Lowering.pair_place.Goals as goal
 
@@ -17,4 +19,9 @@ returns-clause-named c =
     (subst (HasRegisters c.in_ok-second_number.second_number) free c.in_ok-second_number.ensures.room)
 
 pub returns-clause-entering : goal.returns-clause-entering
-returns-clause-entering c = child_enters c.args.held.is_entered _ refl (c.with-2.ensures.entered ∙ c.with.ensures.entered ∙ c.visiting.ensures.entered)
+returns-clause-entering c =
+    let first = c.in_ok-register.register in
+    let second = c.in_ok-second_register.second_register in
+    pair_enters (before_of c.args.held) _ first second c.in_ok-parent.parent c.in_ok-first_number.first_number c.in_ok-second_number.second_number refl
+    (c.with-2.ensures.entered ∙ c.with.ensures.entered ∙ c.visiting.ensures.entered)
+    (c.with-2.ensures.passed ∙ ap (λ p. without_node p second) (c.with.ensures.passed ∙ ap (λ p. without_node p first) c.visiting.ensures.passed))

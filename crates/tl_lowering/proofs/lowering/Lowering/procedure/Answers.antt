@@ -1,6 +1,6 @@
 use Rattle.std.proofs.Common.{◌≡◌, ◌∙◌, ℕ, ◌+◌, Vec, Global, sym, ap, ap₂, subst, refl, arith, length, get_or, []}
 use Rattle.tl_syntax.specs.Tokens.{spellings}
-use Rattle.tl_lowering.specs.Names.{Names, names_in, names_of, with_values, AreNew}
+use Rattle.tl_lowering.specs.Names.{Names, names_of, with_procedure, with_values, AreNew}
 use Rattle.tl_lowering.specs.declared.paths.TheConstants.Held.{NOTHING}
 use Rattle.tl_lowering.specs.Reading.{IsBody}
 use Rattle.tl_lowering.specs.Scopes.{view_of}
@@ -20,16 +20,16 @@ returns-clause-named c =
       | in-None w ↦
           ap (λ (v : Vec ℕ Global). v.items) w.name-is ∙ w.new-name.ensures.items ∙ sym (spelling_none c.args.names.now.keys c.args.procedure.now.name.symbol.0 (sym w.in-None.ensures.key))
     ] in
-    let old = names_of c.args.self.now.scope in
+    let old = with_procedure (names_of c.args.self.now.scope) c.args.procedure.now.name in
     let arguments = c.args.procedure.now.arguments.items in
     let named : names_of c.declare_arguments.new.self.scope ≡ with_values old arguments =
-    c.in_ok-declare_arguments.ensures.named ∙ ap₂ with_values (ap names_in c.declare_procedure.ensures) c.deref.ensures.value in
+    c.in_ok-declare_arguments.ensures.named ∙ ap₂ with_values c.in_ok-declare_procedure.ensures.named c.deref.ensures.value in
     let many : c.declare_arguments.new.self.scope.values ≡ c.args.self.now.scope.values + length arguments = ap (λ (n : Names). n.values) named ∙ count_values old arguments in
     record {
       name = name;
       offset = refl;
       arity = omega (arith, many, c.requires.values);
-      arguments = subst (AreNew old) c.deref.ensures.value (subst (λ n. AreNew n c.deref.result.now) (ap names_in c.declare_procedure.ensures) c.in_ok-declare_arguments.ensures.fresh);
+      arguments = subst (AreNew old) c.deref.ensures.value (subst (λ n. AreNew n c.deref.result.now) c.in_ok-declare_procedure.ensures.named c.in_ok-declare_arguments.ensures.fresh);
       body = subst (λ n. IsBody n c.args.procedure.now c.in_ok-body.body) named c.in_ok-body.ensures.named;
     }
 

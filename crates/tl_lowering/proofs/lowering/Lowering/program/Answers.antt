@@ -46,7 +46,7 @@ loop-declaration-preserved c =
           rw (w.self-is, w.procedures-is) (record {
             named =
                 procedure_more (names_of w.procedure.new.self.scope) ps xs i x (omega arith) c.declaration-item.is so_far.named w.push.new.self.items w.in-Procedure.is
-                w.in_ok-procedure-in-Procedure.ensures.named w.in_ok-procedure-in-Procedure.ensures.names w.in_ok-push-in-Procedure.ensures.items;
+                w.in_ok-procedure-in-Procedure.ensures.fresh w.in_ok-procedure-in-Procedure.ensures.named w.in_ok-procedure-in-Procedure.ensures.names w.in_ok-push-in-Procedure.ensures.items;
             bare = w.in_ok-procedure-in-Procedure.ensures.scope;
             procedures =
                 subst (All (λ (p : Procedure). IsWord p.name.items → IsInOrder p)) (sym w.in_ok-push-in-Procedure.ensures.items)

@@ -1,5 +1,6 @@
+use Rattle.tl_lowering.specs.Entering.{before_of}
 use Rattle.std.proofs.Common.{◌∙◌, ap, true}
-use Rattle.tl_lowering.specs.Fit.{failing_entered}
+use Rattle.tl_lowering.specs.Passing.{failing_entered}
 use Rattle.tl_lowering.proofs.EnterLemmas.{require_entering}
 use Rattle.tl_lowering.specs.Scopes.{view_of}
 use Rattle.tl_lowering.proofs.NamingLemmas.{lowered_require}
@@ -13,6 +14,6 @@ returns c = record {
       lowered_require (view_of c.args.self.now.scope) c.args.held c.in_ok-condition.condition c.in_ok-skip.skip.value c.in_ok-fail.fail.value c.on.result c.failing-flow.result
       c.in_ok-skip.ensures c.in_ok-fail.ensures c.in_ok-condition.ensures.testable c.on.ensures.paths c.failing-flow.ensures.paths;
   entering =
-      require_entering c.args.held.is_entered c.in_ok-condition.condition c.in_ok-skip.skip.value c.in_ok-fail.fail.value c.in_ok-skip.ensures c.in_ok-fail.ensures
-      (c.failing-flow.ensures.entered ∙ ap (failing_entered true c.args.held.is_entered) c.on.ensures.entered);
+      require_entering (before_of c.args.held) c.in_ok-condition.condition c.in_ok-skip.skip.value c.in_ok-fail.fail.value c.in_ok-skip.ensures c.in_ok-fail.ensures
+      (c.failing-flow.ensures.entered ∙ ap (failing_entered true (before_of c.args.held)) c.on.ensures.entered);
 }

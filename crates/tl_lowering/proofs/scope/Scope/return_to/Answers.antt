@@ -11,6 +11,7 @@ loop-self-preserved-in-Some c =
           pops_meanings c.args.mark.local old c.set.new.self.local.items c.in-Some.symbol c.loop-self.self.meanings.items c.set.new.self.meanings.items (search rules) below (search rules)
           ∙ c.loop-self.invariant.meanings;
       fields = c.set.ensures.fields ∙ c.loop-self.invariant.fields;
+      procedures = c.set.ensures.procedures ∙ c.loop-self.invariant.procedures;
       local = pops_local c.args.mark.local old c.set.new.self.local.items c.in-Some.symbol (search rules) below ∙ c.loop-self.invariant.local;
       loops = search rules;
     }

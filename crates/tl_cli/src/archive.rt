@@ -1,0 +1,176 @@
+// The generations of a server that lasts: its engines are closed, what they did is written, and the next ones are opened.
+
+ghost use Rattle.std.specs.Prelude.{IsTrue, OnOk};
+
+use crate::trail_file::TrailFile;
+use crate::{
+    CliFault, Generation, close_generation, keep_generation, next_engine, take_generation,
+};
+use std::alloc::Global;
+use std::rt::Files;
+use tl_generations::Succession;
+use tl_server::Keeper;
+use tl_tree::write_tree;
+use tl_workers::{Engine, Session};
+
+/// Where the trails of the generations go.
+#[derive(Drop)]
+pub enum Trails {
+    Nowhere,
+    /// All into this file: there is one generation.
+    File(String),
+    /// Into this folder, a file for each generation.
+    Folder(String),
+}
+
+/// What a server's engines did, once all are closed.
+pub trait Finish {
+    /// Takes and writes what the last engine did, if that isn't done yet. Answers how many engines were closed, and the text of the
+    /// tree that the last one left. 831 if an engine didn't close, or didn't begin with what the one before left.
+    fn finish(&mut self, alloc: Global) -> Result<(u64, String), CliFault>;
+
+    /// Why a file wasn't written, of the first one that wasn't.
+    fn unwritten(&self) -> Option<CliFault>;
+}
+
+/// Closes the engines of a server, writes what each did, and opens the next.
+#[derive(Drop)]
+pub struct Archive<R> {
+    rt: R,
+    trails: Trails,
+    succession: Succession,
+    // How many engines were closed.
+    count: u64,
+    // What the last one did, until it is written; and whether the succession has taken it.
+    closed: Option<Generation>,
+    is_taken: bool,
+    // Why the server can't go on, if it can't.
+    broken: Option<CliFault>,
+    // Why a file wasn't written, of the first one that wasn't.
+    unwritten: Option<CliFault>,
+}
+
+impl<R: Files + Eprint> Archive<R> {
+    pub fn new(rt: R, trails: Trails, succession: Succession) -> Archive<R> {
+        Archive {
+            rt,
+            trails,
+            succession,
+            count: 0,
+            closed: None,
+            is_taken: false,
+            broken: None,
+            unwritten: None,
+        }
+    }
+
+    // Takes what the last engine did into the succession, if that isn't done yet. If memory is refused it may be tried again.
+    fn take(&mut self, alloc: Global) -> Result<(), CliFault>
+        ensures { OnOk result (IsTrue self.new.is_taken) }
+    {
+        if self.is_taken {
+            return Ok(());
+        }
+        let Some(closed) = &self.closed else {
+            return Err(CliFault::NotClosed);
+        };
+        take_generation(alloc, closed, &mut self.succession)?;
+        self.is_taken = true;
+        Ok(())
+    }
+
+    // Writes what the last engine did, if that isn't done yet.
+    fn keep_closed(&mut self, alloc: Global) {
+        let Some(generation) = self.closed.take() else {
+            return;
+        };
+        if let Err(fault) = self.write(alloc, &generation) {
+            let _shown = eprintln!(&self.rt;
+                "treedb: the trails of a generation were not written: {fault}"
+            );
+            if self.unwritten.is_none() {
+                self.unwritten = Some(fault);
+            }
+        }
+    }
+
+    // Writes what an engine did, the one of this number.
+    fn write(&self, alloc: Global, generation: &Generation) -> Result<(), CliFault> {
+        match &self.trails {
+            Trails::Nowhere => Ok(()),
+            Trails::File(path) => self.write_file(alloc, path.as_str(), generation),
+            Trails::Folder(folder) => {
+                let number = self.count.saturating_sub(1);
+                let path = format!(in alloc; "{folder}/{number}.json")?;
+                self.write_file(alloc, path.as_str(), generation)
+            }
+        }
+    }
+
+    fn write_file(
+        &self,
+        alloc: Global,
+        path: &str,
+        generation: &Generation,
+    ) -> Result<(), CliFault> {
+        let mut file = TrailFile::new(&self.rt, path);
+        let written = keep_generation(alloc, generation, &mut file);
+        if let Some(reason) = file.into_reason() {
+            let _shown = eprintln!(&self.rt; "treedb: {path} can't be written: {reason}");
+        }
+        written
+    }
+}
+
+impl<R: Files + Eprint> Finish for Archive<R> {
+    fn finish(&mut self, alloc: Global) -> Result<(u64, String), CliFault> {
+        if let Some(fault) = self.broken {
+            return Err(fault);
+        }
+        self.take(alloc)?;
+        self.keep_closed(alloc);
+        match write_tree(alloc, self.succession.last().tree()) {
+            Ok(tree) => Ok((self.count, tree)),
+            Err(fault) => Err(CliFault::Tree(fault)),
+        }
+    }
+
+    fn unwritten(&self) -> Option<CliFault> {
+        self.unwritten
+    }
+}
+
+impl<R: Files + Eprint> Keeper for Archive<R> {
+    ghost use Rattle.std.specs.Prelude.{IsTrue};
+
+    ghost has_closed = { λ a. IsTrue a.is_taken };
+
+    fn close(&mut self, engine: Engine, sessions: Vec<Session>) {
+        match close_generation(engine, sessions) {
+            Ok(generation) => {
+                self.closed = Some(generation);
+                self.is_taken = false;
+                self.count = self.count.saturating_add(1);
+            }
+            Err(fault) => self.broken = Some(fault),
+        }
+    }
+
+    fn open(&mut self, alloc: Global) -> Option<Engine> {
+        if self.broken.is_some() {
+            return None;
+        }
+        match self.take(alloc) {
+            Ok(()) => next_engine(alloc, &self.succession).ok(),
+            Err(CliFault::NotClosed) => {
+                self.broken = Some(CliFault::NotClosed);
+                None
+            }
+            Err(_) => None,
+        }
+    }
+
+    fn keep(&mut self, alloc: Global) {
+        self.keep_closed(alloc);
+    }
+}

@@ -1,0 +1,24 @@
+-- What the command `serve` does where engines take over from one another.
+use Rattle.std.specs.Prelude.{◌≡◌, ◌≢◌, ℕ, List, [], Ok}
+use Rattle.tl_tree.specs.Trees.{TreeValue}
+use Rattle.tl_tree.specs.Reading.{tree_of_text}
+use Rattle.tl_table.specs.Epochs.{EpochValue}
+use Rattle.tl_generations.specs.Generations.{LegacyValue, SuccessionValue, TakesUpFirst}
+use Rattle.tl_commands.specs.declared.fault.CliFault.{CliFault}
+use Rattle.tl_commands.specs.declared.fault.CliFault.TheVariants.{NotClosed}
+use Rattle.tl_commands.specs.Faults.{status_of}
+
+-- what the first engine begins with: a tree, and no procedure
+abbrev pub first_legacy : TreeValue → LegacyValue
+first_legacy t = record { parents = t.parents; records = t.records; procedures = [] }
+
+-- the file has a tree, and nothing came after it yet
+pub record BeginsWithFile (file : List ℕ) (s : SuccessionValue) : Type 0 where
+  pub tree : TreeValue
+  pub text : tree_of_text file ≡ Ok tree
+  pub first : s.first ≡ first_legacy tree
+  pub last : s.last ≡ first_legacy tree
+
+-- the epochs didn't begin with what was left, or want of memory
+abbrev pub IsTurnFault : SuccessionValue → List EpochValue → CliFault → Type 0
+IsTurnFault s es e = status_of e ≢ 4 → (e ≡ NotClosed) × ¬ TakesUpFirst s.last es

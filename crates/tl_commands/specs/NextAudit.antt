@@ -1,0 +1,57 @@
+-- What the audit of one file more prints, where several files belong together, and when it answers which fault.
+use Rattle.std.specs.Prelude.{◌≡◌, ◌≢◌, ◌⊎◌, ℕ, Bool, true, false, List, [], ◌∷◌, ◌++◌, map, Option, Some, IsUtf8}
+use Rattle.serde_json.specs.Written.{compact_text}
+use Rattle.tl_json.specs.Lists.{orders_data}
+use Rattle.tl_trail.specs.Trails.{TrailValue}
+use Rattle.tl_trail.specs.Reading.{IsTrailText, IsFirstTrailFault}
+use Rattle.tl_trail.specs.Chains.{IsChainText, IsFirstChainFault}
+use Rattle.tl_trail.specs.declared.fault.TrailFault.{TrailFault}
+use Rattle.tl_trail.specs.declared.fault.TrailFault.TheVariants.{NotTrail}
+use Rattle.tl_audit.specs.Chains.{AreSerial, CleanAfter, IsFirstAfter, last_after, order_of}
+use Rattle.tl_audit.specs.declared.chain.ChainFault.{ChainFault}
+use Rattle.tl_audit.specs.declared.chain.ChainFault.TheVariants.{InEpoch}
+use Rattle.tl_commands.specs.declared.fault.CliFault.{CliFault}
+use Rattle.tl_commands.specs.declared.fault.CliFault.TheVariants.{Trail, Audit, Chain}
+use Rattle.tl_commands.specs.Audit.{begins_with_list}
+use Rattle.tl_commands.specs.Faults.{status_of}
+
+-- the trails of a text: of a list those of a chain, of any other text the only one
+abbrev pub AreTrailsOf : Bool → List ℕ → List TrailValue → Type 0
+AreTrailsOf true bytes ts = IsChainText bytes ts
+AreTrailsOf false bytes ts = (t : TrailValue) × (ts ≡ t ∷ []) × IsTrailText bytes t
+
+-- what is wrong with such a text first
+abbrev pub IsTextFault : Bool → List ℕ → TrailFault → Type 0
+IsTextFault true bytes f = IsFirstChainFault bytes f
+IsTextFault false bytes f = IsFirstTrailFault bytes f
+
+-- of a list a fault is told with the number of its trail, of any other text as that of its only trail
+abbrev pub fault_of_file : Bool → ChainFault → CliFault
+fault_of_file false (InEpoch n f) = Audit f
+fault_of_file is_list f = Chain f
+
+-- The trails of the file take over from the trail before, if there is one, and are clean. What is printed are the orders that their events
+-- give; all calls of the file, run alone one after another along them, leave the records in the end, and give their replies. The next file
+-- has to take over from the last trail.
+pub record AuditsNext (before : Option TrailValue) (bytes out : List ℕ) (last : TrailValue) : Type 0 where
+  pub utf8 : IsUtf8 bytes
+  pub trails : List TrailValue
+  pub text : AreTrailsOf (begins_with_list bytes) bytes trails
+  pub clean : CleanAfter before trails
+  pub serial : AreSerial trails (map order_of trails)
+  pub ends : last_after before trails ≡ Some last
+  pub same : out ≡ compact_text (orders_data (map order_of trails)) ++ 10 ∷ []
+
+-- the text's first fault
+abbrev pub IsUnread : List ℕ → CliFault → Type 0
+IsUnread bytes e = (f : TrailFault) × (e ≡ Trail f) × IsTextFault (begins_with_list bytes) bytes f
+
+-- the first fault of the text's trails, of which the first doesn't take over, or is wrong, or else a later one
+abbrev pub IsUnclean : Option TrailValue → List ℕ → CliFault → Type 0
+IsUnclean before bytes e =
+    (ts : List TrailValue) × (f : ChainFault) × (e ≡ fault_of_file (begins_with_list bytes) f) × AreTrailsOf (begins_with_list bytes) bytes ts × IsFirstAfter 0 before ts f
+
+-- 701 where the bytes are no UTF-8, else the first fault of the text, else of its trails; or want of memory
+abbrev pub IsFirstNextFault : Option TrailValue → List ℕ → CliFault → Type 0
+IsFirstNextFault before bytes e = status_of e ≢ 4 →
+    ((e ≡ Trail NotTrail) × (IsUtf8 bytes → ⊥)) ⊎ (IsUtf8 bytes × (IsUnread bytes e ⊎ IsUnclean before bytes e))

@@ -1,0 +1,164 @@
+// The command `serve` where engines take over from one another: what is done when one has used up its epochs.
+
+ghost use Rattle.std.specs.Prelude.{◌≡◌, [], true, IfOk, OnOk, IfErr, OnErr, All};
+ghost use Rattle.tl_table.specs.Tables.{IsChain};
+ghost use Rattle.tl_workers.specs.Matching.{Matches};
+ghost use Rattle.tl_workers.specs.Sessions.{AreAllOf, AskForEachOnce, FindsItsWrites};
+ghost use Rattle.tl_generations.specs.Generations.{TakesTurn};
+ghost use Rattle.tl_commands.specs.declared.fault.CliFault.TheVariants.{NotClosed};
+ghost use Rattle.tl_commands.specs.Faults.{status_of};
+ghost use Rattle.tl_commands.specs.Generations.{BeginsWithFile, IsTurnFault};
+ghost use Rattle.tl_commands.specs.Serve.{IsConclusionFault, IsOpeningFault};
+ghost use Rattle.tl_commands.specs.Sinks.{FilesTrails, IsSinkFault};
+
+use crate::fault::CliFault;
+use crate::outputs::put_trails;
+use crate::serving::{close_engine, core_of_file};
+use crate::sink::TrailSink;
+use std::alloc::Global;
+use std::marker::Model;
+use tl_core::Core;
+use tl_generations::Succession;
+use tl_table::Closed;
+use tl_workers::{Engine, Session};
+
+/// The epochs of an engine that was closed. By its type they follow on one another.
+#[derive(Debug, Drop)]
+pub struct Generation {
+    chain: Vec<Closed>,
+}
+
+impl Model for Generation {
+    ghost use Rattle.std.specs.Prelude.{List};
+    ghost use Rattle.tl_table.specs.Epochs.{EpochValue};
+    ghost use Rattle.tl_table.specs.Tables.{IsChain};
+
+    ghost Value = { List EpochValue };
+
+    ghost view = { λ g. g.chain.items };
+
+    ghost invariant = { λ g. IsChain g.chain.items };
+}
+
+impl Generation {
+    /// The epochs, in their order.
+    pub fn chain(&self) -> &[Closed]
+        ensures same { result.now ≡ self.now }
+        ensures chain { IsChain self.now }
+    {
+        self.chain.as_slice()
+    }
+}
+
+/// The first engine of a line of engines, for calls on the tree of a file, without procedures; and the succession, which begins with that
+/// tree. The engine seals its epochs by itself. Takes the bytes of the file.
+///
+/// 106 (also if the tree isn't UTF-8), 101 to 105. If memory was refused, 190, 690, 890 or 990.
+pub fn open_generations(alloc: Global, tree: &[u8]) -> Result<(Engine, Succession), CliFault>
+    ensures seals { IfOk result (λ r. r.0.seals ≡ true) }
+    ensures opened { IfOk result (λ r. BeginsWithFile tree.now r.1) }
+    ensures fault { IfErr result (λ e. IsOpeningFault tree.now e) }
+{
+    let core = core_of_file(alloc, tree)?;
+    let succession = Succession::new(alloc, &core)?;
+    match sealing_engine(alloc, core) {
+        Ok(engine) => Ok((engine, succession)),
+        Err(fault) => Err(fault),
+    }
+}
+
+// An engine for a core that has no calls yet, which seals its epochs by itself.
+fn sealing_engine(alloc: Global, core: Core) -> Result<Engine, CliFault>
+    requires { core.seen.calls ≡ [] }
+    ensures seals { IfOk result (λ e. e.seals ≡ true) }
+    ensures fault { IfErr result (λ e. status_of e ≡ 4) }
+{
+    match Engine::of_core(alloc, core) {
+        Ok(engine) => Ok(engine.that_seals()),
+        Err(refusal) => Err(CliFault::Engine(refusal)),
+    }
+}
+
+/// Closes an engine with all its sessions. 831 if it doesn't close: a call is unfinished, or a session's list isn't what the table says.
+/// Takes no memory.
+pub fn close_generation(engine: Engine, sessions: Vec<Session>) -> Result<Generation, CliFault>
+    ensures chain { IfOk result (λ g. IsChain g) }
+    ensures matches { IfOk result (λ g. All (Matches g) sessions.items) }
+    ensures once { IfOk result (λ g. AreAllOf g sessions.items → AskForEachOnce g sessions.items) }
+    ensures writes { IfOk result (λ g. All (FindsItsWrites g) sessions.items) }
+    ensures fault { IfErr result (λ e. e ≡ NotClosed) }
+{
+    match close_engine(engine, sessions) {
+        Ok(chain) => Ok(Generation { chain }),
+        Err(fault) => Err(fault),
+    }
+}
+
+/// Takes an engine's epochs as the next generation. 831 if they didn't begin with what the one before left. 990 if memory was refused; it
+/// may be tried again.
+pub fn take_generation(
+    alloc: Global,
+    generation: &Generation,
+    succession: &mut Succession,
+) -> Result<(), CliFault>
+    ensures turn { OnOk result (TakesTurn succession.old generation.now succession.new) }
+    ensures err { OnErr result (succession.new ≡ succession.old) }
+    ensures fault { IfErr result (λ e. IsTurnFault succession.old generation.now e) }
+{
+    match succession.take(alloc, generation.chain()) {
+        Ok(true) => Ok(()),
+        Ok(false) => Err(CliFault::NotClosed),
+        Err(_) => Err(CliFault::Memory),
+    }
+}
+
+/// Closes an engine with all its sessions, and takes its epochs as the next generation. 831 if the engine doesn't close, since a call is
+/// unfinished or a session's list isn't what the table says; or if it didn't begin with what the one before left. 990 if memory was
+/// refused: the epochs are lost then, so whoever wants to try again calls `close_generation` and `take_generation`.
+pub fn end_generation(
+    alloc: Global,
+    engine: Engine,
+    sessions: Vec<Session>,
+    succession: &mut Succession,
+) -> Result<Generation, CliFault>
+    ensures chain { IfOk result (λ g. IsChain g) }
+    ensures matches { IfOk result (λ g. All (Matches g) sessions.items) }
+    ensures once { IfOk result (λ g. AreAllOf g sessions.items → AskForEachOnce g sessions.items) }
+    ensures writes { IfOk result (λ g. All (FindsItsWrites g) sessions.items) }
+    ensures turn { IfOk result (λ g. TakesTurn succession.old g succession.new) }
+    ensures err { OnErr result (succession.new ≡ succession.old) }
+    ensures fault { IfErr result (λ e. IsConclusionFault e) }
+{
+    let generation = close_generation(engine, sessions)?;
+    match take_generation(alloc, &generation, succession) {
+        Ok(()) => Ok(generation),
+        Err(fault) => Err(fault),
+    }
+}
+
+/// An engine that takes over: it has the tree and the procedures that were left, and no calls. It seals its epochs by itself. 690, 890 or
+/// 990 if memory was refused.
+pub fn next_engine(alloc: Global, succession: &Succession) -> Result<Engine, CliFault>
+    ensures seals { IfOk result (λ e. e.seals ≡ true) }
+    ensures fault { IfErr result (λ e. status_of e ≡ 4) }
+{
+    match succession.last().open(alloc) {
+        Ok(core) => sealing_engine(alloc, core),
+        Err(fault) => Err(CliFault::Core(fault)),
+    }
+}
+
+/// Puts into the sink the file of a generation's trails: the trail of its calls, or, if there are several epochs, the list of the trails
+/// of all, and a line feed. The text of only one trail is in memory at a time. 32 if that can't be written; if memory was refused, 790
+/// or 990.
+pub fn keep_generation<S: TrailSink>(
+    alloc: Global,
+    generation: &Generation,
+    sink: &mut S,
+) -> Result<(), CliFault>
+    ensures put { OnOk result (FilesTrails generation.now (S.text sink.old) (S.text sink.new)) }
+    ensures fine { OnOk result (S.failures sink.new ≡ S.failures sink.old) }
+    ensures fault { IfErr result (λ e. IsSinkFault (S.failures sink.old) (S.failures sink.new) (status_of e ≡ 4) e) }
+{
+    put_trails(alloc, generation.chain(), sink)
+}

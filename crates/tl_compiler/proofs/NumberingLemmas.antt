@@ -1,0 +1,119 @@
+-- What was read is numbered: each value has the next register.
+use Rattle.std.proofs.Common.{◌≡◌, ℕ, ◌+◌, ◌/◌, List, [], ◌∷◌, length, refl, ap, ◌∙◌, subst, arith}
+use Rattle.std.specs.List.{All}
+use Rattle.std.proofs.lemmas.List.Elements.{All-nil, All-cons, All-head, All-tail, All-push, All-take, All-drop}
+use Rattle.tl_syntax.specs.declared.parsed.Name.{Name}
+use Rattle.tl_syntax.specs.declared.parsed.Action.{Action}
+use Rattle.tl_syntax.specs.declared.parsed.Declaration.{Declaration}
+use Rattle.tl_syntax.specs.declared.parsed.Expression.{Expression as TextExpression}
+use Rattle.tl_syntax.specs.declared.parsed.Place.{Place as TextPlace}
+use Rattle.tl_syntax.specs.declared.parsed.Place.TheVariants as T
+use Rattle.tl_syntax.specs.declared.parsed.Procedure.{Procedure as TextProcedure}
+use Rattle.tl_syntax.specs.declared.parsed.Statement.{Statement as TextStatement}
+use Rattle.tl_syntax.specs.declared.parsed.StatementForm.{StatementForm}
+use Rattle.tl_lowering.specs.declared.program.Procedure.{Procedure}
+use Rattle.tl_lowering.specs.declared.program.Statement.{Statement}
+use Rattle.tl_lowering.specs.declared.program.Statement.TheVariants as S
+use Rattle.tl_lowering.specs.Names.{Names, with_values, with_place}
+use Rattle.tl_lowering.specs.Naming.{opposite, calculated, then, IsHalved, none, one, more, AreEmits, no_emits, next_emit, IsAction, assigns, writes, emits, requires, descends, takes, frees, breaks, returns, fails}
+use Rattle.tl_lowering.specs.Reading.{IsAtOffset, at, IsTried, tried, IsVisiting, visiting, IsBlock, block, AreStatements, no_more, next, let_rest, let_else, lock_rest, lock_else, IsStatement, act, act_else, try, if, if_lock, repeat, repeat_up_to, for_each, IsBody, IsProcedure, AreDeclared, none_declared, next_field, next_constant, next_procedure, IsProgram}
+use Rattle.tl_lowering.specs.Sound.{IsInOrder}
+use Rattle.tl_compiler.specs.Rooms.{IsNumbered, IsReady}
+
+handled : (d : ℕ) {a b whole : Statement} → IsNumbered a d → IsNumbered b d → IsTried a b whole → IsNumbered whole d
+handled d x y tried = (x, y)
+
+placed : (d : ℕ) {offset : ℕ} {a b : Statement} → IsNumbered a d → IsAtOffset offset a b → IsNumbered b d
+placed d x at = x
+
+halved : (d : ℕ) {whole : Statement} {xs : List Statement} → IsHalved whole xs → All (λ s. IsNumbered s d) xs → IsNumbered whole d
+halved d none h = tt
+halved d (one {a}) h = All-head (λ s. IsNumbered s d) a [] h
+halved d (more {xs = xs} long s t then) h =
+    (halved d s (All-take (λ s. IsNumbered s d) (length xs / 2) xs h), halved d t (All-drop (λ s. IsNumbered s d) (length xs / 2) xs h))
+
+walk : (d : ℕ) {child parent turns : ℕ} {body whole : Statement} → IsNumbered body (d + 1) → IsVisiting d child parent turns body whole → IsNumbered whole d
+walk d x (visiting opposite calculated then then) = ((tt, tt), (refl, (tt, (x, tt))))
+
+emitted : {names : Names} {xs : List TextExpression} {parts : List Statement} (d : ℕ) → AreEmits names xs parts → All (λ s. IsNumbered s d) parts
+emitted d no_emits = All-nil (λ s. IsNumbered s d)
+emitted d (next_emit {emits = so_far} {e = e} a before n has) = All-push (λ s. IsNumbered s d) so_far (S.Emit e) (emitted d before) tt
+
+action : {names : Names} {a : Action} {s : Statement} (d : ℕ) → IsAction names a s → IsNumbered s d
+action d (assigns e n c has) = tt
+action d (writes e f n c has) = tt
+action d (emits e) = halved d e.joined (emitted d e.each)
+action d (requires c) = (tt, tt)
+action d (descends room e n has) = tt
+action d (takes e f) = tt
+action d (frees e) = tt
+action d (breaks lt) = tt
+action d returns = tt
+action d fails = tt
+
+beside : (names : Names) (text : TextPlace) (a : Statement) → IsNumbered a (with_place names text).values → IsNumbered a names.values
+beside names (T.Node name offset number) a n = n
+beside names (T.Child c) a n = n
+beside names (T.Pair c d) a n = n
+
+mutual
+  in_block : {names : Names} {xs : List TextStatement} {s : Statement} → IsBlock names xs s → IsNumbered s names.values
+  in_block {names} (block are j) = halved names.values j (in_statements are)
+
+  in_statements : {names : Names} {xs : List TextStatement} {parts : List Statement} → AreStatements names xs parts → All (λ s. IsNumbered s names.values) parts
+  in_statements {names} no_more = All-nil (λ s. IsNumbered s names.values)
+  in_statements {names} (next {b = b} {parts = parts} s a rest reached) =
+      All-cons (λ s. IsNumbered s names.values) b parts (placed names.values (in_statement s) a) (in_statements rest)
+  in_statements {names} (let_rest {a = a} f new room n has body o) =
+      All-cons (λ s. IsNumbered s names.values) a [] (placed names.values (refl, in_block body) o) (All-nil (λ s. IsNumbered s names.values))
+  in_statements {names} (let_else {a = a} f new room n has other leaves body o) =
+      All-cons (λ s. IsNumbered s names.values) a [] (placed names.values (refl, in_block body, in_block other) o) (All-nil (λ s. IsNumbered s names.values))
+  in_statements {names} (lock_rest {text = text} {body = body} {a = a} f place b o) =
+      All-cons (λ s. IsNumbered s names.values) a [] (placed names.values (beside names text body (in_block b), tt) o) (All-nil (λ s. IsNumbered s names.values))
+  in_statements {names} (lock_else {text = text} {body = body} {a = a} f place other leaves b o) =
+      All-cons (λ s. IsNumbered s names.values) a [] (placed names.values (beside names text body (in_block b), in_block other) o) (All-nil (λ s. IsNumbered s names.values))
+
+  in_statement : {names : Names} {form : StatementForm} {s : Statement} → IsStatement names form s → IsNumbered s names.values
+  in_statement {names} (act a) = action names.values a
+  in_statement {names} (act_else a h t) = handled names.values (action names.values a) (in_block h) t
+  in_statement {names} (try xs ys a b t) = handled names.values (in_block a) (in_block b) t
+  in_statement (if xs ys c a b) = (in_block a, in_block b)
+  in_statement {names} (if_lock {text = text} xs ys {a = a} place x y) = (beside names text a (in_block x), in_block y)
+  in_statement (repeat xs deep c a) = in_block a
+  in_statement (repeat_up_to xs deep n has turn c a) = in_block a
+  in_statement {names} (for_each xs deep new room has e c a v) = walk names.values (in_block a) v
+
+in_body : {names : Names} {text : TextProcedure} {s : Statement} → IsBody names text s → IsNumbered s names.values
+in_body {names} b = handled names.values (handled names.values (in_block b.body_is) (in_block b.handler_is) b.handled_is) tt b.whole_is
+
+-- ---- procedures
+
+many_values : (names : Names) (args : List Name) → (with_values names args).values ≡ names.values + length args
+many_values names [] = omega arith
+many_values names (name ∷ others) = let h = many_values (with_values names (name ∷ [])) others in omega (arith, h)
+
+in_procedure : (spellings : List (List ℕ)) (names : Names) (text : TextProcedure) (p : Procedure) → names.values ≡ 0 → IsProcedure spellings names text p → IsNumbered p.body p.arity
+in_procedure spellings names text p z is =
+    let args = text.arguments.items in
+    let many = many_values names args in
+    let arity = is.arity in
+    let same : (with_values names args).values ≡ p.arity = omega (arith, many, arity, z) in
+    subst (IsNumbered p.body) same (in_body is.body)
+
+in_declared : (spellings : List (List ℕ)) (names : Names) (ds : List Declaration) (ps : List Procedure) → names.values ≡ 0 → AreDeclared spellings names ds ps
+    → All (λ (p : Procedure). IsNumbered p.body p.arity) ps
+in_declared spellings names ds ps z none_declared = All-nil (λ (p : Procedure). IsNumbered p.body p.arity)
+in_declared spellings names ds ps z (next_field {later = later} {rest = rest} f others) =
+    in_declared spellings later rest ps (ap (λ (n : Names). n.values) f.later_is ∙ z) others
+in_declared spellings names ds ps z (next_constant {rest = rest} new others) = in_declared spellings _ rest ps z others
+in_declared spellings names ds ps z (next_procedure {text = text} {p = p} {rest = rest} {ps = later} new is others) =
+    All-cons (λ (p : Procedure). IsNumbered p.body p.arity) p later (in_procedure spellings _ text p z is) (in_declared spellings _ rest later z others)
+
+each_ready : (ps : List Procedure) → All IsInOrder ps → All (λ (p : Procedure). IsNumbered p.body p.arity) ps → All IsReady ps
+each_ready [] o n = All-nil IsReady
+each_ready (p ∷ ps) o n = All-cons IsReady p ps
+    (record { in_order = All-head IsInOrder p ps o; numbered = All-head (λ (p : Procedure). IsNumbered p.body p.arity) p ps n })
+    (each_ready ps (All-tail IsInOrder p ps o) (All-tail (λ (p : Procedure). IsNumbered p.body p.arity) p ps n))
+
+pub ready : (text : List ℕ) (ps : List Procedure) → IsProgram text ps → All IsInOrder ps → All IsReady ps
+ready text ps program order = each_ready ps order (in_declared program.names _ program.declarations ps refl program.declared)

@@ -1,0 +1,7 @@
+-- Sets among others.
+use Rattle.std.specs.Prelude.{◌≡◌, List, [], ◌∷◌, ◌⊎◌}
+use Rattle.tl_lowering.specs.Sets.{Nodes}
+
+abbrev pub IsIn : Nodes → List Nodes → Type 0
+IsIn held [] = ⊥
+IsIn held (other ∷ others) = (held ≡ other) ⊎ IsIn held others

@@ -1,0 +1,170 @@
+// The commands on texts of the procedure language: `compile`, `procs`, and `check` of such a text.
+
+ghost use Rattle.std.specs.Prelude.{◌≡◌, length, map, codes, option_map, string_bytes, All, IfOk, IfErr};
+ghost use Rattle.serde_json.specs.Data.{object, member, no_members};
+ghost use Rattle.serde_json.specs.View.{view};
+ghost use Rattle.tl_budget.specs.Loops.{budget, lock_bound, emit_bound};
+ghost use Rattle.tl_instr.specs.Codes.{IsCode};
+ghost use Rattle.tl_json.specs.Lists.{list_data};
+ghost use Rattle.tl_json.specs.Procedures.{procedure_data};
+ghost use Rattle.tl_compiler.specs.Compiled.{Compiles};
+ghost use Rattle.tl_language_commands.specs.Compiling.{compiled_text, checked_data, made, CompilesTo, IsFirstCompilingFault, ListsText, IsFirstTextFault};
+
+use crate::fault::LanguageFault;
+use serde_json::{Value, json};
+use std::alloc::{AllocError, Global};
+use tl_asm::disassemble;
+use tl_compiler::{Compiled, compile, one_of};
+use tl_instr::encode;
+use tl_lines::{bounds_to_value, line_of};
+use tl_meaning::laws;
+use tl_verify::Proc;
+
+fn compiled_to_value(
+    alloc: Global,
+    emits: Value,
+    locks: Value,
+    steps: Value,
+    count: Value,
+) -> Result<Value, AllocError>
+    ensures { IfOk result (λ v. view v ≡ object (member (codes "bounds") (object
+        (member (codes "emits") (view emits) (member (codes "locks") (view locks) (member (codes "steps") (view steps) no_members)))) (member (codes "count") (view count) no_members))) }
+{
+    json!(in alloc; {
+        "bounds": {"emits": emits, "locks": locks, "steps": steps},
+        "count": count
+    })
+}
+
+// The line that says what a procedure does at most and how many instructions it has.
+fn compiled_line(alloc: Global, procedure: &Proc) -> Result<String, AllocError>
+    ensures { IfOk result (λ s. string_bytes s ≡ compiled_text (emit_bound procedure.now.instrs) (lock_bound procedure.now.instrs) (budget procedure.now.instrs) (length procedure.now.instrs)) }
+{
+    let bounds = procedure.bounds();
+    let emits = Value::from(bounds.emits);
+    let locks = Value::from(bounds.locks);
+    let steps = Value::from(bounds.steps);
+    let count = Value::from(procedure.code().count());
+    let value = compiled_to_value(alloc, emits, locks, steps, count)?;
+    line_of(alloc, &value)
+}
+
+// Each procedure has a code, by its type.
+fn lemma_have_codes(procedures: &[Compiled])
+    ensures { All (λ c. IsCode c.procedure) procedures.now }
+{
+    for compiled in procedures {
+        let _fact = compiled.procedure.code();
+    }
+}
+
+// The procedures of a text.
+fn procedures_of_text(alloc: Global, text: &[u8]) -> Result<Vec<Compiled>, LanguageFault>
+    ensures compiled { IfOk result (λ compiled. Compiles text.now compiled.items) }
+    ensures codes { IfOk result (λ compiled. All (λ c. IsCode c.procedure) compiled.items) }
+    ensures fault { IfErr result (IsFirstTextFault text.now) }
+{
+    match compile(alloc, text) {
+        Ok(compiled) => {
+            lemma_have_codes(&compiled);
+            Ok(compiled)
+        }
+        Err(fault) => Err(LanguageFault::Compile(fault)),
+    }
+}
+
+/// The line that says what the procedure of that name does at most and how many instructions it has, and its container.
+/// Without a name, it is the only procedure of the text. Takes the bytes of the text's file.
+///
+/// Otherwise the first fault: 255; 270 to 293 for the text; 294 to 297, procedure by procedure; 289. If memory was refused,
+/// 290 or 990.
+pub fn compile_cmd(
+    alloc: Global,
+    text: &[u8],
+    name: Option<&str>,
+) -> Result<(String, Vec<u8>), LanguageFault>
+    ensures printed { IfOk result (λ r. CompilesTo text.now (option_map (λ n. n.now) name.entry) (string_bytes r.0) r.1.items) }
+    ensures fault { IfErr result (IsFirstCompilingFault text.now (option_map (λ n. n.now) name.entry)) }
+{
+    let compiled = procedures_of_text(alloc, text)?;
+    let Compiled { name: _, procedure } = match one_of(compiled, name) {
+        Ok(compiled) => compiled,
+        Err(fault) => return Err(LanguageFault::Compile(fault)),
+    };
+    laws::procedures(&procedure);
+    let container = match encode(alloc, procedure.code()) {
+        Ok(container) => container,
+        Err(fault) => return Err(LanguageFault::Code(fault)),
+    };
+    let line = compiled_line(alloc, &procedure)?;
+    Ok((line, container))
+}
+
+// `[name,text]`
+fn procedure_to_value(alloc: Global, compiled: &Compiled) -> Result<Value, AllocError>
+    ensures { IfOk result (λ v. view v ≡ procedure_data (made compiled.now)) }
+{
+    let Ok(text) = disassemble(alloc, compiled.procedure.code()) else {
+        return Err(AllocError);
+    };
+    json!(in alloc; [compiled.name.as_str(), text.as_str()])
+}
+
+// `[name,{"bounds":{..}}]`
+fn checked_to_value(alloc: Global, compiled: &Compiled) -> Result<Value, AllocError>
+    ensures { IfOk result (λ v. view v ≡ checked_data (made compiled.now)) }
+{
+    let bounds = compiled.procedure.bounds();
+    let emits = Value::from(bounds.emits);
+    let locks = Value::from(bounds.locks);
+    let bounds = bounds_to_value(alloc, emits, locks, Value::from(bounds.steps))?;
+    json!(in alloc; [compiled.name.as_str(), bounds])
+}
+
+// `[[name,text],..]`
+fn procedures_to_value(alloc: Global, procedures: &[Compiled]) -> Result<Value, AllocError>
+    ensures { IfOk result (λ v. view v ≡ list_data (map (λ c. procedure_data (made c)) procedures.now)) }
+{
+    let mut items = Vec::with_capacity(alloc, procedures.len())?;
+    for compiled in procedures {
+        items.push(procedure_to_value(alloc, compiled)?)?;
+    }
+    Ok(Value::Array(items))
+}
+
+// `[[name,{"bounds":{..}}],..]`
+fn all_checked_to_value(alloc: Global, procedures: &[Compiled]) -> Result<Value, AllocError>
+    ensures { IfOk result (λ v. view v ≡ list_data (map (λ c. checked_data (made c)) procedures.now)) }
+{
+    let mut items = Vec::with_capacity(alloc, procedures.len())?;
+    for compiled in procedures {
+        items.push(checked_to_value(alloc, compiled)?)?;
+    }
+    Ok(Value::Array(items))
+}
+
+/// The line for the procedures of a text, `[[name,text],..]`, each with its canonical assembler text. Takes the bytes of
+/// the text's file.
+///
+/// Otherwise the first fault: 255; 270 to 293 for the text; 294 to 297, procedure by procedure. If memory was refused, 290
+/// or 990.
+pub fn procs_cmd(alloc: Global, text: &[u8]) -> Result<String, LanguageFault>
+    ensures printed { IfOk result (λ s. ListsText procedure_data text.now (string_bytes s)) }
+    ensures fault { IfErr result (IsFirstTextFault text.now) }
+{
+    let compiled = procedures_of_text(alloc, text)?;
+    let list = procedures_to_value(alloc, &compiled)?;
+    Ok(line_of(alloc, &list)?)
+}
+
+/// The line for what the procedures of a text do at most, `[[name,{"bounds":{..}}],..]`. Takes the bytes of the text's file.
+///
+/// Otherwise the first fault, as for `procs_cmd`.
+pub fn check_procs_cmd(alloc: Global, text: &[u8]) -> Result<String, LanguageFault>
+    ensures printed { IfOk result (λ s. ListsText checked_data text.now (string_bytes s)) }
+    ensures fault { IfErr result (IsFirstTextFault text.now) }
+{
+    let compiled = procedures_of_text(alloc, text)?;
+    let list = all_checked_to_value(alloc, &compiled)?;
+    Ok(line_of(alloc, &list)?)
+}

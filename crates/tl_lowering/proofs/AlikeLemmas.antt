@@ -1,0 +1,181 @@
+-- Numbers, conditions, places and actions that are alike in a text have one core form, but for where its parts are in memory.
+use Rattle.std.proofs.Common.{◌≡◌, ◌∙◌, ℕ, zero, suc, ◌/◌, List, [], ◌∷◌, ◌++◌, length, take, drop, refl, sym, ap, subst, arith}
+use Rattle.std.proofs.lemmas.List.{same_from_push}
+use Rattle.tl_syntax.specs.declared.operator.Operator.{Operator}
+use Rattle.tl_syntax.specs.declared.parsed.Comparison.{Comparison}
+use Rattle.tl_syntax.specs.declared.parsed.Comparison.TheVariants as K
+use Rattle.tl_syntax.specs.declared.parsed.Change.{Change}
+use Rattle.tl_syntax.specs.declared.parsed.Change.TheVariants as H
+use Rattle.tl_syntax.specs.declared.parsed.Form.{Form}
+use Rattle.tl_syntax.specs.declared.parsed.Expression.{Expression as TextExpression}
+use Rattle.tl_syntax.specs.declared.parsed.Action.{Action}
+use Rattle.tl_syntax.specs.declared.parsed.Place.{Place as TextPlace}
+use Rattle.tl_syntax.specs.Alike as T
+use Rattle.tl_syntax.specs.Alike.{AlikeForm, AreAlike, AlikePlace, AlikeAction}
+use Rattle.tl_syntax.proofs.AlikeForms.{form_of, same_rank, same_plain, same_first, same_second, same_operator, same_comparison}
+use Rattle.tl_syntax.proofs.AlikeParts.{same_action_rank, assign_of, write_of, emit_of, require_of, descend_of, take_of, free_of, leave_of}
+use Rattle.tl_lowering.specs.declared.program.Condition.{Condition}
+use Rattle.tl_lowering.specs.declared.program.Condition.TheVariants as C
+use Rattle.tl_lowering.specs.declared.program.Expression.{Expression}
+use Rattle.tl_lowering.specs.declared.program.Expression.TheVariants as E
+use Rattle.tl_lowering.specs.declared.program.Place.{Place}
+use Rattle.tl_lowering.specs.declared.program.Statement.{Statement}
+use Rattle.tl_lowering.specs.Alike.{SameNumber, same_constant, same_value, same_field, same_children, same_operation, SameCondition, same_less, same_greater, same_equal, same_not, same_and, SamePlace, same_node, same_child, same_pair, SameStatement, same_skip, same_sequence, same_assign, same_write, same_emit, same_free, same_descend, same_take, same_break, same_return, same_fail, same_if, AllSame, none_same, more_same}
+use Rattle.tl_lowering.specs.Names.{Names, stands_for, field_named, with_node, with_place}
+use Rattle.tl_lowering.specs.Naming.{IsCalculated, calculated, IsNumber, number, constant, value, field, children, negated, operation, IsCount, count, constant_count, IsNot, opposite, IsBoth, together, IsComparison, IsCondition, comparison, negation, conjunction, disjunction, IsPlace, node, child, pair, IsThen, then, IsHalved, none, one, more, IsChanged, AreEmits, no_emits, next_emit, IsAction, assigns, writes, emits, requires, descends, takes, frees, breaks, returns, fails}
+
+-- ---- numbers and conditions
+
+number_of : {o r : Operator} {a b c d e f : Expression} → o ≡ r → SameNumber a c → SameNumber b d → IsCalculated o a b e → IsCalculated r c d f → SameNumber e f
+number_of same x y calculated calculated = same_operation same x y
+
+pub alike_number : {names : Names} {form other : Form} {e f : Expression} → AlikeForm form other → IsNumber names form e → IsNumber names other f → SameNumber e f
+alike_number s number number = let same = same_plain (omega arith) s in same_constant cc
+alike_number {names} s (constant {name = x} g) (constant {name = y} h) =
+    let same = same_plain (omega arith) s in let n : x ≡ y = cc in let w = sym g ∙ ap (stands_for names) n ∙ h in same_constant cc
+alike_number {names} s (constant {name = x} g) (value {name = y} h) =
+    let same = same_plain (omega arith) s in let n : x ≡ y = cc in let w = sym g ∙ ap (stands_for names) n ∙ h in cc
+alike_number {names} s (value {name = x} g) (constant {name = y} h) =
+    let same = same_plain (omega arith) s in let n : x ≡ y = cc in let w = sym g ∙ ap (stands_for names) n ∙ h in cc
+alike_number {names} s (value {name = x} g) (value {name = y} h) =
+    let same = same_plain (omega arith) s in let n : x ≡ y = cc in let w = sym g ∙ ap (stands_for names) n ∙ h in same_value cc
+alike_number {names} s (field {node = x} {field = y} g i) (field {node = z} {field = v} h j) =
+    let same = same_plain (omega arith) s in
+    let n : x ≡ z = cc in let m : y ≡ v = cc in
+    let w = sym g ∙ ap (stands_for names) n ∙ h in let u = sym i ∙ ap (field_named names) m ∙ j in same_field (cc) (cc)
+alike_number {names} s (children {node = x} g) (children {node = y} h) =
+    let same = same_plain (omega arith) s in let n : x ≡ y = cc in let w = sym g ∙ ap (stands_for names) n ∙ h in same_children cc
+alike_number s (negated n c) (negated m d) = number_of refl (same_constant refl) (alike_number (same_first s) n m) c d
+alike_number s (operation n m c) (operation k l d) = number_of (same_operator s) (alike_number (same_first s) n k) (alike_number (same_second s) m l) c d
+alike_number s x y = absurd (omega (arith, same_rank s))
+
+not_of : {a b c d : Condition} → SameCondition a b → IsNot a c → IsNot b d → SameCondition c d
+not_of x opposite opposite = same_not x
+
+both_of : {a b c d e f : Condition} → SameCondition a c → SameCondition b d → IsBoth a b e → IsBoth c d f → SameCondition e f
+both_of x y together together = same_and x y
+
+compared_of : (k : Comparison) (a b c d : Expression) (e f : Condition) → SameNumber a c → SameNumber b d → IsComparison k a b e → IsComparison k c d f → SameCondition e f
+compared_of K.Less a b c d e f x y g h = subst (λ z. SameCondition z f) (sym g) (subst (SameCondition (C.Less a b)) (sym h) (same_less x y))
+compared_of K.LessOrEqual a b c d e f x y g h = not_of (same_greater x y) g h
+compared_of K.Greater a b c d e f x y g h = subst (λ z. SameCondition z f) (sym g) (subst (SameCondition (C.Greater a b)) (sym h) (same_greater x y))
+compared_of K.GreaterOrEqual a b c d e f x y g h = not_of (same_less x y) g h
+compared_of K.Equal a b c d e f x y g h = subst (λ z. SameCondition z f) (sym g) (subst (SameCondition (C.Equal a b)) (sym h) (same_equal x y))
+compared_of K.NotEqual a b c d e f x y g h = not_of (same_equal x y) g h
+
+pub alike_condition : {names : Names} {form other : Form} {c d : Condition} → AlikeForm form other → IsCondition names form c → IsCondition names other d → SameCondition c d
+alike_condition s (comparison {k = k} {c = c} g) (comparison {k = l} {c = d} h) =
+    let same : k ≡ l = same_comparison s in
+    compared_of k g.left g.right h.left h.right c d (alike_number (same_first s) g.left_is h.left_is)
+    (alike_number (same_second s) g.right_is h.right_is) g.condition_is (subst (λ z. IsComparison z h.left h.right d) (sym same) h.condition_is)
+alike_condition s (negation c o) (negation d q) = not_of (alike_condition (same_first s) c d) o q
+alike_condition s (conjunction a b o) (conjunction c d q) = both_of (alike_condition (same_first s) a c) (alike_condition (same_second s) b d) o q
+alike_condition s (disjunction a b m n o w) (disjunction c d u v q z) =
+    not_of (both_of (not_of (alike_condition (same_first s) a c) m u) (not_of (alike_condition (same_second s) b d) n v) o q) w z
+alike_condition s x y = absurd (omega (arith, same_rank s))
+
+pub alike_count : {names : Names} {form other : Form} {w v : ℕ} → AlikeForm form other → IsCount names form w → IsCount names other v → w ≡ v
+alike_count s (count a b) (count c d) = let same = same_plain (omega arith) s in cc
+alike_count {names} s (constant_count {name = x} a b g) (constant_count {name = y} c d h) =
+    let same = same_plain (omega arith) s in let n : x ≡ y = cc in let w = sym g ∙ ap (stands_for names) n ∙ h in cc
+alike_count s x y = absurd (omega (arith, same_rank s))
+
+-- ---- places and actions
+
+pub alike_place : {names : Names} {text other : TextPlace} {p q : Place} → AlikePlace text other → IsPlace names text p → IsPlace names other q → SamePlace p q
+alike_place (T.node x) (node a b n c) (node d e m f) = same_node refl (alike_number (form_of x) n m)
+alike_place {names} (T.child x) (child a b g n c) (child d e h m f) =
+    let w = sym g ∙ ap (stands_for names) x.parent ∙ h in same_child refl (cc) (alike_number (form_of x.number) n m)
+alike_place {names} (T.pair x y) (pair a b c g i n d k e) (pair f j l h o m p q r) =
+    let w = sym g ∙ ap (stands_for names) x.parent ∙ h in same_pair refl refl (cc) (alike_number (form_of x.number) n m) (alike_number (form_of y.number) k q)
+
+-- and they declare the same names
+pub same_names : (names : Names) {text other : TextPlace} → AlikePlace text other → with_place names text ≡ with_place names other
+same_names names (T.node x) = refl
+same_names names (T.child x) = ap (with_node names) x.name
+same_names names (T.pair {a = a} {d = d} x y) = ap (with_node (with_node names a.name)) y.name ∙ ap (λ n. with_node (with_node names n) d.name) x.name
+
+alike_changed : (change : Change) {old new a b e f : Expression} → SameNumber old new → SameNumber a b → IsChanged old change a e → IsChanged new change b f → SameNumber e f
+alike_changed H.Set {a = a} {f = f} x y g h = subst (λ z. SameNumber z f) (sym g) (subst (SameNumber a) (sym h) y)
+alike_changed H.Add x y g h = number_of refl x y g h
+alike_changed H.Subtract x y g h = number_of refl x y g h
+
+push_same : {xs ys : List Statement} {a b : Statement} → AllSame xs ys → SameStatement a b → AllSame (xs ++ a ∷ []) (ys ++ b ∷ [])
+push_same none_same x = more_same x none_same
+push_same (more_same y h) x = more_same y (push_same h x)
+
+not_empty : (xs : List TextExpression) (a : TextExpression) → [] ≡ xs ++ a ∷ [] → ⊥
+not_empty [] a e = cc
+not_empty (x ∷ xs) a e = cc
+
+alike_emits : {names : Names} {xs ys zs ws : List TextExpression} {es fs : List Statement} → AreAlike zs ws → zs ≡ xs → ws ≡ ys → AreEmits names xs es → AreEmits names ys fs → AllSame es fs
+alike_emits T.none e f no_emits no_emits = none_same
+alike_emits T.none e f no_emits (next_emit {xs = ys} b h n has) = absurd (not_empty ys b f)
+alike_emits T.none e f (next_emit {xs = xs} a h n has) y = absurd (not_empty xs a e)
+alike_emits (T.next {es = zs} {e = z} x y) e f no_emits t = absurd (not_empty zs z (sym e))
+alike_emits (T.next {fs = ws} {f = w} x y) e f s no_emits = absurd (not_empty ws w (sym f))
+alike_emits {names} (T.next {es = zs} {fs = ws} {e = z} {f = w} x y) e f (next_emit {xs = xs} {e = v} a g n has) (next_emit {xs = ys} {e = u} b h m its) =
+    let first = same_from_push zs xs z a e in
+    let second = same_from_push ws ys w b f in
+    push_same (alike_emits x first.0 second.0 g h) (same_emit (alike_number (form_of y) (subst (λ (z : TextExpression). IsNumber names z.form v) (sym first.1) n)
+    (subst (λ (z : TextExpression). IsNumber names z.form u) (sym second.1) m)))
+
+-- ---- statements one after another
+
+length_same : {xs ys : List Statement} → AllSame xs ys → length xs ≡ length ys
+length_same none_same = refl
+length_same (more_same x h) = ap suc (length_same h)
+
+take_same : (n : ℕ) {xs ys : List Statement} → AllSame xs ys → AllSame (take n xs) (take n ys)
+take_same zero h = none_same
+take_same (suc n) none_same = none_same
+take_same (suc n) (more_same x h) = more_same x (take_same n h)
+
+drop_same : (n : ℕ) {xs ys : List Statement} → AllSame xs ys → AllSame (drop n xs) (drop n ys)
+drop_same zero h = h
+drop_same (suc n) none_same = none_same
+drop_same (suc n) (more_same x h) = drop_same n h
+
+then_of : {a b c d e f : Statement} → SameStatement a c → SameStatement b d → IsThen a b e → IsThen c d f → SameStatement e f
+then_of x y then then = same_sequence x y
+
+pub alike_halved : {xs ys : List Statement} {a b : Statement} → AllSame xs ys → IsHalved a xs → IsHalved b ys → SameStatement a b
+alike_halved h none none = same_skip
+alike_halved h none (more {xs = ys} long s t w) = let l = length_same h in absurd (omega arith)
+alike_halved (more_same x h) one one = x
+alike_halved h none one = elim h [ ]
+alike_halved h one none = elim h [ ]
+alike_halved h one (more {xs = ys} long s t w) = let l = length_same h in absurd (omega arith)
+alike_halved h (more {xs = xs} long s t w) none = let l = length_same h in absurd (omega arith)
+alike_halved h (more {xs = xs} long s t w) one = let l = length_same h in absurd (omega arith)
+alike_halved {xs} {ys} h (more {a = a} {b = b} long s t w) (more {a = c} {b = d} more_long u v z) =
+    let n : length ys / 2 ≡ length xs / 2 = ap (λ m. m / 2) (sym (length_same h)) in
+    then_of (alike_halved (take_same (length xs / 2) h) s (subst (λ m. IsHalved c (take m ys)) n u))
+    (alike_halved (drop_same (length xs / 2) h) t (subst (λ m. IsHalved d (drop m ys)) n v)) w z
+
+pub alike_action : {names : Names} {action other : Action} {a b : Statement} → AlikeAction action other → IsAction names action a → IsAction names other b → SameStatement a b
+alike_action {names} s (assigns {change = change} g n c has) (assigns {x = y} {e = e} {f = f} h m d its) =
+    let same = assign_of s in let w = sym g ∙ ap (stands_for names) same.0 ∙ h in
+    same_assign (cc) (alike_changed change (same_value cc) (alike_number same.2 n m) c (subst (λ z. IsChanged (E.Value y) z e f) (sym same.1) d))
+alike_action {names} s (writes {change = change} g i n c has) (writes {n = y} {k = k} {e = e} {f = f} h j m d its) =
+    let same = write_of s in
+    let w = sym g ∙ ap (stands_for names) same.0 ∙ h in let v = sym i ∙ ap (field_named names) same.1 ∙ j in
+    same_write (cc) (cc) (alike_changed change (same_field (cc) (cc)) (alike_number same.3 n m) c (subst (λ z. IsChanged (E.Field y k) z e f) (sym same.2) d))
+alike_action s (emits g) (emits h) = alike_halved (alike_emits (emit_of s) refl refl g.each h.each) g.joined h.joined
+alike_action s (requires c) (requires d) = same_if (alike_condition (require_of s) c d) same_skip same_fail
+alike_action {names} s (descends a g n has) (descends b h m its) =
+    let same = descend_of s in let w = sym g ∙ ap (stands_for names) same.0 ∙ h in same_descend (cc) (alike_number same.1 n m)
+alike_action {names} s (takes g i) (takes h j) =
+    let same = take_of s in
+    let w = sym g ∙ ap (stands_for names) same.0 ∙ h in let v = sym i ∙ ap (stands_for names) same.1 ∙ j in same_take (cc) (cc)
+alike_action {names} s (frees g) (frees h) = let w = sym g ∙ ap (stands_for names) (free_of s) ∙ h in same_free cc
+alike_action s (breaks a) (breaks b) = same_break
+alike_action s returns returns = same_return
+alike_action s fails fails = same_fail
+alike_action s (breaks a) returns = let no = leave_of s in cc
+alike_action s (breaks a) fails = let no = leave_of s in cc
+alike_action s returns (breaks b) = let no = leave_of s in cc
+alike_action s returns fails = let no = leave_of s in cc
+alike_action s fails (breaks b) = let no = leave_of s in cc
+alike_action s fails returns = let no = leave_of s in cc
+alike_action s x y = absurd (omega (arith, same_action_rank s))

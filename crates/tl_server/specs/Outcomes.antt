@@ -1,0 +1,87 @@
+-- What came of a request before its answer is written, and the numbers of epochs that clients see.
+use Rattle.std.specs.Prelude.{◌≡◌, ◌≤◌, ℕ, ◌+◌, ℤ, Bool, List, All, map, [], ◌++◌, Result, Ok, Err, Vec}
+use Rattle.std.specs.declared.alloc.Global.{Global}
+use Rattle.tl_procedures.specs.declared.request.Request.{Request}
+use Rattle.tl_json.specs.Requests.{request_form}
+use Rattle.tl_table.specs.declared.receipt.Receipt.{Receipt}
+use Rattle.tl_workers.specs.declared.refusal.Refusal.{Refusal}
+use Rattle.tl_workers.specs.declared.refusal.Refusal.TheVariants as refusal
+use Rattle.tl_workers.specs.declared.session.Did.{Did}
+use Rattle.tl_workers.specs.declared.session.Did.TheVariants.{Asked, Got}
+use Rattle.tl_workers.specs.Kept.{AnswersEach, asked_of, gots_of}
+use Rattle.tl_workers.specs.Refusals.{AreCallRefusals}
+use Rattle.tl_server.specs.Requests.{LineValue, Registers, Calls, Batches, Seals, Closes}
+use Rattle.tl_server.specs.Served.{RegisterOutcome, CallOutcome, SealOutcome, IsSealable}
+use Rattle.tl_server.specs.declared.outcome.Outcome.{Outcome}
+use Rattle.tl_server.specs.declared.outcome.Outcome.TheVariants.{Registered, Called, Batched, Sealed}
+
+-- a request that an engine has to do
+abbrev pub IsAsked : LineValue → Type 0
+IsAsked (Registers name text) = Unit {0}
+IsAsked (Calls name args) = Unit {0}
+IsAsked (Batches calls workers) = Unit {0}
+IsAsked Seals = Unit {0}
+IsAsked Closes = ⊥
+
+-- ---- what came of it, and what the session of an engine gained by it, which seals its epochs by itself, or doesn't
+
+abbrev pub IsRegistered : List ℕ → List ℕ → List Did → Outcome → Type 0
+IsRegistered name text gained (Registered answer) = (gained ≡ []) × RegisterOutcome (name, text) answer
+IsRegistered name text gained _ = ⊥
+
+abbrev pub IsCalled : Bool → List ℕ → List ℤ → List Did → Outcome → Type 0
+IsCalled seals name args gained (Called answer) = CallOutcome seals (name, args) gained answer
+IsCalled seals name args gained _ = ⊥
+
+-- an answer to each request, or want of memory
+abbrev pub BatchOutcome : Bool → List Request → List Did → Result (Vec (Result Receipt Refusal) Global) Refusal → Type 0
+BatchOutcome seals requests gained (Ok v) =
+    AnswersEach requests v.items × AreCallRefusals seals v.items × (gained ≡ asked_of requests v.items ++ gots_of v.items)
+BatchOutcome seals requests gained (Err e) = (gained ≡ []) × (e ≡ refusal.Memory)
+
+abbrev pub IsBatched : Bool → List (List ℕ × List ℤ) → List Did → Outcome → Type 0
+IsBatched seals calls gained (Batched answer) = (requests : List Request) × (map request_form requests ≡ calls) × BatchOutcome seals requests gained answer
+IsBatched seals calls gained _ = ⊥
+
+abbrev pub IsSealed : Bool → List Did → Outcome → Type 0
+IsSealed seals gained (Sealed answer) = (gained ≡ []) × SealOutcome seals IsSealable answer
+IsSealed seals gained _ = ⊥
+
+abbrev pub CameOf : Bool → LineValue → List Did → Outcome → Type 0
+CameOf seals (Registers name text) gained outcome = IsRegistered name text gained outcome
+CameOf seals (Calls name args) gained outcome = IsCalled seals name args gained outcome
+CameOf seals (Batches calls workers) gained outcome = IsBatched seals calls gained outcome
+CameOf seals Seals gained outcome = IsSealed seals gained outcome
+CameOf seals Closes gained outcome = ⊥
+
+-- ---- epochs among those of all engines, of which so many were before this engine's first
+
+abbrev pub later : ℕ → Receipt → Receipt
+later base r = record r { epoch = base + r.epoch }
+
+abbrev pub later_answer : ℕ → Result Receipt Refusal → Result Receipt Refusal
+later_answer base (Ok r) = Ok (later base r)
+later_answer base (Err e) = Err e
+
+abbrev pub later_seal : ℕ → Result ℕ Refusal → Result ℕ Refusal
+later_seal base (Ok epoch) = Ok (base + epoch)
+later_seal base (Err e) = Err e
+
+abbrev pub later_did : ℕ → Did → Did
+later_did base (Asked a) = Asked (record a { epoch = base + a.epoch })
+later_did base (Got r) = Got (later base r)
+
+-- the epoch is one that this engine may seal
+abbrev pub IsSealableAt : ℕ → ℕ → Type 0
+IsSealableAt base epoch = (own : ℕ) × IsSealable own × (epoch ≡ base + own)
+
+-- ---- a visitor of a relay of engines
+
+abbrev pub epoch_of : Did → ℕ
+epoch_of (Asked a) = a.epoch
+epoch_of (Got r) = r.epoch
+
+-- The engine that served the visitor last has so many epochs before it, now and then. No call of the visitor stands in an epoch
+-- before those of the engine that served it earlier: the numbers never start again.
+abbrev pub GoesOnFrom : ℕ → ℕ → List Did → Type 0
+GoesOnFrom old new gained = (old ≤ new) × All (λ d. old ≤ epoch_of d) gained

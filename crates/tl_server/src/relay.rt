@@ -1,0 +1,326 @@
+// Engines one after another: when one has used up its epochs, the next takes over.
+
+ghost use Rattle.std.specs.Prelude.{◌≡◌, ◌≤◌, ◌<◌, ◌+◌, ◌^◌, ℕ, List, true, false, None, IfOk, IfSome, OnErr};
+ghost use Rattle.std.proofs.Props.{props};
+ghost use Rattle.tl_workers.specs.declared.session.Did.{Did};
+ghost use Rattle.tl_server.specs.Requests.{line_view};
+ghost use Rattle.tl_server.specs.Outcomes.{IsAsked, CameOf};
+
+use crate::outcome::Done;
+use crate::request::LineRequest;
+use crate::seats::Seats;
+use crate::service::{Service, act};
+use std::alloc::Global;
+use std::marker::Model;
+use std::mem;
+use std::sync::{Mutex, RwLock, Wait};
+use std::thread::Threads;
+use tl_table::TableFault;
+use tl_workers::{Engine, Refusal, Session};
+
+/// Who closes an engine, keeps what it did, and opens the next.
+pub trait Keeper {
+    // An engine was closed, and what it did isn't kept yet.
+    ghost has_closed: { Self → Type 0 };
+
+    /// Closes an engine that is at rest, with all its sessions. No line is answered meanwhile. It takes no memory, so that what the
+    /// engine did isn't lost where memory is refused.
+    fn close(&mut self, engine: Engine, sessions: Vec<Session>);
+
+    /// An engine on what the one that was closed last left, which seals its epochs by itself. No line is answered meanwhile. `None`
+    /// if memory is refused, or if the engine before didn't close; the next line asks again.
+    fn open(&mut self, alloc: Global) -> Option<Engine>
+        ensures closed { IfSome result (λ _. has_closed self.new) }
+        ensures seals { IfSome result (λ e. e.seals ≡ true) };
+
+    /// Keeps what the closed engine did. Lines are answered meanwhile.
+    fn keep(&mut self, alloc: Global)
+        requires { has_closed self.old };
+}
+
+/// A connection to a relay: the seat of its session, and how many epochs there were before the engine to which that belongs.
+///
+/// A contract sees that number.
+#[derive(Debug, Drop)]
+pub struct Place {
+    base: u32,
+    seat: Option<usize>,
+}
+
+impl Model for Place {
+    ghost use Rattle.std.specs.Prelude.{ℕ};
+
+    ghost Value = { ℕ };
+
+    ghost view = { λ p. p.base };
+}
+
+impl Place {
+    /// The place of a connection that has asked for nothing yet.
+    pub fn new() -> Place
+        ensures { result ≡ 0 }
+    {
+        Place {
+            base: 0,
+            seat: None,
+        }
+    }
+
+    // The seat of its session, if that belongs to the engine with so many epochs before it.
+    fn seat(&self, base: u32) -> Option<usize> {
+        if self.base == base { self.seat } else { None }
+    }
+}
+
+// Why nothing is done yet.
+#[derive(Clone, Copy, Debug)]
+enum Pause {
+    // The next engine has to take over: from the one with so many epochs before it, or from one that was closed already.
+    HandOver(Option<u32>),
+    // Memory was refused.
+    Refused,
+}
+
+/// How many epochs there are before the next engine, where this one, in its epoch of that number, has so many before it. `None`
+/// if there is no such number.
+fn base_after(base: u32, epoch: u32) -> Option<u32>
+    ensures next { IfSome result (λ next. next ≡ base + epoch + 1) }
+    ensures none { result ≡ None → 2 ^ 32 ≤ base + epoch + 1 }
+{
+    base.checked_add(epoch)?.checked_add(1)
+}
+
+/// The engine that answers lines now, and how many epochs there were before its first.
+#[derive(Drop)]
+struct Stage {
+    // `None` after one was closed and before the next is open.
+    engine: Option<Engine>,
+    base: u32,
+    ghost seals: { IfSome engine (λ e. e.seals ≡ true) } by { Prim.hlevel props },
+}
+
+impl Stage {
+    // Whether this engine has used up its epochs, of which it has so many. Where the number of epochs is used up, the last engine goes
+    // on up to its own end, which is 808.
+    fn is_spent(&self, rt: &impl Wait, engine: &Engine, epochs: u32) -> bool {
+        let epoch = engine.epoch(rt);
+        epoch >= epochs && base_after(self.base, epoch).is_some()
+    }
+
+    // Does what a request asks for, if an engine has room for it.
+    fn perform<R: Threads + Wait + Sync>(
+        &self,
+        rt: &R,
+        alloc: Global,
+        seats: &Mutex<Seats>,
+        epochs: u32,
+        place: &mut Place,
+        request: &LineRequest,
+    ) -> Result<Done, Pause>
+        requires { IsAsked (line_view request.now) }
+        ensures came { IfOk result (λ d. (own : List Did) × CameOf true (line_view request.now) own d.outcome) }
+        ensures later { IfOk result (λ d. (place.old ≤ d.base) × (place.new ≡ d.base)) }
+        ensures same { OnErr result (place.new ≡ place.old) }
+    {
+        let Some(engine) = &self.engine else {
+            return Err(Pause::HandOver(None));
+        };
+        // The base never gets less. If it did, a visitor would see the number of an epoch again.
+        if self.base < place.base {
+            return Err(Pause::Refused);
+        }
+        if self.is_spent(rt, engine, epochs) {
+            return Err(Pause::HandOver(Some(self.base)));
+        }
+        let (seat, session) = self.session(rt, alloc, seats, engine, place)?;
+        let mut session = session;
+        let outcome = act(rt, alloc, engine, &mut session, request);
+        seats.lock(rt).put(seat, session);
+        *place = Place {
+            base: self.base,
+            seat: Some(seat),
+        };
+        Ok(Done {
+            outcome,
+            base: self.base,
+        })
+    }
+
+    // The visitor's session and its seat.
+    fn session(
+        &self,
+        rt: &impl Wait,
+        alloc: Global,
+        seats: &Mutex<Seats>,
+        engine: &Engine,
+        place: &Place,
+    ) -> Result<(usize, Session), Pause> {
+        let taken = seats
+            .lock(rt)
+            .take(rt, alloc, engine, place.seat(self.base));
+        match taken {
+            Ok(found) => Ok(found),
+            Err(Refusal::Table(TableFault::TooManySessions)) => {
+                Err(Pause::HandOver(Some(self.base)))
+            }
+            Err(_) => Err(Pause::Refused),
+        }
+    }
+
+    // Hands the engine over to the keeper, with all its sessions. False if there is none, if a session is away, or if the number of
+    // epochs is used up; then nothing is changed.
+    fn close<K: Keeper>(
+        &mut self,
+        rt: &impl Wait,
+        alloc: Global,
+        seats: &Mutex<Seats>,
+        keeper: &mut K,
+    ) -> bool
+        ensures closed { result ≡ true → self.old.base < self.new.base }
+        ensures kept { result ≡ false → self.new.base ≡ self.old.base }
+    {
+        let mut seats = seats.lock(rt);
+        if !seats.are_taken() {
+            return false;
+        }
+        let Some(engine) = self.engine.take() else {
+            return false;
+        };
+        let Some(base) = base_after(self.base, engine.epoch(rt)) else {
+            self.engine = Some(engine);
+            return false;
+        };
+        let sessions = mem::replace(&mut *seats, Seats::new(alloc)).into_sessions();
+        keeper.close(engine, sessions);
+        self.base = base;
+        true
+    }
+}
+
+/// Engines, one after another, and the sessions of the one that answers lines now.
+#[derive(Drop)]
+pub struct Relay<K> {
+    // Each line that is at work has it for reading. A hand-over has it for writing: it waits until no line is at work, and new lines
+    // wait behind it.
+    stage: RwLock<Stage>,
+    seats: Mutex<Seats>,
+    keeper: Mutex<K>,
+    // After how many epochs the next engine takes over.
+    epochs: u32,
+}
+
+impl<K: Keeper> Relay<K> {
+    /// A relay that begins with this engine, which has no sessions yet and seals its epochs by itself. The next one takes over after
+    /// so many epochs, at least one.
+    pub fn new(alloc: Global, engine: Engine, keeper: K, epochs: u32) -> Relay<K>
+        requires { engine.seals ≡ true }
+    {
+        Relay {
+            stage: RwLock::new(Stage {
+                engine: Some(engine),
+                base: 0,
+            }),
+            seats: Mutex::new(Seats::new(alloc)),
+            keeper: Mutex::new(keeper),
+            epochs: epochs.max(1),
+        }
+    }
+
+    /// The last engine with its sessions, if it wasn't closed yet, and the keeper. Takes no memory.
+    pub fn into_parts(self) -> (Option<(Engine, Vec<Session>)>, K) {
+        let Relay {
+            stage,
+            seats,
+            keeper,
+            epochs: _,
+        } = self;
+        let Stage { engine, base: _ } = stage.into_inner();
+        let sessions = seats.into_inner().into_sessions();
+        match engine {
+            Some(engine) => (Some((engine, sessions)), keeper.into_inner()),
+            None => (None, keeper.into_inner()),
+        }
+    }
+
+    // Does what a request asks for, if the engine on the stage has room for it.
+    fn attempt<R: Threads + Wait + Sync>(
+        &self,
+        rt: &R,
+        alloc: Global,
+        place: &mut Place,
+        request: &LineRequest,
+    ) -> Result<Done, Pause>
+        requires { IsAsked (line_view request.now) }
+        ensures came { IfOk result (λ d. (own : List Did) × CameOf true (line_view request.now) own d.outcome) }
+        ensures later { IfOk result (λ d. (place.old ≤ d.base) × (place.new ≡ d.base)) }
+        ensures same { OnErr result (place.new ≡ place.old) }
+    {
+        let stage = self.stage.read(rt);
+        stage.perform(rt, alloc, &self.seats, self.epochs, place, request)
+    }
+
+    // Lets the next engine take over as soon as no line is at work: from the one with so many epochs before it, if it is still there,
+    // or from one that was closed already. False if none does. Then nothing is lost, and the next line tries again.
+    fn hand_over(&self, rt: &impl Wait, alloc: Global, spent: Option<u32>) -> bool {
+        let mut stage = self.stage.write(rt);
+        let is_spent = spent == Some(stage.base);
+        if stage.engine.is_some() && !is_spent {
+            // Another line was first.
+            return true;
+        }
+        let mut keeper = self.keeper.lock(rt);
+        if is_spent && !stage.close(rt, alloc, &self.seats, &mut *keeper) {
+            return false;
+        }
+        let Some(engine) = keeper.open(alloc) else {
+            return false;
+        };
+        stage.engine = Some(engine);
+        // Lines are answered again. The next hand-over waits for the keeper.
+        drop(stage);
+        keeper.keep(alloc);
+        true
+    }
+}
+
+/// A relay serves each connection by sessions of its engines, one after another. The numbers of epochs go on from one to the next.
+impl<K: Keeper> Service for Relay<K> {
+    type Visitor = Place;
+
+    ghost use Rattle.std.specs.Prelude.{◌≤◌, true};
+    ghost use Rattle.tl_server.specs.Outcomes.{GoesOnFrom};
+    ghost use Rattle.tl_server.specs.Gaining.{goes_on_nothing, goes_on_both, seals_from};
+
+    ghost gains = { GoesOnFrom };
+
+    ghost seals = { λ _. true };
+
+    ghost may_seal = { λ base n. base ≤ n };
+
+    fn perform<R: Threads + Wait + Sync>(
+        &self,
+        rt: &R,
+        alloc: Global,
+        visitor: &mut Place,
+        request: &LineRequest,
+    ) -> Option<Done> {
+        for _ in rt.forever() {
+            match self.attempt(rt, alloc, visitor, request) {
+                Ok(done) => return Some(done),
+                Err(Pause::Refused) => return None,
+                Err(Pause::HandOver(spent)) => {
+                    if !self.hand_over(rt, alloc, spent) {
+                        return None;
+                    }
+                }
+            }
+        }
+        unreachable!()
+    }
+
+    ghost gains_none = { goes_on_nothing };
+
+    ghost gains_more = { goes_on_both };
+
+    ghost seals_on = { seals_from };
+}

@@ -1,0 +1,309 @@
+-- What two statements or declarations have in common that are alike.
+use Rattle.std.proofs.Common.{◌≡◌, ℕ, ℤ, List, [], ◌∷◌, ◌++◌, Option, None, Some, refl, sym, ap, subst, ◌∙◌}
+use Rattle.std.specs.declared.vec.Vec.{Vec}
+use Rattle.std.specs.declared.alloc.Global.{Global}
+use Rattle.tl_syntax.specs.declared.parsed.Name.{Name}
+use Rattle.tl_syntax.specs.declared.parsed.Expression.{Expression}
+use Rattle.tl_syntax.specs.declared.parsed.Child.{Child}
+use Rattle.tl_syntax.specs.declared.parsed.Place.{Place}
+use Rattle.tl_syntax.specs.declared.parsed.Place.TheVariants as P
+use Rattle.tl_syntax.specs.declared.parsed.Change.{Change}
+use Rattle.tl_syntax.specs.declared.parsed.Leave.{Leave}
+use Rattle.tl_syntax.specs.declared.parsed.Action.{Action}
+use Rattle.tl_syntax.specs.declared.parsed.Action.TheVariants as V
+use Rattle.tl_syntax.specs.declared.parsed.Question.{Question}
+use Rattle.tl_syntax.specs.declared.parsed.Question.TheVariants as Q
+use Rattle.tl_syntax.specs.declared.parsed.Otherwise.{Otherwise, out-Otherwise}
+use Rattle.tl_syntax.specs.declared.parsed.Statement.{Statement}
+use Rattle.tl_syntax.specs.declared.parsed.StatementForm.{StatementForm, out-StatementForm, the_lemmas}
+use Rattle.tl_syntax.specs.declared.parsed.StatementForm.TheOpen as Y
+use Rattle.tl_syntax.specs.declared.parsed.StatementForm.TheVariants as S
+use Rattle.tl_syntax.specs.declared.parsed.Procedure.{Procedure}
+use Rattle.tl_syntax.specs.declared.parsed.Declaration.{Declaration}
+use Rattle.tl_syntax.specs.declared.parsed.Declaration.TheVariants as D
+use Rattle.tl_syntax.specs.Alike as A
+use Rattle.tl_syntax.specs.Alike.{Alike, AlikeForm, AreAlike, AlikeChild, AlikePlace, AlikeAction, AlikeQuestion, AlikeStatements, AlikeStatement, AlikeStatementForm, AlikeOtherwise, AlikeProcedure, AlikeDeclaration, AlikeDeclarations}
+use Rattle.tl_syntax.proofs.AlikeForms.{form_of}
+
+-- ---- itself
+
+pub alike_itself : (e : Expression) → Alike e e
+alike_itself e = A.alike refl A.same_form
+
+child_itself : (c : Child) → AlikeChild c c
+child_itself c = record { name = refl; parent = refl; number = alike_itself c.number }
+
+pub place_itself : (p : Place) → AlikePlace p p
+place_itself (P.Node name offset number) = A.node (alike_itself number)
+place_itself (P.Child c) = A.child (child_itself c)
+place_itself (P.Pair c d) = A.pair (child_itself c) (child_itself d)
+
+pub question_itself : (q : Question) → AlikeQuestion q q
+question_itself (Q.Condition e) = A.condition (alike_itself e)
+question_itself (Q.Lock p) = A.lock (place_itself p)
+
+-- ---- actions
+
+-- the number of its variant
+abbrev pub action_rank : Action → ℕ
+action_rank (V.Let name e) = 0
+action_rank (V.Assign name change e) = 1
+action_rank (V.Write node field change e) = 2
+action_rank (V.Emit es) = 3
+action_rank (V.Require e) = 4
+action_rank (V.Lock place) = 5
+action_rank (V.Descend node e) = 6
+action_rank (V.Take node from) = 7
+action_rank (V.Free node) = 8
+action_rank (V.Leave l) = 9
+
+pub same_action_rank : {a b : Action} → AlikeAction a b → action_rank a ≡ action_rank b
+same_action_rank A.same_action = refl
+same_action_rank (A.lets x) = refl
+same_action_rank (A.assigns x) = refl
+same_action_rank (A.writes x) = refl
+same_action_rank (A.emits x) = refl
+same_action_rank (A.requires x) = refl
+same_action_rank (A.locks x) = refl
+same_action_rank (A.descends x) = refl
+
+pub let_of : {n m : Name} {e f : Expression} → AlikeAction (V.Let n e) (V.Let m f) → (n ≡ m) × AlikeForm e.form f.form
+let_of A.same_action = (refl, A.same_form)
+let_of (A.lets x) = (refl, form_of x)
+
+pub assign_of : {n m : Name} {c d : Change} {e f : Expression} → AlikeAction (V.Assign n c e) (V.Assign m d f) → (n ≡ m) × (c ≡ d) × AlikeForm e.form f.form
+assign_of A.same_action = (refl, refl, A.same_form)
+assign_of (A.assigns x) = (refl, refl, form_of x)
+
+pub write_of : {n m k l : Name} {c d : Change} {e f : Expression} → AlikeAction (V.Write n k c e) (V.Write m l d f) → (n ≡ m) × (k ≡ l) × (c ≡ d) × AlikeForm e.form f.form
+write_of A.same_action = (refl, refl, refl, A.same_form)
+write_of (A.writes x) = (refl, refl, refl, form_of x)
+
+pub require_of : {e f : Expression} → AlikeAction (V.Require e) (V.Require f) → AlikeForm e.form f.form
+require_of A.same_action = A.same_form
+require_of (A.requires x) = form_of x
+
+pub lock_of : {p q : Place} → AlikeAction (V.Lock p) (V.Lock q) → AlikePlace p q
+lock_of {p} A.same_action = place_itself p
+lock_of (A.locks x) = x
+
+pub descend_of : {n m : Name} {e f : Expression} → AlikeAction (V.Descend n e) (V.Descend m f) → (n ≡ m) × AlikeForm e.form f.form
+descend_of A.same_action = (refl, A.same_form)
+descend_of (A.descends x) = (refl, form_of x)
+
+pub take_of : {n m k l : Name} → AlikeAction (V.Take n k) (V.Take m l) → (n ≡ m) × (k ≡ l)
+take_of A.same_action = (refl, refl)
+
+pub free_of : {n m : Name} → AlikeAction (V.Free n) (V.Free m) → n ≡ m
+free_of A.same_action = refl
+
+pub leave_of : {l m : Leave} → AlikeAction (V.Leave l) (V.Leave m) → l ≡ m
+leave_of A.same_action = refl
+
+-- ---- lists of numbers
+
+alike_before : {e f : Expression} {es fs : List Expression} → Alike e f → AreAlike es fs → AreAlike (e ∷ es) (f ∷ fs)
+alike_before x A.none = A.next A.none x
+alike_before x (A.next h y) = A.next (alike_before x h) y
+
+expressions_itself : (es : List Expression) → AreAlike es es
+expressions_itself [] = A.none
+expressions_itself (e ∷ es) = alike_before (alike_itself e) (expressions_itself es)
+
+pub emit_of : {es fs : Vec Expression Global} → AlikeAction (V.Emit es) (V.Emit fs) → AreAlike es.items fs.items
+emit_of {es} A.same_action = expressions_itself es.items
+emit_of (A.emits x) = x
+
+-- ---- the parts of a statement
+
+opened_act : (a : Action) (o : Option Otherwise) → out-StatementForm (S.Act a o) ≡ Y.Act a o
+opened_act a o = search the_lemmas
+
+opened_try : (xs ys : Vec Statement Global) → out-StatementForm (S.Try xs ys) ≡ Y.Try xs ys
+opened_try xs ys = search the_lemmas
+
+opened_if : (q : Question) (xs ys : Vec Statement Global) → out-StatementForm (S.If q xs ys) ≡ Y.If q xs ys
+opened_if q xs ys = search the_lemmas
+
+opened_repeat : (e : Expression) (most : Option Expression) (xs : Vec Statement Global) → out-StatementForm (S.Repeat e most xs) ≡ Y.Repeat e most xs
+opened_repeat e most xs = search the_lemmas
+
+opened_for_each : (child parent : Name) (most : Expression) (xs : Vec Statement Global) → out-StatementForm (S.ForEach child parent most xs) ≡ Y.ForEach child parent most xs
+opened_for_each child parent most xs = search the_lemmas
+
+same_act : {a b : Action} (o p : Option Otherwise) → S.Act a o ≡ S.Act b p → (a ≡ b) × (o ≡ p)
+same_act {a} {b} o p e = let same = sym (opened_act a o) ∙ ap out-StatementForm e ∙ opened_act b p in (cc, cc)
+
+same_only : {a b : Action} → S.Act a None ≡ S.Act b None → a ≡ b
+same_only e = (same_act None None e).0
+
+same_with : {a b : Action} {o p : Otherwise} → S.Act a (Some o) ≡ S.Act b (Some p) → (a ≡ b) × (o ≡ p)
+same_with {o = o} {p = p} e = let same = (same_act (Some o) (Some p) e).1 in ((same_act (Some o) (Some p) e).0, cc)
+
+only_or_with : {a b : Action} {o : Otherwise} → S.Act a None ≡ S.Act b (Some o) → ⊥
+only_or_with {o = o} e = let no = (same_act None (Some o) e).1 in cc
+
+same_try : {xs ys vs ws : Vec Statement Global} → S.Try xs ys ≡ S.Try vs ws → (xs ≡ vs) × (ys ≡ ws)
+same_try {xs} {ys} {vs} {ws} e = let same = sym (opened_try xs ys) ∙ ap out-StatementForm e ∙ opened_try vs ws in (cc, cc)
+
+same_if : {q r : Question} {xs ys vs ws : Vec Statement Global} → S.If q xs ys ≡ S.If r vs ws → (q ≡ r) × (xs ≡ vs) × (ys ≡ ws)
+same_if {q} {r} {xs} {ys} {vs} {ws} e = let same = sym (opened_if q xs ys) ∙ ap out-StatementForm e ∙ opened_if r vs ws in (cc, cc, cc)
+
+same_repeat : {e f : Expression} {most least : Option Expression} {xs vs : Vec Statement Global} → S.Repeat e most xs ≡ S.Repeat f least vs → (e ≡ f) × (most ≡ least) × (xs ≡ vs)
+same_repeat {e} {f} {most} {least} {xs} {vs} g = let same = sym (opened_repeat e most xs) ∙ ap out-StatementForm g ∙ opened_repeat f least vs in (cc, cc, cc)
+
+same_for_each : {child child' parent parent' : Name} {most most' : Expression} {xs vs : Vec Statement Global} → S.ForEach child parent most xs ≡ S.ForEach child' parent' most' vs →
+    (child ≡ child') × (parent ≡ parent') × (most ≡ most') × (xs ≡ vs)
+same_for_each {child} {child'} {parent} {parent'} {most} {most'} {xs} {vs} e =
+    let same = sym (opened_for_each child parent most xs) ∙ ap out-StatementForm e ∙ opened_for_each child' parent' most' vs in (cc, cc, cc, cc)
+
+-- ---- statements
+
+-- the number of its variant
+abbrev pub statement_rank : StatementForm → ℕ
+statement_rank (S.Act' a o) = 0
+statement_rank (S.Try' p xs q ys) = 1
+statement_rank (S.If' r p xs q ys) = 2
+statement_rank (S.Repeat' e most p xs) = 3
+statement_rank (S.ForEach' c d e p xs) = 4
+
+pub same_statement_rank : {f g : StatementForm} → AlikeStatementForm f g → statement_rank f ≡ statement_rank g
+same_statement_rank (A.act x) = refl
+same_statement_rank (A.act_else x o) = refl
+same_statement_rank (A.try a b c d x y) = refl
+same_statement_rank (A.if a b c d q x y) = refl
+same_statement_rank (A.repeat a b x y) = refl
+same_statement_rank (A.repeat_at_most a b x m y) = refl
+same_statement_rank (A.for_each a b x y) = refl
+
+blocks_of : {xs ys vs ws : Vec Statement Global} → xs ≡ ys → vs ≡ ws → AlikeStatements xs.items vs.items → AlikeStatements ys.items ws.items
+blocks_of {ys = ys} {vs = vs} e f h =
+    subst (λ (z : Vec Statement Global). AlikeStatements ys.items z.items) f (subst (λ (z : Vec Statement Global). AlikeStatements z.items vs.items) e h)
+
+-- a statement is like only one of its variant, and their parts are alike
+pub act_of : {f g : StatementForm} {a b : Action} → AlikeStatementForm f g → f ≡ S.Act a None → g ≡ S.Act b None → AlikeAction a b
+act_of {a = a} (A.act {a = c} {b = d} x) e f = subst (AlikeAction a) (same_only f) (subst (λ z. AlikeAction z d) (same_only e) x)
+act_of (A.act_else x o) e f = absurd (only_or_with (sym e))
+act_of x e f = cc
+
+pub else_needed : {f g : StatementForm} {a b : Action} {o : Otherwise} → AlikeStatementForm f g → f ≡ S.Act a (Some o) → g ≡ S.Act b None → ⊥
+else_needed (A.act x) e f = only_or_with e
+else_needed (A.act_else x o) e f = only_or_with (sym f)
+else_needed x e f = cc
+
+pub no_else_needed : {f g : StatementForm} {a b : Action} {o : Otherwise} → AlikeStatementForm f g → f ≡ S.Act a None → g ≡ S.Act b (Some o) → ⊥
+no_else_needed (A.act x) e f = only_or_with f
+no_else_needed (A.act_else x o) e f = only_or_with (sym e)
+no_else_needed x e f = cc
+
+otherwise_of : {o p : Otherwise} → AlikeOtherwise o p → AlikeStatements (out-Otherwise o).body.items (out-Otherwise p).body.items
+otherwise_of (A.otherwise x h) = h
+
+pub act_else_of : {f g : StatementForm} {a b : Action} {o p : Otherwise} → AlikeStatementForm f g → f ≡ S.Act a (Some o) → g ≡ S.Act b (Some p) →
+    AlikeAction a b × AlikeStatements (out-Otherwise o).body.items (out-Otherwise p).body.items
+act_else_of (A.act x) e f = absurd (only_or_with e)
+act_else_of {a = a} {o = o} (A.act_else {a = c} {b = d} {o = q} {p = r} x h) e f =
+    let first = same_with e in
+    let second = same_with f in (
+      subst (AlikeAction a) second.0 (subst (λ z. AlikeAction z d) first.0 x),
+      otherwise_of (subst (AlikeOtherwise o) second.1 (subst (λ z. AlikeOtherwise z r) first.1 h)),
+    )
+act_else_of x e f = cc
+
+pub try_of : {f g : StatementForm} (xs ys vs ws : Vec Statement Global) → AlikeStatementForm f g → f ≡ S.Try xs ys → g ≡ S.Try vs ws →
+    AlikeStatements xs.items vs.items × AlikeStatements ys.items ws.items
+try_of xs ys vs ws (A.try a b c d x y) e f = (blocks_of (same_try e).0 (same_try f).0 x, blocks_of (same_try e).1 (same_try f).1 y)
+try_of xs ys vs ws x e f = cc
+
+pub if_of : {f g : StatementForm} {q r : Question} (xs ys vs ws : Vec Statement Global) → AlikeStatementForm f g → f ≡ S.If q xs ys → g ≡ S.If r vs ws →
+    AlikeQuestion q r × AlikeStatements xs.items vs.items × AlikeStatements ys.items ws.items
+if_of {q = q} xs ys vs ws (A.if {r = t} a b c d h x y) e f =
+    (subst (AlikeQuestion q) (same_if f).0 (subst (λ z. AlikeQuestion z t) (same_if e).0 h), blocks_of (same_if e).1 (same_if f).1 x, blocks_of (same_if e).2 (same_if f).2 y)
+if_of xs ys vs ws x e f = cc
+
+alike_by : {e f g h : Expression} → e ≡ g → f ≡ h → Alike e f → AlikeForm g.form h.form
+alike_by {f = f} {g = g} x y a = form_of (subst (Alike g) y (subst (λ z. Alike z f) x a))
+
+pub repeat_of : {f g : StatementForm} {d e : Expression} (xs vs : Vec Statement Global) → AlikeStatementForm f g → f ≡ S.Repeat d None xs → g ≡ S.Repeat e None vs →
+    AlikeForm d.form e.form × AlikeStatements xs.items vs.items
+repeat_of xs vs (A.repeat a b x y) e f = (alike_by (same_repeat e).0 (same_repeat f).0 x, blocks_of (same_repeat e).2 (same_repeat f).2 y)
+repeat_of xs vs (A.repeat_at_most a b x m y) e f = let no = (same_repeat e).1 in cc
+repeat_of xs vs x e f = cc
+
+pub repeat_at_most_of : {f g : StatementForm} {d e m n : Expression} (xs vs : Vec Statement Global) → AlikeStatementForm f g → f ≡ S.Repeat d (Some m) xs → g ≡ S.Repeat e (Some n) vs →
+    AlikeForm d.form e.form × AlikeForm m.form n.form × AlikeStatements xs.items vs.items
+repeat_at_most_of xs vs (A.repeat a b x y) e f = let no = (same_repeat e).1 in cc
+repeat_at_most_of {m = m} {n = n} xs vs (A.repeat_at_most {most = k} {most' = l} a b x h y) e f =
+    let first : k ≡ m = let same = (same_repeat e).1 in cc in let second : l ≡ n = let same = (same_repeat f).1 in cc in
+    (alike_by (same_repeat e).0 (same_repeat f).0 x, alike_by first second h, blocks_of (same_repeat e).2 (same_repeat f).2 y)
+repeat_at_most_of xs vs x e f = cc
+
+pub most_needed : {f g : StatementForm} {d e m : Expression} (xs vs : Vec Statement Global) → AlikeStatementForm f g → f ≡ S.Repeat d (Some m) xs → g ≡ S.Repeat e None vs → ⊥
+most_needed xs vs (A.repeat a b x y) e f = let no = (same_repeat e).1 in cc
+most_needed xs vs (A.repeat_at_most a b x m y) e f = let no = (same_repeat f).1 in cc
+most_needed xs vs x e f = cc
+
+pub no_most_needed : {f g : StatementForm} {d e m : Expression} (xs vs : Vec Statement Global) → AlikeStatementForm f g → f ≡ S.Repeat d None xs → g ≡ S.Repeat e (Some m) vs → ⊥
+no_most_needed xs vs (A.repeat a b x y) e f = let no = (same_repeat f).1 in cc
+no_most_needed xs vs (A.repeat_at_most a b x m y) e f = let no = (same_repeat e).1 in cc
+no_most_needed xs vs x e f = cc
+
+pub for_each_of : {f g : StatementForm} {child child' parent parent' : Name} {most most' : Expression} (xs vs : Vec Statement Global) → AlikeStatementForm f g →
+    f ≡ S.ForEach child parent most xs → g ≡ S.ForEach child' parent' most' vs →
+    (child ≡ child') × (parent ≡ parent') × AlikeForm most.form most'.form × AlikeStatements xs.items vs.items
+for_each_of xs vs (A.for_each a b x y) e f =
+    let first = same_for_each e in let second = same_for_each f in
+    (sym first.0 ∙ second.0, sym first.1 ∙ second.1, alike_by first.2 second.2 x, blocks_of first.3 second.3 y)
+for_each_of xs vs x e f = cc
+
+-- ---- lists, from the first item on
+
+pub data Paired : List Statement → List Statement → Type 0 where
+  paired_none : Paired [] []
+  paired_more : {s t : Statement} {ss ts : List Statement} → s.offset ≡ t.offset → AlikeStatementForm s.form t.form → Paired ss ts → Paired (s ∷ ss) (t ∷ ts)
+
+push_paired : {s t : Statement} {ss ts : List Statement} → AlikeStatement s t → Paired ss ts → Paired (ss ++ s ∷ []) (ts ++ t ∷ [])
+push_paired (A.statement o x) paired_none = paired_more o x paired_none
+push_paired x (paired_more o y h) = paired_more o y (push_paired x h)
+
+pub paired : {ss ts : List Statement} → AlikeStatements ss ts → Paired ss ts
+paired A.no_statements = paired_none
+paired (A.next_statement h x) = push_paired x (paired h)
+
+pub statement_before : {s t : Statement} {ss ts : List Statement} → AlikeStatement s t → AlikeStatements ss ts → AlikeStatements (s ∷ ss) (t ∷ ts)
+statement_before x A.no_statements = A.next_statement A.no_statements x
+statement_before x (A.next_statement h y) = A.next_statement (statement_before x h) y
+
+pub data PairedDeclarations : List Declaration → List Declaration → Type 0 where
+  paired_nothing : PairedDeclarations [] []
+  paired_declaration : {d e : Declaration} {ds es : List Declaration} → AlikeDeclaration d e → PairedDeclarations ds es → PairedDeclarations (d ∷ ds) (e ∷ es)
+
+push_declaration : {d e : Declaration} {ds es : List Declaration} → AlikeDeclaration d e → PairedDeclarations ds es → PairedDeclarations (ds ++ d ∷ []) (es ++ e ∷ [])
+push_declaration x paired_nothing = paired_declaration x paired_nothing
+push_declaration x (paired_declaration y h) = paired_declaration y (push_declaration x h)
+
+pub paired_declarations : {ds es : List Declaration} → AlikeDeclarations ds es → PairedDeclarations ds es
+paired_declarations A.no_declarations = paired_nothing
+paired_declarations (A.next_declaration h x) = push_declaration x (paired_declarations h)
+
+-- ---- declarations
+
+-- the number of its variant
+abbrev pub declaration_rank : Declaration → ℕ
+declaration_rank (D.Field name number offset) = 0
+declaration_rank (D.Constant name number) = 1
+declaration_rank (D.Procedure p) = 2
+
+pub same_declaration_rank : {d e : Declaration} → AlikeDeclaration d e → declaration_rank d ≡ declaration_rank e
+same_declaration_rank A.same_declaration = refl
+same_declaration_rank (A.procedures x) = refl
+
+pub field_of : {n m : Name} {v w : ℤ} {o p : ℕ} → AlikeDeclaration (D.Field n v o) (D.Field m w p) → (n ≡ m) × (v ≡ w)
+field_of A.same_declaration = (refl, refl)
+
+pub constant_of : {n m : Name} {v w : ℤ} → AlikeDeclaration (D.Constant n v) (D.Constant m w) → (n ≡ m) × (v ≡ w)
+constant_of A.same_declaration = (refl, refl)
+
+pub procedure_of : {p q : Procedure} → AlikeProcedure p p → AlikeDeclaration (D.Procedure p) (D.Procedure q) → AlikeProcedure p q
+procedure_of itself A.same_declaration = itself
+procedure_of itself (A.procedures x) = x

@@ -1,0 +1,70 @@
+"""What the scripts of tests/ share that serve: a server, and the connections to it."""
+
+import contextlib
+import json
+import socket
+import subprocess
+
+from running import Run, free_port
+
+ADD = json.dumps({"op": "register", "name": "add", "asm": "arity 2\nfirst n0 v0 else L\nget v2 n0 0\nadd v2 v2 v1 else F\nput n0 0 v2\nF:\nemit v2\nrel n0\nL:\nret\n"})
+# A million steps, and then what was counted.
+LONG = json.dumps({"op": "register", "name": "long", "asm": "arity 0\nset v1 1\nrep 65000\nadd v0 v0 v1 else L\nadd v0 v0 v1 else L\nadd v0 v0 v1 else L\nend\nL:\nemit v0\nret\n"})
+CALL = json.dumps({"op": "call", "proc": "add", "args": [0, 3]})
+
+
+class Server:
+    """A server on a tree of one node, with a control port. Where no number of connections is given, it is one that lasts."""
+
+    def __init__(self, tests, *words, connections=100):
+        self.tests, self.port, self.control = tests, free_port(), free_port()
+        served = [] if connections is None else ["--connections", str(connections)]
+        options = ["--port", str(self.port), "--control", str(self.control), *served, *words]
+        self.process = subprocess.Popen([tests.program, "serve", "--tree", "examples/one-node.json", *options], cwd=tests.folder, text=True,
+                                        stdin=subprocess.DEVNULL, stdout=subprocess.PIPE, stderr=subprocess.PIPE)
+        self.said = self.process.stderr.readline() + self.process.stderr.readline()
+
+    def stop(self):
+        return self.tests.run("stop", "--port", str(self.control))
+
+    def end(self):
+        """What the server came to."""
+        printed, more = self.process.communicate(timeout=60)
+        return Run(self.process.returncode, printed, self.said + more)
+
+
+@contextlib.contextmanager
+def serving(tests, *words, **named):
+    server = Server(tests, *words, **named)
+    try:
+        yield server
+    finally:
+        server.process.kill()
+
+
+class Peer:
+    """A connection, a line each."""
+
+    def __init__(self, port, buffer=None):
+        self.socket = socket.socket()
+        self.socket.settimeout(30)
+        if buffer:
+            self.socket.setsockopt(socket.SOL_SOCKET, socket.SO_RCVBUF, buffer)
+        self.socket.connect(("127.0.0.1", port))
+        self.lines = self.socket.makefile("r", encoding="utf-8", newline="\n")
+
+    def send(self, *lines):
+        self.socket.sendall("".join(line + "\n" for line in lines).encode())
+
+    def ask(self, line):
+        self.send(line)
+        return self.lines.readline()
+
+    def close(self):
+        self.socket.shutdown(socket.SHUT_RDWR)
+
+    def rest(self):
+        """What is answered up to the end of the connection. A connection that is reset has ended too."""
+        with contextlib.suppress(ConnectionResetError):
+            return self.lines.read()
+        return ""
