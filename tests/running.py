@@ -1,4 +1,7 @@
-"""What the scripts of tests/ share: a run of the built program, and how many tests passed."""
+"""What the scripts of tests/ share: a run of the built program, how many tests passed, and which were asked for.
+
+A script that ends with `main` takes a program, and then names: tests/stopping PROGRAM silence runs its function `silence` alone.
+"""
 
 import functools
 import pathlib
@@ -23,12 +26,46 @@ class Run:
         return f"status {self.status}, out {self.out[-300:]!r}, err {self.err[-300:]!r}"
 
 
-class Tests:
+class Counts:
+    """How many tests passed, failed and were skipped."""
+
+    def __init__(self):
+        self.passed = self.failed = self.skipped = 0
+
+    def check(self, name, holds, found):
+        """Counts a test, and tells what was found if it failed."""
+        if holds:
+            self.passed += 1
+        else:
+            self.failed += 1
+            print(f"failed: {name}: {found!r}")
+
+    def same(self, name, found, wanted):
+        """Counts a test of two values."""
+        self.check(name, found == wanted, Found(found, wanted))
+
+    def end(self):
+        """Prints the last line of a script, and returns its exit status."""
+        print(f"{self.passed} passed, {self.failed} failed" + (f", {self.skipped} skipped" if self.skipped else ""))
+        return 1 if self.failed else 0
+
+
+class Found:
+    """What was found in the place of what was wanted."""
+
+    def __init__(self, found, wanted):
+        self.found, self.wanted = found, wanted
+
+    def __repr__(self):
+        return f"{self.found!r:.300} in the place of {self.wanted!r:.300}"
+
+
+class Tests(Counts):
     """The program, a folder with the examples to run it in, and how many tests passed."""
 
     def __init__(self, program, folder):
+        super().__init__()
         self.program, self.folder = program, folder
-        self.passed = self.failed = 0
 
     def run(self, *words, out=None, err=None, env=None, pass_fds=(), memory=None):
         """Runs the program with these words, in so many bytes of addresses. A stream that has a path goes there, and else into the answer."""
@@ -40,14 +77,6 @@ class Tests:
             if stream != subprocess.PIPE:
                 stream.close()
         return Run(done.returncode, (done.stdout or b"").decode(), (done.stderr or b"").decode())
-
-    def check(self, name, holds, run):
-        """Counts a test."""
-        if holds:
-            self.passed += 1
-        else:
-            self.failed += 1
-            print(f"failed: {name}: {run!r}")
 
     def answers(self, name, words, status, out, err=None):
         """The run has this status, prints this, and says this to people, which may be a pattern."""
@@ -81,7 +110,12 @@ def asked(port, lines):
 
 
 def main(name, groups):
-    """Runs these groups of tests on the program that the command line names, in a folder with the examples. Returns the exit status."""
+    """Runs these groups of tests, or those that the command line names, on the program that it names, in a folder with the examples. Returns the exit status."""
+    known = {group.__name__: group for group in groups}
+    chosen = [known.get(word, word) for word in sys.argv[2:]] or groups
+    if unknown := [group for group in chosen if isinstance(group, str)]:
+        print(f"tests/{name}: there is no {', '.join(unknown)}; there are {', '.join(known)}", file=sys.stderr)
+        return 2
     program = pathlib.Path(sys.argv[1] if len(sys.argv) > 1 else TOP / "crates/tl_cli/out/tl_cli").resolve()
     if not program.is_file():
         print(f"tests/{name}: there is no program {program}; ./treedb --help builds it", file=sys.stderr)
@@ -89,7 +123,6 @@ def main(name, groups):
     with tempfile.TemporaryDirectory() as folder:
         tests = Tests(program, pathlib.Path(folder))
         shutil.copytree(TOP / "examples", tests.path("examples"))
-        for group in groups:
+        for group in chosen:
             group(tests)
-    print(f"{tests.passed} passed, {tests.failed} failed")
-    return 0 if tests.failed == 0 else 1
+        return tests.end()

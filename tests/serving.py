@@ -13,19 +13,28 @@ LONG = json.dumps({"op": "register", "name": "long", "asm": "arity 0\nset v1 1\n
 CALL = json.dumps({"op": "call", "proc": "add", "args": [0, 3]})
 
 
-class Server:
-    """A server on a tree of one node, with a control port. Where no number of connections is given, it is one that lasts."""
+def named(where, port, socket_file):
+    """The option for an address: the one for a port, or the one for the path of a socket's file."""
+    return [port, str(where)] if isinstance(where, int) else [socket_file, where]
 
-    def __init__(self, tests, *words, connections=100):
-        self.tests, self.port, self.control = tests, free_port(), free_port()
+
+class Server:
+    """A server on a tree of one node, with a control. Where no number of connections is given, it is one that lasts. Each of its two addresses is a
+    port, or the path of a socket's file in the folder of the tests."""
+
+    def __init__(self, tests, *words, connections=100, port=None, control=None):
+        self.tests, self.port, self.control = tests, port or free_port(), control or free_port()
         served = [] if connections is None else ["--connections", str(connections)]
-        options = ["--port", str(self.port), "--control", str(self.control), *served, *words]
+        options = [*named(self.port, "--port", "--socket"), *named(self.control, "--control", "--control-socket"), *served, *words]
         self.process = subprocess.Popen([tests.program, "serve", "--tree", "examples/one-node.json", *options], cwd=tests.folder, text=True,
                                         stdin=subprocess.DEVNULL, stdout=subprocess.PIPE, stderr=subprocess.PIPE)
         self.said = self.process.stderr.readline() + self.process.stderr.readline()
 
     def stop(self):
-        return self.tests.run("stop", "--port", str(self.control))
+        return self.tests.run("stop", *named(self.control, "--port", "--socket"))
+
+    def status(self):
+        return self.tests.run("status", *named(self.control, "--port", "--socket"))
 
     def end(self):
         """What the server came to."""
@@ -43,14 +52,15 @@ def serving(tests, *words, **named):
 
 
 class Peer:
-    """A connection, a line each."""
+    """A connection to a port, or to a socket's file, a line each."""
 
-    def __init__(self, port, buffer=None):
-        self.socket = socket.socket()
+    def __init__(self, where, buffer=None):
+        is_port = isinstance(where, int)
+        self.socket = socket.socket(socket.AF_INET if is_port else socket.AF_UNIX)
         self.socket.settimeout(30)
         if buffer:
             self.socket.setsockopt(socket.SOL_SOCKET, socket.SO_RCVBUF, buffer)
-        self.socket.connect(("127.0.0.1", port))
+        self.socket.connect(("127.0.0.1", where) if is_port else str(where))
         self.lines = self.socket.makefile("r", encoding="utf-8", newline="\n")
 
     def send(self, *lines):

@@ -21,7 +21,7 @@ const fn chosen(heading: &'static str, work: &'static str, words: &'static str) 
 const CHOSEN: [Chosen; 10] = [
     chosen("A call alone", "a loop of arithmetic", "one call alone, arithmetic (`alone`)"),
     chosen("Codes of", "`verify`: flat", "verifying a procedure (`verify`, `check`)"),
-    chosen("`Running`", "4,096 walks", "walks in a core of one thread, with the order kept (`drive`)"),
+    chosen("`Running`", "4,096 walks", "walks in a core of one thread, with the order kept (the library alone)"),
     chosen("Engines, 4,096 calls each in batches of 256: two nodes of a subtree of its own, 10,000", "two nodes", "long calls through an engine, one worker (`run`)"),
     chosen("Engines, 4,096 calls each in batches of 256: two nodes of a subtree of its own, 10,000", "product alone: 4", "long calls, four workers beside one (`run`)"),
     chosen("Engines, 4,096 calls each in batches of 256: two nodes of a subtree of its own, 20", "two nodes", "short calls through an engine, one worker (`run`)"),

@@ -55,7 +55,7 @@ const MANY_OPEN: &str = "**4,096 calls open at once.** The call before which a n
 front: by `perf` this search takes four fifths of the time on both sides, and to make room at the front a sixth of the product's and a fourteenth of the \
 twin's, since the kit's `Vec` moves what stands behind by a loop of its own.";
 
-const TRUSTING: &str = "**`order_of` beside a twin that takes it that the rules are kept.** `order_of` is for every history: it checks each event before it places it, \
+const TRUSTING: &str = "**`order_of` beside a twin that assumes that the rules are kept.** `order_of` is for every history: it checks each event before it places it, \
 and where one breaks a rule, the plain definition places all of them. The rows without that remark stand beside a twin that does so too. `Running` and \
 an engine keep the rules, and check nothing.";
 

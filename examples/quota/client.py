@@ -7,13 +7,12 @@ from treedb import Client
 
 QUOTA = pathlib.Path(__file__).resolve().parent / "quota.tdb"
 
-with Client(int(sys.argv[1]), timeout=60) as db:
-    for procedure in ("move_file", "check_quota"):
-        db.register_file(procedure, QUOTA)
+with Client(port=int(sys.argv[1]), timeout=60) as db:
+    db.register_all(QUOTA)
 
     # Both files of the first directory, into the same free place of the second one, at once: one of them is too large for it.
-    answers = db.batch([("move_file", 0, 0, 1, 1), ("move_file", 0, 1, 1, 1)], workers=2)
-    print("moved", [answer.reply[0] for answer in answers])
+    batch = db.batch([("move_file", 0, 0, 1, 1), ("move_file", 0, 1, 1, 1)], workers=2)
+    print("moved", [reply[0] for reply in batch.replies()])
 
     for directory in (1, 2, 3):
         used, left = db.call("check_quota", directory).reply

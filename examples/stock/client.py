@@ -3,7 +3,7 @@
 import pathlib
 import sys
 
-from treedb import Answer, Client, Refused
+from treedb import Client, Refused
 
 HERE = pathlib.Path(__file__).resolve().parent
 # A procedure of this name was registered before: this script has run on the server already.
@@ -19,12 +19,12 @@ def register(db, name):
             raise
 
 
-with Client(int(sys.argv[1]), timeout=60) as db:
+with Client(port=int(sys.argv[1]), timeout=60) as db:
     for procedure in ("transfer", "shift", "visit", "stock"):
         register(db, procedure)
 
     # Eight calls at once, on four threads.
-    answers = db.batch(
+    batch = db.batch(
         [
             ("transfer", 5, 0, 0, 0, 1, 0, 0),
             ("transfer", 3, 2, 1, 0, 0, 0, 1),
@@ -37,7 +37,7 @@ with Client(int(sys.argv[1]), timeout=60) as db:
         ],
         workers=4,
     )
-    print("moved", [answer.reply[0] if isinstance(answer, Answer) else answer for answer in answers])
+    print("moved", [reply[0] for reply in batch.replies()])
 
     total = sum(db.call("stock", warehouse).reply[0] for warehouse in (1, 2, 3))
     print("in stock", total)

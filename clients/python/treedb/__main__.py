@@ -1,11 +1,14 @@
-"""Trees and tables: python3 -m treedb --help."""
+"""Trees and tables: treedb-tables --help, or python3 -m treedb --help."""
+
+from __future__ import annotations
 
 import argparse
 import json
 import sys
+from typing import Any
 
 from . import __version__
-from .names import read_table, shown, write_table
+from .tables import read_table, shown, write_table
 
 
 def from_table(words: argparse.Namespace) -> None:
@@ -21,48 +24,54 @@ def from_table(words: argparse.Namespace) -> None:
 
 
 def to_table(words: argparse.Namespace) -> None:
-    tree, names = _loaded(words)
+    tree, names = loaded(words.tree), loaded(words.names)
     with open(words.table, "w", encoding="utf-8", newline="") as table:
         write_table(table, tree, names, words.fields.split(",") if words.fields else ())
 
 
 def show(words: argparse.Namespace) -> None:
-    tree, names = _loaded(words)
+    tree, names = loaded(words.tree), loaded(words.names) if words.names else None
     if not 0 <= words.node < len(tree["parents"]):
         raise ValueError(f"no node {words.node}")
     for line in shown(tree, names, words.node):
         print(line)
 
 
-def _loaded(words: argparse.Namespace):
-    with open(words.tree, encoding="utf-8") as file:
-        tree = json.load(file)
-    if words.names is None:
-        return tree, None
-    with open(words.names, encoding="utf-8") as file:
-        return tree, json.load(file)
+def loaded(path: str) -> Any:
+    with open(path, encoding="utf-8") as file:
+        return json.load(file)
+
+
+def parser() -> argparse.ArgumentParser:
+    words = argparse.ArgumentParser(prog="treedb-tables", description="Trees and tables, with names for nodes.")
+    words.add_argument("--version", action="version", version=__version__)
+    commands = words.add_subparsers(required=True, metavar="COMMAND")
+
+    command = commands.add_parser("tree", help="make a tree and its names of a table (CSV) of paths and fields")
+    for name in ("table", "tree", "names"):
+        command.add_argument(name)
+    command.set_defaults(do=from_table)
+
+    command = commands.add_parser("table", help="make a table (CSV) of a tree and its names")
+    for name in ("tree", "names", "table"):
+        command.add_argument(name)
+    command.add_argument("--fields", help="the names of the fields, with commas between")
+    command.set_defaults(do=to_table)
+
+    command = commands.add_parser("show", help="print a tree, or what is below a node, indented")
+    command.add_argument("tree")
+    command.add_argument("node", nargs="?", type=int, default=0)
+    command.add_argument("--names")
+    command.set_defaults(do=show)
+    return words
 
 
 def main() -> int:
-    parser = argparse.ArgumentParser(prog="python3 -m treedb", description="Trees and tables, with names for nodes.")
-    parser.add_argument("--version", action="version", version=__version__)
-    commands = parser.add_subparsers(required=True)
-    command = commands.add_parser("tree", help="make a tree and its names of a table (CSV) of paths and fields")
-    command.add_argument("table"), command.add_argument("tree"), command.add_argument("names")
-    command.set_defaults(do=from_table)
-    command = commands.add_parser("table", help="make a table (CSV) of a tree and its names")
-    command.add_argument("tree"), command.add_argument("names"), command.add_argument("table")
-    command.add_argument("--fields", help="the names of the fields, with commas between")
-    command.set_defaults(do=to_table)
-    command = commands.add_parser("show", help="print a tree, or what is below a node, indented")
-    command.add_argument("tree"), command.add_argument("node", nargs="?", type=int, default=0)
-    command.add_argument("--names")
-    command.set_defaults(do=show)
-    words = parser.parse_args()
+    words = parser().parse_args()
     try:
         words.do(words)
     except (OSError, ValueError, KeyError) as fault:
-        print(f"treedb: {fault}", file=sys.stderr)
+        print(f"treedb-tables: {fault}", file=sys.stderr)
         return 1
     return 0
 

@@ -1,46 +1,50 @@
-"""Names for nodes, and trees from tables.
+"""Names for nodes.
 
-A tree's nodes have numbers alone. Names stay outside of the database: a file has them, a JSON list of texts by node number, and a client maps
-them. A table (CSV) of paths and fields becomes a tree with such a file, and a tree with names becomes a table again.
+A tree's nodes have numbers alone. Names stay outside of the database: a file has them, a JSON list of texts by node number, and a client maps them.
 """
 
 from __future__ import annotations
 
-import csv
 import json
-from collections.abc import Iterable, Iterator
-from typing import Any, TextIO
+import os
+from collections.abc import Iterable, Iterator, Mapping
 
-WIDTH = 8
-MAX_NODES = 4_096
+__all__ = ["SEPARATOR", "Names"]
+
 SEPARATOR = "/"
 
 
-class Names:
-    """The names of a tree's nodes. A node is found by its path, the names from the root's children down, as `north/aisle 1/shelf 2`."""
+class Names(Mapping[str, int]):
+    """The numbers of a tree's nodes by their paths. A path has the names from the root's children down, as `north/aisle 1/shelf 2`; the root's is empty.
 
-    def __init__(self, parents: list[int], names: list[str]):
-        """`parents` are the tree's, and `names` has a text for each node. Two children of one node can't have one name."""
+    A node whose name is empty, and each node below it, has no path; the root has one.
+    """
+
+    def __init__(self, parents: list[int], names: list[str], file: str | os.PathLike[str] | None = None) -> None:
+        """`parents` are the tree's, and `names` has a text for each node, empty where it has no name. Two children of one node can't have one name.
+
+        Names that are added are written to `file`, if there is one.
+        """
         if len(parents) != len(names):
             raise ValueError(f"{len(names)} names for {len(parents)} nodes")
-        self.parents, self.names = parents, names
-        self._nodes = {self.path(node): node for node in range(len(names))}
-        if len(self._nodes) != len(names):
-            raise ValueError("two nodes have one path")
+        self.parents, self.names, self.file = list(parents), list(names), file
+        self._paths: list[str | None] = []
+        self._nodes: dict[str, int] = {}
+        for node in range(len(names)):
+            self._add(node)
 
     @classmethod
-    def load(cls, tree: str, names: str) -> Names:
-        """The names of two files: a tree, and a list of names."""
+    def load(cls, tree: str | os.PathLike[str], names: str | os.PathLike[str]) -> Names:
+        """The names of two files: a tree, and a list of names. The second file gets the names that are added later."""
         with open(tree, encoding="utf-8") as tree_file, open(names, encoding="utf-8") as names_file:
-            return cls(json.load(tree_file)["parents"], json.load(names_file))
+            return cls(json.load(tree_file)["parents"], json.load(names_file), names)
 
     def path(self, node: int) -> str:
-        """The path of a node. The root's is empty."""
-        parts = []
-        while node:
-            parts.append(self.names[node])
-            node = self.parents[node]
-        return SEPARATOR.join(reversed(parts))
+        """The path of a node. The root's is empty. A node that isn't there, or has no path, is a `ValueError`."""
+        path = self._paths[node] if 0 <= node < len(self._paths) else None
+        if path is None:
+            raise ValueError(f"node {node} has no name")
+        return path
 
     def __getitem__(self, path: str) -> int:
         """The number of the node with this path."""
@@ -48,82 +52,79 @@ class Names:
 
     def __iter__(self) -> Iterator[str]:
         """The paths, by rising number of their nodes."""
-        return map(self.path, range(len(self.names)))
+        return iter(self._nodes)
 
+    def __len__(self) -> int:
+        """How many nodes have a path."""
+        return len(self._nodes)
 
-def read_table(table: TextIO) -> tuple[dict[str, Any], list[str]]:
-    """The tree of a table, and its names.
+    def missing(self, paths: Iterable[str]) -> list[list[str]]:
+        """What has to be added so that these paths are there, those above them first: of each list, every path is below one that is there by then.
 
-    The first row has the names of the columns: a path, and up to eight fields. Each further row is a node: its path, with `/` between names, and its
-    fields, integers; a field that is empty or missing is 0. A node that only stands in others' paths has zeros. The row with an empty path is the root's. Nodes are
-    numbered as they come, each after its parent; so children keep the order of their rows.
-    """
-    rows = csv.reader(table)
-    head = next(rows, None)
-    if not head or len(head) > WIDTH + 1:
-        raise ValueError(f"the first row has to name a path and at most {WIDTH} fields")
-    parents, names, records = [0], [""], [[0] * WIDTH]
-    nodes, told = {"": 0}, set()
-    for row in rows:
-        if not row:
-            continue
-        path, fields = row[0].strip(SEPARATOR), row[1:]
-        if path in told:
-            raise ValueError(f"line {rows.line_num}: {path or 'the root'} stands twice")
-        told.add(path)
-        node = _node_of(path, nodes, parents, names, records)
-        if len(fields) > WIDTH:
-            raise ValueError(f"line {rows.line_num}: a record has at most {WIDTH} fields")
-        for field, text in enumerate(fields):
-            records[node][field] = _number(text, rows.line_num)
-    return {"parents": parents, "records": records}, names
+        A path that is there already, or stands twice, or has an empty name, is a `ValueError`.
+        """
+        levels: dict[int, dict[str, None]] = {}
+        told = set(self)
+        for path in paths:
+            if path in told:
+                raise ValueError(f"{path!r} is there already")
+            told.add(path)
+            parts = path.split(SEPARATOR)
+            if "" in parts:
+                raise ValueError(f"{path!r} has an empty name")
+            for depth in range(1, len(parts) + 1):
+                above = SEPARATOR.join(parts[:depth])
+                if above not in self:
+                    levels.setdefault(depth, {})[above] = None
+        return [list(levels[depth]) for depth in sorted(levels)]
 
+    def parents_of(self, paths: Iterable[str]) -> list[int]:
+        """The numbers of the nodes right above these paths."""
+        return [self[path.rpartition(SEPARATOR)[0]] for path in paths]
 
-def _node_of(path: str, nodes: dict[str, int], parents: list[int], names: list[str], records: list[list[int]]) -> int:
-    """The node of a path. It is made with those above it where they aren't there."""
-    if path in nodes:
-        return nodes[path]
-    above, _, name = path.rpartition(SEPARATOR)
-    parent = _node_of(above, nodes, parents, names, records)
-    if len(parents) == MAX_NODES:
-        raise ValueError(f"a tree has at most {MAX_NODES} nodes")
-    nodes[path] = len(parents)
-    parents.append(parent)
-    names.append(name)
-    records.append([0] * WIDTH)
-    return nodes[path]
+    def append(self, first: int, paths: Iterable[str]) -> None:
+        """Names new nodes, which are numbered from `first` on, and writes the file. Nodes before `first` that are new here have no name: another client has
+        added them, and names them in its own file.
 
+        The file is replaced as a whole, so it never has a part of the names.
+        """
+        if first < len(self.names):
+            raise ValueError(f"node {first} is there already")
+        unknown = first - len(self.names)
+        added = list(paths)
+        self.parents += [0] * unknown + self.parents_of(added)
+        self.names += [""] * unknown + [path.rpartition(SEPARATOR)[2] for path in added]
+        for node in range(len(self._paths), len(self.names)):
+            self._add(node)
+        if self.file is not None:
+            self._write(os.fspath(self.file))
 
-def _number(text: str, line: int) -> int:
-    try:
-        number = int(text) if text.strip() else 0
-    except ValueError:
-        raise ValueError(f"line {line}: {text!r} is no integer") from None
-    if not -(2**63) <= number < 2**63:
-        raise ValueError(f"line {line}: {number} doesn't fit 64 bits")
-    return number
+    def _add(self, node: int) -> None:
+        """Takes up the path of the next node."""
+        path = self._path_of(node)
+        if path in self._nodes:
+            raise ValueError("two nodes have one path")
+        self._paths.append(path)
+        if path is not None:
+            self._nodes[path] = node
 
+    def _path_of(self, node: int) -> str | None:
+        """The path of a node whose parent's is known."""
+        name, parent = self.names[node], self.parents[node]
+        if node == 0:
+            return ""
+        if not 0 <= parent < node:
+            raise ValueError(f"node {node} has no parent of a lower number")
+        above = self._paths[parent]
+        if above is None or not name:
+            return None
+        return f"{above}{SEPARATOR}{name}" if above else name
 
-def write_table(table: TextIO, tree: dict[str, Any], names: list[str], fields: Iterable[str] = ()) -> None:
-    """Writes the table of a tree with these names: the row of columns, then a row for each node, in the order of their numbers."""
-    columns = [*fields] or [f"field {field}" for field in range(WIDTH)]
-    named = Names(tree["parents"], names)
-    rows = csv.writer(table, lineterminator="\n")
-    rows.writerow(["path", *columns])
-    for path, record in zip(named, tree["records"]):
-        rows.writerow([path, *record[: len(columns)]])
-
-
-def shown(tree: dict[str, Any], names: list[str] | None = None, top: int = 0) -> Iterator[str]:
-    """The lines of a tree for people: each node below its parent and indented, with its number, its name and its record."""
-    children: list[list[int]] = [[] for _ in tree["parents"]]
-    for node, parent in enumerate(tree["parents"]):
-        if node:
-            children[parent].append(node)
-    waiting = [(top, 0)]
-    while waiting:
-        node, depth = waiting.pop()
-        name = f" {names[node]}" if names and names[node] else ""
-        fields = ", ".join(map(str, tree["records"][node]))
-        yield f"{'  ' * depth}{node}{name}  [{fields}]"
-        waiting.extend((child, depth + 1) for child in reversed(children[node]))
+    def _write(self, file: str) -> None:
+        part = f"{file}.part"
+        with open(part, "w", encoding="utf-8") as written:
+            json.dump(self.names, written, ensure_ascii=False)
+            written.write("\n")
+            written.flush()
+            os.fsync(written.fileno())
+        os.replace(part, file)

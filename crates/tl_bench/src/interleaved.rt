@@ -1,6 +1,6 @@
 // Many calls, stepped in turn.
 
-ghost use Rattle.std.specs.Prelude.{◌≡◌, ◌≤◌, length};
+ghost use Rattle.std.specs.Prelude.{◌≡◌, ◌<◌, ◌≤◌, All, length};
 
 use crate::clock::now;
 use crate::digest::{mix_core, mix_order, mix_records};
@@ -257,7 +257,10 @@ fn replay_all(alloc: Global, running: &Running) -> Option<Measured> {
     replay_along(alloc, running.core(), &order)
 }
 
-fn replay_along(alloc: Global, core: &Core, order: &Order) -> Option<Measured> {
+// The order is one of calls of that core.
+fn replay_along(alloc: Global, core: &Core, order: &Order) -> Option<Measured>
+    requires { All (λ c. c < length core.now.seen.calls) order.now.calls }
+{
     let mut measured = Measured::none();
     measured.add_count(core.calls() as u64);
     let begin = now();

@@ -170,6 +170,10 @@ impl<R: Files + Eprint> Keeper for Archive<R> {
         }
     }
 
+    fn nodes(&self) -> u16 {
+        self.succession.last().tree().shape().node_count()
+    }
+
     fn keep(&mut self, alloc: Global) {
         self.keep_closed(alloc);
     }

@@ -2,7 +2,8 @@
 
 use crate::help::{
     ALONE_HELP, ASM_HELP, AUDIT_HELP, CHECK_HELP, COMPILE_HELP, DIS_HELP, DRIVE_HELP, EXPLAIN_HELP,
-    HELP, MIGRATE_HELP, PROCS_HELP, RUN_HELP, SERVE_HELP, STOP_HELP, VERIFY_HELP, WIDEN_HELP,
+    HELP, MIGRATE_HELP, PROCS_HELP, RUN_HELP, SERVE_HELP, STATUS_HELP, STOP_HELP, VERIFY_HELP,
+    WIDEN_HELP,
 };
 use clap::{Arg, ArgAction, Command, value_parser};
 use std::alloc::{AllocError, Global};
@@ -218,7 +219,13 @@ fn with_connection_args<'a>(
         .value_name("P")
         .value_parser(value_parser!(u16).range(1..))
         .required_unless_present("connections")?
+        .required_unless_present("control-socket")?
+        .conflicts_with("control-socket")?
         .help("A second port of this machine, on which `treedb stop` asks the server to end");
+    let control_socket = Arg::new(alloc, "control-socket")
+        .long("control-socket")
+        .value_name("PATH")
+        .help("The file of a Unix socket in the place of that port");
     let idle = Arg::new(alloc, "idle")
         .long("idle")
         .value_name("S")
@@ -228,6 +235,7 @@ fn with_connection_args<'a>(
         .arg(connections)?
         .arg(at_once)?
         .arg(control)?
+        .arg(control_socket)?
         .arg(idle)
 }
 
@@ -253,35 +261,70 @@ fn with_epoch_args<'a>(alloc: Global, command: Command<'a>) -> Result<Command<'a
     command.arg(seal)?.arg(generation)?.arg(trails)
 }
 
-fn serve_command<'a>(alloc: Global) -> Result<Command<'a>, AllocError> {
+// A port of this machine, or the file of a Unix socket.
+fn with_address_args<'a>(
+    alloc: Global,
+    command: Command<'a>,
+    port_help: &'static str,
+    socket_help: &'static str,
+) -> Result<Command<'a>, AllocError> {
     let port = Arg::new(alloc, "port")
         .long("port")
         .value_name("P")
-        .required(true)
+        .required_unless_present("socket")?
+        .conflicts_with("socket")?
         .value_parser(value_parser!(u16).range(1..))
-        .help("The port of this machine, 1 to 65535");
+        .help(port_help);
+    let socket = Arg::new(alloc, "socket")
+        .long("socket")
+        .value_name("PATH")
+        .help(socket_help);
+    command.arg(port)?.arg(socket)
+}
+
+fn serve_command<'a>(alloc: Global) -> Result<Command<'a>, AllocError> {
     let command = Command::new(alloc, "serve")
         .about(
-            "Serves connections on a local port, a request a line, and prints the tree in the end",
+            "Serves connections on a local port or a Unix socket, a request a line, and prints the tree in the end",
         )
         .after_help(SERVE_HELP)
-        .arg(tree_arg(alloc))?
-        .arg(port)?;
-    let command = with_epoch_args(alloc, with_connection_args(alloc, command)?)?;
+        .arg(tree_arg(alloc))?;
+    let command = with_address_args(
+        alloc,
+        command,
+        "The port of this machine, 1 to 65535",
+        "The file of a Unix socket in the place of the port",
+    )?;
+    let mode = Arg::new(alloc, "mode")
+        .long("mode")
+        .value_name("OCTAL")
+        .help(
+            "The permissions of the files of sockets, three octal digits; 600 if not given: the user of the server alone",
+        );
+    let command = with_epoch_args(alloc, with_connection_args(alloc, command.arg(mode)?)?)?;
     command.arg(trail_arg(alloc))?.arg(save_arg(alloc))
 }
 
+fn with_control_args<'a>(alloc: Global, command: Command<'a>) -> Result<Command<'a>, AllocError> {
+    let (port, socket) = (
+        "The server's control port",
+        "The file of the server's control socket",
+    );
+    with_address_args(alloc, command, port, socket)
+}
+
 fn stop_command<'a>(alloc: Global) -> Result<Command<'a>, AllocError> {
-    let port = Arg::new(alloc, "port")
-        .long("port")
-        .value_name("P")
-        .required(true)
-        .value_parser(value_parser!(u16).range(1..))
-        .help("The server's control port");
-    Command::new(alloc, "stop")
+    let command = Command::new(alloc, "stop")
         .about("Asks a server of this machine to answer what it has read, and to end")
-        .after_help(STOP_HELP)
-        .arg(port)
+        .after_help(STOP_HELP);
+    with_control_args(alloc, command)
+}
+
+fn status_command<'a>(alloc: Global) -> Result<Command<'a>, AllocError> {
+    let command = Command::new(alloc, "status")
+        .about("Prints what a server of this machine that lasts says of itself")
+        .after_help(STATUS_HELP);
+    with_control_args(alloc, command)
 }
 
 fn explain_command<'a>(alloc: Global) -> Result<Command<'a>, AllocError> {
@@ -308,6 +351,7 @@ pub fn command<'a>(alloc: Global) -> Result<Command<'a>, AllocError> {
         .subcommand(drive_command(alloc)?)?
         .subcommand(run_command(alloc)?)?
         .subcommand(serve_command(alloc)?)?
+        .subcommand(status_command(alloc)?)?
         .subcommand(stop_command(alloc)?)?
         .subcommand(audit_command(alloc)?)?
         .subcommand(check_command(alloc)?)?

@@ -1,9 +1,12 @@
 // The command line.
 
+ghost use Rattle.std.specs.Prelude.{◌<◌, IfSome};
+
 use crate::arguments::command;
 use clap::error::ErrorKind;
 use clap::{ArgMatches, Error};
 use std::alloc::{AllocError, Global};
+use tl_server::Address;
 
 /// The files, if named, that are written as well as what is printed: the trail, and the final tree.
 #[derive(Clone, Copy)]
@@ -36,18 +39,20 @@ pub enum CallCommand<'a> {
         workers: usize,
         script: ScriptFiles<'a>,
     },
-    /// Serve connections on a local port.
+    /// Serve connections on a local port or a socket.
     Serve(ServeOptions<'a>),
 }
 
 /// How a server is run.
 #[derive(Clone, Copy)]
 pub struct ServeOptions<'a> {
-    pub port: u16,
+    pub address: Address<'a>,
     /// How many connections may be open at once.
     pub at_once: u16,
-    /// The local port on which it can be asked to stop.
-    pub control: Option<u16>,
+    /// Where it can be asked to stop.
+    pub control: Option<Address<'a>>,
+    /// The permissions that the files of its sockets get.
+    pub mode: u32,
     /// After how many seconds a silent connection is ended.
     pub idle: Option<u16>,
     pub sealing: Sealing<'a>,
@@ -78,6 +83,9 @@ const GENERATION: u16 = 16;
 
 /// How many connections may be open at once, if the command line doesn't say.
 const AT_ONCE: u16 = 8;
+
+/// The permissions of a socket's file, if the command line doesn't say: who started the server may connect, and nobody else.
+const MODE: u32 = 0o600;
 
 /// A command that turns a file into another, or says what is in it.
 #[derive(Clone, Copy)]
@@ -134,9 +142,13 @@ pub enum Request<'a> {
     Audit {
         trails: Vec<&'a str>,
     },
-    /// Ask the server with this control port to stop.
+    /// Ask the server with this control port or socket to stop.
     Stop {
-        control: u16,
+        control: Address<'a>,
+    },
+    /// Ask the server with this control port or socket how far it is.
+    Status {
+        control: Address<'a>,
     },
 }
 
@@ -176,6 +188,44 @@ fn has_lasting_options(words: &ArgMatches<'_>) -> bool {
     words.contains_id("generation") || words.contains_id("trails")
 }
 
+// A port or a socket's file, whichever is named.
+fn address_of<'a>(words: &ArgMatches<'a>, port: &str, socket: &str) -> Option<Address<'a>> {
+    match words.get_str(socket) {
+        Some(path) => Some(Address::Socket(path)),
+        None => Some(Address::Port(words.get_one(port)?)),
+    }
+}
+
+fn octal_digit(digit: u8) -> Option<u32>
+    ensures { IfSome result (λ d. d < 8) }
+{
+    match digit {
+        b'0'..=b'7' => Some(u32::from(digit - b'0')),
+        _ => None,
+    }
+}
+
+// The number of three octal digits.
+fn octal(digits: &str) -> Option<u32>
+    ensures { IfSome result (λ n. n < 512) }
+{
+    let &[owner, group, others] = digits.as_bytes() else {
+        return None;
+    };
+    Some(octal_digit(owner)? * 64 + octal_digit(group)? * 8 + octal_digit(others)?)
+}
+
+// The permissions of the files of sockets; or why the options don't go together.
+fn mode_of(words: &ArgMatches<'_>) -> Result<u32, &'static str> {
+    let Some(digits) = words.get_str("mode") else {
+        return Ok(MODE);
+    };
+    if !words.contains_id("socket") && !words.contains_id("control-socket") {
+        return Err("--mode is for the file of a socket: --socket or --control-socket");
+    }
+    octal(digits).ok_or("--mode is followed by three octal digits, as in 660")
+}
+
 // The words of all arguments of that name.
 fn all_of<'a>(alloc: Global, words: &ArgMatches<'a>, name: &str) -> Option<Vec<&'a str>> {
     let mut all = Vec::new(alloc);
@@ -206,9 +256,10 @@ fn call_command<'a>(alloc: Global, name: &str, words: &ArgMatches<'a>) -> Option
             script: script_of(alloc, words)?,
         }),
         "serve" => Some(CallCommand::Serve(ServeOptions {
-            port: words.get_one("port")?,
+            address: address_of(words, "port", "socket")?,
             at_once: words.get_one("at-once").unwrap_or(AT_ONCE),
-            control: words.get_one("control"),
+            control: address_of(words, "control", "control-socket"),
+            mode: mode_of(words).ok()?,
             idle: words.get_one("idle"),
             sealing: who_seals(words).ok()?,
         })),
@@ -261,7 +312,12 @@ fn asked_of<'a>(alloc: Global, matches: &ArgMatches<'a>) -> Option<Asked<'a>> {
     }
     if name == "stop" {
         return Some(Asked::Request(Request::Stop {
-            control: words.get_one("port")?,
+            control: address_of(words, "port", "socket")?,
+        }));
+    }
+    if name == "status" {
+        return Some(Asked::Request(Request::Status {
+            control: address_of(words, "port", "socket")?,
         }));
     }
     if name == "audit" {
@@ -271,6 +327,9 @@ fn asked_of<'a>(alloc: Global, matches: &ArgMatches<'a>) -> Option<Asked<'a>> {
     }
     if name == "serve" {
         if let Err(reason) = who_seals(words) {
+            return Some(Asked::Mistaken(reason));
+        }
+        if let Err(reason) = mode_of(words) {
             return Some(Asked::Mistaken(reason));
         }
     }

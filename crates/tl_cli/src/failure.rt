@@ -4,17 +4,29 @@ use std::alloc::{AllocError, AllocFailed};
 use std::{fmt, io};
 use tl_commands::CliFault;
 use tl_language_commands::LanguageFault;
+use tl_server::Address;
 
 /// The fault of a command, or of a command on a text of the procedure language; a file that can't be read or written, with the
-/// system's reason; a port that can't be opened; or a server that isn't there.
+/// system's reason; a port or a socket that can't be opened; or a server that isn't there.
 #[derive(Drop)]
 pub enum Failure<'a> {
     Refused(CliFault),
     RefusedText(LanguageFault),
-    Unreadable { path: &'a str, reason: io::Error },
-    Unwritable { path: &'a str, reason: io::Error },
-    NoPort { port: u16 },
-    NoServer { port: u16, reason: io::Error },
+    Unreadable {
+        path: &'a str,
+        reason: io::Error,
+    },
+    Unwritable {
+        path: &'a str,
+        reason: io::Error,
+    },
+    NotOpened {
+        address: Address<'a>,
+    },
+    NoServer {
+        control: Address<'a>,
+        reason: io::Error,
+    },
 }
 
 /// A fault whose numbers stand for a failure on standard output.
@@ -32,7 +44,9 @@ impl Failure<'_> {
             Failure::RefusedText(fault) => Fault::Text(*fault),
             Failure::Unreadable { .. } => Fault::Command(CliFault::Unreadable),
             Failure::Unwritable { .. } => Fault::Command(CliFault::Unwritable),
-            Failure::NoPort { .. } | Failure::NoServer { .. } => Fault::Command(CliFault::NoPort),
+            Failure::NotOpened { .. } | Failure::NoServer { .. } => {
+                Fault::Command(CliFault::NoPort)
+            }
         }
     }
 
@@ -70,10 +84,21 @@ impl fmt::Display for Failure<'_> {
             Failure::RefusedText(fault) => write!(f, "{fault}"),
             Failure::Unreadable { path, reason } => write!(f, "{path} can't be read: {reason}"),
             Failure::Unwritable { path, reason } => write!(f, "{path} can't be written: {reason}"),
-            Failure::NoPort { port } => write!(f, "the port {port} can't be opened"),
-            Failure::NoServer { port, reason } => {
-                write!(f, "no server answers on the control port {port}: {reason}")
-            }
+            Failure::NotOpened { address } => match address {
+                Address::Port(port) => write!(f, "the port {port} can't be opened"),
+                Address::Socket(path) => write!(f, "the socket {path} can't be opened"),
+            },
+            Failure::NoServer { control, reason } => match control {
+                Address::Port(port) => {
+                    write!(f, "no server answers on the control port {port}: {reason}")
+                }
+                Address::Socket(path) => {
+                    write!(
+                        f,
+                        "no server answers on the control socket {path}: {reason}"
+                    )
+                }
+            },
         }
     }
 }

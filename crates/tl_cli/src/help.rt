@@ -3,7 +3,7 @@
 pub const HELP: &str = "\
 A refusal is one line on standard output, {\"error\":[number,..]}, and a message on standard error.
 Exit status: 0 done, 1 refused, 2 a mistake on the command line, 3 a file that can't be read or written, or a port
-that can't be opened, 4 memory.
+or socket that can't be opened, 4 memory.
 Help on a command: treedb COMMAND --help. What a number means: treedb explain NUMBER";
 
 pub const ALONE_HELP: &str = "\
@@ -95,14 +95,26 @@ is refused until one does. Then this prints {\"order\":[..]}, the order in which
 {\"orders\":[..]}, the order in each epoch, and the tree. With --trail what the calls did and the records in the end are
 written to a file, which treedb audit checks. --seal itself and --seal by-hand choose between the two.
 With --idle S a connection ends that sends nothing for S seconds, or takes no answer for so long.
+Every user of the machine reaches a port. With --socket PATH in the place of --port, and --control-socket PATH in the place of
+--control, the server listens on Unix sockets, and whoever may write their files reaches it: who started it alone, or as --mode says,
+660 for the group too. The file of a server that is no more is replaced, any other stays.
 Exit status: 0 done, 1 refused, 2 a mistake on the command line, 3 a file that can't be read or written, or a port
-that can't be opened, 4 memory.";
+or socket that can't be opened, 4 memory.";
+
+pub const STATUS_HELP: &str = "\
+Example: treedb status --port 7879
+asks the server that was started with --control 7879 and without --connections how far it is, and prints
+{\"epoch\":E,\"generation\":G,\"calls\":N,\"connections\":C,\"nodes\":M,\"procedures\":P}: the epoch that calls belong to now, as their
+answers name it; the number of the generation, from 0; the calls that were answered with a receipt since the start; the connections
+that are open; the tree's nodes; and the procedures. With --socket PATH it asks the server with --control-socket PATH.
+Exit status: 0 done, 2 a mistake on the command line, 3 nobody answers there, or a server that doesn't say, 4 memory.";
 
 pub const STOP_HELP: &str = "\
 Example: treedb stop --port 7879
 asks the server that was started with --control 7879 to end, and prints {\"stopping\":true}. The server takes up no more
-connections, answers each line that it has read whole, and prints the tree.
-Exit status: 0 asked, 2 a mistake on the command line, 3 nobody answers on the port, 4 memory.";
+connections, answers each line that it has read whole, and prints the tree. With --socket PATH it asks the server that was started
+with --control-socket PATH.
+Exit status: 0 asked, 2 a mistake on the command line, 3 nobody answers there, 4 memory.";
 
 pub const VERIFY_HELP: &str = "\
 Example: treedb verify walk.tlp

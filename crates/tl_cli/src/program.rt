@@ -389,6 +389,7 @@ where
             Request::Files(command) => self.answer_files(*command),
             Request::Audit { trails } => self.audit(trails),
             Request::Stop { control } => self.stop(*control),
+            Request::Status { control } => self.status(*control),
         }
     }
 

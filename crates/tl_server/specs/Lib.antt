@@ -7,5 +7,6 @@ pub mod Sending
 pub mod Answers
 pub mod Served
 pub mod Outcomes
+pub mod Reports
 pub mod Gaining
 pub mod Runs

@@ -89,7 +89,8 @@ impl Part for Result<u32, Refusal> {
     }
 }
 
-fn put_number<I: Integer, K: Sink>(outbox: &mut Outbox, sink: &mut K, number: I)
+/// A number.
+pub(crate) fn put_number<I: Integer, K: Sink>(outbox: &mut Outbox, sink: &mut K, number: I)
     ensures { Writes (sending (K.output sink.old) (K.failures sink.old) outbox.old) (sending (K.output sink.new) (K.failures sink.new) outbox.new) (I.text number) }
 {
     let mut buffer = Buffer::new();

@@ -1,7 +1,7 @@
 // What the threads of connections share: how many are open, and whether more are accepted.
 
+use crate::stream::Stream;
 use std::alloc::{AllocError, Global};
-use std::net::{Shutdown, TcpStream};
 use std::sync::atomic::{AtomicBool, Ordering};
 use std::sync::{Condvar, Mutex, Wait};
 use std::time::{Clock, Duration};
@@ -30,7 +30,7 @@ pub enum Phase {
 #[derive(Drop)]
 struct Open {
     number: u64,
-    stream: TcpStream,
+    stream: Stream,
 }
 
 #[derive(Drop)]
@@ -109,7 +109,7 @@ impl Hall {
     }
 
     /// Whether the connection may be served. It isn't served after a stop, nor if a stop couldn't end it.
-    pub fn lets_in(&self, rt: &impl Wait, number: u64, stream: &TcpStream) -> bool {
+    pub fn lets_in(&self, rt: &impl Wait, number: u64, stream: &Stream) -> bool {
         let mut served = self.served.lock(rt);
         if served.phase != Phase::Serving {
             return false;
@@ -120,6 +120,15 @@ impl Hall {
         match stream.try_clone() {
             Ok(stream) => streams.push(Open { number, stream }).is_ok(),
             Err(_) => false,
+        }
+    }
+
+    /// How many connections are open that a stop can end.
+    pub fn connections(&self, rt: &impl Wait) -> u64 {
+        let served = self.served.lock(rt);
+        match &served.streams {
+            Some(streams) => streams.len() as u64,
+            None => 0,
         }
     }
 
@@ -149,7 +158,7 @@ impl Hall {
         if let Some(streams) = &served.streams {
             for open in streams {
                 // If it can't be shut down, its peer has ended it.
-                let _ = open.stream.shutdown(Shutdown::Read);
+                let _ = open.stream.end_reading();
             }
         }
         drop(served);

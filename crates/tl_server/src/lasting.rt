@@ -1,17 +1,20 @@
-// Connections on a local port that engines serve one after another.
+// Connections on a local port, or on a Unix socket, that engines serve one after another.
 
 ghost use Rattle.std.specs.Prelude.{◌≡◌, IfErr};
 ghost use Rattle.tl_server.specs.declared.fault.ListenFault.TheVariants.{Memory};
 
-use crate::control::{Control, local};
+use crate::control::Control;
+use crate::entrance::Entrance;
 use crate::fault::ListenFault;
 use crate::hall::{Hall, MAX_CONNECTIONS, Phase};
 use crate::listening::Door;
 use crate::relay::{Keeper, Place, Relay};
 use crate::serving::serve;
 use crate::socket::{SocketSink, SocketSource};
+use crate::stream::{Address, Stream};
 use std::alloc::Global;
-use std::net::{Net, SocketAddr, TcpListener, TcpStream};
+use std::net::{Net, TcpListener, TcpStream};
+use std::rt::Files;
 use std::sync::Wait;
 use std::thread;
 use std::thread::Threads;
@@ -24,7 +27,7 @@ fn visit<R: Threads + Wait + Sync, K: Keeper>(
     relay: &Relay<K>,
     hall: &Hall,
     number: u64,
-    stream: TcpStream,
+    stream: Stream,
 ) {
     let mut place = Place::new();
     let mut source = SocketSource::until(&stream, hall.is_ending());
@@ -66,30 +69,29 @@ fn serve_all<R: Threads + Wait + Sync, K: Keeper + Send>(
     hall.enter(rt, Phase::Over);
 }
 
-/// A local port whose connections a relay of engines serves. It takes no memory for a connection before that comes.
+/// A local port or a Unix socket whose connections a relay of engines serves. It takes no memory for a connection before that comes.
 #[derive(Drop)]
-pub struct LastingServer {
-    listener: TcpListener,
-    address: SocketAddr,
+pub struct LastingServer<'a> {
+    entrance: Entrance<'a>,
     connections: u64,
     // How many are open at once at most.
     places: u16,
     idle: Option<Duration>,
 }
 
-impl LastingServer {
-    /// Listens on 127.0.0.1 and this port, for connections without end. 33 if the port can't be opened.
-    pub fn bind<R: Net<Listener = TcpListener, Stream = TcpStream>>(
+impl<'a> LastingServer<'a> {
+    /// Listens at this address, for connections without end. The file of a socket gets the permissions `mode`, nine bits; a port has
+    /// none. The file of a server that is no more is replaced.
+    ///
+    /// 33 if the port or the socket can't be opened: where another file is there, or a server that listens, that stays as it is.
+    pub fn bind<R: Files + Net<Listener = TcpListener, Stream = TcpStream>>(
         rt: &R,
-        port: u16,
-    ) -> Result<LastingServer, ListenFault> {
-        let address = local(port);
-        let Ok(listener) = rt.bind(address) else {
-            return Err(ListenFault::NoPort);
-        };
+        address: Address<'a>,
+        mode: u32,
+    ) -> Result<LastingServer<'a>, ListenFault> {
+        let entrance = Entrance::open(rt, address, mode)?;
         Ok(LastingServer {
-            listener,
-            address,
+            entrance,
             connections: u64::MAX,
             places: MAX_CONNECTIONS,
             idle: None,
@@ -97,7 +99,7 @@ impl LastingServer {
     }
 
     /// Serves so many connections in all.
-    pub fn with_connections(self, connections: u64) -> LastingServer {
+    pub fn with_connections(self, connections: u64) -> LastingServer<'a> {
         LastingServer {
             connections,
             ..self
@@ -105,13 +107,13 @@ impl LastingServer {
     }
 
     /// Holds open so many connections at once, from 1 to 1,024, in place of 8.
-    pub fn with_places(self, places: u16) -> LastingServer {
+    pub fn with_places(self, places: u16) -> LastingServer<'a> {
         LastingServer { places, ..self }
     }
 
     /// Ends a connection that sends nothing for `idle` while the server waits for its next line, or takes none of its
     /// answers for that time.
-    pub fn ending_idle(self, idle: Duration) -> LastingServer {
+    pub fn ending_idle(self, idle: Duration) -> LastingServer<'a> {
         LastingServer {
             idle: Some(idle),
             ..self
@@ -119,27 +121,27 @@ impl LastingServer {
     }
 
     /// Serves its connections until there were as many as it serves. A failed attempt to accept a connection counts as one. A
-    /// connection that fails is ended, and the others go on.
-    pub fn serve<R: Threads + Wait + Sync, K: Keeper + Send>(
+    /// connection that fails is ended, and the others go on. In the end the socket's file is removed.
+    pub fn serve<R: Files + Threads + Wait + Sync, K: Keeper + Send>(
         self,
         rt: &R,
         alloc: Global,
         relay: &Relay<K>,
     ) {
         let LastingServer {
-            listener,
-            address: _,
+            entrance,
             connections,
             places,
             idle,
         } = self;
         let hall = Hall::new(Vec::new(alloc), places);
         let door = Door {
-            listener: &listener,
+            listener: &entrance.listener,
             connections,
             idle,
         };
         serve_all(rt, alloc, door, relay, &hall);
+        entrance.close(rt);
     }
 
     /// Serves its connections as `serve` does, until it is asked to stop at the control. Then it accepts no more
@@ -150,31 +152,37 @@ impl LastingServer {
         rt: &R,
         alloc: Global,
         relay: &Relay<K>,
-        control: &Control,
+        control: &Control<'_>,
     ) -> Result<(), ListenFault>
     where
-        R: Net<Listener = TcpListener, Stream = TcpStream> + Threads + Wait + Clock + Sync,
+        R: Files + Net<Listener = TcpListener, Stream = TcpStream> + Threads + Wait + Clock + Sync,
         ensures { IfErr result (λ e. e ≡ Memory) }
     {
         let LastingServer {
-            listener,
-            address,
+            entrance,
             connections,
             places,
             idle,
         } = self;
-        let hall = Hall::that_stops(alloc, Vec::new(alloc), places)?;
-        let door = Door {
-            listener: &listener,
-            connections,
-            idle,
+        let Ok(hall) = Hall::that_stops(alloc, Vec::new(alloc), places) else {
+            entrance.close(rt);
+            return Err(ListenFault::Memory);
         };
+        let listener = &entrance.listener;
         // If no thread can be started, the control is watched only after all connections have ended.
         thread::join(
             rt,
-            || control.watch(rt, &hall, address),
-            || serve_all(rt, alloc, door, relay, &hall),
+            || control.watch(rt, alloc, &hall, listener, relay),
+            || {
+                let door = Door {
+                    listener,
+                    connections,
+                    idle,
+                };
+                serve_all(rt, alloc, door, relay, &hall)
+            },
         );
+        entrance.close(rt);
         Ok(())
     }
 }

@@ -1,42 +1,45 @@
-// Connections on a local port.
+// Connections on a local port, or on a Unix socket.
 
 ghost use Rattle.std.specs.Prelude.{◌≡◌, IfErr};
 ghost use Rattle.tl_server.specs.declared.fault.ListenFault.TheVariants.{Memory};
 
 use crate::answer::put_error_line;
-use crate::control::{Control, local};
+use crate::control::Control;
+use crate::entrance::{Entrance, Listener};
 use crate::fault::ListenFault;
 use crate::hall::{Hall, MAX_CONNECTIONS, Phase};
 use crate::outbox::Outbox;
 use crate::serving::serve;
 use crate::socket::{SocketSink, SocketSource};
+use crate::stream::{Address, Stream};
 use std::alloc::Global;
-use std::net::{Net, SocketAddr, TcpListener, TcpStream};
+use std::net::{Net, TcpListener, TcpStream};
+use std::rt::Files;
 use std::sync::Wait;
 use std::thread;
 use std::thread::Threads;
 use std::time::{Clock, Duration};
 use tl_workers::{Engine, Session};
 
-/// Where connections come from, how many of them, and how long one may be silent. Nothing else knows of what kind the listener is.
+/// Where connections come from, how many of them, and how long one may be silent.
 #[derive(Clone, Copy)]
 pub(crate) struct Door<'a> {
-    pub(crate) listener: &'a TcpListener,
+    pub(crate) listener: &'a Listener,
     pub(crate) connections: u64,
     pub(crate) idle: Option<Duration>,
 }
 
 impl Door<'_> {
     /// The next connection, of this number, if it may be served.
-    pub(crate) fn receive(self, rt: &impl Wait, number: u64, hall: &Hall) -> Option<TcpStream> {
-        let Ok((stream, _)) = self.listener.accept() else {
+    pub(crate) fn receive(self, rt: &impl Wait, number: u64, hall: &Hall) -> Option<Stream> {
+        let Ok(stream) = self.listener.accept() else {
             return None;
         };
         if !hall.lets_in(rt, number, &stream) {
             return None;
         }
         // If this fails, an answer may come later, but is the same.
-        let _ = stream.set_nodelay(true);
+        let _ = stream.send_at_once();
         // If these fail, a silent peer keeps its place.
         let _ = stream.set_read_timeout(self.idle);
         let _ = stream.set_write_timeout(self.idle);
@@ -53,7 +56,7 @@ fn welcome(
     engine: &Engine,
     hall: &Hall,
     outbox: &mut Outbox,
-) -> Option<(TcpStream, Session)> {
+) -> Option<(Stream, Session)> {
     let Some(stream) = door.receive(rt, number, hall) else {
         return None;
     };
@@ -76,7 +79,7 @@ fn visit<R: Threads + Wait + Sync>(
     engine: &Engine,
     hall: &Hall,
     number: u64,
-    stream: TcpStream,
+    stream: Stream,
     session: Session,
 ) {
     let mut session = session;
@@ -122,11 +125,10 @@ fn serve_all<R: Threads + Wait + Sync>(
     hall.enter(rt, Phase::Over);
 }
 
-/// A local port that waits for connections. The system lets clients connect from then on; `serve` accepts them.
+/// A local port or a Unix socket that waits for connections. The system lets clients connect from then on; `serve` accepts them.
 #[derive(Drop)]
-pub struct Server {
-    listener: TcpListener,
-    address: SocketAddr,
+pub struct Server<'a> {
+    entrance: Entrance<'a>,
     connections: u16,
     // How many are open at once at most.
     places: u16,
@@ -136,25 +138,24 @@ pub struct Server {
     outbox: Outbox,
 }
 
-impl Server {
-    /// Listens on 127.0.0.1 and this port, for `connections` connections in all, from 1 to 65,535.
+impl<'a> Server<'a> {
+    /// Listens at this address, for `connections` connections in all, from 1 to 65,535. The file of a socket gets the permissions
+    /// `mode`, nine bits; a port has none. The file of a server that is no more is replaced.
     ///
-    /// 33 if the port can't be opened; 990 if memory is refused.
-    pub fn bind<R: Net<Listener = TcpListener, Stream = TcpStream>>(
+    /// 33 if the port or the socket can't be opened: where another file is there, or a server that listens, that stays as it is. 990 if
+    /// memory is refused.
+    pub fn bind<R: Files + Net<Listener = TcpListener, Stream = TcpStream>>(
         rt: &R,
         alloc: Global,
-        port: u16,
+        address: Address<'a>,
+        mode: u32,
         connections: u16,
-    ) -> Result<Server, ListenFault> {
+    ) -> Result<Server<'a>, ListenFault> {
         let sessions = Vec::with_capacity(alloc, usize::from(connections))?;
         let outbox = Outbox::new(alloc)?;
-        let address = local(port);
-        let Ok(listener) = rt.bind(address) else {
-            return Err(ListenFault::NoPort);
-        };
+        let entrance = Entrance::open(rt, address, mode)?;
         Ok(Server {
-            listener,
-            address,
+            entrance,
             connections,
             places: MAX_CONNECTIONS,
             idle: None,
@@ -165,7 +166,7 @@ impl Server {
 
     /// Ends a connection that sends nothing for `idle` while the server waits for its next line, or takes none of its
     /// answers for that time.
-    pub fn ending_idle(self, idle: Duration) -> Server {
+    pub fn ending_idle(self, idle: Duration) -> Server<'a> {
         Server {
             idle: Some(idle),
             ..self
@@ -173,23 +174,22 @@ impl Server {
     }
 
     /// Holds open so many connections at once, from 1 to 1,024, in place of 8.
-    pub fn with_places(self, places: u16) -> Server {
+    pub fn with_places(self, places: u16) -> Server<'a> {
         Server { places, ..self }
     }
 
     /// Serves its connections, and returns their sessions when all have ended. Each connection has a session of its own. At
     /// most 8 are open at once, or as many as were asked for, and a further one is accepted when another ends. A failed attempt to accept a connection counts
     /// as one. A connection that gets no session is answered with one line, `{"error":[821]}`, or `{"error":[990]}` if
-    /// memory is refused, and ended. A connection that fails is ended, and the others go on.
-    pub fn serve<R: Threads + Wait + Sync>(
+    /// memory is refused, and ended. A connection that fails is ended, and the others go on. In the end the socket's file is removed.
+    pub fn serve<R: Files + Threads + Wait + Sync>(
         self,
         rt: &R,
         alloc: Global,
         engine: &Engine,
     ) -> Vec<Session> {
         let Server {
-            listener,
-            address: _,
+            entrance,
             connections,
             places,
             idle,
@@ -198,11 +198,12 @@ impl Server {
         } = self;
         let hall = Hall::new(sessions, places);
         let door = Door {
-            listener: &listener,
+            listener: &entrance.listener,
             connections: u64::from(connections),
             idle,
         };
         serve_all(rt, alloc, door, engine, &hall, outbox);
+        entrance.close(rt);
         hall.into_sessions()
     }
 
@@ -214,33 +215,40 @@ impl Server {
         rt: &R,
         alloc: Global,
         engine: &Engine,
-        control: &Control,
+        control: &Control<'_>,
     ) -> Result<Vec<Session>, ListenFault>
     where
-        R: Net<Listener = TcpListener, Stream = TcpStream> + Threads + Wait + Clock + Sync,
+        R: Files + Net<Listener = TcpListener, Stream = TcpStream> + Threads + Wait + Clock + Sync,
         ensures { IfErr result (λ e. e ≡ Memory) }
     {
         let Server {
-            listener,
-            address,
+            entrance,
             connections,
             places,
             idle,
             sessions,
             outbox,
         } = self;
-        let hall = Hall::that_stops(alloc, sessions, places)?;
-        let door = Door {
-            listener: &listener,
-            connections: u64::from(connections),
-            idle,
+        let Ok(hall) = Hall::that_stops(alloc, sessions, places) else {
+            entrance.close(rt);
+            return Err(ListenFault::Memory);
         };
+        let listener = &entrance.listener;
+        let connections = u64::from(connections);
         // If no thread can be started, the control is watched only after all connections have ended.
         thread::join(
             rt,
-            || control.watch(rt, &hall, address),
-            || serve_all(rt, alloc, door, engine, &hall, outbox),
+            || control.watch(rt, alloc, &hall, listener, engine),
+            || {
+                let door = Door {
+                    listener,
+                    connections,
+                    idle,
+                };
+                serve_all(rt, alloc, door, engine, &hall, outbox)
+            },
         );
+        entrance.close(rt);
         Ok(hall.into_sessions())
     }
 }
@@ -249,12 +257,16 @@ impl Server {
 /// and returns their sessions.
 ///
 /// 33 if the port can't be opened; 990 if memory is refused before the first connection.
-pub fn listen<R: Net<Listener = TcpListener, Stream = TcpStream> + Threads + Wait + Sync>(
+pub fn listen<R>(
     rt: &R,
     alloc: Global,
     port: u16,
     connections: u16,
     engine: &Engine,
-) -> Result<Vec<Session>, ListenFault> {
-    Ok(Server::bind(rt, alloc, port, connections)?.serve(rt, alloc, engine))
+) -> Result<Vec<Session>, ListenFault>
+where
+    R: Files + Net<Listener = TcpListener, Stream = TcpStream> + Threads + Wait + Sync,
+{
+    let server = Server::bind(rt, alloc, Address::Port(port), 0, connections)?;
+    Ok(server.serve(rt, alloc, engine))
 }

@@ -10,6 +10,7 @@ use crate::outcome::Done;
 use crate::request::LineRequest;
 use crate::seats::Seats;
 use crate::service::{Service, act};
+use crate::status::{Reporter, Status, Tally};
 use std::alloc::Global;
 use std::marker::Model;
 use std::mem;
@@ -32,6 +33,9 @@ pub trait Keeper {
     fn open(&mut self, alloc: Global) -> Option<Engine>
         ensures closed { IfSome result (λ _. has_closed self.new) }
         ensures seals { IfSome result (λ e. e.seals ≡ true) };
+
+    /// How many nodes the tree has on which it opened an engine last, or from which the first engine began.
+    fn nodes(&self) -> u16;
 
     /// Keeps what the closed engine did. Lines are answered meanwhile.
     fn keep(&mut self, alloc: Global)
@@ -96,6 +100,10 @@ struct Stage {
     // `None` after one was closed and before the next is open.
     engine: Option<Engine>,
     base: u32,
+    // How many engines were closed before it.
+    generation: u64,
+    // How many nodes its tree has.
+    nodes: u16,
     ghost seals: { IfSome engine (λ e. e.seals ≡ true) } by { Prim.hlevel props },
 }
 
@@ -193,7 +201,17 @@ impl Stage {
         let sessions = mem::replace(&mut *seats, Seats::new(alloc)).into_sessions();
         keeper.close(engine, sessions);
         self.base = base;
+        self.generation = self.generation.saturating_add(1);
         true
+    }
+
+    // The number of the epoch that calls belong to now, among those of all engines; of the next one's first, if none is open.
+    fn epoch(&self, rt: &impl Wait) -> u64 {
+        let own = match &self.engine {
+            Some(engine) => engine.epoch(rt),
+            None => 0,
+        };
+        u64::from(self.base) + u64::from(own)
     }
 }
 
@@ -207,6 +225,7 @@ pub struct Relay<K> {
     keeper: Mutex<K>,
     // After how many epochs the next engine takes over.
     epochs: u32,
+    tally: Tally,
 }
 
 impl<K: Keeper> Relay<K> {
@@ -215,14 +234,18 @@ impl<K: Keeper> Relay<K> {
     pub fn new(alloc: Global, engine: Engine, keeper: K, epochs: u32) -> Relay<K>
         requires { engine.seals ≡ true }
     {
+        let nodes = keeper.nodes();
         Relay {
             stage: RwLock::new(Stage {
                 engine: Some(engine),
                 base: 0,
+                generation: 0,
+                nodes,
             }),
             seats: Mutex::new(Seats::new(alloc)),
             keeper: Mutex::new(keeper),
             epochs: epochs.max(1),
+            tally: Tally::new(),
         }
     }
 
@@ -233,8 +256,14 @@ impl<K: Keeper> Relay<K> {
             seats,
             keeper,
             epochs: _,
+            tally: _,
         } = self;
-        let Stage { engine, base: _ } = stage.into_inner();
+        let Stage {
+            engine,
+            base: _,
+            generation: _,
+            nodes: _,
+        } = stage.into_inner();
         let sessions = seats.into_inner().into_sessions();
         match engine {
             Some(engine) => (Some((engine, sessions)), keeper.into_inner()),
@@ -276,6 +305,7 @@ impl<K: Keeper> Relay<K> {
             return false;
         };
         stage.engine = Some(engine);
+        stage.nodes = keeper.nodes();
         // Lines are answered again. The next hand-over waits for the keeper.
         drop(stage);
         keeper.keep(alloc);
@@ -306,7 +336,10 @@ impl<K: Keeper> Service for Relay<K> {
     ) -> Option<Done> {
         for _ in rt.forever() {
             match self.attempt(rt, alloc, visitor, request) {
-                Ok(done) => return Some(done),
+                Ok(done) => {
+                    self.tally.count(&done.outcome);
+                    return Some(done);
+                }
                 Err(Pause::Refused) => return None,
                 Err(Pause::HandOver(spent)) => {
                     if !self.hand_over(rt, alloc, spent) {
@@ -323,4 +356,19 @@ impl<K: Keeper> Service for Relay<K> {
     ghost gains_more = { goes_on_both };
 
     ghost seals_on = { seals_from };
+}
+
+/// A relay counts what it answers.
+impl<K: Keeper> Reporter for Relay<K> {
+    fn status(&self, rt: &impl Wait, connections: u64) -> Option<Status> {
+        let stage = self.stage.read(rt);
+        Some(Status {
+            epoch: stage.epoch(rt),
+            generation: stage.generation,
+            calls: self.tally.calls(),
+            connections,
+            nodes: u64::from(stage.nodes),
+            procedures: self.tally.procedures(),
+        })
+    }
 }

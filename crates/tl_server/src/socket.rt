@@ -1,14 +1,14 @@
 // Lines and answers over a connection.
 
 use crate::device::{Failure, Sink, Source};
+use crate::stream::Stream;
 use std::io::{Read, Write};
-use std::net::TcpStream;
 use std::sync::atomic::{AtomicBool, Ordering};
 
 /// The requests of a connection. Contracts know nothing of its bytes.
 #[derive(Drop)]
 pub struct SocketSource<'a> {
-    stream: &'a TcpStream,
+    stream: &'a Stream,
     // Once this is set, the input ends.
     is_ending: Option<&'a AtomicBool>,
     failed: u64,
@@ -16,7 +16,7 @@ pub struct SocketSource<'a> {
 
 impl<'a> SocketSource<'a> {
     /// A source of all that the peer sends.
-    pub fn new(stream: &'a TcpStream) -> SocketSource<'a> {
+    pub fn new(stream: &'a Stream) -> SocketSource<'a> {
         SocketSource {
             stream,
             is_ending: None,
@@ -25,7 +25,7 @@ impl<'a> SocketSource<'a> {
     }
 
     /// A source of all that the peer sends until the flag is set.
-    pub fn until(stream: &'a TcpStream, is_ending: &'a AtomicBool) -> SocketSource<'a> {
+    pub fn until(stream: &'a Stream, is_ending: &'a AtomicBool) -> SocketSource<'a> {
         SocketSource {
             stream,
             is_ending: Some(is_ending),
@@ -63,12 +63,12 @@ impl<'a> Source for SocketSource<'a> {
 /// The sink for the answers of a connection. Contracts know nothing of its bytes.
 #[derive(Drop)]
 pub struct SocketSink<'a> {
-    stream: &'a TcpStream,
+    stream: &'a Stream,
     failed: u64,
 }
 
 impl<'a> SocketSink<'a> {
-    pub fn new(stream: &'a TcpStream) -> SocketSink<'a> {
+    pub fn new(stream: &'a Stream) -> SocketSink<'a> {
         SocketSink { stream, failed: 0 }
     }
 }

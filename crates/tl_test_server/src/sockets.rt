@@ -5,12 +5,13 @@ use std::alloc::Global;
 use std::io::{Read, Write};
 use std::net::{Ipv4Addr, Net, Shutdown, SocketAddr, SocketAddrV4, TcpListener, TcpStream};
 use std::process::Abort;
+use std::rt::Files;
 use std::sync::Wait;
 use std::test::Fail;
 use std::thread::Threads;
 use std::time::{Clock, Duration};
 use std::{io, thread};
-use tl_server::{ListenFault, ServeFault, SocketSink, SocketSource, listen, serve};
+use tl_server::{ListenFault, ServeFault, SocketSink, SocketSource, Stream, listen, serve};
 use tl_test_data::{FORK, ONE_NODE};
 use tl_test_engines::{Ended, use_up_sessions, with_callers, with_engine_on_threads};
 use tl_workers::{Engine, Session};
@@ -84,16 +85,16 @@ fn listening<R, F>(
     ask: F,
 ) -> Result<Vec<Session>, Fail>
 where
-    R: Net<Listener = TcpListener, Stream = TcpStream> + Threads + Wait + Sync + Abort,
-    F: FnOnce(u16) -> io::Result<()>,
+    R: Files + Net<Listener = TcpListener, Stream = TcpStream> + Threads + Wait + Sync + Abort,
+    F: FnOnce(u16) -> io::Result<()> + Send,
     requires { (f : _) (x : _) → F.pre f x }
 {
     let port = free_port(rt)?;
     // If a connection fails, the server may wait for ever. So the test ends at once.
-    let (served, ()) = thread::join(
+    let ((), served) = thread::join(
         rt,
-        || listen(rt, alloc, port, connections, engine),
         || assert!(rt; ask(port).is_ok(), "a connection fails"),
+        || listen(rt, alloc, port, connections, engine),
     );
     sessions_of(served)
 }
@@ -108,8 +109,8 @@ fn with_server<R, F, G>(
     judge: G,
 ) -> Result<(), Fail>
 where
-    R: Net<Listener = TcpListener, Stream = TcpStream> + Threads + Wait + Sync + Abort,
-    F: FnOnce(u16) -> io::Result<()>,
+    R: Files + Net<Listener = TcpListener, Stream = TcpStream> + Threads + Wait + Sync + Abort,
+    F: FnOnce(u16) -> io::Result<()> + Send,
     G: FnOnce(&Ended) -> Result<(), Fail>,
     requires ask { (f : _) (x : _) → F.pre f x }
     requires judge { G.IsAlwaysCallable judge }
@@ -253,7 +254,7 @@ fn listen_on_a_port_that_is_had<R>(
     engine: &Engine,
 ) -> Result<Vec<Session>, Fail>
 where
-    R: Net<Listener = TcpListener, Stream = TcpStream> + Threads + Wait + Sync + Abort,
+    R: Files + Net<Listener = TcpListener, Stream = TcpStream> + Threads + Wait + Sync + Abort,
 {
     let listener = rt.bind(address(0))?;
     let port = listener.local_addr()?.port();
@@ -336,7 +337,7 @@ fn reset(rt: &impl Abort, stream: TcpStream, lines: &[u8], first: &[u8]) -> io::
 fn serve_stream<R: Threads + Wait + Sync>(
     rt: &R,
     alloc: Global,
-    stream: &TcpStream,
+    stream: &Stream,
     engine: &Engine,
     session: &mut Session,
 ) -> Result<u64, ServeFault> {
@@ -350,6 +351,7 @@ fn a_connection_that_is_reset_has_not_ended(rt: HostRuntime) -> Result<(), Fail>
     let listener = rt.bind(address(0))?;
     let peer = connect(&rt, listener.local_addr()?.port())?;
     let (stream, _) = listener.accept()?;
+    let stream = Stream::Port(stream);
     with_engine_on_threads(
         &rt,
         rt.alloc(),

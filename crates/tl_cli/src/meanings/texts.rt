@@ -19,8 +19,8 @@ pub fn from_31_to_204(number: u16) -> Option<Meaning> {
         33 => Some(Meaning {
             parts: "",
             name: "port not free",
-            when: "the port of 127.0.0.1 is taken or not allowed; of `stop`, no server answers on it",
-            advice: "take another port, or end the program that has it; for `stop`, look which port the server got by `--control`",
+            when: "the port of 127.0.0.1 is taken or not allowed, or the socket's file can't be made, as where another file is; of `stop` and `status`, no server answers on it",
+            advice: "take another port or path, or end the program that has it; for `stop` and `status`, look what the server got by `--control` or `--control-socket`",
         }),
         101 => Some(Meaning {
             parts: "",

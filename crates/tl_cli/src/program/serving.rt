@@ -1,4 +1,4 @@
-// The commands `serve` and `stop`.
+// The commands `serve`, `stop` and `status`.
 
 use crate::archive::{Finish, Trails};
 use crate::command_line::{LastingOptions, Outputs, Sealing, ServeOptions};
@@ -12,13 +12,15 @@ use std::sync::Wait;
 use std::thread::Threads;
 use std::time::{Clock, Duration};
 use tl_generations::Succession;
-use tl_server::{Control, Keeper, LastingServer, ListenFault, Relay, Server, ask_to_stop};
+use tl_server::{
+    Address, Control, Keeper, LastingServer, ListenFault, Relay, Server, ask_status, ask_to_stop,
+};
 use tl_workers::{Engine, Session};
 
-// Why the program doesn't listen on a port.
-fn not_bound<'p>(port: u16, fault: ListenFault) -> Failure<'p> {
+// Why the program doesn't listen there.
+fn not_bound<'p>(address: Address<'p>, fault: ListenFault) -> Failure<'p> {
     match fault {
-        ListenFault::NoPort => Failure::NoPort { port },
+        ListenFault::NoPort => Failure::NotOpened { address },
         ListenFault::Memory => Failure::Refused(CliFault::Memory),
     }
 }
@@ -42,16 +44,34 @@ where
         + Drop
         + Sync,
 {
-    // Listens on a port, and says so to people. 33 if the port can't be opened.
+    // Says to people where the server listens.
+    fn show_address(&self, address: Address<'_>) {
+        let _shown = match address {
+            Address::Port(port) => eprintln!(self.rt; "treedb: listening on 127.0.0.1:{port}"),
+            Address::Socket(path) => eprintln!(self.rt; "treedb: listening on {path}"),
+        };
+    }
+
+    // Says to people how the server is asked to stop.
+    fn show_control(&self, control: Address<'_>) {
+        let _shown = match control {
+            Address::Port(port) => eprintln!(self.rt; "treedb: treedb stop --port {port} ends it"),
+            Address::Socket(path) => {
+                eprintln!(self.rt; "treedb: treedb stop --socket {path} ends it")
+            }
+        };
+    }
+
+    // Listens at the server's address, and says so to people. 33 if that can't be opened.
     fn listen<'p>(
         &self,
-        options: ServeOptions<'_>,
+        options: ServeOptions<'p>,
         connections: u16,
-    ) -> Result<Server, Failure<'p>> {
-        let port = options.port;
-        let bound = Server::bind(self.rt, self.rt.alloc(), port, connections);
-        let server = bound.map_err(|fault| not_bound(port, fault))?;
-        let _shown = eprintln!(self.rt; "treedb: listening on 127.0.0.1:{port}");
+    ) -> Result<Server<'p>, Failure<'p>> {
+        let (alloc, address) = (self.rt.alloc(), options.address);
+        let bound = Server::bind(self.rt, alloc, address, options.mode, connections);
+        let server = bound.map_err(|fault| not_bound(address, fault))?;
+        self.show_address(address);
         let server = server.with_places(options.at_once);
         Ok(match silence(options.idle) {
             Some(idle) => server.ending_idle(idle),
@@ -59,30 +79,41 @@ where
         })
     }
 
-    // Opens the port on which the server can be asked to stop. 33 if it can't be opened.
-    fn control<'p>(&self, port: u16) -> Result<Control, Failure<'p>> {
-        Control::bind(self.rt, port).map_err(|fault| not_bound(port, fault))
+    // Listens where the server can be asked to stop. 33 if that can't be opened.
+    fn control<'p>(&self, control: Address<'p>, mode: u32) -> Result<Control<'p>, Failure<'p>> {
+        Control::bind(self.rt, control, mode).map_err(|fault| not_bound(control, fault))
     }
 
     // The sessions of a server's connections, once all have ended, or once it was asked to stop.
     fn sessions_of<'p>(
         &self,
         engine: &Engine,
-        options: ServeOptions<'_>,
+        options: ServeOptions<'p>,
         connections: u16,
     ) -> Result<Vec<Session>, Failure<'p>> {
-        let alloc = self.rt.alloc();
-        let Some(port) = options.control else {
-            return Ok(
-                self.listen(options, connections)?
-                    .serve(self.rt, alloc, engine),
-            );
+        let Some(address) = options.control else {
+            let server = self.listen(options, connections)?;
+            return Ok(server.serve(self.rt, self.rt.alloc(), engine));
         };
-        let control = self.control(port)?;
+        let control = self.control(address, options.mode)?;
+        let sessions = self.sessions_until_stopped(engine, options, connections, &control, address);
+        control.close(self.rt);
+        sessions
+    }
+
+    // The same, where the server can be asked to stop at that control.
+    fn sessions_until_stopped<'p>(
+        &self,
+        engine: &Engine,
+        options: ServeOptions<'p>,
+        connections: u16,
+        control: &Control<'_>,
+        address: Address<'p>,
+    ) -> Result<Vec<Session>, Failure<'p>> {
         let server = self.listen(options, connections)?;
-        let _shown = eprintln!(self.rt; "treedb: treedb stop --port {port} ends it");
-        let served = server.serve_until_stopped(self.rt, alloc, engine, &control);
-        served.map_err(|fault| not_bound(port, fault))
+        self.show_control(address);
+        let served = server.serve_until_stopped(self.rt, self.rt.alloc(), engine, control);
+        served.map_err(|fault| not_bound(address, fault))
     }
 
     /// What `serve` prints, once all connections have ended, or once it was asked to stop.
@@ -186,32 +217,45 @@ where
     fn serve_connections<'p, K: Keeper + Send>(
         &self,
         relay: &Relay<K>,
-        options: ServeOptions<'_>,
+        options: ServeOptions<'p>,
         connections: Option<u16>,
     ) -> Result<(), Failure<'p>> {
-        let alloc = self.rt.alloc();
-        let Some(port) = options.control else {
-            self.listen_on(options, connections)?
-                .serve(self.rt, alloc, relay);
+        let Some(address) = options.control else {
+            let server = self.listen_lasting(options, connections)?;
+            server.serve(self.rt, self.rt.alloc(), relay);
             return Ok(());
         };
-        let control = self.control(port)?;
-        let server = self.listen_on(options, connections)?;
-        let _shown = eprintln!(self.rt; "treedb: treedb stop --port {port} ends it");
-        let served = server.serve_until_stopped(self.rt, alloc, relay, &control);
-        served.map_err(|fault| not_bound(port, fault))
+        let control = self.control(address, options.mode)?;
+        let served = self.serve_until_stopped(relay, options, connections, &control, address);
+        control.close(self.rt);
+        served
     }
 
-    // Listens on a port for the connections of a server that lasts, and says so to people. 33 if the port can't be opened.
-    fn listen_on<'p>(
+    // The same, where the server can be asked to stop at that control.
+    fn serve_until_stopped<'p, K: Keeper + Send>(
         &self,
-        options: ServeOptions<'_>,
+        relay: &Relay<K>,
+        options: ServeOptions<'p>,
         connections: Option<u16>,
-    ) -> Result<LastingServer, Failure<'p>> {
-        let port = options.port;
-        let bound = LastingServer::bind(self.rt, port);
-        let server = bound.map_err(|fault| not_bound(port, fault))?;
-        let _shown = eprintln!(self.rt; "treedb: listening on 127.0.0.1:{port}");
+        control: &Control<'_>,
+        address: Address<'p>,
+    ) -> Result<(), Failure<'p>> {
+        let server = self.listen_lasting(options, connections)?;
+        self.show_control(address);
+        let served = server.serve_until_stopped(self.rt, self.rt.alloc(), relay, control);
+        served.map_err(|fault| not_bound(address, fault))
+    }
+
+    // Listens for the connections of a server that lasts, and says so to people. 33 if its address can't be opened.
+    fn listen_lasting<'p>(
+        &self,
+        options: ServeOptions<'p>,
+        connections: Option<u16>,
+    ) -> Result<LastingServer<'p>, Failure<'p>> {
+        let address = options.address;
+        let bound = LastingServer::bind(self.rt, address, options.mode);
+        let server = bound.map_err(|fault| not_bound(address, fault))?;
+        self.show_address(address);
         let server = server.with_places(options.at_once);
         let server = match connections {
             Some(connections) => server.with_connections(u64::from(connections)),
@@ -245,10 +289,16 @@ where
     }
 
     /// Asks a server to stop.
-    pub(crate) fn stop<'p>(&self, port: u16) -> Result<String, Failure<'p>> {
-        match ask_to_stop(self.rt, port) {
+    pub(crate) fn stop<'p>(&self, control: Address<'p>) -> Result<String, Failure<'p>> {
+        match ask_to_stop(self.rt, control) {
             Ok(()) => Ok(String::from_str(self.rt.alloc(), "{\"stopping\":true}\n")?),
-            Err(reason) => Err(Failure::NoServer { port, reason }),
+            Err(reason) => Err(Failure::NoServer { control, reason }),
         }
+    }
+
+    /// Asks a server how far it is.
+    pub(crate) fn status<'p>(&self, control: Address<'p>) -> Result<String, Failure<'p>> {
+        let asked = ask_status(self.rt, self.rt.alloc(), control);
+        asked.map_err(|reason| Failure::NoServer { control, reason })
     }
 }

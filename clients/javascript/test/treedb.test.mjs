@@ -1,0 +1,188 @@
+// The package's own tests, which need no server: `npm test`. `tests/clients` tries the package on a server.
+
+import assert from "node:assert/strict";
+import { readFileSync, mkdtempSync, rmSync } from "node:fs";
+import net from "node:net";
+import { tmpdir } from "node:os";
+import { join } from "node:path";
+import test from "node:test";
+import * as treedb from "../treedb.mjs";
+
+const { Batch, Client, Disconnected, FAULTS, MissingNode, Refused, TimedOut, TreedbError } = treedb;
+
+// Serves connections whose lines are answered as `answering` says: with an object, a text as it is, or nothing. `lines` are those that came.
+async function serving(answering, use, path) {
+  const lines = [];
+  const server = net.createServer((peer) => {
+    let rest = "";
+    peer.setEncoding("utf8").on("error", () => {}).on("data", (piece) => {
+      const come = (rest + piece).split("\n");
+      rest = come.pop();
+      for (const line of come) {
+        lines.push(line);
+        const answer = line === '{"op":"close"}' ? { closed: true } : answering(line, peer);
+        if (answer !== undefined) peer.write(typeof answer === "string" ? answer : `${JSON.stringify(answer)}\n`);
+      }
+    });
+  });
+  await new Promise((ready) => server.listen(path ?? 0, ready));
+  try {
+    return [await use(path === undefined ? { port: server.address().port } : { path }), lines];
+  } finally {
+    server.close();
+  }
+}
+
+const inTurn = (...answers) => () => answers.shift();
+
+test("numbers are exact in both directions", async () => {
+  const answer = '{"call":0,"reply":[9007199254740993,-9223372036854775808,5]}\n';
+  const [reply, lines] = await serving(() => answer, async (to) => {
+    const db = await Client.connect(to);
+    const { reply } = await db.call("add", 9007199254740993n, -1, -0);
+    await db.close();
+    return reply;
+  });
+  assert.deepEqual(reply, [9007199254740993n, -9223372036854775808n, 5n]);
+  assert.equal(lines[0], '{"op":"call","proc":"add","args":[9007199254740993,-1,0]}');
+});
+
+test("a text stays a text", async () => {
+  const names = ["\u00005", "5", '"', "\\", "é\n", "12345678901234567890"];
+  const [, lines] = await serving(() => ({ bounds: {} }), async (to) => {
+    const db = await Client.connect(to);
+    for (const name of names) await db.register(name, name);
+    await db.close();
+  });
+  assert.deepEqual(lines.slice(0, -1).map((line) => JSON.parse(line)), names.map((name) => ({ op: "register", name, asm: name })));
+});
+
+test("what is no exact integer is refused, and nothing is sent", async () => {
+  const [, lines] = await serving(() => ({ call: 0, reply: [] }), async (to) => {
+    const db = await Client.connect(to);
+    for (const argument of [NaN, Infinity, 0.5, 2 ** 53, 2n ** 63n, -(2n ** 63n) - 1n]) {
+      await assert.rejects(db.call("add", argument), RangeError);
+      await assert.rejects(db.batch([["add", argument]]), RangeError);
+    }
+    for (const argument of ["1", undefined, null, [1], {}]) await assert.rejects(db.call("add", argument), TypeError);
+    await assert.rejects(db.call(5), TypeError);
+    await db.close();
+  });
+  assert.deepEqual(lines, ['{"op":"close"}']);
+});
+
+test("a refusal says what to do", async () => {
+  await serving(() => ({ error: [611] }), async (to) => {
+    const db = await Client.connect(to);
+    const refused = await db.register("add", "").catch((reason) => reason);
+    assert.ok(refused instanceof Refused && refused instanceof TreedbError);
+    assert.deepEqual([refused.name, refused.numbers, refused.number, refused.advice], ["Refused", [611], 611, FAULTS[611].advice]);
+    assert.match(refused.message, /^\[611\] a procedure of this name/);
+    assert.match(new Refused([999, 1]).message, /^\[999, 1\] a number that this client doesn't know/);
+    await db.close();
+  });
+});
+
+test("requests go out before answers come", async () => {
+  let held = 0;
+  await serving(() => (++held === 100 ? Array.from({ length: 100 }, (_, call) => `{"call":${call},"reply":[${call}]}\n`).join("") : undefined), async (to) => {
+    const db = await Client.connect(to);
+    const answers = await Promise.all(Array.from({ length: 100 }, (_, number) => db.call("add", number)));
+    assert.deepEqual(answers.map(({ reply }) => Number(reply[0])), [...Array(100).keys()]);
+    await db.close();
+  });
+});
+
+test("a batch", async () => {
+  const [, lines] = await serving(() => ({ batch: [{ call: 0, epoch: 2, reply: [1] }, { error: [601] }, { error: [501] }] }), async (to) => {
+    const db = await Client.connect(to);
+    const batch = await db.batch([["add", 1], ["none"], ["add"]], 2);
+    assert.deepEqual(batch[0], { call: 0, reply: [1n], epoch: 2 });
+    assert.deepEqual(batch.refusals().map(({ number }) => number), [601, 501]);
+    assert.throws(() => batch.replies(), { number: 601 });
+    assert.deepEqual(Batch.of({ reply: [1n] }).replies(), [[1n]]);
+    await db.close();
+  });
+  assert.equal(lines[0], '{"op":"batch","workers":2,"calls":[["add",[1]],["none",[]],["add",[]]]}');
+});
+
+test("records are read", async () => {
+  const read = { batch: [{ call: 0, reply: [1, 2, 3, 4, 5, 6, 7, 8] }] };
+  const [, lines] = await serving(inTurn({ error: [611] }, read, read, { batch: [{ call: 2, reply: [] }] }), async (to) => {
+    const db = await Client.connect(to);
+    assert.deepEqual((await Promise.all([db.read(3), db.read(3)]))[1], [1n, 2n, 3n, 4n, 5n, 6n, 7n, 8n]);
+    await assert.rejects(db.read(9), MissingNode);
+    await db.close();
+  });
+  assert.deepEqual(lines.map((line) => JSON.parse(line).op), ["register", "batch", "batch", "batch", "close"]);
+});
+
+test("growth and seals", async () => {
+  const [, lines] = await serving(inTurn({ grown: 40 }, { sealed: 3 }), async (to) => {
+    const db = await Client.connect(to);
+    assert.deepEqual([await db.grow([0, 40]), await db.seal()], [40, 3]);
+    await db.close();
+  });
+  assert.equal(lines[0], '{"op":"grow","parents":[0,40]}');
+});
+
+test("a late answer is passed over", async () => {
+  await serving((line, peer) => {
+    if (!line.includes("[1]")) return { call: 1, reply: [2] };
+    setTimeout(() => peer.write('{"call":0,"reply":[1]}\n{"call":1,"reply":[2]}\n'), 200);
+    return undefined;
+  }, async (to) => {
+    const db = await Client.connect({ ...to, timeout: 100 });
+    await assert.rejects(db.call("add", 1), TimedOut);
+    await new Promise((go) => setTimeout(go, 200));
+    await db.close();
+  });
+});
+
+test("a lost connection fails all that wait", async () => {
+  await serving((line, peer) => { peer.destroy(); }, async (to) => {
+    const db = await Client.connect(to);
+    const found = await Promise.allSettled([db.call("add", 1), db.call("add", 2)]);
+    assert.ok(found.every(({ reason }) => reason instanceof Disconnected));
+    await assert.rejects(db.call("add", 3), Disconnected);
+    await db.close();
+  });
+});
+
+test("an answer that is no JSON", async () => {
+  await serving(() => "{\n", async (to) => {
+    await assert.rejects((await Client.connect(to)).call("add", 1), Disconnected);
+  });
+});
+
+test("nobody listens", async () => {
+  await assert.rejects(Client.connect({ path: "/there is no such socket" }), Disconnected);
+});
+
+test("a Unix socket", async () => {
+  const folder = mkdtempSync(join(tmpdir(), "treedb-"));
+  try {
+    await serving(() => ({ call: 0, reply: [7] }), async (to) => {
+      const db = await Client.connect(to);
+      assert.deepEqual((await db.call("add")).reply, [7n]);
+      await db.close();
+    }, join(folder, "socket"));
+  } finally {
+    rmSync(folder, { recursive: true });
+  }
+});
+
+test("a block closes the connection", async () => {
+  const [, lines] = await serving(() => ({ call: 0, reply: [] }), async (to) => {
+    const db = await Client.connect(to.port, "127.0.0.1");
+    await db.call("add");
+    await db[Symbol.asyncDispose ?? Symbol.for("Symbol.asyncDispose")]();
+    await assert.rejects(db.call("add"), /closed/);
+  });
+  assert.deepEqual(lines.slice(1), ['{"op":"close"}']);
+});
+
+test("each name is declared for TypeScript", () => {
+  const declared = readFileSync(new URL("../treedb.d.mts", import.meta.url), "utf8").match(/^export (?:class|const) (\w+)/gm).map((it) => it.split(" ")[2]);
+  assert.deepEqual(declared.sort(), Object.keys(treedb).sort());
+});

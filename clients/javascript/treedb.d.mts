@@ -1,0 +1,88 @@
+/** An argument: a BigInt of 64 bits, or a number that is a safe integer. */
+export type Integer = number | bigint;
+
+/** What a registered procedure does at most on any tree. */
+export interface Bounds {
+  readonly steps: number;
+  readonly locks: number;
+  readonly emits: number;
+}
+
+/** A call that was admitted and is done: its number among the calls of its epoch, its reply, and the number of the epoch. */
+export interface Answer {
+  readonly call: number;
+  readonly reply: bigint[];
+  readonly epoch: number;
+}
+
+/** A call of a batch: its procedure, and its arguments. */
+export type Call = readonly [procedure: string, ...args: Integer[]];
+
+/** Where a server listens, and a time limit in milliseconds. */
+export type ConnectOptions = ({ port: number; host?: string; path?: undefined } | { path: string }) & { timeout?: number };
+
+/** When a number is answered, and what to do then. */
+export interface Fault {
+  readonly meaning: string;
+  readonly advice: string;
+}
+
+export const FAULTS: Readonly<Record<number, Fault>>;
+
+/** The base of all errors of this package. */
+export class TreedbError extends Error {}
+
+/** The server refused a request, and nothing was changed. */
+export class Refused extends TreedbError {
+  constructor(numbers: number[]);
+  /** The fault's number, and then its parts. */
+  readonly numbers: number[];
+  readonly number: number;
+  readonly meaning: string;
+  readonly advice: string;
+}
+
+/** There is no connection: the server can't be reached, or the connection ended before the answer. A call that was sent may have been done. */
+export class Disconnected extends TreedbError {
+  constructor(message?: string, options?: { cause?: unknown });
+}
+
+/** The answer didn't come in time. A call that was sent may have been done. */
+export class TimedOut extends TreedbError {
+  constructor(message?: string);
+}
+
+/** The tree has no node of this number. */
+export class MissingNode extends TreedbError {}
+
+/** What became of a batch: for each of its calls, in their order, an answer or a refusal. */
+export class Batch extends Array<Answer | Refused> {
+  /** The answers; throws the first refusal. */
+  answers(): Answer[];
+  /** The replies; throws the first refusal. */
+  replies(): bigint[][];
+  refusals(): Refused[];
+}
+
+/** A connection to a server. Requests may be sent without waiting for the answers of those before. */
+export class Client {
+  constructor(socket: import("node:net").Socket, timeout?: number);
+  static connect(options: ConnectOptions): Promise<Client>;
+  static connect(port: number, host?: string): Promise<Client>;
+  /** Registers a procedure's assembler text under a name. */
+  register(name: string, asm: string): Promise<Bounds>;
+  /** Runs a call to its end. */
+  call(procedure: string, ...args: Integer[]): Promise<Answer>;
+  /** Runs 1 to 256 calls, on 1 to 16 threads at once. */
+  batch(calls: Iterable<Call>, workers?: number): Promise<Batch>;
+  /** The record of a node, eight BigInts. */
+  read(node: Integer): Promise<bigint[]>;
+  readAll(nodes: Iterable<Integer>): Promise<bigint[][]>;
+  /** Adds a node below each of these, and answers the number of the first one. Only a server that lasts does so. */
+  grow(parents: Iterable<Integer>): Promise<number>;
+  /** Seals the current epoch, and answers its number. */
+  seal(): Promise<number>;
+  /** Ends the connection, once all requests before are answered. */
+  close(): Promise<void>;
+  [Symbol.asyncDispose](): Promise<void>;
+}

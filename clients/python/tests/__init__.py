@@ -1,0 +1,1 @@
+"""The package's own tests, which need no server: `python3 -m unittest` or `pytest` in the folder above. `tests/clients` tries the package on servers."""

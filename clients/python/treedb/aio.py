@@ -1,0 +1,199 @@
+"""A client for asyncio. Its requests may be sent one after another without waiting: their answers come in the same order."""
+
+from __future__ import annotations
+
+import asyncio
+import collections
+import contextlib
+import os
+from collections.abc import Iterable
+from typing import Any
+
+from .connection import LOOPBACK, address_of, spoken
+from .errors import Disconnected, Refused, TimedOut
+from .names import Names
+from .protocol import (MAX_BATCH, NAME_TAKEN, READER, READER_TEXT, Answer, Batch, Bounds, Call, answer_of, batch_in, batch_request, bounds_in, call_in,
+                       call_request, grow_request, line_of, records_in, register_request, wanted, with_line)
+from .texts import procedures_of, text_of
+
+__all__ = ["AsyncClient"]
+
+# A longer line is none that a server answers.
+MAX_ANSWER = 2**24
+
+
+class AsyncClient:
+    """A connection to a server, for one event loop. Many tasks may use it at once.
+
+        async with await AsyncClient.connect(port=7878) as db:
+            answers = await asyncio.gather(*(db.call("add", 0, 1) for _ in range(100)))
+
+    It doesn't seal by a rule as `Client(.., seals=True)` does: that is for servers with `--connections`.
+    """
+
+    def __init__(self, reader: asyncio.StreamReader, writer: asyncio.StreamWriter, timeout: float | None = None) -> None:
+        """Takes over the streams of a connection; `connect` makes them."""
+        self._reader, self._writer, self._timeout = reader, writer, timeout
+        # The requests that were sent and aren't answered, in their order.
+        self._waiting: collections.deque[asyncio.Future[bytes]] = collections.deque()
+        self._writing = asyncio.Lock()
+        # Why no further request can be sent.
+        self._ended: str | None = None
+        self._reads: asyncio.Future[None] | None = None
+        self._reading = asyncio.ensure_future(self._take_answers())
+
+    @classmethod
+    async def connect(cls, host: str = LOOPBACK, port: int | None = None, *, path: str | os.PathLike[str] | None = None,
+                      timeout: float | None = None) -> AsyncClient:
+        """Connects to a port, or to the Unix socket of a path. A server that can't be reached is `Disconnected`.
+
+        `timeout` is in seconds, for each answer; None waits as long as it takes. After a `TimedOut` the connection goes on: the late answer is passed over.
+        """
+        address = address_of(host, port, path)
+        opening = (asyncio.open_unix_connection(address, limit=MAX_ANSWER) if isinstance(address, str)
+                   else asyncio.open_connection(*address, limit=MAX_ANSWER))
+        try:
+            reader, writer = await asyncio.wait_for(opening, timeout)
+        except asyncio.TimeoutError as late:
+            raise TimedOut(f"{spoken(address)}: no connection in time") from late
+        except OSError as failed:
+            raise Disconnected(f"{spoken(address)}: {failed}") from failed
+        return cls(reader, writer, timeout)
+
+    async def register(self, name: str, text: str) -> Bounds:
+        """Registers an assembler text under a name, and returns its `Bounds`."""
+        try:
+            return bounds_in(await self._ask(register_request(name, text)))
+        except Refused as refusal:
+            raise with_line(refusal, text) from None
+
+    async def register_file(self, name: str, path: str | os.PathLike[str], program: str | None = None) -> Bounds:
+        """Registers the text of a file under a name, as `Client.register_file` does."""
+        return await self.register(name, await _in_thread(text_of, name, path, program))
+
+    async def register_all(self, path: str | os.PathLike[str], program: str | None = None) -> dict[str, Bounds]:
+        """Registers all procedures of a file `.tdb`, as `Client.register_all` does."""
+        return {name: await self.register(name, text) for name, text in (await _in_thread(procedures_of, path, program)).items()}
+
+    async def call(self, procedure: str, *arguments: int) -> Answer:
+        """Runs a call to its end, and returns its `Answer`."""
+        return call_in(await self._ask(call_request(procedure, arguments)))
+
+    async def batch(self, calls: Iterable[Call], workers: int = 1) -> Batch:
+        """Runs 1 to 256 calls, given as (procedure, argument, ..), on 1 to 16 threads at once, as `Client.batch` does."""
+        return batch_in(await self._ask(batch_request(wanted(calls), workers)))
+
+    async def read(self, node: int) -> list[int]:
+        """The record of a node, as `Client.read` returns it."""
+        return (await self.read_all([node]))[0]
+
+    async def read_all(self, nodes: Iterable[int]) -> list[list[int]]:
+        """The records of these nodes, each read by a call of its own."""
+        await self._register_reader()
+        asked = list(nodes)
+        parts = [asked[start : start + MAX_BATCH] for start in range(0, len(asked), MAX_BATCH)]
+        batches = await asyncio.gather(*(self.batch([(READER, node) for node in part]) for part in parts))
+        return [record for part, batch in zip(parts, batches) for record in records_in(part, batch.answers())]
+
+    async def grow(self, names: Names, paths: Iterable[str]) -> list[int]:
+        """Adds a node for each of these paths, as `Client.grow` does."""
+        asked = list(paths)
+        for level in names.missing(asked):
+            names.append((await self._ask(grow_request(names.parents_of(level))))["grown"], level)
+        return [names[path] for path in asked]
+
+    async def seal(self) -> int:
+        """Seals the current epoch, and returns its number."""
+        sealed: int = (await self._ask({"op": "seal"}))["sealed"]
+        return sealed
+
+    async def close(self) -> None:
+        """Ends the connection once all requests before are answered. A connection that is closed stays so."""
+        try:
+            if self._ended is None:
+                await self._ask({"op": "close"})
+        finally:
+            await self._hang_up()
+
+    async def __aenter__(self) -> AsyncClient:
+        return self
+
+    async def __aexit__(self, kind: Any, value: Any, trace: Any) -> None:
+        if kind is None:
+            await self.close()
+        else:
+            await self._hang_up()
+
+    async def _register_reader(self) -> None:
+        # Tasks that read at the same time wait for the same registration.
+        if self._reads is None:
+            self._reads = asyncio.ensure_future(self._registered_reader())
+        try:
+            await asyncio.shield(self._reads)
+        except Exception:
+            self._reads = None
+            raise
+
+    async def _registered_reader(self) -> None:
+        try:
+            await self.register(READER, READER_TEXT)
+        except Refused as refusal:
+            # Another client has registered it.
+            if refusal.number != NAME_TAKEN:
+                raise
+
+    async def _hang_up(self) -> None:
+        self._end("the connection is closed")
+        self._reading.cancel()
+        self._writer.close()
+        await asyncio.gather(self._reading, self._writer.wait_closed(), return_exceptions=True)
+
+    async def _ask(self, request: dict[str, Any]) -> dict[str, Any]:
+        """Sends a request, and returns its answer; raises `Refused` for a refusal."""
+        if self._ended is not None:
+            raise Disconnected(self._ended)
+        line = line_of(request)
+        answer: asyncio.Future[bytes] = asyncio.get_running_loop().create_future()
+        self._waiting.append(answer)
+        self._writer.write(line)
+        try:
+            return answer_of(await asyncio.wait_for(self._sent(answer), self._timeout))
+        except asyncio.TimeoutError as late:
+            raise TimedOut("no answer in time") from late
+
+    async def _sent(self, answer: asyncio.Future[bytes]) -> bytes:
+        """The answer, once the request is on its way."""
+        async with self._writing:
+            with contextlib.suppress(OSError):
+                # That the connection is lost is said by its reader.
+                await self._writer.drain()
+        return await answer
+
+    async def _take_answers(self) -> None:
+        """Hands each line to the request that is waiting for it longest."""
+        reason = "the server ended the connection"
+        try:
+            while (line := await self._reader.readline()).endswith(b"\n"):
+                if not self._waiting:
+                    reason = "the server answers what nobody has asked"
+                    break
+                answer = self._waiting.popleft()
+                # One that isn't waited for any more is passed over.
+                if not answer.done():
+                    answer.set_result(line)
+        except (OSError, ValueError) as failed:
+            reason = f"the connection is lost: {failed}"
+        self._end(reason)
+        self._writer.close()
+
+    def _end(self, reason: str) -> None:
+        """From now on each request fails for this reason, also those that are waiting."""
+        self._ended = self._ended or reason
+        for answer in self._waiting:
+            if not answer.done():
+                answer.set_exception(Disconnected(reason))
+        self._waiting.clear()
+
+
+async def _in_thread(do: Any, *arguments: Any) -> Any:
+    return await asyncio.get_running_loop().run_in_executor(None, do, *arguments)

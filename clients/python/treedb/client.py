@@ -1,0 +1,230 @@
+"""A client that waits for each answer."""
+
+from __future__ import annotations
+
+import os
+import socket
+import time
+from collections.abc import Iterable
+from typing import Any
+
+from .connection import LOOPBACK, address_of, connected
+from .errors import Disconnected, Exhausted, Refused, TimedOut
+from .names import Names
+from .protocol import (MAX_BATCH, NAME_TAKEN, READER, READER_TEXT, Answer, Batch, Bounds, Call, Outcome, answer_of, batch_in, batch_request, bounds_in,
+                       call_in, call_request, grow_request, line_of, records_in, register_request, wanted, with_line)
+from .texts import procedures_of, text_of
+
+__all__ = ["Client"]
+
+# The last call of an epoch: there are 4,096.
+LAST_CALL = 4_095
+# How many seconds a client waits for the seal of another one, and how long it waits before it asks once more.
+PATIENCE = 5.0
+PAUSE = 0.01
+
+
+class Client:
+    """A connection to a server. It can be used in a `with`, which closes it. One thread uses it at a time."""
+
+    def __init__(self, host: str | int = LOOPBACK, port: int | str | None = None, timeout: float | None = None, seals: bool = False,
+                 *, path: str | os.PathLike[str] | None = None) -> None:
+        """Connects to a port, or to the Unix socket of a path. A server that can't be reached is `Disconnected`.
+
+        `timeout` is in seconds, for each answer; None waits as long as it takes. After a `TimedOut` the connection is closed, since the late answer would be
+        taken for that of the next request.
+
+        `seals` is for a server with `--connections`, which leaves it to its clients to seal an epoch. The client that gets the last call of an epoch
+        seals it. Exactly one client gets it, so no two seal at once where all clients of a server do so. A client that finds an epoch full
+        waits for that, and asks again. Where nobody seals for seconds, or the epoch has room for calls but not for all that this one may do,
+        it seals the epoch itself. Any other server never refuses a call for a full epoch, so `seals` changes none of its answers.
+        """
+        self._seals = seals
+        self._reads = False
+        self._socket: socket.socket | None = connected(address_of(host, port, path), timeout)
+        self._answers = self._socket.makefile("rb")
+
+    def register(self, name: str, text: str) -> Bounds:
+        """Registers an assembler text under a name, and returns its `Bounds`."""
+        try:
+            return bounds_in(self._ask(register_request(name, text)))
+        except Refused as refusal:
+            raise with_line(refusal, text) from None
+
+    def register_file(self, name: str, path: str | os.PathLike[str], program: str | None = None) -> Bounds:
+        """Registers the text of a file under a name, and returns its `Bounds`.
+
+        Of a file `.tdb` it is the procedure of that name, which the program `treedb` compiles; any other file has an assembler text.
+        """
+        return self.register(name, text_of(name, path, program))
+
+    def register_all(self, path: str | os.PathLike[str], program: str | None = None) -> dict[str, Bounds]:
+        """Registers all procedures of a file `.tdb`, which the program `treedb` compiles, and returns their `Bounds` by name."""
+        return {name: self.register(name, text) for name, text in procedures_of(path, program).items()}
+
+    def call(self, procedure: str, *arguments: int) -> Answer:
+        """Runs a call to its end, and returns its `Answer`."""
+        request = call_request(procedure, arguments)
+        began = time.monotonic()
+        while True:
+            try:
+                answer = call_in(self._ask(request))
+            except Refused as refusal:
+                if not self._is_to_seal(refusal):
+                    raise
+                self._go_on(refusal, began)
+            else:
+                self._seal_behind([answer])
+                return answer
+
+    def batch(self, calls: Iterable[Call], workers: int = 1) -> Batch:
+        """Runs 1 to 256 calls, given as (procedure, argument, ..), on 1 to 16 threads at once.
+
+        Returns a list with an `Answer` for each, in order, or a `Refused` where one was refused; its `replies()` raises the first refusal instead. Where the
+        last epoch is full, an `Exhausted` stands in the place of each call for which there was no room.
+        """
+        asked = wanted(calls)
+        outcomes = self._batch(asked, workers)
+        began = time.monotonic()
+        while places := [place for place, outcome in enumerate(outcomes) if self._is_to_seal(outcome)]:
+            try:
+                self._go_on(outcomes[places[0]], began)
+                later = self._batch([asked[place] for place in places], workers)
+            except Exhausted as end:
+                later = Batch([end] * len(places))
+            for place, outcome in zip(places, later):
+                outcomes[place] = outcome
+        return outcomes
+
+    def read(self, node: int) -> list[int]:
+        """The record of a node, eight integers. It registers the procedure `treedb_read` when it is first asked, and is a call as others are.
+
+        A node that isn't there is a `MissingNode`, which is an `IndexError`.
+        """
+        return self.read_all([node])[0]
+
+    def read_all(self, nodes: Iterable[int]) -> list[list[int]]:
+        """The records of these nodes, each read by a call of its own: what others write meanwhile may stand in a later one and not in an earlier one."""
+        self._register_reader()
+        asked, records = list(nodes), []
+        for start in range(0, len(asked), MAX_BATCH):
+            some = asked[start : start + MAX_BATCH]
+            records += records_in(some, self.batch([(READER, node) for node in some]).answers())
+        return records
+
+    def grow(self, names: Names, paths: Iterable[str]) -> list[int]:
+        """Adds a node for each of these paths, as `north/aisle 9`, and for each one above it that isn't there. Returns their numbers, in order.
+
+        The new records are zeros. `names` gets the new names after the answer, and so does the file that they were loaded from. Only a server that lasts
+        grows; any other refuses with 901. A path that stands there already is a `ValueError`, and nothing is asked then. If the connection
+        ends before the answer, nodes may be there that have no name.
+
+        It is one request for the paths of each depth, since the numbers of new nodes are known by the answer alone. Each is a generation of its own, so
+        add many nodes at once.
+        """
+        asked = list(paths)
+        for level in names.missing(asked):
+            names.append(self._ask(grow_request(names.parents_of(level)))["grown"], level)
+        return [names[path] for path in asked]
+
+    def seal(self) -> int:
+        """Seals the current epoch, and returns its number. Calls go on in the next one, on the tree as it is.
+
+        A server with `--connections` refuses it with 606 while a call is unfinished, and with 808 in the last epoch.
+        """
+        sealed: int = self._ask({"op": "seal"})["sealed"]
+        return sealed
+
+    def close(self) -> None:
+        """Ends the connection. A connection that is closed stays so."""
+        if self._socket is None:
+            return
+        try:
+            self._ask({"op": "close"})
+        finally:
+            self._hang_up()
+
+    def __enter__(self) -> Client:
+        return self
+
+    def __exit__(self, kind: Any, value: Any, trace: Any) -> None:
+        # After another exception the connection may be in the middle of a line.
+        if kind is None:
+            self.close()
+        else:
+            self._hang_up()
+
+    def _register_reader(self) -> None:
+        if self._reads:
+            return
+        try:
+            self.register(READER, READER_TEXT)
+        except Refused as refusal:
+            # Another client has registered it.
+            if refusal.number != NAME_TAKEN:
+                raise
+        self._reads = True
+
+    def _batch(self, asked: list[tuple[str, list[int]]], workers: int) -> Batch:
+        outcomes = batch_in(self._ask(batch_request(asked, workers)))
+        self._seal_behind(outcomes)
+        return outcomes
+
+    def _is_to_seal(self, outcome: Outcome) -> bool:
+        """Whether the request was refused since the epoch is full, and this client seals."""
+        return self._seals and isinstance(outcome, Refused) and outcome.number in (603, 605)
+
+    def _go_on(self, refusal: Any, began: float) -> None:
+        """Waits for the seal of the client that got the epoch's last call, or seals the epoch."""
+        if refusal.number == 603 and time.monotonic() < began + PATIENCE:
+            time.sleep(PAUSE)
+            return
+        try:
+            self.seal()
+        except Refused as unsealed:
+            if unsealed.number == 808:
+                raise Exhausted("the last epoch of the server is full") from unsealed
+            if unsealed.number != 606:
+                raise
+            time.sleep(PAUSE)
+
+    def _seal_behind(self, outcomes: Iterable[Outcome]) -> None:
+        """Seals the epoch where one of these calls was its last, once the calls of others are done."""
+        is_last = any(isinstance(outcome, Answer) and outcome.call == LAST_CALL for outcome in outcomes)
+        while self._seals and is_last:
+            try:
+                self.seal()
+                return
+            except Refused as unsealed:
+                # The next call says that the last epoch is full.
+                if unsealed.number == 808:
+                    return
+                if unsealed.number != 606:
+                    raise
+                time.sleep(PAUSE)
+
+    def _hang_up(self) -> None:
+        if self._socket is not None:
+            self._answers.close()
+            self._socket.close()
+            self._socket = None
+
+    def _ask(self, request: dict[str, Any]) -> dict[str, Any]:
+        """Sends a request, and returns its answer; raises `Refused` for a refusal. After any other failure it hangs up."""
+        if self._socket is None:
+            raise Disconnected("the connection is closed")
+        line = line_of(request)
+        try:
+            self._socket.sendall(line)
+            answer = self._answers.readline()
+        except socket.timeout as late:
+            self._hang_up()
+            raise TimedOut("no answer in time") from late
+        except OSError as lost:
+            self._hang_up()
+            raise Disconnected(f"the connection is lost: {lost}") from lost
+        if not answer.endswith(b"\n"):
+            self._hang_up()
+            raise Disconnected("the server ended the connection")
+        return answer_of(answer)
+

@@ -1,0 +1,53 @@
+"""What can go wrong between a program and a server. Each exception of this package is an `Error`."""
+
+from __future__ import annotations
+
+from collections.abc import Iterable
+
+from .faults import FAULTS
+
+__all__ = ["Disconnected", "Error", "Exhausted", "MissingNode", "Refused", "TimedOut", "Unreadable"]
+
+
+class Error(Exception):
+    """The base of all exceptions of this package."""
+
+
+class Refused(Error):
+    """The server refused a request, and nothing was changed.
+
+    `numbers` are the fault's number and then its parts, as `[405, 3, 1]`; `number` is the first, `meaning` says when it is answered, and `advice` what
+    to do. Where a text was refused, `line` is the number of its line, from 1.
+    """
+
+    def __init__(self, numbers: Iterable[int], line: int | None = None) -> None:
+        self.numbers = list(numbers)
+        self.number = self.numbers[0]
+        fault = FAULTS.get(self.number)
+        self.meaning = fault.meaning if fault else "a number that this client doesn't know"
+        self.advice = fault.advice if fault else "see docs/faults.md of the server's version"
+        self.line = line
+        parts = "".join(f", {part}" for part in self.numbers[1:])
+        where = "" if line is None else f" (line {line})"
+        super().__init__(f"[{self.number}{parts}] {self.meaning}{where}")
+
+
+class Unreadable(Error):
+    """A text of the procedure language that is refused, with its line and a caret under the place, or one that lacks a procedure."""
+
+
+class Exhausted(Error):
+    """The last epoch of the server is full: it takes no further call. End it, and start the next one on the tree that it prints. A server without
+    `--connections` goes on by itself."""
+
+
+class Disconnected(Error, ConnectionError):
+    """There is no connection: the server can't be reached, or the connection ended before the answer. A call that was sent may have been done."""
+
+
+class TimedOut(Error, TimeoutError):
+    """The answer didn't come in time. A call that was sent may have been done."""
+
+
+class MissingNode(Error, IndexError):
+    """The tree has no node of this number."""

@@ -1,0 +1,27 @@
+-- What a server says of itself.
+use Rattle.std.specs.Prelude.{ℕ, List, ◌++◌, codes, decimal, Ok, Err, is_ok, count_by, if◌then◌else◌}
+use Rattle.tl_table.specs.declared.receipt.Receipt.{Receipt}
+use Rattle.tl_workers.specs.declared.refusal.Refusal.{Refusal}
+use Rattle.tl_server.specs.declared.outcome.Outcome.{Outcome}
+use Rattle.tl_server.specs.declared.outcome.Outcome.TheVariants.{Registered, Called, Batched, Sealed}
+use Rattle.tl_server.specs.declared.status.Status.{Status}
+
+-- how many of the answers of an outcome are receipts
+abbrev pub receipts_of : Outcome → ℕ
+receipts_of (Registered answer) = 0
+receipts_of (Called answer) = if is_ok answer then 1 else 0
+receipts_of (Batched (Ok v)) = count_by is_ok v.items
+receipts_of (Batched (Err e)) = 0
+receipts_of (Sealed answer) = 0
+
+-- how many procedures were registered
+abbrev pub registered_of : Outcome → ℕ
+registered_of (Registered answer) = if is_ok answer then 1 else 0
+registered_of (Called answer) = 0
+registered_of (Batched answers) = 0
+registered_of (Sealed answer) = 0
+
+abbrev pub status_text : Status → List ℕ
+status_text s =
+    codes "{\"epoch\":" ++ decimal s.epoch ++ codes ",\"generation\":" ++ decimal s.generation ++ codes ",\"calls\":" ++ decimal s.calls
+    ++ codes ",\"connections\":" ++ decimal s.connections ++ codes ",\"nodes\":" ++ decimal s.nodes ++ codes ",\"procedures\":" ++ decimal s.procedures ++ codes "}"

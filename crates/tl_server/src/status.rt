@@ -1,0 +1,121 @@
+// What a server says of itself.
+
+ghost use Rattle.std.specs.Prelude.{◌≡◌};
+ghost use Rattle.tl_server.specs.Answers.{line_text};
+ghost use Rattle.tl_server.specs.Reports.{receipts_of, registered_of, status_text};
+ghost use Rattle.tl_server.specs.Sending.{sending, Writes};
+
+use crate::answer::put_number;
+use crate::device::Sink;
+use crate::outbox::Outbox;
+use crate::outcome::Outcome;
+use std::sync::Wait;
+use std::sync::atomic::{AtomicU64, Ordering};
+use tl_workers::Engine;
+
+/// How far a server that lasts is.
+#[derive(Clone, Copy, Debug, PartialEq, Eq)]
+pub struct Status {
+    /// The number of the epoch that calls belong to now, as clients see it.
+    pub epoch: u64,
+    /// The number of the generation, from 0.
+    pub generation: u64,
+    /// How many calls were answered with a receipt since the start.
+    pub calls: u64,
+    /// How many connections are open now.
+    pub connections: u64,
+    /// How many nodes the tree has.
+    pub nodes: u64,
+    /// How many procedures are registered.
+    pub procedures: u64,
+}
+
+/// Who says how far a server is.
+pub trait Reporter {
+    /// How far it is, with so many connections open. `None` if it doesn't say.
+    fn status(&self, rt: &impl Wait, connections: u64) -> Option<Status>;
+}
+
+/// An engine alone doesn't say.
+impl Reporter for Engine {
+    fn status(&self, _rt: &impl Wait, _connections: u64) -> Option<Status> {
+        None
+    }
+}
+
+// How many receipts are in an answer.
+fn receipts(outcome: &Outcome) -> u64
+    ensures { result ≡ receipts_of outcome.now }
+{
+    match outcome {
+        Outcome::Called(answer) => u64::from(answer.is_ok()),
+        Outcome::Batched(Ok(answers)) => {
+            answers.iter().filter(|answer| answer.is_ok()).count() as u64
+        }
+        Outcome::Batched(Err(_)) | Outcome::Registered(_) | Outcome::Sealed(_) => 0,
+    }
+}
+
+// How many procedures were registered.
+fn registered(outcome: &Outcome) -> u64
+    ensures { result ≡ registered_of outcome.now }
+{
+    match outcome {
+        Outcome::Registered(answer) => u64::from(answer.is_ok()),
+        Outcome::Called(_) | Outcome::Batched(_) | Outcome::Sealed(_) => 0,
+    }
+}
+
+/// What was answered since the start. No run counts to the end of the numbers.
+#[derive(Drop)]
+pub(crate) struct Tally {
+    calls: AtomicU64,
+    procedures: AtomicU64,
+}
+
+impl Tally {
+    /// Nothing was answered yet.
+    pub(crate) fn new() -> Tally {
+        Tally {
+            calls: AtomicU64::new(0),
+            procedures: AtomicU64::new(0),
+        }
+    }
+
+    /// Counts what came of a request.
+    pub(crate) fn count(&self, outcome: &Outcome) {
+        self.calls.fetch_add(receipts(outcome), Ordering::SeqCst);
+        self.procedures
+            .fetch_add(registered(outcome), Ordering::SeqCst);
+    }
+
+    /// How many calls were answered with a receipt.
+    pub(crate) fn calls(&self) -> u64 {
+        self.calls.load(Ordering::SeqCst)
+    }
+
+    /// How many procedures were registered.
+    pub(crate) fn procedures(&self) -> u64 {
+        self.procedures.load(Ordering::SeqCst)
+    }
+}
+
+/// The line that says how far a server is.
+pub(crate) fn put_status_line<K: Sink>(outbox: &mut Outbox, sink: &mut K, status: &Status)
+    ensures { Writes (sending (K.output sink.old) (K.failures sink.old) outbox.old) (sending (K.output sink.new) (K.failures sink.new) outbox.new) (line_text (status_text status.now)) }
+{
+    outbox.put(sink, b"{\"epoch\":");
+    put_number(outbox, sink, status.epoch);
+    outbox.put(sink, b",\"generation\":");
+    put_number(outbox, sink, status.generation);
+    outbox.put(sink, b",\"calls\":");
+    put_number(outbox, sink, status.calls);
+    outbox.put(sink, b",\"connections\":");
+    put_number(outbox, sink, status.connections);
+    outbox.put(sink, b",\"nodes\":");
+    put_number(outbox, sink, status.nodes);
+    outbox.put(sink, b",\"procedures\":");
+    put_number(outbox, sink, status.procedures);
+    outbox.put(sink, b"}");
+    outbox.put(sink, b"\n");
+}
