@@ -1,8 +1,10 @@
-// What a server may refuse with, by number. Written by `tools/faults` from `docs/faults.md`.
+// What a server may refuse with, by number. Written by `tools/faults` from `docs/use/faults.md`.
 
 /** Of each number when it is answered, and what to do then. */
 export const FAULTS = {
-  251: { meaning: "the line is no label, no instruction of the text's version and no comment, or stands at the wrong place", advice: "the first line is `arity N`, or `version 2` and then that; see the instructions in `language.md`" },
+  102: { meaning: "there are more than 4,096 nodes, or would be after a growth", advice: "split the tree, or append fewer nodes" },
+  104: { meaning: "the parent of this node, or of this new one of a growth, is no node of a lower number", advice: "number the nodes so that each comes after its parent" },
+  251: { meaning: "the line is no label, no instruction of the text's version and no comment, or stands at the wrong place", advice: "the first line is `arity N`, or `version 2` and then that; see `instructions.md`" },
   252: { meaning: "no line defines the label that this line uses", advice: "write the label on a line of its own, with `:` behind it" },
   253: { meaning: "an earlier line defines the same label", advice: "give one of them another name" },
   254: { meaning: "there are more than 1,024 instructions", advice: "split the procedure" },
@@ -17,7 +19,7 @@ export const FAULTS = {
   401: { meaning: "the target is at or before the instruction", advice: "only an `end` leads back: use a loop" },
   402: { meaning: "a loop is around the target and not around the instruction", advice: "jump to its `rep`, or behind its `end`" },
   403: { meaning: "control can go on past the last instruction, as it does behind the `end` of a `repv` that makes no turn", advice: "end each way with `ret`" },
-  404: { meaning: "a way leads here on which `first` was done before", advice: "lock further nodes by `child`; a call enters the tree once" },
+  404: { meaning: "a path to this instruction has executed `first` already", advice: "lock further nodes by `child`; a call enters the tree once" },
   405: { meaning: "the register holds no node here", advice: "lock a node into it on each way that leads here" },
   406: { meaning: "the register that is to be filled holds a node here", advice: "free that node by `rel`, or take another register" },
   407: { meaning: "the call would end while it holds a node", advice: "`rel` each held register before `ret`" },
@@ -36,7 +38,7 @@ export const FAULTS = {
   690: { meaning: "memory was refused for a call, a procedure or the order", advice: "try again with more memory" },
   808: { meaning: "the last of 256 epochs is the current one, so it isn't sealed", advice: "end the run, and start the next one on the tree that it printed; a server without `--connections` goes on by itself" },
   890: { meaning: "memory was refused for what is kept of a call", advice: "try again with more memory" },
-  901: { meaning: "the line is none of the requests", advice: "compare it with the server's lines in `formats.md`" },
+  901: { meaning: "the line is none of the requests", advice: "compare it with the lines in `server.md`" },
   902: { meaning: "the line has more than 65,536 bytes; it is passed over", advice: "leave out comments and indentation of a text, or send a batch of fewer calls" },
   903: { meaning: "the line isn't UTF-8", advice: "send UTF-8" },
   990: { meaning: "memory was refused for a line, a batch or the program itself; nothing was done", advice: "try again with more memory" },

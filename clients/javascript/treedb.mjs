@@ -8,7 +8,7 @@
 //     await db.close();
 //
 // Numbers of records are signed 64-bit integers, which a JavaScript number can't hold: arguments may be BigInts, or numbers that are safe integers,
-// and replies are BigInts. `docs/formats.md` has the lines that go to and fro, `docs/faults.md` all numbers of refusals.
+// and replies are BigInts. `docs/use/server.md` has the lines that go to and fro, `docs/use/faults.md` all numbers of refusals.
 
 import net from "node:net";
 import { FAULTS } from "./faults.mjs";
@@ -29,7 +29,7 @@ export class TreedbError extends Error {
  */
 export class Refused extends TreedbError {
   constructor(numbers) {
-    const { meaning, advice } = FAULTS[numbers[0]] ?? { meaning: "a number that this client doesn't know", advice: "see docs/faults.md of the server's version" };
+    const { meaning, advice } = FAULTS[numbers[0]] ?? { meaning: "a number that this client doesn't know", advice: "see docs/use/faults.md of the server's version" };
     super(`[${numbers.join(", ")}] ${meaning}`);
     Object.assign(this, { numbers, number: numbers[0], meaning, advice });
   }

@@ -14,8 +14,8 @@ What a server refuses or breaks off is an `Error`. A refusal raises `Refused`, w
 stands in the place of the answer. The connection stays open after a refusal. `Disconnected` is a `ConnectionError`, `TimedOut` a `TimeoutError`.
 
 A server without `--connections` seals its epochs by itself. One with it leaves that to its clients: `Client(.., seals=True)` seals where it has to be
-done, until `Exhausted` says that the server has no epoch left. `docs/formats.md` has the lines that go to and fro, so that a client in another
-language can do the same; `docs/faults.md` has all numbers.
+done, until `Exhausted` says that the server has no epoch left. `docs/use/server.md` has the lines that go to and fro, so that a client in another
+language can do the same; `docs/use/faults.md` has all numbers.
 """
 
 from .aio import AsyncClient

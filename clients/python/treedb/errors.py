@@ -25,7 +25,7 @@ class Refused(Error):
         self.number = self.numbers[0]
         fault = FAULTS.get(self.number)
         self.meaning = fault.meaning if fault else "a number that this client doesn't know"
-        self.advice = fault.advice if fault else "see docs/faults.md of the server's version"
+        self.advice = fault.advice if fault else "see docs/use/faults.md of the server's version"
         self.line = line
         parts = "".join(f", {part}" for part in self.numbers[1:])
         where = "" if line is None else f" (line {line})"

@@ -1,4 +1,4 @@
-"""What a server may refuse with, by number. Written by `tools/faults` from `docs/faults.md`."""
+"""What a server may refuse with, by number. Written by `tools/faults` from `docs/use/faults.md`."""
 
 from typing import NamedTuple
 
@@ -11,7 +11,9 @@ class Fault(NamedTuple):
 
 
 FAULTS: dict[int, Fault] = {
-    251: Fault("the line is no label, no instruction of the text's version and no comment, or stands at the wrong place", 'the first line is `arity N`, or `version 2` and then that; see the instructions in `language.md`'),
+    102: Fault('there are more than 4,096 nodes, or would be after a growth', 'split the tree, or append fewer nodes'),
+    104: Fault('the parent of this node, or of this new one of a growth, is no node of a lower number', 'number the nodes so that each comes after its parent'),
+    251: Fault("the line is no label, no instruction of the text's version and no comment, or stands at the wrong place", 'the first line is `arity N`, or `version 2` and then that; see `instructions.md`'),
     252: Fault('no line defines the label that this line uses', 'write the label on a line of its own, with `:` behind it'),
     253: Fault('an earlier line defines the same label', 'give one of them another name'),
     254: Fault('there are more than 1,024 instructions', 'split the procedure'),
@@ -26,7 +28,7 @@ FAULTS: dict[int, Fault] = {
     401: Fault('the target is at or before the instruction', 'only an `end` leads back: use a loop'),
     402: Fault('a loop is around the target and not around the instruction', 'jump to its `rep`, or behind its `end`'),
     403: Fault('control can go on past the last instruction, as it does behind the `end` of a `repv` that makes no turn', 'end each way with `ret`'),
-    404: Fault('a way leads here on which `first` was done before', 'lock further nodes by `child`; a call enters the tree once'),
+    404: Fault('a path to this instruction has executed `first` already', 'lock further nodes by `child`; a call enters the tree once'),
     405: Fault('the register holds no node here', 'lock a node into it on each way that leads here'),
     406: Fault('the register that is to be filled holds a node here', 'free that node by `rel`, or take another register'),
     407: Fault('the call would end while it holds a node', '`rel` each held register before `ret`'),
@@ -45,7 +47,7 @@ FAULTS: dict[int, Fault] = {
     690: Fault('memory was refused for a call, a procedure or the order', 'try again with more memory'),
     808: Fault("the last of 256 epochs is the current one, so it isn't sealed", 'end the run, and start the next one on the tree that it printed; a server without `--connections` goes on by itself'),
     890: Fault('memory was refused for what is kept of a call', 'try again with more memory'),
-    901: Fault('the line is none of the requests', "compare it with the server's lines in `formats.md`"),
+    901: Fault('the line is none of the requests', 'compare it with the lines in `server.md`'),
     902: Fault('the line has more than 65,536 bytes; it is passed over', 'leave out comments and indentation of a text, or send a batch of fewer calls'),
     903: Fault("the line isn't UTF-8", 'send UTF-8'),
     990: Fault('memory was refused for a line, a batch or the program itself; nothing was done', 'try again with more memory'),

@@ -1,4 +1,4 @@
-"""The server's lines, as both clients write and read them. `docs/formats.md` has them all."""
+"""The server's lines, as both clients write and read them. `docs/use/server.md` has them all."""
 
 from __future__ import annotations
 

@@ -1,6 +1,7 @@
 pub mod Rows
 pub mod CleanTrailLemmas
 pub mod RightEvents
+pub mod SeamLemmas
 pub mod SeenEvents
 pub mod EndRecords
 pub mod ReplayLemmas
@@ -8,3 +9,4 @@ pub mod LedCalls
 pub mod AuditAnswers
 pub mod ChainLemmas
 pub mod JoinLemmas
+pub mod FileLemmas

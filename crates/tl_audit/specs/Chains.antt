@@ -1,6 +1,8 @@
 -- A chain of trails, one an epoch: what is wrong with it first, and what an auditor's answer says of it.
-use Rattle.std.specs.Prelude.{◌≡◌, ◌⊎◌, ℕ, zero, suc, ◌+◌, ◌<◌, List, [], ◌∷◌, ◌++◌, length, map, Option, Some, None, slice_get}
-use Rattle.tl_tree.specs.Records.{Records}
+use Rattle.std.specs.Prelude.{◌≡◌, ◌⊎◌, ℕ, zero, suc, ◌+◌, ◌-◌, ◌<◌, pos, List, [], ◌∷◌, ◌++◌, length, map, replicate, Option, Some, None, slice_get}
+use Rattle.tl_width.specs.Fields.{field_count}
+use Rattle.tl_tree.specs.Records.{Record, Records}
+use Rattle.tl_tree_locking.specs.Alone.{SerialOutcome}
 use Rattle.tl_tree_locking.specs.Epochs.{run_each, joined, joined_replies}
 use Rattle.tl_tree_locking.specs.Order.{placed}
 use Rattle.tl_tree_locking.specs.World.{reply_of}
@@ -19,40 +21,67 @@ pub record TakesOver (t u : TrailValue) : Type 0 where
   pub opening : u.opening ≡ t.ends
   pub procedures : BeginsWith t.procedures u.procedures
 
--- the same after the trail before, if there is one
-abbrev pub TakesOverFrom : Option TrailValue → TrailValue → Type 0
-TakesOverFrom None u = Unit {0}
-TakesOverFrom (Some t) u = TakesOver t u
+-- the record of a node that was appended to a tree
+abbrev pub zero_record : Record
+zero_record = replicate field_count (pos 0)
 
--- each trail takes over from the one before it, and is clean
-abbrev pub CleanAfter : Option TrailValue → List TrailValue → Type 0
+-- The second trail opens with the tree that the first ends with, to which nodes may have been appended, with zeros as their records;
+-- and its procedures begin with those of the first.
+pub record TakesOverGrown (t u : TrailValue) : Type 0 where
+  pub added : List ℕ
+  pub parents : u.parents ≡ t.parents ++ added
+  pub opening : u.opening ≡ t.ends ++ replicate (length added) zero_record
+  pub procedures : BeginsWith t.procedures u.procedures
+
+-- what comes before a trail: nothing; another file, which ends with this trail; or this trail of its own chain
+pub data Before : Type 0 where
+  Nothing : Before
+  AfterFile : TrailValue → Before
+  AfterTrail : TrailValue → Before
+
+abbrev pub after_file : Option TrailValue → Before
+after_file None = Nothing
+after_file (Some t) = AfterFile t
+
+abbrev pub after_trail : Option TrailValue → Before
+after_trail None = Nothing
+after_trail (Some t) = AfterTrail t
+
+-- the trail takes over from what comes before it; nodes are appended between files only
+abbrev pub TakesOverFrom : Before → TrailValue → Type 0
+TakesOverFrom Nothing u = Unit {0}
+TakesOverFrom (AfterFile t) u = TakesOverGrown t u
+TakesOverFrom (AfterTrail t) u = TakesOver t u
+
+-- each trail takes over from what comes before it, and is clean
+abbrev pub CleanAfter : Before → List TrailValue → Type 0
 CleanAfter before [] = Unit {0}
-CleanAfter before (t ∷ ts) = TakesOverFrom before t × Clean t × CleanAfter (Some t) ts
+CleanAfter before (t ∷ ts) = TakesOverFrom before t × Clean t × CleanAfter (AfterTrail t) ts
 
 abbrev pub IsCleanChain : List TrailValue → Type 0
-IsCleanChain ts = CleanAfter None ts
+IsCleanChain ts = CleanAfter Nothing ts
 
 -- What is wrong first, where these trails have the numbers from n on: a trail doesn't take over, or else this is wrong with it
 -- first.
-abbrev pub IsFirstAfter : ℕ → Option TrailValue → List TrailValue → ChainFault → Type 0
+abbrev pub IsFirstAfter : ℕ → Before → List TrailValue → ChainFault → Type 0
 IsFirstAfter n before [] f = ⊥
 IsFirstAfter n before (t ∷ ts) f =
     ((f ≡ Broken n) × ¬ TakesOverFrom before t)
     ⊎ (TakesOverFrom before t
-    × (((g : AuditFault) × (f ≡ InEpoch n g) × IsFirstFault t g) ⊎ (Clean t × IsFirstAfter (n + 1) (Some t) ts f)))
+    × (((g : AuditFault) × (f ≡ InEpoch n g) × IsFirstFault t g) ⊎ (Clean t × IsFirstAfter (n + 1) (AfterTrail t) ts f)))
 
 abbrev pub IsFirstChainFault : List TrailValue → ChainFault → Type 0
-IsFirstChainFault ts f = IsFirstAfter 0 None ts f
+IsFirstChainFault ts f = IsFirstAfter 0 Nothing ts f
 
 -- ---- chains one after another
 
--- the trail that these end with, after the trail before
-abbrev pub last_after : Option TrailValue → List TrailValue → Option TrailValue
+-- what comes behind these trails, after what came before them
+abbrev pub last_after : Before → List TrailValue → Before
 last_after before [] = before
-last_after before (t ∷ ts) = last_after (Some t) ts
+last_after before (t ∷ ts) = last_after (AfterTrail t) ts
 
 -- each chain takes over from the last trail before it, and is clean
-abbrev pub AreCleanAfter : Option TrailValue → List (List TrailValue) → Type 0
+abbrev pub AreCleanAfter : Before → List (List TrailValue) → Type 0
 AreCleanAfter before [] = Unit {0}
 AreCleanAfter before (ts ∷ chains) = CleanAfter before ts × AreCleanAfter (last_after before ts) chains
 
@@ -99,13 +128,40 @@ pub record AreSerial (ts : List TrailValue) (orders : List (List ℕ)) : Type 0 
   pub replies : (run_each (joined (map world_of ts) orders) (opening_of ts)).replies ≡ joined_replies (map world_of ts) orders
   pub told : TellTheReplies ts
 
--- the trail before that number, if there is one: before the first it is the one before these
-abbrev pub before_at : Option TrailValue → List TrailValue → ℕ → Option TrailValue
+-- what comes before the trail of that number
+abbrev pub before_at : Before → List TrailValue → ℕ → Before
 before_at before ts zero = before
-before_at before ts (suc n) = slice_get ts n
+before_at before ts (suc n) = after_trail (slice_get ts n)
+
+-- ---- files one after another
+
+-- the trail that these end with, after the one before
+abbrev pub last_trail : Option TrailValue → List TrailValue → Option TrailValue
+last_trail before [] = before
+last_trail before (t ∷ ts) = last_trail (Some t) ts
+
+-- each file takes over from the last trail of the file before it, and is clean
+abbrev pub AreCleanFiles : Option TrailValue → List (List TrailValue) → Type 0
+AreCleanFiles before [] = Unit {0}
+AreCleanFiles before (ts ∷ files) = CleanAfter (after_file before) ts × AreCleanFiles (last_trail before ts) files
+
+-- before each file the zero records of the nodes that were appended come behind the others; then its calls are run alone along its
+-- orders joined
+abbrev pub run_files : List (List TrailValue) → Records → SerialOutcome
+run_files [] records = record { tree = records; replies = [] }
+run_files (ts ∷ files) records =
+    let own = run_each (joined (map world_of ts) (map order_of ts)) (records ++ replicate (length (opening_of ts) - length records) zero_record) in
+    let later = run_files files own.tree in
+    record { tree = later.tree; replies = own.replies ++ later.replies }
+
+-- from the first opening tree that leaves the last records in the end, and each call gives its reply
+pub record AreSerialFiles (files : List (List TrailValue)) : Type 0 where
+  pub tree : (run_files files (opening_of (trails_of files))).tree ≡ ends_of (trails_of files)
+  pub replies : (run_files files (opening_of (trails_of files))).replies ≡ joined_replies (map world_of (trails_of files)) (map order_of (trails_of files))
+  pub told : TellTheReplies (trails_of files)
 
 -- why the trail of that number ends the audit of a chain whose trails before it are clean
-abbrev pub IsFaultAt : ℕ → Option TrailValue → TrailValue → ChainFault → Type 0
+abbrev pub IsFaultAt : ℕ → Before → TrailValue → ChainFault → Type 0
 IsFaultAt n before t f =
     ((f ≡ Broken n) × ¬ TakesOverFrom before t)
     ⊎ (TakesOverFrom before t × ((g : AuditFault) × (f ≡ InEpoch n g) × IsFirstFault t g))

@@ -1,12 +1,12 @@
 // Whether a chain of trails is clean.
 
-ghost use Rattle.std.specs.Prelude.{◌≡◌, ◌≢◌, ◌<◌, ◌≤◌, ◌↔◌, length, map, option_copied, IsTrue, IfOk, IfErr};
+ghost use Rattle.std.specs.Prelude.{◌≡◌, ◌≢◌, ◌<◌, ◌≤◌, ◌↔◌, ℕ, List, ◌++◌, length, map, replicate, option_copied, slice_get, Some, IsTrue, IfOk, IfErr};
 ghost use Rattle.tl_trail.specs.Trails.{IsTrail};
 ghost use Rattle.tl_trail.specs.Clean.{Clean};
 ghost use Rattle.tl_audit.specs.declared.chain.ChainFault.TheVariants as chain;
 ghost use Rattle.tl_audit.specs.declared.fault.AuditFault.TheVariants as audit;
 ghost use Rattle.tl_trail.specs.declared.chain.TheConstants.{MAX_TRAILS};
-ghost use Rattle.tl_audit.specs.Chains.{TakesOver, TakesOverFrom, CleanAfter, IsCleanChain, IsFirstAfter, IsFirstChainFault, AreSerial, IsFaultAt, before_at, order_of, calls_in};
+ghost use Rattle.tl_audit.specs.Chains.{TakesOver, TakesOverGrown, TakesOverFrom, after_file, zero_record, CleanAfter, IsCleanChain, IsFirstAfter, IsFirstChainFault, AreSerial, IsFaultAt, before_at, order_of, calls_in};
 ghost use Rattle.tl_audit.specs.Faults.{chain_numbers_of};
 
 use crate::auditing::audit_with;
@@ -18,12 +18,12 @@ use thiserror::Error;
 use tl_procedures::Procedures;
 use tl_serial_order::Order;
 use tl_trail::{MAX_TRAILS, Trail};
-use tl_tree::Record;
+use tl_tree::{FIELD_COUNT, Record, Shape};
 
 /// What is wrong with a chain of trails.
 #[derive(Clone, Copy, Debug, PartialEq, Eq, Error)]
 pub enum ChainFault {
-    /// 718 and the trail, numbered from 0, and so at least 1: it doesn't open with the tree that the one before it ends with,
+    /// 718 and the trail, numbered from 0: it doesn't open with the tree that the one before it ends with,
     /// or its procedures don't begin with all procedures of that one.
     #[error("trail {epoch} doesn't take over where the one before it ends")]
     Broken { epoch: u32 },
@@ -99,8 +99,9 @@ pub fn audit_chain_with<P: Progress>(
     audit_chain_after(alloc, None, trails, progress)
 }
 
-/// The same of a chain that goes on after another one: its first trail must take over from the trail that the other one ends with, if
-/// one is given. 718 with trail 0 if it doesn't.
+/// The same of the chain of a file that comes after another file: its first trail must take over from the trail that the other one ends
+/// with, if one is given. Between files nodes may have been appended to the tree, with zeros as their records. 718 with trail 0 if it
+/// doesn't take over.
 pub fn audit_chain_after<P: Progress>(
     alloc: Global,
     before: Option<&Trail>,
@@ -108,18 +109,17 @@ pub fn audit_chain_after<P: Progress>(
     progress: &mut P,
 ) -> Result<Vec<Order>, ChainFault>
     requires { length trails.now ≤ MAX_TRAILS }
-    ensures clean { IfOk result (λ _. CleanAfter (option_copied before.entry) trails.now) }
+    ensures clean { IfOk result (λ _. CleanAfter (after_file (option_copied before.entry)) trails.now) }
     ensures orders { IfOk result (λ os. map calls_in os.items ≡ map order_of trails.now) }
-    ensures fault { IfErr result (λ f. f ≢ chain.Memory → IsFirstAfter 0 (option_copied before.entry) trails.now f) }
-    ensures only { CleanAfter (option_copied before.entry) trails.now → IfErr result (λ f. f ≡ chain.Memory) }
+    ensures fault { IfErr result (λ f. f ≢ chain.Memory → IsFirstAfter 0 (after_file (option_copied before.entry)) trails.now f) }
+    ensures only { CleanAfter (after_file (option_copied before.entry)) trails.now → IfErr result (λ f. f ≡ chain.Memory) }
     ensures serial { IfOk result (λ os. AreSerial trails.now (map calls_in os.items)) }
 {
     let mut orders = Vec::with_capacity(alloc, trails.len())?;
     let mut along = Along::new(progress, trails);
     for number in 0..trails.len() {
-        let last = trail_before(before, trails, number);
         let trail = &trails[number];
-        match next_order(alloc, last, trail, number, &mut along) {
+        match next_order(alloc, before, trails, number, trail, &mut along) {
             Ok(order) => orders.push_reserved(order),
             Err(fault) => return Err(fault),
         }
@@ -157,34 +157,32 @@ impl<P: Progress> Progress for Along<'_, P> {
     }
 }
 
-// The trail before the one with that number, if there is one: for the first of the chain it is the one before the chain.
-fn trail_before<'t>(
-    before: Option<&'t Trail>,
-    trails: &'t [Trail],
-    number: usize,
-) -> Option<&'t Trail>
-    requires { number < length trails.now }
-    ensures { option_copied result ≡ before_at (option_copied before.entry) trails.now number }
+// Whether the trail of that number takes over from what comes before it: for the first of the chain that is another file, if there is one.
+fn takes_over_at(before: Option<&Trail>, trails: &[Trail], number: usize, trail: &Trail) -> bool
+    requires { slice_get trails.now number ≡ Some trail.now }
+    ensures { IsTrue result ↔ TakesOverFrom (before_at (after_file (option_copied before.entry)) trails.now number) trail.now }
 {
     if number == 0 {
-        return before;
+        return takes_over_from_file(before, trail);
     }
-    Some(&trails[number - 1])
+    takes_over(&trails[number - 1], trail)
 }
 
-// The order of a trail, which has that number and must take over from the one before it, if there is one.
+// The order of the trail of that number, which must take over from what comes before it.
 fn next_order<P: Progress>(
     alloc: Global,
     before: Option<&Trail>,
-    trail: &Trail,
+    trails: &[Trail],
     number: usize,
+    trail: &Trail,
     along: &mut Along<'_, P>,
 ) -> Result<Order, ChainFault>
-    requires { number < MAX_TRAILS }
-    ensures ok { IfOk result (λ o. TakesOverFrom (option_copied before.entry) trail.now × Clean trail.now × IsTrail trail.now × (o.calls ≡ order_of trail.now)) }
-    ensures fault { IfErr result (λ f. f ≢ chain.Memory → IsFaultAt number (option_copied before.entry) trail.now f) }
+    requires number { number < MAX_TRAILS }
+    requires trail { slice_get trails.now number ≡ Some trail.now }
+    ensures ok { IfOk result (λ o. TakesOverFrom (before_at (after_file (option_copied before.entry)) trails.now number) trail.now × Clean trail.now × IsTrail trail.now × (o.calls ≡ order_of trail.now)) }
+    ensures fault { IfErr result (λ f. f ≢ chain.Memory → IsFaultAt number (before_at (after_file (option_copied before.entry)) trails.now number) trail.now f) }
 {
-    if !joins_on(before, trail) {
+    if !takes_over_at(before, trails, number, trail) {
         return Err(ChainFault::Broken {
             epoch: number as u32,
         });
@@ -211,12 +209,12 @@ fn in_epoch(epoch: u32, fault: AuditFault) -> ChainFault
     }
 }
 
-// Whether the trail takes over from the one before it, if there is one.
-fn joins_on(before: Option<&Trail>, trail: &Trail) -> bool
-    ensures { IsTrue result ↔ TakesOverFrom (option_copied before.entry) trail.now }
+// Whether the first trail of a file takes over from the trail that the file before ends with, if there is one.
+fn takes_over_from_file(before: Option<&Trail>, trail: &Trail) -> bool
+    ensures { IsTrue result ↔ TakesOverFrom (after_file (option_copied before.entry)) trail.now }
 {
     match before {
-        Some(before) => takes_over(before, trail),
+        Some(before) => takes_over_grown(before, trail),
         None => true,
     }
 }
@@ -232,6 +230,64 @@ fn takes_over(before: &Trail, trail: &Trail) -> bool
         return false;
     }
     trail.procedures().begin_with(before.procedures())
+}
+
+// The same where nodes may have been appended to the tree in between, with zeros as their records.
+fn takes_over_grown(before: &Trail, trail: &Trail) -> bool
+    ensures { IsTrue result ↔ TakesOverGrown before.now trail.now }
+{
+    if !begins_with(trail.opening().shape(), before.opening().shape()) {
+        return false;
+    }
+    if !are_followed_by_zeros(before.ends(), trail.opening().records()) {
+        return false;
+    }
+    trail.procedures().begin_with(before.procedures())
+}
+
+// Whether the shape has the nodes of the other one first, with the same parents.
+fn begins_with(shape: &Shape, first: &Shape) -> bool
+    ensures { IsTrue result ↔ ((added : List ℕ) × (shape.now ≡ first.now ++ added)) }
+{
+    if shape.node_count() < first.node_count() {
+        return false;
+    }
+    for node in 0..first.node_count() {
+        if shape.parent(node) != first.parent(node) {
+            return false;
+        }
+    }
+    true
+}
+
+// Whether all of these records are the first ones, and those behind them have zeros only.
+fn are_followed_by_zeros(first: &[Record], records: &[Record]) -> bool
+    ensures { IsTrue result ↔ ((n : ℕ) × (records.now ≡ first.now ++ replicate n zero_record)) }
+{
+    if records.len() < first.len() {
+        return false;
+    }
+    let count = first.len();
+    are_same(&records[..count], first) && are_zeros(&records[count..])
+}
+
+// Whether the records have zeros only.
+fn are_zeros(records: &[Record]) -> bool
+    ensures { IsTrue result ↔ (records.now ≡ replicate (length records.now) zero_record) }
+{
+    for record in records {
+        if !is_zero(record) {
+            return false;
+        }
+    }
+    true
+}
+
+// Whether the record has zeros only.
+fn is_zero(record: &Record) -> bool
+    ensures { IsTrue result ↔ (record.now ≡ zero_record) }
+{
+    *record == [0; FIELD_COUNT]
 }
 
 // Whether the records are the same.

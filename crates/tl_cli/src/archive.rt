@@ -8,7 +8,7 @@ use crate::{
 };
 use std::alloc::Global;
 use std::rt::Files;
-use tl_generations::Succession;
+use tl_generations::{GrowthFault, Succession};
 use tl_server::Keeper;
 use tl_tree::write_tree;
 use tl_workers::{Engine, Session};
@@ -172,6 +172,25 @@ impl<R: Files + Eprint> Keeper for Archive<R> {
 
     fn nodes(&self) -> u16 {
         self.succession.last().tree().shape().node_count()
+    }
+
+    fn check_growth(&self, parents: &[i64]) -> Result<(), GrowthFault> {
+        self.succession.check_growth(parents)
+    }
+
+    fn grow(&mut self, alloc: Global, parents: &[i64]) -> Result<u16, GrowthFault> {
+        if self.broken.is_some() {
+            return Err(GrowthFault::Memory);
+        }
+        match self.take(alloc) {
+            Ok(()) => self.succession.grow(alloc, parents),
+            Err(fault) => {
+                if fault == CliFault::NotClosed {
+                    self.broken = Some(fault);
+                }
+                Err(GrowthFault::Memory)
+            }
+        }
     }
 
     fn keep(&mut self, alloc: Global) {

@@ -31,7 +31,7 @@ fn script_procedures_arg<'a>(alloc: Global) -> Arg<'a> {
         .value_name("[NAME=]FILE")
         .action(ArgAction::Append)
         .help(
-            "Procedures behind the script's own: all of a file of the procedure language, or the one of that name; or the assembler text of one",
+            "Procedures to add to the script: all of a `.tdb` file, or NAME of it, or NAME=assembler file",
         )
 }
 
@@ -166,9 +166,7 @@ fn trail_arg<'a>(alloc: Global) -> Arg<'a> {
 
 fn drive_command<'a>(alloc: Global) -> Result<Command<'a>, AllocError> {
     Command::new(alloc, "drive")
-        .about(
-            "Lets calls take turns on a tree, as a script says, and prints what came of each move",
-        )
+        .about("Runs a scripted interleaving and prints the result of each step")
         .after_help(DRIVE_HELP)
         .arg(tree_arg(alloc))?
         .arg(script_procedures_arg(alloc))?

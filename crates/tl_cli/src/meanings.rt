@@ -1,4 +1,4 @@
-// What the numbers of faults mean. Written by `tools/faults` from `docs/faults.md`.
+// What the numbers of faults mean. Written by `tools/faults` from `docs/use/faults.md`.
 
 mod calls;
 mod runs;

@@ -9,7 +9,7 @@ use Rattle.tl_json.specs.Lists.{list_of}
 use Rattle.tl_trail.specs.Trails.{TrailValue}
 use Rattle.tl_trail.specs.Chains.{AreEach, IsChainText, if_chain, chain_of}
 use Rattle.tl_trail.proofs.ChainTokenLemmas.{as_many}
-use Rattle.tl_audit.specs.Chains.{last_after}
+use Rattle.tl_audit.specs.Chains.{Before, AfterTrail, last_after}
 use Rattle.tl_commands.specs.declared.fault.CliFault.{CliFault}
 use Rattle.tl_commands.specs.Audit.{begins_with_list, AuditsTrail, AuditsChain, AuditsText, Audits, IsFirstTextFault, IsFirstTrailAuditFault, IsFirstChainAuditFault, IsFirstAuditFault}
 
@@ -48,9 +48,9 @@ chain_count text ts h =
 
 -- ---- the last of some trails
 
-pub last_pushed : (before : Option TrailValue) (ts : List TrailValue) (t : TrailValue) → last_after before (ts ++ t ∷ []) ≡ Some t
+pub last_pushed : (before : Before) (ts : List TrailValue) (t : TrailValue) → last_after before (ts ++ t ∷ []) ≡ AfterTrail t
 last_pushed before [] t = refl
-last_pushed before (u ∷ us) t = last_pushed (Some u) us t
+last_pushed before (u ∷ us) t = last_pushed (AfterTrail u) us t
 
 -- ---- the fault of a file
 

@@ -15,7 +15,7 @@ use Rattle.tl_table.specs.Epochs.{EpochValue, seen}
 use Rattle.tl_table.specs.Tables.{InLine, IsNext, IsChain}
 use Rattle.tl_trail.specs.Clean.{Clean}
 use Rattle.tl_trail.specs.Trails.{TrailValue}
-use Rattle.tl_audit.specs.Chains.{TakesOverFrom, CleanAfter, IsCleanChain}
+use Rattle.tl_audit.specs.Chains.{Before, Nothing, AfterTrail, TakesOverFrom, CleanAfter, IsCleanChain}
 use Rattle.tl_trail.specs.Chains.{chain_text}
 use Rattle.tl_trail.specs.Writing.{trail_data, trail_text}
 use Rattle.tl_commands.specs.Sinks.{Adds, AreClean, comma_before, epoch_trail, trails_text}
@@ -76,17 +76,17 @@ clean_of_one (x ∷ []) e one first clean = All-cons IsCleanEpoch x [] (subst Is
 clean_of_one (x ∷ y ∷ es) e one first clean = absurd (omega (arith, one))
 
 -- epochs in line are a chain of trails, where what comes before the first one leads to it
-clean_after : (n : ℕ) (parents : List ℕ) (opening : Records) (procedures : List Named) (before : Option TrailValue) (es : List EpochValue)
+clean_after : (n : ℕ) (parents : List ℕ) (opening : Records) (procedures : List Named) (before : Before) (es : List EpochValue)
     → InLine n parents opening procedures es → ((e : EpochValue) → IsNext n parents opening procedures e → TakesOverFrom before (epoch_trail e))
     → AreClean es → CleanAfter before (map epoch_trail es)
 clean_after n parents opening procedures before [] line leads clean = tt
 clean_after n parents opening procedures before (e ∷ es) line leads clean = (
   leads e line.0,
   All-head IsCleanEpoch e es clean,
-  clean_after (n + 1) parents (records_now (seen e).past (seen e).opening) (seen e).procedures (Some (epoch_trail e)) es line.2
+  clean_after (n + 1) parents (records_now (seen e).past (seen e).opening) (seen e).procedures (AfterTrail (epoch_trail e)) es line.2
       (λ f next. record { parents = next.parents ∙ sym line.0.parents; opening = next.opening; procedures = next.procedures })
       (All-tail IsCleanEpoch e es clean),
 )
 
 pub clean_chain : (es : List EpochValue) → IsChain es → AreClean es → IsCleanChain (map epoch_trail es)
-clean_chain es chain clean = clean_after 0 chain.parents chain.opening [] None es chain.line (λ e next. tt) clean
+clean_chain es chain clean = clean_after 0 chain.parents chain.opening [] Nothing es chain.line (λ e next. tt) clean

@@ -1,5 +1,5 @@
 -- What the audit of one file more prints, where several files belong together, and when it answers which fault.
-use Rattle.std.specs.Prelude.{◌≡◌, ◌≢◌, ◌⊎◌, ℕ, Bool, true, false, List, [], ◌∷◌, ◌++◌, map, Option, Some, IsUtf8}
+use Rattle.std.specs.Prelude.{◌≡◌, ◌≢◌, ◌⊎◌, ℕ, Bool, true, false, List, [], ◌∷◌, ◌++◌, map, Option, IsUtf8}
 use Rattle.serde_json.specs.Written.{compact_text}
 use Rattle.tl_json.specs.Lists.{orders_data}
 use Rattle.tl_trail.specs.Trails.{TrailValue}
@@ -7,7 +7,7 @@ use Rattle.tl_trail.specs.Reading.{IsTrailText, IsFirstTrailFault}
 use Rattle.tl_trail.specs.Chains.{IsChainText, IsFirstChainFault}
 use Rattle.tl_trail.specs.declared.fault.TrailFault.{TrailFault}
 use Rattle.tl_trail.specs.declared.fault.TrailFault.TheVariants.{NotTrail}
-use Rattle.tl_audit.specs.Chains.{AreSerial, CleanAfter, IsFirstAfter, last_after, order_of}
+use Rattle.tl_audit.specs.Chains.{AfterTrail, AreSerial, CleanAfter, after_file, IsFirstAfter, last_after, order_of}
 use Rattle.tl_audit.specs.declared.chain.ChainFault.{ChainFault}
 use Rattle.tl_audit.specs.declared.chain.ChainFault.TheVariants.{InEpoch}
 use Rattle.tl_commands.specs.declared.fault.CliFault.{CliFault}
@@ -30,16 +30,17 @@ abbrev pub fault_of_file : Bool → ChainFault → CliFault
 fault_of_file false (InEpoch n f) = Audit f
 fault_of_file is_list f = Chain f
 
--- The trails of the file take over from the trail before, if there is one, and are clean. What is printed are the orders that their events
+-- The trails of the file take over from the trail before, if there is one, with nodes that may have been appended to the tree, and are
+-- clean. What is printed are the orders that their events
 -- give; all calls of the file, run alone one after another along them, leave the records in the end, and give their replies. The next file
 -- has to take over from the last trail.
 pub record AuditsNext (before : Option TrailValue) (bytes out : List ℕ) (last : TrailValue) : Type 0 where
   pub utf8 : IsUtf8 bytes
   pub trails : List TrailValue
   pub text : AreTrailsOf (begins_with_list bytes) bytes trails
-  pub clean : CleanAfter before trails
+  pub clean : CleanAfter (after_file before) trails
   pub serial : AreSerial trails (map order_of trails)
-  pub ends : last_after before trails ≡ Some last
+  pub ends : last_after (after_file before) trails ≡ AfterTrail last
   pub same : out ≡ compact_text (orders_data (map order_of trails)) ++ 10 ∷ []
 
 -- the text's first fault
@@ -49,7 +50,7 @@ IsUnread bytes e = (f : TrailFault) × (e ≡ Trail f) × IsTextFault (begins_wi
 -- the first fault of the text's trails, of which the first doesn't take over, or is wrong, or else a later one
 abbrev pub IsUnclean : Option TrailValue → List ℕ → CliFault → Type 0
 IsUnclean before bytes e =
-    (ts : List TrailValue) × (f : ChainFault) × (e ≡ fault_of_file (begins_with_list bytes) f) × AreTrailsOf (begins_with_list bytes) bytes ts × IsFirstAfter 0 before ts f
+    (ts : List TrailValue) × (f : ChainFault) × (e ≡ fault_of_file (begins_with_list bytes) f) × AreTrailsOf (begins_with_list bytes) bytes ts × IsFirstAfter 0 (after_file before) ts f
 
 -- 701 where the bytes are no UTF-8, else the first fault of the text, else of its trails; or want of memory
 abbrev pub IsFirstNextFault : Option TrailValue → List ℕ → CliFault → Type 0

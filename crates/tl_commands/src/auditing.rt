@@ -7,7 +7,7 @@ ghost use Rattle.tl_table.specs.Chains.{calls_in};
 ghost use Rattle.tl_trail.specs.Trails.{TrailValue};
 ghost use Rattle.tl_trail.specs.declared.chain.TheConstants.{MAX_TRAILS};
 ghost use Rattle.tl_audit.specs.declared.chain.ChainFault.{ChainFault};
-ghost use Rattle.tl_audit.specs.Chains.{AreSerial, CleanAfter, IsFirstAfter, last_after, order_of};
+ghost use Rattle.tl_audit.specs.Chains.{Before, AfterTrail, AreSerial, CleanAfter, IsFirstAfter, after_file, last_after, order_of};
 ghost use Rattle.tl_commands.specs.Audit.{begins_with_list, Audits, AuditsTrail, AuditsChain, IsFirstAuditFault, IsFirstTrailAuditFault, IsFirstChainAuditFault};
 ghost use Rattle.tl_commands.specs.Faults.{status_of};
 ghost use Rattle.tl_commands.specs.NextAudit.{AreTrailsOf, AuditsNext, IsFirstNextFault, IsTextFault, fault_of_file};
@@ -156,10 +156,10 @@ fn orders_after<P: Progress>(
     progress: &mut P,
 ) -> Result<String, CliFault>
     requires { length trails.now ≤ MAX_TRAILS }
-    ensures clean { OnOk result (CleanAfter (option_copied before.entry) trails.now) }
+    ensures clean { OnOk result (CleanAfter (after_file (option_copied before.entry)) trails.now) }
     ensures serial { OnOk result (AreSerial trails.now (map order_of trails.now)) }
     ensures line { IfOk result (λ s. string_bytes s ≡ compact_text (orders_data (map order_of trails.now)) ++ 10 ∷ []) }
-    ensures fault { IfErr result (λ e. status_of e ≢ 4 → (f : ChainFault) × (e ≡ fault_of_file is_list f) × IsFirstAfter 0 (option_copied before.entry) trails.now f) }
+    ensures fault { IfErr result (λ e. status_of e ≢ 4 → (f : ChainFault) × (e ≡ fault_of_file is_list f) × IsFirstAfter 0 (after_file (option_copied before.entry)) trails.now f) }
 {
     match audit_chain_after(alloc, before, trails, progress) {
         Ok(orders) => Ok(orders_line(alloc, &orders)?),
@@ -170,7 +170,7 @@ fn orders_after<P: Progress>(
 // The last of these trails.
 fn last_of(trails: Vec<Trail>) -> Trail
     requires { 0 < length trails.items }
-    ensures { (before : Option TrailValue) → last_after before trails.items ≡ Some result }
+    ensures { (before : Before) → last_after before trails.items ≡ AfterTrail result }
 {
     let mut trails = trails;
     let Some(last) = trails.pop() else {
@@ -181,7 +181,8 @@ fn last_of(trails: Vec<Trail>) -> Trail
 }
 
 /// One file more of several that belong together: the line of the orders of its trails, and its last trail, from which the next file has to
-/// take over. `before` is the last trail of the file before, if there is one. So one file and one trail are in memory at a time.
+/// take over. `before` is the last trail of the file before, if there is one. So one file and one trail are in memory at a time. Between
+/// files nodes may have been appended to the tree, with zeros as their records.
 ///
 /// The first fault, as of `audit_cmd`, but 718 with trail 0 if the file doesn't take over where the one before it ends.
 pub fn audit_next_cmd<P: Progress>(

@@ -1,40 +1,33 @@
--- Generations joined to one line of worlds.
-use Rattle.std.proofs.Common.{◌≡◌, ℕ, zero, suc, ◌+◌, ◌-◌, List, [], ◌∷◌, ◌++◌, length, map, refl, sym, ap, ◌∙◌, subst, arith}
-use Rattle.std.specs.Prelude.{Some, slice_get}
+-- Generations joined to one line of calls.
+use Rattle.std.proofs.Common.{◌≡◌, ℕ, zero, suc, ◌+◌, ◌-◌, ℤ, List, [], ◌∷◌, ◌++◌, length, map, refl, sym, ap, ◌∙◌, subst, append_assoc, arith}
+use Rattle.std.specs.Prelude.{Some, slice_get, replicate, Result, Ok, Err, IfOk, OnErr}
+use Rattle.std.proofs.lemmas.List.{append-nil, length-append, replicate-append-replicate}
 use Rattle.std.proofs.lemmas.Option.{none-some, same_Some}
 use Rattle.tl_tree.specs.Records.{Records}
 use Rattle.tl_tree.specs.Trees.{TreeValue}
 use Rattle.tl_core.specs.Cores.{CoreState}
+use Rattle.tl_tree_locking.specs.Alone.{Outcome, SerialOutcome}
 use Rattle.tl_tree_locking.specs.History.{records_now}
-use Rattle.tl_tree_locking.specs.Epochs.{left_by, FollowOn, AreAtRest, AgreeEach}
+use Rattle.tl_tree_locking.specs.World.{World, reply_of}
+use Rattle.tl_tree_locking.specs.Epochs.{run_each, joined, joined_replies, AgreeEach}
 use Rattle.tl_tree_locking.proofs.EpochsJoined.{epochs-serial}
 use Rattle.tl_procedures.specs.Names.{Named}
 use Rattle.tl_serial.proofs.OrderOfCore.{order_agrees}
 use Rattle.tl_table.specs.Epochs.{EpochValue, seen}
 use Rattle.tl_table.specs.Tables.{epoch_world, records_after, procedures_after, InLine, IsChain}
 use Rattle.tl_table.specs.Chains.{epoch_order}
-use Rattle.tl_table.proofs.Lines.{records_left, records_after-more, procedures_after-more, line_less}
-use Rattle.tl_generations.specs.Generations.{LegacyValue, TakesUp, TakesUpFirst, legacy_after, AreGenerations, legacy_of, epochs_of, IsSerialFrom}
+use Rattle.tl_table.proofs.Lines.{line_follows, line_rests, records_left}
+use Rattle.tl_generations.specs.Growth.{with_zeros, zero_record}
+use Rattle.tl_generations.specs.declared.growth.GrowthFault.{GrowthFault}
+use Rattle.tl_generations.specs.Generations.{LegacyValue, GenerationValue, IsGrown, IsSuccession, TakesUp, TakesUpFirst, grown, legacy_after, left_by, AreGenerations, legacy_of, epochs_of, added_by, calls_of, replies_of, run_generations, AreSerialFrom, IsSerialFrom}
 
--- ---- more epochs behind a line
+-- ---- one generation
 
-follows_on : (n : ℕ) (parents : List ℕ) (opening : Records) (procedures : List Named) (es more : List EpochValue) → InLine n parents opening procedures es
-    → FollowOn parents (records_after opening es) (map epoch_world more) → FollowOn parents opening (map epoch_world (es ++ more))
-follows_on n parents opening procedures [] more line later = later
-follows_on n parents opening procedures (e ∷ es) more line later =
-    (line.0.parents, line.0.opening, follows_on (n + 1) parents (records_now (seen e).past (seen e).opening) (seen e).procedures es more line.2 later)
-
-rests_on : (n : ℕ) (parents : List ℕ) (opening : Records) (procedures : List Named) (es more : List EpochValue) → InLine n parents opening procedures es
-    → AreAtRest (map epoch_world more) → AreAtRest (map epoch_world (es ++ more))
-rests_on n parents opening procedures [] more line later = later
-rests_on n parents opening procedures (e ∷ es) more line later =
-    (line.1.sound, line.1.done, rests_on (n + 1) parents (records_now (seen e).past (seen e).opening) (seen e).procedures es more line.2 later)
-
-agrees_on : (n : ℕ) (parents : List ℕ) (opening : Records) (procedures : List Named) (es more : List EpochValue) → InLine n parents opening procedures es
-    → AgreeEach (map epoch_order more) (map epoch_world more) → AgreeEach (map epoch_order (es ++ more)) (map epoch_world (es ++ more))
-agrees_on n parents opening procedures [] more line later = later
-agrees_on n parents opening procedures (e ∷ es) more line later =
-    (order_agrees (seen e) line.1.sound (epoch_order e) refl, agrees_on (n + 1) parents (records_now (seen e).past (seen e).opening) (seen e).procedures es more line.2 later)
+line_agrees : (n : ℕ) (parents : List ℕ) (opening : Records) (procedures : List Named) (es : List EpochValue) → InLine n parents opening procedures es
+    → AgreeEach (map epoch_order es) (map epoch_world es)
+line_agrees n parents opening procedures [] line = tt
+line_agrees n parents opening procedures (e ∷ es) line =
+    (order_agrees (seen e) line.1.sound (epoch_order e) refl, line_agrees (n + 1) parents (records_now (seen e).past (seen e).opening) (seen e).procedures es line.2)
 
 -- a closed table that takes up a legacy, as a line from there on
 taken_line : (l : LegacyValue) (e : EpochValue) (es : List EpochValue) → IsChain (e ∷ es) → TakesUp l e → InLine 0 l.parents l.records [] (e ∷ es)
@@ -43,31 +36,37 @@ taken_line l e es chain takes =
     let same_records : chain.opening ≡ l.records = sym chain.line.0.opening ∙ takes.opening in
     subst (λ ps. InLine 0 ps l.records [] (e ∷ es)) same_parents (subst (λ rs. InLine 0 chain.parents rs [] (e ∷ es)) same_records chain.line)
 
+one_serial : (l : LegacyValue) (es : List EpochValue) → IsChain es → TakesUpFirst l es
+    → ((run_each (calls_of es) l.records).tree ≡ records_after l.records es) × ((run_each (calls_of es) l.records).replies ≡ replies_of es)
+one_serial l [] chain takes = absurd takes
+one_serial l (e ∷ es) chain takes =
+    let all = e ∷ es in
+    let line : InLine 0 l.parents l.records [] (e ∷ es) = taken_line l e es chain takes in
+    let s = epochs-serial l.parents l.records (map epoch_world all) (map epoch_order all) (line_follows 0 l.parents l.records [] all line)
+    (line_rests 0 l.parents l.records [] all line) (line_agrees 0 l.parents l.records [] all line) in
+    (s.0 ∙ sym (records_left l.records all), s.1)
+
 -- ---- all generations
 
-all_follow : (l : LegacyValue) (gs : List (List EpochValue)) → AreGenerations l gs → FollowOn l.parents l.records (map epoch_world (epochs_of gs))
-all_follow l [] h = tt
-all_follow l ([] ∷ gs) h = absurd h.1
-all_follow l ((e ∷ es) ∷ gs) h =
-    follows_on 0 l.parents l.records [] (e ∷ es) (epochs_of gs) (taken_line l e es h.0 h.1) (all_follow (legacy_after l (e ∷ es)) gs h.2)
+replies_join : (es more : List EpochValue) → replies_of (es ++ more) ≡ replies_of es ++ replies_of more
+replies_join [] more = refl
+replies_join (e ∷ es) more =
+    let own = map (reply_of (epoch_world e)) (epoch_order e) in
+    ap (λ rs. own ++ rs) (replies_join es more) ∙ sym (append_assoc own (replies_of es) (replies_of more))
 
-all_rest : (l : LegacyValue) (gs : List (List EpochValue)) → AreGenerations l gs → AreAtRest (map epoch_world (epochs_of gs))
-all_rest l [] h = tt
-all_rest l ([] ∷ gs) h = absurd h.1
-all_rest l ((e ∷ es) ∷ gs) h =
-    rests_on 0 l.parents l.records [] (e ∷ es) (epochs_of gs) (taken_line l e es h.0 h.1) (all_rest (legacy_after l (e ∷ es)) gs h.2)
-
-all_agree : (l : LegacyValue) (gs : List (List EpochValue)) → AreGenerations l gs → AgreeEach (map epoch_order (epochs_of gs)) (map epoch_world (epochs_of gs))
-all_agree l [] h = tt
-all_agree l ([] ∷ gs) h = absurd h.1
-all_agree l ((e ∷ es) ∷ gs) h =
-    agrees_on 0 l.parents l.records [] (e ∷ es) (epochs_of gs) (taken_line l e es h.0 h.1) (all_agree (legacy_after l (e ∷ es)) gs h.2)
-
-pub all_serial : (l : LegacyValue) (gs : List (List EpochValue)) → AreGenerations l gs → IsSerialFrom l.records (epochs_of gs) (map epoch_order (epochs_of gs))
-all_serial l gs h =
-    let es = epochs_of gs in
-    let s = epochs-serial l.parents l.records (map epoch_world es) (map epoch_order es) (all_follow l gs h) (all_rest l gs h) (all_agree l gs h) in
-    record { tree = s.0 ∙ sym (records_left l.records es); replies = s.1 }
+pub all_serial : (l : LegacyValue) (gs : List GenerationValue) → AreGenerations l gs → AreSerialFrom l gs
+all_serial l [] h = record { tree = refl; replies = refl }
+all_serial l (g ∷ gs) h =
+    let before = grown l g.added in
+    let own = one_serial before g.epochs h.0 h.1 in
+    let later = all_serial (left_by l g) gs h.2 in
+    record {
+      tree = ap (λ t. (run_generations gs t).tree) own.0 ∙ later.tree;
+      replies =
+          (λ i. own.1 i ++ (run_generations gs (own.0 i)).replies)
+          ∙ ap (λ rs. replies_of g.epochs ++ rs) later.replies
+          ∙ sym (replies_join g.epochs (epochs_of gs));
+    }
 
 -- ---- what is left
 
@@ -82,25 +81,130 @@ procedures_on procedures (e ∷ es) more = procedures_on (seen e).procedures es 
 abbrev pub legacy : List ℕ → Records → List Named → LegacyValue
 legacy parents records procedures = record { parents = parents; records = records; procedures = procedures }
 
-same_legacy : (parents : List ℕ) (a b : Records) (ps qs : List Named) → a ≡ b → ps ≡ qs
-    → legacy parents a ps ≡ legacy parents b qs
-same_legacy parents a b ps qs r p = (λ i. record { parents = parents; records = r i; procedures = p i })
+-- what there is after one epoch at least doesn't hang on the records before
+records_forgotten : (l : LegacyValue) (a b : Records) (es : List EpochValue) → TakesUpFirst l es → records_after a es ≡ records_after b es
+records_forgotten l a b [] takes = absurd takes
+records_forgotten l a b (e ∷ es) takes = refl
 
-pub all_left : (l : LegacyValue) (gs : List (List EpochValue)) → legacy_of l gs ≡ legacy_after l (epochs_of gs)
-all_left l [] = refl
-all_left l (g ∷ gs) =
-    all_left (legacy_after l g) gs
-    ∙ same_legacy l.parents (records_after (records_after l.records g) (epochs_of gs)) (records_after l.records (g ++ epochs_of gs))
-    (procedures_after (procedures_after l.procedures g) (epochs_of gs)) (procedures_after l.procedures (g ++ epochs_of gs))
-    (records_on l.records g (epochs_of gs)) (procedures_on l.procedures g (epochs_of gs))
+first_on : (l : LegacyValue) (es more : List EpochValue) → TakesUpFirst l es → TakesUpFirst l (es ++ more)
+first_on l [] more takes = absurd takes
+first_on l (e ∷ es) more takes = takes
 
-pub one_more : (l : LegacyValue) (gs : List (List EpochValue)) (g : List EpochValue) → AreGenerations l gs → IsChain g → TakesUpFirst (legacy_of l gs) g → AreGenerations l (gs ++ g ∷ [])
+no_zeros : (records : Records) → with_zeros 0 records ≡ records
+no_zeros records = append-nil records
+
+pub nothing_grown : (l : LegacyValue) → grown l [] ≡ l
+nothing_grown l = (λ i. legacy (append-nil l.parents i) (no_zeros l.records i) l.procedures)
+
+pub grown_twice : (l : LegacyValue) (ps qs : List ℕ) → grown (grown l ps) qs ≡ grown l (ps ++ qs)
+grown_twice l ps qs =
+    let parents = append_assoc l.parents ps qs in
+    let zeros : with_zeros (length qs) (with_zeros (length ps) l.records) ≡ with_zeros (length (ps ++ qs)) l.records =
+    append_assoc l.records (replicate (length ps) zero_record) (replicate (length qs) zero_record)
+    ∙ ap (λ rs. l.records ++ rs) (replicate-append-replicate (length ps) (length qs) zero_record)
+    ∙ ap (λ n. with_zeros n l.records) (sym (length-append ps qs)) in
+    (λ i. legacy (parents i) (zeros i) l.procedures)
+
+-- the zeros are among the records that the first epoch afterwards opens with
+zeros_dropped : (l : LegacyValue) (gs : List GenerationValue) → AreGenerations l gs → records_after (with_zeros (length (added_by gs)) l.records) (epochs_of gs) ≡ records_after l.records (epochs_of gs)
+zeros_dropped l [] h = no_zeros l.records
+zeros_dropped l (g ∷ gs) h =
+    records_forgotten (grown l g.added) (with_zeros (length (g.added ++ added_by gs)) l.records) l.records (g.epochs ++ epochs_of gs)
+    (first_on (grown l g.added) g.epochs (epochs_of gs) h.1)
+
+pub all_left : (l : LegacyValue) (gs : List GenerationValue) → AreGenerations l gs → legacy_of l gs ≡ legacy_after (grown l (added_by gs)) (epochs_of gs)
+all_left l [] h = sym (nothing_grown l)
+all_left l (g ∷ gs) h =
+    let more = added_by gs in
+    let before = grown l g.added in
+    let own = left_by l g in
+    let all = g.epochs ++ epochs_of gs in
+    let last = with_zeros (length (g.added ++ more)) l.records in
+    let parents = append_assoc l.parents g.added more in
+    let records : records_after (with_zeros (length more) own.records) (epochs_of gs) ≡ records_after last all =
+    zeros_dropped own gs h.2
+    ∙ records_on before.records g.epochs (epochs_of gs)
+    ∙ records_forgotten before before.records last all (first_on before g.epochs (epochs_of gs) h.1) in
+    let procedures = procedures_on l.procedures g.epochs (epochs_of gs) in
+    all_left own gs h.2 ∙ (λ i. legacy (parents i) (records i) (procedures i))
+
+-- ---- where nothing was appended
+
+both_nil : (xs ys : List ℕ) → xs ++ ys ≡ [] → (xs ≡ []) × (ys ≡ [])
+both_nil [] ys e = (refl, e)
+both_nil (x ∷ xs) ys e = absurd cc
+
+run_both : (xs ys : List (Records → Outcome)) (t : Records) → run_each (xs ++ ys) t
+    ≡ record { tree = (run_each ys (run_each xs t).tree).tree; replies = (run_each xs t).replies ++ (run_each ys (run_each xs t).tree).replies }
+run_both [] ys t = refl
+run_both (x ∷ xs) ys t = ap (λ (s : SerialOutcome). record { tree = s.tree; replies = (x t).reply ∷ s.replies }) (run_both xs ys (x t).tree)
+
+calls_join : (es more : List EpochValue) → calls_of (es ++ more) ≡ calls_of es ++ calls_of more
+calls_join [] more = refl
+calls_join (e ∷ es) more =
+    let own = map (epoch_world e).meanings (epoch_order e) in
+    ap (λ cs. own ++ cs) (calls_join es more) ∙ sym (append_assoc own (calls_of es) (calls_of more))
+
+runs_joined : (gs : List GenerationValue) (t : Records) → added_by gs ≡ [] → run_generations gs t ≡ run_each (calls_of (epochs_of gs)) t
+runs_joined [] t e = refl
+runs_joined (g ∷ gs) t e =
+    let none = both_nil g.added (added_by gs) e in
+    let own = run_each (calls_of g.epochs) t in
+    ap (λ (u : Records). record {
+      tree = (run_generations gs (run_each (calls_of g.epochs) u).tree).tree;
+      replies = (run_each (calls_of g.epochs) u).replies ++ (run_generations gs (run_each (calls_of g.epochs) u).tree).replies;
+    })
+    (ap (λ ps. with_zeros (length ps) t) none.0 ∙ no_zeros t)
+    ∙ ap (λ (s : SerialOutcome). record { tree = s.tree; replies = own.replies ++ s.replies }) (runs_joined gs own.tree none.1)
+    ∙ sym (run_both (calls_of g.epochs) (calls_of (epochs_of gs)) t)
+    ∙ ap (λ cs. run_each cs t) (sym (calls_join g.epochs (epochs_of gs)))
+
+pub left_joined : (l : LegacyValue) (gs : List GenerationValue) → added_by gs ≡ [] → legacy_of l gs ≡ legacy_after l (epochs_of gs)
+left_joined l [] e = refl
+left_joined l (g ∷ gs) e =
+    let none = both_nil g.added (added_by gs) e in
+    let records = records_on l.records g.epochs (epochs_of gs) in
+    let procedures = procedures_on l.procedures g.epochs (epochs_of gs) in
+    left_joined (left_by l g) gs none.1
+    ∙ ap (λ m. legacy_after (legacy_after m g.epochs) (epochs_of gs)) (ap (grown l) none.0 ∙ nothing_grown l)
+    ∙ (λ i. legacy l.parents (records i) (procedures i))
+
+pub serial_joined : (l : LegacyValue) (gs : List GenerationValue) → AreGenerations l gs → added_by gs ≡ []
+    → IsSerialFrom l.records (epochs_of gs) (map epoch_order (epochs_of gs))
+serial_joined l gs h e =
+    let s = all_serial l gs h in
+    let same = runs_joined gs l.records e in
+    record {
+      tree = sym (ap (λ r. r.tree) same) ∙ s.tree ∙ ap (λ m. m.records) (left_joined l gs e);
+      replies = sym (ap (λ r. r.replies) same) ∙ s.replies;
+    }
+
+-- ---- one more
+
+pub one_more : (l : LegacyValue) (gs : List GenerationValue) (g : GenerationValue) → AreGenerations l gs → IsChain g.epochs → TakesUpFirst (grown (legacy_of l gs) g.added) g.epochs
+    → AreGenerations l (gs ++ g ∷ [])
 one_more l [] g h chain takes = (chain, takes, tt)
-one_more l (f ∷ gs) g h chain takes = (h.0, h.1, one_more (legacy_after l f) gs g h.2 chain takes)
+one_more l (f ∷ gs) g h chain takes = (h.0, h.1, one_more (left_by l f) gs g h.2 chain takes)
 
-pub one_more_left : (l : LegacyValue) (gs : List (List EpochValue)) (g : List EpochValue) → legacy_of l (gs ++ g ∷ []) ≡ legacy_after (legacy_of l gs) g
+pub one_more_left : (l : LegacyValue) (gs : List GenerationValue) (g : GenerationValue) → legacy_of l (gs ++ g ∷ []) ≡ left_by (legacy_of l gs) g
 one_more_left l [] g = refl
-one_more_left l (f ∷ gs) g = one_more_left (legacy_after l f) gs g
+one_more_left l (f ∷ gs) g = one_more_left (left_by l f) gs g
+
+-- ---- a succession
+
+pub starts : (first last : LegacyValue) → last ≡ first → IsSuccession first last
+starts first last same = record { tables = []; added = []; generations = tt; left = nothing_grown first ∙ sym same }
+
+pub grows : (first last new : LegacyValue) (integers : List ℤ) (r : Result ℕ GrowthFault) → IsSuccession first last
+    → IfOk r (λ n. IsGrown last integers n new) → OnErr r (new ≡ last) → IsSuccession first new
+grows first last new integers (Ok n) was h same =
+    record {
+      tables = was.tables;
+      added = was.added ++ h.added;
+      generations = was.generations;
+      left = sym (grown_twice (legacy_of first was.tables) was.added h.added) ∙ ap (λ (l : LegacyValue). grown l h.added) was.left ∙ sym h.same;
+    }
+grows first last new integers (Err e) was h same = subst (λ (l : LegacyValue). IsSuccession first l) (sym same) was
 
 -- ---- what the last epoch says of it
 

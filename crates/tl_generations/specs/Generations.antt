@@ -1,17 +1,30 @@
--- Closed tables one after another: each takes up what the one before left.
-use Rattle.std.specs.Prelude.{◌≡◌, ℕ, List, [], ◌∷◌, ◌++◌, map}
+-- Closed tables one after another: each takes up what the one before left, or that with nodes appended to its tree.
+use Rattle.std.specs.Prelude.{◌≡◌, ℕ, ℤ, List, [], ◌∷◌, ◌++◌, length, map}
 use Rattle.tl_tree.specs.Records.{Records}
+use Rattle.tl_tree_locking.specs.Alone.{Outcome, SerialOutcome}
 use Rattle.tl_tree_locking.specs.Epochs.{run_each, joined, joined_replies}
 use Rattle.tl_procedures.specs.Names.{Named, BeginsWith}
 use Rattle.tl_table.specs.Epochs.{EpochValue, seen}
 use Rattle.tl_table.specs.Tables.{epoch_world, records_after, procedures_after, IsChain}
 use Rattle.tl_table.specs.Chains.{epoch_order}
+use Rattle.tl_generations.specs.Growth.{CanGrow, with_zeros}
 
 -- a tree, and procedures, which a closed table leaves to the next
 pub record LegacyValue : Type 0 where
   pub parents : List ℕ
   pub records : Records
   pub procedures : List Named
+
+-- the same with nodes of these parents appended to the tree: their records are zeros
+abbrev pub grown : LegacyValue → List ℕ → LegacyValue
+grown l added = record { parents = l.parents ++ added; records = with_zeros (length added) l.records; procedures = l.procedures }
+
+-- Nodes of these parents were appended, of which the first has that number.
+pub record IsGrown (old : LegacyValue) (integers : List ℤ) (first : ℕ) (new : LegacyValue) : Type 0 where
+  pub added : List ℕ
+  pub tree : CanGrow old.parents integers added
+  pub number : first ≡ length old.parents
+  pub same : new ≡ grown old added
 
 -- an epoch opens with that tree and has these procedures first
 pub record TakesUp (l : LegacyValue) (e : EpochValue) : Type 0 where
@@ -29,20 +42,59 @@ abbrev pub legacy_after : LegacyValue → List EpochValue → LegacyValue
 legacy_after l es =
     record { parents = l.parents; records = records_after l.records es; procedures = procedures_after l.procedures es }
 
--- each of these closed tables takes up what the one before it left, and the first one takes up this
-abbrev pub AreGenerations : LegacyValue → List (List EpochValue) → Type 0
+-- a closed table: the parents of the nodes that were appended before it, and its epochs
+pub record GenerationValue : Type 0 where
+  pub added : List ℕ
+  pub epochs : List EpochValue
+
+-- what there is after that table
+abbrev pub left_by : LegacyValue → GenerationValue → LegacyValue
+left_by l g = legacy_after (grown l g.added) g.epochs
+
+-- Each of these closed tables takes up what the one before it left, with the nodes that were appended then; the first one takes up
+-- this.
+abbrev pub AreGenerations : LegacyValue → List GenerationValue → Type 0
 AreGenerations l [] = Unit {0}
-AreGenerations l (g ∷ gs) = IsChain g × TakesUpFirst l g × AreGenerations (legacy_after l g) gs
+AreGenerations l (g ∷ gs) = IsChain g.epochs × TakesUpFirst (grown l g.added) g.epochs × AreGenerations (left_by l g) gs
 
 -- what they leave in the end
-abbrev pub legacy_of : LegacyValue → List (List EpochValue) → LegacyValue
+abbrev pub legacy_of : LegacyValue → List GenerationValue → LegacyValue
 legacy_of l [] = l
-legacy_of l (g ∷ gs) = legacy_of (legacy_after l g) gs
+legacy_of l (g ∷ gs) = legacy_of (left_by l g) gs
 
 -- their epochs, one after another
-abbrev pub epochs_of : List (List EpochValue) → List EpochValue
+abbrev pub epochs_of : List GenerationValue → List EpochValue
 epochs_of [] = []
-epochs_of (g ∷ gs) = g ++ epochs_of gs
+epochs_of (g ∷ gs) = g.epochs ++ epochs_of gs
+
+-- the parents of all nodes that were appended
+abbrev pub added_by : List GenerationValue → List ℕ
+added_by [] = []
+added_by (g ∷ gs) = g.added ++ added_by gs
+
+-- ---- all calls, run alone
+
+-- the calls of these epochs along their orders joined, as what each does alone
+abbrev pub calls_of : List EpochValue → List (Records → Outcome)
+calls_of es = joined (map epoch_world es) (map epoch_order es)
+
+-- the replies of these calls, in the same order
+abbrev pub replies_of : List EpochValue → List (List ℤ)
+replies_of es = joined_replies (map epoch_world es) (map epoch_order es)
+
+-- before each table the records of the nodes that were appended then come behind the others; then its calls are run alone, each on the
+-- records that the one before left
+abbrev pub run_generations : List GenerationValue → Records → SerialOutcome
+run_generations [] records = record { tree = records; replies = [] }
+run_generations (g ∷ gs) records =
+    let own = run_each (calls_of g.epochs) (with_zeros (length g.added) records) in
+    let later = run_generations gs own.tree in
+    record { tree = later.tree; replies = own.replies ++ later.replies }
+
+-- That leaves the records that there are in the end, and each call gives the reply that it gave.
+pub record AreSerialFrom (l : LegacyValue) (gs : List GenerationValue) : Type 0 where
+  pub tree : (run_generations gs l.records).tree ≡ (legacy_of l gs).records
+  pub replies : (run_generations gs l.records).replies ≡ replies_of (epochs_of gs)
 
 -- All calls of these epochs, run alone one after another along these orders joined, from those records, leave the records that there
 -- are in the end, and each gives the reply that it gave.
@@ -50,16 +102,19 @@ pub record IsSerialFrom (opening : Records) (es : List EpochValue) (orders : Lis
   pub tree : (run_each (joined (map epoch_world es) orders) opening).tree ≡ records_after opening es
   pub replies : (run_each (joined (map epoch_world es) orders) opening).replies ≡ joined_replies (map epoch_world es) orders
 
+-- ---- a line of closed tables that goes on
+
 -- the legacy before any call, and the one now
 pub record SuccessionValue : Type 0 where
   pub first : LegacyValue
   pub last : LegacyValue
 
--- generations lead from the first legacy to the last
+-- generations lead from the first legacy to the last, before which nodes may have been appended once more
 pub record IsSuccession (first last : LegacyValue) : Type 0 where
-  pub tables : List (List EpochValue)
+  pub tables : List GenerationValue
+  pub added : List ℕ
   pub generations : AreGenerations first tables
-  pub left : legacy_of first tables ≡ last
+  pub left : grown (legacy_of first tables) added ≡ last
 
 -- one generation more, if it took up what there was
 abbrev pub TakesTurn : SuccessionValue → List EpochValue → SuccessionValue → Type 0

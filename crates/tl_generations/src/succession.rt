@@ -1,18 +1,22 @@
 // What generations lead to.
 
-ghost use Rattle.std.specs.Prelude.{◌≡◌, true, false, Ok, IfOk, OnErr};
+ghost use Rattle.std.specs.Prelude.{◌≡◌, ◌≢◌, ℕ, List, length, map, unsigned_abs, true, false, Ok, IfOk, OnOk, IfErr, OnErr};
 ghost use Rattle.tl_table.specs.Tables.{IsChain};
-ghost use Rattle.tl_generations.specs.Generations.{SuccessionValue, TakesUpFirst, TakesTurn, IsSuccession};
+ghost use Rattle.tl_generations.specs.Generations.{SuccessionValue, IsGrown, TakesUpFirst, TakesTurn, IsSuccession};
+ghost use Rattle.tl_generations.specs.Growth.{CanGrow, IsGrowthFault};
+ghost use Rattle.tl_generations.specs.declared.growth.GrowthFault.TheVariants as growth;
 
+use crate::growth::GrowthFault;
 use crate::legacy::Legacy;
 use std::alloc::{AllocError, Global};
 use std::marker::Model;
 use tl_core::Core;
 use tl_table::Closed;
 
-/// What the first table began with, and what the last closed table left.
+/// What the first table began with, and what the last closed table left, with the nodes that were appended since.
 ///
-/// The type guarantees that closed tables lead from the one to the other, each of which took up what the one before it left.
+/// The type guarantees that closed tables lead from the one to the other, each of which took up what the one before it left, with the
+/// nodes that were appended then.
 #[derive(Debug, Drop)]
 pub struct Succession {
     first: Legacy,
@@ -40,7 +44,7 @@ impl Succession {
         Ok(Succession { first, last })
     }
 
-    /// What the last closed table left.
+    /// What the last closed table left, with the nodes that were appended since.
     pub fn last(&self) -> &Legacy
         ensures same { result.now ≡ self.now.last }
         ensures reached { IsSuccession self.now.first self.now.last }
@@ -61,5 +65,27 @@ impl Succession {
         let last = Legacy::after(alloc, chain)?;
         self.last = last;
         Ok(true)
+    }
+
+    /// Whether nodes of these parents can be appended to the tree that the next table has to begin with. The faults are those of `grow`,
+    /// but 190.
+    pub fn check_growth(&self, parents: &[i64]) -> Result<(), GrowthFault>
+        ensures ok { OnOk result (CanGrow self.now.last.parents parents.now (map unsigned_abs parents.now)) }
+        ensures fault { IfErr result (λ e. IsGrowthFault (length self.now.last.parents) parents.now e) }
+        ensures known { IfErr result (λ e. e ≢ growth.Memory) }
+    {
+        self.last.check_growth(parents)
+    }
+
+    /// Appends nodes of these parents to the tree that the next table has to begin with, with zeros as their records. The number of
+    /// the first new node. The faults are those of `Legacy::grow`, after which nothing has changed.
+    pub fn grow(&mut self, alloc: Global, parents: &[i64]) -> Result<u16, GrowthFault>
+        ensures grown { IfOk result (λ first. IsGrown self.old.last parents.now first self.new.last) }
+        ensures fault { IfErr result (λ e. IsGrowthFault (length self.old.last.parents) parents.now e) }
+        ensures taken { (added : List ℕ) → CanGrow self.old.last.parents parents.now added → IfErr result (λ e. e ≡ growth.Memory) }
+        ensures first { self.new.first ≡ self.old.first }
+        ensures err { OnErr result (self.new ≡ self.old) }
+    {
+        self.last.grow(alloc, parents)
     }
 }

@@ -1,19 +1,108 @@
 -- What is written before a commit.
-use Rattle.std.proofs.Common.{ℕ, List, ◌∙◌, arith}
+use Rattle.std.proofs.Common.{ℕ, suc, ◌+◌, ◌≡◌, ◌≢◌, ◌<◌, ◌⊎◌, inl, inr, List, [], ◌∷◌, ◌++◌, length, map, take, slice_set, refl, sym, ap, ◌∙◌, pos, arith}
+use Rattle.std.proofs.lemmas.Bool.{ne_eqb, eq-eqb, cases_eq}
+use Rattle.std.proofs.lemmas.List.{length-append, length-map, length-set}
+use Rattle.sqlite_value.specs.declared.value.Value.TheVariants.{Int}
 use Rattle.sqlite_value.specs.Order.{Row}
-use Rattle.sqlite_trees.specs.View.{View}
-use Rattle.tl_ledger.specs.declared.schema.TheConstants.{NODE, RECORD, PROCEDURE, CALL, TURN, REPLY}
-use Rattle.tl_ledger.specs.Rows.{Appends}
-use Rattle.tl_ledger.specs.Contents.{Contents, Holds, Counts, with_news}
+use Rattle.sqlite_trees.specs.Tree.{Trees, put_row, with_tree}
+use Rattle.sqlite_trees.specs.View.{View, SetsTree}
+use Rattle.tl_ledger.specs.declared.news.News.{News}
+use Rattle.tl_ledger.specs.declared.rows.ChangedRecord.{ChangedRecord}
+use Rattle.tl_ledger.specs.declared.committing.Marks.{Marks}
+use Rattle.tl_ledger.specs.declared.schema.TheConstants.{RECORD, PROCEDURE, CALL, TURN, REPLY, SEAL, TABLES}
+use Rattle.tl_ledger.specs.Rows.{Appends, rows_from}
+use Rattle.tl_ledger.specs.Contents.{Contents, Holds, with_rows, with_more}
+use Rattle.tl_ledger.specs.News.{Changes, record_columns, procedure_columns, call_columns, turn_columns, reply_columns, seal_columns, with_changes, with_changed, IsMarked, Adds, after_news}
+use Rattle.tl_ledger.proofs.RowLemmas.{put_row-at, only_again}
 
-pub holds_all : (v0 v1 v2 v3 v4 : View) (p c t r : ℕ) (ps cs ts rs : List Row)
-    → Appends v0 v1 PROCEDURE p ps → Appends v1 v2 CALL c cs → Appends v2 v3 TURN t ts → Appends v3 v4 REPLY r rs
-    → (k : Contents) → Counts k p c t r → Holds v0.trees k → Holds v4.trees (with_news k ps cs ts rs)
-holds_all v0 v1 v2 v3 v4 p c t r ps cs ts rs one two three four k counts holds = record {
-  nodes = four.others NODE (λ e. omega arith) ∙ three.others NODE (λ e. omega arith) ∙ two.others NODE (λ e. omega arith) ∙ one.others NODE (λ e. omega arith) ∙ holds.nodes;
-  records = four.others RECORD (λ e. omega arith) ∙ three.others RECORD (λ e. omega arith) ∙ two.others RECORD (λ e. omega arith) ∙ one.others RECORD (λ e. omega arith) ∙ holds.records;
-  procedures = four.others PROCEDURE (λ e. omega arith) ∙ three.others PROCEDURE (λ e. omega arith) ∙ two.others PROCEDURE (λ e. omega arith) ∙ one.tree k.procedures counts.procedures_are holds.procedures;
-  calls = four.others CALL (λ e. omega arith) ∙ three.others CALL (λ e. omega arith) ∙ two.tree k.calls counts.calls_are (one.others CALL (λ e. omega arith) ∙ holds.calls);
-  turns = four.others TURN (λ e. omega arith) ∙ three.tree k.turns counts.turns_are (two.others TURN (λ e. omega arith) ∙ one.others TURN (λ e. omega arith) ∙ holds.turns);
-  replies = four.tree k.replies counts.replies_are (three.others REPLY (λ e. omega arith) ∙ two.others REPLY (λ e. omega arith) ∙ one.others REPLY (λ e. omega arith) ∙ holds.replies);
+-- one table was written, and the others stand as they did
+holds_rows : (old new : Trees) (c : Contents) (table : ℕ) (rows : List Row) → Holds old c → new table ≡ rows_from 0 rows → ((t : ℕ) → t ≢ table → new t ≡ old t)
+    → Holds new (with_rows c table rows)
+holds_rows old new c table rows holds is others t inside = by_cases (cases_eq t table)
+  where
+    by_cases : (t ≡ table) ⊎ (t ≢ table) → new t ≡ rows_from 0 (with_rows c table rows t)
+    by_cases (inl same) = rw (eq-eqb t table same) (ap new same ∙ is)
+    by_cases (inr other) = rw (ne_eqb t table other) (others t other ∙ holds t inside)
+
+pub holds_more : (old new : View) (c : Contents) (table first : ℕ) (more : List Row) → table < TABLES → length (c table) ≡ first → Appends old new table first more
+    → Holds old.trees c → Holds new.trees (with_more c table more)
+holds_more old new c table first more inside long adds holds =
+    holds_rows old.trees new.trees c table (c table ++ more) holds (adds.tree (c table) long (holds table inside)) adds.others
+
+pub holds_changed : (old new : View) (c : Contents) (nodes : ℕ) (changed : List ChangedRecord) → length (c RECORD) ≡ nodes → Changes old new nodes changed
+    → Holds old.trees c → Holds new.trees (with_changed c changed)
+holds_changed old new c nodes changed long changes holds =
+    holds_rows old.trees new.trees c RECORD (with_changes (c RECORD) changed) holds (changes.tree (c RECORD) long (holds RECORD (omega arith))) changes.others
+
+pub adds_all : (v0 v1 v2 v3 v4 v5 v6 : View) (m : Marks) (n : News)
+    → Appends v0 v1 PROCEDURE m.procedures (map procedure_columns n.procedures.items)
+    → Appends v1 v2 CALL m.calls (map call_columns n.calls.items)
+    → Appends v2 v3 TURN m.turns (map turn_columns n.turns.items)
+    → Appends v3 v4 REPLY m.replies (map reply_columns n.replies.items)
+    → Appends v4 v5 SEAL m.seals (map seal_columns n.seals.items)
+    → Changes v5 v6 m.nodes n.records.items → Adds v0 v6 m n
+adds_all v0 v1 v2 v3 v4 v5 v6 m n one two three four five six = record {
+  holds = λ c marked holds.
+      let c1 : Contents = with_more c PROCEDURE (map procedure_columns n.procedures.items) in
+      let c2 : Contents = with_more c1 CALL (map call_columns n.calls.items) in
+      let c3 : Contents = with_more c2 TURN (map turn_columns n.turns.items) in
+      let c4 : Contents = with_more c3 REPLY (map reply_columns n.replies.items) in
+      let c5 : Contents = with_more c4 SEAL (map seal_columns n.seals.items) in
+      let h1 : Holds v1.trees c1 = holds_more v0 v1 c PROCEDURE m.procedures _ (omega arith) marked.procedures one holds in
+      let h2 : Holds v2.trees c2 = holds_more v1 v2 c1 CALL m.calls _ (omega arith) marked.calls two h1 in
+      let h3 : Holds v3.trees c3 = holds_more v2 v3 c2 TURN m.turns _ (omega arith) marked.turns three h2 in
+      let h4 : Holds v4.trees c4 = holds_more v3 v4 c3 REPLY m.replies _ (omega arith) marked.replies four h3 in
+      let h5 : Holds v5.trees c5 = holds_more v4 v5 c4 SEAL m.seals _ (omega arith) marked.seals five h4 in
+      holds_changed v5 v6 c5 m.nodes n.records.items marked.nodes six h5;
+  only = only_again v0 v1 v6 one.only (only_again v1 v2 v6 two.only (only_again v2 v3 v6 three.only (only_again v3 v4 v6 four.only (only_again v4 v5 v6 five.only six.only))));
 }
+
+-- ---- records in the place of others
+
+pub changes_more : (rows : List Row) (changed : List ChangedRecord) (x : ChangedRecord)
+    → with_changes rows (changed ++ x ∷ []) ≡ slice_set (with_changes rows changed) x.node (record_columns x.row)
+changes_more rows [] x = refl
+changes_more rows (y ∷ changed) x = changes_more (slice_set rows y.node (record_columns y.row)) changed x
+
+pub changes_length : (rows : List Row) (changed : List ChangedRecord) → length (with_changes rows changed) ≡ length rows
+changes_length rows [] = refl
+changes_length rows (y ∷ changed) = changes_length (slice_set rows y.node (record_columns y.row)) changed ∙ length-set rows y.node (record_columns y.row)
+
+pub changes_none : (v : View) (nodes : ℕ) → Changes v v nodes []
+changes_none v nodes = record { tree = λ rows long is. is; others = λ t other. refl; only = refl }
+
+-- ---- how many rows there are then
+
+longer : (rows more : List Row) (n k : ℕ) → length rows ≡ n → length more ≡ k → length (rows ++ more) ≡ n + k
+longer rows more n k long short = let e = length-append rows more in omega (arith, e, long, short)
+
+pub marked_after : (c : Contents) (n : News) (m : Marks) → IsMarked c m → IsMarked (after_news c n) (record {
+  nodes = m.nodes;
+  procedures = m.procedures + length n.procedures.items;
+  calls = m.calls + length n.calls.items;
+  turns = m.turns + length n.turns.items;
+  replies = m.replies + length n.replies.items;
+  seals = m.seals + length n.seals.items;
+})
+marked_after c n m marked = record {
+  nodes = changes_length (c RECORD) n.records.items ∙ marked.nodes;
+  procedures = longer (c PROCEDURE) (map procedure_columns n.procedures.items) _ _ marked.procedures (length-map n.procedures.items procedure_columns);
+  calls = longer (c CALL) (map call_columns n.calls.items) _ _ marked.calls (length-map n.calls.items call_columns);
+  turns = longer (c TURN) (map turn_columns n.turns.items) _ _ marked.turns (length-map n.turns.items turn_columns);
+  replies = longer (c REPLY) (map reply_columns n.replies.items) _ _ marked.replies (length-map n.replies.items reply_columns);
+  seals = longer (c SEAL) (map seal_columns n.seals.items) _ _ marked.seals (length-map n.seals.items seal_columns);
+}
+
+pub change_more : (old mid new : View) (nodes : ℕ) (changed : List ChangedRecord) (x : ChangedRecord) → x.node < nodes → Changes old mid nodes changed
+    → SetsTree mid new RECORD (put_row (Int (pos x.node) ∷ record_columns x.row)) → Changes old new nodes (changed ++ x ∷ [])
+change_more old mid new nodes changed x inside so_far sets =
+    let put : Trees → View = λ t. record mid { trees = t; cursors = new.cursors } in
+    let trees : new.trees ≡ with_tree mid.trees RECORD (put_row (Int (pos x.node) ∷ record_columns x.row) (mid.trees RECORD)) = ap (λ v. v.trees) sets.is in record {
+      tree = λ rows long is.
+          ap (λ f. f RECORD) trees
+          ∙ ap (put_row (Int (pos x.node) ∷ record_columns x.row)) (so_far.tree rows long is)
+          ∙ put_row-at 0 (with_changes rows changed) (record_columns x.row) x.node x.node (let e = changes_length rows changed in omega (arith, inside, long, e)) (omega arith)
+          ∙ ap (rows_from 0) (sym (changes_more rows changed x));
+      others = λ t other. ap (λ f. f t) trees ∙ rw (ne_eqb t RECORD other) (so_far.others t other);
+      only = only_again old mid new so_far.only (sets.is ∙ ap put (sym trees));
+    }

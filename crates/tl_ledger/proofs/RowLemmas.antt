@@ -1,5 +1,5 @@
 -- Rows put behind those of a table.
-use Rattle.std.proofs.Common.{◌≡◌, ℕ, zero, suc, ◌+◌, ◌<◌, ◌≤◌, pos, List, [], ◌∷◌, ◌++◌, length, map, take, get_or, refl, sym, ap, ◌∙◌, arith, Less, int_cmp}
+use Rattle.std.proofs.Common.{◌≡◌, ℕ, zero, suc, ◌+◌, ◌<◌, ◌≤◌, pos, List, [], ◌∷◌, ◌++◌, length, map, take, get_or, refl, sym, ap, ◌∙◌, arith, Less, Equal, slice_set, int_cmp}
 use Rattle.std.proofs.lemmas.Bool.{ne_eqb, eq-eqb}
 use Rattle.std.proofs.lemmas.Bool.Decides.{nat_tests}
 use Rattle.std.proofs.lemmas.List.{length-append, append-nil, append_assoc, length-map, length-take-le}
@@ -13,12 +13,26 @@ use Rattle.tl_ledger.specs.Rows.{rows_from, Appends}
 less_numbers : (m n : ℕ) → m < n → int_cmp (pos m) (pos n) ≡ Less
 less_numbers m n lt = grind (arith, nat_tests)
 
+same_numbers : (m : ℕ) → int_cmp (pos m) (pos m) ≡ Equal
+same_numbers m = grind (arith, nat_tests)
+
 pub put_row-last : (m : ℕ) (columns : List Row) (c : Row) (n : ℕ) → n ≡ m + length columns
     → put_row (Int (pos n) ∷ c) (rows_from m columns) ≡ rows_from m (columns ++ c ∷ [])
 put_row-last m [] c n is = let e : n ≡ m = omega arith in ap (λ k. (Int (pos k) ∷ c) ∷ []) e
 put_row-last m (d ∷ columns) c n is =
     let less : value_cmp (Int (pos m)) (Int (pos n)) ≡ Less = value_cmp-Int (pos m) (pos n) ∙ less_numbers m n (omega arith) in
     rw less (ap (λ l. (Int (pos m) ∷ d) ∷ l) (put_row-last (m + 1) columns c n (omega arith)))
+
+pub put_row-at : (m : ℕ) (columns : List Row) (c : Row) (x n : ℕ) → x < length columns → n ≡ m + x
+    → put_row (Int (pos n) ∷ c) (rows_from m columns) ≡ rows_from m (slice_set columns x c)
+put_row-at m [] c x n inside is = absurd (omega arith)
+put_row-at m (d ∷ columns) c zero n inside is =
+    let e : n ≡ m = omega arith in
+    let same : value_cmp (Int (pos m)) (Int (pos n)) ≡ Equal = value_cmp-Int (pos m) (pos n) ∙ ap (λ k. int_cmp (pos m) (pos k)) e ∙ same_numbers m in
+    rw same (ap (λ k. (Int (pos k) ∷ c) ∷ rows_from (m + 1) columns) e)
+put_row-at m (d ∷ columns) c (suc x) n inside is =
+    let less : value_cmp (Int (pos m)) (Int (pos n)) ≡ Less = value_cmp-Int (pos m) (pos n) ∙ less_numbers m n (omega arith) in
+    rw less (ap (λ l. (Int (pos m) ∷ d) ∷ l) (put_row-at (m + 1) columns c x n (omega arith) (omega arith)))
 
 pub only_again : (old mid new : View) → OnlyWrites old mid → OnlyWrites mid new → OnlyWrites old new
 only_again old mid new p q =

@@ -13,7 +13,7 @@ use sqlite_value::row::Row;
 use sqlite_value::value::ValueRef;
 
 // Puts a row of this number.
-fn put_one<S: Store, T: Entry>(
+pub(crate) fn put_one<S: Store, T: Entry>(
     store: &mut S,
     row: &mut Row,
     table: u32,

@@ -7,19 +7,22 @@ ghost use Rattle.tl_ledger.specs.Contents.{Contents, Holds, AreTables, IsAtRest}
 ghost use Rattle.tl_ledger.specs.News.{after_news, IsMarked, HasRoom, Adds};
 
 use crate::appending::append_all;
+use crate::changing::put_changes;
 use crate::news::News;
-use crate::schema::{CALL, PROCEDURE, REPLY, TURN};
+use crate::schema::{CALL, PROCEDURE, REPLY, SEAL, TURN};
 use sqlite_trees::error::StoreError;
 use sqlite_trees::store::Store;
 use sqlite_value::row::Row;
 
-/// How many rows the tables that grow have.
+/// How many nodes there are, and how many rows the tables that grow have.
 #[derive(Clone, Copy, Debug, PartialEq, Eq)]
 pub struct Marks {
+    pub nodes: u64,
     pub procedures: u64,
     pub calls: u64,
     pub turns: u64,
     pub replies: u64,
+    pub seals: u64,
 }
 
 // Writes what came, and commits nothing.
@@ -44,7 +47,10 @@ fn write_news<S: Store>(
     )?;
     append_all(store, row, CALL, marks.calls, news.calls.as_slice())?;
     append_all(store, row, TURN, marks.turns, news.turns.as_slice())?;
-    append_all(store, row, REPLY, marks.replies, news.replies.as_slice())
+    append_all(store, row, REPLY, marks.replies, news.replies.as_slice())?;
+    append_all(store, row, SEAL, marks.seals, news.seals.as_slice())?;
+    put_changes(store, row, marks.nodes, news.records.as_slice())?;
+    Ok(())
 }
 
 /// Writes what came and commits it. A crash at any moment leaves what was committed before, or that with all of it; once this

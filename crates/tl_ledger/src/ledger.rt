@@ -1,13 +1,14 @@
 // A store with its counts.
 
-ghost use Rattle.std.specs.Prelude.{◌≡◌, ◌⊎◌, ◌↔◌, ◌+◌, ◌≤◌, ◌^◌, true, false, IsTrue, OnOk, OnErr};
+ghost use Rattle.std.specs.Prelude.{◌≡◌, ◌⊎◌, ◌↔◌, ◌+◌, ◌<◌, ◌≤◌, ◌^◌, true, false, All, IsTrue, OnOk, OnErr};
 ghost use Rattle.sqlite_trees.specs.Tree.{Trees};
 ghost use Rattle.sqlite_trees.specs.View.{IsClean};
 ghost use Rattle.tl_ledger.specs.Contents.{Contents, Holds, IsAtRest};
-ghost use Rattle.tl_ledger.specs.News.{after_news, IsMarked};
+ghost use Rattle.tl_ledger.specs.News.{after_news, IsMarked, HasRoom};
 
 use crate::committing::{Marks, commit_news};
 use crate::news::News;
+use crate::rows::ChangedRecord;
 use sqlite_trees::error::StoreError;
 use sqlite_trees::store::Store;
 use sqlite_value::row::Row;
@@ -31,6 +32,41 @@ fn fits(count: u64, more: usize) -> bool
     ensures { IsTrue result ↔ (count + more ≤ 2 ^ 62) }
 {
     count <= MAX_ROWS && more as u64 <= MAX_ROWS - count
+}
+
+// Whether these are records of so many nodes.
+fn are_inside(changed: &[ChangedRecord], nodes: u64) -> bool
+    ensures { IsTrue result ↔ All (λ r. r.node < nodes) changed.now }
+{
+    changed.iter().all(|change| change.node < nodes)
+}
+
+// Whether all rows more have numbers, and all records are those of nodes.
+fn has_room(marks: &Marks, news: &News) -> bool
+    ensures { IsTrue result ↔ HasRoom marks.now news.now }
+{
+    marks.nodes <= MAX_ROWS
+        && fits(marks.procedures, news.procedures.len())
+        && fits(marks.calls, news.calls.len())
+        && fits(marks.turns, news.turns.len())
+        && fits(marks.replies, news.replies.len())
+        && fits(marks.seals, news.seals.len())
+        && are_inside(news.records.as_slice(), marks.nodes)
+}
+
+// The counts once this is stored.
+fn marks_after(marks: &Marks, news: &News) -> Marks
+    requires { HasRoom marks.now news.now }
+    ensures { (c : Contents) → IsMarked c marks.now → IsMarked (after_news c news.now) result }
+{
+    Marks {
+        nodes: marks.nodes,
+        procedures: marks.procedures + news.procedures.len() as u64,
+        calls: marks.calls + news.calls.len() as u64,
+        turns: marks.turns + news.turns.len() as u64,
+        replies: marks.replies + news.replies.len() as u64,
+        seals: marks.seals + news.seals.len() as u64,
+    }
 }
 
 impl<S: Store> Ledger<S> {
@@ -64,22 +100,13 @@ impl<S: Store> Ledger<S> {
             return Err(StoreError::Broken);
         }
         let marks = self.marks;
-        let has_room = fits(marks.procedures, news.procedures.len())
-            && fits(marks.calls, news.calls.len())
-            && fits(marks.turns, news.turns.len())
-            && fits(marks.replies, news.replies.len());
-        if !has_room {
+        if !has_room(&marks, news) {
             self.is_shut = true;
             return Err(StoreError::Full);
         }
         self.is_shut = true;
         commit_news(&mut self.store, &mut self.row, &marks, news)?;
-        self.marks = Marks {
-            procedures: marks.procedures + news.procedures.len() as u64,
-            calls: marks.calls + news.calls.len() as u64,
-            turns: marks.turns + news.turns.len() as u64,
-            replies: marks.replies + news.replies.len() as u64,
-        };
+        self.marks = marks_after(&marks, news);
         self.is_shut = false;
         Ok(())
     }

@@ -2,19 +2,26 @@
 #![tactic(auto)]
 
 mod appending;
+mod changing;
 mod committing;
 mod entry;
 mod ledger;
 mod news;
+mod read_rows;
 mod reading;
+mod rows;
 mod schema;
 mod surviving;
 
 pub use appending::append_all;
+pub use changing::put_changes;
 pub use committing::{Marks, commit_news};
 pub use entry::Entry;
 pub use ledger::Ledger;
-pub use news::{CallRow, News, ProcedureRow, ReplyRow, TurnRow};
+pub use news::News;
 pub use reading::{ReadEntry, ReadFault, read_all};
-pub use schema::{CALL, NODE, PROCEDURE, RECORD, REPLY, TABLES, TURN, tables};
+pub use rows::{
+    CallRow, ChangedRecord, FIELDS, NodeRow, ProcedureRow, RecordRow, ReplyRow, SealRow, TurnRow,
+};
+pub use schema::{CALL, NAME, NODE, OPENING, PROCEDURE, RECORD, REPLY, SEAL, TABLES, TURN, tables};
 pub use surviving::commit_and_crash;

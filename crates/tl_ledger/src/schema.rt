@@ -3,7 +3,7 @@
 use sqlite_trees::schema::Object;
 use sqlite_trees::store::Shape;
 
-/// The nodes, each with its parent.
+/// The nodes, each with its parent, and the epoch at whose beginning it was there first.
 pub const NODE: u32 = 0;
 
 /// The record of each node at the last seal.
@@ -21,8 +21,17 @@ pub const TURN: u32 = 4;
 /// The replies, in the order in which they were given.
 pub const REPLY: u32 = 5;
 
+/// The seals: of each epoch that was sealed, how many rows the four tables before this one had then.
+pub const SEAL: u32 = 6;
+
+/// The record of each node before any call.
+pub const OPENING: u32 = 7;
+
+/// The names of nodes. Only clients read and write them.
+pub const NAME: u32 = 8;
+
 /// How many tables there are.
-pub const TABLES: usize = 6;
+pub const TABLES: usize = 9;
 
 fn table<'a>(name: &'a str, sql: &'a str) -> Object<'a> {
     Object {
@@ -40,7 +49,7 @@ pub fn tables() -> [Object<'static>; TABLES] {
     [
         table(
             "node",
-            "CREATE TABLE node(number INTEGER PRIMARY KEY, parent INTEGER NOT NULL)",
+            "CREATE TABLE node(number INTEGER PRIMARY KEY, parent INTEGER NOT NULL, epoch INTEGER NOT NULL)",
         ),
         table(
             "record",
@@ -52,7 +61,7 @@ pub fn tables() -> [Object<'static>; TABLES] {
         ),
         table(
             "call",
-            "CREATE TABLE call(id INTEGER PRIMARY KEY, epoch INTEGER NOT NULL, number INTEGER NOT NULL, procedure TEXT NOT NULL, arguments TEXT NOT NULL)",
+            "CREATE TABLE call(id INTEGER PRIMARY KEY, epoch INTEGER NOT NULL, number INTEGER NOT NULL, procedure TEXT NOT NULL, arguments TEXT NOT NULL, key TEXT)",
         ),
         table(
             "turn",
@@ -61,6 +70,18 @@ pub fn tables() -> [Object<'static>; TABLES] {
         table(
             "reply",
             "CREATE TABLE reply(id INTEGER PRIMARY KEY, epoch INTEGER NOT NULL, call INTEGER NOT NULL, reply TEXT NOT NULL)",
+        ),
+        table(
+            "seal",
+            "CREATE TABLE seal(epoch INTEGER PRIMARY KEY, procedures INTEGER NOT NULL, calls INTEGER NOT NULL, turns INTEGER NOT NULL, replies INTEGER NOT NULL)",
+        ),
+        table(
+            "opening",
+            "CREATE TABLE opening(node INTEGER PRIMARY KEY, f0 INTEGER NOT NULL, f1 INTEGER NOT NULL, f2 INTEGER NOT NULL, f3 INTEGER NOT NULL, f4 INTEGER NOT NULL, f5 INTEGER NOT NULL, f6 INTEGER NOT NULL, f7 INTEGER NOT NULL)",
+        ),
+        table(
+            "name",
+            "CREATE TABLE name(node INTEGER PRIMARY KEY, path TEXT NOT NULL)",
         ),
     ]
 }

@@ -13,8 +13,8 @@ use Rattle.tl_workers.specs.Refusals.{AreCallRefusals}
 use Rattle.tl_server.specs.declared.fault.LineFault.{LineFault}
 use Rattle.tl_server.specs.Answers.{line_text, error_text, batch_text}
 use Rattle.tl_server.specs.Faults.{numbers_of}
-use Rattle.tl_server.specs.Requests.{LineValue, Registers, Calls, Batches, Seals, Closes, IsRequest, IsLineFault}
-use Rattle.tl_server.specs.Served.{CallOutcome, AnswersRequest, AnswersLine, IsAnswer}
+use Rattle.tl_server.specs.Requests.{LineValue, Registers, Calls, Batches, Grows, Seals, Closes, IsRequest, IsLineFault}
+use Rattle.tl_server.specs.Served.{Ways, CallOutcome, AnswersRequest, AnswersLine, IsAnswer}
 use Rattle.tl_server.specs.Runs.{AllGot, GainsWholeCalls}
 use Rattle.tl_server.proofs.Goings.{Laws}
 
@@ -92,40 +92,41 @@ batch_whole requests answers each a h = ⊎_elim
 
 -- ---- a line
 
-request_whole : (seals : Bool) (may_seal : ℕ → Type 0) (r : LineValue) (gained : List Did) (out : List ℕ) → AnswersRequest seals may_seal r gained out → AllGot gained
-request_whole seals may_seal (Registers name text) gained out h = nothing gained h.0
-request_whole seals may_seal (Calls name args) gained out h = call_whole seals (name, args) gained h.0 h.1
-request_whole seals may_seal (Batches calls workers) gained out h = ⊎_elim
+request_whole : (ways : Ways) (may_seal : ℕ → Type 0) (r : LineValue) (gained : List Did) (out : List ℕ) → AnswersRequest ways may_seal r gained out → AllGot gained
+request_whole ways may_seal (Registers name text) gained out h = nothing gained h.0
+request_whole ways may_seal (Calls name args) gained out h = call_whole ways.seals (name, args) gained h.0 h.1
+request_whole ways may_seal (Batches calls workers) gained out h = ⊎_elim
     (λ (refused : (gained ≡ []) × (out ≡ line_text (error_text (990 ∷ [])))). nothing gained refused.0)
-    (λ (b : (answers : List (Result Receipt Refusal)) × AnswersEach h.0 answers × AreCallRefusals seals answers × (gained ≡ asked_of h.0 answers ++ gots_of answers) × (out ≡ line_text (batch_text answers))).
+    (λ (b : (answers : List (Result Receipt Refusal)) × AnswersEach h.0 answers × AreCallRefusals ways.seals answers × (gained ≡ asked_of h.0 answers ++ gots_of answers) × (out ≡ line_text (batch_text answers))).
     subst AllGot (sym b.3) (batch_whole h.0 b.0 b.1))
     h.2
-request_whole seals may_seal Seals gained out h = nothing gained h.0
-request_whole seals may_seal Closes gained out h = absurd h
+request_whole ways may_seal (Grows parents) gained out h = nothing gained h.0
+request_whole ways may_seal Seals gained out h = nothing gained h.0
+request_whole ways may_seal Closes gained out h = absurd h
 
-line_whole : (seals : Bool) (may_seal : ℕ → Type 0) (line : List ℕ) (gained : List Did) (out : List ℕ) → AnswersLine seals may_seal line gained out → AllGot gained
-line_whole seals may_seal line gained out h = ⊎_elim
+line_whole : (ways : Ways) (may_seal : ℕ → Type 0) (line : List ℕ) (gained : List Did) (out : List ℕ) → AnswersLine ways may_seal line gained out → AllGot gained
+line_whole ways may_seal line gained out h = ⊎_elim
     (λ (refused : (gained ≡ []) × (out ≡ line_text (error_text (990 ∷ [])))). nothing gained refused.0)
-    (λ (rest : ((f : LineFault) × IsLineFault line f × (gained ≡ []) × (out ≡ line_text (error_text (numbers_of f)))) ⊎ ((r : LineValue) × IsRequest line r × AnswersRequest seals may_seal r gained out)).
+    (λ (rest : ((f : LineFault) × IsLineFault line f × (gained ≡ []) × (out ≡ line_text (error_text (numbers_of f)))) ⊎ ((r : LineValue) × IsRequest line r × AnswersRequest ways may_seal r gained out)).
     ⊎_elim
     (λ (fault : (f : LineFault) × IsLineFault line f × (gained ≡ []) × (out ≡ line_text (error_text (numbers_of f)))). nothing gained fault.2)
-    (λ (answered : (r : LineValue) × IsRequest line r × AnswersRequest seals may_seal r gained out). request_whole seals may_seal answered.0 gained out answered.2)
+    (λ (answered : (r : LineValue) × IsRequest line r × AnswersRequest ways may_seal r gained out). request_whole ways may_seal answered.0 gained out answered.2)
     rest)
     h
 
-answer_whole : (seals : Bool) (may_seal : ℕ → Type 0) (line : List ℕ) (closes : Bool) (gained : List Did) (out : List ℕ) → IsAnswer seals may_seal line closes gained out → AllGot gained
-answer_whole seals may_seal line true gained out h = nothing gained h.1
-answer_whole seals may_seal line false gained out h = line_whole seals may_seal line gained out h
+answer_whole : (ways : Ways) (may_seal : ℕ → Type 0) (line : List ℕ) (closes : Bool) (gained : List Did) (out : List ℕ) → IsAnswer ways may_seal line closes gained out → AllGot gained
+answer_whole ways may_seal line true gained out h = nothing gained h.1
+answer_whole ways may_seal line false gained out h = line_whole ways may_seal line gained out h
 
 -- ---- lines
 
 pub gains_none : {V : Type 0} {Gains : V → V → List Did → Type 0} {May : V → ℕ → Type 0} → Laws Gains May → (a : V) → GainsWholeCalls Gains a a
 gains_none x a = ([], x.none a, got_nothing)
 
-pub answered_more : {V : Type 0} {Gains : V → V → List Did → Type 0} {May : V → ℕ → Type 0} (seals : Bool) → Laws Gains May → (first old new : V) (line : List ℕ) (closes : Bool) (gained : List Did) (out : List ℕ) → GainsWholeCalls Gains first old → Gains old new gained
-    → IsAnswer seals (May old) line closes gained out → GainsWholeCalls Gains first new
-answered_more {V} {Gains} {May} seals x first old new line closes gained out before more answer = (
+pub answered_more : {V : Type 0} {Gains : V → V → List Did → Type 0} {May : V → ℕ → Type 0} (ways : Ways) → Laws Gains May → (first old new : V) (line : List ℕ) (closes : Bool) (gained : List Did) (out : List ℕ) → GainsWholeCalls Gains first old → Gains old new gained
+    → IsAnswer ways (May old) line closes gained out → GainsWholeCalls Gains first new
+answered_more {V} {Gains} {May} ways x first old new line closes gained out before more answer = (
   before.0 ++ gained,
   x.more first old new before.0 gained before.1 more,
-  got_both before.0 gained before.2 (answer_whole seals (May old) line closes gained out answer),
+  got_both before.0 gained before.2 (answer_whole ways (May old) line closes gained out answer),
 )

@@ -10,8 +10,8 @@ use Rattle.tl_server.specs.declared.request.TheConstants.{MAX_LINE}
 use Rattle.tl_server.specs.declared.reader.Came.TheVariants.{Whole, Rest, End}
 use Rattle.tl_server.specs.declared.fault.LineFault.{LineFault}
 use Rattle.tl_server.specs.declared.fault.LineFault.TheVariants as fault
-use Rattle.tl_server.specs.Requests.{LineValue, Registers, Calls, Batches, Seals, Closes, IsRequest, IsLineFault}
-use Rattle.tl_server.specs.Served.{SealOutcome, Answered, AnswersRequest, AnswersLine, ClosesLine, IsAnswer, AnsweredAll}
+use Rattle.tl_server.specs.Requests.{LineValue, Registers, Calls, Batches, Grows, Seals, Closes, IsRequest, IsLineFault}
+use Rattle.tl_server.specs.Served.{Ways, SealOutcome, Answered, AnswersRequest, AnswersLine, ClosesLine, IsAnswer, AnsweredAll}
 use Rattle.tl_server.specs.Lines.{with_lfs, HasNoLf, NoLfs, lines_of, onto_first}
 use Rattle.tl_server.specs.Devices.{Adds, AddsPart}
 use Rattle.tl_server.specs.Sending.{Sending, Sent, SentIf, Writes}
@@ -83,22 +83,22 @@ held_fault l fault.NotRequest h =
     subst P (kept_whole HELD l short) h
 held_fault l fault.Memory h = absurd h
 
-held_answer : (seals : Bool) (may_seal : ℕ → Type 0) (l : List ℕ) (g : List Did) (o : List ℕ) → AnswersLine seals may_seal (held_of l) g o → AnswersLine seals may_seal l g o
-held_answer seals may_seal l g o (inl refused) = inl refused
-held_answer seals may_seal l g o (inr (inl f)) = inr (inl (f.0, held_fault l f.0 f.1, f.2, f.3))
-held_answer seals may_seal l g o (inr (inr r)) = inr (inr (r.0, held_request l r.0 r.1, r.2))
+held_answer : (ways : Ways) (may_seal : ℕ → Type 0) (l : List ℕ) (g : List Did) (o : List ℕ) → AnswersLine ways may_seal (held_of l) g o → AnswersLine ways may_seal l g o
+held_answer ways may_seal l g o (inl refused) = inl refused
+held_answer ways may_seal l g o (inr (inl f)) = inr (inl (f.0, held_fault l f.0 f.1, f.2, f.3))
+held_answer ways may_seal l g o (inr (inr r)) = inr (inr (r.0, held_request l r.0 r.1, r.2))
 
 -- the answer to what was kept of a line is the line's
-pub line_answer : (seals : Bool) (may_seal : ℕ → Type 0) (l kept : List ℕ) (closes : Bool) (g : List Did) (o : List ℕ) → kept ≡ held_of l → IsAnswer seals may_seal kept closes g o → IsAnswer seals may_seal l closes g o
-line_answer seals may_seal l kept false g o is a = let P : List ℕ → Type 0 = λ xs. AnswersLine seals may_seal xs g o in held_answer seals may_seal l g o (subst P is a)
-line_answer seals may_seal l kept true g o is a = let P : List ℕ → Type 0 = λ xs. ClosesLine xs g o in let c = subst P is a in (held_request l Closes c.0, c.1, c.2)
+pub line_answer : (ways : Ways) (may_seal : ℕ → Type 0) (l kept : List ℕ) (closes : Bool) (g : List Did) (o : List ℕ) → kept ≡ held_of l → IsAnswer ways may_seal kept closes g o → IsAnswer ways may_seal l closes g o
+line_answer ways may_seal l kept false g o is a = let P : List ℕ → Type 0 = λ xs. AnswersLine ways may_seal xs g o in held_answer ways may_seal l g o (subst P is a)
+line_answer ways may_seal l kept true g o is a = let P : List ℕ → Type 0 = λ xs. ClosesLine xs g o in let c = subst P is a in (held_request l Closes c.0, c.1, c.2)
 
 -- ---- answers
 
-Answered-snoc : (seals : Bool) (may_seal : ℕ → Type 0) (ls : List (List ℕ)) (l : List ℕ) (gained : List Did) (out : List ℕ) (g : List Did) (o : List ℕ) → Answered seals may_seal ls gained out → AnswersLine seals may_seal l g o → Answered seals may_seal (ls ++ l ∷ []) (gained ++ g) (out ++ o)
-Answered-snoc seals may_seal [] l gained out g o h a =
+Answered-snoc : (ways : Ways) (may_seal : ℕ → Type 0) (ls : List (List ℕ)) (l : List ℕ) (gained : List Did) (out : List ℕ) (g : List Did) (o : List ℕ) → Answered ways may_seal ls gained out → AnswersLine ways may_seal l g o → Answered ways may_seal (ls ++ l ∷ []) (gained ++ g) (out ++ o)
+Answered-snoc ways may_seal [] l gained out g o h a =
     (g, [], o, [], ap (λ xs. xs ++ g) h.0 ∙ sym (append-nil g), ap (λ xs. xs ++ o) h.1 ∙ sym (append-nil o), a, (refl, refl))
-Answered-snoc seals may_seal (k ∷ ls) l gained out g o h a = (
+Answered-snoc ways may_seal (k ∷ ls) l gained out g o h a = (
   h.0,
   h.1 ++ g,
   h.2,
@@ -106,7 +106,7 @@ Answered-snoc seals may_seal (k ∷ ls) l gained out g o h a = (
   ap (λ xs. xs ++ g) h.4 ∙ append_assoc h.0 h.1 g,
   ap (λ xs. xs ++ o) h.5 ∙ append_assoc h.2 h.3 o,
   h.6,
-  Answered-snoc seals may_seal ls l h.1 h.3 g o h.7 a,
+  Answered-snoc ways may_seal ls l h.1 h.3 g o h.7 a,
 )
 
 -- ---- who serves
@@ -121,29 +121,30 @@ may_seal_too : (seals : Bool) (may may' : ℕ → Type 0) (answer : Result ℕ R
 may_seal_too seals may may' (Ok n) h a = h n a
 may_seal_too seals may may' (Err e) h a = a
 
-may_line : (seals : Bool) (may may' : ℕ → Type 0) (r : LineValue) (g : List Did) (o : List ℕ) → ((n : ℕ) → may n → may' n) → AnswersRequest seals may r g o → AnswersRequest seals may' r g o
-may_line seals may may' (Registers name text) g o h a = a
-may_line seals may may' (Calls name args) g o h a = a
-may_line seals may may' (Batches calls workers) g o h a = a
-may_line seals may may' Seals g o h a = (a.0, (a.1.0, may_seal_too seals may may' a.1.0 h a.1.1, a.1.2))
-may_line seals may may' Closes g o h a = a
+may_line : (ways : Ways) (may may' : ℕ → Type 0) (r : LineValue) (g : List Did) (o : List ℕ) → ((n : ℕ) → may n → may' n) → AnswersRequest ways may r g o → AnswersRequest ways may' r g o
+may_line ways may may' (Registers name text) g o h a = a
+may_line ways may may' (Calls name args) g o h a = a
+may_line ways may may' (Batches calls workers) g o h a = a
+may_line ways may may' (Grows parents) g o h a = a
+may_line ways may may' Seals g o h a = (a.0, (a.1.0, may_seal_too ways.seals may may' a.1.0 h a.1.1, a.1.2))
+may_line ways may may' Closes g o h a = a
 
-may_answer : (seals : Bool) (may may' : ℕ → Type 0) (l : List ℕ) (closes : Bool) (g : List Did) (o : List ℕ) → ((n : ℕ) → may n → may' n) → IsAnswer seals may l closes g o → IsAnswer seals may' l closes g o
-may_answer seals may may' l true g o h a = a
-may_answer seals may may' l false g o h (inl refused) = inl refused
-may_answer seals may may' l false g o h (inr (inl fault)) = inr (inl fault)
-may_answer seals may may' l false g o h (inr (inr a)) = inr (inr (a.0, a.1, may_line seals may may' a.0 g o h a.2))
+may_answer : (ways : Ways) (may may' : ℕ → Type 0) (l : List ℕ) (closes : Bool) (g : List Did) (o : List ℕ) → ((n : ℕ) → may n → may' n) → IsAnswer ways may l closes g o → IsAnswer ways may' l closes g o
+may_answer ways may may' l true g o h a = a
+may_answer ways may may' l false g o h (inl refused) = inl refused
+may_answer ways may may' l false g o h (inr (inl fault)) = inr (inl fault)
+may_answer ways may may' l false g o h (inr (inr a)) = inr (inr (a.0, a.1, may_line ways may may' a.0 g o h a.2))
 
 abbrev pub moment : {V : Type 0} → Option (List ℕ) → V → Option (List ℕ) → Moment V
 moment input visitor output = record { input = input; visitor = visitor; output = output }
 
 -- one line's answer
-pub record AnswersOne {V : Type 0} (Gains : V → V → List Did → Type 0) (seals : Bool) (May : V → ℕ → Type 0) (old new : V) (s s' : Sending) (l : List ℕ) (closes : Bool) : Type 0 where
+pub record AnswersOne {V : Type 0} (Gains : V → V → List Did → Type 0) (ways : Ways) (May : V → ℕ → Type 0) (old new : V) (s s' : Sending) (l : List ℕ) (closes : Bool) : Type 0 where
   pub gained : List Did
   pub out : List ℕ
   pub gains : Gains old new gained
   pub writes : Writes s s' out
-  pub answer : IsAnswer seals (May old) l closes gained out
+  pub answer : IsAnswer ways (May old) l closes gained out
 
 -- nothing is kept and no write has failed, so the sink has got all
 all_sent : (failed : Bool) (base : Option (List ℕ)) (total : List ℕ) (output : Option (List ℕ)) (kept : List ℕ) → failed ≡ false → kept ≡ [] → SentIf failed base total output kept → Adds base total output
@@ -161,7 +162,7 @@ part_sent false base total output kept fails h = absurd cc
 
 -- So many lines were read whole and answered, and none closed the connection; after them come the bytes left in the piece,
 -- and those still to be read.
-pub record GoesOn {V : Type 0} (Gains : V → V → List Did → Type 0) (seals : Bool) (May : V → ℕ → Type 0) (m : Moment V) (input : Option (List ℕ)) (visitor : V) (s : Sending) (left : List ℕ) (n : ℕ) (bytes : List ℕ) : Type 0 where
+pub record GoesOn {V : Type 0} (Gains : V → V → List Did → Type 0) (ways : Ways) (May : V → ℕ → Type 0) (m : Moment V) (input : Option (List ℕ)) (visitor : V) (s : Sending) (left : List ℕ) (n : ℕ) (bytes : List ℕ) : Type 0 where
   pub ls : List (List ℕ)
   pub unread : List ℕ
   pub gained : List Did
@@ -172,10 +173,10 @@ pub record GoesOn {V : Type 0} (Gains : V → V → List Did → Type 0) (seals 
   pub count : n ≡ length ls
   pub gains : Gains m.visitor visitor gained
   pub sent : Sent m.output out s
-  pub answered : Answered seals (May m.visitor) ls gained out
+  pub answered : Answered ways (May m.visitor) ls gained out
 
 -- nothing is read yet
-pub begins : {V : Type 0} {Gains : V → V → List Did → Type 0} {seals : Bool} {May : V → ℕ → Type 0} → Laws Gains May → (m : Moment V) (left bytes : List ℕ) (s : Sending) → m.input ≡ Some bytes → left ≡ [] → s.output ≡ m.output → s.kept ≡ [] → s.failed ≡ false → GoesOn Gains seals May m m.input m.visitor s left 0 bytes
+pub begins : {V : Type 0} {Gains : V → V → List Did → Type 0} {ways : Ways} {May : V → ℕ → Type 0} → Laws Gains May → (m : Moment V) (left bytes : List ℕ) (s : Sending) → m.input ≡ Some bytes → left ≡ [] → s.output ≡ m.output → s.kept ≡ [] → s.failed ≡ false → GoesOn Gains ways May m m.input m.visitor s left 0 bytes
 begins x m left bytes s is empty output_is none fresh =
     let P : Option (List ℕ) → Type 0 = λ o. Adds m.output [] o in
     let Q : Bool → Type 0 = λ b. SentIf b m.output [] s.output s.kept in
@@ -194,7 +195,7 @@ begins x m left bytes s is empty output_is none fresh =
     }
 
 -- nothing more was handed over
-pub settles : {V : Type 0} {Gains : V → V → List Did → Type 0} {seals : Bool} {May : V → ℕ → Type 0} (m : Moment V) (input : Option (List ℕ)) (visitor : V) (s s' : Sending) (left : List ℕ) (n : ℕ) (bytes : List ℕ) → GoesOn Gains seals May m input visitor s left n bytes → Writes s s' [] → GoesOn Gains seals May m input visitor s' left n bytes
+pub settles : {V : Type 0} {Gains : V → V → List Did → Type 0} {ways : Ways} {May : V → ℕ → Type 0} (m : Moment V) (input : Option (List ℕ)) (visitor : V) (s s' : Sending) (left : List ℕ) (n : ℕ) (bytes : List ℕ) → GoesOn Gains ways May m input visitor s left n bytes → Writes s s' [] → GoesOn Gains ways May m input visitor s' left n bytes
 settles m input visitor s s' left n bytes g w =
     let P : List ℕ → Type 0 = λ xs. Sent m.output xs s' in
     record {
@@ -212,9 +213,9 @@ settles m input visitor s s' left n bytes g w =
     }
 
 -- a line came whole, and was answered
-pub goes_on : {V : Type 0} {Gains : V → V → List Did → Type 0} {seals : Bool} {May : V → ℕ → Type 0} → Laws Gains May → (m : Moment V) (input input' : Option (List ℕ)) (old new : V) (s s' : Sending) (left : List ℕ) (r : ReaderValue) (n : ℕ) (bytes : List ℕ) → (g : GoesOn Gains seals May m input old s left n bytes)
-    → Comes (left ++ g.unread) Whole r input' → AnswersOne Gains seals May old new s s' r.held false → (more : ℕ) → more ≡ n + 1 → GoesOn Gains seals May m input' new s' r.left more bytes
-goes_on {V} {Gains} {seals} {May} x m input input' old new s s' left r n bytes g w one more is =
+pub goes_on : {V : Type 0} {Gains : V → V → List Did → Type 0} {ways : Ways} {May : V → ℕ → Type 0} → Laws Gains May → (m : Moment V) (input input' : Option (List ℕ)) (old new : V) (s s' : Sending) (left : List ℕ) (r : ReaderValue) (n : ℕ) (bytes : List ℕ) → (g : GoesOn Gains ways May m input old s left n bytes)
+    → Comes (left ++ g.unread) Whole r input' → AnswersOne Gains ways May old new s s' r.held false → (more : ℕ) → more ≡ n + 1 → GoesOn Gains ways May m input' new s' r.left more bytes
+goes_on {V} {Gains} {ways} {May} x m input input' old new s s' left r n bytes g w one more is =
     record {
       ls = g.ls ++ w.0 ∷ [];
       unread = w.1;
@@ -226,30 +227,30 @@ goes_on {V} {Gains} {seals} {May} x m input input' old new s s' left r n bytes g
       count = omega (arith, g.count, length-append g.ls (w.0 ∷ []), is);
       gains = x.more m.visitor old new g.gained one.gained g.gains one.gains;
       sent = one.writes.sends m.output g.out g.sent;
-      answered = Answered-snoc seals (May m.visitor) g.ls w.0 g.gained g.out one.gained one.out g.answered
-          (may_answer seals (May old) (May m.visitor) w.0 false one.gained one.out (λ k. x.on m.visitor old g.gained k g.gains) (line_answer seals (May old) w.0 r.held false one.gained one.out w.3 one.answer));
+      answered = Answered-snoc ways (May m.visitor) g.ls w.0 g.gained g.out one.gained one.out g.answered
+          (may_answer ways (May old) (May m.visitor) w.0 false one.gained one.out (λ k. x.on m.visitor old g.gained k g.gains) (line_answer ways (May old) w.0 r.held false one.gained one.out w.3 one.answer));
     }
 
 -- the lines, where this one comes next
-lines_whole : {V : Type 0} {Gains : V → V → List Did → Type 0} {seals : Bool} {May : V → ℕ → Type 0} (m : Moment V) (input input' : Option (List ℕ)) (old : V) (s : Sending) (left : List ℕ) (r : ReaderValue) (n : ℕ) (bytes : List ℕ) → (g : GoesOn Gains seals May m input old s left n bytes) → (w : Comes (left ++ g.unread) Whole r input')
+lines_whole : {V : Type 0} {Gains : V → V → List Did → Type 0} {ways : Ways} {May : V → ℕ → Type 0} (m : Moment V) (input input' : Option (List ℕ)) (old : V) (s : Sending) (left : List ℕ) (r : ReaderValue) (n : ℕ) (bytes : List ℕ) → (g : GoesOn Gains ways May m input old s left n bytes) → (w : Comes (left ++ g.unread) Whole r input')
     → lines_of bytes ≡ g.ls ++ w.0 ∷ lines_of (r.left ++ w.1)
 lines_whole m input input' old s left r n bytes g w =
     ap lines_of g.whole ∙ lines_of-whole g.ls (left ++ g.unread) g.each ∙ ap (λ ys. g.ls ++ lines_of ys) w.5 ∙ ap (λ ys. g.ls ++ ys) (lines_of-line w.0 (r.left ++ w.1) w.2)
 
-lines_rest : {V : Type 0} {Gains : V → V → List Did → Type 0} {seals : Bool} {May : V → ℕ → Type 0} (m : Moment V) (input input' : Option (List ℕ)) (old : V) (s : Sending) (left : List ℕ) (r : ReaderValue) (n : ℕ) (bytes : List ℕ) → (g : GoesOn Gains seals May m input old s left n bytes) → Comes (left ++ g.unread) Rest r input'
+lines_rest : {V : Type 0} {Gains : V → V → List Did → Type 0} {ways : Ways} {May : V → ℕ → Type 0} (m : Moment V) (input input' : Option (List ℕ)) (old : V) (s : Sending) (left : List ℕ) (r : ReaderValue) (n : ℕ) (bytes : List ℕ) → (g : GoesOn Gains ways May m input old s left n bytes) → Comes (left ++ g.unread) Rest r input'
     → lines_of bytes ≡ g.ls ++ (left ++ g.unread) ∷ []
 lines_rest m input input' old s left r n bytes g w =
     ap lines_of g.whole ∙ lines_of-whole g.ls (left ++ g.unread) g.each ∙ ap (λ ys. g.ls ++ ys) (lines_of-rest (left ++ g.unread) w.0 w.1)
 
 -- the last line was answered
-finishes : (seals : Bool) (may : ℕ → Type 0) (ls : List (List ℕ)) (l : List ℕ) (after : List (List ℕ)) (lines : List (List ℕ)) (closes : Bool) (n more : ℕ) (gained g : List Did) (out o : List ℕ) → lines ≡ ls ++ l ∷ after → n ≡ length ls → more ≡ n + 1
-    → Answered seals may ls gained out → IsAnswer seals may l closes g o → (closes ≡ false → after ≡ []) → AnsweredAll seals may lines more (gained ++ g) (out ++ o)
-finishes seals may ls l after lines false n more gained g out o is count counts answered a last =
+finishes : (ways : Ways) (may : ℕ → Type 0) (ls : List (List ℕ)) (l : List ℕ) (after : List (List ℕ)) (lines : List (List ℕ)) (closes : Bool) (n more : ℕ) (gained g : List Did) (out o : List ℕ) → lines ≡ ls ++ l ∷ after → n ≡ length ls → more ≡ n + 1
+    → Answered ways may ls gained out → IsAnswer ways may l closes g o → (closes ≡ false → after ≡ []) → AnsweredAll ways may lines more (gained ++ g) (out ++ o)
+finishes ways may ls l after lines false n more gained g out o is count counts answered a last =
     let all : lines ≡ ls ++ l ∷ [] = is ∙ ap (λ xs. ls ++ l ∷ xs) (last refl) in
-    let P : List (List ℕ) → Type 0 = λ xs. Answered seals may xs (gained ++ g) (out ++ o) in
-    inl (omega (arith, count, counts, ap length all, length-append ls (l ∷ [])), subst P (sym all) (Answered-snoc seals may ls l gained out g o answered a))
-finishes seals may ls l after lines true n more gained g out o is count counts answered a last =
-    let P : List Did → Type 0 = λ xs. Answered seals may ls xs out in
+    let P : List (List ℕ) → Type 0 = λ xs. Answered ways may xs (gained ++ g) (out ++ o) in
+    inl (omega (arith, count, counts, ap length all, length-append ls (l ∷ [])), subst P (sym all) (Answered-snoc ways may ls l gained out g o answered a))
+finishes ways may ls l after lines true n more gained g out o is count counts answered a last =
+    let P : List Did → Type 0 = λ xs. Answered ways may ls xs out in
     inr (record {
       before = ls;
       last = l;
@@ -262,19 +263,19 @@ finishes seals may ls l after lines true n more gained g out o is count counts a
       out_is = ap (λ xs. out ++ xs) a.2;
     })
 
-pub one_of : {V : Type 0} (Gains : V → V → List Did → Type 0) (seals : Bool) (May : V → ℕ → Type 0) (old new : V) (s s' : Sending) (line held : List ℕ) (closes closes' : Bool)
-    → ((gained : List Did) × (out : List ℕ) × Gains old new gained × Writes s s' out × IsAnswer seals (May old) line closes gained out) → line ≡ held → closes ≡ closes' → AnswersOne Gains seals May old new s s' held closes'
-one_of Gains seals May old new s s' line held closes closes' a is same =
-    let P : List ℕ → Type 0 = λ xs. IsAnswer seals (May old) xs closes a.0 a.1 in
-    let Q : Bool → Type 0 = λ b. IsAnswer seals (May old) held b a.0 a.1 in
+pub one_of : {V : Type 0} (Gains : V → V → List Did → Type 0) (ways : Ways) (May : V → ℕ → Type 0) (old new : V) (s s' : Sending) (line held : List ℕ) (closes closes' : Bool)
+    → ((gained : List Did) × (out : List ℕ) × Gains old new gained × Writes s s' out × IsAnswer ways (May old) line closes gained out) → line ≡ held → closes ≡ closes' → AnswersOne Gains ways May old new s s' held closes'
+one_of Gains ways May old new s s' line held closes closes' a is same =
+    let P : List ℕ → Type 0 = λ xs. IsAnswer ways (May old) xs closes a.0 a.1 in
+    let Q : Bool → Type 0 = λ b. IsAnswer ways (May old) held b a.0 a.1 in
     record { gained = a.0; out = a.1; gains = a.2; writes = a.3; answer = subst Q same (subst P is a.4) }
 
 -- ---- how it ends
 
 -- a write failed before the next line
-pub stops_before : {V : Type 0} {Gains : V → V → List Did → Type 0} {seals : Bool} {May : V → ℕ → Type 0} (m : Moment V) (input : Option (List ℕ)) (visitor : V) (s : Sending) (left : List ℕ) (n : ℕ) (bytes : List ℕ) → GoesOn Gains seals May m input visitor s left n bytes → s.failed ≡ true
+pub stops_before : {V : Type 0} {Gains : V → V → List Did → Type 0} {ways : Ways} {May : V → ℕ → Type 0} (m : Moment V) (input : Option (List ℕ)) (visitor : V) (s : Sending) (left : List ℕ) (n : ℕ) (bytes : List ℕ) → GoesOn Gains ways May m input visitor s left n bytes → s.failed ≡ true
     → (ls : List (List ℕ)) × (more : List (List ℕ)) × (k : ℕ) × (lines_of bytes ≡ ls ++ more)
-    × ((gained : List Did) × (out : List ℕ) × Gains m.visitor visitor gained × AddsPart m.output out s.output × AnsweredAll seals (May m.visitor) ls k gained out)
+    × ((gained : List Did) × (out : List ℕ) × Gains m.visitor visitor gained × AddsPart m.output out s.output × AnsweredAll ways (May m.visitor) ls k gained out)
 stops_before m input visitor s left n bytes g fails = (
   g.ls,
   lines_of (left ++ g.unread),
@@ -284,10 +285,10 @@ stops_before m input visitor s left n bytes g fails = (
 )
 
 -- a read failed
-pub breaks_off : {V : Type 0} {Gains : V → V → List Did → Type 0} {seals : Bool} {May : V → ℕ → Type 0} (m : Moment V) (input input' : Option (List ℕ)) (visitor : V) (s : Sending) (left : List ℕ) (n : ℕ) (bytes : List ℕ) → (g : GoesOn Gains seals May m input visitor s left n bytes) → Breaks (left ++ g.unread) input'
+pub breaks_off : {V : Type 0} {Gains : V → V → List Did → Type 0} {ways : Ways} {May : V → ℕ → Type 0} (m : Moment V) (input input' : Option (List ℕ)) (visitor : V) (s : Sending) (left : List ℕ) (n : ℕ) (bytes : List ℕ) → (g : GoesOn Gains ways May m input visitor s left n bytes) → Breaks (left ++ g.unread) input'
     → s.failed ≡ false → s.kept ≡ []
     → (ls : List (List ℕ)) × (rest : List ℕ) × (left' : List ℕ) × (input' ≡ Some left') × (bytes ≡ (with_lfs ls ++ rest) ++ left') × NoLfs ls × HasNoLf rest
-    × ((gained : List Did) × (out : List ℕ) × Gains m.visitor visitor gained × Adds m.output out s.output × Answered seals (May m.visitor) ls gained out)
+    × ((gained : List Did) × (out : List ℕ) × Gains m.visitor visitor gained × Adds m.output out s.output × Answered ways (May m.visitor) ls gained out)
 breaks_off m input input' visitor s left n bytes g b fresh none = (
   g.ls,
   b.0,
@@ -300,54 +301,54 @@ breaks_off m input input' visitor s left n bytes g b fresh none = (
 )
 
 -- nothing more came
-pub ends : {V : Type 0} {Gains : V → V → List Did → Type 0} {seals : Bool} {May : V → ℕ → Type 0} (m : Moment V) (input input' : Option (List ℕ)) (visitor : V) (s : Sending) (left : List ℕ) (r : ReaderValue) (n : ℕ) (bytes : List ℕ) → (g : GoesOn Gains seals May m input visitor s left n bytes) → Comes (left ++ g.unread) End r input'
+pub ends : {V : Type 0} {Gains : V → V → List Did → Type 0} {ways : Ways} {May : V → ℕ → Type 0} (m : Moment V) (input input' : Option (List ℕ)) (visitor : V) (s : Sending) (left : List ℕ) (r : ReaderValue) (n : ℕ) (bytes : List ℕ) → (g : GoesOn Gains ways May m input visitor s left n bytes) → Comes (left ++ g.unread) End r input'
     → s.failed ≡ false → s.kept ≡ []
-    → (gained : List Did) × (out : List ℕ) × Gains m.visitor visitor gained × Adds m.output out s.output × AnsweredAll seals (May m.visitor) (lines_of bytes) n gained out
-ends {V} {Gains} {seals} {May} m input input' visitor s left r n bytes g w fresh none =
+    → (gained : List Did) × (out : List ℕ) × Gains m.visitor visitor gained × Adds m.output out s.output × AnsweredAll ways (May m.visitor) (lines_of bytes) n gained out
+ends {V} {Gains} {ways} {May} m input input' visitor s left r n bytes g w fresh none =
     let lines : lines_of bytes ≡ g.ls = ap lines_of g.whole ∙ lines_of-whole g.ls (left ++ g.unread) g.each ∙ ap (λ ys. g.ls ++ lines_of ys) w ∙ append-nil g.ls in
-    let P : List (List ℕ) → Type 0 = λ xs. Answered seals (May m.visitor) xs g.gained g.out in
+    let P : List (List ℕ) → Type 0 = λ xs. Answered ways (May m.visitor) xs g.gained g.out in
     (g.gained, g.out, g.gains, all_sent s.failed m.output g.out s.output s.kept fresh none g.sent, inl (g.count ∙ ap length (sym lines), subst P (sym lines) g.answered))
 
 -- the last line was answered, and what was gathered was handed over
-pub record Finishes {V : Type 0} (Gains : V → V → List Did → Type 0) (seals : Bool) (May : V → ℕ → Type 0) (m : Moment V) (visitor : V) (s : Sending) (more : ℕ) (bytes : List ℕ) : Type 0 where
+pub record Finishes {V : Type 0} (Gains : V → V → List Did → Type 0) (ways : Ways) (May : V → ℕ → Type 0) (m : Moment V) (visitor : V) (s : Sending) (more : ℕ) (bytes : List ℕ) : Type 0 where
   pub gained : List Did
   pub out : List ℕ
   pub gains : Gains m.visitor visitor gained
   pub sent : Sent m.output out s
-  pub answered : AnsweredAll seals (May m.visitor) (lines_of bytes) more gained out
+  pub answered : AnsweredAll ways (May m.visitor) (lines_of bytes) more gained out
 
-finished : {V : Type 0} {Gains : V → V → List Did → Type 0} {seals : Bool} {May : V → ℕ → Type 0} → Laws Gains May → (m : Moment V) (input : Option (List ℕ)) (old new : V) (s s' s'' : Sending) (left : List ℕ) (n : ℕ) (bytes held l : List ℕ) (after : List (List ℕ)) (closes : Bool) → (g : GoesOn Gains seals May m input old s left n bytes)
-    → lines_of bytes ≡ g.ls ++ l ∷ after → held ≡ held_of l → AnswersOne Gains seals May old new s s' held closes → (closes ≡ false → after ≡ []) → Writes s' s'' [] → (more : ℕ) → more ≡ n + 1 → Finishes Gains seals May m new s'' more bytes
-finished {V} {Gains} {seals} {May} x m input old new s s' s'' left n bytes held l after closes g lines is one last w more counts =
+finished : {V : Type 0} {Gains : V → V → List Did → Type 0} {ways : Ways} {May : V → ℕ → Type 0} → Laws Gains May → (m : Moment V) (input : Option (List ℕ)) (old new : V) (s s' s'' : Sending) (left : List ℕ) (n : ℕ) (bytes held l : List ℕ) (after : List (List ℕ)) (closes : Bool) → (g : GoesOn Gains ways May m input old s left n bytes)
+    → lines_of bytes ≡ g.ls ++ l ∷ after → held ≡ held_of l → AnswersOne Gains ways May old new s s' held closes → (closes ≡ false → after ≡ []) → Writes s' s'' [] → (more : ℕ) → more ≡ n + 1 → Finishes Gains ways May m new s'' more bytes
+finished {V} {Gains} {ways} {May} x m input old new s s' s'' left n bytes held l after closes g lines is one last w more counts =
     let P : List ℕ → Type 0 = λ xs. Sent m.output xs s'' in
     record {
       gained = g.gained ++ one.gained;
       out = g.out ++ one.out;
       gains = x.more m.visitor old new g.gained one.gained g.gains one.gains;
       sent = subst P (append-nil (g.out ++ one.out)) (w.sends m.output (g.out ++ one.out) (one.writes.sends m.output g.out g.sent));
-      answered = finishes seals (May m.visitor) g.ls l after (lines_of bytes) closes n more g.gained one.gained g.out one.out lines g.count counts g.answered (may_answer seals (May old) (May m.visitor) l closes one.gained one.out (λ k. x.on m.visitor old g.gained k g.gains) (line_answer seals (May old) l held closes one.gained one.out is one.answer)) last;
+      answered = finishes ways (May m.visitor) g.ls l after (lines_of bytes) closes n more g.gained one.gained g.out one.out lines g.count counts g.answered (may_answer ways (May old) (May m.visitor) l closes one.gained one.out (λ k. x.on m.visitor old g.gained k g.gains) (line_answer ways (May old) l held closes one.gained one.out is one.answer)) last;
     }
 
 -- a line closed the connection
-pub closes_at : {V : Type 0} {Gains : V → V → List Did → Type 0} {seals : Bool} {May : V → ℕ → Type 0} → Laws Gains May → (m : Moment V) (input input' : Option (List ℕ)) (old new : V) (s s' s'' : Sending) (left : List ℕ) (r : ReaderValue) (n : ℕ) (bytes : List ℕ) → (g : GoesOn Gains seals May m input old s left n bytes)
-    → Comes (left ++ g.unread) Whole r input' → AnswersOne Gains seals May old new s s' r.held true → Writes s' s'' [] → (more : ℕ) → more ≡ n + 1 → Finishes Gains seals May m new s'' more bytes
+pub closes_at : {V : Type 0} {Gains : V → V → List Did → Type 0} {ways : Ways} {May : V → ℕ → Type 0} → Laws Gains May → (m : Moment V) (input input' : Option (List ℕ)) (old new : V) (s s' s'' : Sending) (left : List ℕ) (r : ReaderValue) (n : ℕ) (bytes : List ℕ) → (g : GoesOn Gains ways May m input old s left n bytes)
+    → Comes (left ++ g.unread) Whole r input' → AnswersOne Gains ways May old new s s' r.held true → Writes s' s'' [] → (more : ℕ) → more ≡ n + 1 → Finishes Gains ways May m new s'' more bytes
 closes_at x m input input' old new s s' s'' left r n bytes g w one flushed more counts =
     let last : true ≡ false → lines_of (r.left ++ w.1) ≡ [] = λ e. absurd cc in
     finished x m input old new s s' s'' left n bytes r.held w.0 (lines_of (r.left ++ w.1)) true g (lines_whole m input input' old s left r n bytes g w) w.3 one last flushed more counts
 
 -- the rest was the last line
-pub rest_last : {V : Type 0} {Gains : V → V → List Did → Type 0} {seals : Bool} {May : V → ℕ → Type 0} → Laws Gains May → (m : Moment V) (input input' : Option (List ℕ)) (old new : V) (s s' s'' : Sending) (left : List ℕ) (r : ReaderValue) (n : ℕ) (bytes : List ℕ) (closes : Bool) → (g : GoesOn Gains seals May m input old s left n bytes)
-    → Comes (left ++ g.unread) Rest r input' → AnswersOne Gains seals May old new s s' r.held closes → Writes s' s'' [] → (more : ℕ) → more ≡ n + 1 → Finishes Gains seals May m new s'' more bytes
+pub rest_last : {V : Type 0} {Gains : V → V → List Did → Type 0} {ways : Ways} {May : V → ℕ → Type 0} → Laws Gains May → (m : Moment V) (input input' : Option (List ℕ)) (old new : V) (s s' s'' : Sending) (left : List ℕ) (r : ReaderValue) (n : ℕ) (bytes : List ℕ) (closes : Bool) → (g : GoesOn Gains ways May m input old s left n bytes)
+    → Comes (left ++ g.unread) Rest r input' → AnswersOne Gains ways May old new s s' r.held closes → Writes s' s'' [] → (more : ℕ) → more ≡ n + 1 → Finishes Gains ways May m new s'' more bytes
 rest_last x m input input' old new s s' s'' left r n bytes closes g w one flushed more counts =
     finished x m input old new s s' s'' left n bytes r.held (left ++ g.unread) [] closes g (lines_rest m input input' old s left r n bytes g w) w.2 one (λ _. refl) flushed more counts
 
-pub finished_all : {V : Type 0} {Gains : V → V → List Did → Type 0} {seals : Bool} {May : V → ℕ → Type 0} (m : Moment V) (visitor : V) (s : Sending) (more : ℕ) (bytes : List ℕ) → Finishes Gains seals May m visitor s more bytes → s.failed ≡ false → s.kept ≡ []
-    → (gained : List Did) × (out : List ℕ) × Gains m.visitor visitor gained × Adds m.output out s.output × AnsweredAll seals (May m.visitor) (lines_of bytes) more gained out
+pub finished_all : {V : Type 0} {Gains : V → V → List Did → Type 0} {ways : Ways} {May : V → ℕ → Type 0} (m : Moment V) (visitor : V) (s : Sending) (more : ℕ) (bytes : List ℕ) → Finishes Gains ways May m visitor s more bytes → s.failed ≡ false → s.kept ≡ []
+    → (gained : List Did) × (out : List ℕ) × Gains m.visitor visitor gained × Adds m.output out s.output × AnsweredAll ways (May m.visitor) (lines_of bytes) more gained out
 finished_all m visitor s more bytes f fresh none = (f.gained, f.out, f.gains, all_sent s.failed m.output f.out s.output s.kept fresh none f.sent, f.answered)
 
-pub finished_part : {V : Type 0} {Gains : V → V → List Did → Type 0} {seals : Bool} {May : V → ℕ → Type 0} (m : Moment V) (visitor : V) (s : Sending) (more : ℕ) (bytes : List ℕ) → Finishes Gains seals May m visitor s more bytes → s.failed ≡ true
+pub finished_part : {V : Type 0} {Gains : V → V → List Did → Type 0} {ways : Ways} {May : V → ℕ → Type 0} (m : Moment V) (visitor : V) (s : Sending) (more : ℕ) (bytes : List ℕ) → Finishes Gains ways May m visitor s more bytes → s.failed ≡ true
     → (ls : List (List ℕ)) × (rest : List (List ℕ)) × (k : ℕ) × (lines_of bytes ≡ ls ++ rest)
-    × ((gained : List Did) × (out : List ℕ) × Gains m.visitor visitor gained × AddsPart m.output out s.output × AnsweredAll seals (May m.visitor) ls k gained out)
+    × ((gained : List Did) × (out : List ℕ) × Gains m.visitor visitor gained × AddsPart m.output out s.output × AnsweredAll ways (May m.visitor) ls k gained out)
 finished_part m visitor s more bytes f fails =
     (lines_of bytes, [], more, sym (append-nil (lines_of bytes)), (f.gained, f.out, f.gains, part_sent s.failed m.output f.out s.output s.kept fails f.sent, f.answered))
 

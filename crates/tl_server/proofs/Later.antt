@@ -1,11 +1,12 @@
 -- What came of a request, and its answer, where so many epochs were before the engine's first.
-use Rattle.std.proofs.Common.{◌≡◌, ◌∙◌, ℕ, ℤ, List, [], ◌∷◌, ◌++◌, map, refl, ap, inl, inr, Bool}
-use Rattle.std.specs.Prelude.{Result, Ok, Err, Vec, codes, string_bytes}
+use Rattle.std.proofs.Common.{◌≡◌, ◌∙◌, ℕ, ℤ, List, [], ◌∷◌, ◌++◌, map, refl, sym, ap, subst, inl, inr, Bool, true, false, ◌≤◌, arith}
+use Rattle.std.specs.Prelude.{Result, Ok, Err, Option, Some, None, IfSome, Vec, codes, string_bytes}
 use Rattle.std.proofs.lemmas.List.{map-append}
 use Rattle.std.specs.declared.alloc.Global.{Global}
 use Rattle.std.specs.List.{join_with_byte}
 use Rattle.tl_budget.specs.declared.limits.Bounds.{Bounds}
 use Rattle.tl_json.specs.declared.fault.RegisterFault.{RegisterFault}
+use Rattle.tl_generations.specs.declared.growth.GrowthFault.{GrowthFault}
 use Rattle.tl_procedures.specs.declared.request.Request.{Request}
 use Rattle.tl_table.specs.declared.receipt.Receipt.{Receipt}
 use Rattle.tl_workers.specs.declared.refusal.Refusal.{Refusal}
@@ -13,11 +14,16 @@ use Rattle.tl_workers.specs.declared.session.Did.{Did}
 use Rattle.tl_workers.specs.declared.session.Did.TheVariants.{Asked, Got}
 use Rattle.tl_workers.specs.Kept.{asking, AnswersEach, asked_of, gots_of}
 use Rattle.tl_workers.specs.Refusals.{AreCallRefusals, numbers_of}
-use Rattle.tl_server.specs.Answers.{line_text, error_text, one_text, batch_text, register_text, seal_text}
-use Rattle.tl_server.specs.Requests.{LineValue, Registers, Calls, Batches, Seals, Closes}
-use Rattle.tl_server.specs.Served.{CallOutcome, SealOutcome, IsSealable, IsBatchAnswer, AnswersRequest}
-use Rattle.tl_server.specs.declared.outcome.Outcome.TheVariants.{Registered, Called, Batched, Sealed}
-use Rattle.tl_server.specs.Outcomes.{BatchOutcome, CameOf, later, later_answer, later_seal, later_did, IsSealableAt}
+use Rattle.tl_server.specs.Answers.{line_text, error_text, one_text, batch_text, register_text, growth_text, seal_text}
+use Rattle.tl_server.specs.Requests.{LineValue, Registers, Calls, Batches, Grows, Seals, Closes, line_view}
+use Rattle.tl_server.specs.declared.request.LineRequest.{LineRequest}
+use Rattle.tl_server.specs.declared.request.LineRequest.TheVariants.{Register, Call, Batch, Grow, Seal, Close}
+use Rattle.tl_server.specs.Gaining.{later_all}
+use Rattle.tl_server.specs.declared.outcome.Done.{Done}
+use Rattle.tl_server.specs.Served.{Ways, CallOutcome, SealOutcome, IsSealable, IsBatchAnswer, IsGrowthAnswer, AnswersRequest}
+use Rattle.tl_server.specs.declared.outcome.Outcome.TheVariants.{Registered, Called, Batched, Grown, Unknown, Sealed}
+use Rattle.tl_server.specs.declared.outcome.Outcome.{Outcome}
+use Rattle.tl_server.specs.Outcomes.{BatchOutcome, IsGrowth, CameOf, later, later_answer, later_seal, later_did, IsSealableAt, GoesOnFrom}
 
 map_both : {A B C : Type 0} (f : B → C) (g : A → B) (xs : List A) → map (λ a. f (g a)) xs ≡ map f (map g xs)
 map_both f g [] = refl
@@ -74,43 +80,97 @@ seal_later seals base (Err e) h = h
 
 -- ---- the answer to each request
 
-pub registered : (seals : Bool) (r : LineValue) (own : List Did) (base : ℕ) (a : Result Bounds RegisterFault) → CameOf seals r own (Registered a)
-    → AnswersRequest seals (IsSealableAt base) r (map (later_did base) own) (line_text (register_text a))
-registered seals (Registers name text) own base a w = (ap (map (later_did base)) w.0, (a, w.1, refl))
-registered seals (Calls name args) own base a w = absurd w
-registered seals (Batches calls workers) own base a w = absurd w
-registered seals Seals own base a w = absurd w
-registered seals Closes own base a w = absurd w
+pub registered : (ways : Ways) (r : LineValue) (own : List Did) (base : ℕ) (a : Result Bounds RegisterFault) → CameOf ways r own (Registered a)
+    → AnswersRequest ways (IsSealableAt base) r (map (later_did base) own) (line_text (register_text a))
+registered ways (Registers name text) own base a w = (ap (map (later_did base)) w.0, (a, w.1, refl))
+registered ways (Calls name args) own base a w = absurd w
+registered ways (Batches calls workers) own base a w = absurd w
+registered ways (Grows parents) own base a w = absurd w
+registered ways Seals own base a w = absurd w
+registered ways Closes own base a w = absurd w
 
-pub called : (seals : Bool) (r : LineValue) (own : List Did) (base : ℕ) (a : Result Receipt Refusal) → CameOf seals r own (Called a)
-    → AnswersRequest seals (IsSealableAt base) r (map (later_did base) own) (line_text (one_text (later_answer base a)))
-called seals (Registers name text) own base a w = absurd w
-called seals (Calls name args) own base a w = (later_answer base a, call_later seals base (name, args) own a w, refl)
-called seals (Batches calls workers) own base a w = absurd w
-called seals Seals own base a w = absurd w
-called seals Closes own base a w = absurd w
+pub called : (ways : Ways) (r : LineValue) (own : List Did) (base : ℕ) (a : Result Receipt Refusal) → CameOf ways r own (Called a)
+    → AnswersRequest ways (IsSealableAt base) r (map (later_did base) own) (line_text (one_text (later_answer base a)))
+called ways (Registers name text) own base a w = absurd w
+called ways (Calls name args) own base a w = (later_answer base a, call_later ways.seals base (name, args) own a w, refl)
+called ways (Batches calls workers) own base a w = absurd w
+called ways (Grows parents) own base a w = absurd w
+called ways Seals own base a w = absurd w
+called ways Closes own base a w = absurd w
 
-pub batched : (seals : Bool) (r : LineValue) (own : List Did) (base : ℕ) (v : Vec (Result Receipt Refusal) Global) → CameOf seals r own (Batched (Ok v))
-    → AnswersRequest seals (IsSealableAt base) r (map (later_did base) own) (line_text (batch_text (map (later_answer base) v.items)))
-batched seals (Registers name text) own base v w = absurd w
-batched seals (Calls name args) own base v w = absurd w
-batched seals (Batches calls workers) own base v w = (w.0, w.1, batch_later seals base w.0 own v w.2)
-batched seals Seals own base v w = absurd w
-batched seals Closes own base v w = absurd w
+pub batched : (ways : Ways) (r : LineValue) (own : List Did) (base : ℕ) (v : Vec (Result Receipt Refusal) Global) → CameOf ways r own (Batched (Ok v))
+    → AnswersRequest ways (IsSealableAt base) r (map (later_did base) own) (line_text (batch_text (map (later_answer base) v.items)))
+batched ways (Registers name text) own base v w = absurd w
+batched ways (Calls name args) own base v w = absurd w
+batched ways (Batches calls workers) own base v w = (w.0, w.1, batch_later ways.seals base w.0 own v w.2)
+batched ways (Grows parents) own base v w = absurd w
+batched ways Seals own base v w = absurd w
+batched ways Closes own base v w = absurd w
 
-pub unbatched : (seals : Bool) (r : LineValue) (own : List Did) (base : ℕ) (e : Refusal) → CameOf seals r own (Batched (Err e))
-    → AnswersRequest seals (IsSealableAt base) r (map (later_did base) own) (line_text (error_text (numbers_of e)))
-unbatched seals (Registers name text) own base e w = absurd w
-unbatched seals (Calls name args) own base e w = absurd w
-unbatched seals (Batches calls workers) own base e w =
+pub unbatched : (ways : Ways) (r : LineValue) (own : List Did) (base : ℕ) (e : Refusal) → CameOf ways r own (Batched (Err e))
+    → AnswersRequest ways (IsSealableAt base) r (map (later_did base) own) (line_text (error_text (numbers_of e)))
+unbatched ways (Registers name text) own base e w = absurd w
+unbatched ways (Calls name args) own base e w = absurd w
+unbatched ways (Batches calls workers) own base e w =
     (w.0, w.1, inl (ap (map (later_did base)) w.2.0, ap (λ f. line_text (error_text (numbers_of f))) w.2.1))
-unbatched seals Seals own base e w = absurd w
-unbatched seals Closes own base e w = absurd w
+unbatched ways (Grows parents) own base e w = absurd w
+unbatched ways Seals own base e w = absurd w
+unbatched ways Closes own base e w = absurd w
 
-pub sealed : (seals : Bool) (r : LineValue) (own : List Did) (base : ℕ) (a : Result ℕ Refusal) → CameOf seals r own (Sealed a)
-    → AnswersRequest seals (IsSealableAt base) r (map (later_did base) own) (line_text (seal_text (later_seal base a)))
-sealed seals (Registers name text) own base a w = absurd w
-sealed seals (Calls name args) own base a w = absurd w
-sealed seals (Batches calls workers) own base a w = absurd w
-sealed seals Seals own base a w = (ap (map (later_did base)) w.0, (later_seal base a, seal_later seals base a w.1, refl))
-sealed seals Closes own base a w = absurd w
+pub sealed : (ways : Ways) (r : LineValue) (own : List Did) (base : ℕ) (a : Result ℕ Refusal) → CameOf ways r own (Sealed a)
+    → AnswersRequest ways (IsSealableAt base) r (map (later_did base) own) (line_text (seal_text (later_seal base a)))
+sealed ways (Registers name text) own base a w = absurd w
+sealed ways (Calls name args) own base a w = absurd w
+sealed ways (Batches calls workers) own base a w = absurd w
+sealed ways (Grows parents) own base a w = absurd w
+sealed ways Seals own base a w = (ap (map (later_did base)) w.0, (later_seal base a, seal_later ways.seals base a w.1, refl))
+sealed ways Closes own base a w = absurd w
+
+pub grown : (ways : Ways) (r : LineValue) (own : List Did) (base : ℕ) (a : Result ℕ GrowthFault) → CameOf ways r own (Grown a)
+    → AnswersRequest ways (IsSealableAt base) r (map (later_did base) own) (line_text (growth_text a))
+grown ways (Registers name text) own base a w = absurd w
+grown ways (Calls name args) own base a w = absurd w
+grown ways (Batches calls workers) own base a w = absurd w
+grown ways (Grows parents) own base a w =
+    (ap (map (later_did base)) w.1, subst (λ b. IsGrowthAnswer b parents (line_text (growth_text a))) (sym w.0) (a, w.2, w.3, refl))
+grown ways Seals own base a w = absurd w
+grown ways Closes own base a w = absurd w
+
+pub unknown : (ways : Ways) (r : LineValue) (own : List Did) (base : ℕ) → CameOf ways r own Unknown
+    → AnswersRequest ways (IsSealableAt base) r (map (later_did base) own) (line_text (error_text (901 ∷ [])))
+unknown ways (Registers name text) own base w = absurd w
+unknown ways (Calls name args) own base w = absurd w
+unknown ways (Batches calls workers) own base w = absurd w
+unknown ways (Grows parents) own base w =
+    (ap (map (later_did base)) w.1, subst (λ b. IsGrowthAnswer b parents (line_text (error_text (901 ∷ [])))) (sym w.0) refl)
+unknown ways Seals own base w = absurd w
+unknown ways Closes own base w = absurd w
+
+-- what an engine did where nodes can't be appended is the same where they can, for any other request
+pub grows_too : (seals grows : Bool) (r : LineValue) (own : List Did) (o : Outcome) → ((parents : List ℤ) → r ≡ Grows parents → grows ≡ false)
+    → CameOf (record { seals = seals; grows = false }) r own o → CameOf (record { seals = seals; grows = grows }) r own o
+grows_too seals grows (Registers name text) own o other w = w
+grows_too seals grows (Calls name args) own o other w = w
+grows_too seals grows (Batches calls workers) own o other w = w
+grows_too seals grows (Grows parents) own o other w = subst (λ b. IsGrowth b parents own o) (sym (other parents refl)) w
+grows_too seals grows Seals own o other w = w
+grows_too seals grows Closes own o other w = w
+
+-- the same of what a relay did by one of its engines, where it can also append nodes
+pub performed : (grows : Bool) (r : LineValue) (old new : ℕ) (o : Option Done) → ((parents : List ℤ) → r ≡ Grows parents → grows ≡ false)
+    → IfSome o (λ d. (own : List Did) × CameOf (record { seals = true; grows = false }) r own d.outcome) → IfSome o (λ d. (old ≤ d.base) × (new ≡ d.base))
+    → IfSome o (λ d. (own : List Did) × CameOf (record { seals = true; grows = grows }) r own d.outcome × GoesOnFrom old new (map (later_did d.base) own))
+performed grows r old new None other came later = tt
+performed grows r old new (Some d) other came later =
+    let (own, done) = came in
+    let from = later.0 in
+    (own, grows_too true grows r own d.outcome other done, (omega (arith, from, later.1), later_all old d.base own from))
+
+-- a request of another kind isn't one for nodes
+pub no_growth : (q : LineRequest) → ((parents : Vec ℤ Global) → q ≡ Grow parents → ⊥) → (parents : List ℤ) → line_view q ≡ Grows parents → ⊥
+no_growth (Register p) other parents is = cc
+no_growth (Call q) other parents is = cc
+no_growth (Batch b) other parents is = cc
+no_growth (Grow ps) other parents is = other ps refl
+no_growth Seal other parents is = cc
+no_growth Close other parents is = cc

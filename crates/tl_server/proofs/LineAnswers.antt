@@ -16,14 +16,14 @@ use Rattle.tl_server.specs.Faults.{numbers_of}
 use Rattle.tl_workers.specs.declared.session.Did.{Did}
 use Rattle.tl_server.specs.Requests.{LineValue, IsRequest, IsLineFault}
 use Rattle.tl_server.specs.Answers.{line_text, error_text}
-use Rattle.tl_server.specs.Served.{AnswersLine, AnswersRequest, IsRefused, IsSealable, SealOutcome}
+use Rattle.tl_server.specs.Served.{Ways, AnswersLine, AnswersRequest, IsRefused, IsSealable, SealOutcome}
 
 -- a line that isn't read as a request
-pub faulted : (seals : Bool) (may_seal : ℕ → Type 0) (line : List ℕ) (f : LineFault) → (f ≢ fault.Memory → IsLineFault line f) → AnswersLine seals may_seal line [] (line_text (error_text (numbers_of f)))
-faulted seals may_seal line fault.NotRequest h = inr (inl (fault.NotRequest, h (λ e. cc), refl, refl))
-faulted seals may_seal line fault.TooLong h = inr (inl (fault.TooLong, h (λ e. cc), refl, refl))
-faulted seals may_seal line fault.NotUtf8 h = inr (inl (fault.NotUtf8, h (λ e. cc), refl, refl))
-faulted seals may_seal line fault.Memory h = inl (refl, refl)
+pub faulted : (ways : Ways) (may_seal : ℕ → Type 0) (line : List ℕ) (f : LineFault) → (f ≢ fault.Memory → IsLineFault line f) → AnswersLine ways may_seal line [] (line_text (error_text (numbers_of f)))
+faulted ways may_seal line fault.NotRequest h = inr (inl (fault.NotRequest, h (λ e. cc), refl, refl))
+faulted ways may_seal line fault.TooLong h = inr (inl (fault.TooLong, h (λ e. cc), refl, refl))
+faulted ways may_seal line fault.NotUtf8 h = inr (inl (fault.NotUtf8, h (λ e. cc), refl, refl))
+faulted ways may_seal line fault.Memory h = inl (refl, refl)
 
 -- what comes of a seal
 pub seal_outcome : (seals : Bool) (answer : Result ℕ Refusal) → IfOk answer (λ n. n + 1 < MAX_EPOCHS) → IfErr answer (λ e. IsSealRefused e) → (seals ≡ true → IfErr answer IsRestedSealRefused)
@@ -32,10 +32,10 @@ seal_outcome seals (Ok epoch) few h rested = few
 seal_outcome seals (Err e) few h rested = (h, rested)
 
 -- what answers a request answers a line that is one
-pub asked_line : (seals : Bool) (may_seal : ℕ → Type 0) (line : List ℕ) (r : LineValue) (gained : List Did) (out : List ℕ) → IsRequest line r → (IsRefused gained out ⊎ AnswersRequest seals may_seal r gained out)
-    → AnswersLine seals may_seal line gained out
-asked_line seals may_seal line r gained out is (inl refused) = inl refused
-asked_line seals may_seal line r gained out is (inr answer) = inr (inr (r, is, answer))
+pub asked_line : (ways : Ways) (may_seal : ℕ → Type 0) (line : List ℕ) (r : LineValue) (gained : List Did) (out : List ℕ) → IsRequest line r → (IsRefused gained out ⊎ AnswersRequest ways may_seal r gained out)
+    → AnswersLine ways may_seal line gained out
+asked_line ways may_seal line r gained out is (inl refused) = inl refused
+asked_line ways may_seal line r gained out is (inr answer) = inr (inr (r, is, answer))
 
 -- what comes of a batch
 pub batch_came : (requests : List Request) (s t : SessionValue) (seals : Bool) (answer : Result (Vec (Result Receipt Refusal) Global) Refusal) → IfOk answer (λ v. AnswersEach requests v.items)

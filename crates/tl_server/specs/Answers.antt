@@ -6,6 +6,8 @@ use Rattle.tl_table.specs.declared.receipt.Receipt.{Receipt}
 use Rattle.tl_budget.specs.declared.limits.Bounds.{Bounds}
 use Rattle.tl_json.specs.declared.fault.RegisterFault.{RegisterFault}
 use Rattle.tl_json.specs.Faults.{numbers_of as register_numbers_of}
+use Rattle.tl_generations.specs.declared.growth.GrowthFault.{GrowthFault}
+use Rattle.tl_generations.specs.Growth.{numbers_of as growth_numbers_of}
 use Rattle.tl_workers.specs.declared.refusal.Refusal.{Refusal}
 use Rattle.tl_workers.specs.Refusals.{numbers_of}
 
@@ -49,6 +51,11 @@ register_text (Err e) = error_text (register_numbers_of e)
 abbrev pub seal_text : Result ℕ Refusal → List ℕ
 seal_text (Ok epoch) = codes "{\"sealed\":" ++ decimal epoch ++ codes "}"
 seal_text (Err e) = error_text (numbers_of e)
+
+-- what came of a growth: the number of the first new node
+abbrev pub growth_text : Result ℕ GrowthFault → List ℕ
+growth_text (Ok first) = codes "{\"grown\":" ++ decimal first ++ codes "}"
+growth_text (Err e) = error_text (growth_numbers_of e)
 
 abbrev pub closed_text : List ℕ
 closed_text = codes "{\"closed\":true}"

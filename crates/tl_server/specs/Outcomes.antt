@@ -1,29 +1,31 @@
 -- What came of a request before its answer is written, and the numbers of epochs that clients see.
-use Rattle.std.specs.Prelude.{◌≡◌, ◌≤◌, ℕ, ◌+◌, ℤ, Bool, List, All, map, [], ◌++◌, Result, Ok, Err, Vec}
+use Rattle.std.specs.Prelude.{◌≡◌, ◌≢◌, ◌≤◌, ℕ, ◌+◌, ℤ, Bool, true, false, List, All, map, [], ◌++◌, Result, Ok, Err, Vec}
 use Rattle.std.specs.declared.alloc.Global.{Global}
 use Rattle.tl_procedures.specs.declared.request.Request.{Request}
 use Rattle.tl_json.specs.Requests.{request_form}
 use Rattle.tl_table.specs.declared.receipt.Receipt.{Receipt}
 use Rattle.tl_workers.specs.declared.refusal.Refusal.{Refusal}
 use Rattle.tl_workers.specs.declared.refusal.Refusal.TheVariants as refusal
+use Rattle.tl_generations.specs.declared.growth.GrowthFault.TheVariants as growth
 use Rattle.tl_workers.specs.declared.session.Did.{Did}
 use Rattle.tl_workers.specs.declared.session.Did.TheVariants.{Asked, Got}
 use Rattle.tl_workers.specs.Kept.{AnswersEach, asked_of, gots_of}
 use Rattle.tl_workers.specs.Refusals.{AreCallRefusals}
-use Rattle.tl_server.specs.Requests.{LineValue, Registers, Calls, Batches, Seals, Closes}
-use Rattle.tl_server.specs.Served.{RegisterOutcome, CallOutcome, SealOutcome, IsSealable}
+use Rattle.tl_server.specs.Requests.{LineValue, Registers, Calls, Batches, Grows, Seals, Closes}
+use Rattle.tl_server.specs.Served.{Ways, RegisterOutcome, CallOutcome, GrowthOutcome, SealOutcome, IsSealable}
 use Rattle.tl_server.specs.declared.outcome.Outcome.{Outcome}
-use Rattle.tl_server.specs.declared.outcome.Outcome.TheVariants.{Registered, Called, Batched, Sealed}
+use Rattle.tl_server.specs.declared.outcome.Outcome.TheVariants.{Registered, Called, Batched, Grown, Unknown, Sealed}
 
 -- a request that an engine has to do
 abbrev pub IsAsked : LineValue → Type 0
 IsAsked (Registers name text) = Unit {0}
 IsAsked (Calls name args) = Unit {0}
 IsAsked (Batches calls workers) = Unit {0}
+IsAsked (Grows parents) = Unit {0}
 IsAsked Seals = Unit {0}
 IsAsked Closes = ⊥
 
--- ---- what came of it, and what the session of an engine gained by it, which seals its epochs by itself, or doesn't
+-- ---- what came of it, and what the session of an engine gained by it
 
 abbrev pub IsRegistered : List ℕ → List ℕ → List Did → Outcome → Type 0
 IsRegistered name text gained (Registered answer) = (gained ≡ []) × RegisterOutcome (name, text) answer
@@ -43,16 +45,22 @@ abbrev pub IsBatched : Bool → List (List ℕ × List ℤ) → List Did → Out
 IsBatched seals calls gained (Batched answer) = (requests : List Request) × (map request_form requests ≡ calls) × BatchOutcome seals requests gained answer
 IsBatched seals calls gained _ = ⊥
 
+abbrev pub IsGrowth : Bool → List ℤ → List Did → Outcome → Type 0
+IsGrowth grows parents gained (Grown answer) = (grows ≡ true) × (gained ≡ []) × GrowthOutcome parents answer × (answer ≢ Err growth.Memory)
+IsGrowth grows parents gained Unknown = (grows ≡ false) × (gained ≡ [])
+IsGrowth grows parents gained _ = ⊥
+
 abbrev pub IsSealed : Bool → List Did → Outcome → Type 0
 IsSealed seals gained (Sealed answer) = (gained ≡ []) × SealOutcome seals IsSealable answer
 IsSealed seals gained _ = ⊥
 
-abbrev pub CameOf : Bool → LineValue → List Did → Outcome → Type 0
-CameOf seals (Registers name text) gained outcome = IsRegistered name text gained outcome
-CameOf seals (Calls name args) gained outcome = IsCalled seals name args gained outcome
-CameOf seals (Batches calls workers) gained outcome = IsBatched seals calls gained outcome
-CameOf seals Seals gained outcome = IsSealed seals gained outcome
-CameOf seals Closes gained outcome = ⊥
+abbrev pub CameOf : Ways → LineValue → List Did → Outcome → Type 0
+CameOf ways (Registers name text) gained outcome = IsRegistered name text gained outcome
+CameOf ways (Calls name args) gained outcome = IsCalled ways.seals name args gained outcome
+CameOf ways (Batches calls workers) gained outcome = IsBatched ways.seals calls gained outcome
+CameOf ways (Grows parents) gained outcome = IsGrowth ways.grows parents gained outcome
+CameOf ways Seals gained outcome = IsSealed ways.seals gained outcome
+CameOf ways Closes gained outcome = ⊥
 
 -- ---- epochs among those of all engines, of which so many were before this engine's first
 

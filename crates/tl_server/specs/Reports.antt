@@ -3,7 +3,7 @@ use Rattle.std.specs.Prelude.{ℕ, List, ◌++◌, codes, decimal, Ok, Err, is_o
 use Rattle.tl_table.specs.declared.receipt.Receipt.{Receipt}
 use Rattle.tl_workers.specs.declared.refusal.Refusal.{Refusal}
 use Rattle.tl_server.specs.declared.outcome.Outcome.{Outcome}
-use Rattle.tl_server.specs.declared.outcome.Outcome.TheVariants.{Registered, Called, Batched, Sealed}
+use Rattle.tl_server.specs.declared.outcome.Outcome.TheVariants.{Registered, Called, Batched, Sealed, Grown, Unknown}
 use Rattle.tl_server.specs.declared.status.Status.{Status}
 
 -- how many of the answers of an outcome are receipts
@@ -13,6 +13,8 @@ receipts_of (Called answer) = if is_ok answer then 1 else 0
 receipts_of (Batched (Ok v)) = count_by is_ok v.items
 receipts_of (Batched (Err e)) = 0
 receipts_of (Sealed answer) = 0
+receipts_of (Grown answer) = 0
+receipts_of Unknown = 0
 
 -- how many procedures were registered
 abbrev pub registered_of : Outcome → ℕ
@@ -20,6 +22,8 @@ registered_of (Registered answer) = if is_ok answer then 1 else 0
 registered_of (Called answer) = 0
 registered_of (Batched answers) = 0
 registered_of (Sealed answer) = 0
+registered_of (Grown answer) = 0
+registered_of Unknown = 0
 
 abbrev pub status_text : Status → List ℕ
 status_text s =

@@ -11,16 +11,17 @@ use Rattle.tl_json.specs.Requests.{request_form, request_of}
 use Rattle.tl_workers.specs.declared.batch.TheConstants.{MAX_REQUESTS, MAX_WORKERS}
 use Rattle.tl_server.specs.declared.request.TheConstants.{MAX_LINE}
 use Rattle.tl_server.specs.declared.request.LineRequest.{LineRequest}
-use Rattle.tl_server.specs.declared.request.LineRequest.TheVariants.{Register, Call, Batch, Seal, Close}
+use Rattle.tl_server.specs.declared.request.LineRequest.TheVariants.{Register, Call, Batch, Grow, Seal, Close}
 use Rattle.tl_server.specs.declared.fault.LineFault.{LineFault}
 use Rattle.tl_server.specs.declared.fault.LineFault.TheVariants as fault
 
--- the name and the text of a procedure; the name and the arguments of a call; many calls, and on how many threads; the seal of an
--- epoch; or the end
+-- the name and the text of a procedure; the name and the arguments of a call; many calls, and on how many threads; the parents of
+-- nodes that are to be appended to the tree; the seal of an epoch; or the end
 pub data LineValue : Type 0 where
   Registers : List ℕ → List ℕ → LineValue
   Calls : List ℕ → List ℤ → LineValue
   Batches : List (List ℕ × List ℤ) → ℕ → LineValue
+  Grows : List ℤ → LineValue
   Seals : LineValue
   Closes : LineValue
 
@@ -28,10 +29,11 @@ abbrev pub line_view : LineRequest → LineValue
 line_view (Register p) = Registers (string_bytes p.name) (string_bytes p.text)
 line_view (Call q) = Calls (string_bytes q.name) q.args.items
 line_view (Batch b) = Batches (map request_form b.requests.items) b.workers
+line_view (Grow parents) = Grows parents.items
 line_view Seal = Seals
 line_view Close = Closes
 
--- ---- the five forms
+-- ---- the six forms
 
 -- the value is an object of so many members
 abbrev pub has_members : ℕ → Data → Bool
@@ -66,6 +68,12 @@ batch_of d = if has_members 3 d
     (both (option_and_then calls_of (get (codes "calls") d)) (option_and_then workers_of (option_and_then integer_of (get (codes "workers") d))))
     else None
 
+-- one parent at least
+abbrev pub grow_of : Data → Option LineValue
+grow_of d = if has_members 2 d
+    then option_and_then (λ ps. if nat_lt 0 (length ps) then Some (Grows ps) else None) (option_and_then integers_of (get (codes "parents") d))
+    else None
+
 abbrev pub seal_of : Data → Option LineValue
 seal_of d = if has_members 1 d then Some Seals else None
 
@@ -78,6 +86,7 @@ request_with op d =
     if bytes_eq op (codes "register") then register_of d
     else if bytes_eq op (codes "call") then call_of d
     else if bytes_eq op (codes "batch") then batch_of d
+    else if bytes_eq op (codes "grow") then grow_of d
     else if bytes_eq op (codes "seal") then seal_of d
     else if bytes_eq op (codes "close") then close_of d
     else None

@@ -1,11 +1,11 @@
 -- What a run of the server did, by what is known of the one that it serves.
-use Rattle.std.specs.Prelude.{◌≡◌, ℕ, Bool, List, ◌++◌, Option, Some, IfSome, Contains}
+use Rattle.std.specs.Prelude.{◌≡◌, ℕ, List, ◌++◌, Option, Some, IfSome, Contains}
 use Rattle.tl_table.specs.declared.receipt.Receipt.{Receipt}
 use Rattle.tl_workers.specs.declared.asking.Asking.{Asking}
 use Rattle.tl_workers.specs.declared.session.Did.{Did}
 use Rattle.tl_workers.specs.declared.session.Did.TheVariants.{Asked, Got}
 use Rattle.tl_server.specs.Lines.{lines_of, with_lfs, HasNoLf, NoLfs}
-use Rattle.tl_server.specs.Served.{Answered, AnsweredAll}
+use Rattle.tl_server.specs.Served.{Ways, Answered, AnsweredAll}
 use Rattle.tl_server.specs.Devices.{Adds, AddsPart}
 
 -- the bytes to come and what the sink has, where they are known, and the visitor
@@ -23,17 +23,17 @@ abbrev pub GainsWholeCalls : {V : Type 0} → (V → V → List Did → Type 0) 
 GainsWholeCalls gains old new = (gained : List Did) × gains old new gained × AllGot gained
 
 -- the lines up to one that closed the connection were answered, or all; there are n of them
-abbrev pub AnswersAll : {V : Type 0} → (V → V → List Did → Type 0) → Bool → (V → ℕ → Type 0) → Moment V → Moment V → ℕ → Type 0
-AnswersAll gains seals may_seal m m' n = IfSome m.input (λ bytes. (gained : List Did) × (out : List ℕ)
-    × gains m.visitor m'.visitor gained × Adds m.output out m'.output × AnsweredAll seals (may_seal m.visitor) (lines_of bytes) n gained out)
+abbrev pub AnswersAll : {V : Type 0} → (V → V → List Did → Type 0) → Ways → (V → ℕ → Type 0) → Moment V → Moment V → ℕ → Type 0
+AnswersAll gains ways may_seal m m' n = IfSome m.input (λ bytes. (gained : List Did) × (out : List ℕ)
+    × gains m.visitor m'.visitor gained × Adds m.output out m'.output × AnsweredAll ways (may_seal m.visitor) (lines_of bytes) n gained out)
 
 -- the lines that were read whole were answered, and after them a beginning of a line was read
-abbrev pub AnswersWhole : {V : Type 0} → (V → V → List Did → Type 0) → Bool → (V → ℕ → Type 0) → Moment V → Moment V → Type 0
-AnswersWhole gains seals may_seal m m' = IfSome m.input (λ bytes. (ls : List (List ℕ)) × (rest : List ℕ) × (left : List ℕ)
+abbrev pub AnswersWhole : {V : Type 0} → (V → V → List Did → Type 0) → Ways → (V → ℕ → Type 0) → Moment V → Moment V → Type 0
+AnswersWhole gains ways may_seal m m' = IfSome m.input (λ bytes. (ls : List (List ℕ)) × (rest : List ℕ) × (left : List ℕ)
     × (m'.input ≡ Some left) × (bytes ≡ (with_lfs ls ++ rest) ++ left) × NoLfs ls × HasNoLf rest
-    × ((gained : List Did) × (out : List ℕ) × gains m.visitor m'.visitor gained × Adds m.output out m'.output × Answered seals (may_seal m.visitor) ls gained out))
+    × ((gained : List Did) × (out : List ℕ) × gains m.visitor m'.visitor gained × Adds m.output out m'.output × Answered ways (may_seal m.visitor) ls gained out))
 
 -- of the answers to some first lines a beginning was written; what the visitor gained are those answers' calls
-abbrev pub AnswersPart : {V : Type 0} → (V → V → List Did → Type 0) → Bool → (V → ℕ → Type 0) → Moment V → Moment V → Type 0
-AnswersPart gains seals may_seal m m' = IfSome m.input (λ bytes. (ls : List (List ℕ)) × (more : List (List ℕ)) × (n : ℕ) × (lines_of bytes ≡ ls ++ more)
-    × ((gained : List Did) × (out : List ℕ) × gains m.visitor m'.visitor gained × AddsPart m.output out m'.output × AnsweredAll seals (may_seal m.visitor) ls n gained out))
+abbrev pub AnswersPart : {V : Type 0} → (V → V → List Did → Type 0) → Ways → (V → ℕ → Type 0) → Moment V → Moment V → Type 0
+AnswersPart gains ways may_seal m m' = IfSome m.input (λ bytes. (ls : List (List ℕ)) × (more : List (List ℕ)) × (n : ℕ) × (lines_of bytes ≡ ls ++ more)
+    × ((gained : List Did) × (out : List ℕ) × gains m.visitor m'.visitor gained × AddsPart m.output out m'.output × AnsweredAll ways (may_seal m.visitor) ls n gained out))

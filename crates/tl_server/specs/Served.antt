@@ -1,5 +1,5 @@
 -- How lines are answered, and what a session gains by that.
-use Rattle.std.specs.Prelude.{◌≡◌, ◌↔◌, ◌⊎◌, ◌+◌, ◌<◌, ℕ, ℤ, List, map, [], ◌∷◌, ◌++◌, length, Bool, true, false, Result, Ok, Err}
+use Rattle.std.specs.Prelude.{◌≡◌, ◌≢◌, ◌↔◌, ◌⊎◌, ◌+◌, ◌<◌, ℕ, ℤ, List, map, [], ◌∷◌, ◌++◌, length, Bool, true, false, Result, Ok, Err}
 use Rattle.tl_instr.specs.Codes.{CodeValue}
 use Rattle.tl_budget.specs.declared.limits.Bounds.{Bounds}
 use Rattle.tl_verify.specs.Procedure.{AreBounds}
@@ -17,10 +17,15 @@ use Rattle.tl_workers.specs.declared.session.Did.{Did}
 use Rattle.tl_workers.specs.Kept.{call_of, AnswersEach, asked_of, gots_of}
 use Rattle.tl_table.specs.declared.epoch.TheConstants.{MAX_EPOCHS}
 use Rattle.tl_workers.specs.Refusals.{IsCallRefusal, AreCallRefusals, IsSealRefused, IsRestedSealRefused}
+use Rattle.tl_generations.specs.Generations.{LegacyValue, IsGrown}
+use Rattle.tl_generations.specs.Growth.{IsGrowthFault}
+use Rattle.tl_generations.specs.declared.growth.GrowthFault.{GrowthFault}
+use Rattle.tl_generations.specs.declared.growth.GrowthFault.TheVariants as growth
 use Rattle.tl_server.specs.declared.fault.LineFault.{LineFault}
+use Rattle.tl_server.specs.declared.fault.LineFault.TheVariants.{NotRequest}
 use Rattle.tl_server.specs.Faults.{numbers_of}
-use Rattle.tl_server.specs.Requests.{LineValue, Registers, Calls, Batches, Seals, Closes, IsRequest, IsLineFault}
-use Rattle.tl_server.specs.Answers.{one_text, error_text, batch_text, register_text, seal_text, closed_text, line_text}
+use Rattle.tl_server.specs.Requests.{LineValue, Registers, Calls, Batches, Grows, Seals, Closes, IsRequest, IsLineFault}
+use Rattle.tl_server.specs.Answers.{one_text, error_text, batch_text, register_text, growth_text, seal_text, closed_text, line_text}
 
 -- ---- a registration
 
@@ -68,50 +73,69 @@ abbrev pub SealOutcome : Bool → (ℕ → Type 0) → Result ℕ Refusal → Ty
 SealOutcome seals may_seal (Ok epoch) = may_seal epoch
 SealOutcome seals may_seal (Err e) = IsSealRefused e × (seals ≡ true → IsRestedSealRefused e)
 
--- ---- lines, where the engine seals its epochs by itself, or doesn't, and where the epochs with such numbers may be sealed
+-- ---- growth
+
+-- nodes of these parents were appended to a tree, the first under that number; or why they weren't, to a tree of some number of nodes
+abbrev pub GrowthOutcome : List ℤ → Result ℕ GrowthFault → Type 0
+GrowthOutcome parents (Ok first) = (old : LegacyValue) × (new : LegacyValue) × IsGrown old parents first new
+GrowthOutcome parents (Err e) = (count : ℕ) × IsGrowthFault count parents e
+
+-- the answer, if nodes can be appended to the tree of what serves; else that of any request which it doesn't know
+abbrev pub IsGrowthAnswer : Bool → List ℤ → List ℕ → Type 0
+IsGrowthAnswer true parents out =
+    (answer : Result ℕ GrowthFault) × GrowthOutcome parents answer × (answer ≢ Err growth.Memory) × (out ≡ line_text (growth_text answer))
+IsGrowthAnswer false parents out = out ≡ line_text (error_text (numbers_of NotRequest))
+
+-- ---- lines, where the epochs with such numbers may be sealed
+
+-- what else serves lines can do: whether its engines seal their epochs by themselves, and whether nodes can be appended to its tree
+pub record Ways : Type 0 where
+  pub seals : Bool
+  pub grows : Bool
 
 -- a request's answer, after which the next line is read, and what the session gained by it
-abbrev pub AnswersRequest : Bool → (ℕ → Type 0) → LineValue → List Did → List ℕ → Type 0
-AnswersRequest seals may_seal (Registers name text) gained out =
+abbrev pub AnswersRequest : Ways → (ℕ → Type 0) → LineValue → List Did → List ℕ → Type 0
+AnswersRequest ways may_seal (Registers name text) gained out =
     (gained ≡ []) × ((answer : Result Bounds RegisterFault) × RegisterOutcome (name, text) answer × (out ≡ line_text (register_text answer)))
-AnswersRequest seals may_seal (Calls name args) gained out = IsCallAnswer seals (name, args) gained out
-AnswersRequest seals may_seal (Batches calls workers) gained out = (requests : List Request) × (map request_form requests ≡ calls) × IsBatchAnswer seals requests gained out
-AnswersRequest seals may_seal Seals gained out = (gained ≡ []) × ((answer : Result ℕ Refusal) × SealOutcome seals may_seal answer × (out ≡ line_text (seal_text answer)))
-AnswersRequest seals may_seal Closes gained out = ⊥
+AnswersRequest ways may_seal (Calls name args) gained out = IsCallAnswer ways.seals (name, args) gained out
+AnswersRequest ways may_seal (Batches calls workers) gained out = (requests : List Request) × (map request_form requests ≡ calls) × IsBatchAnswer ways.seals requests gained out
+AnswersRequest ways may_seal (Grows parents) gained out = (gained ≡ []) × IsGrowthAnswer ways.grows parents out
+AnswersRequest ways may_seal Seals gained out = (gained ≡ []) × ((answer : Result ℕ Refusal) × SealOutcome ways.seals may_seal answer × (out ≡ line_text (seal_text answer)))
+AnswersRequest ways may_seal Closes gained out = ⊥
 
 -- a line's answer, after which the next line is read
-abbrev pub AnswersLine : Bool → (ℕ → Type 0) → List ℕ → List Did → List ℕ → Type 0
-AnswersLine seals may_seal line gained out =
+abbrev pub AnswersLine : Ways → (ℕ → Type 0) → List ℕ → List Did → List ℕ → Type 0
+AnswersLine ways may_seal line gained out =
     IsRefused gained out
     ⊎ ((f : LineFault) × IsLineFault line f × (gained ≡ []) × (out ≡ line_text (error_text (numbers_of f))))
-    ⊎ ((r : LineValue) × IsRequest line r × AnswersRequest seals may_seal r gained out)
+    ⊎ ((r : LineValue) × IsRequest line r × AnswersRequest ways may_seal r gained out)
 
 -- a line closes the connection, and is answered so
 abbrev pub ClosesLine : List ℕ → List Did → List ℕ → Type 0
 ClosesLine line gained out = IsRequest line Closes × (gained ≡ []) × (out ≡ line_text closed_text)
 
-abbrev pub IsAnswer : Bool → (ℕ → Type 0) → List ℕ → Bool → List Did → List ℕ → Type 0
-IsAnswer seals may_seal line false gained out = AnswersLine seals may_seal line gained out
-IsAnswer seals may_seal line true gained out = ClosesLine line gained out
+abbrev pub IsAnswer : Ways → (ℕ → Type 0) → List ℕ → Bool → List Did → List ℕ → Type 0
+IsAnswer ways may_seal line false gained out = AnswersLine ways may_seal line gained out
+IsAnswer ways may_seal line true gained out = ClosesLine line gained out
 
 -- one answer for each line, in order, and what the session gained by them
-abbrev pub Answered : Bool → (ℕ → Type 0) → List (List ℕ) → List Did → List ℕ → Type 0
-Answered seals may_seal [] gained out = (gained ≡ []) × (out ≡ [])
-Answered seals may_seal (l ∷ ls) gained out =
-    (g : List Did) × (gs : List Did) × (o : List ℕ) × (os : List ℕ) × (gained ≡ g ++ gs) × (out ≡ o ++ os) × AnswersLine seals may_seal l g o × Answered seals may_seal ls gs os
+abbrev pub Answered : Ways → (ℕ → Type 0) → List (List ℕ) → List Did → List ℕ → Type 0
+Answered ways may_seal [] gained out = (gained ≡ []) × (out ≡ [])
+Answered ways may_seal (l ∷ ls) gained out =
+    (g : List Did) × (gs : List Did) × (o : List ℕ) × (os : List ℕ) × (gained ≡ g ++ gs) × (out ≡ o ++ os) × AnswersLine ways may_seal l g o × Answered ways may_seal ls gs os
 
 -- After these lines one came that closed the connection, and nothing more was read.
-pub record ClosedAt (seals : Bool) (may_seal : ℕ → Type 0) (lines : List (List ℕ)) (n : ℕ) (gained : List Did) (out : List ℕ) : Type 0 where
+pub record ClosedAt (ways : Ways) (may_seal : ℕ → Type 0) (lines : List (List ℕ)) (n : ℕ) (gained : List Did) (out : List ℕ) : Type 0 where
   pub before : List (List ℕ)
   pub last : List ℕ
   pub after : List (List ℕ)
   pub answers : List ℕ
   pub lines_are : lines ≡ before ++ last ∷ after
   pub count : n ≡ length before + 1
-  pub answered : Answered seals may_seal before gained answers
+  pub answered : Answered ways may_seal before gained answers
   pub closes : IsRequest last Closes
   pub out_is : out ≡ answers ++ line_text closed_text
 
 -- the first n of these lines were answered: all of them, or those up to one that closed the connection
-abbrev pub AnsweredAll : Bool → (ℕ → Type 0) → List (List ℕ) → ℕ → List Did → List ℕ → Type 0
-AnsweredAll seals may_seal lines n gained out = ((n ≡ length lines) × Answered seals may_seal lines gained out) ⊎ ClosedAt seals may_seal lines n gained out
+abbrev pub AnsweredAll : Ways → (ℕ → Type 0) → List (List ℕ) → ℕ → List Did → List ℕ → Type 0
+AnsweredAll ways may_seal lines n gained out = ((n ≡ length lines) × Answered ways may_seal lines gained out) ⊎ ClosedAt ways may_seal lines n gained out

@@ -11,6 +11,7 @@ use crate::device::Sink;
 use crate::outbox::Outbox;
 use itoa::{Buffer, Integer};
 use tl_budget::Bounds;
+use tl_generations::GrowthFault;
 use tl_json::RegisterFault;
 use tl_table::Receipt;
 use tl_workers::Refusal;
@@ -89,6 +90,23 @@ impl Part for Result<u32, Refusal> {
     }
 }
 
+impl Part for Result<u16, GrowthFault> {
+    ghost use Rattle.tl_server.specs.Answers.{growth_text};
+
+    ghost text = { λ _ answer. growth_text answer };
+
+    fn put<K: Sink>(&self, outbox: &mut Outbox, sink: &mut K, _base: u32) {
+        match self {
+            Ok(first) => {
+                outbox.put(sink, b"{\"grown\":");
+                put_number(outbox, sink, *first);
+                outbox.put(sink, b"}");
+            }
+            Err(fault) => put_error(outbox, sink, fault.numbers().as_slice()),
+        }
+    }
+}
+
 /// A number.
 pub(crate) fn put_number<I: Integer, K: Sink>(outbox: &mut Outbox, sink: &mut K, number: I)
     ensures { Writes (sending (K.output sink.old) (K.failures sink.old) outbox.old) (sending (K.output sink.new) (K.failures sink.new) outbox.new) (I.text number) }
@@ -163,7 +181,7 @@ fn put_bounds<K: Sink>(outbox: &mut Outbox, sink: &mut K, bounds: &Bounds)
     outbox.put(sink, b"}}");
 }
 
-/// The line for the result of a call, a registration or a seal.
+/// The line for the result of a call, a registration, a growth or a seal.
 pub(crate) fn put_line<T: Part, K: Sink>(outbox: &mut Outbox, sink: &mut K, base: u32, answer: &T)
     ensures { Writes (sending (K.output sink.old) (K.failures sink.old) outbox.old) (sending (K.output sink.new) (K.failures sink.new) outbox.new) (line_text (T.text base answer.now)) }
 {

@@ -30,7 +30,7 @@ pub(crate) fn answer_line<R: Threads + Wait + Sync, K: Sink, V: Service>(
 ) -> bool
     ensures { (gained : List Did) × (out : List ℕ) × V.gains visitor.old visitor.new gained
         × Writes (sending (K.output sink.old) (K.failures sink.old) outbox.old) (sending (K.output sink.new) (K.failures sink.new) outbox.new) out
-        × IsAnswer (V.seals service.now) (V.may_seal visitor.old) line.now result gained out }
+        × IsAnswer (V.ways service.now) (V.may_seal visitor.old) line.now result gained out }
 {
     match read_request(alloc, line) {
         Err(fault) => {
@@ -61,7 +61,7 @@ fn answer_request<R: Threads + Wait + Sync, K: Sink, V: Service>(
     requires { IsAsked (line_view request.now) }
     ensures { (gained : List Did) × (out : List ℕ) × V.gains visitor.old visitor.new gained
         × Writes (sending (K.output sink.old) (K.failures sink.old) outbox.old) (sending (K.output sink.new) (K.failures sink.new) outbox.new) out
-        × (IsRefused gained out ⊎ AnswersRequest (V.seals service.now) (V.may_seal visitor.old) (line_view request.now) gained out) }
+        × (IsRefused gained out ⊎ AnswersRequest (V.ways service.now) (V.may_seal visitor.old) (line_view request.now) gained out) }
 {
     match service.perform(rt, alloc, visitor, request) {
         Some(done) => put_outcome(outbox, sink, &done),

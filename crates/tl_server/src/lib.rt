@@ -1,7 +1,7 @@
 //! A server that takes one request per line.
 //!
-//! A line is a JSON object: it registers a procedure, runs a call or a batch of calls, seals the current epoch, or closes
-//! the connection. Each is answered by one line, in order.
+//! A line is a JSON object: it registers a procedure, runs a call or a batch of calls, appends nodes to the tree, seals the current epoch,
+//! or closes the connection. Each is answered by one line, in order.
 #![tactic(auto)]
 
 mod answer;

@@ -1,17 +1,19 @@
 // What came of a request, and its answer.
 
-ghost use Rattle.std.specs.Prelude.{◌≡◌, ℕ, Bool, List, map};
+ghost use Rattle.std.specs.Prelude.{◌≡◌, ℕ, List, map};
 ghost use Rattle.tl_workers.specs.declared.session.Did.{Did};
 ghost use Rattle.tl_server.specs.Requests.{LineValue};
 ghost use Rattle.tl_server.specs.Outcomes.{CameOf, later_did, IsSealableAt};
 ghost use Rattle.tl_server.specs.declared.outcome.Outcome.TheVariants.{Batched};
 ghost use Rattle.tl_server.specs.Sending.{sending, Writes};
-ghost use Rattle.tl_server.specs.Served.{AnswersRequest};
+ghost use Rattle.tl_server.specs.Served.{Ways, AnswersRequest};
 
 use crate::answer::{put_batch_line, put_error_line, put_line};
 use crate::device::Sink;
+use crate::fault::LineFault;
 use crate::outbox::Outbox;
 use tl_budget::Bounds;
+use tl_generations::GrowthFault;
 use tl_json::RegisterFault;
 use tl_table::Receipt;
 use tl_workers::Refusal;
@@ -25,6 +27,10 @@ pub enum Outcome {
     Called(Result<Receipt, Refusal>),
     /// Of many calls.
     Batched(Result<Vec<Result<Receipt, Refusal>>, Refusal>),
+    /// Of a growth: the number of the first new node.
+    Grown(Result<u16, GrowthFault>),
+    /// Of a request that the service doesn't know.
+    Unknown,
     /// Of a seal.
     Sealed(Result<u32, Refusal>),
 }
@@ -45,9 +51,9 @@ fn put_batch<K: Sink>(
     base: u32,
     answers: &Result<Vec<Result<Receipt, Refusal>>, Refusal>,
 )
-    ensures { (seals : Bool) (r : LineValue) (own : List Did) → CameOf seals r own (Batched answers.now) → (out : List ℕ)
+    ensures { (ways : Ways) (r : LineValue) (own : List Did) → CameOf ways r own (Batched answers.now) → (out : List ℕ)
         × Writes (sending (K.output sink.old) (K.failures sink.old) outbox.old) (sending (K.output sink.new) (K.failures sink.new) outbox.new) out
-        × AnswersRequest seals (IsSealableAt base) r (map (later_did base) own) out }
+        × AnswersRequest ways (IsSealableAt base) r (map (later_did base) own) out }
 {
     match answers {
         Ok(answers) => put_batch_line(outbox, sink, base, answers),
@@ -57,15 +63,19 @@ fn put_batch<K: Sink>(
 
 /// Hands the answer to a request over. Its epochs count those of the engines before.
 pub(crate) fn put_outcome<K: Sink>(outbox: &mut Outbox, sink: &mut K, done: &Done)
-    ensures { (seals : Bool) (r : LineValue) (own : List Did) → CameOf seals r own done.now.outcome → (out : List ℕ)
+    ensures { (ways : Ways) (r : LineValue) (own : List Did) → CameOf ways r own done.now.outcome → (out : List ℕ)
         × Writes (sending (K.output sink.old) (K.failures sink.old) outbox.old) (sending (K.output sink.new) (K.failures sink.new) outbox.new) out
-        × AnswersRequest seals (IsSealableAt done.now.base) r (map (later_did done.now.base) own) out }
+        × AnswersRequest ways (IsSealableAt done.now.base) r (map (later_did done.now.base) own) out }
 {
     let base = done.base;
     match &done.outcome {
         Outcome::Registered(answer) => put_line(outbox, sink, base, answer),
         Outcome::Called(answer) => put_line(outbox, sink, base, answer),
         Outcome::Batched(answers) => put_batch(outbox, sink, base, answers),
+        Outcome::Grown(answer) => put_line(outbox, sink, base, answer),
+        Outcome::Unknown => {
+            put_error_line(outbox, sink, LineFault::NotRequest.numbers().as_slice())
+        }
         Outcome::Sealed(answer) => put_line(outbox, sink, base, answer),
     }
 }

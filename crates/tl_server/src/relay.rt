@@ -1,12 +1,15 @@
 // Engines one after another: when one has used up its epochs, the next takes over.
 
-ghost use Rattle.std.specs.Prelude.{◌≡◌, ◌≤◌, ◌<◌, ◌+◌, ◌^◌, ℕ, List, true, false, None, IfOk, IfSome, OnErr};
+ghost use Rattle.std.specs.Prelude.{◌≡◌, ◌≢◌, ◌≤◌, ◌<◌, ◌+◌, ◌^◌, ℕ, List, true, false, None, Err, IfOk, IfErr, IfSome, OnErr};
 ghost use Rattle.std.proofs.Props.{props};
 ghost use Rattle.tl_workers.specs.declared.session.Did.{Did};
 ghost use Rattle.tl_server.specs.Requests.{line_view};
+ghost use Rattle.tl_generations.specs.Growth.{IsGrowthFault};
+ghost use Rattle.tl_generations.specs.declared.growth.GrowthFault.TheVariants as growth;
 ghost use Rattle.tl_server.specs.Outcomes.{IsAsked, CameOf};
+ghost use Rattle.tl_server.specs.Served.{GrowthOutcome};
 
-use crate::outcome::Done;
+use crate::outcome::{Done, Outcome};
 use crate::request::LineRequest;
 use crate::seats::Seats;
 use crate::service::{Service, act};
@@ -16,6 +19,7 @@ use std::marker::Model;
 use std::mem;
 use std::sync::{Mutex, RwLock, Wait};
 use std::thread::Threads;
+use tl_generations::GrowthFault;
 use tl_table::TableFault;
 use tl_workers::{Engine, Refusal, Session};
 
@@ -28,7 +32,7 @@ pub trait Keeper {
     /// engine did isn't lost where memory is refused.
     fn close(&mut self, engine: Engine, sessions: Vec<Session>);
 
-    /// An engine on what the one that was closed last left, which seals its epochs by itself. No line is answered meanwhile. `None`
+    /// An engine on what the one that was closed last left, with the nodes that were appended since, which seals its epochs by itself. No line is answered meanwhile. `None`
     /// if memory is refused, or if the engine before didn't close; the next line asks again.
     fn open(&mut self, alloc: Global) -> Option<Engine>
         ensures closed { IfSome result (λ _. has_closed self.new) }
@@ -36,6 +40,15 @@ pub trait Keeper {
 
     /// How many nodes the tree has on which it opened an engine last, or from which the first engine began.
     fn nodes(&self) -> u16;
+
+    /// Whether nodes of these parents can be appended to the tree of the engine that is at work. The first fault: 102, then 104.
+    fn check_growth(&self, parents: &[i64]) -> Result<(), GrowthFault>
+        ensures { IfErr result (λ e. (count : ℕ) × IsGrowthFault count parents.now e) };
+
+    /// Appends nodes of these parents to the tree that the engine that was closed last left, with zeros as their records. The number of
+    /// the first. No line is answered meanwhile. 190 if memory is refused, or if the engine didn't close.
+    fn grow(&mut self, alloc: Global, parents: &[i64]) -> Result<u16, GrowthFault>
+        ensures { GrowthOutcome parents.now result };
 
     /// Keeps what the closed engine did. Lines are answered meanwhile.
     fn keep(&mut self, alloc: Global)
@@ -126,7 +139,7 @@ impl Stage {
         request: &LineRequest,
     ) -> Result<Done, Pause>
         requires { IsAsked (line_view request.now) }
-        ensures came { IfOk result (λ d. (own : List Did) × CameOf true (line_view request.now) own d.outcome) }
+        ensures came { IfOk result (λ d. (own : List Did) × CameOf (record { seals = true; grows = false }) (line_view request.now) own d.outcome) }
         ensures later { IfOk result (λ d. (place.old ≤ d.base) × (place.new ≡ d.base)) }
         ensures same { OnErr result (place.new ≡ place.old) }
     {
@@ -225,6 +238,8 @@ pub struct Relay<K> {
     keeper: Mutex<K>,
     // After how many epochs the next engine takes over.
     epochs: u32,
+    // Whether nodes can be appended to the tree.
+    grows: bool,
     tally: Tally,
 }
 
@@ -245,7 +260,16 @@ impl<K: Keeper> Relay<K> {
             seats: Mutex::new(Seats::new(alloc)),
             keeper: Mutex::new(keeper),
             epochs: epochs.max(1),
+            grows: true,
             tally: Tally::new(),
+        }
+    }
+
+    /// The same relay, to whose tree no nodes can be appended: there is one engine as long as its epochs last.
+    pub fn that_does_not_grow(self) -> Relay<K> {
+        Relay {
+            grows: false,
+            ..self
         }
     }
 
@@ -256,6 +280,7 @@ impl<K: Keeper> Relay<K> {
             seats,
             keeper,
             epochs: _,
+            grows: _,
             tally: _,
         } = self;
         let Stage {
@@ -280,7 +305,7 @@ impl<K: Keeper> Relay<K> {
         request: &LineRequest,
     ) -> Result<Done, Pause>
         requires { IsAsked (line_view request.now) }
-        ensures came { IfOk result (λ d. (own : List Did) × CameOf true (line_view request.now) own d.outcome) }
+        ensures came { IfOk result (λ d. (own : List Did) × CameOf (record { seals = true; grows = false }) (line_view request.now) own d.outcome) }
         ensures later { IfOk result (λ d. (place.old ≤ d.base) × (place.new ≡ d.base)) }
         ensures same { OnErr result (place.new ≡ place.old) }
     {
@@ -313,29 +338,22 @@ impl<K: Keeper> Relay<K> {
     }
 }
 
-/// A relay serves each connection by sessions of its engines, one after another. The numbers of epochs go on from one to the next.
-impl<K: Keeper> Service for Relay<K> {
-    type Visitor = Place;
-
-    ghost use Rattle.std.specs.Prelude.{◌≤◌, true};
-    ghost use Rattle.tl_server.specs.Outcomes.{GoesOnFrom};
-    ghost use Rattle.tl_server.specs.Gaining.{goes_on_nothing, goes_on_both, seals_from};
-
-    ghost gains = { GoesOnFrom };
-
-    ghost seals = { λ _. true };
-
-    ghost may_seal = { λ base n. base ≤ n };
-
-    fn perform<R: Threads + Wait + Sync>(
+impl<K: Keeper> Relay<K> {
+    // Does what a request asks for by an engine that has room for it. `None` if memory is refused.
+    fn perform_by_engine<R: Threads + Wait + Sync>(
         &self,
         rt: &R,
         alloc: Global,
-        visitor: &mut Place,
+        place: &mut Place,
         request: &LineRequest,
-    ) -> Option<Done> {
+    ) -> Option<Done>
+        requires { IsAsked (line_view request.now) }
+        ensures came { IfSome result (λ d. (own : List Did) × CameOf (record { seals = true; grows = false }) (line_view request.now) own d.outcome) }
+        ensures later { IfSome result (λ d. (place.old ≤ d.base) × (place.new ≡ d.base)) }
+        ensures same { result ≡ None → place.new ≡ place.old }
+    {
         for _ in rt.forever() {
-            match self.attempt(rt, alloc, visitor, request) {
+            match self.attempt(rt, alloc, place, request) {
                 Ok(done) => {
                     self.tally.count(&done.outcome);
                     return Some(done);
@@ -349,6 +367,84 @@ impl<K: Keeper> Service for Relay<K> {
             }
         }
         unreachable!()
+    }
+
+    // Appends nodes of these parents to the tree, as soon as no line is at work: the next engine takes over and begins with them. `None`
+    // if memory is refused.
+    fn grow(
+        &self,
+        rt: &impl Wait,
+        alloc: Global,
+        parents: &[i64],
+    ) -> Option<Result<u16, GrowthFault>>
+        ensures { IfSome result (λ r. GrowthOutcome parents.now r × (r ≢ Err growth.Memory)) }
+    {
+        let mut stage = self.stage.write(rt);
+        let mut keeper = self.keeper.lock(rt);
+        if let Err(fault) = keeper.check_growth(parents) {
+            return known(Err(fault));
+        }
+        if stage.engine.is_some() && !stage.close(rt, alloc, &self.seats, &mut *keeper) {
+            return None;
+        }
+        let grown = keeper.grow(alloc, parents);
+        let Some(engine) = keeper.open(alloc) else {
+            // The next line opens it.
+            return known(grown);
+        };
+        stage.engine = Some(engine);
+        stage.nodes = keeper.nodes();
+        // Lines are answered again. The next hand-over waits for the keeper.
+        drop(stage);
+        keeper.keep(alloc);
+        known(grown)
+    }
+}
+
+// What came of a growth, unless memory was refused.
+fn known(grown: Result<u16, GrowthFault>) -> Option<Result<u16, GrowthFault>>
+    ensures { IfSome result (λ r. (r ≡ grown) × (r ≢ Err growth.Memory)) }
+{
+    match grown {
+        Err(GrowthFault::Memory) => None,
+        grown => Some(grown),
+    }
+}
+
+/// A relay serves each connection by sessions of its engines, one after another. The numbers of epochs go on from one to the next.
+impl<K: Keeper> Service for Relay<K> {
+    type Visitor = Place;
+
+    ghost use Rattle.std.specs.Prelude.{◌≤◌, true};
+    ghost use Rattle.tl_server.specs.Outcomes.{GoesOnFrom};
+    ghost use Rattle.tl_server.specs.Gaining.{goes_on_nothing, goes_on_both, seals_from};
+
+    ghost gains = { GoesOnFrom };
+
+    ghost ways = { λ r. record { seals = true; grows = r.grows } };
+
+    ghost may_seal = { λ base n. base ≤ n };
+
+    fn perform<R: Threads + Wait + Sync>(
+        &self,
+        rt: &R,
+        alloc: Global,
+        visitor: &mut Place,
+        request: &LineRequest,
+    ) -> Option<Done> {
+        if !self.grows {
+            return self.perform_by_engine(rt, alloc, visitor, request);
+        }
+        match request {
+            LineRequest::Grow(parents) => {
+                let grown = self.grow(rt, alloc, parents)?;
+                Some(Done {
+                    outcome: Outcome::Grown(grown),
+                    base: visitor.base,
+                })
+            }
+            request => self.perform_by_engine(rt, alloc, visitor, request),
+        }
     }
 
     ghost gains_none = { goes_on_nothing };

@@ -4,7 +4,7 @@ ghost use Rattle.std.specs.Prelude.{◌≡◌, ◌≢◌, ◌≤◌, option_map,
 ghost use Rattle.tl_workers.specs.declared.batch.TheConstants.{MAX_REQUESTS, MAX_WORKERS};
 ghost use Rattle.serde_json.specs.View.{view};
 ghost use Rattle.tl_tree.specs.Reading.{integer_of, integers_of};
-ghost use Rattle.tl_server.specs.Requests.{line_view, text_at, has_members, register_of, call_of, workers_of, batch_of, request_with, line_request_of, IsRequest, IsLineFault};
+ghost use Rattle.tl_server.specs.Requests.{line_view, text_at, has_members, register_of, call_of, workers_of, batch_of, grow_of, request_with, line_request_of, IsRequest, IsLineFault};
 
 use crate::batch::BatchRequest;
 use crate::fault::LineFault;
@@ -26,6 +26,8 @@ pub enum LineRequest {
     Call(Request),
     /// To run many calls.
     Batch(BatchRequest),
+    /// To append nodes of these parents to the tree, of which there is at least one.
+    Grow(Vec<i64>),
     /// To seal the current epoch.
     Seal,
     /// To close the connection.
@@ -126,6 +128,25 @@ fn batch_of_value(alloc: Global, value: &Value) -> Result<Option<LineRequest>, A
     }
 }
 
+// `{"op":"grow","parents":[parent,..]}`
+fn grow_of_value(alloc: Global, value: &Value) -> Result<Option<LineRequest>, AllocError>
+    ensures { IfOk result (λ found. option_map line_view found ≡ grow_of (view value.now)) }
+{
+    if !has_members(value, 2) {
+        return Ok(None);
+    }
+    let Some(parents) = value.get("parents") else {
+        return Ok(None);
+    };
+    let Some(parents) = integers_from_value(alloc, parents)? else {
+        return Ok(None);
+    };
+    if parents.is_empty() {
+        return Ok(None);
+    }
+    Ok(Some(LineRequest::Grow(parents)))
+}
+
 // The request of an object with this `op`.
 fn request_with_op(
     alloc: Global,
@@ -138,6 +159,7 @@ fn request_with_op(
         "register" => register_of_value(alloc, value),
         "call" => call_of_value(alloc, value),
         "batch" => batch_of_value(alloc, value),
+        "grow" => grow_of_value(alloc, value),
         "seal" => if has_members(value, 1) {
             Ok(Some(LineRequest::Seal))
         } else {
@@ -163,8 +185,9 @@ fn request_of_value(alloc: Global, value: &Value) -> Result<Option<LineRequest>,
 
 /// What a line, without its LF, asks for. It is a JSON object with the members shown and no others:
 /// `{"asm":text,"name":name,"op":"register"}`, `{"args":args,"op":"call","proc":name}`,
-/// `{"calls":[[name,args],..],"op":"batch","workers":w}` with 1 to 256 calls and 1 to 16 workers, `{"op":"seal"}`, or
-/// `{"op":"close"}`. The arguments are lists of signed 64-bit integers.
+/// `{"calls":[[name,args],..],"op":"batch","workers":w}` with 1 to 256 calls and 1 to 16 workers,
+/// `{"op":"grow","parents":parents}` with one parent at least, `{"op":"seal"}`, or `{"op":"close"}`. The arguments and the parents are
+/// lists of signed 64-bit integers.
 ///
 /// Errors, the first that holds: 902 if the line has more than 65,536 bytes, 903 if it isn't UTF-8, 901 if it is none of
 /// these requests. 990 if memory is refused.

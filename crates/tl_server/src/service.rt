@@ -1,13 +1,13 @@
 // Who does what lines ask for.
 
-ghost use Rattle.std.specs.Prelude.{◌≡◌, ◌+◌, ℕ, Bool, List, map, [], ◌++◌, None, IfSome};
+ghost use Rattle.std.specs.Prelude.{◌≡◌, ◌+◌, ℕ, false, List, map, [], ◌++◌, None, IfSome};
 ghost use Rattle.std.specs.Thread.{IsSync};
 ghost use Rattle.tl_workers.specs.declared.session.Did.{Did};
 ghost use Rattle.tl_json.specs.Procedures.{procedure_form};
 ghost use Rattle.tl_workers.specs.Kept.{Gains};
 ghost use Rattle.tl_server.specs.Requests.{line_view};
 ghost use Rattle.tl_server.specs.Outcomes.{IsAsked, CameOf, later_did};
-ghost use Rattle.tl_server.specs.Served.{RegisterOutcome, IsSealable};
+ghost use Rattle.tl_server.specs.Served.{Ways, RegisterOutcome, IsSealable};
 
 use crate::outcome::{Done, Outcome};
 use crate::request::LineRequest;
@@ -26,8 +26,8 @@ pub trait Service {
     // What the visitor asked for and got between two moments.
     ghost gains: { Self.Visitor → Self.Visitor → List Did → Type 0 };
 
-    // Whether its engines seal their epochs by themselves.
-    ghost seals: { Self → Bool };
+    // What it can do: whether its engines seal their epochs by themselves, and whether nodes can be appended to its tree.
+    ghost ways: { Self → Ways };
 
     // Which epochs may be sealed from this moment on, by their numbers.
     ghost may_seal: { Self.Visitor → ℕ → Type 0 };
@@ -43,7 +43,7 @@ pub trait Service {
     ) -> Option<Done>
         requires asked { IsAsked (line_view request.now) }
         requires shared { IsSync R.row }
-        ensures done { IfSome result (λ d. (own : List Did) × CameOf (seals self.now) (line_view request.now) own d.outcome × gains visitor.old visitor.new (map (later_did d.base) own)) }
+        ensures done { IfSome result (λ d. (own : List Did) × CameOf (ways self.now) (line_view request.now) own d.outcome × gains visitor.old visitor.new (map (later_did d.base) own)) }
         ensures sealable { IfSome result (λ d. (n : ℕ) → IsSealable n → may_seal visitor.old (d.base + n)) }
         ensures none { result ≡ None → gains visitor.old visitor.new [] };
 
@@ -69,7 +69,7 @@ fn register(
     Ok(bounds)
 }
 
-/// Does what a request asks for, in a session of the engine. Nothing is written.
+/// Does what a request asks for, in a session of the engine. Nodes can't be appended to an engine's tree. Nothing is written.
 pub(crate) fn act<R: Threads + Wait + Sync>(
     rt: &R,
     alloc: Global,
@@ -78,7 +78,7 @@ pub(crate) fn act<R: Threads + Wait + Sync>(
     request: &LineRequest,
 ) -> Outcome
     requires { IsAsked (line_view request.now) }
-    ensures { (own : List Did) × Gains session.old session.new own × CameOf engine.now.seals (line_view request.now) own result }
+    ensures { (own : List Did) × Gains session.old session.new own × CameOf (record { seals = engine.now.seals; grows = false }) (line_view request.now) own result }
 {
     match request {
         LineRequest::Register(written) => {
@@ -92,6 +92,7 @@ pub(crate) fn act<R: Threads + Wait + Sync>(
             let (requests, workers) = (&batch.requests, batch.workers);
             Outcome::Batched(engine.batch(rt, alloc, session, requests, workers, &NoGate))
         }
+        LineRequest::Grow(_) => Outcome::Unknown,
         LineRequest::Seal => Outcome::Sealed(engine.seal(rt, alloc)),
         LineRequest::Close => unreachable!(),
     }
@@ -101,13 +102,14 @@ pub(crate) fn act<R: Threads + Wait + Sync>(
 impl Service for Engine {
     type Visitor = Session;
 
+    ghost use Rattle.std.specs.Prelude.{false};
     ghost use Rattle.tl_workers.specs.Kept.{Gains};
     ghost use Rattle.tl_server.specs.Served.{IsSealable};
     ghost use Rattle.tl_server.specs.Gaining.{gains_nothing, gains_both};
 
     ghost gains = { Gains };
 
-    ghost seals = { λ e. e.seals };
+    ghost ways = { λ e. record { seals = e.seals; grows = false } };
 
     ghost may_seal = { λ _ n. IsSealable n };
 

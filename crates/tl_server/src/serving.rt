@@ -46,9 +46,9 @@ pub fn serve<R: Threads + Wait + Sync, S: Source, K: Sink, V: Service>(
     visitor: &mut V::Visitor,
 ) -> Result<u64, ServeFault>
     // What was answered.
-    ensures ok { IfOk result (λ n. AnswersAll V.gains (V.seals service.now) V.may_seal (record { input = S.input source.old; visitor = visitor.old; output = K.output sink.old }) (record { input = S.input source.new; visitor = visitor.new; output = K.output sink.new }) n) }
-    ensures read { IsErrOf result ReadFailed → AnswersWhole V.gains (V.seals service.now) V.may_seal (record { input = S.input source.old; visitor = visitor.old; output = K.output sink.old }) (record { input = S.input source.new; visitor = visitor.new; output = K.output sink.new }) }
-    ensures write { IsErrOf result WriteFailed → AnswersPart V.gains (V.seals service.now) V.may_seal (record { input = S.input source.old; visitor = visitor.old; output = K.output sink.old }) (record { input = S.input source.new; visitor = visitor.new; output = K.output sink.new }) }
+    ensures ok { IfOk result (λ n. AnswersAll V.gains (V.ways service.now) V.may_seal (record { input = S.input source.old; visitor = visitor.old; output = K.output sink.old }) (record { input = S.input source.new; visitor = visitor.new; output = K.output sink.new }) n) }
+    ensures read { IsErrOf result ReadFailed → AnswersWhole V.gains (V.ways service.now) V.may_seal (record { input = S.input source.old; visitor = visitor.old; output = K.output sink.old }) (record { input = S.input source.new; visitor = visitor.new; output = K.output sink.new }) }
+    ensures write { IsErrOf result WriteFailed → AnswersPart V.gains (V.ways service.now) V.may_seal (record { input = S.input source.old; visitor = visitor.old; output = K.output sink.old }) (record { input = S.input source.new; visitor = visitor.new; output = K.output sink.new }) }
     // Whatever the devices say about their bytes.
     ensures kept { GainsWholeCalls V.gains visitor.old visitor.new }
     // Which device has failed.

@@ -52,7 +52,11 @@ fn receipts(outcome: &Outcome) -> u64
         Outcome::Batched(Ok(answers)) => {
             answers.iter().filter(|answer| answer.is_ok()).count() as u64
         }
-        Outcome::Batched(Err(_)) | Outcome::Registered(_) | Outcome::Sealed(_) => 0,
+        Outcome::Batched(Err(_))
+        | Outcome::Registered(_)
+        | Outcome::Sealed(_)
+        | Outcome::Grown(_)
+        | Outcome::Unknown => 0,
     }
 }
 
@@ -62,7 +66,11 @@ fn registered(outcome: &Outcome) -> u64
 {
     match outcome {
         Outcome::Registered(answer) => u64::from(answer.is_ok()),
-        Outcome::Called(_) | Outcome::Batched(_) | Outcome::Sealed(_) => 0,
+        Outcome::Called(_)
+        | Outcome::Batched(_)
+        | Outcome::Sealed(_)
+        | Outcome::Grown(_)
+        | Outcome::Unknown => 0,
     }
 }
 

@@ -8,7 +8,7 @@ use tl_audit::{Silent, Trail};
 use tl_commands::{
     CliFault, audit_next_cmd, end_generation, keep_generation, next_engine, open_generations,
 };
-use tl_generations::Succession;
+use tl_generations::{GrowthFault, Succession};
 use tl_test_data::{ADD, ONE_NODE};
 use tl_test_engines::end_opened;
 use tl_workers::{Engine, NoGate, Session};
@@ -97,6 +97,29 @@ fn engines_take_over_from_one_another(rt: HostRuntime) -> Result<(), Fail> {
     let first = first_file(&rt, engine, &mut succession)?;
     let engine = next_engine(alloc, &succession)?;
     let next = next_file(&rt, engine, &mut succession)?;
+    let last = audited(&rt, &first, None, "{\"orders\":[[0],[0]]}\n")?;
+    let last = audited(&rt, &next, Some(&last), "{\"orders\":[[0]]}\n")?;
+    is_broken(&rt, &first, &last);
+    Ok(())
+}
+
+#[test]
+fn nodes_are_appended_between_engines(rt: HostRuntime) -> Result<(), Fail> {
+    let alloc = rt.alloc();
+    let (engine, mut succession) = open_generations(alloc, ONE_NODE.as_bytes())?;
+    let first = first_file(&rt, engine, &mut succession)?;
+    assert_eq!(rt;
+        succession.check_growth(&[0, 3]),
+        Err(GrowthFault::BadParent(1))
+    );
+    assert_eq!(rt; succession.grow(alloc, &[0, 1])?, 1);
+    assert_eq!(rt;
+        succession.grow(alloc, &[4]),
+        Err(GrowthFault::BadParent(0))
+    );
+    let engine = next_engine(alloc, &succession)?;
+    let next = next_file(&rt, engine, &mut succession)?;
+    assert_eq!(rt; succession.last().tree().records().len(), 3);
     let last = audited(&rt, &first, None, "{\"orders\":[[0],[0]]}\n")?;
     let last = audited(&rt, &next, Some(&last), "{\"orders\":[[0]]}\n")?;
     is_broken(&rt, &first, &last);

@@ -1,4 +1,4 @@
-// Written by `tools/faults` from `docs/faults.md`.
+// Written by `tools/faults` from `docs/use/faults.md`.
 
 use crate::meanings::Meaning;
 
@@ -72,8 +72,8 @@ pub fn from_301_to_406(number: u16) -> Option<Meaning> {
         }),
         404 => Some(Meaning {
             parts: ", position",
-            name: "first again",
-            when: "a way leads here on which `first` was done before",
+            name: "second `first`",
+            when: "a path to this instruction has executed `first` already",
             advice: "lock further nodes by `child`; a call enters the tree once",
         }),
         405 => Some(Meaning {

@@ -1,4 +1,4 @@
-// Written by `tools/faults` from `docs/faults.md`.
+// Written by `tools/faults` from `docs/use/faults.md`.
 
 use crate::meanings::Meaning;
 
@@ -55,7 +55,7 @@ pub fn from_701_to_801(number: u16) -> Option<Meaning> {
         718 => Some(Meaning {
             parts: ", trail",
             name: "broken chain",
-            when: "the trail, counted from 0, doesn't open with the tree that the one before it ends with, or its procedures don't begin with that one's",
+            when: "the trail, counted from 0, doesn't open with the tree that the one before it ends with, to which a server may have appended nodes of zeros between two files, or its procedures don't begin with that one's",
             advice: "keep the trails of a run together, in their order",
         }),
         719 => Some(Meaning {
@@ -128,7 +128,7 @@ pub fn from_803_to_990(number: u16) -> Option<Meaning> {
             parts: "",
             name: "not a request",
             when: "the line is none of the requests",
-            advice: "compare it with the server's lines in `formats.md`",
+            advice: "compare it with the lines in `server.md`",
         }),
         902 => Some(Meaning {
             parts: "",

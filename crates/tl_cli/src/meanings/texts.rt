@@ -1,4 +1,4 @@
-// Written by `tools/faults` from `docs/faults.md`.
+// Written by `tools/faults` from `docs/use/faults.md`.
 
 use crate::meanings::Meaning;
 
@@ -31,8 +31,8 @@ pub fn from_31_to_204(number: u16) -> Option<Meaning> {
         102 => Some(Meaning {
             parts: "",
             name: "too many nodes",
-            when: "there are more than 4,096 nodes",
-            advice: "split the tree",
+            when: "there are more than 4,096 nodes, or would be after a growth",
+            advice: "split the tree, or append fewer nodes",
         }),
         103 => Some(Meaning {
             parts: "",
@@ -43,7 +43,7 @@ pub fn from_31_to_204(number: u16) -> Option<Meaning> {
         104 => Some(Meaning {
             parts: ", node",
             name: "parent not lower",
-            when: "the parent of this node is no node of a lower number",
+            when: "the parent of this node, or of this new one of a growth, is no node of a lower number",
             advice: "number the nodes so that each comes after its parent",
         }),
         105 => Some(Meaning {
@@ -116,7 +116,7 @@ pub fn from_205_to_275(number: u16) -> Option<Meaning> {
             parts: ", line",
             name: "unreadable line",
             when: "the line is no label, no instruction of the text's version and no comment, or stands at the wrong place",
-            advice: "the first line is `arity N`, or `version 2` and then that; see the instructions in `language.md`",
+            advice: "the first line is `arity N`, or `version 2` and then that; see `instructions.md`",
         }),
         252 => Some(Meaning {
             parts: ", line",

@@ -177,11 +177,18 @@ where
         let trails = self.trails_of(lasting, outputs.trail)?;
         let (engine, succession) = open_generations(alloc, tree)?;
         // One file has one generation.
-        let epochs = match &trails {
-            Trails::File(_) => u32::MAX,
-            _ => u32::from(lasting.generation),
+        let one = matches!(trails, Trails::File(_));
+        let epochs = if one {
+            u32::MAX
+        } else {
+            u32::from(lasting.generation)
         };
         let relay = Relay::new(alloc, engine, archive(trails, succession), epochs);
+        let relay = if one {
+            relay.that_does_not_grow()
+        } else {
+            relay
+        };
         self.serve_connections(&relay, options, lasting.connections)?;
         let (left, mut archive) = relay.into_parts();
         if let Some((engine, sessions)) = left {

@@ -13,10 +13,10 @@ returns-in-Err g c =
       line_text (error_text (numbers_of f)),
       g.met.V.Service.gains_none c.args.visitor.now,
       writes_same c.put_error_line.ensures (ap (λ n. line_text (error_text n)) (c.as_slice.ensures.value ∙ c.numbers.ensures)),
-      faulted (g.V.Service.seals c.args.service.now) (g.V.Service.may_seal c.args.visitor.now) c.args.line.now f c.in-Err.ensures.fault,
+      faulted (g.V.Service.ways c.args.service.now) (g.V.Service.may_seal c.args.visitor.now) c.args.line.now f c.in-Err.ensures.fault,
     )
 
 pub returns-in-Ok : goal.returns-in-Ok
 returns-in-Ok g c =
     let (gained, out, gains, writes, answer) = c.answer_request.ensures in
-    (gained, out, gains, writes, asked_line (g.V.Service.seals c.args.service.now) (g.V.Service.may_seal c.args.visitor.now) c.args.line.now (line_view c.in-Ok.request) gained out c.in-Ok.ensures.ok answer)
+    (gained, out, gains, writes, asked_line (g.V.Service.ways c.args.service.now) (g.V.Service.may_seal c.args.visitor.now) c.args.line.now (line_view c.in-Ok.request) gained out c.in-Ok.ensures.ok answer)

@@ -11,18 +11,18 @@ use Rattle.tl_server.proofs.Later.{batched, unbatched}
 use Rattle.tl_server.proofs.outcome.put_batch.Goals as goal
 
 pub returns-in-Ok : goal.returns-in-Ok
-returns-in-Ok g c = λ seals r own w.
+returns-in-Ok g c = λ ways r own w.
     let base = c.args.base in
-    let P : Result (Vec (Result Receipt Refusal) Global) Refusal → Type 0 = λ answers. CameOf seals r own (Batched answers) in (
+    let P : Result (Vec (Result Receipt Refusal) Global) Refusal → Type 0 = λ answers. CameOf ways r own (Batched answers) in (
       _,
       writes_same c.put_batch_line.ensures (ap (λ rs. line_text (batch_text (map (later_answer base) rs))) c.deref.ensures.value),
-      batched seals r own base c.in-Ok.answers (subst P c.in-Ok.is w),
+      batched ways r own base c.in-Ok.answers (subst P c.in-Ok.is w),
     )
 
 pub returns-in-Err : goal.returns-in-Err
-returns-in-Err g c = λ seals r own w.
-    let P : Result (Vec (Result Receipt Refusal) Global) Refusal → Type 0 = λ answers. CameOf seals r own (Batched answers) in (
+returns-in-Err g c = λ ways r own w.
+    let P : Result (Vec (Result Receipt Refusal) Global) Refusal → Type 0 = λ answers. CameOf ways r own (Batched answers) in (
       _,
       writes_same c.put_error_line.ensures (ap (λ n. line_text (error_text n)) (c.as_slice.ensures.value ∙ c.numbers.ensures)),
-      unbatched seals r own c.args.base c.in-Err.refusal (subst P c.in-Err.is w),
+      unbatched ways r own c.args.base c.in-Err.refusal (subst P c.in-Err.is w),
     )
