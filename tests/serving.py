@@ -2,6 +2,7 @@
 
 import contextlib
 import json
+import os
 import socket
 import subprocess
 
@@ -19,15 +20,15 @@ def named(where, port, socket_file):
 
 
 class Server:
-    """A server on a tree of one node, with a control. Where no number of connections is given, it is one that lasts. Each of its two addresses is a
+    """A server on a tree, of one node if no other is named, with a control. Where no number of connections is given, it is one that lasts. Each of its two addresses is a
     port, or the path of a socket's file in the folder of the tests."""
 
-    def __init__(self, tests, *words, connections=100, port=None, control=None):
+    def __init__(self, tests, *words, connections=100, port=None, control=None, tree="examples/one-node.json", env=None, pass_fds=()):
         self.tests, self.port, self.control = tests, port or free_port(), control or free_port()
         served = [] if connections is None else ["--connections", str(connections)]
         options = [*named(self.port, "--port", "--socket"), *named(self.control, "--control", "--control-socket"), *served, *words]
-        self.process = subprocess.Popen([tests.program, "serve", "--tree", "examples/one-node.json", *options], cwd=tests.folder, text=True,
-                                        stdin=subprocess.DEVNULL, stdout=subprocess.PIPE, stderr=subprocess.PIPE)
+        self.process = subprocess.Popen([tests.program, "serve", "--tree", tree, *options], cwd=tests.folder, text=True, pass_fds=pass_fds,
+                                        env=None if env is None else {**os.environ, **env}, stdin=subprocess.DEVNULL, stdout=subprocess.PIPE, stderr=subprocess.PIPE)
         self.said = self.process.stderr.readline() + self.process.stderr.readline()
 
     def stop(self):

@@ -2,7 +2,7 @@
 
 /** Of each number when it is answered, and what to do then. */
 export const FAULTS = {
-  102: { meaning: "there are more than 4,096 nodes, or would be after a growth", advice: "split the tree, or append fewer nodes" },
+  102: { meaning: "there are more nodes than 4,096, or than `--nodes` says, or would be after a growth", advice: "let it have more by `--nodes`, up to 65535; or split the tree" },
   104: { meaning: "the parent of this node, or of this new one of a growth, is no node of a lower number", advice: "number the nodes so that each comes after its parent" },
   251: { meaning: "the line is no label, no instruction of the text's version and no comment, or stands at the wrong place", advice: "the first line is `arity N`, or `version 2` and then that; see `instructions.md`" },
   252: { meaning: "no line defines the label that this line uses", advice: "write the label on a line of its own, with `:` behind it" },

@@ -11,7 +11,7 @@ class Fault(NamedTuple):
 
 
 FAULTS: dict[int, Fault] = {
-    102: Fault('there are more than 4,096 nodes, or would be after a growth', 'split the tree, or append fewer nodes'),
+    102: Fault('there are more nodes than 4,096, or than `--nodes` says, or would be after a growth', 'let it have more by `--nodes`, up to 65535; or split the tree'),
     104: Fault('the parent of this node, or of this new one of a growth, is no node of a lower number', 'number the nodes so that each comes after its parent'),
     251: Fault("the line is no label, no instruction of the text's version and no comment, or stands at the wrong place", 'the first line is `arity N`, or `version 2` and then that; see `instructions.md`'),
     252: Fault('no line defines the label that this line uses', 'write the label on a line of its own, with `:` behind it'),

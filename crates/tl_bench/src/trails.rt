@@ -8,10 +8,11 @@ use std::alloc::Global;
 use tl_audit::{AuditFault, audit};
 use tl_serial_order::{Order, order_of};
 use tl_trail::{Trail, read_trail, write_trail};
+use tl_tree::USUAL_NODES;
 
 fn trail_in(alloc: Global, text: &[u8]) -> Option<Trail> {
     let text = std::str::from_utf8(text).ok()?;
-    read_trail(alloc, text).ok()
+    read_trail(alloc, text, USUAL_NODES).ok()
 }
 
 fn was_read(alloc: Global, text: &[u8], times: u32) -> Option<Measured> {

@@ -3,7 +3,7 @@
 use std::alloc::Global;
 use std::sync::Arc;
 use tl_instr::decode;
-use tl_tree::{Record, Shape, Tree};
+use tl_tree::{Record, Shape, Tree, USUAL_NODES};
 use tl_verify::{Proc, verify};
 
 // The opening record of a node: one to eight times the node's number.
@@ -27,7 +27,7 @@ pub fn tree_of(alloc: Global, parents: &[u16]) -> Option<Tree> {
     for parent in parents {
         numbers.push(i64::from(*parent)).ok()?;
     }
-    let shape = Shape::new(alloc, &numbers).ok()?;
+    let shape = Shape::new(alloc, &numbers, USUAL_NODES).ok()?;
     let nodes = shape.node_count();
     let mut records = Vec::with_capacity(alloc, usize::from(nodes)).ok()?;
     for node in 0..nodes {

@@ -4,7 +4,7 @@ use crate::asked::Asked;
 use std::alloc::Global;
 use std::sync::Arc;
 use tl_instr::decode;
-use tl_tree::{Record, Shape, Tree};
+use tl_tree::{Record, Shape, Tree, USUAL_NODES};
 use tl_verify::{Proc, verify};
 
 // The opening record of a node: one to eight times the node's number.
@@ -27,7 +27,7 @@ pub fn chains(alloc: Global, nodes: u16, chain: u16) -> Option<Tree> {
     for node in 0..nodes {
         parents.push(parent_of(node, chain)).ok()?;
     }
-    let shape = Shape::new(alloc, &parents).ok()?;
+    let shape = Shape::new(alloc, &parents, USUAL_NODES).ok()?;
     let count = shape.node_count();
     let mut records = Vec::with_capacity(alloc, usize::from(count)).ok()?;
     for node in 0..count {

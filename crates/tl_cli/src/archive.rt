@@ -39,6 +39,8 @@ pub struct Archive<R> {
     rt: R,
     trails: Trails,
     succession: Succession,
+    // How many nodes the tree may have.
+    nodes: u16,
     // How many engines were closed.
     count: u64,
     // What the last one did, until it is written; and whether the succession has taken it.
@@ -51,11 +53,12 @@ pub struct Archive<R> {
 }
 
 impl<R: Files + Eprint> Archive<R> {
-    pub fn new(rt: R, trails: Trails, succession: Succession) -> Archive<R> {
+    pub fn new(rt: R, trails: Trails, succession: Succession, nodes: u16) -> Archive<R> {
         Archive {
             rt,
             trails,
             succession,
+            nodes,
             count: 0,
             closed: None,
             is_taken: false,
@@ -175,7 +178,7 @@ impl<R: Files + Eprint> Keeper for Archive<R> {
     }
 
     fn check_growth(&self, parents: &[i64]) -> Result<(), GrowthFault> {
-        self.succession.check_growth(parents)
+        self.succession.check_growth(parents, self.nodes)
     }
 
     fn grow(&mut self, alloc: Global, parents: &[i64]) -> Result<u16, GrowthFault> {
@@ -183,7 +186,7 @@ impl<R: Files + Eprint> Keeper for Archive<R> {
             return Err(GrowthFault::Memory);
         }
         match self.take(alloc) {
-            Ok(()) => self.succession.grow(alloc, parents),
+            Ok(()) => self.succession.grow(alloc, parents, self.nodes),
             Err(fault) => {
                 if fault == CliFault::NotClosed {
                     self.broken = Some(fault);

@@ -19,6 +19,14 @@ fn tree_arg<'a>(alloc: Global) -> Arg<'a> {
         .help("The file of the tree, as JSON")
 }
 
+fn nodes_arg<'a>(alloc: Global) -> Arg<'a> {
+    Arg::new(alloc, "nodes")
+        .long("nodes")
+        .value_name("N")
+        .value_parser(value_parser!(u16).range(1..))
+        .help("How many nodes a tree may have, 1 to 65535; 4096 if not given")
+}
+
 fn save_arg<'a>(alloc: Global) -> Arg<'a> {
     Arg::new(alloc, "save").long("save").value_name("F").help(
         "The file that the tree is written to, as it is in the end",
@@ -50,6 +58,7 @@ fn alone_command<'a>(alloc: Global) -> Result<Command<'a>, AllocError> {
         .about("Runs a procedure alone on a tree, and prints its reply and the tree as it is then")
         .after_help(ALONE_HELP)
         .arg(tree_arg(alloc))?
+        .arg(nodes_arg(alloc))?
         .arg(procedure)?
         .arg(args)?
         .arg(save_arg(alloc))
@@ -127,6 +136,7 @@ fn widen_command<'a>(alloc: Global) -> Result<Command<'a>, AllocError> {
     Command::new(alloc, "widen")
         .about("Writes a tree with eight fields a record, and prints how many nodes it has")
         .after_help(WIDEN_HELP)
+        .arg(nodes_arg(alloc))?
         .arg(file_arg(alloc, "IN", "The file of the tree, as JSON"))?
         .arg(file_arg(alloc, "OUT", "The file that the new tree is written to"))
 }
@@ -146,6 +156,7 @@ fn audit_command<'a>(alloc: Global) -> Result<Command<'a>, AllocError> {
             "Says whether the calls of a trail may have done what it tells, and prints their order",
         )
         .after_help(AUDIT_HELP)
+        .arg(nodes_arg(alloc))?
         .arg(
             file_arg(
                 alloc,
@@ -169,6 +180,7 @@ fn drive_command<'a>(alloc: Global) -> Result<Command<'a>, AllocError> {
         .about("Runs a scripted interleaving and prints the result of each step")
         .after_help(DRIVE_HELP)
         .arg(tree_arg(alloc))?
+        .arg(nodes_arg(alloc))?
         .arg(script_procedures_arg(alloc))?
         .arg(trail_arg(alloc))?
         .arg(save_arg(alloc))?
@@ -186,6 +198,7 @@ fn run_command<'a>(alloc: Global) -> Result<Command<'a>, AllocError> {
         .about("Runs the calls of a script on a tree, many at once, and prints what came of each")
         .after_help(RUN_HELP)
         .arg(tree_arg(alloc))?
+        .arg(nodes_arg(alloc))?
         .arg(workers)?
         .arg(script_procedures_arg(alloc))?
         .arg(trail_arg(alloc))?
@@ -286,7 +299,8 @@ fn serve_command<'a>(alloc: Global) -> Result<Command<'a>, AllocError> {
             "Serves connections on a local port or a Unix socket, a request a line, and prints the tree in the end",
         )
         .after_help(SERVE_HELP)
-        .arg(tree_arg(alloc))?;
+        .arg(tree_arg(alloc))?
+        .arg(nodes_arg(alloc))?;
     let command = with_address_args(
         alloc,
         command,

@@ -7,6 +7,7 @@ use clap::error::ErrorKind;
 use clap::{ArgMatches, Error};
 use std::alloc::{AllocError, Global};
 use tl_server::Address;
+use tl_tree::USUAL_NODES;
 
 /// The files, if named, that are written as well as what is printed: the trail, and the final tree.
 #[derive(Clone, Copy)]
@@ -155,7 +156,8 @@ pub enum Request<'a> {
 /// The parsed command line: a request, a number to explain, or a text to show (help, or a mistake).
 #[derive(Drop)]
 pub enum Asked<'a> {
-    Request(Request<'a>),
+    /// A request, and how many nodes a tree may have in it.
+    Request { request: Request<'a>, nodes: u16 },
     Explanation { number: u16 },
     Told(Error),
     /// Options that don't go together, and why.
@@ -302,6 +304,17 @@ fn file_command<'a>(name: &str, words: &ArgMatches<'a>) -> Option<FileCommand<'a
     }
 }
 
+// How many nodes a tree may have in a command.
+fn nodes_of(name: &str, words: &ArgMatches<'_>) -> u16 {
+    match name {
+        "alone" | "audit" | "drive" | "run" | "serve" | "widen" => {
+            words.get_one("nodes").unwrap_or(USUAL_NODES)
+        }
+        // The others read no tree.
+        _ => USUAL_NODES,
+    }
+}
+
 // What the command line asks for. `None` if memory is refused, since each command has an arm.
 fn asked_of<'a>(alloc: Global, matches: &ArgMatches<'a>) -> Option<Asked<'a>> {
     let (name, words) = matches.subcommand()?;
@@ -309,21 +322,6 @@ fn asked_of<'a>(alloc: Global, matches: &ArgMatches<'a>) -> Option<Asked<'a>> {
         return Some(Asked::Explanation {
             number: words.get_one("NUMBER")?,
         });
-    }
-    if name == "stop" {
-        return Some(Asked::Request(Request::Stop {
-            control: address_of(words, "port", "socket")?,
-        }));
-    }
-    if name == "status" {
-        return Some(Asked::Request(Request::Status {
-            control: address_of(words, "port", "socket")?,
-        }));
-    }
-    if name == "audit" {
-        return Some(Asked::Request(Request::Audit {
-            trails: all_of(alloc, words, "TRAIL")?,
-        }));
     }
     if name == "serve" {
         if let Err(reason) = who_seals(words) {
@@ -333,10 +331,33 @@ fn asked_of<'a>(alloc: Global, matches: &ArgMatches<'a>) -> Option<Asked<'a>> {
             return Some(Asked::Mistaken(reason));
         }
     }
-    if let Some(command) = file_command(name, words) {
-        return Some(Asked::Request(Request::Files(command)));
+    Some(Asked::Request {
+        request: request_of(alloc, name, words)?,
+        nodes: nodes_of(name, words),
+    })
+}
+
+// What a command other than `explain` asks for. `None` if memory is refused.
+fn request_of<'a>(alloc: Global, name: &str, words: &ArgMatches<'a>) -> Option<Request<'a>> {
+    if name == "stop" {
+        return Some(Request::Stop {
+            control: address_of(words, "port", "socket")?,
+        });
     }
-    Some(Asked::Request(Request::Calls {
+    if name == "status" {
+        return Some(Request::Status {
+            control: address_of(words, "port", "socket")?,
+        });
+    }
+    if name == "audit" {
+        return Some(Request::Audit {
+            trails: all_of(alloc, words, "TRAIL")?,
+        });
+    }
+    if let Some(command) = file_command(name, words) {
+        return Some(Request::Files(command));
+    }
+    Some(Request::Calls {
         tree: words.get_str("tree")?,
         command: call_command(alloc, name, words)?,
         outputs: Outputs {
@@ -348,7 +369,7 @@ fn asked_of<'a>(alloc: Global, matches: &ArgMatches<'a>) -> Option<Asked<'a>> {
             },
             tree: words.get_str("save"),
         },
-    }))
+    })
 }
 
 /// Reads a command line, the program's name first.

@@ -81,11 +81,13 @@ where
         + Drop
         + Sync,
     K: Keeper + Finish + Send + Drop,
-    F: FnOnce(Trails, Succession) -> K + Drop,
+    F: FnOnce(Trails, Succession, u16) -> K + Drop,
     requires { F.IsAlwaysCallable archive }
 {
     match command_line::parse(rt.alloc(), words) {
-        Ok(Asked::Request(request)) => Program::new(rt, is_terminal).execute(&request, archive),
+        Ok(Asked::Request { request, nodes }) => {
+            Program::new(rt, is_terminal, nodes).execute(&request, archive)
+        }
         Ok(Asked::Explanation { number }) => explain::explain(rt, number),
         Ok(Asked::Told(error)) => tell(rt, &error),
         Ok(Asked::Mistaken(reason)) => {
@@ -104,7 +106,7 @@ fn main(rt: HostRuntime) -> ExitCode {
             &rt,
             &words,
             rt.stderr().is_terminal(),
-            |trails, succession| Archive::new(rt, trails, succession),
+            |trails, succession, nodes| Archive::new(rt, trails, succession, nodes),
         ),
         Err(status) => status,
     };

@@ -37,16 +37,21 @@ fn has_language(path: &str) -> bool {
     path.ends_with(".tdb")
 }
 
-// Where commands find their files, and whether people see on a terminal how far they are.
+// Where commands find their files, whether people see on a terminal how far they are, and how many nodes a tree may have.
 #[derive(Drop)]
 pub struct Program<'a, R> {
     rt: &'a R,
     is_terminal: bool,
+    nodes: u16,
 }
 
 impl<'a, R: Files + Print + Eprint + AllocGlobal> Program<'a, R> {
-    pub fn new(rt: &'a R, is_terminal: bool) -> Program<'a, R> {
-        Program { rt, is_terminal }
+    pub fn new(rt: &'a R, is_terminal: bool, nodes: u16) -> Program<'a, R> {
+        Program {
+            rt,
+            is_terminal,
+            nodes,
+        }
     }
 
     // The bytes of a file. 31 if it can't be read, 990 if memory was refused.
@@ -76,7 +81,7 @@ impl<'a, R: Files + Print + Eprint + AllocGlobal> Program<'a, R> {
     ) -> Result<String, Failure<'p>> {
         let tree = self.read_file(path)?;
         let procedure = self.read_file(procedure)?;
-        let done = alone_cmd(self.rt.alloc(), &tree, &procedure, args);
+        let done = alone_cmd(self.rt.alloc(), &tree, &procedure, args, self.nodes);
         done.map_err(|fault| self.misread(path, &tree, fault))
     }
 
@@ -152,7 +157,7 @@ impl<'a, R: Files + Print + Eprint + AllocGlobal> Program<'a, R> {
 
     fn widen<'p>(&self, old: &'p str, new: &'p str) -> Result<String, Failure<'p>> {
         let old = self.read_file(old)?;
-        let (line, text) = widen_cmd(self.rt.alloc(), &old)?;
+        let (line, text) = widen_cmd(self.rt.alloc(), &old, self.nodes)?;
         self.write_file(new, text.as_bytes())?;
         Ok(line)
     }
@@ -239,10 +244,11 @@ impl<'a, R: Files + Print + Eprint + AllocGlobal> Program<'a, R> {
         let tree = self.read_named(tree)?;
         let script = self.read_script(script)?;
         let Some(path) = trail else {
-            let driven = drive_cmd(self.rt.alloc(), &tree.bytes, &script.bytes);
+            let driven = drive_cmd(self.rt.alloc(), &tree.bytes, &script.bytes, self.nodes);
             return driven.map_err(|fault| self.misread_script(&tree, &script, fault));
         };
-        let driven = drive_with_trail_cmd(self.rt.alloc(), &tree.bytes, &script.bytes);
+        let (tree_bytes, script_bytes) = (&tree.bytes, &script.bytes);
+        let driven = drive_with_trail_cmd(self.rt.alloc(), tree_bytes, script_bytes, self.nodes);
         let (lines, trail) = match driven {
             Ok(driven) => driven,
             Err(fault) => return Err(self.misread_script(&tree, &script, fault)),
@@ -292,12 +298,20 @@ impl<'a, R: Files + Print + Eprint + AllocGlobal + Threads + Wait + Sync> Progra
         let alloc = self.rt.alloc();
         // The command line takes no other numbers.
         let workers = workers.clamp(1, MAX_WORKERS);
+        let (tree_bytes, script_bytes) = (&tree.bytes, &script.bytes);
         let Some(path) = trail else {
-            let ran = run_cmd(self.rt, alloc, &tree.bytes, &script.bytes, workers, &NoGate);
+            let ran = run_cmd(
+                self.rt,
+                alloc,
+                tree_bytes,
+                script_bytes,
+                workers,
+                &NoGate,
+                self.nodes,
+            );
             return ran.map_err(|fault| self.misread_script(&tree, &script, fault));
         };
         let mut file = TrailFile::new(self.rt, path);
-        let (tree_bytes, script_bytes) = (&tree.bytes, &script.bytes);
         let ran = run_with_trail_cmd(
             self.rt,
             alloc,
@@ -306,6 +320,7 @@ impl<'a, R: Files + Print + Eprint + AllocGlobal + Threads + Wait + Sync> Progra
             workers,
             &NoGate,
             &mut file,
+            self.nodes,
         );
         printed(path, file, ran)
     }
@@ -335,7 +350,7 @@ where
     ) -> Result<String, Failure<'p>>
     where
         K: Keeper + Finish + Send + Drop,
-        F: FnOnce(Trails, Succession) -> K + Drop,
+        F: FnOnce(Trails, Succession, u16) -> K + Drop,
         requires { F.IsAlwaysCallable archive }
     {
         let trail = outputs.trail;
@@ -377,7 +392,7 @@ where
     fn answer<'p, K, F>(&self, request: &Request<'p>, archive: F) -> Result<String, Failure<'p>>
     where
         K: Keeper + Finish + Send + Drop,
-        F: FnOnce(Trails, Succession) -> K + Drop,
+        F: FnOnce(Trails, Succession, u16) -> K + Drop,
         requires { F.IsAlwaysCallable archive }
     {
         match request {
@@ -398,7 +413,7 @@ where
     pub fn execute<'p, K, F>(&self, request: &Request<'p>, archive: F) -> u8
     where
         K: Keeper + Finish + Send + Drop,
-        F: FnOnce(Trails, Succession) -> K + Drop,
+        F: FnOnce(Trails, Succession, u16) -> K + Drop,
         requires { F.IsAlwaysCallable archive }
     {
         match self.answer(request, archive) {

@@ -31,20 +31,20 @@ none_left (b ∷ bs) (suc i) le = none_left bs i (omega (arith, le))
 
 -- ---- a chain has 1 to 256 trails
 
-so_many : (ds items : List Data) (ts : List TrailValue) → AreEach items ts → if_chain ds ≡ Some items → (0 < length ts) × (length ts ≤ 256)
-so_many ds items ts each is =
+so_many : (limit : ℕ) (ds items : List Data) (ts : List TrailValue) → AreEach limit items ts → if_chain ds ≡ Some items → (0 < length ts) × (length ts ≤ 256)
+so_many limit ds items ts each is =
     let h = cond_some (nat_le 1 (length ds) && nat_le (length ds) 256) ds items is in
     let b = and_parts (nat_le 1 (length ds)) (nat_le (length ds) 256) h.0 in
     let some = leb-true 1 (length ds) b.0 in
     let few = leb-true (length ds) 256 b.1 in
     let same = ap length h.1 in
-    let many = as_many items ts each in
+    let many = as_many limit items ts each in
     (omega (arith, some, same, many), omega (arith, few, same, many))
 
-pub chain_count : (text : List ℕ) (ts : List TrailValue) → IsChainText text ts → (0 < length ts) × (length ts ≤ 256)
-chain_count text ts h =
+pub chain_count : (limit : ℕ) (text : List ℕ) (ts : List TrailValue) → IsChainText limit text ts → (0 < length ts) × (length ts ≤ 256)
+chain_count limit text ts h =
     option_and_then_some chain_of (read text) h.items h.items_are
-    (λ d found listed. option_and_then_some if_chain (list_of d) h.items listed (λ ds seen few. so_many ds h.items ts h.each few))
+    (λ d found listed. option_and_then_some if_chain (list_of d) h.items listed (λ ds seen few. so_many limit ds h.items ts h.each few))
 
 -- ---- the last of some trails
 
@@ -54,14 +54,14 @@ last_pushed before (u ∷ us) t = last_pushed (AfterTrail u) us t
 
 -- ---- the fault of a file
 
-pub of_chain : (bytes : List ℕ) (e : CliFault) → IsUtf8 bytes → begins_with_list bytes ≡ true → IsFirstChainAuditFault bytes e → IsFirstAuditFault bytes e
-of_chain bytes e utf8 list wrong = inr (utf8, subst (λ b. IsFirstTextFault b bytes e) (sym list) wrong)
+pub of_chain : (limit : ℕ) (bytes : List ℕ) (e : CliFault) → IsUtf8 bytes → begins_with_list bytes ≡ true → IsFirstChainAuditFault limit bytes e → IsFirstAuditFault limit bytes e
+of_chain limit bytes e utf8 list wrong = inr (utf8, subst (λ b. IsFirstTextFault limit b bytes e) (sym list) wrong)
 
-pub of_trail : (bytes : List ℕ) (e : CliFault) → IsUtf8 bytes → begins_with_list bytes ≡ false → IsFirstTrailAuditFault bytes e → IsFirstAuditFault bytes e
-of_trail bytes e utf8 other wrong = inr (utf8, subst (λ b. IsFirstTextFault b bytes e) (sym other) wrong)
+pub of_trail : (limit : ℕ) (bytes : List ℕ) (e : CliFault) → IsUtf8 bytes → begins_with_list bytes ≡ false → IsFirstTrailAuditFault limit bytes e → IsFirstAuditFault limit bytes e
+of_trail limit bytes e utf8 other wrong = inr (utf8, subst (λ b. IsFirstTextFault limit b bytes e) (sym other) wrong)
 
-pub prints_chain : (bytes out : List ℕ) → IsUtf8 bytes → begins_with_list bytes ≡ true → AuditsChain bytes out → Audits bytes out
-prints_chain bytes out utf8 list done = record { utf8 = utf8; answer = subst (λ b. AuditsText b bytes out) (sym list) done }
+pub prints_chain : (limit : ℕ) (bytes out : List ℕ) → IsUtf8 bytes → begins_with_list bytes ≡ true → AuditsChain limit bytes out → Audits limit bytes out
+prints_chain limit bytes out utf8 list done = record { utf8 = utf8; answer = subst (λ b. AuditsText limit b bytes out) (sym list) done }
 
-pub prints_trail : (bytes out : List ℕ) → IsUtf8 bytes → begins_with_list bytes ≡ false → AuditsTrail bytes out → Audits bytes out
-prints_trail bytes out utf8 other done = record { utf8 = utf8; answer = subst (λ b. AuditsText b bytes out) (sym other) done }
+pub prints_trail : (limit : ℕ) (bytes out : List ℕ) → IsUtf8 bytes → begins_with_list bytes ≡ false → AuditsTrail limit bytes out → Audits limit bytes out
+prints_trail limit bytes out utf8 other done = record { utf8 = utf8; answer = subst (λ b. AuditsText limit b bytes out) (sym other) done }

@@ -16,10 +16,10 @@ use Rattle.tl_commands.specs.Trace.{trace_data}
 use Rattle.tl_json.specs.Registering.{TakenUp}
 use Rattle.tl_commands.specs.Drive.{IsConclusion, IsDriven, Prints}
 
-pub driven : (t s : List ℕ) (tree : TreeValue) (script : Script Move) (core after : CoreValue) (texts : List ProcedureText) (moves : List Move) (entries : List Entry)
-    → tree_of_text t ≡ Ok tree → IsScript script_of_moves s (script_view move_view script) → texts ≡ script.procedures.items → TakenUp [] (map procedure_form texts) core.procedures
-    → core ≡ core_with tree core.procedures → moves ≡ script.tasks.items → Traced core moves entries → after ≡ after_moves core moves entries → IsDriven t s entries after
-driven t s tree script core after texts moves entries tree_is script_is texts_are taken core_is moves_are traced after_is =
+pub driven : (limit : ℕ) (t s : List ℕ) (tree : TreeValue) (script : Script Move) (core after : CoreValue) (texts : List ProcedureText) (moves : List Move) (entries : List Entry)
+    → tree_of_text limit t ≡ Ok tree → IsScript script_of_moves s (script_view move_view script) → texts ≡ script.procedures.items → TakenUp [] (map procedure_form texts) core.procedures
+    → core ≡ core_with tree core.procedures → moves ≡ script.tasks.items → Traced core moves entries → after ≡ after_moves core moves entries → IsDriven limit t s entries after
+driven limit t s tree script core after texts moves entries tree_is script_is texts_are taken core_is moves_are traced after_is =
     record {
       tree = tree;
       script = script_view move_view script;
@@ -33,9 +33,9 @@ driven t s tree script core after texts moves entries tree_is script_is texts_ar
       after = after_is ∙ ap (λ v. after_moves v moves entries) core_is;
     }
 
-pub printed : (t s out : List ℕ) (after : CoreValue) (entries shown : List Entry) → IsDriven t s entries after → shown ≡ entries
-    → ((d : Data) × IsConclusion after d × (out ≡ lines_text (trace_data shown) d (tree_now after))) → Prints t s out after
-printed t s out after entries shown is same told = record {
+pub printed : (limit : ℕ) (t s out : List ℕ) (after : CoreValue) (entries shown : List Entry) → IsDriven limit t s entries after → shown ≡ entries
+    → ((d : Data) × IsConclusion after d × (out ≡ lines_text (trace_data shown) d (tree_now after))) → Prints limit t s out after
+printed limit t s out after entries shown is same told = record {
   entries = entries;
   conclusion = told.0;
   driven = is;

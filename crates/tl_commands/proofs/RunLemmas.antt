@@ -35,10 +35,10 @@ forms : (batches : List (Vec Request Global)) → map (map request_form) (batche
 forms [] = refl
 forms (b ∷ bs) = ap (λ xs. map request_form b.items ∷ xs) (forms bs)
 
-pub ready : (t s : List ℕ) (tree : TreeValue) (script : Script (Vec Request Global)) (core : CoreValue) (texts : List ProcedureText) (batches : List (Vec Request Global))
-    → tree_of_text t ≡ Ok tree → IsScript script_of_run s (script_view batch_form script) → texts ≡ script.procedures.items → TakenUp [] (map procedure_form texts) core.procedures
-    → batches ≡ script.tasks.items → IsReady t s (batches_of batches)
-ready t s tree script core texts batches tree_is script_is texts_are taken batches_are =
+pub ready : (limit : ℕ) (t s : List ℕ) (tree : TreeValue) (script : Script (Vec Request Global)) (core : CoreValue) (texts : List ProcedureText) (batches : List (Vec Request Global))
+    → tree_of_text limit t ≡ Ok tree → IsScript script_of_run s (script_view batch_form script) → texts ≡ script.procedures.items → TakenUp [] (map procedure_form texts) core.procedures
+    → batches ≡ script.tasks.items → IsReady limit t s (batches_of batches)
+ready limit t s tree script core texts batches tree_is script_is texts_are taken batches_are =
     record {
       tree = record { tree = tree; same = tree_is };
       script = script_view batch_form script;
@@ -139,21 +139,21 @@ left_open batches e (inl h) is = cc
 left_open batches e (inr (inl h)) is = let other : e ≡ Engine h.1 = h.2 in cc
 left_open batches e (inr (inr h)) is = cc
 
-wrong_file : (t s : List ℕ) (e : CliFault) → IsWrong script_of_run t s e → e ≢ Unwritable
-wrong_file t s e (inl h) is = let other : e ≡ Tree h.0 = h.1 in cc
-wrong_file t s e (inr (inl h)) is = let other : e ≡ NotScript = h.0 in cc
-wrong_file t s e (inr (inr h)) is = let other : e ≡ Register h.1 = h.2 in cc
+wrong_file : (limit : ℕ) (t s : List ℕ) (e : CliFault) → IsWrong limit script_of_run t s e → e ≢ Unwritable
+wrong_file limit t s e (inl h) is = let other : e ≡ Tree h.0 = h.1 in cc
+wrong_file limit t s e (inr (inl h)) is = let other : e ≡ NotScript = h.0 in cc
+wrong_file limit t s e (inr (inr h)) is = let other : e ≡ Register h.1 = h.2 in cc
 
-either : (t s : List ℕ) (e : CliFault) → IsWrong script_of_run t s e ⊎ ((batches : List (List Request)) × IsReady t s batches × IsLeftOpen batches e) → e ≢ Unwritable
-either t s e (inl h) = wrong_file t s e h
-either t s e (inr h) = left_open h.0 e h.2
+either : (limit : ℕ) (t s : List ℕ) (e : CliFault) → IsWrong limit script_of_run t s e ⊎ ((batches : List (List Request)) × IsReady limit t s batches × IsLeftOpen batches e) → e ≢ Unwritable
+either limit t s e (inl h) = wrong_file limit t s e h
+either limit t s e (inr h) = left_open h.0 e h.2
 
 -- refused memory isn't that a file can't be written
 pub memory_fault : (e : CliFault) → status_of e ≡ 4 → e ≢ Unwritable
 memory_fault e four is = let h : 3 ≡ 4 = ap status_of (sym is) ∙ four in absurd (omega (arith, h))
 
 -- nor is any fault of a run
-pub run_fault : (t s : List ℕ) (e : CliFault) → IsFirstRunFault t s e → e ≢ Unwritable
-run_fault t s e fault is =
+pub run_fault : (limit : ℕ) (t s : List ℕ) (e : CliFault) → IsFirstRunFault limit t s e → e ≢ Unwritable
+run_fault limit t s e fault is =
     let other : status_of e ≢ 4 = λ four. memory_fault e four is in
-    either t s e (fault other) is
+    either limit t s e (fault other) is

@@ -33,48 +33,48 @@ abbrev pub args_of_text : List ℕ → Option (List ℤ)
 args_of_text text = option_and_then integers_of (read text)
 
 -- The tree, the procedure and the arguments that the inputs stand for.
-pub record Inputs (tree_bytes code_bytes args_text : List ℕ) : Type 0 where
+pub record Inputs (limit : ℕ) (tree_bytes code_bytes args_text : List ℕ) : Type 0 where
   pub tree : TreeValue
   pub code : CodeValue
   pub args : List ℤ
-  pub tree_is : tree_of_text tree_bytes ≡ Ok tree
+  pub tree_is : tree_of_text limit tree_bytes ≡ Ok tree
   pub code_is : Spelled code_bytes code
   pub accepted : Acceptable code.instrs
   pub args_are : args_of_text args_text ≡ Some args
 
 -- What is printed is what the procedure does alone.
-pub record Prints (tree_bytes code_bytes args_text out : List ℕ) : Type 0 where
-  pub inputs : Inputs tree_bytes code_bytes args_text
+pub record Prints (limit : ℕ) (tree_bytes code_bytes args_text out : List ℕ) : Type 0 where
+  pub inputs : Inputs limit tree_bytes code_bytes args_text
   pub arity : length inputs.args ≡ inputs.code.arity
   pub same : out ≡ printed inputs.tree (outcome_of (alone inputs.code.instrs inputs.tree.parents inputs.args inputs.tree.records))
 
 -- the tree that the bytes of a file stand for
-pub record IsTreeFile (bytes : List ℕ) : Type 0 where
+pub record IsTreeFile (limit : ℕ) (bytes : List ℕ) : Type 0 where
   pub tree : TreeValue
-  pub same : tree_of_text bytes ≡ Ok tree
+  pub same : tree_of_text limit bytes ≡ Ok tree
 
 -- what is wrong with a file of a tree
-abbrev pub IsTreeFault : List ℕ → TreeFault → Type 0
-IsTreeFault t f = ((IsUtf8 t → ⊥) × (f ≡ tree.NotTree)) ⊎ (tree_of_text t ≡ Err f)
+abbrev pub IsTreeFault : ℕ → List ℕ → TreeFault → Type 0
+IsTreeFault limit t f = ((IsUtf8 t → ⊥) × (f ≡ tree.NotTree)) ⊎ (tree_of_text limit t ≡ Err f)
 
 -- The fault of the first input that has one: the tree, the container, the verifier, the arguments, their number.
-abbrev pub IsFirstAloneFault : List ℕ → List ℕ → List ℕ → CliFault → Type 0
-IsFirstAloneFault t c a (Tree f) = f ≢ tree.Memory → IsTreeFault t f
-IsFirstAloneFault t c a (Code f) = f ≢ code.Memory → IsTreeFile t × IsFirstCodeFault c f
-IsFirstAloneFault t c a (Verify f) = f ≢ verify.Memory → IsTreeFile t × (code' : CodeValue) × Spelled c code' × IsFirstFault code'.instrs f
-IsFirstAloneFault t c a NotArgs = IsTreeFile t × (code' : CodeValue) × Spelled c code' × Acceptable code'.instrs × (args_of_text a ≡ None)
-IsFirstAloneFault t c a WrongArgs = (inputs : Inputs t c a) × (length inputs.args ≢ inputs.code.arity)
-IsFirstAloneFault t c a Memory = Unit {0}
-IsFirstAloneFault t c a Unreadable = ⊥
-IsFirstAloneFault t c a Unwritable = ⊥
-IsFirstAloneFault t c a NoPort = ⊥
-IsFirstAloneFault t c a NotUtf8 = ⊥
-IsFirstAloneFault t c a (Asm f) = ⊥
-IsFirstAloneFault t c a (Register f) = ⊥
-IsFirstAloneFault t c a (Core f) = ⊥
-IsFirstAloneFault t c a (Trail f) = ⊥
-IsFirstAloneFault t c a (Audit f) = ⊥
-IsFirstAloneFault t c a (Chain f) = ⊥
-IsFirstAloneFault t c a (Engine r) = ⊥
-IsFirstAloneFault t c a NotClosed = ⊥
-IsFirstAloneFault t c a NotScript = ⊥
+abbrev pub IsFirstAloneFault : ℕ → List ℕ → List ℕ → List ℕ → CliFault → Type 0
+IsFirstAloneFault limit t c a (Tree f) = f ≢ tree.Memory → IsTreeFault limit t f
+IsFirstAloneFault limit t c a (Code f) = f ≢ code.Memory → IsTreeFile limit t × IsFirstCodeFault c f
+IsFirstAloneFault limit t c a (Verify f) = f ≢ verify.Memory → IsTreeFile limit t × (code' : CodeValue) × Spelled c code' × IsFirstFault code'.instrs f
+IsFirstAloneFault limit t c a NotArgs = IsTreeFile limit t × (code' : CodeValue) × Spelled c code' × Acceptable code'.instrs × (args_of_text a ≡ None)
+IsFirstAloneFault limit t c a WrongArgs = (inputs : Inputs limit t c a) × (length inputs.args ≢ inputs.code.arity)
+IsFirstAloneFault limit t c a Memory = Unit {0}
+IsFirstAloneFault limit t c a Unreadable = ⊥
+IsFirstAloneFault limit t c a Unwritable = ⊥
+IsFirstAloneFault limit t c a NoPort = ⊥
+IsFirstAloneFault limit t c a NotUtf8 = ⊥
+IsFirstAloneFault limit t c a (Asm f) = ⊥
+IsFirstAloneFault limit t c a (Register f) = ⊥
+IsFirstAloneFault limit t c a (Core f) = ⊥
+IsFirstAloneFault limit t c a (Trail f) = ⊥
+IsFirstAloneFault limit t c a (Audit f) = ⊥
+IsFirstAloneFault limit t c a (Chain f) = ⊥
+IsFirstAloneFault limit t c a (Engine r) = ⊥
+IsFirstAloneFault limit t c a NotClosed = ⊥
+IsFirstAloneFault limit t c a NotScript = ⊥

@@ -24,50 +24,50 @@ begins_with_list [] = false
 begins_with_list (b ∷ bs) = if (b == 32) || (b == 9) || (b == 10) || (b == 13) then begins_with_list bs else b == 91
 
 -- The trail is clean, and what is printed is the order that its events give.
-pub record AuditsTrail (bytes out : List ℕ) : Type 0 where
+pub record AuditsTrail (limit : ℕ) (bytes out : List ℕ) : Type 0 where
   pub trail : TrailValue
-  pub text : IsTrailText bytes trail
+  pub text : IsTrailText limit bytes trail
   pub clean : Clean trail
   pub same : out ≡ compact_text (order_data (placed trail.parents trail.past)) ++ 10 ∷ []
 
 -- The chain is clean, and what is printed are the orders that its trails' events give. All calls, run alone one after another along
 -- these orders joined, leave the records in the end, and give their replies.
-pub record AuditsChain (bytes out : List ℕ) : Type 0 where
+pub record AuditsChain (limit : ℕ) (bytes out : List ℕ) : Type 0 where
   pub trails : List TrailValue
-  pub text : IsChainText bytes trails
+  pub text : IsChainText limit bytes trails
   pub clean : IsCleanChain trails
   pub serial : AreSerial trails (map order_of trails)
   pub same : out ≡ compact_text (orders_data (map order_of trails)) ++ 10 ∷ []
 
 -- of a list those of a chain, of any other text those of a trail
-abbrev pub AuditsText : Bool → List ℕ → List ℕ → Type 0
-AuditsText true bytes out = AuditsChain bytes out
-AuditsText false bytes out = AuditsTrail bytes out
+abbrev pub AuditsText : ℕ → Bool → List ℕ → List ℕ → Type 0
+AuditsText limit true bytes out = AuditsChain limit bytes out
+AuditsText limit false bytes out = AuditsTrail limit bytes out
 
 -- the bytes are UTF-8, and those of a chain where a bracket comes first, else of a trail
-pub record Audits (bytes out : List ℕ) : Type 0 where
+pub record Audits (limit : ℕ) (bytes out : List ℕ) : Type 0 where
   pub utf8 : IsUtf8 bytes
-  pub answer : AuditsText (begins_with_list bytes) bytes out
+  pub answer : AuditsText limit (begins_with_list bytes) bytes out
 
 -- the first fault of the text, else the first of the trail; or want of memory
-abbrev pub IsFirstTrailAuditFault : List ℕ → CliFault → Type 0
-IsFirstTrailAuditFault bytes e = status_of e ≢ 4 →
-    ((f : TrailFault) × (e ≡ Trail f) × IsFirstTrailFault bytes f)
-    ⊎ ((t : TrailValue) × (f : AuditFault) × (e ≡ Audit f) × IsTrailText bytes t × IsFirstFault t f)
+abbrev pub IsFirstTrailAuditFault : ℕ → List ℕ → CliFault → Type 0
+IsFirstTrailAuditFault limit bytes e = status_of e ≢ 4 →
+    ((f : TrailFault) × (e ≡ Trail f) × IsFirstTrailFault limit bytes f)
+    ⊎ ((t : TrailValue) × (f : AuditFault) × (e ≡ Audit f) × IsTrailText limit bytes t × IsFirstFault t f)
 
 -- the first fault of the text, else the first of the chain; or want of memory
-abbrev pub IsFirstChainAuditFault : List ℕ → CliFault → Type 0
-IsFirstChainAuditFault bytes e = status_of e ≢ 4 →
-    ((f : TrailFault) × (e ≡ Trail f) × chains.IsFirstChainFault bytes f)
-    ⊎ ((ts : List TrailValue) × (f : ChainFault) × (e ≡ Chain f) × IsChainText bytes ts × IsFirstChainFault ts f)
+abbrev pub IsFirstChainAuditFault : ℕ → List ℕ → CliFault → Type 0
+IsFirstChainAuditFault limit bytes e = status_of e ≢ 4 →
+    ((f : TrailFault) × (e ≡ Trail f) × chains.IsFirstChainFault limit bytes f)
+    ⊎ ((ts : List TrailValue) × (f : ChainFault) × (e ≡ Chain f) × IsChainText limit bytes ts × IsFirstChainFault ts f)
 
 -- of a list what is wrong with a chain, of any other text what is wrong with a trail
-abbrev pub IsFirstTextFault : Bool → List ℕ → CliFault → Type 0
-IsFirstTextFault true bytes e = IsFirstChainAuditFault bytes e
-IsFirstTextFault false bytes e = IsFirstTrailAuditFault bytes e
+abbrev pub IsFirstTextFault : ℕ → Bool → List ℕ → CliFault → Type 0
+IsFirstTextFault limit true bytes e = IsFirstChainAuditFault limit bytes e
+IsFirstTextFault limit false bytes e = IsFirstTrailAuditFault limit bytes e
 
 -- 701 where the bytes are no UTF-8
-abbrev pub IsFirstAuditFault : List ℕ → CliFault → Type 0
-IsFirstAuditFault bytes e =
+abbrev pub IsFirstAuditFault : ℕ → List ℕ → CliFault → Type 0
+IsFirstAuditFault limit bytes e =
     ((e ≡ Trail NotTrail) × (IsUtf8 bytes → ⊥))
-    ⊎ (IsUtf8 bytes × IsFirstTextFault (begins_with_list bytes) bytes e)
+    ⊎ (IsUtf8 bytes × IsFirstTextFault limit (begins_with_list bytes) bytes e)

@@ -27,12 +27,12 @@ IsConclusion v d =
     ⊎ ((c : ℕ) × IsLeastUnfinished v.past c × (d ≡ unfinished_data c))
 
 -- What comes of the script's moves, on that tree and with the script's procedures: the entries, and the core then.
-pub record IsDriven (tree_bytes script_bytes : List ℕ) (entries : List Entry) (v : CoreValue) : Type 0 where
+pub record IsDriven (limit : ℕ) (tree_bytes script_bytes : List ℕ) (entries : List Entry) (v : CoreValue) : Type 0 where
   pub tree : TreeValue
   pub script : ScriptValue MoveValue
   pub procedures : List Named
   pub moves : List Move
-  pub tree_is : tree_of_text tree_bytes ≡ Ok tree
+  pub tree_is : tree_of_text limit tree_bytes ≡ Ok tree
   pub script_is : IsScript script_of_moves script_bytes script
   pub taken_up : TakenUp [] script.procedures procedures
   pub moves_are : map move_view moves ≡ script.tasks
@@ -40,20 +40,20 @@ pub record IsDriven (tree_bytes script_bytes : List ℕ) (entries : List Entry) 
   pub after : v ≡ after_moves (core_with tree procedures) moves entries
 
 -- What is printed is what comes of them; the core is this one then.
-pub record Prints (tree_bytes script_bytes out : List ℕ) (v : CoreValue) : Type 0 where
+pub record Prints (limit : ℕ) (tree_bytes script_bytes out : List ℕ) (v : CoreValue) : Type 0 where
   pub entries : List Entry
   pub conclusion : Data
-  pub driven : IsDriven tree_bytes script_bytes entries v
+  pub driven : IsDriven limit tree_bytes script_bytes entries v
   pub concluded : IsConclusion v conclusion
   pub same : out ≡ lines_text (trace_data entries) conclusion (tree_now v)
 
-abbrev pub Drives : List ℕ → List ℕ → List ℕ → Type 0
-Drives t s out = (v : CoreValue) × Prints t s out v
+abbrev pub Drives : ℕ → List ℕ → List ℕ → List ℕ → Type 0
+Drives limit t s out = (v : CoreValue) × Prints limit t s out v
 
 -- The same, and the file has the trail of that core, and a line feed.
-abbrev pub DrivesToTrail : List ℕ → List ℕ → List ℕ → List ℕ → Type 0
-DrivesToTrail t s out file = (v : CoreValue) × Prints t s out v × (file ≡ trail_text (trail_value v) ++ 10 ∷ [])
+abbrev pub DrivesToTrail : ℕ → List ℕ → List ℕ → List ℕ → List ℕ → Type 0
+DrivesToTrail limit t s out file = (v : CoreValue) × Prints limit t s out v × (file ≡ trail_text (trail_value v) ++ 10 ∷ [])
 
 -- the first fault, or want of memory
-abbrev pub IsFirstDriveFault : List ℕ → List ℕ → CliFault → Type 0
-IsFirstDriveFault t s e = status_of e ≢ 4 → IsWrong script_of_moves t s e
+abbrev pub IsFirstDriveFault : ℕ → List ℕ → List ℕ → CliFault → Type 0
+IsFirstDriveFault limit t s e = status_of e ≢ 4 → IsWrong limit script_of_moves t s e

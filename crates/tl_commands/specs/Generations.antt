@@ -13,9 +13,9 @@ abbrev pub first_legacy : TreeValue → LegacyValue
 first_legacy t = record { parents = t.parents; records = t.records; procedures = [] }
 
 -- the file has a tree, and nothing came after it yet
-pub record BeginsWithFile (file : List ℕ) (s : SuccessionValue) : Type 0 where
+pub record BeginsWithFile (limit : ℕ) (file : List ℕ) (s : SuccessionValue) : Type 0 where
   pub tree : TreeValue
-  pub text : tree_of_text file ≡ Ok tree
+  pub text : tree_of_text limit file ≡ Ok tree
   pub first : s.first ≡ first_legacy tree
   pub last : s.last ≡ first_legacy tree
 

@@ -16,14 +16,14 @@ use Rattle.tl_commands.specs.Audit.{begins_with_list}
 use Rattle.tl_commands.specs.Faults.{status_of}
 
 -- the trails of a text: of a list those of a chain, of any other text the only one
-abbrev pub AreTrailsOf : Bool → List ℕ → List TrailValue → Type 0
-AreTrailsOf true bytes ts = IsChainText bytes ts
-AreTrailsOf false bytes ts = (t : TrailValue) × (ts ≡ t ∷ []) × IsTrailText bytes t
+abbrev pub AreTrailsOf : ℕ → Bool → List ℕ → List TrailValue → Type 0
+AreTrailsOf limit true bytes ts = IsChainText limit bytes ts
+AreTrailsOf limit false bytes ts = (t : TrailValue) × (ts ≡ t ∷ []) × IsTrailText limit bytes t
 
 -- what is wrong with such a text first
-abbrev pub IsTextFault : Bool → List ℕ → TrailFault → Type 0
-IsTextFault true bytes f = IsFirstChainFault bytes f
-IsTextFault false bytes f = IsFirstTrailFault bytes f
+abbrev pub IsTextFault : ℕ → Bool → List ℕ → TrailFault → Type 0
+IsTextFault limit true bytes f = IsFirstChainFault limit bytes f
+IsTextFault limit false bytes f = IsFirstTrailFault limit bytes f
 
 -- of a list a fault is told with the number of its trail, of any other text as that of its only trail
 abbrev pub fault_of_file : Bool → ChainFault → CliFault
@@ -34,25 +34,25 @@ fault_of_file is_list f = Chain f
 -- clean. What is printed are the orders that their events
 -- give; all calls of the file, run alone one after another along them, leave the records in the end, and give their replies. The next file
 -- has to take over from the last trail.
-pub record AuditsNext (before : Option TrailValue) (bytes out : List ℕ) (last : TrailValue) : Type 0 where
+pub record AuditsNext (limit : ℕ) (before : Option TrailValue) (bytes out : List ℕ) (last : TrailValue) : Type 0 where
   pub utf8 : IsUtf8 bytes
   pub trails : List TrailValue
-  pub text : AreTrailsOf (begins_with_list bytes) bytes trails
+  pub text : AreTrailsOf limit (begins_with_list bytes) bytes trails
   pub clean : CleanAfter (after_file before) trails
   pub serial : AreSerial trails (map order_of trails)
   pub ends : last_after (after_file before) trails ≡ AfterTrail last
   pub same : out ≡ compact_text (orders_data (map order_of trails)) ++ 10 ∷ []
 
 -- the text's first fault
-abbrev pub IsUnread : List ℕ → CliFault → Type 0
-IsUnread bytes e = (f : TrailFault) × (e ≡ Trail f) × IsTextFault (begins_with_list bytes) bytes f
+abbrev pub IsUnread : ℕ → List ℕ → CliFault → Type 0
+IsUnread limit bytes e = (f : TrailFault) × (e ≡ Trail f) × IsTextFault limit (begins_with_list bytes) bytes f
 
 -- the first fault of the text's trails, of which the first doesn't take over, or is wrong, or else a later one
-abbrev pub IsUnclean : Option TrailValue → List ℕ → CliFault → Type 0
-IsUnclean before bytes e =
-    (ts : List TrailValue) × (f : ChainFault) × (e ≡ fault_of_file (begins_with_list bytes) f) × AreTrailsOf (begins_with_list bytes) bytes ts × IsFirstAfter 0 (after_file before) ts f
+abbrev pub IsUnclean : ℕ → Option TrailValue → List ℕ → CliFault → Type 0
+IsUnclean limit before bytes e =
+    (ts : List TrailValue) × (f : ChainFault) × (e ≡ fault_of_file (begins_with_list bytes) f) × AreTrailsOf limit (begins_with_list bytes) bytes ts × IsFirstAfter 0 (after_file before) ts f
 
 -- 701 where the bytes are no UTF-8, else the first fault of the text, else of its trails; or want of memory
-abbrev pub IsFirstNextFault : Option TrailValue → List ℕ → CliFault → Type 0
-IsFirstNextFault before bytes e = status_of e ≢ 4 →
-    ((e ≡ Trail NotTrail) × (IsUtf8 bytes → ⊥)) ⊎ (IsUtf8 bytes × (IsUnread bytes e ⊎ IsUnclean before bytes e))
+abbrev pub IsFirstNextFault : ℕ → Option TrailValue → List ℕ → CliFault → Type 0
+IsFirstNextFault limit before bytes e = status_of e ≢ 4 →
+    ((e ≡ Trail NotTrail) × (IsUtf8 bytes → ⊥)) ⊎ (IsUtf8 bytes × (IsUnread limit bytes e ⊎ IsUnclean limit before bytes e))

@@ -59,8 +59,8 @@ abbrev pub answers_of : List (Vec (Result Receipt Refusal) Global) → List (Lis
 answers_of answers = map (λ a. a.items) answers
 
 -- The tree's file has a tree, the script's procedures are taken up, and these are its calls.
-pub record IsReady (tree_bytes script_bytes : List ℕ) (batches : List (List Request)) : Type 0 where
-  pub tree : IsTreeFile tree_bytes
+pub record IsReady (limit : ℕ) (tree_bytes script_bytes : List ℕ) (batches : List (List Request)) : Type 0 where
+  pub tree : IsTreeFile limit tree_bytes
   pub script : BatchesValue
   pub procedures : List Named
   pub script_is : IsScript script_of_run script_bytes script
@@ -95,10 +95,10 @@ pub record AreAnswered (batches : List (List Request)) (answers : List (List (Re
 
 -- The script's calls were asked for, those of one batch in each epoch, and the epochs of the closed table say the same of them as the
 -- session.
-pub record IsRun (tree_bytes script_bytes : List ℕ) (answers : List (List (Result Receipt Refusal))) (es : List EpochValue) : Type 0 where
+pub record IsRun (limit : ℕ) (tree_bytes script_bytes : List ℕ) (answers : List (List (Result Receipt Refusal))) (es : List EpochValue) : Type 0 where
   pub batches : List (List Request)
   pub session : SessionValue
-  pub ready : IsReady tree_bytes script_bytes batches
+  pub ready : IsReady limit tree_bytes script_bytes batches
   pub answered : AreAnswered batches answers session
   pub as_many : length es ≡ length batches
   pub in_epochs : AreInEpochs answers
@@ -111,17 +111,17 @@ pub record PrintsRun (with_epochs : Bool) (answers : List (List (Result Receipt 
   pub closes : IsClosing with_epochs es closing
   pub same : out ≡ batch_lines answers ++ closing
 
-pub record Prints (tree_bytes script_bytes out : List ℕ) (es : List EpochValue) : Type 0 where
+pub record Prints (limit : ℕ) (tree_bytes script_bytes out : List ℕ) (es : List EpochValue) : Type 0 where
   pub answers : List (List (Result Receipt Refusal))
-  pub run : IsRun tree_bytes script_bytes answers es
+  pub run : IsRun limit tree_bytes script_bytes answers es
   pub printed : PrintsRun (has_epochs script_bytes) answers es out
 
-abbrev pub Runs : List ℕ → List ℕ → List ℕ → Type 0
-Runs t s out = (es : List EpochValue) × Prints t s out es
+abbrev pub Runs : ℕ → List ℕ → List ℕ → List ℕ → Type 0
+Runs limit t s out = (es : List EpochValue) × Prints limit t s out es
 
 -- The same, and the file has the trails of those epochs, with which nothing is wrong.
-abbrev pub RunsToTrail : List ℕ → List ℕ → List ℕ → Option (List ℕ) → Option (List ℕ) → Type 0
-RunsToTrail t s out old new = (es : List EpochValue) × Prints t s out es × FilesTrails es old new
+abbrev pub RunsToTrail : ℕ → List ℕ → List ℕ → List ℕ → Option (List ℕ) → Option (List ℕ) → Type 0
+RunsToTrail limit t s out old new = (es : List EpochValue) × Prints limit t s out es × FilesTrails es old new
 
 -- ---- faults
 
@@ -134,7 +134,7 @@ abbrev pub IsLeftOpen : List (List Request) → CliFault → Type 0
 IsLeftOpen batches e = (e ≡ Engine (refusal.Table TooManySessions)) ⊎ IsBrokenOff batches e
 
 -- what is wrong first, else why the engine doesn't close; or want of memory
-abbrev pub IsFirstRunFault : List ℕ → List ℕ → CliFault → Type 0
-IsFirstRunFault t s e = status_of e ≢ 4 →
-    IsWrong script_of_run t s e
-    ⊎ ((batches : List (List Request)) × IsReady t s batches × IsLeftOpen batches e)
+abbrev pub IsFirstRunFault : ℕ → List ℕ → List ℕ → CliFault → Type 0
+IsFirstRunFault limit t s e = status_of e ≢ 4 →
+    IsWrong limit script_of_run t s e
+    ⊎ ((batches : List (List Request)) × IsReady limit t s batches × IsLeftOpen batches e)

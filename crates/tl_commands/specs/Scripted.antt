@@ -39,8 +39,8 @@ abbrev pub lines_text : Data → Data → TreeValue → List ℕ
 lines_text first second tree = compact_text first ++ 10 ∷ two_lines_text second tree
 
 -- what is wrong first: the tree, else the script, else the first procedure that isn't taken up
-abbrev pub IsWrong : {A : Type 0} → (Data → Option (ScriptValue A)) → List ℕ → List ℕ → CliFault → Type 0
-IsWrong {A} script_of t s e =
-    ((f : TreeFault) × (e ≡ Tree f) × IsTreeFault t f)
-    ⊎ ((e ≡ NotScript) × IsTreeFile t × ((script : ScriptValue A) → ¬ IsScript script_of s script))
-    ⊎ ((script : ScriptValue A) × (f : RegisterFault) × (e ≡ Register f) × IsTreeFile t × IsScript script_of s script × IsFirstUnfit [] script.procedures f)
+abbrev pub IsWrong : {A : Type 0} → ℕ → (Data → Option (ScriptValue A)) → List ℕ → List ℕ → CliFault → Type 0
+IsWrong {A} limit script_of t s e =
+    ((f : TreeFault) × (e ≡ Tree f) × IsTreeFault limit t f)
+    ⊎ ((e ≡ NotScript) × IsTreeFile limit t × ((script : ScriptValue A) → ¬ IsScript script_of s script))
+    ⊎ ((script : ScriptValue A) × (f : RegisterFault) × (e ≡ Register f) × IsTreeFile limit t × IsScript script_of s script × IsFirstUnfit [] script.procedures f)

@@ -32,8 +32,8 @@ ConcludesToTrail sessions out old new = (es : List EpochValue) × ConcludesWith 
 -- ---- faults
 
 -- what is wrong with the tree's file; or want of memory
-abbrev pub IsOpeningFault : List ℕ → CliFault → Type 0
-IsOpeningFault t e = status_of e ≢ 4 → (f : TreeFault) × (e ≡ Tree f) × IsTreeFault t f
+abbrev pub IsOpeningFault : ℕ → List ℕ → CliFault → Type 0
+IsOpeningFault limit t e = status_of e ≢ 4 → (f : TreeFault) × (e ≡ Tree f) × IsTreeFault limit t f
 
 -- the engine doesn't close, or want of memory; of 831 nothing more is said, since the table isn't shown
 abbrev pub IsConclusionFault : CliFault → Type 0

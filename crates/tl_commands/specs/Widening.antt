@@ -13,12 +13,12 @@ abbrev pub nodes_text : ℕ → List ℕ
 nodes_text nodes = codes "{\"nodes\":" ++ decimal nodes ++ codes "}\n"
 
 -- The bytes are the text of a tree. What is printed tells its nodes, and the file has its text.
-pub record WidensTree (bytes out file : List ℕ) : Type 0 where
+pub record WidensTree (limit : ℕ) (bytes out file : List ℕ) : Type 0 where
   pub tree : TreeValue
-  pub read : tree_of_text bytes ≡ Ok tree
+  pub read : tree_of_text limit bytes ≡ Ok tree
   pub written : file ≡ tree_text tree ++ 10 ∷ []
   pub same : out ≡ nodes_text (length tree.parents)
 
 -- what is wrong with the tree first, or want of memory
-abbrev pub IsFirstWideningFault : List ℕ → CliFault → Type 0
-IsFirstWideningFault bytes e = status_of e ≢ 4 → (f : TreeFault) × (e ≡ Tree f) × IsTreeFault bytes f
+abbrev pub IsFirstWideningFault : ℕ → List ℕ → CliFault → Type 0
+IsFirstWideningFault limit bytes e = status_of e ≢ 4 → (f : TreeFault) × (e ≡ Tree f) × IsTreeFault limit bytes f

@@ -22,7 +22,7 @@ use tl_verify::{Proc, verify};
 fn procedure_of_file(alloc: Global, bytes: &[u8]) -> Result<Proc, CliFault>
     ensures spelled { IfOk result (λ p. Spelled bytes.now p) }
     ensures accepted { IfOk result (λ p. Acceptable p.instrs) }
-    ensures fault { IfErr result (λ e. (tree args : List ℕ) → IsTreeFile tree → IsFirstAloneFault tree bytes.now args e) }
+    ensures fault { IfErr result (λ e. (limit : ℕ) (tree args : List ℕ) → IsTreeFile limit tree → IsFirstAloneFault limit tree bytes.now args e) }
 {
     let code = match decode(alloc, bytes) {
         Ok(code) => code,
@@ -73,18 +73,19 @@ fn answer_line(alloc: Global, answer: &Answer) -> Result<String, AllocError>
 /// then the resulting tree. Takes the bytes of the tree's file, those of the procedure's container, and the arguments as
 /// text.
 ///
-/// The first fault, in this order: 106 (also if the tree isn't UTF-8), 101 to 105; the container's 201 to 206; the
+/// The first fault, in this order: 106 (also if the tree isn't UTF-8), 101 to 105, where the tree may have `limit` nodes; the container's 201 to 206; the
 /// verifier's 301 to 307 and 401 to 409; 732; 501. If memory was refused, 190, 290, 490 or 990.
 pub fn alone_cmd(
     alloc: Global,
     tree: &[u8],
     procedure: &[u8],
     args: &str,
+    limit: u16,
 ) -> Result<String, CliFault>
-    ensures printed { IfOk result (λ s. Prints tree.now procedure.now args.now (string_bytes s)) }
-    ensures fault { IfErr result (IsFirstAloneFault tree.now procedure.now args.now) }
+    ensures printed { IfOk result (λ s. Prints limit tree.now procedure.now args.now (string_bytes s)) }
+    ensures fault { IfErr result (IsFirstAloneFault limit tree.now procedure.now args.now) }
 {
-    let mut tree = match tree_of_file(alloc, tree) {
+    let mut tree = match tree_of_file(alloc, tree, limit) {
         Ok(tree) => tree,
         Err(fault) => return Err(CliFault::Tree(fault)),
     };

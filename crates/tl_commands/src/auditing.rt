@@ -55,11 +55,12 @@ fn audit_trail_text<P: Progress>(
     alloc: Global,
     text: &str,
     progress: &mut P,
+    limit: u16,
 ) -> Result<String, CliFault>
-    ensures printed { IfOk result (λ s. AuditsTrail text.now (string_bytes s)) }
-    ensures fault { IfErr result (λ e. IsFirstTrailAuditFault text.now e) }
+    ensures printed { IfOk result (λ s. AuditsTrail limit text.now (string_bytes s)) }
+    ensures fault { IfErr result (λ e. IsFirstTrailAuditFault limit text.now e) }
 {
-    let trail = match read_trail(alloc, text) {
+    let trail = match read_trail(alloc, text, limit) {
         Ok(trail) => trail,
         Err(fault) => return Err(CliFault::Trail(fault)),
     };
@@ -74,11 +75,12 @@ fn audit_chain_text<P: Progress>(
     alloc: Global,
     text: &str,
     progress: &mut P,
+    limit: u16,
 ) -> Result<String, CliFault>
-    ensures printed { IfOk result (λ s. AuditsChain text.now (string_bytes s)) }
-    ensures fault { IfErr result (λ e. IsFirstChainAuditFault text.now e) }
+    ensures printed { IfOk result (λ s. AuditsChain limit text.now (string_bytes s)) }
+    ensures fault { IfErr result (λ e. IsFirstChainAuditFault limit text.now e) }
 {
-    let trails = match read_chain(alloc, text) {
+    let trails = match read_chain(alloc, text, limit) {
         Ok(trails) => trails,
         Err(fault) => return Err(CliFault::Trail(fault)),
     };
@@ -91,7 +93,7 @@ fn audit_chain_text<P: Progress>(
 /// The order of the calls of a clean trail, or the order of each trail of a clean chain, as the line to print. A file that
 /// is a list is a chain; any other file is a trail. Takes the bytes of the file, and a receiver for the audit's progress.
 ///
-/// The first fault, in this order: 701 (also if the file isn't UTF-8); 101 to 105 of its tree; for each procedure 251 to
+/// The first fault, in this order: 701 (also if the file isn't UTF-8); 101 to 105 of its tree, which may have `limit` nodes; for each procedure 251 to
 /// 254, 301 to 307, 401 to 409, 612, 611, 613; 603; for each call 601, 501; 701 again, if an event or a final record has no
 /// place; and then for the calls themselves 711 to 713 at the first event, 715, 714 or 717 at the least call, and 716. The
 /// trails of a chain are read first, one after another. Then, for each, 718 if it doesn't take over where the one before it
@@ -100,35 +102,41 @@ pub fn audit_cmd<P: Progress>(
     alloc: Global,
     file: &[u8],
     progress: &mut P,
+    limit: u16,
 ) -> Result<String, CliFault>
-    ensures printed { IfOk result (λ s. Audits file.now (string_bytes s)) }
-    ensures fault { IfErr result (λ e. IsFirstAuditFault file.now e) }
+    ensures printed { IfOk result (λ s. Audits limit file.now (string_bytes s)) }
+    ensures fault { IfErr result (λ e. IsFirstAuditFault limit file.now e) }
 {
     let Ok(text) = std::str::from_utf8(file) else {
         return Err(CliFault::Trail(TrailFault::NotTrail));
     };
     if begins_with_list(text) {
-        audit_chain_text(alloc, text, progress)
+        audit_chain_text(alloc, text, progress, limit)
     } else {
-        audit_trail_text(alloc, text, progress)
+        audit_trail_text(alloc, text, progress, limit)
     }
 }
 
 // The trails of a file: those of a chain if it is a list, else the only one.
-fn trails_of_text(alloc: Global, text: &str, is_list: bool) -> Result<Vec<Trail>, CliFault>
-    ensures ok { IfOk result (λ ts. AreTrailsOf is_list text.now ts.items) }
+fn trails_of_text(
+    alloc: Global,
+    text: &str,
+    is_list: bool,
+    limit: u16,
+) -> Result<Vec<Trail>, CliFault>
+    ensures ok { IfOk result (λ ts. AreTrailsOf limit is_list text.now ts.items) }
     ensures some { IfOk result (λ ts. 0 < length ts.items) }
     ensures few { IfOk result (λ ts. length ts.items ≤ MAX_TRAILS) }
-    ensures fault { IfErr result (λ e. status_of e ≢ 4 → (f : TrailFault) × (e ≡ CliFault.Trail f) × IsTextFault is_list text.now f) }
+    ensures fault { IfErr result (λ e. status_of e ≢ 4 → (f : TrailFault) × (e ≡ CliFault.Trail f) × IsTextFault limit is_list text.now f) }
 {
     if is_list {
-        return match read_chain(alloc, text) {
+        return match read_chain(alloc, text, limit) {
             Ok(trails) => Ok(trails),
             Err(fault) => Err(CliFault::Trail(fault)),
         };
     }
     let mut trails = Vec::with_capacity(alloc, 1)?;
-    match read_trail(alloc, text) {
+    match read_trail(alloc, text, limit) {
         Ok(trail) => {
             trails.push_reserved(trail);
             Ok(trails)
@@ -190,15 +198,16 @@ pub fn audit_next_cmd<P: Progress>(
     file: &[u8],
     before: Option<&Trail>,
     progress: &mut P,
+    limit: u16,
 ) -> Result<(String, Trail), CliFault>
-    ensures printed { IfOk result (λ r. AuditsNext (option_copied before.entry) file.now (string_bytes r.0) r.1) }
-    ensures fault { IfErr result (λ e. IsFirstNextFault (option_copied before.entry) file.now e) }
+    ensures printed { IfOk result (λ r. AuditsNext limit (option_copied before.entry) file.now (string_bytes r.0) r.1) }
+    ensures fault { IfErr result (λ e. IsFirstNextFault limit (option_copied before.entry) file.now e) }
 {
     let Ok(text) = std::str::from_utf8(file) else {
         return Err(CliFault::Trail(TrailFault::NotTrail));
     };
     let is_list = begins_with_list(text);
-    let trails = trails_of_text(alloc, text, is_list)?;
+    let trails = trails_of_text(alloc, text, is_list, limit)?;
     match orders_after(alloc, before, &trails, is_list, progress) {
         Ok(line) => Ok((line, last_of(trails))),
         Err(fault) => Err(fault),

@@ -50,11 +50,11 @@ pub struct Driven {
 }
 
 // Carries out a script on a tree.
-fn drive_script(alloc: Global, tree: &[u8], script: &[u8]) -> Result<Driven, CliFault>
-    ensures ok { IfOk result (λ d. IsDriven tree.now script.now d.trace.items d.core.seen) }
-    ensures fault { IfErr result (λ e. IsFirstDriveFault tree.now script.now e) }
+fn drive_script(alloc: Global, tree: &[u8], script: &[u8], limit: u16) -> Result<Driven, CliFault>
+    ensures ok { IfOk result (λ d. IsDriven limit tree.now script.now d.trace.items d.core.seen) }
+    ensures fault { IfErr result (λ e. IsFirstDriveFault limit tree.now script.now e) }
 {
-    let tree = match tree_of_file(alloc, tree) {
+    let tree = match tree_of_file(alloc, tree, limit) {
         Ok(tree) => tree,
         Err(fault) => return Err(CliFault::Tree(fault)),
     };
@@ -69,14 +69,14 @@ fn drive_script(alloc: Global, tree: &[u8], script: &[u8]) -> Result<Driven, Cli
 /// Carries out a script on a tree, and returns the lines to print: the result of each move; the order of the calls, or 651
 /// and the least unfinished call; and the resulting tree. Takes the bytes of the tree's file and those of the script.
 ///
-/// The first fault, in this order: 106 (also if the tree isn't UTF-8), 101 to 105; 731; then for each procedure the
+/// The first fault, in this order: 106 (also if the tree isn't UTF-8), 101 to 105, where the tree may have `limit` nodes; 731; then for each procedure the
 /// assembler's 251 to 254, the verifier's 301 to 307 and 401 to 409, and 612, 611, 613. If memory was refused, 190, 290,
 /// 490, 690 or 990.
-pub fn drive_cmd(alloc: Global, tree: &[u8], script: &[u8]) -> Result<String, CliFault>
-    ensures printed { IfOk result (λ s. Drives tree.now script.now (string_bytes s)) }
-    ensures fault { IfErr result (λ e. IsFirstDriveFault tree.now script.now e) }
+pub fn drive_cmd(alloc: Global, tree: &[u8], script: &[u8], limit: u16) -> Result<String, CliFault>
+    ensures printed { IfOk result (λ s. Drives limit tree.now script.now (string_bytes s)) }
+    ensures fault { IfErr result (λ e. IsFirstDriveFault limit tree.now script.now e) }
 {
-    let driven = drive_script(alloc, tree, script)?;
+    let driven = drive_script(alloc, tree, script, limit)?;
     lines(alloc, &driven.core, &driven.trace)
 }
 
@@ -85,11 +85,12 @@ pub fn drive_with_trail_cmd(
     alloc: Global,
     tree: &[u8],
     script: &[u8],
+    limit: u16,
 ) -> Result<(String, String), CliFault>
-    ensures printed { IfOk result (λ r. DrivesToTrail tree.now script.now (string_bytes r.0) (string_bytes r.1)) }
-    ensures fault { IfErr result (λ e. IsFirstDriveFault tree.now script.now e) }
+    ensures printed { IfOk result (λ r. DrivesToTrail limit tree.now script.now (string_bytes r.0) (string_bytes r.1)) }
+    ensures fault { IfErr result (λ e. IsFirstDriveFault limit tree.now script.now e) }
 {
-    let driven = drive_script(alloc, tree, script)?;
+    let driven = drive_script(alloc, tree, script, limit)?;
     let text = lines(alloc, &driven.core, &driven.trace)?;
     let trail = trail_file(alloc, &driven.core)?;
     Ok((text, trail))

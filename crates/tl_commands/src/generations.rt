@@ -53,13 +53,17 @@ impl Generation {
 /// The first engine of a line of engines, for calls on the tree of a file, without procedures; and the succession, which begins with that
 /// tree. The engine seals its epochs by itself. Takes the bytes of the file.
 ///
-/// 106 (also if the tree isn't UTF-8), 101 to 105. If memory was refused, 190, 690, 890 or 990.
-pub fn open_generations(alloc: Global, tree: &[u8]) -> Result<(Engine, Succession), CliFault>
+/// 106 (also if the tree isn't UTF-8), 101 to 105, where the tree may have `limit` nodes. If memory was refused, 190, 690, 890 or 990.
+pub fn open_generations(
+    alloc: Global,
+    tree: &[u8],
+    limit: u16,
+) -> Result<(Engine, Succession), CliFault>
     ensures seals { IfOk result (λ r. r.0.seals ≡ true) }
-    ensures opened { IfOk result (λ r. BeginsWithFile tree.now r.1) }
-    ensures fault { IfErr result (λ e. IsOpeningFault tree.now e) }
+    ensures opened { IfOk result (λ r. BeginsWithFile limit tree.now r.1) }
+    ensures fault { IfErr result (λ e. IsOpeningFault limit tree.now e) }
 {
-    let core = core_of_file(alloc, tree)?;
+    let core = core_of_file(alloc, tree, limit)?;
     let succession = Succession::new(alloc, &core)?;
     match sealing_engine(alloc, core) {
         Ok(engine) => Ok((engine, succession)),

@@ -18,13 +18,13 @@ use tl_history::MAX_EVENTS;
 use tl_json::{ProcedureText, register_all};
 use tl_tree::{Tree, TreeFault, read_tree};
 
-/// The tree in a file. 106 if the file isn't UTF-8 or has another form, then 101 to 105.
-pub fn tree_of_file(alloc: Global, bytes: &[u8]) -> Result<Tree, TreeFault>
-    ensures ok { IfOk result (λ t. tree_of_text bytes.now ≡ Ok t) }
-    ensures fault { IfErr result (λ f. f ≢ TreeFault.Memory → IsTreeFault bytes.now f) }
+/// The tree of at most `limit` nodes in a file. 106 if the file isn't UTF-8 or has another form, then 101 to 105.
+pub fn tree_of_file(alloc: Global, bytes: &[u8], limit: u16) -> Result<Tree, TreeFault>
+    ensures ok { IfOk result (λ t. tree_of_text limit bytes.now ≡ Ok t) }
+    ensures fault { IfErr result (λ f. f ≢ TreeFault.Memory → IsTreeFault limit bytes.now f) }
 {
     match std::str::from_utf8(bytes) {
-        Ok(text) => read_tree(alloc, text),
+        Ok(text) => read_tree(alloc, text, limit),
         Err(_) => Err(TreeFault::NotTree),
     }
 }

@@ -121,14 +121,15 @@ fn run_script<R: Threads + Wait + Sync, G: Gate + Sync>(
     script: &[u8],
     workers: usize,
     gate: &G,
+    limit: u16,
 ) -> Result<Ran, CliFault>
     requires one { 1 ≤ workers }
     requires workers { workers ≤ MAX_WORKERS }
-    ensures ok { IfOk result (λ r. IsRun tree.now script.now (answers_of r.answers.items) r.chain.items) }
+    ensures ok { IfOk result (λ r. IsRun limit tree.now script.now (answers_of r.answers.items) r.chain.items) }
     ensures epochs { IfOk result (λ r. r.has_epochs ≡ has_epochs script.now) }
-    ensures fault { IfErr result (λ e. IsFirstRunFault tree.now script.now e) }
+    ensures fault { IfErr result (λ e. IsFirstRunFault limit tree.now script.now e) }
 {
-    let tree = match tree_of_file(alloc, tree) {
+    let tree = match tree_of_file(alloc, tree, limit) {
         Ok(tree) => tree,
         Err(fault) => return Err(CliFault::Tree(fault)),
     };
@@ -165,7 +166,7 @@ fn lines(alloc: Global, ran: &Ran) -> Result<String, CliFault>
 /// Takes the bytes of the tree's file and those of the script. If the script has several lists of calls, the table is
 /// sealed between two.
 ///
-/// The first fault, in this order: 106 (also if the tree isn't UTF-8), 101 to 105; 731; then for each procedure the
+/// The first fault, in this order: 106 (also if the tree isn't UTF-8), 101 to 105, where the tree may have `limit` nodes; 731; then for each procedure the
 /// assembler's 251 to 254, the verifier's 301 to 307 and 401 to 409, and 612, 611, 613; 606 or 808 if the table isn't sealed
 /// between two lists; 821; 831 if the engine that ran the calls doesn't close, or has a call in another epoch than that of
 /// its list. If memory was refused, 190, 290, 490, 690, 890 or 990.
@@ -176,13 +177,14 @@ pub fn run_cmd<R: Threads + Wait + Sync, G: Gate + Sync>(
     script: &[u8],
     workers: usize,
     gate: &G,
+    limit: u16,
 ) -> Result<String, CliFault>
     requires one { 1 ≤ workers }
     requires workers { workers ≤ MAX_WORKERS }
-    ensures printed { IfOk result (λ s. Runs tree.now script.now (string_bytes s)) }
-    ensures fault { IfErr result (λ e. IsFirstRunFault tree.now script.now e) }
+    ensures printed { IfOk result (λ s. Runs limit tree.now script.now (string_bytes s)) }
+    ensures fault { IfErr result (λ e. IsFirstRunFault limit tree.now script.now e) }
 {
-    let ran = run_script(rt, alloc, tree, script, workers, gate)?;
+    let ran = run_script(rt, alloc, tree, script, workers, gate, limit)?;
     lines(alloc, &ran)
 }
 
@@ -196,14 +198,15 @@ pub fn run_with_trail_cmd<R: Threads + Wait + Sync, G: Gate + Sync, S: TrailSink
     workers: usize,
     gate: &G,
     sink: &mut S,
+    limit: u16,
 ) -> Result<String, CliFault>
     requires one { 1 ≤ workers }
     requires workers { workers ≤ MAX_WORKERS }
-    ensures printed { IfOk result (λ s. RunsToTrail tree.now script.now (string_bytes s) (S.text sink.old) (S.text sink.new)) }
+    ensures printed { IfOk result (λ s. RunsToTrail limit tree.now script.now (string_bytes s) (S.text sink.old) (S.text sink.new)) }
     ensures fine { OnOk result (S.failures sink.new ≡ S.failures sink.old) }
-    ensures fault { IfErr result (λ e. IsSinkFault (S.failures sink.old) (S.failures sink.new) (IsFirstRunFault tree.now script.now e) e) }
+    ensures fault { IfErr result (λ e. IsSinkFault (S.failures sink.old) (S.failures sink.new) (IsFirstRunFault limit tree.now script.now e) e) }
 {
-    let ran = run_script(rt, alloc, tree, script, workers, gate)?;
+    let ran = run_script(rt, alloc, tree, script, workers, gate, limit)?;
     let text = lines(alloc, &ran)?;
     put_trails(alloc, &ran.chain, sink)?;
     Ok(text)

@@ -25,11 +25,11 @@ use tl_table::Closed;
 use tl_workers::{Engine, Session};
 
 /// A core of the tree of a file, without procedures and calls.
-pub fn core_of_file(alloc: Global, tree: &[u8]) -> Result<Core, CliFault>
-    ensures ok { IfOk result (λ core. (t : TreeValue) × (tree_of_text tree.now ≡ Ok t) × (core.seen ≡ core_with t [])) }
-    ensures fault { IfErr result (λ e. IsOpeningFault tree.now e) }
+pub fn core_of_file(alloc: Global, tree: &[u8], limit: u16) -> Result<Core, CliFault>
+    ensures ok { IfOk result (λ core. (t : TreeValue) × (tree_of_text limit tree.now ≡ Ok t) × (core.seen ≡ core_with t [])) }
+    ensures fault { IfErr result (λ e. IsOpeningFault limit tree.now e) }
 {
-    let tree = match tree_of_file(alloc, tree) {
+    let tree = match tree_of_file(alloc, tree, limit) {
         Ok(tree) => tree,
         Err(fault) => return Err(CliFault::Tree(fault)),
     };
@@ -41,12 +41,12 @@ pub fn core_of_file(alloc: Global, tree: &[u8]) -> Result<Core, CliFault>
 
 /// An engine for calls on the tree of a file, without procedures. Takes the bytes of the file.
 ///
-/// 106 (also if the tree isn't UTF-8), 101 to 105. If memory was refused, 190, 690, 890 or 990.
-pub fn open_engine(alloc: Global, tree: &[u8]) -> Result<Engine, CliFault>
-    ensures opened { OnOk result (IsTreeFile tree.now) }
-    ensures fault { IfErr result (λ e. IsOpeningFault tree.now e) }
+/// 106 (also if the tree isn't UTF-8), 101 to 105, where the tree may have `limit` nodes. If memory was refused, 190, 690, 890 or 990.
+pub fn open_engine(alloc: Global, tree: &[u8], limit: u16) -> Result<Engine, CliFault>
+    ensures opened { OnOk result (IsTreeFile limit tree.now) }
+    ensures fault { IfErr result (λ e. IsOpeningFault limit tree.now e) }
 {
-    let core = core_of_file(alloc, tree)?;
+    let core = core_of_file(alloc, tree, limit)?;
     Ok(Engine::of_core(alloc, core)?)
 }
 

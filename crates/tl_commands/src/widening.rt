@@ -45,11 +45,11 @@ fn tree_file(alloc: Global, tree: &Tree) -> Result<String, CliFault>
 /// of the tree's file. If its records all have four fields, the others are 0.
 ///
 /// Otherwise the tree's first fault, 101 to 106. If memory was refused, 190 or 990.
-pub fn widen_cmd(alloc: Global, tree: &[u8]) -> Result<(String, String), CliFault>
-    ensures printed { IfOk result (λ r. WidensTree tree.now (string_bytes r.0) (string_bytes r.1)) }
-    ensures fault { IfErr result (λ e. IsFirstWideningFault tree.now e) }
+pub fn widen_cmd(alloc: Global, tree: &[u8], limit: u16) -> Result<(String, String), CliFault>
+    ensures printed { IfOk result (λ r. WidensTree limit tree.now (string_bytes r.0) (string_bytes r.1)) }
+    ensures fault { IfErr result (λ e. IsFirstWideningFault limit tree.now e) }
 {
-    let tree = match tree_of_file(alloc, tree) {
+    let tree = match tree_of_file(alloc, tree, limit) {
         Ok(tree) => tree,
         Err(fault) => return Err(CliFault::Tree(fault)),
     };

@@ -50,12 +50,10 @@ lower_test : (p x : ℕ) → p < x → is_lower (pos p) x ≡ true
 lower_test p x less = grind (arith, nat_tests)
 
 -- where nodes can be appended nothing but memory is a fault
-pub only_memory : (parents : List ℕ) (zs : List ℤ) (added : List ℕ) (e : GrowthFault) → 0 < length parents → CanGrow parents zs added → IsGrowthFault (length parents) zs e
-    → e ≡ Memory
-only_memory parents zs added TooMany some can h =
-    let few = can.tree.few in
-    absurd (omega (arith, h, few, length-append parents added, length-map added pos, ap length can.same))
-only_memory parents zs added (BadParent i) some can h =
+pub only_memory : (limit : ℕ) (parents : List ℕ) (zs : List ℤ) (added : List ℕ) (e : GrowthFault) → 0 < length parents → CanGrow parents zs added
+    → length parents + length zs ≤ limit → IsGrowthFault limit (length parents) zs e → e ≡ Memory
+only_memory limit parents zs added TooMany some can few h = absurd (omega (arith, h, few))
+only_memory limit parents zs added (BadParent i) some can few h =
     let count = length parents in
     let bad = h.1 in
     let size : length added ≡ length zs = sym (length-map added pos) ∙ ap length can.same in
@@ -66,7 +64,7 @@ only_memory parents zs added (BadParent i) some can h =
     let at : get_or zs i (pos 0) ≡ pos (get_or added i 0) = ap (λ xs. get_or xs i (pos 0)) (sym can.same) ∙ get_or-map pos added i 0 (pos 0) inside in
     let good : is_lower (get_or zs i (pos 0)) (count + i) ≡ true = ap (λ z. is_lower z (count + i)) at ∙ lower_test (get_or added i 0) (count + i) less in
     absurd (let e : true ≡ false = sym good ∙ bad.bad in cc)
-only_memory parents zs added Memory some can h = refl
+only_memory limit parents zs added Memory some can few h = refl
 
 -- all parents as integers
 pub all_integers : (parents added : List ℕ) (zs : List ℤ) → map pos added ≡ zs → map pos (parents ++ added) ≡ map pos parents ++ zs

@@ -3,7 +3,6 @@ use Rattle.std.specs.Prelude.{◌≡◌, ℕ, ◌+◌, ◌<◌, ◌≤◌, ℤ, 
 use Rattle.tl_width.specs.Fields.{field_count}
 use Rattle.tl_tree.specs.Records.{Record, Records}
 use Rattle.tl_tree.specs.Shape.{IsTree, is_lower}
-use Rattle.tl_tree.specs.declared.shape.TheConstants.{MAX_NODES}
 use Rattle.tl_generations.specs.declared.growth.GrowthFault.{GrowthFault}
 use Rattle.tl_generations.specs.declared.growth.GrowthFault.TheVariants.{TooMany, BadParent, Memory}
 
@@ -30,11 +29,12 @@ pub record IsFirstBad (first : ℕ) (integers : List ℤ) (i : ℕ) : Type 0 whe
   pub bad : is_lower (slice_index_or integers i (pos 0)) (first + i) ≡ false
   pub least : AreLower first integers i
 
--- why nodes of these parents aren't appended to a tree of so many nodes: there are too many then; else a parent is wrong
-abbrev pub IsGrowthFault : ℕ → List ℤ → GrowthFault → Type 0
-IsGrowthFault count integers TooMany = MAX_NODES < count + length integers
-IsGrowthFault count integers (BadParent i) = (count + length integers ≤ MAX_NODES) × IsFirstBad count integers i
-IsGrowthFault count integers Memory = Unit {0}
+-- why nodes of these parents aren't appended to a tree of so many nodes, where a tree may have as many as the limit: there are more then; else a
+-- parent is wrong
+abbrev pub IsGrowthFault : ℕ → ℕ → List ℤ → GrowthFault → Type 0
+IsGrowthFault limit count integers TooMany = limit < count + length integers
+IsGrowthFault limit count integers (BadParent i) = (count + length integers ≤ limit) × IsFirstBad count integers i
+IsGrowthFault limit count integers Memory = Unit {0}
 
 -- a fault as numbers: its own, and then its part
 abbrev pub numbers_of : GrowthFault → List ℕ

@@ -12,8 +12,8 @@ use tl_tree::{FIELD_COUNT, MAX_NODES, Record, Shape, Tree, TreeFault};
 /// Why no nodes were appended to a tree.
 #[derive(Clone, Copy, Debug, PartialEq, Eq, Error)]
 pub enum GrowthFault {
-    /// 102: there would be more than 4,096 nodes.
-    #[error("the tree would have more than 4,096 nodes")]
+    /// 102: there would be more nodes than a tree may have here, 4,096 where nobody asks for more.
+    #[error("the tree would have too many nodes")]
     TooMany,
     /// 104 and which new node it is, counted from 0: the first whose parent isn't a node with a lower number.
     #[error("the parent of new node {0} must have a lower number")]
@@ -62,26 +62,35 @@ impl<T: Drop> From<AllocFailed<T>> for GrowthFault {
     }
 }
 
-/// Whether nodes of these parents can be appended to the tree of a shape. The first fault: 102, then 104.
-pub(crate) fn check_growth(shape: &Shape, parents: &[i64]) -> Result<(), GrowthFault>
+/// Whether nodes of these parents can be appended to the tree of a shape, which has at most `limit` nodes then. The first fault: 102,
+/// then 104.
+pub(crate) fn check_growth(shape: &Shape, parents: &[i64], limit: u16) -> Result<(), GrowthFault>
     ensures ok { OnOk result (CanGrow shape.now parents.now (map unsigned_abs parents.now)) }
-    ensures fault { IfErr result (λ e. IsGrowthFault (length shape.now) parents.now e) }
+    ensures few { OnOk result (length shape.now + length parents.now ≤ limit) }
+    ensures fault { IfErr result (λ e. IsGrowthFault limit (length shape.now) parents.now e) }
     ensures known { IfErr result (λ e. e ≢ GrowthFault.Memory) }
 {
     let first = usize::from(shape.node_count());
-    if parents.len() > MAX_NODES - first {
+    let limit = usize::from(limit);
+    if first > limit || parents.len() > limit - first {
         return Err(GrowthFault::TooMany);
     }
     check_parents(parents, first)
 }
 
-/// A copy of the tree with nodes of these parents appended, and zeros as their records.
-pub(crate) fn grown_tree(alloc: Global, tree: &Tree, parents: &[i64]) -> Result<Tree, GrowthFault>
+/// A copy of the tree with nodes of these parents appended, at most `limit` in all, and zeros as their records.
+pub(crate) fn grown_tree(
+    alloc: Global,
+    tree: &Tree,
+    parents: &[i64],
+    limit: u16,
+) -> Result<Tree, GrowthFault>
     ensures ok { IfOk result (λ t. (added : List ℕ) × CanGrow tree.now.parents parents.now added
         × (t ≡ record { parents = tree.now.parents ++ added; records = with_zeros (length added) tree.now.records })) }
-    ensures fault { IfErr result (λ e. IsGrowthFault (length tree.now.parents) parents.now e) }
+    ensures few { IfOk result (λ t. length t.parents ≤ limit) }
+    ensures fault { IfErr result (λ e. IsGrowthFault limit (length tree.now.parents) parents.now e) }
 {
-    check_growth(tree.shape(), parents)?;
+    check_growth(tree.shape(), parents, limit)?;
     let shape = grown_shape(alloc, tree.shape(), parents)?;
     let records = with_zero_records(alloc, tree.records(), parents.len())?;
     let Ok(grown) = Tree::new(Arc::new(alloc, shape)?, records) else {
@@ -112,7 +121,7 @@ fn grown_shape(alloc: Global, shape: &Shape, added: &[i64]) -> Result<Shape, All
     ensures { IfOk result (λ s. s ≡ shape.now ++ map unsigned_abs added.now) }
 {
     let parents = all_parents(alloc, shape, added)?;
-    match Shape::new(alloc, &parents) {
+    match Shape::new(alloc, &parents, MAX_NODES as u16) {
         Ok(grown) => Ok(grown),
         Err(TreeFault::Memory) => Err(AllocError),
         // The parents are those of a tree.

@@ -1,6 +1,6 @@
 // What a closed table leaves to the next.
 
-ghost use Rattle.std.specs.Prelude.{◌≡◌, ◌≢◌, ◌↔◌, ℕ, List, [], length, map, unsigned_abs, IsTrue, IfOk, OnOk, IfErr, OnErr};
+ghost use Rattle.std.specs.Prelude.{◌≡◌, ◌≢◌, ◌↔◌, ◌≤◌, ◌+◌, ℕ, List, [], length, map, unsigned_abs, IsTrue, IfOk, OnOk, IfErr, OnErr};
 ghost use Rattle.tl_table.specs.Tables.{IsChain};
 ghost use Rattle.tl_generations.specs.Generations.{LegacyValue, IsGrown, TakesUp, TakesUpFirst, legacy_after};
 ghost use Rattle.tl_generations.specs.Growth.{CanGrow, IsGrowthFault};
@@ -92,28 +92,32 @@ impl Legacy {
         &self.tree
     }
 
-    /// Whether nodes of these parents can be appended to the tree. The faults are those of `grow`, but 190.
-    pub fn check_growth(&self, parents: &[i64]) -> Result<(), GrowthFault>
+    /// Whether nodes of these parents can be appended to the tree, which has at most `limit` nodes then. The faults are those of
+    /// `grow`, but 190.
+    pub fn check_growth(&self, parents: &[i64], limit: u16) -> Result<(), GrowthFault>
         ensures ok { OnOk result (CanGrow self.now.parents parents.now (map unsigned_abs parents.now)) }
-        ensures fault { IfErr result (λ e. IsGrowthFault (length self.now.parents) parents.now e) }
+        ensures few { OnOk result (length self.now.parents + length parents.now ≤ limit) }
+        ensures fault { IfErr result (λ e. IsGrowthFault limit (length self.now.parents) parents.now e) }
         ensures known { IfErr result (λ e. e ≢ growth.Memory) }
     {
-        check_growth(self.tree.shape(), parents)
+        check_growth(self.tree.shape(), parents, limit)
     }
 
     /// Appends nodes of these parents to the tree, with zeros as their records; the procedures stay. The number of the first new node,
     /// after which the others are numbered. Each parent must be a node with a lower number than its own, and may be a new one.
     ///
-    /// The first fault: 102 if there would be more than 4,096 nodes, then 104 at the first parent that isn't such a node. 190 if memory
+    /// The first fault: 102 if there would be more than `limit` nodes, then 104 at the first parent that isn't such a node. 190 if memory
     /// is refused. After a fault nothing has changed.
-    pub fn grow(&mut self, alloc: Global, parents: &[i64]) -> Result<u16, GrowthFault>
+    pub fn grow(&mut self, alloc: Global, parents: &[i64], limit: u16) -> Result<u16, GrowthFault>
         ensures grown { IfOk result (λ first. IsGrown self.old parents.now first self.new) }
-        ensures fault { IfErr result (λ e. IsGrowthFault (length self.old.parents) parents.now e) }
-        ensures taken { (added : List ℕ) → CanGrow self.old.parents parents.now added → IfErr result (λ e. e ≡ growth.Memory) }
+        ensures few { OnOk result (length self.new.parents ≤ limit) }
+        ensures fault { IfErr result (λ e. IsGrowthFault limit (length self.old.parents) parents.now e) }
+        ensures taken { (added : List ℕ) → CanGrow self.old.parents parents.now added → length self.old.parents + length parents.now ≤ limit
+            → IfErr result (λ e. e ≡ growth.Memory) }
         ensures err { OnErr result (self.new ≡ self.old) }
     {
         let first = self.tree.shape().node_count();
-        let tree = grown_tree(alloc, &self.tree, parents)?;
+        let tree = grown_tree(alloc, &self.tree, parents, limit)?;
         self.tree = tree;
         Ok(first)
     }

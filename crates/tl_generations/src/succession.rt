@@ -1,6 +1,6 @@
 // What generations lead to.
 
-ghost use Rattle.std.specs.Prelude.{◌≡◌, ◌≢◌, ℕ, List, length, map, unsigned_abs, true, false, Ok, IfOk, OnOk, IfErr, OnErr};
+ghost use Rattle.std.specs.Prelude.{◌≡◌, ◌≢◌, ◌≤◌, ◌+◌, ℕ, List, length, map, unsigned_abs, true, false, Ok, IfOk, OnOk, IfErr, OnErr};
 ghost use Rattle.tl_table.specs.Tables.{IsChain};
 ghost use Rattle.tl_generations.specs.Generations.{SuccessionValue, IsGrown, TakesUpFirst, TakesTurn, IsSuccession};
 ghost use Rattle.tl_generations.specs.Growth.{CanGrow, IsGrowthFault};
@@ -67,25 +67,28 @@ impl Succession {
         Ok(true)
     }
 
-    /// Whether nodes of these parents can be appended to the tree that the next table has to begin with. The faults are those of `grow`,
-    /// but 190.
-    pub fn check_growth(&self, parents: &[i64]) -> Result<(), GrowthFault>
+    /// Whether nodes of these parents can be appended to the tree that the next table has to begin with, which has at most `limit` nodes
+    /// then. The faults are those of `grow`, but 190.
+    pub fn check_growth(&self, parents: &[i64], limit: u16) -> Result<(), GrowthFault>
         ensures ok { OnOk result (CanGrow self.now.last.parents parents.now (map unsigned_abs parents.now)) }
-        ensures fault { IfErr result (λ e. IsGrowthFault (length self.now.last.parents) parents.now e) }
+        ensures few { OnOk result (length self.now.last.parents + length parents.now ≤ limit) }
+        ensures fault { IfErr result (λ e. IsGrowthFault limit (length self.now.last.parents) parents.now e) }
         ensures known { IfErr result (λ e. e ≢ growth.Memory) }
     {
-        self.last.check_growth(parents)
+        self.last.check_growth(parents, limit)
     }
 
     /// Appends nodes of these parents to the tree that the next table has to begin with, with zeros as their records. The number of
-    /// the first new node. The faults are those of `Legacy::grow`, after which nothing has changed.
-    pub fn grow(&mut self, alloc: Global, parents: &[i64]) -> Result<u16, GrowthFault>
+    /// the first new node. There are at most `limit` nodes then. The faults are those of `Legacy::grow`, after which nothing has changed.
+    pub fn grow(&mut self, alloc: Global, parents: &[i64], limit: u16) -> Result<u16, GrowthFault>
         ensures grown { IfOk result (λ first. IsGrown self.old.last parents.now first self.new.last) }
-        ensures fault { IfErr result (λ e. IsGrowthFault (length self.old.last.parents) parents.now e) }
-        ensures taken { (added : List ℕ) → CanGrow self.old.last.parents parents.now added → IfErr result (λ e. e ≡ growth.Memory) }
+        ensures few { OnOk result (length self.new.last.parents ≤ limit) }
+        ensures fault { IfErr result (λ e. IsGrowthFault limit (length self.old.last.parents) parents.now e) }
+        ensures taken { (added : List ℕ) → CanGrow self.old.last.parents parents.now added → length self.old.last.parents + length parents.now ≤ limit
+            → IfErr result (λ e. e ≡ growth.Memory) }
         ensures first { self.new.first ≡ self.old.first }
         ensures err { OnErr result (self.new ≡ self.old) }
     {
-        self.last.grow(alloc, parents)
+        self.last.grow(alloc, parents, limit)
     }
 }

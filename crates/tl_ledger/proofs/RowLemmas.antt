@@ -1,5 +1,5 @@
 -- Rows put behind those of a table.
-use Rattle.std.proofs.Common.{◌≡◌, ℕ, zero, suc, ◌+◌, ◌<◌, ◌≤◌, pos, List, [], ◌∷◌, ◌++◌, length, map, take, get_or, refl, sym, ap, ◌∙◌, arith, Less, Equal, slice_set, int_cmp}
+use Rattle.std.proofs.Common.{◌≡◌, ℕ, zero, suc, ◌+◌, ◌<◌, ◌≤◌, pos, List, [], ◌∷◌, ◌++◌, length, map, take, replicate, get_or, refl, sym, ap, ◌∙◌, arith, Less, Equal, slice_set, int_cmp}
 use Rattle.std.proofs.lemmas.Bool.{ne_eqb, eq-eqb}
 use Rattle.std.proofs.lemmas.Bool.Decides.{nat_tests}
 use Rattle.std.proofs.lemmas.List.{length-append, append-nil, append_assoc, length-map, length-take-le}
@@ -8,12 +8,15 @@ use Rattle.sqlite_value.specs.Order.{Row, value_cmp}
 use Rattle.sqlite_value.proofs.OrderLemmas.{value_cmp-Int}
 use Rattle.sqlite_trees.specs.Tree.{Trees, put_row, with_tree}
 use Rattle.sqlite_trees.specs.View.{View, SetsTree, OnlyWrites}
+use Rattle.tl_ledger.specs.declared.rows.NodeRow.{NodeRow}
+use Rattle.tl_ledger.specs.declared.rows.TheConstants.{FIELDS}
+use Rattle.tl_ledger.specs.News.{fields_columns, new_columns}
 use Rattle.tl_ledger.specs.Rows.{rows_from, Appends}
 
-less_numbers : (m n : ℕ) → m < n → int_cmp (pos m) (pos n) ≡ Less
+pub less_numbers : (m n : ℕ) → m < n → int_cmp (pos m) (pos n) ≡ Less
 less_numbers m n lt = grind (arith, nat_tests)
 
-same_numbers : (m : ℕ) → int_cmp (pos m) (pos m) ≡ Equal
+pub same_numbers : (m : ℕ) → int_cmp (pos m) (pos m) ≡ Equal
 same_numbers m = grind (arith, nat_tests)
 
 pub put_row-last : (m : ℕ) (columns : List Row) (c : Row) (n : ℕ) → n ≡ m + length columns
@@ -47,6 +50,15 @@ map_more f xs i x lt is = let e : i + 1 ≡ suc i = omega arith in ap (λ n. map
     go [] i lt is = absurd (omega arith)
     go (y ∷ xs) zero lt is = ap (λ z. f z ∷ []) (sym is)
     go (y ∷ xs) (suc i) lt is = ap (λ l. f y ∷ l) (go xs i (omega arith) is)
+
+-- the records of the nodes up to the next one
+pub zeros_more : (nodes : List NodeRow) (i : ℕ) → i < length nodes → map new_columns (take (i + 1) nodes) ≡ map new_columns (take i nodes) ++ fields_columns (replicate FIELDS (pos 0)) ∷ []
+zeros_more nodes i lt = let e : i + 1 ≡ suc i = omega arith in ap (λ n. map new_columns (take n nodes)) e ∙ go nodes i lt
+  where
+    go : (nodes : List NodeRow) (i : ℕ) → i < length nodes → map new_columns (take (suc i) nodes) ≡ map new_columns (take i nodes) ++ fields_columns (replicate FIELDS (pos 0)) ∷ []
+    go [] i lt = absurd (omega arith)
+    go (n ∷ nodes) zero lt = refl
+    go (n ∷ nodes) (suc i) lt = ap (λ l. fields_columns (replicate FIELDS (pos 0)) ∷ l) (go nodes i (omega arith))
 
 pub map_length : {X : Type 0} (f : X → Row) (xs : List X) (i : ℕ) → i ≤ length xs → length (map f (take i xs)) ≡ i
 map_length f xs i le = length-map (take i xs) f ∙ length-take-le i xs le

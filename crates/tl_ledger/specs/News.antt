@@ -1,5 +1,5 @@
 -- What a commit adds to the tables.
-use Rattle.std.specs.Prelude.{◌≡◌, ◌≢◌, ℕ, ◌+◌, ◌<◌, ◌≤◌, ◌^◌, ◌++◌, ℤ, pos, String, List, [], ◌∷◌, All, map, length, slice_set, string_bytes, Option, Some, None}
+use Rattle.std.specs.Prelude.{◌≡◌, ◌≢◌, ℕ, ◌+◌, ◌<◌, ◌≤◌, ◌^◌, ℤ, pos, String, List, [], ◌∷◌, All, map, length, replicate, slice_set, string_bytes, Option, Some, None}
 use Rattle.std.specs.declared.alloc.Global.{Global}
 use Rattle.sqlite_value.specs.declared.value.Value.{Value}
 use Rattle.sqlite_value.specs.declared.value.Value.TheVariants.{Null, Int, Text, Blob}
@@ -7,6 +7,8 @@ use Rattle.sqlite_value.specs.Order.{Row}
 use Rattle.sqlite_trees.specs.View.{View, OnlyWrites}
 use Rattle.tl_ledger.specs.declared.committing.Marks.{Marks}
 use Rattle.tl_ledger.specs.declared.news.News.{News}
+use Rattle.tl_ledger.specs.declared.founding.Founding.{Founding}
+use Rattle.tl_ledger.specs.declared.rows.TheConstants.{FIELDS}
 use Rattle.tl_ledger.specs.declared.rows.NodeRow.{NodeRow}
 use Rattle.tl_ledger.specs.declared.rows.RecordRow.{RecordRow}
 use Rattle.tl_ledger.specs.declared.rows.ProcedureRow.{ProcedureRow}
@@ -15,7 +17,7 @@ use Rattle.tl_ledger.specs.declared.rows.TurnRow.{TurnRow}
 use Rattle.tl_ledger.specs.declared.rows.ReplyRow.{ReplyRow}
 use Rattle.tl_ledger.specs.declared.rows.SealRow.{SealRow}
 use Rattle.tl_ledger.specs.declared.rows.ChangedRecord.{ChangedRecord}
-use Rattle.tl_ledger.specs.declared.schema.TheConstants.{NODE, RECORD, PROCEDURE, CALL, TURN, REPLY, SEAL}
+use Rattle.tl_ledger.specs.declared.schema.TheConstants.{NODE, RECORD, PROCEDURE, CALL, TURN, REPLY, SEAL, OPENING, TABLES}
 use Rattle.tl_ledger.specs.Rows.{rows_from}
 use Rattle.tl_ledger.specs.Contents.{Contents, Holds, with_rows, with_more}
 
@@ -28,6 +30,10 @@ fields_columns fields = Null ∷ map Int fields
 
 abbrev pub record_columns : RecordRow → Row
 record_columns r = fields_columns r.fields
+
+-- a node that is new has a record of zeros
+abbrev pub new_columns : NodeRow → Row
+new_columns r = fields_columns (replicate FIELDS (pos 0))
 
 abbrev pub procedure_columns : ProcedureRow → Row
 procedure_columns r = Null ∷ Text (string_bytes r.name) ∷ Blob r.container.items ∷ []
@@ -66,7 +72,9 @@ with_changed c changed = with_rows c RECORD (with_changes (c RECORD) changed)
 -- the contents with what came
 abbrev pub after_news : Contents → News → Contents
 after_news c n =
-    with_changed (with_more (with_more (with_more (with_more (with_more c
+    with_changed (with_more (with_more (with_more (with_more (with_more (with_more (with_more c
+    NODE (map node_columns n.nodes.items))
+    RECORD (map new_columns n.nodes.items))
     PROCEDURE (map procedure_columns n.procedures.items))
     CALL (map call_columns n.calls.items))
     TURN (map turn_columns n.turns.items))
@@ -76,24 +84,45 @@ after_news c n =
 
 -- the tables have as many rows as that
 pub record IsMarked (c : Contents) (m : Marks) : Type 0 where
-  pub nodes : length (c RECORD) ≡ m.nodes
+  pub nodes : length (c NODE) ≡ m.nodes
+  pub records : length (c RECORD) ≡ m.nodes
   pub procedures : length (c PROCEDURE) ≡ m.procedures
   pub calls : length (c CALL) ≡ m.calls
   pub turns : length (c TURN) ≡ m.turns
   pub replies : length (c REPLY) ≡ m.replies
   pub seals : length (c SEAL) ≡ m.seals
 
--- there are numbers left for these rows, and the records are those of nodes
+-- there are numbers left for these rows, and the records are those of nodes, also of new ones
 pub record HasRoom (m : Marks) (n : News) : Type 0 where
-  pub nodes : m.nodes ≤ 2 ^ 62
+  pub nodes : m.nodes + length n.nodes.items ≤ 2 ^ 62
   pub procedures : m.procedures + length n.procedures.items ≤ 2 ^ 62
   pub calls : m.calls + length n.calls.items ≤ 2 ^ 62
   pub turns : m.turns + length n.turns.items ≤ 2 ^ 62
   pub replies : m.replies + length n.replies.items ≤ 2 ^ 62
   pub seals : m.seals + length n.seals.items ≤ 2 ^ 62
-  pub records : All (λ r. r.node < m.nodes) n.records.items
+  pub records : All (λ r. r.node < m.nodes + length n.nodes.items) n.records.items
 
 -- what came was written, and nothing else
 pub record Adds (old new : View) (m : Marks) (n : News) : Type 0 where
   pub holds : (c : Contents) → IsMarked c m → Holds old.trees c → Holds new.trees (after_news c n)
+  pub only : OnlyWrites old new
+
+-- ---- the first contents
+
+-- the tables have no rows
+abbrev pub AreEmpty : Contents → Type 0
+AreEmpty c = (t : ℕ) → t < TABLES → c t ≡ []
+
+-- the contents with the nodes, their records now and at the opening, and the procedures
+abbrev pub after_founding : Contents → Founding → Contents
+after_founding c f =
+    with_more (with_more (with_more (with_more c
+    NODE (map node_columns f.nodes.items))
+    RECORD (map record_columns f.records.items))
+    OPENING (map record_columns f.records.items))
+    PROCEDURE (map procedure_columns f.procedures.items)
+
+-- the first contents were written, and nothing else
+pub record Founds (old new : View) (f : Founding) : Type 0 where
+  pub holds : (c : Contents) → AreEmpty c → Holds old.trees c → Holds new.trees (after_founding c f)
   pub only : OnlyWrites old new

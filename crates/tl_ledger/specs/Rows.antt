@@ -1,5 +1,5 @@
 -- Tables whose rows are numbered in their order.
-use Rattle.std.specs.Prelude.{◌≡◌, ◌≢◌, ℕ, ◌+◌, pos, List, [], ◌∷◌, ◌++◌, length, Some}
+use Rattle.std.specs.Prelude.{◌≡◌, ◌≢◌, ℕ, ◌+◌, pos, List, [], ◌∷◌, ◌++◌, length, Bool, true, false}
 use Rattle.sqlite_value.specs.declared.value.Value.{Value}
 use Rattle.sqlite_value.specs.declared.value.Value.TheVariants.{Int}
 use Rattle.sqlite_value.specs.Order.{Row}
@@ -20,9 +20,13 @@ pub record Appends (old new : View) (table first : ℕ) (more : List Row) : Type
 abbrev pub IsNumbered : Row → Value → Row → Type 0
 IsNumbered row number columns = row ≡ number ∷ columns
 
--- these rows of the table have been read, and a cursor has the others to give
-pub record Reads (old new : View) (table : ℕ) (done : List Row) : Type 0 where
-  pub left : List Row
-  pub cursor : new.cursors 0 ≡ Some left
-  pub rows : old.trees table ≡ rows_from 0 done ++ left
-  pub trees : new.trees ≡ old.trees
+-- the last of these columns are these, and so many are before them
+pub record IsLast (columns : List Row) (number : ℕ) (last : Row) : Type 0 where
+  pub front : List Row
+  pub number_is : length front ≡ number
+  pub columns_are : columns ≡ front ++ last ∷ []
+
+-- the row is that of the last of these columns; or there are none
+abbrev pub IsLastRow : List Row → Row → Bool → Type 0
+IsLastRow columns row true = (number : ℕ) × (last : Row) × IsLast columns number last × (row ≡ Int (pos number) ∷ last)
+IsLastRow columns row false = columns ≡ []

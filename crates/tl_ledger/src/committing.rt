@@ -6,10 +6,10 @@ ghost use Rattle.sqlite_trees.specs.View.{IsClean, IsQuiet, KeepsSchema};
 ghost use Rattle.tl_ledger.specs.Contents.{Contents, Holds, AreTables, IsAtRest};
 ghost use Rattle.tl_ledger.specs.News.{after_news, IsMarked, HasRoom, Adds};
 
-use crate::appending::append_all;
+use crate::appending::{append_all, append_zeros};
 use crate::changing::put_changes;
 use crate::news::News;
-use crate::schema::{CALL, PROCEDURE, REPLY, SEAL, TURN};
+use crate::schema::{CALL, NODE, PROCEDURE, REPLY, SEAL, TURN};
 use sqlite_trees::error::StoreError;
 use sqlite_trees::store::Store;
 use sqlite_value::row::Row;
@@ -38,6 +38,8 @@ fn write_news<S: Store>(
     ensures schema { KeepsSchema (S.Store.view store.old) (S.Store.view store.new) }
     ensures quiet { IsQuiet S.Store.view S.Store.faults S.Store.recovers S.Store.is_shielded store.old store.new }
 {
+    append_all(store, row, NODE, marks.nodes, news.nodes.as_slice())?;
+    append_zeros(store, row, marks.nodes, news.nodes.as_slice())?;
     append_all(
         store,
         row,
@@ -49,7 +51,8 @@ fn write_news<S: Store>(
     append_all(store, row, TURN, marks.turns, news.turns.as_slice())?;
     append_all(store, row, REPLY, marks.replies, news.replies.as_slice())?;
     append_all(store, row, SEAL, marks.seals, news.seals.as_slice())?;
-    put_changes(store, row, marks.nodes, news.records.as_slice())?;
+    let nodes = marks.nodes + news.nodes.len() as u64;
+    put_changes(store, row, nodes, news.records.as_slice())?;
     Ok(())
 }
 

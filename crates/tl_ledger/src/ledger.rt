@@ -28,7 +28,7 @@ pub struct Ledger<S: Store> {
 }
 
 // Whether so many rows more have numbers.
-fn fits(count: u64, more: usize) -> bool
+pub(crate) fn fits(count: u64, more: usize) -> bool
     ensures { IsTrue result ↔ (count + more ≤ 2 ^ 62) }
 {
     count <= MAX_ROWS && more as u64 <= MAX_ROWS - count
@@ -45,13 +45,16 @@ fn are_inside(changed: &[ChangedRecord], nodes: u64) -> bool
 fn has_room(marks: &Marks, news: &News) -> bool
     ensures { IsTrue result ↔ HasRoom marks.now news.now }
 {
-    marks.nodes <= MAX_ROWS
+    fits(marks.nodes, news.nodes.len())
         && fits(marks.procedures, news.procedures.len())
         && fits(marks.calls, news.calls.len())
         && fits(marks.turns, news.turns.len())
         && fits(marks.replies, news.replies.len())
         && fits(marks.seals, news.seals.len())
-        && are_inside(news.records.as_slice(), marks.nodes)
+        && are_inside(
+            news.records.as_slice(),
+            marks.nodes + news.nodes.len() as u64,
+        )
 }
 
 // The counts once this is stored.
@@ -60,7 +63,7 @@ fn marks_after(marks: &Marks, news: &News) -> Marks
     ensures { (c : Contents) → IsMarked c marks.now → IsMarked (after_news c news.now) result }
 {
     Marks {
-        nodes: marks.nodes,
+        nodes: marks.nodes + news.nodes.len() as u64,
         procedures: marks.procedures + news.procedures.len() as u64,
         calls: marks.calls + news.calls.len() as u64,
         turns: marks.turns + news.turns.len() as u64,

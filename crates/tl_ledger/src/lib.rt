@@ -4,7 +4,9 @@
 mod appending;
 mod changing;
 mod committing;
+mod counting;
 mod entry;
+mod founding;
 mod ledger;
 mod news;
 mod read_rows;
@@ -13,13 +15,15 @@ mod rows;
 mod schema;
 mod surviving;
 
-pub use appending::append_all;
+pub use appending::{append_all, append_zeros};
 pub use changing::put_changes;
 pub use committing::{Marks, commit_news};
+pub use counting::{count_rows, marks_of, read_last};
 pub use entry::Entry;
+pub use founding::{Founding, found};
 pub use ledger::Ledger;
 pub use news::News;
-pub use reading::{ReadEntry, ReadFault, read_all};
+pub use reading::{ReadEntry, ReadFault, read_all, read_from};
 pub use rows::{
     CallRow, ChangedRecord, FIELDS, NodeRow, ProcedureRow, RecordRow, ReplyRow, SealRow, TurnRow,
 };

@@ -1,8 +1,8 @@
 // The rows of a table, read in their order.
 
-ghost use Rattle.std.specs.Prelude.{◌≡◌, ◌<◌, ◌^◌, [], ◌∷◌, pos, map, true, false, IsSome, IsTrue, IfOk, IfSome, IfNone, OnOk};
+ghost use Rattle.std.specs.Prelude.{◌≡◌, ◌<◌, ◌≤◌, ◌^◌, List, [], ◌∷◌, pos, map, length, drop, true, false, Some, IsSome, IsTrue, IfOk, IfSome, IfNone, OnOk};
 ghost use Rattle.sqlite_trees.specs.View.{IsClean, IsQuiet, KeepsSchema, Advances};
-ghost use Rattle.sqlite_value.specs.Order.{column};
+ghost use Rattle.sqlite_value.specs.Order.{column, Row as Columns};
 ghost use Rattle.sqlite_value.specs.declared.value.Value.{Value};
 ghost use Rattle.sqlite_value.specs.declared.value.Value.TheVariants.{Int};
 ghost use Rattle.tl_ledger.specs.Rows.{rows_from, IsNumbered};
@@ -54,8 +54,8 @@ const MAX_ROWS: u64 = 1 << 62;
 pub enum ReadFault {
     /// The store fails.
     Store(StoreError),
-    /// A row isn't one that this program writes.
-    NotRows,
+    /// A row of that table isn't one that this program writes.
+    NotRows { table: u32 },
 }
 
 impl From<AllocError> for ReadFault {
@@ -75,6 +75,7 @@ fn next_item<S: Store, T: ReadEntry + Drop>(
     alloc: Global,
     store: &mut S,
     row: &mut Row,
+    table: u32,
     number: u64,
 ) -> Result<Option<T>, ReadFault>
     requires live { IsSome ((S.Store.view store.old).cursors 0) }
@@ -91,18 +92,45 @@ fn next_item<S: Store, T: ReadEntry + Drop>(
         return Ok(None);
     }
     let ValueRef::Int(id) = row.get(0) else {
-        return Err(ReadFault::NotRows);
+        return Err(ReadFault::NotRows { table });
     };
     if id != number as i64 {
-        return Err(ReadFault::NotRows);
+        return Err(ReadFault::NotRows { table });
     }
     match T::read(alloc, row)? {
         Some(item) => Ok(Some(item)),
-        None => Err(ReadFault::NotRows),
+        None => Err(ReadFault::NotRows { table }),
     }
 }
 
-/// The rows of a table whose rows are numbered from 0 on.
+// The rows that the cursor has still to give, which have to be numbered from `first` on.
+fn read_rest<S: Store, T: ReadEntry + Drop>(
+    alloc: Global,
+    store: &mut S,
+    row: &mut Row,
+    table: u32,
+    first: u64,
+) -> Result<Vec<T>, ReadFault>
+    requires live { IsSome ((S.Store.view store.old).cursors 0) }
+    ensures rows { IfOk result (λ items. IsClean (S.Store.view store.new) → (left : List Columns) → (S.Store.view store.old).cursors 0 ≡ Some left
+        → left ≡ rows_from first (map T.Entry.columns items.items)) }
+    ensures same { OnOk result (IsClean (S.Store.view store.new) → (S.Store.view store.new).trees ≡ (S.Store.view store.old).trees) }
+    ensures schema { KeepsSchema (S.Store.view store.old) (S.Store.view store.new) }
+    ensures quiet { IsQuiet S.Store.view S.Store.faults S.Store.recovers S.Store.is_shielded store.old store.new }
+{
+    let mut items = Vec::new(alloc);
+    for number in first..MAX_ROWS {
+        let Some(item) = next_item(alloc, store, row, table, number)? else {
+            return Ok(items);
+        };
+        let Ok(()) = items.push(item) else {
+            return Err(ReadFault::Store(StoreError::OutOfMemory));
+        };
+    }
+    Err(ReadFault::NotRows { table })
+}
+
+/// All rows of a table whose rows are numbered from 0 on.
 pub fn read_all<S: Store, T: ReadEntry + Drop>(
     alloc: Global,
     store: &mut S,
@@ -115,15 +143,29 @@ pub fn read_all<S: Store, T: ReadEntry + Drop>(
     ensures quiet { IsQuiet S.Store.view S.Store.faults S.Store.recovers S.Store.is_shielded store.old store.new }
 {
     let mut row = Row::new(alloc);
-    let mut items = Vec::new(alloc);
     store.seek(0, table, &row, Direction::Forward)?;
-    for number in 0..MAX_ROWS {
-        let Some(item) = next_item(alloc, store, &mut row, number)? else {
-            return Ok(items);
-        };
-        let Ok(()) = items.push(item) else {
-            return Err(ReadFault::Store(StoreError::OutOfMemory));
-        };
+    read_rest(alloc, store, &mut row, table, 0)
+}
+
+/// The rows from number `first` on, of a table whose rows are numbered from 0 on. The rows before are not read.
+pub fn read_from<S: Store, T: ReadEntry + Drop>(
+    alloc: Global,
+    store: &mut S,
+    table: u32,
+    first: u64,
+) -> Result<Vec<T>, ReadFault>
+    requires { IsClean (S.Store.view store.old) → (S.Store.view store.old).shape table ≡ Shape.Table }
+    ensures rows { IfOk result (λ items. IsClean (S.Store.view store.new) → (columns : List Columns) → (S.Store.view store.old).trees table ≡ rows_from 0 columns
+        → first ≤ length columns → map T.Entry.columns items.items ≡ drop first columns) }
+    ensures same { OnOk result (IsClean (S.Store.view store.new) → (S.Store.view store.new).trees ≡ (S.Store.view store.old).trees) }
+    ensures schema { KeepsSchema (S.Store.view store.old) (S.Store.view store.new) }
+    ensures quiet { IsQuiet S.Store.view S.Store.faults S.Store.recovers S.Store.is_shielded store.old store.new }
+{
+    if first > MAX_ROWS {
+        return Err(ReadFault::NotRows { table });
     }
-    Err(ReadFault::NotRows)
+    let mut row = Row::new(alloc);
+    row.push(ValueRef::Int(first as i64))?;
+    store.seek(0, table, &row, Direction::Forward)?;
+    read_rest(alloc, store, &mut row, table, first)
 }

@@ -1,5 +1,8 @@
 // The tables of a store, by number.
 
+ghost use Rattle.std.specs.Prelude.{◌≡◌, map, replicate};
+ghost use Rattle.sqlite_trees.specs.declared.schema.Object.{Object as Listed};
+
 use sqlite_trees::schema::Object;
 use sqlite_trees::store::Shape;
 
@@ -33,7 +36,9 @@ pub const NAME: u32 = 8;
 /// How many tables there are.
 pub const TABLES: usize = 9;
 
-fn table<'a>(name: &'a str, sql: &'a str) -> Object<'a> {
+fn table<'a>(name: &'a str, sql: &'a str) -> Object<'a>
+    ensures { result.shape ≡ Shape.Table }
+{
     Object {
         shape: Shape::Table,
         kind: "table",
@@ -45,7 +50,9 @@ fn table<'a>(name: &'a str, sql: &'a str) -> Object<'a> {
 }
 
 /// The tables, as they are listed in the file.
-pub fn tables() -> [Object<'static>; TABLES] {
+pub fn tables() -> [Object<'static>; TABLES]
+    ensures { map (λ (object : Listed). object.shape) result ≡ replicate TABLES Shape.Table }
+{
     [
         table(
             "node",

@@ -12,7 +12,7 @@ pub enum RecoverFault {
     /// 1004 and the turn: it is that of a call whose request isn't there.
     #[error("turn {turn} is that of a call whose request isn't there")]
     NoRequest { turn: u32 },
-    /// 1005 and the turn: the call is over, or is about to lock a node that another call holds.
+    /// 1005 and the turn: the call is over, is about to lock a node that another call holds, or wasn't admitted.
     #[error("the call can't take turn {turn}")]
     OutOfTurn { turn: u32 },
     /// 501, 601 to 605, 690: the core refuses the call.

@@ -35,12 +35,13 @@ fn take_turn(
     match core.proceed(call) {
         Ok(Stepped::Moved { .. }) => Ok(()),
         Ok(_) => Err(RecoverFault::OutOfTurn { turn }),
-        Err(fault) => Err(RecoverFault::Core(fault)),
+        // It wasn't admitted.
+        Err(_) => Err(RecoverFault::OutOfTurn { turn }),
     }
 }
 
 /// Lets calls take turns, one after another. A call that wasn't admitted is admitted, by its request. Errors name the turn, counted
-/// from 0: 1004 if the call's request isn't there, 1005 if the call can't take the turn; otherwise the core's refusal of an admission.
+/// from 0: 1004 if the call's request isn't there, 1005 if the call can't take the turn or wasn't admitted; otherwise the core's refusal of an admission.
 pub fn redrive(
     alloc: Global,
     core: &mut Core,

@@ -5,6 +5,7 @@ use Rattle.std.specs.Option.{option_eq}
 use Rattle.std.proofs.lemmas.Bool.{cases_Bool, cases_eq, cases_lt, both_ways, ne_eqb, eq-eqb}
 use Rattle.std.proofs.lemmas.List.{get_or-set_same, get_or-set_other}
 use Rattle.tl_tree.specs.Records.{Record}
+use Rattle.tl_tree.specs.declared.shape.TheConstants.{MAX_NODES}
 use Rattle.tl_tree.specs.Shape.{IsTree, parent}
 use Rattle.tl_tree_locking.specs.declared.action.Action.TheVariants as A
 use Rattle.tl_tree_locking.specs.declared.event.Event.{Event}
@@ -80,10 +81,10 @@ done-done calls past c done inside h k lt = elim (cases_eq c k) [
 
 -- a call that locks a node has locked fewer than there are
 pub lock_room : (parents : List ℕ) → IsTree parents → (past : List Event) (c x : ℕ) (found : Record) → IsLegalHistory parents (Lock x c found ∷ past)
-    → All (IsOfNodes (length parents)) (Lock x c found ∷ past) → lock_count (part_of c past) + 1 ≤ 4096
+    → All (IsOfNodes (length parents)) (Lock x c found ∷ past) → lock_count (part_of c past) + 1 ≤ MAX_NODES
 lock_room parents tree past c x found legal inside =
     let most : lock_count (part_of c (Lock x c found ∷ past)) ≤ length parents = holding_few parents (Lock x c found ∷ past) legal inside c in
-    let few : length parents ≤ 4096 = tree.few in
+    let few : length parents ≤ MAX_NODES = tree.few in
     let one : lock_count (part_of c (Lock x c found ∷ past)) ≡ lock_count (part_of c past) + 1 = ap lock_count (part_of-lock c x found past) in
     omega (arith, most, few, one)
 

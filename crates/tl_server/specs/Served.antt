@@ -78,7 +78,7 @@ SealOutcome seals may_seal (Err e) = IsSealRefused e × (seals ≡ true → IsRe
 -- nodes of these parents were appended to a tree, the first under that number; or why they weren't, to a tree of some number of nodes
 abbrev pub GrowthOutcome : List ℤ → Result ℕ GrowthFault → Type 0
 GrowthOutcome parents (Ok first) = (old : LegacyValue) × (new : LegacyValue) × IsGrown old parents first new
-GrowthOutcome parents (Err e) = (count : ℕ) × IsGrowthFault count parents e
+GrowthOutcome parents (Err e) = (limit : ℕ) × (count : ℕ) × IsGrowthFault limit count parents e
 
 -- the answer, if nodes can be appended to the tree of what serves; else that of any request which it doesn't know
 abbrev pub IsGrowthAnswer : Bool → List ℤ → List ℕ → Type 0

@@ -4,13 +4,15 @@ ghost use Rattle.std.specs.Prelude.{◌≡◌, IfErr};
 ghost use Rattle.tl_server.specs.declared.fault.ListenFault.TheVariants.{Memory};
 
 use crate::control::Control;
-use crate::entrance::Entrance;
+use crate::entrance::{Entrance, Listener};
 use crate::fault::ListenFault;
 use crate::hall::{Hall, MAX_CONNECTIONS, Phase};
+use crate::journal::Journal;
 use crate::listening::Door;
 use crate::relay::{Keeper, Place, Relay};
 use crate::serving::serve;
 use crate::socket::{SocketSink, SocketSource};
+use crate::stored_sink::StoredSink;
 use crate::stream::{Address, Stream};
 use std::alloc::Global;
 use std::net::{Net, TcpListener, TcpStream};
@@ -20,33 +22,58 @@ use std::thread;
 use std::thread::Threads;
 use std::time::{Clock, Duration};
 
+// What the threads of connections share.
+#[derive(Drop)]
+struct Room<'a, K, J> {
+    relay: &'a Relay<K, J>,
+    hall: &'a Hall,
+    listener: &'a Listener,
+}
+
 // Serves a connection to its end.
-fn visit<R: Threads + Wait + Sync, K: Keeper>(
+fn visit<R, K: Keeper, J: Journal>(
     rt: &R,
     alloc: Global,
-    relay: &Relay<K>,
-    hall: &Hall,
+    room: &Room<'_, K, J>,
     number: u64,
     stream: Stream,
-) {
+)
+where
+    R: Net<Listener = TcpListener, Stream = TcpStream> + Threads + Wait + Sync,
+{
+    let (relay, hall) = (room.relay, room.hall);
     let mut place = Place::new();
     let mut source = SocketSource::until(&stream, hall.is_ending());
-    let mut sink = SocketSink::new(&stream);
+    let mut sink = StoredSink::new(rt, alloc, relay, SocketSink::new(&stream));
     // A fault ends this connection, and no other.
     let _ = serve(rt, alloc, &mut source, &mut sink, relay, &mut place);
+    if sink.has_failed() {
+        // What is done from now on isn't stored either.
+        hall.stop(rt);
+        room.listener.wake(rt);
+    }
     drop(stream);
     hall.give_place(rt, number);
 }
 
 // Serves the connections that come through the door, each on a thread of its own if one can be started, otherwise on this
 // one.
-fn serve_all<R: Threads + Wait + Sync, K: Keeper + Send>(
+fn serve_all<R, K: Keeper + Send, J: Journal + Sync>(
     rt: &R,
     alloc: Global,
     door: Door<'_>,
-    relay: &Relay<K>,
+    relay: &Relay<K, J>,
     hall: &Hall,
-) {
+)
+where
+    R: Net<Listener = TcpListener, Stream = TcpStream> + Threads + Wait + Sync,
+{
+    let room = Room {
+        relay,
+        hall,
+        listener: door.listener,
+    };
+    let room = &room;
     thread::scope(thread::scope_env(), rt, |scope| {
         for number in 0..door.connections {
             if !hall.take_place(rt) {
@@ -54,9 +81,7 @@ fn serve_all<R: Threads + Wait + Sync, K: Keeper + Send>(
             }
             match door.receive(rt, number, hall) {
                 Some(stream) => {
-                    let started = scope.spawn(move || visit(
-                        rt, alloc, relay, hall, number, stream,
-                    ));
+                    let started = scope.spawn(move || visit(rt, alloc, room, number, stream));
                     if let Err(refused) = started {
                         (refused.value)();
                     }
@@ -67,6 +92,17 @@ fn serve_all<R: Threads + Wait + Sync, K: Keeper + Send>(
         hall.enter(rt, Phase::Draining);
     });
     hall.enter(rt, Phase::Over);
+}
+
+// A hall for so many connections at once, which are ended if what was done can't be stored. If memory is refused for that, each is ended
+// when it is to be answered.
+fn hall_for<K: Keeper, J: Journal>(alloc: Global, relay: &Relay<K, J>, places: u16) -> Hall {
+    if relay.stores() {
+        if let Ok(hall) = Hall::that_stops(alloc, Vec::new(alloc), places) {
+            return hall;
+        }
+    }
+    Hall::new(Vec::new(alloc), places)
 }
 
 /// A local port or a Unix socket whose connections a relay of engines serves. It takes no memory for a connection before that comes.
@@ -121,20 +157,24 @@ impl<'a> LastingServer<'a> {
     }
 
     /// Serves its connections until there were as many as it serves. A failed attempt to accept a connection counts as one. A
-    /// connection that fails is ended, and the others go on. In the end the socket's file is removed.
-    pub fn serve<R: Files + Threads + Wait + Sync, K: Keeper + Send>(
+    /// connection that fails is ended, and the others go on; but if what was done can't be stored, no more connections are accepted, and
+    /// those that are open are ended. In the end the socket's file is removed.
+    pub fn serve<R, K: Keeper + Send, J: Journal + Sync>(
         self,
         rt: &R,
         alloc: Global,
-        relay: &Relay<K>,
-    ) {
+        relay: &Relay<K, J>,
+    )
+    where
+        R: Files + Net<Listener = TcpListener, Stream = TcpStream> + Threads + Wait + Sync,
+    {
         let LastingServer {
             entrance,
             connections,
             places,
             idle,
         } = self;
-        let hall = Hall::new(Vec::new(alloc), places);
+        let hall = hall_for(alloc, relay, places);
         let door = Door {
             listener: &entrance.listener,
             connections,
@@ -147,11 +187,11 @@ impl<'a> LastingServer<'a> {
     /// Serves its connections as `serve` does, until it is asked to stop at the control. Then it accepts no more
     /// connections. On those that are open, each line that was read whole is answered, and then they are ended. 990 if memory is
     /// refused before the first connection.
-    pub fn serve_until_stopped<R, K: Keeper + Send>(
+    pub fn serve_until_stopped<R, K: Keeper + Send, J: Journal + Sync>(
         self,
         rt: &R,
         alloc: Global,
-        relay: &Relay<K>,
+        relay: &Relay<K, J>,
         control: &Control<'_>,
     ) -> Result<(), ListenFault>
     where

@@ -9,6 +9,7 @@ ghost use Rattle.tl_generations.specs.declared.growth.GrowthFault.TheVariants as
 ghost use Rattle.tl_server.specs.Outcomes.{IsAsked, CameOf};
 ghost use Rattle.tl_server.specs.Served.{GrowthOutcome};
 
+use crate::journal::{Journal, Unstored};
 use crate::outcome::{Done, Outcome};
 use crate::request::LineRequest;
 use crate::seats::Seats;
@@ -43,7 +44,7 @@ pub trait Keeper {
 
     /// Whether nodes of these parents can be appended to the tree of the engine that is at work. The first fault: 102, then 104.
     fn check_growth(&self, parents: &[i64]) -> Result<(), GrowthFault>
-        ensures { IfErr result (λ e. (count : ℕ) × IsGrowthFault count parents.now e) };
+        ensures { IfErr result (λ e. (limit count : ℕ) × IsGrowthFault limit count parents.now e) };
 
     /// Appends nodes of these parents to the tree that the engine that was closed last left, with zeros as their records. The number of
     /// the first. No line is answered meanwhile. 190 if memory is refused, or if the engine didn't close.
@@ -188,14 +189,15 @@ impl Stage {
         }
     }
 
-    // Hands the engine over to the keeper, with all its sessions. False if there is none, if a session is away, or if the number of
-    // epochs is used up; then nothing is changed.
-    fn close<K: Keeper>(
+    // Hands the engine over to the keeper, with all its sessions, and before that to the journal. False if there is none, if a session is
+    // away, or if the number of epochs is used up; then nothing is changed.
+    fn close<K: Keeper, J: Journal>(
         &mut self,
         rt: &impl Wait,
         alloc: Global,
         seats: &Mutex<Seats>,
         keeper: &mut K,
+        journal: &J,
     ) -> bool
         ensures closed { result ≡ true → self.old.base < self.new.base }
         ensures kept { result ≡ false → self.new.base ≡ self.old.base }
@@ -211,6 +213,7 @@ impl Stage {
             self.engine = Some(engine);
             return false;
         };
+        journal.close(rt, alloc, &engine, self.base);
         let sessions = mem::replace(&mut *seats, Seats::new(alloc)).into_sessions();
         keeper.close(engine, sessions);
         self.base = base;
@@ -230,12 +233,13 @@ impl Stage {
 
 /// Engines, one after another, and the sessions of the one that answers lines now.
 #[derive(Drop)]
-pub struct Relay<K> {
+pub struct Relay<K, J> {
     // Each line that is at work has it for reading. A hand-over has it for writing: it waits until no line is at work, and new lines
     // wait behind it.
     stage: RwLock<Stage>,
     seats: Mutex<Seats>,
     keeper: Mutex<K>,
+    journal: J,
     // After how many epochs the next engine takes over.
     epochs: u32,
     // Whether nodes can be appended to the tree.
@@ -243,10 +247,10 @@ pub struct Relay<K> {
     tally: Tally,
 }
 
-impl<K: Keeper> Relay<K> {
+impl<K: Keeper, J: Journal> Relay<K, J> {
     /// A relay that begins with this engine, which has no sessions yet and seals its epochs by itself. The next one takes over after
     /// so many epochs, at least one.
-    pub fn new(alloc: Global, engine: Engine, keeper: K, epochs: u32) -> Relay<K>
+    pub fn new(alloc: Global, engine: Engine, keeper: K, journal: J, epochs: u32) -> Relay<K, J>
         requires { engine.seals ≡ true }
     {
         let nodes = keeper.nodes();
@@ -259,6 +263,7 @@ impl<K: Keeper> Relay<K> {
             }),
             seats: Mutex::new(Seats::new(alloc)),
             keeper: Mutex::new(keeper),
+            journal,
             epochs: epochs.max(1),
             grows: true,
             tally: Tally::new(),
@@ -266,33 +271,65 @@ impl<K: Keeper> Relay<K> {
     }
 
     /// The same relay, to whose tree no nodes can be appended: there is one engine as long as its epochs last.
-    pub fn that_does_not_grow(self) -> Relay<K> {
+    pub fn that_does_not_grow(self) -> Relay<K, J> {
         Relay {
             grows: false,
             ..self
         }
     }
 
-    /// The last engine with its sessions, if it wasn't closed yet, and the keeper. Takes no memory.
-    pub fn into_parts(self) -> (Option<(Engine, Vec<Session>)>, K) {
+    /// The last engine with its sessions, if it wasn't closed yet, the keeper and the journal, which has taken over what that engine did;
+    /// all calls have to be done. Takes no memory but what the journal takes.
+    pub fn into_parts(
+        self,
+        rt: &impl Wait,
+        alloc: Global,
+    ) -> (Option<(Engine, Vec<Session>)>, K, J) {
         let Relay {
             stage,
             seats,
             keeper,
+            journal,
             epochs: _,
             grows: _,
             tally: _,
         } = self;
         let Stage {
             engine,
-            base: _,
+            base,
             generation: _,
             nodes: _,
         } = stage.into_inner();
         let sessions = seats.into_inner().into_sessions();
         match engine {
-            Some(engine) => (Some((engine, sessions)), keeper.into_inner()),
-            None => (None, keeper.into_inner()),
+            Some(engine) => {
+                journal.close(rt, alloc, &engine, base);
+                (Some((engine, sessions)), keeper.into_inner(), journal)
+            }
+            None => (None, keeper.into_inner(), journal),
+        }
+    }
+
+    /// Whether what the engines do is stored.
+    pub fn stores(&self) -> bool {
+        self.journal.stores()
+    }
+
+    /// Waits until all that the engines did up to now is stored. An error if it isn't and won't be.
+    pub fn settle(&self, rt: &impl Wait, alloc: Global) -> Result<(), Unstored> {
+        if !self.journal.stores() {
+            return Ok(());
+        }
+        self.gather(rt, alloc);
+        // Nothing is locked while the journal stores it, so lines go on.
+        self.journal.settle(rt, alloc)
+    }
+
+    // Lets the journal take over what the engine on the stage did.
+    fn gather(&self, rt: &impl Wait, alloc: Global) {
+        let stage = self.stage.read(rt);
+        if let Some(engine) = &stage.engine {
+            self.journal.gather(rt, alloc, engine, stage.base);
         }
     }
 
@@ -323,7 +360,7 @@ impl<K: Keeper> Relay<K> {
             return true;
         }
         let mut keeper = self.keeper.lock(rt);
-        if is_spent && !stage.close(rt, alloc, &self.seats, &mut *keeper) {
+        if is_spent && !stage.close(rt, alloc, &self.seats, &mut *keeper, &self.journal) {
             return false;
         }
         let Some(engine) = keeper.open(alloc) else {
@@ -338,7 +375,7 @@ impl<K: Keeper> Relay<K> {
     }
 }
 
-impl<K: Keeper> Relay<K> {
+impl<K: Keeper, J: Journal> Relay<K, J> {
     // Does what a request asks for by an engine that has room for it. `None` if memory is refused.
     fn perform_by_engine<R: Threads + Wait + Sync>(
         &self,
@@ -384,10 +421,15 @@ impl<K: Keeper> Relay<K> {
         if let Err(fault) = keeper.check_growth(parents) {
             return known(Err(fault));
         }
-        if stage.engine.is_some() && !stage.close(rt, alloc, &self.seats, &mut *keeper) {
+        if stage.engine.is_some()
+            && !stage.close(rt, alloc, &self.seats, &mut *keeper, &self.journal)
+        {
             return None;
         }
         let grown = keeper.grow(alloc, parents);
+        if grown.is_ok() {
+            self.journal.grow(rt, alloc, parents, stage.base);
+        }
         let Some(engine) = keeper.open(alloc) else {
             // The next line opens it.
             return known(grown);
@@ -412,7 +454,7 @@ fn known(grown: Result<u16, GrowthFault>) -> Option<Result<u16, GrowthFault>>
 }
 
 /// A relay serves each connection by sessions of its engines, one after another. The numbers of epochs go on from one to the next.
-impl<K: Keeper> Service for Relay<K> {
+impl<K: Keeper, J: Journal> Service for Relay<K, J> {
     type Visitor = Place;
 
     ghost use Rattle.std.specs.Prelude.{◌≤◌, true};
@@ -455,7 +497,7 @@ impl<K: Keeper> Service for Relay<K> {
 }
 
 /// A relay counts what it answers.
-impl<K: Keeper> Reporter for Relay<K> {
+impl<K: Keeper, J: Journal> Reporter for Relay<K, J> {
     fn status(&self, rt: &impl Wait, connections: u64) -> Option<Status> {
         let stage = self.stage.read(rt);
         Some(Status {

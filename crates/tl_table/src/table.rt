@@ -233,6 +233,13 @@ impl Table {
         self.current.core()
     }
 
+    /// The epochs that were sealed, the first one first.
+    pub fn sealed(&self) -> &[Closed]
+        ensures { result.now ≡ self.now.sealed }
+    {
+        &self.sealed
+    }
+
     /// How many sessions were given.
     pub fn sessions(&self) -> u32
         ensures { result ≡ self.now.current.sessions }

@@ -8,6 +8,7 @@ use std::test::Fail;
 use tl_audit::Silent;
 use tl_commands::{CliFault, alone_cmd, asm_cmd, audit_cmd};
 use tl_instr::{CodeFault, decode, encode};
+use tl_tree::USUAL_NODES;
 
 /// How often each number was reported; 0 counts the files without a fault.
 type Counts = [u16; 1000];
@@ -70,7 +71,7 @@ fn wrong_with(alloc: Global, container: &[u8]) -> Result<u64, Fail> {
         }
         Err(fault) => return Ok(first_number(CliFault::Code(fault))),
     }
-    match alone_cmd(alloc, ONE_NODE.as_bytes(), container, "[0,3]") {
+    match alone_cmd(alloc, ONE_NODE.as_bytes(), container, "[0,3]", USUAL_NODES) {
         Ok(_) => Ok(0),
         Err(fault) => Ok(first_number(fault)),
     }
@@ -214,7 +215,7 @@ static TRAILS: [(u64, u16); 16] = [
 
 /// The number of a trail's first fault.
 fn wrong_in(alloc: Global, trail: &[u8]) -> u64 {
-    match audit_cmd(alloc, trail, &mut Silent) {
+    match audit_cmd(alloc, trail, &mut Silent, USUAL_NODES) {
         Ok(_) => 0,
         Err(fault) => first_number(fault),
     }

@@ -12,6 +12,7 @@ use tl_commands::{
     CliFault, alone_cmd, asm_cmd, audit_cmd, check_cmd, dis_cmd, drive_cmd, drive_with_trail_cmd,
     run_cmd, run_with_trail_cmd, verify_cmd,
 };
+use tl_tree::USUAL_NODES;
 use tl_workers::NoGate;
 
 /// The parts of a text, one after another.
@@ -77,17 +78,23 @@ fn verified(alloc: Global, text: &str) -> Result<String, CliFault> {
 }
 
 fn done_alone(alloc: Global, tree: &str, text: &str, args: &str) -> Result<String, CliFault> {
-    alone_cmd(alloc, tree.as_bytes(), &container_of(alloc, text)?, args)
+    alone_cmd(
+        alloc,
+        tree.as_bytes(),
+        &container_of(alloc, text)?,
+        args,
+        USUAL_NODES,
+    )
 }
 
 fn trail_of(alloc: Global, tree: &str, script: &str) -> Result<String, CliFault> {
-    let (_, trail) = drive_with_trail_cmd(alloc, tree.as_bytes(), script.as_bytes())?;
+    let (_, trail) = drive_with_trail_cmd(alloc, tree.as_bytes(), script.as_bytes(), USUAL_NODES)?;
     Ok(trail)
 }
 
 fn audited(alloc: Global, tree: &str, script: &str) -> Result<String, CliFault> {
     let trail = trail_of(alloc, tree, script)?;
-    audit_cmd(alloc, trail.as_bytes(), &mut Silent)
+    audit_cmd(alloc, trail.as_bytes(), &mut Silent, USUAL_NODES)
 }
 
 fn trails_of<R: Threads + Wait + Sync + AllocGlobal>(
@@ -98,7 +105,16 @@ fn trails_of<R: Threads + Wait + Sync + AllocGlobal>(
     let alloc = rt.alloc();
     let mut trails = String::new(alloc);
     let (tree, script) = (tree.as_bytes(), script.as_bytes());
-    run_with_trail_cmd(rt, alloc, tree, script, 1, &NoGate, &mut trails)?;
+    run_with_trail_cmd(
+        rt,
+        alloc,
+        tree,
+        script,
+        1,
+        &NoGate,
+        &mut trails,
+        USUAL_NODES,
+    )?;
     Ok(trails)
 }
 
@@ -108,7 +124,7 @@ fn chain_audited<R: Threads + Wait + Sync + AllocGlobal>(
     script: &str,
 ) -> Result<String, CliFault> {
     let trails = trails_of(rt, tree, script)?;
-    audit_cmd(rt.alloc(), trails.as_bytes(), &mut Silent)
+    audit_cmd(rt.alloc(), trails.as_bytes(), &mut Silent, USUAL_NODES)
 }
 
 /// The text of the command's file that is given in parts; empty if there is none.
@@ -145,13 +161,21 @@ fn printed<R: Threads + Wait + Sync + AllocGlobal>(
         Command::Dis(_) => dis_cmd(alloc, bytes),
         Command::Bounds(_) => verify_cmd(alloc, bytes),
         Command::Alone(tree, text, args) => done_alone(alloc, tree, text, args),
-        Command::Drive(tree, _) => drive_cmd(alloc, tree.as_bytes(), bytes),
+        Command::Drive(tree, _) => drive_cmd(alloc, tree.as_bytes(), bytes, USUAL_NODES),
         Command::Trail(tree, _) => trail_of(alloc, tree, file),
         Command::DriveAudit(tree, _) => audited(alloc, tree, file),
-        Command::Run(tree, _) => run_cmd(rt, alloc, tree.as_bytes(), bytes, 1, &NoGate),
+        Command::Run(tree, _) => run_cmd(
+            rt,
+            alloc,
+            tree.as_bytes(),
+            bytes,
+            1,
+            &NoGate,
+            USUAL_NODES,
+        ),
         Command::RunTrail(tree, _) => trails_of(rt, tree, file),
         Command::RunAudit(tree, _) => chain_audited(rt, tree, file),
-        Command::Audit(_) => audit_cmd(alloc, bytes, &mut Silent),
+        Command::Audit(_) => audit_cmd(alloc, bytes, &mut Silent, USUAL_NODES),
     }
 }
 

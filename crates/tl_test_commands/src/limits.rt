@@ -8,12 +8,13 @@ use tl_core::MAX_OPEN;
 use tl_history::{MAX_CALLS, MAX_EVENTS};
 use tl_instr::{MAX_ARGS, MAX_COUNT, NODE_REGISTERS, VALUE_REGISTERS};
 use tl_procedures::{MAX_NAME, MAX_PROCEDURES};
-use tl_tree::{FIELD_COUNT, MAX_NODES};
+use tl_tree::{FIELD_COUNT, MAX_NODES, USUAL_NODES};
 
 /// Each limit's constant, and its number in the documents.
-const LIMITS: [(&str, usize, usize); 17] = [
+const LIMITS: [(&str, usize, usize); 18] = [
     ("trails of a chain", MAX_TRAILS, 256),
-    ("nodes of a tree", MAX_NODES, 4_096),
+    ("nodes of a tree", USUAL_NODES as usize, 4_096),
+    ("nodes of a tree with --nodes", MAX_NODES, 65_535),
     ("fields of a record", FIELD_COUNT, 8),
     ("instructions of a code", MAX_COUNT, 1_024),
     ("arguments of a call", MAX_ARGS, 8),

@@ -6,12 +6,12 @@ use std::process::Abort;
 use std::sync::Arc;
 use std::test::Fail;
 use tl_machine::{Stop, Turn, Want, local};
-use tl_tree::Shape;
+use tl_tree::{Shape, USUAL_NODES};
 
 /// A call that looks at this node of a root with two children, at its start.
 fn turn_at(alloc: Global, node: i64) -> Result<Turn, Fail> {
     let procedure = Arc::new(alloc, procedure_of(alloc, LOOK)?)?;
-    let shape = Arc::new(alloc, Shape::new(alloc, &[0, 0, 0])?)?;
+    let shape = Arc::new(alloc, Shape::new(alloc, &[0, 0, 0], USUAL_NODES)?)?;
     Ok(Turn::start(procedure, shape, &[node])?)
 }
 

@@ -6,6 +6,7 @@ use crate::texts::{ONE_NODE, SWEEP_ALONE, ZEROS};
 use std::test::Fail;
 use tl_audit::Silent;
 use tl_commands::{audit_cmd, run_with_trail_cmd};
+use tl_tree::USUAL_NODES;
 use tl_workers::NoGate;
 
 /// The beginning of a script.
@@ -84,8 +85,17 @@ fn two_sweeps_run_at_once(rt: HostRuntime) -> Result<(), Fail> {
     let script = [CALLS, calls, SWEEP_ALONE, "]}"].concat(alloc)?;
     let (tree, script) = (ZEROS.as_bytes(), script.as_bytes());
     let mut trail = String::new(alloc);
-    let lines = run_with_trail_cmd(&rt, alloc, tree, script, 2, &NoGate, &mut trail)?;
-    let order = audit_cmd(alloc, trail.as_bytes(), &mut Silent)?;
+    let lines = run_with_trail_cmd(
+        &rt,
+        alloc,
+        tree,
+        script,
+        2,
+        &NoGate,
+        &mut trail,
+        USUAL_NODES,
+    )?;
+    let order = audit_cmd(alloc, trail.as_bytes(), &mut Silent, USUAL_NODES)?;
     let is_first = order.as_str() == "{\"order\":[0,1]}\n";
     assert!(rt; is_first || order.as_str() == "{\"order\":[1,0]}\n");
     let batch = "{\"batch\":[{\"call\":0,\"reply\":[]},{\"call\":1,\"reply\":[]}]}\n";

@@ -9,7 +9,7 @@ use tl_history::{History, HistoryFault, MAX_EVENTS};
 use tl_machine::Reply;
 use tl_serial::{Running, conclude, is_of_shape, order_of, replay};
 use tl_serial_order::KeptOrder;
-use tl_tree::{Shape, Tree, write_tree};
+use tl_tree::{Shape, Tree, USUAL_NODES, write_tree};
 use tl_tree_locking::Event;
 
 // ---- histories
@@ -153,7 +153,7 @@ fn with_history(
     events: &[Row],
     calls: &[u32],
 ) -> Result<(), Fail> {
-    let shape = Shape::new(rt.alloc(), parents)?;
+    let shape = Shape::new(rt.alloc(), parents, USUAL_NODES)?;
     let mut history = History::new(rt.alloc(), 100);
     is_ordered(rt, &shape, &mut history, events, calls)
 }
@@ -193,7 +193,7 @@ fn fill(rt: &(impl Abort + AllocGlobal), shape: &Shape, history: &mut History) -
 // Reserving room doesn't move all events each time.
 #[test]
 fn a_million_events_of_many_calls(rt: HostRuntime) -> Result<(), Fail> {
-    let shape = Shape::new(rt.alloc(), &[0; 127])?;
+    let shape = Shape::new(rt.alloc(), &[0; 127], USUAL_NODES)?;
     let mut history = History::new(rt.alloc(), MAX_EVENTS);
     fill(&rt, &shape, &mut history)
 }
@@ -214,7 +214,7 @@ fn keep(rt: &(impl Abort + AllocGlobal), shape: &Shape) -> Result<(), Fail> {
 // A call that locks its first node, and then a child of that.
 #[test]
 fn an_order_is_kept_by_two_numbers_a_node(rt: HostRuntime) -> Result<(), Fail> {
-    let shape = Shape::new(rt.alloc(), &CHAIN)?;
+    let shape = Shape::new(rt.alloc(), &CHAIN, USUAL_NODES)?;
     keep(&rt, &shape)
 }
 

@@ -3,7 +3,7 @@
 use crate::texts::FORK;
 use std::process::Abort;
 use std::test::Fail;
-use tl_tree::{Record, Shape, Tree, TreeFault, read_tree, write_tree};
+use tl_tree::{Record, Shape, Tree, TreeFault, USUAL_NODES, read_tree, write_tree};
 
 /// A record with the least number, the numbers around 0 and the greatest number.
 const WIDE: Record = [i64::MIN, -1, 0, i64::MAX, 1, -2, i64::MAX, i64::MIN];
@@ -23,7 +23,7 @@ fn change(rt: &(impl Abort + AllocGlobal), tree: &mut Tree, copy: &Tree) -> Resu
     let changed = write_tree(alloc, tree)?;
     let texts = format!(in alloc; "{}\n{changed}", write_tree(alloc, copy)?)?;
     assert_eq!(rt; texts.as_str(), TEXTS);
-    let again = read_tree(alloc, &changed)?;
+    let again = read_tree(alloc, &changed, USUAL_NODES)?;
     assert_eq!(rt; again.records(), tree.records());
     Ok(())
 }
@@ -35,17 +35,25 @@ fn copy_and_change(rt: &(impl Abort + AllocGlobal), tree: &mut Tree) -> Result<(
 
 #[test]
 fn a_tree_is_read_copied_and_written(rt: HostRuntime) -> Result<(), Fail> {
-    let mut tree = read_tree(rt.alloc(), FORK)?;
+    let mut tree = read_tree(rt.alloc(), FORK, USUAL_NODES)?;
     copy_and_change(&rt, &mut tree)
 }
 
 // ---- shapes
 
 #[test]
-fn a_shape_has_at_most_4096_nodes(rt: HostRuntime) -> Result<(), Fail> {
-    assert_eq!(rt; Shape::new(rt.alloc(), &[0; 4096])?.kids(0), 4095);
-    let more = Shape::new(rt.alloc(), &[0; 4097]);
+fn a_shape_has_at_most_as_many_nodes_as_it_may(rt: HostRuntime) -> Result<(), Fail> {
+    assert_eq!(rt;
+        Shape::new(rt.alloc(), &[0; 4096], USUAL_NODES)?.kids(0),
+        4095
+    );
+    let more = Shape::new(rt.alloc(), &[0; 4097], USUAL_NODES);
     assert_eq!(rt; more.err(), Some(TreeFault::TooMany));
+    assert_eq!(rt; Shape::new(rt.alloc(), &[0; 4097], 4097)?.kids(0), 4096);
+    assert_eq!(rt;
+        Shape::new(rt.alloc(), &[0; 3], 2).err(),
+        Some(TreeFault::TooMany)
+    );
     Ok(())
 }
 
@@ -84,7 +92,7 @@ fn ways(rt: &impl Abort, shape: &Shape) {
 
 #[test]
 fn a_shape_knows_its_ways(rt: HostRuntime) -> Result<(), Fail> {
-    let shape = Shape::new(rt.alloc(), &[0, 0, 1, 0, 1, 4])?;
+    let shape = Shape::new(rt.alloc(), &[0, 0, 1, 0, 1, 4], USUAL_NODES)?;
     ways(&rt, &shape);
     Ok(())
 }

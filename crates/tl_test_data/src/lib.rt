@@ -4,7 +4,7 @@
 use std::alloc::Global;
 use std::test::Fail;
 use tl_asm::assemble;
-use tl_tree::{Tree, read_tree};
+use tl_tree::{Tree, USUAL_NODES, read_tree};
 use tl_verify::{Proc, verify};
 
 /// A node whose field 0 is 5.
@@ -133,5 +133,5 @@ pub fn procedure_of(alloc: Global, text: &str) -> Result<Proc, Fail> {
 
 /// The tree of a text.
 pub fn tree_of(alloc: Global, text: &str) -> Result<Tree, Fail> {
-    Ok(read_tree(alloc, text)?)
+    Ok(read_tree(alloc, text, USUAL_NODES)?)
 }

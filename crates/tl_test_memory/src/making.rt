@@ -3,15 +3,15 @@
 use crate::halt::Halt;
 use std::alloc::Global;
 use tl_json::procedure_of_text;
-use tl_tree::{Tree, read_tree};
+use tl_tree::{Tree, USUAL_NODES, read_tree};
 use tl_verify::Proc;
 
 /// The tree of a text.
 pub fn tree_of(alloc: Global, text: &str) -> Result<Tree, Halt> {
-    if let Ok(tree) = read_tree(alloc, text) {
+    if let Ok(tree) = read_tree(alloc, text, USUAL_NODES) {
         return Ok(tree);
     }
-    read_tree(alloc, text).map_err(|_| Halt::Refused)
+    read_tree(alloc, text, USUAL_NODES).map_err(|_| Halt::Refused)
 }
 
 /// The procedure of a text.

@@ -9,6 +9,7 @@ use tl_commands::run_cmd;
 use tl_table::Receipt;
 use tl_test_data::{FORK, LOOK};
 use tl_test_engines::{Asked, Ended, Signal, batch, with_engine_on_threads, with_one_session};
+use tl_tree::USUAL_NODES;
 use tl_tree_locking::Event;
 use tl_workers::{Engine, Gate, Refusal, Session};
 
@@ -239,7 +240,7 @@ fn two_workers_of_a_run_cross<R: Threads + Wait + Abort + Sync>(
     point: Point,
 ) -> Result<(), Fail> {
     let gate = Crossing::new(point);
-    let printed = run_cmd(rt, alloc, FORK.as_bytes(), SCRIPT, 2, &gate)?;
+    let printed = run_cmd(rt, alloc, FORK.as_bytes(), SCRIPT, 2, &gate, USUAL_NODES)?;
     assert_eq!(rt; printed.as_str(), PRINTED);
     assert!(rt; gate.came_in_time());
     Ok(())

@@ -13,6 +13,7 @@ use tl_test_engines::{
     Ended, batch, end_exchanged, end_opened, with_engine_on_threads, with_exchanged_sessions,
     with_one_session,
 };
+use tl_tree::USUAL_NODES;
 use tl_workers::{Did, Engine, NoGate, Refusal, Session};
 
 /// The procedure `add`, on a node whose field 0 is 5.
@@ -149,7 +150,7 @@ fn concluded<R: Wait + Abort + AllocGlobal, U, E: FnOnce(Engine, Vec<Session>) -
     end_opened(
         rt,
         rt.alloc(),
-        || Ok(open_engine(rt.alloc(), ONE_NODE.as_bytes())?),
+        || Ok(open_engine(rt.alloc(), ONE_NODE.as_bytes(), USUAL_NODES)?),
         &PROCEDURES,
         |engine, session| {
             let receipt = engine.call(rt, rt.alloc(), session, "add", &[0, 1], &NoGate)?;
@@ -176,7 +177,7 @@ fn an_engine_is_concluded_to_its_trail(rt: HostRuntime) -> Result<(), Fail> {
         conclude_engine_with_trail(rt.alloc(), engine, sessions, &mut trail)
     })??;
     assert_eq!(rt; lines.as_str(), CONCLUSION);
-    let order = audit_cmd(rt.alloc(), trail.as_bytes(), &mut Silent)?;
+    let order = audit_cmd(rt.alloc(), trail.as_bytes(), &mut Silent, USUAL_NODES)?;
     assert_eq!(rt; order.as_str(), "{\"order\":[0]}\n");
     Ok(())
 }

@@ -11,6 +11,7 @@ use tl_commands::{
 use tl_generations::{GrowthFault, Succession};
 use tl_test_data::{ADD, ONE_NODE};
 use tl_test_engines::end_opened;
+use tl_tree::USUAL_NODES;
 use tl_workers::{Engine, NoGate, Session};
 
 /// Adds 1 to field 0 of the node, which has `sum` then.
@@ -77,14 +78,26 @@ fn audited(
     before: Option<&Trail>,
     line: &str,
 ) -> Result<Trail, CliFault> {
-    let (orders, last) = audit_next_cmd(rt.alloc(), file.as_bytes(), before, &mut Silent)?;
+    let (orders, last) = audit_next_cmd(
+        rt.alloc(),
+        file.as_bytes(),
+        before,
+        &mut Silent,
+        USUAL_NODES,
+    )?;
     assert_eq!(rt; orders.as_str(), line);
     Ok(last)
 }
 
 /// Checks that the file doesn't take over from the trail.
 fn is_broken(rt: &(impl Abort + AllocGlobal), file: &str, before: &Trail) {
-    match audit_next_cmd(rt.alloc(), file.as_bytes(), Some(before), &mut Silent) {
+    match audit_next_cmd(
+        rt.alloc(),
+        file.as_bytes(),
+        Some(before),
+        &mut Silent,
+        USUAL_NODES,
+    ) {
         Ok(_) => assert!(rt; false, "a file in the wrong place is clean"),
         Err(fault) => assert_eq!(rt; fault.numbers().as_slice(), [718, 0].as_slice()),
     }
@@ -93,7 +106,7 @@ fn is_broken(rt: &(impl Abort + AllocGlobal), file: &str, before: &Trail) {
 #[test]
 fn engines_take_over_from_one_another(rt: HostRuntime) -> Result<(), Fail> {
     let alloc = rt.alloc();
-    let (engine, mut succession) = open_generations(alloc, ONE_NODE.as_bytes())?;
+    let (engine, mut succession) = open_generations(alloc, ONE_NODE.as_bytes(), USUAL_NODES)?;
     let first = first_file(&rt, engine, &mut succession)?;
     let engine = next_engine(alloc, &succession)?;
     let next = next_file(&rt, engine, &mut succession)?;
@@ -106,15 +119,15 @@ fn engines_take_over_from_one_another(rt: HostRuntime) -> Result<(), Fail> {
 #[test]
 fn nodes_are_appended_between_engines(rt: HostRuntime) -> Result<(), Fail> {
     let alloc = rt.alloc();
-    let (engine, mut succession) = open_generations(alloc, ONE_NODE.as_bytes())?;
+    let (engine, mut succession) = open_generations(alloc, ONE_NODE.as_bytes(), USUAL_NODES)?;
     let first = first_file(&rt, engine, &mut succession)?;
     assert_eq!(rt;
-        succession.check_growth(&[0, 3]),
+        succession.check_growth(&[0, 3], USUAL_NODES),
         Err(GrowthFault::BadParent(1))
     );
-    assert_eq!(rt; succession.grow(alloc, &[0, 1])?, 1);
+    assert_eq!(rt; succession.grow(alloc, &[0, 1], USUAL_NODES)?, 1);
     assert_eq!(rt;
-        succession.grow(alloc, &[4]),
+        succession.grow(alloc, &[4], USUAL_NODES),
         Err(GrowthFault::BadParent(0))
     );
     let engine = next_engine(alloc, &succession)?;

@@ -23,24 +23,27 @@ pub same_list : (ds : List Data) → items_of_list (items_of ds) ≡ ds
 same_list [] = refl
 same_list (d ∷ ds) = ap (λ l. d ∷ l) (same_list ds)
 
-each_read : (ts : List TrailValue) → All IsWritable ts → AreEach (map trail_data ts) ts
-each_read [] h = tt
-each_read (t ∷ ts) h = (data_read t (h 0 t (omega arith)), each_read ts (λ k d less. h (suc k) d (omega arith)))
+each_read : (limit : ℕ) (ts : List TrailValue) → All IsWritable ts → All (λ (t : TrailValue). length t.parents ≤ limit) ts → AreEach limit (map trail_data ts) ts
+each_read limit [] h fit = tt
+each_read limit (t ∷ ts) h fit = (
+  data_read limit t (fit 0 t (omega arith)) (h 0 t (omega arith)),
+  each_read limit ts (λ k d less. h (suc k) d (omega arith)) (λ k d less. fit (suc k) d (omega arith)),
+)
 
 chain_shallow : (ts : List TrailValue) → depth (list_data (map trail_data ts)) ≤ max_depth
 chain_shallow ts = omega (arith, shallow_items trail_data 4 trail_flat ts)
 
-chain_found : (ts : List TrailValue) → All IsWritable ts → 1 ≤ length ts → length ts ≤ 256 → IsChain (if_chain (map trail_data ts)) ts
-chain_found ts h some few =
+chain_found : (limit : ℕ) (ts : List TrailValue) → All IsWritable ts → All (λ (t : TrailValue). length t.parents ≤ limit) ts → 1 ≤ length ts → length ts ≤ 256 → IsChain limit (if_chain (map trail_data ts)) ts
+chain_found limit ts h fit some few =
     let many = length-map ts trail_data in
-    record { items = map trail_data ts; items_are = chain_some (map trail_data ts) (omega (arith, many, some)) (omega (arith, many, few)); each = each_read ts h }
+    record { items = map trail_data ts; items_are = chain_some (map trail_data ts) (omega (arith, many, some)) (omega (arith, many, few)); each = each_read limit ts h fit }
 
-pub chain_read : (ts : List TrailValue) → All IsWritable ts → 1 ≤ length ts → length ts ≤ 256 → IsChainText (chain_text ts) ts
-chain_read ts h some few =
+pub chain_read : (limit : ℕ) (ts : List TrailValue) → All IsWritable ts → All (λ (t : TrailValue). length t.parents ≤ limit) ts → 1 ≤ length ts → length ts ≤ 256 → IsChainText limit (chain_text ts) ts
+chain_read limit ts h fit some few =
     let ds = map trail_data ts in
     let is : read (chain_text ts) ≡ Some (list_data ds) = subst (λ l. read l ≡ Some (list_data ds)) (chain_written ts) (text_read (list_data ds) (list_back trail_data IsWritable trail_back ts h) (chain_shallow ts)) in
     let in_it : chain_in (chain_text ts) ≡ if_chain ds = ap (option_and_then chain_of) is ∙ ap if_chain (same_list ds) in
-    subst (λ o. IsChain o ts) (sym in_it) (chain_found ts h some few)
+    subst (λ o. IsChain limit o ts) (sym in_it) (chain_found limit ts h fit some few)
 
 -- ---- the commas
 

@@ -67,10 +67,10 @@ pub own_events : {A : Type 0} (xs : List A) → map (λ x. x) xs ≡ xs
 own_events [] = refl
 own_events (x ∷ xs) = ap (λ ys. x ∷ ys) (own_events xs)
 
-module _ (ts t1 t2 t3 t4 t5 rest : List Token) (width : Width) (raw : RawTrail) (tree : TreeValue) (de d : Data) where
+module _ (limit : ℕ) (ts t1 t2 t3 t4 t5 rest : List Token) (width : Width) (raw : RawTrail) (tree : TreeValue) (de d : Data) where
   pub trail_of_members : BeginsWithMember (codes "calls") (each_of call_of) ts (map call_form raw.calls.items) t1 → BeginsWithMember (codes "end") Some t1 de t2 → IsFirstWidth de width → records_of width de ≡ Some raw.ends.items
       → BeginsWithMember (codes "events") (each_of (event_of width)) t2 raw.events.items t3 → BeginsWithMember (codes "procs") (each_of procedure_of) t3 (map procedure_form raw.procedures.items) t4
-      → BeginsWithMember (codes "tree") Some t4 d t5 → tree_from (tree_form_at width d) ≡ Ok tree → read_key t5 ≡ Some (None, rest) → AreOfTrail ts tree raw rest
+      → BeginsWithMember (codes "tree") Some t4 d t5 → tree_from limit (tree_form_at width d) ≡ Ok tree → read_key t5 ≡ Some (None, rest) → AreOfTrail limit ts tree raw rest
   trail_of_members calls ends first ends_are events procedures last is end =
       let n = length ts in
       let m1 = no_members in
@@ -88,11 +88,11 @@ module _ (ts t1 t2 t3 t4 t5 rest : List Token) (width : Width) (raw : RawTrail) 
       let parts : Parts = record { calls = calls.member.found; ends = ends.member.found; events = events.member.found; procedures = procedures.member.found; tree = last.member.found } in
       let same = same_some ends.member.found de ends.member.stands in
       let form = formed width parts raw calls.member.stands (ap (records_of width) same ∙ ends_are) events.member.stands procedures.member.stands in
-      let tree_is : tree_from (tree_form_at width last.member.found) ≡ Ok tree = ap (λ x. tree_from (tree_form_at width x)) (same_some last.member.found d last.member.stands) ∙ is in
+      let tree_is : tree_from limit (tree_form_at width last.member.found) ≡ Ok tree = ap (λ x. tree_from limit (tree_form_at width x)) (same_some last.member.found d last.member.stands) ∙ is in
       record {
         found = all;
         are_members = a.0 ∙ b.0 ∙ e.0 ∙ g.0 ∙ h.0 ∙ no_member (value member_depth) (n - 1 - 1 - 1 - 1 - 1) t5 m6 rest h.1 end ∙ ap (λ ms. Some (ms, rest)) (put_in_order calls.member.found ends.member.found events.member.found procedures.member.found last.member.found);
-        half_read = subst (λ o. IsHalfRead (option_and_then form_of_parts o) tree raw) (sym (parts_in_order calls.member.found ends.member.found events.member.found procedures.member.found last.member.found))
-            (half_first width parts tree raw (subst (λ x. IsFirstWidth x width) (sym same) first)
-            (subst (λ o. IsHalfRead o tree raw) (sym form) (half_read (tree_form_at width last.member.found) raw tree tree_is)));
+        half_read = subst (λ o. IsHalfRead limit (option_and_then form_of_parts o) tree raw) (sym (parts_in_order calls.member.found ends.member.found events.member.found procedures.member.found last.member.found))
+            (half_first limit width parts tree raw (subst (λ x. IsFirstWidth x width) (sym same) first)
+            (subst (λ o. IsHalfRead limit o tree raw) (sym form) (half_read limit (tree_form_at width last.member.found) raw tree tree_is)));
       }

@@ -91,8 +91,8 @@ module _ (tree : TreeValue) (raw : RawTrail) (procedures : List Named) (taken : 
 
 -- ---- what was found
 
-pub found_is : (found : Option TrailForm) (tree : TreeValue) (raw : RawTrail) (t : TrailValue) → IsHalfRead found tree raw → ((parts : List ℤ × Records) → IsTrailOf tree (form_with raw parts) t) → IsFound found t
-found_is found tree raw t is trail = record {
+pub found_is : (limit : ℕ) (found : Option TrailForm) (tree : TreeValue) (raw : RawTrail) (t : TrailValue) → IsHalfRead limit found tree raw → ((parts : List ℤ × Records) → IsTrailOf tree (form_with raw parts) t) → IsFound limit found t
+found_is limit found tree raw t is trail = record {
   form = form_with raw is.parts;
   tree = tree;
   form_is = is.form_is;
@@ -101,5 +101,5 @@ found_is found tree raw t is trail = record {
   same = (trail is.parts).same;
 }
 
-pub found_fault : (found : Option TrailForm) (tree : TreeValue) (raw : RawTrail) (e : TrailFault) → IsHalfRead found tree raw → ((parts : List ℤ × Records) → IsFaultOf tree (form_with raw parts) e) → IsFaultFound found e
-found_fault found tree raw e is wrong = inr (form_with raw is.parts, is.form_is, inr (tree, is.tree_is, wrong is.parts))
+pub found_fault : (limit : ℕ) (found : Option TrailForm) (tree : TreeValue) (raw : RawTrail) (e : TrailFault) → IsHalfRead limit found tree raw → ((parts : List ℤ × Records) → IsFaultOf tree (form_with raw parts) e) → IsFaultFound limit found e
+found_fault limit found tree raw e is wrong = inr (form_with raw is.parts, is.form_is, inr (tree, is.tree_is, wrong is.parts))

@@ -11,6 +11,8 @@ use Rattle.serde_json.specs.Read.{read}
 use Rattle.serde_json.specs.View.{items_of}
 use Rattle.serde_json.specs.Written.{has_float}
 use Rattle.tl_tree.specs.declared.record.Width.TheVariants.{Wide}
+use Rattle.tl_history.specs.declared.history.TheConstants.{MAX_CALLS}
+use Rattle.tl_tree.specs.declared.shape.TheConstants.{MAX_NODES}
 use Rattle.tl_tree.specs.Records.{Records}
 use Rattle.tl_tree.specs.Trees.{TreeValue, IsRecord}
 use Rattle.tl_tree.specs.Reading.{each_item, integer_of, tree_from, form_at as tree_form_at}
@@ -118,7 +120,7 @@ each_read f g h P back (x ∷ xs) all =
     let rest = each_read f g h P back xs (λ k d less. all (suc k) d (omega arith)) in
     rw (first, rest) refl
 
-natural_read : (n : ℕ) → n < 4096 → integer_of (natural n) ≡ Some (pos n)
+natural_read : (n : ℕ) → n < 65536 → integer_of (natural n) ≡ Some (pos n)
 natural_read n less = let fits : n < 2 ^ 63 = omega arith in integer_back (pos n) (record { sfits = fits })
 
 reply_read : (reply : Option (List ℤ)) → IfSome reply (λ values. All (FitsSigned w64) values) → IfSome reply (λ values. length values ≤ 32) → reply_of (reply_data reply) ≡ Some reply
@@ -134,7 +136,7 @@ record IsInside (calls nodes : ℕ) (e : Event) : Type 0 where
   pub node : IsOfNodes nodes e
   pub call : caller e < calls
 
-module _ (calls nodes : ℕ) (few : calls ≤ 4096) (small : nodes ≤ 4096) where
+module _ (calls nodes : ℕ) (few : calls ≤ MAX_CALLS) (small : nodes ≤ MAX_NODES) where
   event_read : (e : Event) → IsInside calls nodes e → event_of Wide (event_data e) ≡ Some (event_form e)
   event_read (Admit c) h = rw (natural_read c (omega (arith, h.call))) refl
   event_read (Lock x c found) h = rw (natural_read c (omega (arith, h.call)), natural_read x (omega (arith, h.node)), record_back found h.own) refl
@@ -218,9 +220,9 @@ module _ (procedures : List Named) (free : AreFreeAfter [] procedures) where
 
 -- ---- the whole
 
-tree_form : (o : Option (List ℤ × Records)) (tree : TreeValue) → tree_from o ≡ Ok tree → (form : List ℤ × Records) × (o ≡ Some form) × (tree_from (Some form) ≡ Ok tree)
-tree_form None tree h = absurd cc
-tree_form (Some form) tree h = (form, refl, h)
+tree_form : (limit : ℕ) (o : Option (List ℤ × Records)) (tree : TreeValue) → tree_from limit o ≡ Ok tree → (form : List ℤ × Records) × (o ≡ Some form) × (tree_from limit (Some form) ≡ Ok tree)
+tree_form limit None tree h = absurd cc
+tree_form limit (Some form) tree h = (form, refl, h)
 
 module _ (t : TrailValue) (w : IsWritable t) where
   abbrev tree_of_trail : TreeValue
@@ -264,9 +266,9 @@ module _ (t : TrailValue) (w : IsWritable t) where
       ∙ rw (eq-eqb (length t.ends) (length t.parents) w.trail.end_size, le-leb (length (reverse t.past)) 1048576 short)
       (ap (λ past. Ok (record t { past = past })) (reverse-reverse t.past))
 
-  written_form : (text : List ℕ) → read text ≡ Some (trail_data t) → IsTrailText text t
-  written_form text h =
-      let found = tree_form (tree_form_at Wide (tree_data tree_of_trail)) tree_of_trail w.tree in
+  written_form : (limit : ℕ) → length t.parents ≤ limit → (text : List ℕ) → read text ≡ Some (trail_data t) → IsTrailText limit text t
+  written_form limit fits text h =
+      let found = tree_form limit (tree_form_at Wide (tree_data tree_of_trail)) tree_of_trail (w.tree limit fits) in
       record {
         form = form_with found.0;
         tree = tree_of_trail;
@@ -278,10 +280,10 @@ module _ (t : TrailValue) (w : IsWritable t) where
 
 -- ---- the text is read back
 
-small_back : (n : ℕ) → n < 4096 → IsReadBack (natural n)
+small_back : (n : ℕ) → n < 65536 → IsReadBack (natural n)
 small_back n less = natural_back n (omega arith)
 
-module _ (calls nodes : ℕ) (few : calls ≤ 4096) (small : nodes ≤ 4096) where
+module _ (calls nodes : ℕ) (few : calls ≤ MAX_CALLS) (small : nodes ≤ MAX_NODES) where
   short_back : (letter : List ℕ) (c : ℕ) → c < calls → IsReadBack (list_data (string letter ∷ natural c ∷ []))
   short_back letter c less = array_back _ (item_back _ _ (string_back letter) (item_back _ _ (small_back c (omega arith)) no_items_back))
 
@@ -312,9 +314,9 @@ trail_back t w =
 text_back : (t : TrailValue) → IsWritable t → read (trail_text t) ≡ Some (trail_data t)
 text_back t w = text_read (trail_data t) (trail_back t w) (omega (arith, trail_flat t))
 
-pub written_read : (t : TrailValue) → IsWritable t → IsTrailText (trail_text t) t
-written_read t w = written_form t w (trail_text t) (text_back t w)
+pub written_read : (limit : ℕ) (t : TrailValue) → length t.parents ≤ limit → IsWritable t → IsTrailText limit (trail_text t) t
+written_read limit t fits w = written_form t w limit fits (trail_text t) (text_back t w)
 
 -- the data is that of the trail
-pub data_read : (t : TrailValue) → IsWritable t → IsFound (form_of_data (trail_data t)) t
-data_read t w = subst (λ o. IsFound (option_and_then form_of_data o) t) (text_back t w) (written_read t w)
+pub data_read : (limit : ℕ) (t : TrailValue) → length t.parents ≤ limit → IsWritable t → IsFound limit (form_of_data (trail_data t)) t
+data_read limit t fits w = subst (λ o. IsFound limit (option_and_then form_of_data o) t) (text_back t w) (written_read limit t fits w)

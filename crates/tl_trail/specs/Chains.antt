@@ -24,36 +24,36 @@ abbrev pub chain_in : List ℕ → Option (List Data)
 chain_in text = option_and_then chain_of (read text)
 
 -- each value is that of the trail at its place
-abbrev pub AreEach : List Data → List TrailValue → Type 0
-AreEach [] [] = Unit {0}
-AreEach [] (t ∷ ts) = ⊥
-AreEach (d ∷ ds) [] = ⊥
-AreEach (d ∷ ds) (t ∷ ts) = IsFound (form_of_data d) t × AreEach ds ts
+abbrev pub AreEach : ℕ → List Data → List TrailValue → Type 0
+AreEach limit [] [] = Unit {0}
+AreEach limit [] (t ∷ ts) = ⊥
+AreEach limit (d ∷ ds) [] = ⊥
+AreEach limit (d ∷ ds) (t ∷ ts) = IsFound limit (form_of_data d) t × AreEach limit ds ts
 
 -- the first value that isn't a trail's has that fault first
-abbrev pub IsFirstOf : List Data → TrailFault → Type 0
-IsFirstOf [] e = ⊥
-IsFirstOf (d ∷ ds) e = IsFaultFound (form_of_data d) e ⊎ ((t : TrailValue) × IsFound (form_of_data d) t × IsFirstOf ds e)
+abbrev pub IsFirstOf : ℕ → List Data → TrailFault → Type 0
+IsFirstOf limit [] e = ⊥
+IsFirstOf limit (d ∷ ds) e = IsFaultFound limit (form_of_data d) e ⊎ ((t : TrailValue) × IsFound limit (form_of_data d) t × IsFirstOf limit ds e)
 
 -- The values that were found are those of the trails at their places.
-pub record IsChain (found : Option (List Data)) (ts : List TrailValue) : Type 0 where
+pub record IsChain (limit : ℕ) (found : Option (List Data)) (ts : List TrailValue) : Type 0 where
   pub items : List Data
   pub items_are : found ≡ Some items
-  pub each : AreEach items ts
+  pub each : AreEach limit items ts
 
 -- what is wrong first with what was found: there are no such values; else what is wrong with the first that isn't a trail's
-abbrev pub IsFaultOfChain : Option (List Data) → TrailFault → Type 0
-IsFaultOfChain found e =
+abbrev pub IsFaultOfChain : ℕ → Option (List Data) → TrailFault → Type 0
+IsFaultOfChain limit found e =
     ((e ≡ NotTrail) × (found ≡ None))
-    ⊎ ((items : List Data) × (found ≡ Some items) × IsFirstOf items e)
+    ⊎ ((items : List Data) × (found ≡ Some items) × IsFirstOf limit items e)
 
 -- the text is a list of 1 to 256 values, each that of the trail at its place
-abbrev pub IsChainText : List ℕ → List TrailValue → Type 0
-IsChainText text ts = IsChain (chain_in text) ts
+abbrev pub IsChainText : ℕ → List ℕ → List TrailValue → Type 0
+IsChainText limit text ts = IsChain limit (chain_in text) ts
 
 -- what is wrong with a text first
-abbrev pub IsFirstChainFault : List ℕ → TrailFault → Type 0
-IsFirstChainFault text e = IsFaultOfChain (chain_in text) e
+abbrev pub IsFirstChainFault : ℕ → List ℕ → TrailFault → Type 0
+IsFirstChainFault limit text e = IsFaultOfChain limit (chain_in text) e
 
 -- the trails' texts in brackets, with a comma between
 abbrev pub chain_text : List TrailValue → List ℕ

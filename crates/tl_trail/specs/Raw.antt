@@ -1,5 +1,5 @@
 -- A trail half read: what is kept of a text's form.
-use Rattle.std.specs.Prelude.{◌≡◌, ◌⊎◌, ℤ, List, [], map, Option, Some, None, option_map, Ok, Err, string_bytes}
+use Rattle.std.specs.Prelude.{ℕ, ◌≡◌, ◌⊎◌, ℤ, List, [], map, Option, Some, None, option_map, Ok, Err, string_bytes}
 use Rattle.tl_tree.specs.Records.{Records}
 use Rattle.tl_tree.specs.Trees.{TreeValue}
 use Rattle.tl_tree.specs.Reading.{tree_from}
@@ -41,16 +41,16 @@ form_with raw tree = record {
 -- ---- the text
 
 -- The form is that of what was read and of the tree's parts.
-pub record IsHalfRead (form : Option TrailForm) (tree : TreeValue) (raw : RawTrail) : Type 0 where
+pub record IsHalfRead (limit : ℕ) (form : Option TrailForm) (tree : TreeValue) (raw : RawTrail) : Type 0 where
   pub parts : List ℤ × Records
   pub form_is : form ≡ Some (form_with raw parts)
-  pub tree_is : tree_from (Some parts) ≡ Ok tree
+  pub tree_is : tree_from limit (Some parts) ≡ Ok tree
 
 -- there is no form, or the tree has that fault
-abbrev pub IsUnread : Option TrailForm → TrailFault → Type 0
-IsUnread found e =
+abbrev pub IsUnread : ℕ → Option TrailForm → TrailFault → Type 0
+IsUnread limit found e =
     ((e ≡ NotTrail) × (found ≡ None))
-    ⊎ ((form : TrailForm) × (f : TreeFault) × (found ≡ Some form) × (e ≡ Tree f) × (tree_from (Some form.tree) ≡ Err f))
+    ⊎ ((form : TrailForm) × (f : TreeFault) × (found ≡ Some form) × (e ≡ Tree f) × (tree_from limit (Some form.tree) ≡ Err f))
 
 -- ---- what the form stands for, with the tree
 

@@ -157,36 +157,36 @@ trail_of_form tree procedures form = trail_of_calls tree procedures form (calls_
 -- ---- the text
 
 -- What was found is a form of the trail.
-pub record IsFound (found : Option TrailForm) (t : TrailValue) : Type 0 where
+pub record IsFound (limit : ℕ) (found : Option TrailForm) (t : TrailValue) : Type 0 where
   pub form : TrailForm
   pub tree : TreeValue
   pub form_is : found ≡ Some form
-  pub tree_is : tree_from (Some form.tree) ≡ Ok tree
+  pub tree_is : tree_from limit (Some form.tree) ≡ Ok tree
   pub taken_up : TakenUp [] form.procedures t.procedures
   pub same : trail_of_form tree t.procedures form ≡ Ok t
 
 -- the text is one of the trail
-abbrev pub IsTrailText : List ℕ → TrailValue → Type 0
-IsTrailText text t = IsFound (form_in text) t
+abbrev pub IsTrailText : ℕ → List ℕ → TrailValue → Type 0
+IsTrailText limit text t = IsFound limit (form_in text) t
 
 -- what is wrong with the first procedure that isn't taken up
 abbrev pub IsUnregistered : List (List ℕ × List ℕ) → TrailFault → Type 0
 IsUnregistered ps e = (f : RegisterFault) × (e ≡ Procedure f) × IsFirstUnfit [] ps f
 
 -- what is wrong with a form first: the tree, else a procedure, else all the rest
-abbrev pub IsFormFault : TrailForm → TrailFault → Type 0
-IsFormFault form e =
-    ((f : TreeFault) × (e ≡ Tree f) × (tree_from (Some form.tree) ≡ Err f))
-    ⊎ ((tree : TreeValue) × (tree_from (Some form.tree) ≡ Ok tree)
+abbrev pub IsFormFault : ℕ → TrailForm → TrailFault → Type 0
+IsFormFault limit form e =
+    ((f : TreeFault) × (e ≡ Tree f) × (tree_from limit (Some form.tree) ≡ Err f))
+    ⊎ ((tree : TreeValue) × (tree_from limit (Some form.tree) ≡ Ok tree)
     × (IsUnregistered form.procedures e
     ⊎ ((procedures : List Named) × TakenUp [] form.procedures procedures × (trail_of_form tree procedures form ≡ Err e))))
 
 -- what is wrong first with what was found
-abbrev pub IsFaultFound : Option TrailForm → TrailFault → Type 0
-IsFaultFound found e =
+abbrev pub IsFaultFound : ℕ → Option TrailForm → TrailFault → Type 0
+IsFaultFound limit found e =
     ((e ≡ NotTrail) × (found ≡ None))
-    ⊎ ((form : TrailForm) × (found ≡ Some form) × IsFormFault form e)
+    ⊎ ((form : TrailForm) × (found ≡ Some form) × IsFormFault limit form e)
 
 -- what is wrong with a text first
-abbrev pub IsFirstTrailFault : List ℕ → TrailFault → Type 0
-IsFirstTrailFault text e = IsFaultFound (form_in text) e
+abbrev pub IsFirstTrailFault : ℕ → List ℕ → TrailFault → Type 0
+IsFirstTrailFault limit text e = IsFaultFound limit (form_in text) e

@@ -1,5 +1,5 @@
 -- The members of a trail, as tokens.
-use Rattle.std.specs.Prelude.{◌≡◌, List, length, Some, None, option_and_then}
+use Rattle.std.specs.Prelude.{ℕ, ◌≡◌, List, length, Some, None, option_and_then}
 use Rattle.json.specs.Token.{Token}
 use Rattle.json.specs.Json.{members, value}
 use Rattle.serde_json.specs.Data.{Data, Members, object, no_members}
@@ -14,10 +14,10 @@ use Rattle.tl_trail.specs.Reading.{parts_of, form_of_parts}
 use Rattle.tl_trail.specs.Tokens.{member_depth}
 
 -- first come the members of an object that is a trail with this tree
-pub record AreOfTrail (ts : List Token) (tree : TreeValue) (raw : RawTrail) (rest : List Token) : Type 0 where
+pub record AreOfTrail (limit : ℕ) (ts : List Token) (tree : TreeValue) (raw : RawTrail) (rest : List Token) : Type 0 where
   pub found : Members
   pub are_members : converted (λ ms. of_members ms no_members) (members (value member_depth) (length ts) ts) ≡ Some (found, rest)
-  pub half_read : IsHalfRead (option_and_then form_of_parts (parts_of (object found))) tree raw
+  pub half_read : IsHalfRead limit (option_and_then form_of_parts (parts_of (object found))) tree raw
 
 -- the width of the records of a list is narrow only where they aren't wide
 abbrev pub IsFirstWidth : Data → Width → Type 0

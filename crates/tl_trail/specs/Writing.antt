@@ -51,7 +51,7 @@ pub record IsWritable (t : TrailValue) : Type 0 where
   pub events : All HasRecord (reverse t.past)
   pub few : length t.past ≤ MAX_EVENTS
   pub ends : All IsRecord t.ends
-  pub tree : tree_at Wide (tree_data (record { parents = t.parents; records = t.opening })) ≡ Ok (record { parents = t.parents; records = t.opening })
+  pub tree : (limit : ℕ) → length t.parents ≤ limit → tree_at limit Wide (tree_data (record { parents = t.parents; records = t.opening })) ≡ Ok (record { parents = t.parents; records = t.opening })
   -- what is made a value first is read back as its text has it
   pub calls_back : IsReadBack (list_data (map (call_data t.procedures) t.calls))
   pub procedures_back : IsReadBack (list_data (map procedure_data t.procedures))

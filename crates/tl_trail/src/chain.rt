@@ -5,7 +5,7 @@
 // a fault and with a number that isn't an integer of 64 bits is a value of the whole made: nothing else shows whether it is
 // JSON.
 
-ghost use Rattle.std.specs.Prelude.{◌≡◌, ◌≢◌, ◌≤◌, List, length, string_bytes, IfOk, IfErr, IfSome, MatchResult};
+ghost use Rattle.std.specs.Prelude.{◌≡◌, ◌≢◌, ◌≤◌, ℕ, List, All, length, string_bytes, IfOk, IfErr, IfSome, MatchResult};
 ghost use Rattle.serde_json.specs.View.{view, items_view};
 ghost use Rattle.tl_json.specs.Lists.{items_of_list};
 ghost use Rattle.tl_trail.specs.Chains.{AreEach, IsFirstOf, IsChain, IsFaultOfChain, IsChainText, IsFirstChainFault, chain_of, chain_text};
@@ -28,14 +28,18 @@ pub const MAX_TRAILS: usize = 256;
 // ---- each trail from its tokens
 
 // The next trail, if its members come in their order and it has no fault.
-fn next_in_order(alloc: Global, reader: &mut Reader<'_>) -> Result<Option<Trail>, TrailFault>
-    ensures some { IfOk result (λ found. IfSome found (λ t. BeginsWithTrail reader.old t reader.new)) }
+fn next_in_order(
+    alloc: Global,
+    reader: &mut Reader<'_>,
+    limit: u16,
+) -> Result<Option<Trail>, TrailFault>
+    ensures some { IfOk result (λ found. IfSome found (λ t. BeginsWithTrail limit reader.old t reader.new)) }
     ensures err { IfErr result (λ e. e ≡ TrailFault.Memory) }
 {
     let Some(Token::BeginObject) = reader.next() else {
         return Ok(None);
     };
-    let Some((tree, raw)) = trail_members(alloc, reader)? else {
+    let Some((tree, raw)) = trail_members(alloc, reader, limit)? else {
         return Ok(None);
     };
     match checked_trail(alloc, tree, raw) {
@@ -46,8 +50,12 @@ fn next_in_order(alloc: Global, reader: &mut Reader<'_>) -> Result<Option<Trail>
 }
 
 // The trails up to the end of their list, if each can be read from its tokens and a chain may have that many.
-fn each_in_order(alloc: Global, reader: &mut Reader<'_>) -> Result<Option<Vec<Trail>>, TrailFault>
-    ensures some { IfOk result (λ found. IfSome found (λ ts. BeginsWithTrails reader.old ts.items reader.new)) }
+fn each_in_order(
+    alloc: Global,
+    reader: &mut Reader<'_>,
+    limit: u16,
+) -> Result<Option<Vec<Trail>>, TrailFault>
+    ensures some { IfOk result (λ found. IfSome found (λ ts. BeginsWithTrails limit reader.old ts.items reader.new)) }
     ensures few { IfOk result (λ found. IfSome found (λ ts. length ts.items ≤ MAX_TRAILS)) }
     ensures err { IfErr result (λ e. e ≡ TrailFault.Memory) }
 {
@@ -56,7 +64,7 @@ fn each_in_order(alloc: Global, reader: &mut Reader<'_>) -> Result<Option<Vec<Tr
         if trails.len() == MAX_TRAILS {
             return Ok(None);
         }
-        let Some(trail) = next_in_order(alloc, reader)? else {
+        let Some(trail) = next_in_order(alloc, reader, limit)? else {
             return Ok(None);
         };
         trails.push(trail)?;
@@ -65,8 +73,8 @@ fn each_in_order(alloc: Global, reader: &mut Reader<'_>) -> Result<Option<Vec<Tr
 }
 
 // The trails of a text, if each can be read from its tokens.
-fn chain_in_order(alloc: Global, text: &str) -> Result<Option<Vec<Trail>>, TrailFault>
-    ensures some { IfOk result (λ found. IfSome found (λ ts. IsChainText text.now ts.items)) }
+fn chain_in_order(alloc: Global, text: &str, limit: u16) -> Result<Option<Vec<Trail>>, TrailFault>
+    ensures some { IfOk result (λ found. IfSome found (λ ts. IsChainText limit text.now ts.items)) }
     ensures err { IfErr result (λ e. e ≡ TrailFault.Memory) }
 {
     let mut scratch = Scratch::new(alloc);
@@ -74,7 +82,7 @@ fn chain_in_order(alloc: Global, text: &str) -> Result<Option<Vec<Trail>>, Trail
     let Some(Token::BeginArray) = reader.next() else {
         return Ok(None);
     };
-    let Some(trails) = each_in_order(alloc, &mut reader)? else {
+    let Some(trails) = each_in_order(alloc, &mut reader, limit)? else {
         return Ok(None);
     };
     if reader.next().is_some() || trails.is_empty() {
@@ -118,8 +126,8 @@ fn faulty(
 }
 
 // The trails up to the end of their list.
-fn each_by_value(alloc: Global, reader: &mut Reader<'_>) -> Result<Listed, AllocError>
-    ensures { IfOk result (λ listed. IsListed reader.old listed reader.new) }
+fn each_by_value(alloc: Global, reader: &mut Reader<'_>, limit: u16) -> Result<Listed, AllocError>
+    ensures { IfOk result (λ listed. IsListed limit reader.old listed reader.new) }
 {
     let mut trails = Vec::new(alloc);
     while !reader.take_end_array() {
@@ -129,7 +137,7 @@ fn each_by_value(alloc: Global, reader: &mut Reader<'_>) -> Result<Listed, Alloc
         if trails.len() == MAX_TRAILS {
             return faulty(alloc, reader, MAX_TRAILS + 1, TrailFault::NotTrail);
         }
-        match trail_of_value(alloc, &one) {
+        match trail_of_value(alloc, &one, limit) {
             Ok(trail) => trails.push(trail)?,
             Err(fault) => return faulty(alloc, reader, trails.len().saturating_add(1), fault),
         }
@@ -141,15 +149,15 @@ fn each_by_value(alloc: Global, reader: &mut Reader<'_>) -> Result<Listed, Alloc
 }
 
 // The trails of a text.
-fn chain_by_values(alloc: Global, text: &str) -> Result<Listed, AllocError>
-    ensures { IfOk result (λ listed. IsListedIn text.now listed) }
+fn chain_by_values(alloc: Global, text: &str, limit: u16) -> Result<Listed, AllocError>
+    ensures { IfOk result (λ listed. IsListedIn limit text.now listed) }
 {
     let mut scratch = Scratch::new(alloc);
     let mut reader = Reader::new(text, &mut scratch)?;
     let Some(Token::BeginArray) = reader.next() else {
         return Ok(Listed::Unread);
     };
-    let listed = each_by_value(alloc, &mut reader)?;
+    let listed = each_by_value(alloc, &mut reader, limit)?;
     if reader.next().is_some() {
         return Ok(Listed::Unread);
     }
@@ -158,13 +166,13 @@ fn chain_by_values(alloc: Global, text: &str) -> Result<Listed, AllocError>
 
 // ---- from a value of the whole
 
-fn trails_of_items(alloc: Global, items: &[Value]) -> Result<Vec<Trail>, TrailFault>
-    ensures ok { IfOk result (λ ts. AreEach (items_of_list (items_view items.now)) ts.items) }
-    ensures fault { IfErr result (λ e. e ≢ TrailFault.Memory → IsFirstOf (items_of_list (items_view items.now)) e) }
+fn trails_of_items(alloc: Global, items: &[Value], limit: u16) -> Result<Vec<Trail>, TrailFault>
+    ensures ok { IfOk result (λ ts. AreEach limit (items_of_list (items_view items.now)) ts.items) }
+    ensures fault { IfErr result (λ e. e ≢ TrailFault.Memory → IsFirstOf limit (items_of_list (items_view items.now)) e) }
 {
     let mut trails = Vec::with_capacity(alloc, items.len())?;
     for item in items {
-        match trail_of_value(alloc, item) {
+        match trail_of_value(alloc, item, limit) {
             Ok(trail) => trails.push_reserved(trail),
             Err(fault) => return Err(fault),
         }
@@ -172,51 +180,51 @@ fn trails_of_items(alloc: Global, items: &[Value]) -> Result<Vec<Trail>, TrailFa
     Ok(trails)
 }
 
-fn chain_of_value(alloc: Global, value: &Value) -> Result<Vec<Trail>, TrailFault>
-    ensures ok { IfOk result (λ ts. IsChain (chain_of (view value.now)) ts.items) }
-    ensures fault { IfErr result (λ e. e ≢ TrailFault.Memory → IsFaultOfChain (chain_of (view value.now)) e) }
+fn chain_of_value(alloc: Global, value: &Value, limit: u16) -> Result<Vec<Trail>, TrailFault>
+    ensures ok { IfOk result (λ ts. IsChain limit (chain_of (view value.now)) ts.items) }
+    ensures fault { IfErr result (λ e. e ≢ TrailFault.Memory → IsFaultOfChain limit (chain_of (view value.now)) e) }
 {
     match value.as_array() {
         Some(items) if !items.is_empty() && items.len() <= MAX_TRAILS => {
-            trails_of_items(alloc, items)
+            trails_of_items(alloc, items, limit)
         }
         _ => Err(TrailFault::NotTrail),
     }
 }
 
 // The same as below, with a contract that uses only the definition of a chain's text.
-fn chain_of_text(alloc: Global, text: &str) -> Result<Vec<Trail>, TrailFault>
-    ensures ok { IfOk result (λ ts. IsChainText text.now ts.items) }
-    ensures fault { IfErr result (λ e. e ≢ TrailFault.Memory → IsFirstChainFault text.now e) }
+fn chain_of_text(alloc: Global, text: &str, limit: u16) -> Result<Vec<Trail>, TrailFault>
+    ensures ok { IfOk result (λ ts. IsChainText limit text.now ts.items) }
+    ensures fault { IfErr result (λ e. e ≢ TrailFault.Memory → IsFirstChainFault limit text.now e) }
 {
-    if let Some(trails) = chain_in_order(alloc, text)? {
+    if let Some(trails) = chain_in_order(alloc, text, limit)? {
         return Ok(trails);
     }
-    match chain_by_values(alloc, text)? {
+    match chain_by_values(alloc, text, limit)? {
         Listed::Trails(trails) => return Ok(trails),
         Listed::Faulty(fault) => return Err(fault),
         Listed::Unread => {}
     }
     match parse_text(alloc, text)? {
-        Some(value) => chain_of_value(alloc, &value),
+        Some(value) => chain_of_value(alloc, &value, limit),
         None => Err(TrailFault::NotTrail),
     }
 }
 
-/// The trails of a text: a list of 1 to 256 trails, each as `read_trail` reads one.
+/// The trails of a text: a list of 1 to 256 trails, each as `read_trail` reads one, of a tree of at most `limit` nodes.
 ///
 /// The first fault: 701 if the text isn't such a list; otherwise what `read_trail` says about the first trail with a fault.
 /// The records of one trail may have four fields and those of the next eight. 790 if memory is refused.
-pub fn read_chain(alloc: Global, text: &str) -> Result<Vec<Trail>, TrailFault>
+pub fn read_chain(alloc: Global, text: &str, limit: u16) -> Result<Vec<Trail>, TrailFault>
     // The trails that are read are those of the text.
-    ensures ok { IfOk result (λ ts. IsChainText text.now ts.items) }
+    ensures ok { IfOk result (λ ts. IsChainText limit text.now ts.items) }
     // Which fault it is.
-    ensures fault { IfErr result (λ e. e ≢ TrailFault.Memory → IsFirstChainFault text.now e) }
+    ensures fault { IfErr result (λ e. e ≢ TrailFault.Memory → IsFirstChainFault limit text.now e) }
     // If the text has trails, they are read, unless memory is refused.
-    ensures taken { (ts : List TrailValue) → IsChainText text.now ts
+    ensures taken { (ts : List TrailValue) → IsChainText limit text.now ts
         → MatchResult result (λ r. r.items ≡ ts) (λ e. e ≡ TrailFault.Memory) }
 {
-    chain_of_text(alloc, text)
+    chain_of_text(alloc, text, limit)
 }
 
 // ---- as text
@@ -224,7 +232,8 @@ pub fn read_chain(alloc: Global, text: &str) -> Result<Vec<Trail>, TrailFault>
 /// The text of a chain, with no spaces: a list of the texts that `write_trail` gives. 790 if memory is refused.
 pub fn write_chain(alloc: Global, trails: &[Trail]) -> Result<String, TrailFault>
     ensures text { IfOk result (λ s. string_bytes s ≡ chain_text trails.now) }
-    ensures reads_back { IfOk result (λ s. 1 ≤ length trails.now → length trails.now ≤ MAX_TRAILS → IsChainText (string_bytes s) trails.now) }
+    ensures reads_back { IfOk result (λ s. 1 ≤ length trails.now → length trails.now ≤ MAX_TRAILS
+        → (limit : ℕ) → All (λ (t : TrailValue). length t.parents ≤ limit) trails.now → IsChainText limit (string_bytes s) trails.now) }
     ensures err { IfErr result (λ e. e ≡ TrailFault.Memory) }
 {
     let mut text = String::new(alloc);

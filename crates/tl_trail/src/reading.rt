@@ -28,47 +28,56 @@ use tl_tree_locking::Event;
 // ---- the tree, and the other members
 
 // What the members stand for, if their records have that width.
-fn raw_at(alloc: Global, width: Width, members: &Members) -> Result<(Tree, RawTrail), TrailFault>
-    ensures ok { IfOk result (λ found. IsHalfRead (form_at width (parts_in members.now)) found.0 found.1) }
-    ensures fault { IfErr result (λ e. e ≢ TrailFault.Memory → IsUnread (form_at width (parts_in members.now)) e) }
+fn raw_at(
+    alloc: Global,
+    width: Width,
+    members: &Members,
+    limit: u16,
+) -> Result<(Tree, RawTrail), TrailFault>
+    ensures ok { IfOk result (λ found. IsHalfRead limit (form_at width (parts_in members.now)) found.0 found.1) }
+    ensures fault { IfErr result (λ e. e ≢ TrailFault.Memory → IsUnread limit (form_at width (parts_in members.now)) e) }
 {
     let Some(raw) = raw_of_members(alloc, width, members)? else {
         return Err(TrailFault::NotTrail);
     };
-    let tree = tree_from_value(alloc, width, members.tree)?;
+    let tree = tree_from_value(alloc, width, members.tree, limit)?;
     Ok((tree, raw))
 }
 
 // What they stand for, if their records are all wide or all narrow.
-fn raw_of_either(alloc: Global, members: &Members) -> Result<(Tree, RawTrail), TrailFault>
-    ensures ok { IfOk result (λ found. IsHalfRead (form_of_parts (parts_in members.now)) found.0 found.1) }
-    ensures fault { IfErr result (λ e. e ≢ TrailFault.Memory → IsUnread (form_of_parts (parts_in members.now)) e) }
+fn raw_of_either(
+    alloc: Global,
+    members: &Members,
+    limit: u16,
+) -> Result<(Tree, RawTrail), TrailFault>
+    ensures ok { IfOk result (λ found. IsHalfRead limit (form_of_parts (parts_in members.now)) found.0 found.1) }
+    ensures fault { IfErr result (λ e. e ≢ TrailFault.Memory → IsUnread limit (form_of_parts (parts_in members.now)) e) }
 {
-    match raw_at(alloc, Width::Wide, members) {
-        Err(TrailFault::NotTrail) => raw_at(alloc, Width::Narrow, members),
+    match raw_at(alloc, Width::Wide, members, limit) {
+        Err(TrailFault::NotTrail) => raw_at(alloc, Width::Narrow, members, limit),
         answer => answer,
     }
 }
 
-fn raw_of_value(alloc: Global, value: &Value) -> Result<(Tree, RawTrail), TrailFault>
-    ensures ok { IfOk result (λ found. IsHalfRead (form_of_data (view value.now)) found.0 found.1) }
-    ensures fault { IfErr result (λ e. e ≢ TrailFault.Memory → IsUnread (form_of_data (view value.now)) e) }
+fn raw_of_value(alloc: Global, value: &Value, limit: u16) -> Result<(Tree, RawTrail), TrailFault>
+    ensures ok { IfOk result (λ found. IsHalfRead limit (form_of_data (view value.now)) found.0 found.1) }
+    ensures fault { IfErr result (λ e. e ≢ TrailFault.Memory → IsUnread limit (form_of_data (view value.now)) e) }
 {
     let Some(members) = members_of_value(value) else {
         return Err(TrailFault::NotTrail);
     };
-    raw_of_either(alloc, &members)
+    raw_of_either(alloc, &members, limit)
 }
 
-fn raw_of_text(alloc: Global, text: &str) -> Result<(Tree, RawTrail), TrailFault>
-    ensures ok { IfOk result (λ found. IsHalfRead (form_in text.now) found.0 found.1) }
-    ensures fault { IfErr result (λ e. e ≢ TrailFault.Memory → IsUnread (form_in text.now) e) }
+fn raw_of_text(alloc: Global, text: &str, limit: u16) -> Result<(Tree, RawTrail), TrailFault>
+    ensures ok { IfOk result (λ found. IsHalfRead limit (form_in text.now) found.0 found.1) }
+    ensures fault { IfErr result (λ e. e ≢ TrailFault.Memory → IsUnread limit (form_in text.now) e) }
 {
-    if let Some(found) = raw_of_tokens(alloc, text)? {
+    if let Some(found) = raw_of_tokens(alloc, text, limit)? {
         return Ok(found);
     }
     match parse_text(alloc, text)? {
-        Some(value) => raw_of_value(alloc, &value),
+        Some(value) => raw_of_value(alloc, &value, limit),
         None => Err(TrailFault::NotTrail),
     }
 }
@@ -235,24 +244,24 @@ pub(crate) fn checked_trail(alloc: Global, tree: Tree, raw: RawTrail) -> Result<
 }
 
 /// The trail that a value stands for.
-pub(crate) fn trail_of_value(alloc: Global, value: &Value) -> Result<Trail, TrailFault>
-    ensures ok { IfOk result (λ t. IsFound (form_of_data (view value.now)) t) }
-    ensures fault { IfErr result (λ e. e ≢ TrailFault.Memory → IsFaultFound (form_of_data (view value.now)) e) }
+pub(crate) fn trail_of_value(alloc: Global, value: &Value, limit: u16) -> Result<Trail, TrailFault>
+    ensures ok { IfOk result (λ t. IsFound limit (form_of_data (view value.now)) t) }
+    ensures fault { IfErr result (λ e. e ≢ TrailFault.Memory → IsFaultFound limit (form_of_data (view value.now)) e) }
 {
-    let (tree, raw) = raw_of_value(alloc, value)?;
+    let (tree, raw) = raw_of_value(alloc, value, limit)?;
     checked_trail(alloc, tree, raw)
 }
 
 // The same as below, with a contract that uses only the definition of a trail's text.
-fn trail_of_text(alloc: Global, text: &str) -> Result<Trail, TrailFault>
-    ensures ok { IfOk result (λ t. IsTrailText text.now t) }
-    ensures fault { IfErr result (λ e. e ≢ TrailFault.Memory → IsFirstTrailFault text.now e) }
+fn trail_of_text(alloc: Global, text: &str, limit: u16) -> Result<Trail, TrailFault>
+    ensures ok { IfOk result (λ t. IsTrailText limit text.now t) }
+    ensures fault { IfErr result (λ e. e ≢ TrailFault.Memory → IsFirstTrailFault limit text.now e) }
 {
-    let (tree, raw) = raw_of_text(alloc, text)?;
+    let (tree, raw) = raw_of_text(alloc, text, limit)?;
     checked_trail(alloc, tree, raw)
 }
 
-/// The trail of a text.
+/// The trail of a text, whose tree has at most `limit` nodes.
 ///
 /// It is an object with exactly these five members: `calls`, a list with the name of its procedure, its arguments and its
 /// reply for each call, where a reply is a list of at most 32 numbers or null; `end`, the records in the end; `events`, a
@@ -261,18 +270,18 @@ fn trail_of_text(alloc: Global, text: &str) -> Result<Trail, TrailFault>
 /// assembler texts; and `tree`, the tree before the calls. Numbers are signed 64-bit integers. Either all records, also
 /// those of the tree, are lists of eight, or all are lists of four, and the other fields are 0.
 ///
-/// The first fault: 701 for another form; the tree's 101 to 105; for each procedure in order the assembler's 251 to 254,
+/// The first fault: 701 for another form; the tree's 101 to 105, 102 for more than `limit` nodes; for each procedure in order the assembler's 251 to 254,
 /// the verifier's 301 to 307 and 401 to 409, and 612, 611, 613 for its name; 603 for more than 4,096 calls; for each call
 /// in order 601 and 501; then 701 if an event is of no call or no node of the trail, if there aren't as many records in the
 /// end as nodes, or if there are more than 1,048,576 events. 790 if memory is refused.
-pub fn read_trail(alloc: Global, text: &str) -> Result<Trail, TrailFault>
+pub fn read_trail(alloc: Global, text: &str, limit: u16) -> Result<Trail, TrailFault>
     // The trail that is read is that of the text.
-    ensures ok { IfOk result (λ t. IsTrailText text.now t) }
+    ensures ok { IfOk result (λ t. IsTrailText limit text.now t) }
     // Which fault it is.
-    ensures fault { IfErr result (λ e. e ≢ TrailFault.Memory → IsFirstTrailFault text.now e) }
+    ensures fault { IfErr result (λ e. e ≢ TrailFault.Memory → IsFirstTrailFault limit text.now e) }
     // If the text has a trail, it is read, unless memory is refused.
-    ensures taken { (t : TrailValue) → IsTrailText text.now t
+    ensures taken { (t : TrailValue) → IsTrailText limit text.now t
         → MatchResult result (λ r. r ≡ t) (λ e. e ≡ TrailFault.Memory) }
 {
-    trail_of_text(alloc, text)
+    trail_of_text(alloc, text, limit)
 }

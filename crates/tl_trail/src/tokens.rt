@@ -283,8 +283,9 @@ fn events_member(
 pub(crate) fn trail_members(
     alloc: Global,
     reader: &mut Reader<'_>,
+    limit: u16,
 ) -> Result<Option<(Tree, RawTrail)>, AllocError>
-    ensures { IfOk result (λ found. IfSome found (λ x. AreOfTrail reader.old x.0 x.1 reader.new)) }
+    ensures { IfOk result (λ found. IfSome found (λ x. AreOfTrail limit reader.old x.0 x.1 reader.new)) }
 {
     let Some(calls) = list_member::<RawCall>(alloc, reader, "calls")? else {
         return Ok(None);
@@ -304,7 +305,7 @@ pub(crate) fn trail_members(
     let Some(tree) = member(alloc, reader, "tree")? else {
         return Ok(None);
     };
-    let Ok(tree) = tree_from_value(alloc, width, &tree) else {
+    let Ok(tree) = tree_from_value(alloc, width, &tree, limit) else {
         return Ok(None);
     };
     let Ok(None) = reader.next_key() else {
@@ -324,15 +325,16 @@ pub(crate) fn trail_members(
 pub(crate) fn raw_of_tokens(
     alloc: Global,
     text: &str,
+    limit: u16,
 ) -> Result<Option<(Tree, RawTrail)>, AllocError>
-    ensures { IfOk result (λ found. IfSome found (λ x. IsHalfRead (form_in text.now) x.0 x.1)) }
+    ensures { IfOk result (λ found. IfSome found (λ x. IsHalfRead limit (form_in text.now) x.0 x.1)) }
 {
     let mut scratch = Scratch::new(alloc);
     let mut reader = Reader::new(text, &mut scratch)?;
     let Some(Token::BeginObject) = reader.next() else {
         return Ok(None);
     };
-    let Some(found) = trail_members(alloc, &mut reader)? else {
+    let Some(found) = trail_members(alloc, &mut reader, limit)? else {
         return Ok(None);
     };
     if reader.next().is_some() {

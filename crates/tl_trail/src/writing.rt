@@ -1,6 +1,6 @@
 // The text of a trail.
 
-ghost use Rattle.std.specs.Prelude.{◌≡◌, ◌<◌, ◌≤◌, ◌++◌, [], false, map, length, string_bytes, All, Ok, IfOk, OnOk, IfErr};
+ghost use Rattle.std.specs.Prelude.{ℕ, ◌≡◌, ◌<◌, ◌≤◌, ◌++◌, [], false, map, length, string_bytes, All, Ok, IfOk, OnOk, IfErr};
 ghost use Rattle.serde_json.specs.Data.{depth};
 ghost use Rattle.serde_json.specs.Read.{max_depth};
 ghost use Rattle.serde_json.specs.View.{view};
@@ -80,7 +80,7 @@ fn push_procedures(
 
 fn push_tree(alloc: Global, text: &mut String, tree: &Tree) -> Result<(), AllocError>
     ensures added { OnOk result (Adds (string_bytes text.old) (string_bytes text.new) (tree_data tree.now)) }
-    ensures reads_back { OnOk result (tree_at Wide (tree_data tree.now) ≡ Ok tree.now) }
+    ensures reads_back { OnOk result ((limit : ℕ) → length tree.now.parents ≤ limit → tree_at limit Wide (tree_data tree.now) ≡ Ok tree.now) }
 {
     let Ok(value) = tree_to_value(alloc, tree) else {
         return Err(AllocError);
@@ -112,7 +112,7 @@ pub(crate) fn push_trail(alloc: Global, text: &mut String, trail: &Trail) -> Res
 /// order. The procedures come by number, each with its canonical assembler text. 790 if memory is refused.
 pub fn write_trail(alloc: Global, trail: &Trail) -> Result<String, TrailFault>
     ensures text { IfOk result (λ s. string_bytes s ≡ trail_text trail.now) }
-    ensures reads_back { IfOk result (λ s. IsTrailText (string_bytes s) trail.now) }
+    ensures reads_back { IfOk result (λ s. (limit : ℕ) → length trail.now.parents ≤ limit → IsTrailText limit (string_bytes s) trail.now) }
     ensures err { IfErr result (λ e. e ≡ TrailFault.Memory) }
 {
     let mut text = String::new(alloc);

@@ -18,9 +18,9 @@ rest_wrong false true None e = absurd cc
 rest_wrong false true (Some x) e = absurd cc
 rest_wrong false false o e = absurd cc
 
-shape_wrong : (numbers : List ℤ) → shape_fault numbers ≢ Some NotTree
-shape_wrong [] e = absurd cc
-shape_wrong (p ∷ ps) e = rest_wrong (nat_lt 4096 (length (p ∷ ps))) (is_root p) (first_astray 1 ps) e
+shape_wrong : (limit : ℕ) (numbers : List ℤ) → shape_fault limit numbers ≢ Some NotTree
+shape_wrong limit [] e = absurd cc
+shape_wrong limit (p ∷ ps) e = rest_wrong (nat_lt limit (length (p ∷ ps))) (is_root p) (first_astray 1 ps) e
 
 count_wrong : (records : Records) (fault : Option TreeFault) (parents : List ℕ) → fault ≢ Some NotTree → tree_with records (unless_fault fault parents) ≢ Err NotTree
 count_wrong records (Some f) parents other e = other (let same : f ≡ NotTree = cc in ap Some same)
@@ -30,28 +30,28 @@ count_wrong records None parents other e = by (length records == length parents)
     by true tree is = absurd cc
     by false tree is = absurd cc
 
-pub formed_is_tree : (parts : List ℤ × Records) → tree_from (Some parts) ≢ Err NotTree
-formed_is_tree parts is = count_wrong parts.1 (shape_fault parts.0) (map unsigned_abs parts.0) (shape_wrong parts.0) is
+pub formed_is_tree : (limit : ℕ) (parts : List ℤ × Records) → tree_from limit (Some parts) ≢ Err NotTree
+formed_is_tree limit parts is = count_wrong parts.1 (shape_fault limit parts.0) (map unsigned_abs parts.0) (shape_wrong limit parts.0) is
 
 -- ---- all wide, or else all narrow
 
-module _ (wide narrow : Option (List ℤ × Records)) where
-  pub from_narrow : tree_from wide ≡ Err NotTree → tree_from (option_or wide narrow) ≡ tree_from narrow
+module _ (limit : ℕ) (wide narrow : Option (List ℤ × Records)) where
+  pub from_narrow : tree_from limit wide ≡ Err NotTree → tree_from limit (option_or wide narrow) ≡ tree_from limit narrow
   from_narrow is = by wide is
     where
-      by : (o : Option (List ℤ × Records)) → tree_from o ≡ Err NotTree → tree_from (option_or o narrow) ≡ tree_from narrow
+      by : (o : Option (List ℤ × Records)) → tree_from limit o ≡ Err NotTree → tree_from limit (option_or o narrow) ≡ tree_from limit narrow
       by None e = refl
-      by (Some parts) e = absurd (formed_is_tree parts e)
+      by (Some parts) e = absurd (formed_is_tree limit parts e)
 
-  pub from_wide : (r : Result TreeValue TreeFault) → tree_from wide ≡ r → r ≢ Err NotTree → tree_from (option_or wide narrow) ≡ r
+  pub from_wide : (r : Result TreeValue TreeFault) → tree_from limit wide ≡ r → r ≢ Err NotTree → tree_from limit (option_or wide narrow) ≡ r
   from_wide r is other = by wide is
     where
-      by : (o : Option (List ℤ × Records)) → tree_from o ≡ r → tree_from (option_or o narrow) ≡ r
+      by : (o : Option (List ℤ × Records)) → tree_from limit o ≡ r → tree_from limit (option_or o narrow) ≡ r
       by None e = absurd (other (sym e))
       by (Some parts) e = e
 
-pub tree_of_wide : (d : Data) (r : Result TreeValue TreeFault) → tree_at Wide d ≡ r → r ≢ Err NotTree → tree_of d ≡ r
-tree_of_wide d r is other = from_wide (form_at Wide d) (form_at Narrow d) r is other
+pub tree_of_wide : (limit : ℕ) (d : Data) (r : Result TreeValue TreeFault) → tree_at limit Wide d ≡ r → r ≢ Err NotTree → tree_of limit d ≡ r
+tree_of_wide limit d r is other = from_wide limit (form_at Wide d) (form_at Narrow d) r is other
 
-pub tree_of_narrow : (d : Data) → tree_at Wide d ≡ Err NotTree → tree_of d ≡ tree_at Narrow d
-tree_of_narrow d is = from_narrow (form_at Wide d) (form_at Narrow d) is
+pub tree_of_narrow : (limit : ℕ) (d : Data) → tree_at limit Wide d ≡ Err NotTree → tree_of limit d ≡ tree_at limit Narrow d
+tree_of_narrow limit d is = from_narrow limit (form_at Wide d) (form_at Narrow d) is

@@ -3,6 +3,7 @@ use Rattle.std.proofs.Common.{◌≡◌, ℕ, zero, suc, ◌+◌, ◌-◌, ◌<�
 use Rattle.std.proofs.lemmas.Bool.Decides.{nat_tests}
 use Rattle.std.proofs.lemmas.List.{length-map, get_or-map}
 use Rattle.tl_tree.specs.declared.fault.TreeFault.TheVariants.{TooMany, BadRoot, BadParent}
+use Rattle.tl_tree.specs.declared.shape.TheConstants.{MAX_NODES}
 use Rattle.tl_tree.specs.Shape.{IsTree, is_root, is_lower, first_astray, unless_fault, shape_of, IsFirstAstray}
 
 -- ---- one integer
@@ -103,8 +104,8 @@ lower_at p ps none (suc y) above less =
     let is = (lower_is (get_or ps y (pos 0)) (1 + y) (astray_none ps 1 none y inside)).1 in
     rw (get_or-map unsigned_abs ps y (pos 0) 0 inside) (omega (arith, is))
 
-tree_at : (p : ℤ) (ps : List ℤ) → nat_lt 4096 (length (p ∷ ps)) ≡ false → is_root p ≡ true → first_astray 1 ps ≡ None → IsTree (map unsigned_abs (p ∷ ps))
-tree_at p ps few root none =
+tree_at : (limit : ℕ) (p : ℤ) (ps : List ℤ) → limit ≤ MAX_NODES → nat_lt limit (length (p ∷ ps)) ≡ false → is_root p ≡ true → first_astray 1 ps ≡ None → IsTree (map unsigned_abs (p ∷ ps))
+tree_at limit p ps most few root none =
     let size = length-map ps unsigned_abs in
     record {
       some = omega arith;
@@ -114,21 +115,21 @@ tree_at p ps few root none =
     }
 
 -- what is taken is a tree's parents
-pub tree_from_shape_of : (numbers : List ℤ) (s : List ℕ) → shape_of numbers ≡ Ok s → IsTree s × (map pos s ≡ numbers)
-tree_from_shape_of [] s h = absurd cc
-tree_from_shape_of (p ∷ ps) s h =
+pub tree_from_shape_of : (limit : ℕ) (numbers : List ℤ) (s : List ℕ) → limit ≤ MAX_NODES → shape_of limit numbers ≡ Ok s → IsTree s × (map pos s ≡ numbers)
+tree_from_shape_of limit [] s most h = absurd cc
+tree_from_shape_of limit (p ∷ ps) s most h =
     let parts = shape_ok _ _ _ (map unsigned_abs (p ∷ ps)) s h in
     rw (← parts.3) (
-      tree_at p ps parts.0 parts.1 parts.2,
+      tree_at limit p ps most parts.0 parts.1 parts.2,
       ap₂ ◌∷◌ (sym ((root_is p parts.1).0 ∙ ap pos (sym ((root_is p parts.1).1)))) (same_pos ps 1 parts.2),
     )
 
 -- a tree's parents are taken
-pub shape_of-pos : (s : List ℕ) → IsTree s → shape_of (map pos s) ≡ Ok s
-shape_of-pos [] h = absurd (let some = h.some in omega arith)
-shape_of-pos (p ∷ ps) h =
-    let few : length (map pos (p ∷ ps)) ≤ 4096 = (let at = h.few in omega (arith, length-map ps pos)) in
-    let many : nat_lt 4096 (length (map pos (p ∷ ps))) ≡ false = grind (arith, nat_tests) in
+pub shape_of-pos : (limit : ℕ) (s : List ℕ) → IsTree s → length s ≤ limit → shape_of limit (map pos s) ≡ Ok s
+shape_of-pos limit [] h small = absurd (let some = h.some in omega arith)
+shape_of-pos limit (p ∷ ps) h small =
+    let few : length (map pos (p ∷ ps)) ≤ limit = omega (arith, length-map ps pos) in
+    let many : nat_lt limit (length (map pos (p ∷ ps))) ≡ false = grind (arith, nat_tests) in
     let root : (p == 0) ≡ true = (let at = h.root in grind (arith, nat_tests)) in
     let none = none_astray ps 1 (λ y less. (let at = h.lower (suc y) (omega arith) (omega arith) in omega arith)) in
     rw (many, root, none, same_nodes ps) refl
@@ -138,10 +139,10 @@ shifted p ps zero above = absurd (omega arith)
 shifted p ps (suc x) above = let back : suc x - 1 ≡ x = omega arith in rw back refl
 
 -- the node of a bad parent is the least one
-pub astray_from_shape_of : (numbers : List ℤ) (x : ℕ) → shape_of numbers ≡ Err (BadParent x) → IsFirstAstray numbers x
-astray_from_shape_of [] x h = absurd cc
-astray_from_shape_of (p ∷ ps) x h =
-    let first : IsFirst ps 1 x = first_is ps 1 x (shape_bad (nat_lt 4096 (length (p ∷ ps))) (is_root p) (first_astray 1 ps) (map unsigned_abs (p ∷ ps)) x h) in
+pub astray_from_shape_of : (limit : ℕ) (numbers : List ℤ) (x : ℕ) → shape_of limit numbers ≡ Err (BadParent x) → IsFirstAstray numbers x
+astray_from_shape_of limit [] x h = absurd cc
+astray_from_shape_of limit (p ∷ ps) x h =
+    let first : IsFirst ps 1 x = first_is ps 1 x (shape_bad (nat_lt limit (length (p ∷ ps))) (is_root p) (first_astray 1 ps) (map unsigned_abs (p ∷ ps)) x h) in
     let from = first.from in
     let inside = first.inside in
     record {

@@ -1,5 +1,5 @@
 -- What stands for a tree is read as that tree.
-use Rattle.std.proofs.Common.{◌≡◌, ℕ, suc, ◌-◌, ◌<◌, ◌^◌, ℤ, pos, negsuc, List, [], ◌∷◌, ◌++◌, length, replicate, get_or, map, Option, Some, Ok, refl, ap, ◌∙◌, arith, eq-eqb, lt-ltb}
+use Rattle.std.proofs.Common.{◌≡◌, ℕ, suc, ◌-◌, ◌<◌, ◌≤◌, ◌^◌, ℤ, pos, negsuc, List, [], ◌∷◌, ◌++◌, length, replicate, get_or, map, Option, Some, Ok, refl, ap, ◌∙◌, arith, eq-eqb, lt-ltb}
 use Rattle.std.specs.Prelude.{All, FitsSigned}
 use Rattle.std.specs.Int.{w64}
 use Rattle.std.proofs.lemmas.List.{length-map, get_or-map, append-nil}
@@ -49,9 +49,9 @@ parent_fits parents tree k d inside =
     let within : k < length parents = omega arith in
     rw (get_or-map pos parents k 0 d within) (record { sfits = less })
 
-pub tree_back : (tree : TreeValue) → IsWhole tree → All IsRecord tree.records → tree_at Wide (tree_data tree) ≡ Ok tree
-tree_back tree whole each =
+pub tree_back : (limit : ℕ) (tree : TreeValue) → length tree.parents ≤ limit → IsWhole tree → All IsRecord tree.records → tree_at limit Wide (tree_data tree) ≡ Ok tree
+tree_back limit tree few whole each =
     let parents = integers_back (map pos tree.parents) (parent_fits tree.parents whole.shape) in
     let records = records_back tree.records each in
     let form : form_at Wide (tree_data tree) ≡ Some (map pos tree.parents, tree.records) = rw (parents, records) refl in
-    ap tree_from form ∙ ap (tree_with tree.records) (shape_of-pos tree.parents whole.shape) ∙ rw (eq-eqb (length tree.records) (length tree.parents) whole.count) refl
+    ap (tree_from limit) form ∙ ap (tree_with tree.records) (shape_of-pos limit tree.parents whole.shape few) ∙ rw (eq-eqb (length tree.records) (length tree.parents) whole.count) refl

@@ -20,16 +20,16 @@ of_inner = refl
 of_leaf : kids ways 5 ≡ []
 of_leaf = refl
 
-taken : shape_of (pos 0 ∷ pos 0 ∷ pos 1 ∷ []) ≡ Ok (0 ∷ 0 ∷ 1 ∷ [])
+taken : shape_of 4096 (pos 0 ∷ pos 0 ∷ pos 1 ∷ []) ≡ Ok (0 ∷ 0 ∷ 1 ∷ [])
 taken = refl
 
-no_node : shape_of [] ≡ Err Empty
+no_node : shape_of 4096 [] ≡ Err Empty
 no_node = refl
 
-other_root : shape_of (negsuc 0 ∷ pos 7 ∷ []) ≡ Err BadRoot
+other_root : shape_of 4096 (negsuc 0 ∷ pos 7 ∷ []) ≡ Err BadRoot
 other_root = refl
 
-first_of_two : shape_of (pos 0 ∷ pos 0 ∷ pos 2 ∷ negsuc 0 ∷ []) ≡ Err (BadParent 2)
+first_of_two : shape_of 4096 (pos 0 ∷ pos 0 ∷ pos 2 ∷ negsuc 0 ∷ []) ≡ Err (BadParent 2)
 first_of_two = refl
 
 -- ---- the tree of three nodes
@@ -45,26 +45,26 @@ written : tree_text small ≡ codes "{\"parents\":[0,0,0],\"records\":[[0,0,0,0,
 unfolding digits
 written = refl
 
-was_read : tree_of_text (codes "{ \"records\": [[0,0,0,0,0,0,0,0],[10,0,0,0,0,0,0,0],[20,0,0,0,0,0,0,0]], \"parents\": [0,0,0] }") ≡ Ok small
+was_read : tree_of_text 4096 (codes "{ \"records\": [[0,0,0,0,0,0,0,0],[10,0,0,0,0,0,0,0],[20,0,0,0,0,0,0,0]], \"parents\": [0,0,0] }") ≡ Ok small
 unfolding serde_json_on_literals
 was_read = refl
 
-narrow_was_read : tree_of_text (codes "{\"parents\":[0,0,0],\"records\":[[0,0,0,0],[10,0,0,0],[20,0,0,0]]}") ≡ Ok small
+narrow_was_read : tree_of_text 4096 (codes "{\"parents\":[0,0,0],\"records\":[[0,0,0,0],[10,0,0,0],[20,0,0,0]]}") ≡ Ok small
 unfolding serde_json_on_literals
 narrow_was_read = refl
 
-no_mix : tree_of_text (codes "{\"parents\":[0,0],\"records\":[[0,0,0,0,0,0,0,0],[10,0,0,0]]}") ≡ Err NotTree
+no_mix : tree_of_text 4096 (codes "{\"parents\":[0,0],\"records\":[[0,0,0,0,0,0,0,0],[10,0,0,0]]}") ≡ Err NotTree
 unfolding serde_json_on_literals
 no_mix = refl
 
-no_other_width : tree_of_text (codes "{\"parents\":[0],\"records\":[[1,2,3,4,5]]}") ≡ Err NotTree
+no_other_width : tree_of_text 4096 (codes "{\"parents\":[0],\"records\":[[1,2,3,4,5]]}") ≡ Err NotTree
 unfolding serde_json_on_literals
 no_other_width = refl
 
-one_key_more : tree_of_text (codes "{\"parents\":[],\"records\":[],\"more\":0}") ≡ Err NotTree
+one_key_more : tree_of_text 4096 (codes "{\"parents\":[],\"records\":[],\"more\":0}") ≡ Err NotTree
 unfolding serde_json_on_literals
 one_key_more = refl
 
-one_record_less : tree_of_text (codes "{\"parents\":[0],\"records\":[]}") ≡ Err WrongCount
+one_record_less : tree_of_text 4096 (codes "{\"parents\":[0],\"records\":[]}") ≡ Err WrongCount
 unfolding serde_json_on_literals
 one_record_less = refl

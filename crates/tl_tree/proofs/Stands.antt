@@ -1,5 +1,5 @@
 -- A value is read as a tree exactly where it stands for that tree.
-use Rattle.std.proofs.Common.{◌≡◌, ℕ, ◌==◌, ℤ, pos, List, length, map, codes, cond, Bool, true, false, Option, Some, None, option_and_then, Result, Ok, Err, refl, sym, ap, ◌∙◌, eq-eqb}
+use Rattle.std.proofs.Common.{◌≡◌, ℕ, ◌==◌, ◌≤◌, ℤ, pos, List, length, map, codes, cond, Bool, true, false, Option, Some, None, option_and_then, Result, Ok, Err, refl, sym, ap, ◌∙◌, eq-eqb}
 use Rattle.std.proofs.lemmas.Bool.{eqb-true}
 use Rattle.std.proofs.lemmas.Option.{some_pair_parts}
 use Rattle.serde_json.specs.Data.{Data, Members}
@@ -9,6 +9,7 @@ use Rattle.tl_tree.specs.declared.fault.TreeFault.{TreeFault}
 use Rattle.tl_tree.specs.declared.fault.TreeFault.TheVariants.{WrongCount}
 use Rattle.tl_tree.specs.declared.record.Width.{Width}
 use Rattle.tl_tree.specs.Records.{Records}
+use Rattle.tl_tree.specs.declared.shape.TheConstants.{MAX_NODES}
 use Rattle.tl_tree.specs.Shape.{shape_of}
 use Rattle.tl_tree.specs.Trees.{TreeValue, IsWhole}
 use Rattle.tl_tree.specs.Reading.{both, integers_of, records_of, parts_of, form_at, tree_with, tree_from, tree_at, StandsFor}
@@ -33,15 +34,15 @@ counted false t u e = absurd cc
 abbrev FromForm : List ℤ → Records → TreeValue → Type 0
 FromForm numbers records tree = (numbers ≡ map pos tree.parents) × (records ≡ tree.records) × IsWhole tree
 
-from_shape : (numbers : List ℤ) (records : Records) (r : Result (List ℕ) TreeFault) (tree : TreeValue) → shape_of numbers ≡ r → tree_with records r ≡ Ok tree → FromForm numbers records tree
-from_shape numbers records (Err e) tree shape is = absurd cc
-from_shape numbers records (Ok parents) tree shape is =
+from_shape : (limit : ℕ) (numbers : List ℤ) (records : Records) (r : Result (List ℕ) TreeFault) (tree : TreeValue) → limit ≤ MAX_NODES → shape_of limit numbers ≡ r → tree_with records r ≡ Ok tree → FromForm numbers records tree
+from_shape limit numbers records (Err e) tree most shape is = absurd cc
+from_shape limit numbers records (Ok parents) tree most shape is =
     let t : TreeValue = record { parents = parents; records = records } in
     let parts = counted (length records == length parents) t tree is in
-    let good = tree_from_shape_of numbers parents shape in
+    let good = tree_from_shape_of limit numbers parents most shape in
     rw (← parts.1) (sym good.1, refl, record { shape = good.0; count = eqb-true (length records) (length parents) parts.0 })
 
-module _ (width : Width) (d : Data) (tree : TreeValue) where
+module _ (limit : ℕ) (width : Width) (d : Data) (tree : TreeValue) where
   with_members : (ms : Members) (numbers : List ℤ) (records : Records) (parents_member records_member : Data) → as_object d ≡ Some ms
       → cond (members_len ms == 2) (both (get_member (codes "parents") ms) (get_member (codes "records") ms)) None ≡ Some (parents_member, records_member)
       → both (integers_of parents_member) (records_of width records_member) ≡ Some (numbers, records) → FromForm numbers records tree → StandsFor width d tree
@@ -73,18 +74,18 @@ module _ (width : Width) (d : Data) (tree : TreeValue) where
   with_form None numbers records split form from = absurd cc
   with_form (Some parts) numbers records split form from = with_parts (as_object d) parts numbers records refl split form from
 
-  stands_at : (o : Option (List ℤ × Records)) → form_at width d ≡ o → tree_from o ≡ Ok tree → StandsFor width d tree
-  stands_at None form is = absurd cc
-  stands_at (Some pair) form is = with_form (parts_of d) pair.0 pair.1 refl form (from_shape pair.0 pair.1 (shape_of pair.0) tree refl is)
+  stands_at : (o : Option (List ℤ × Records)) → limit ≤ MAX_NODES → form_at width d ≡ o → tree_from limit o ≡ Ok tree → StandsFor width d tree
+  stands_at None most form is = absurd cc
+  stands_at (Some pair) most form is = with_form (parts_of d) pair.0 pair.1 refl form (from_shape limit pair.0 pair.1 (shape_of limit pair.0) tree most refl is)
 
-  pub stands_from_tree_at : tree_at width d ≡ Ok tree → StandsFor width d tree
-  stands_from_tree_at is = stands_at (form_at width d) refl is
+  pub stands_from_tree_at : limit ≤ MAX_NODES → tree_at limit width d ≡ Ok tree → StandsFor width d tree
+  stands_from_tree_at most is = stands_at (form_at width d) most refl is
 
   -- ---- what stands for a tree is read as it
 
-  pub tree_at_stands : StandsFor width d tree → tree_at width d ≡ Ok tree
-  tree_at_stands h =
+  pub tree_at_stands : StandsFor width d tree → length tree.parents ≤ limit → tree_at limit width d ≡ Ok tree
+  tree_at_stands h few =
       let split : parts_of d ≡ Some (h.parents_member, h.records_member) = rw (h.object_is, eq-eqb (members_len h.members) 2 h.two, h.parents_found, h.records_found) refl in
       let form : form_at width d ≡ Some (map pos tree.parents, tree.records) = rw (split, h.parents_are, h.records_are) refl in
       let whole = h.whole in
-      ap tree_from form ∙ ap (tree_with tree.records) (shape_of-pos tree.parents whole.shape) ∙ rw (eq-eqb (length tree.records) (length tree.parents) whole.count) refl
+      ap (tree_from limit) form ∙ ap (tree_with tree.records) (shape_of-pos limit tree.parents whole.shape few) ∙ rw (eq-eqb (length tree.records) (length tree.parents) whole.count) refl

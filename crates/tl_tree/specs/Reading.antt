@@ -51,25 +51,26 @@ abbrev pub tree_with : Records → Result (List ℕ) TreeFault → Result TreeVa
 tree_with records (Err fault) = Err fault
 tree_with records (Ok parents) = if length records == length parents then Ok (record { parents = parents; records = records }) else Err WrongCount
 
-abbrev pub tree_from : Option (List ℤ × Records) → Result TreeValue TreeFault
-tree_from None = Err NotTree
-tree_from (Some form) = tree_with form.1 (shape_of form.0)
+-- the tree of at most so many nodes that has this form, or what is wrong first
+abbrev pub tree_from : ℕ → Option (List ℤ × Records) → Result TreeValue TreeFault
+tree_from limit None = Err NotTree
+tree_from limit (Some form) = tree_with form.1 (shape_of limit form.0)
 
--- the tree that a value of records of one width stands for, or what is wrong first
-abbrev pub tree_at : Width → Data → Result TreeValue TreeFault
-tree_at width d = tree_from (form_at width d)
+-- the tree of at most so many nodes that a value of records of one width stands for, or what is wrong first
+abbrev pub tree_at : ℕ → Width → Data → Result TreeValue TreeFault
+tree_at limit width d = tree_from limit (form_at width d)
 
--- the tree that a value stands for, or what is wrong first: all its records are wide, or all are narrow
-abbrev pub tree_of : Data → Result TreeValue TreeFault
-tree_of d = tree_from (option_or (form_at Wide d) (form_at Narrow d))
+-- the tree of at most so many nodes that a value stands for, or what is wrong first: all its records are wide, or all are narrow
+abbrev pub tree_of : ℕ → Data → Result TreeValue TreeFault
+tree_of limit d = tree_from limit (option_or (form_at Wide d) (form_at Narrow d))
 
-abbrev pub tree_of_read : Option Data → Result TreeValue TreeFault
-tree_of_read None = Err NotTree
-tree_of_read (Some d) = tree_of d
+abbrev pub tree_of_read : ℕ → Option Data → Result TreeValue TreeFault
+tree_of_read limit None = Err NotTree
+tree_of_read limit (Some d) = tree_of limit d
 
--- the tree that a text stands for, or what is wrong first
-abbrev pub tree_of_text : List ℕ → Result TreeValue TreeFault
-tree_of_text text = tree_of_read (read text)
+-- the tree of at most so many nodes that a text stands for, or what is wrong first
+abbrev pub tree_of_text : ℕ → List ℕ → Result TreeValue TreeFault
+tree_of_text limit text = tree_of_read limit (read text)
 
 -- The value is an object of two members, whose `parents` are the tree's and whose `records` are the tree's, of that width.
 pub record StandsFor (width : Width) (d : Data) (tree : TreeValue) : Type 0 where

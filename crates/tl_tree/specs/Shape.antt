@@ -8,7 +8,7 @@ use Rattle.tl_tree.specs.declared.fault.TreeFault.TheVariants.{Empty, TooMany, B
 abbrev pub parent : List ℕ → ℕ → ℕ
 parent parents x = slice_index parents x
 
--- A tree has 1 to 4,096 nodes. The root is its own parent, and each other node has a parent of a lower number.
+-- A tree has 1 to 65,535 nodes. The root is its own parent, and each other node has a parent of a lower number.
 pub record IsTree (parents : List ℕ) : Type 0 where
   pub some : 0 < length parents
   pub few : length parents ≤ MAX_NODES
@@ -59,20 +59,20 @@ abbrev pub first_astray : ℕ → List ℤ → Option ℕ
 first_astray x [] = None
 first_astray x (p ∷ ps) = if is_lower p x then first_astray (x + 1) ps else Some x
 
--- the first thing that is wrong with the parents
-abbrev pub shape_fault : List ℤ → Option TreeFault
-shape_fault [] = Some Empty
-shape_fault (p ∷ ps) =
-    if nat_lt MAX_NODES (length (p ∷ ps)) then Some TooMany
+-- the first thing that is wrong with the parents, where a tree may have so many nodes
+abbrev pub shape_fault : ℕ → List ℤ → Option TreeFault
+shape_fault limit [] = Some Empty
+shape_fault limit (p ∷ ps) =
+    if nat_lt limit (length (p ∷ ps)) then Some TooMany
     else (if is_root p then option_map BadParent (first_astray 1 ps) else Some BadRoot)
 
 abbrev pub unless_fault : {X : Type 0} → Option TreeFault → X → Result X TreeFault
 unless_fault None x = Ok x
 unless_fault (Some fault) x = Err fault
 
--- the shape that has these parents, or what is wrong first
-abbrev pub shape_of : List ℤ → Result (List ℕ) TreeFault
-shape_of numbers = unless_fault (shape_fault numbers) (map unsigned_abs numbers)
+-- the shape of at most so many nodes that has these parents, or what is wrong first
+abbrev pub shape_of : ℕ → List ℤ → Result (List ℕ) TreeFault
+shape_of limit numbers = unless_fault (shape_fault limit numbers) (map unsigned_abs numbers)
 
 -- x is the least node from 1 on whose parent is no node before it
 pub record IsFirstAstray (numbers : List ℤ) (x : ℕ) : Type 0 where

@@ -13,8 +13,8 @@ pub enum TreeFault {
     /// 101: there is no node.
     #[error("the tree has no node")]
     Empty,
-    /// 102: there are more than 4,096 nodes.
-    #[error("the tree has more than 4,096 nodes")]
+    /// 102: there are more nodes than a tree may have here, 4,096 where nobody asks for more.
+    #[error("the tree has too many nodes")]
     TooMany,
     /// 103: the root's parent is not the root.
     #[error("the first parent must be 0, for the root has no other")]

@@ -10,7 +10,7 @@ mod value;
 
 pub use fault::TreeFault;
 pub use record::{Record, Width};
-pub use shape::{MAX_NODES, Shape};
+pub use shape::{MAX_NODES, Shape, USUAL_NODES};
 pub use text::{read_tree, write_tree};
 pub use tl_width::FIELD_COUNT;
 pub use tree::Tree;

@@ -8,9 +8,12 @@ use std::alloc::{AllocError, Global};
 use std::marker::Model;
 
 /// The most nodes that a tree may have.
-pub const MAX_NODES: usize = 4096;
+pub const MAX_NODES: usize = 65_535;
 
-/// The shape of a tree of 1 to 4,096 nodes, numbered from 0. Node 0 is the root. Each other node has a parent with a lower
+/// How many nodes a tree has at most where nobody asks for more.
+pub const USUAL_NODES: u16 = 4_096;
+
+/// The shape of a tree of 1 to 65,535 nodes, numbered from 0. Node 0 is the root. Each other node has a parent with a lower
 /// number. A contract sees a shape as the list of the nodes' parents, where the root is its own parent.
 #[derive(Debug, Drop)]
 pub struct Shape {
@@ -32,27 +35,27 @@ impl Model for Shape {
 }
 
 impl Shape {
-    /// The shape with these parents: 0 for node 0, and for each other node one with a lower number.
+    /// The shape of at most `limit` nodes with these parents: 0 for node 0, and for each other node one with a lower number.
     ///
-    /// The first fault, in this order: 101 for no nodes, 102 for more than 4,096, 103 if the root's parent isn't 0, and 104
+    /// The first fault, in this order: 101 for no nodes, 102 for more than `limit`, 103 if the root's parent isn't 0, and 104
     /// at the first other node whose parent isn't a node before it. 190 if memory is refused.
-    pub fn new(alloc: Global, parents: &[i64]) -> Result<Shape, TreeFault>
-        ensures ok { IfOk result (λ s. shape_of parents.now ≡ Ok s) }
-        ensures fault { IfErr result (λ e. e ≢ TreeFault.Memory → shape_of parents.now ≡ Err e) }
+    pub fn new(alloc: Global, parents: &[i64], limit: u16) -> Result<Shape, TreeFault>
+        ensures ok { IfOk result (λ s. shape_of limit parents.now ≡ Ok s) }
+        ensures fault { IfErr result (λ e. e ≢ TreeFault.Memory → shape_of limit parents.now ≡ Err e) }
 
         // What is accepted is a tree's parents, a tree's parents are accepted, and the node of 104 is the least.
         ensures tree { IfOk result (λ s. IsTree s × (map pos s ≡ parents.now)) }
-        ensures taken { (s : List ℕ) → IsTree s → map pos s ≡ parents.now
+        ensures taken { (s : List ℕ) → IsTree s → length s ≤ limit → map pos s ≡ parents.now
             → MatchResult result (λ r. r ≡ s) (λ e. e ≡ TreeFault.Memory) }
         ensures astray { IfErr result
             (λ e. (x : ℕ) → e ≡ TreeFault.BadParent x → IsFirstAstray parents.now x) }
     {
-        let parents = node_parents(alloc, parents)?;
+        let parents = node_parents(alloc, parents, limit)?;
         let kid_lists = kid_lists(alloc, &parents)?;
         Ok(Shape { parents, kid_lists })
     }
 
-    /// How many nodes there are: 1 to 4,096.
+    /// How many nodes there are: 1 to 65,535.
     pub fn node_count(&self) -> u16
         ensures count { result ≡ length self.now }
         ensures tree { IsTree self.now }
@@ -109,15 +112,15 @@ impl Shape {
     }
 }
 
-// The parents as node numbers, if they make a tree.
-fn node_parents(alloc: Global, parents: &[i64]) -> Result<Vec<u16>, TreeFault>
-    ensures ok { IfOk result (λ v. shape_of parents.now ≡ Ok v.items) }
-    ensures fault { IfErr result (λ e. e ≢ TreeFault.Memory → shape_of parents.now ≡ Err e) }
+// The parents as node numbers, if they make a tree of at most `limit` nodes.
+fn node_parents(alloc: Global, parents: &[i64], limit: u16) -> Result<Vec<u16>, TreeFault>
+    ensures ok { IfOk result (λ v. shape_of limit parents.now ≡ Ok v.items) }
+    ensures fault { IfErr result (λ e. e ≢ TreeFault.Memory → shape_of limit parents.now ≡ Err e) }
 {
     if parents.is_empty() {
         return Err(TreeFault::Empty);
     }
-    if parents.len() > MAX_NODES {
+    if parents.len() > usize::from(limit) {
         return Err(TreeFault::TooMany);
     }
     if parents[0] != 0 {

@@ -1,6 +1,6 @@
 // Trees, records and numbers as JSON values, for reading and writing larger documents.
 
-ghost use Rattle.std.specs.Prelude.{◌≡◌, ◌≢◌, codes, map, option_map, option_and_then, length, pos, Err, Ok, IfOk, IfErr, OnOk, MatchResult, All, FitsSigned};
+ghost use Rattle.std.specs.Prelude.{◌≡◌, ◌≢◌, ◌≤◌, ℕ, codes, map, option_map, option_and_then, length, pos, Err, Ok, IfOk, IfErr, OnOk, MatchResult, All, FitsSigned};
 ghost use Rattle.std.specs.Int.{w64};
 ghost use Rattle.serde_json.specs.Data.{object, member, no_members};
 ghost use Rattle.serde_json.specs.View.{view, items_view};
@@ -96,32 +96,37 @@ fn records_from_items(
     Ok(Some(records))
 }
 
-/// The tree that a value stands for, whose records have that width: an object with exactly the members `parents` and
+/// The tree of at most `limit` nodes that a value stands for, whose records have that width: an object with exactly the members `parents` and
 /// `records`.
 ///
 /// The first fault: 106 if the members aren't a list of integers and a list of such records, then 101 to 105 in their
 /// order. 190 if memory is refused.
-pub fn tree_from_value(alloc: Global, width: Width, value: &Value) -> Result<Tree, TreeFault>
-    ensures ok { IfOk result (λ t. tree_at width (view value.now) ≡ Ok t) }
-    ensures fault { IfErr result (λ e. e ≢ TreeFault.Memory → tree_at width (view value.now) ≡ Err e) }
+pub fn tree_from_value(
+    alloc: Global,
+    width: Width,
+    value: &Value,
+    limit: u16,
+) -> Result<Tree, TreeFault>
+    ensures ok { IfOk result (λ t. tree_at limit width (view value.now) ≡ Ok t) }
+    ensures fault { IfErr result (λ e. e ≢ TreeFault.Memory → tree_at limit width (view value.now) ≡ Err e) }
 
     // The value stands for the tree that is read, and a value that stands for a tree is read.
     ensures stands { IfOk result (λ t. StandsFor width (view value.now) t) }
-    ensures taken { (t : TreeValue) → StandsFor width (view value.now) t
+    ensures taken { (t : TreeValue) → StandsFor width (view value.now) t → length t.parents ≤ limit
         → MatchResult result (λ r. r ≡ t) (λ e. e ≡ TreeFault.Memory) }
 {
-    checked_tree(alloc, width, value)
+    checked_tree(alloc, width, value, limit)
 }
 
 // The same, with a contract that uses only the definition.
-fn checked_tree(alloc: Global, width: Width, value: &Value) -> Result<Tree, TreeFault>
-    ensures ok { IfOk result (λ t. tree_at width (view value.now) ≡ Ok t) }
-    ensures fault { IfErr result (λ e. e ≢ TreeFault.Memory → tree_at width (view value.now) ≡ Err e) }
+fn checked_tree(alloc: Global, width: Width, value: &Value, limit: u16) -> Result<Tree, TreeFault>
+    ensures ok { IfOk result (λ t. tree_at limit width (view value.now) ≡ Ok t) }
+    ensures fault { IfErr result (λ e. e ≢ TreeFault.Memory → tree_at limit width (view value.now) ≡ Err e) }
 {
     let Some((parents, records)) = form_from_value(alloc, width, value)? else {
         return Err(TreeFault::NotTree);
     };
-    let shape = Shape::new(alloc, &parents)?;
+    let shape = Shape::new(alloc, &parents, limit)?;
     Tree::new(Arc::new(alloc, shape)?, records)
 }
 
@@ -199,7 +204,7 @@ pub fn records_to_value(alloc: Global, records: &[Record]) -> Result<Value, Allo
 /// The object that stands for a tree: its members `parents` and `records`.
 pub fn tree_to_value(alloc: Global, tree: &Tree) -> Result<Value, AllocError>
     ensures value { IfOk result (λ v. view v ≡ tree_data tree.now) }
-    ensures reads_back { IfOk result (λ v. tree_at Width.Wide (view v) ≡ Ok tree.now) }
+    ensures reads_back { IfOk result (λ v. (limit : ℕ) → length tree.now.parents ≤ limit → tree_at limit Width.Wide (view v) ≡ Ok tree.now) }
 {
     let parents = shape_to_value(alloc, tree.shape())?;
     let records = records_to_value(alloc, tree.records())?;

@@ -5,7 +5,8 @@ ghost use Rattle.tl_procedures.specs.Names.{is_name};
 ghost use Rattle.tl_procedures.specs.declared.fault.NamingFault.TheVariants.{BadName};
 ghost use Rattle.tl_table.specs.declared.fault.TableFault.TheVariants as fault;
 ghost use Rattle.tl_workers.specs.declared.refusal.Refusal.TheVariants as refusal;
-ghost use Rattle.tl_table.specs.Tables.{IsChain};
+ghost use Rattle.std.specs.Fn.{FnOnceReturnsAt};
+ghost use Rattle.tl_table.specs.Tables.{IsChain, TableValue};
 ghost use Rattle.tl_table.specs.declared.epoch.TheConstants.{MAX_EPOCHS};
 ghost use Rattle.tl_workers.specs.Refusals.{IsNewEngineRefusal, IsSealRefused, IsRestedSealRefused};
 ghost use Rattle.tl_workers.specs.Matching.{Matches, DoesNotClose};
@@ -97,6 +98,15 @@ impl Engine {
         self.turnstile.lock(rt).table.epoch()
     }
 
+    /// What the function says of the table, which it has while nothing else does. It has to be short: calls wait meanwhile.
+    pub fn look<T, F: FnOnce(&Table) -> T>(&self, rt: &impl Wait, says: F) -> T
+        requires { F.IsAlwaysCallable says }
+        ensures { (t : TableValue) × FnOnceReturnsAt F.FnOnce says t result }
+    {
+        let turnstile = self.turnstile.lock(rt);
+        said_of(&turnstile.table, says)
+    }
+
     /// A new session with an empty list. 821; 990 if memory is refused.
     pub fn session(&self, rt: &impl Wait, alloc: Global) -> Result<Session, Refusal>
         ensures ok { IfOk result (λ s. s.kept ≡ []) }
@@ -177,4 +187,12 @@ impl Engine {
         }
         Ok((closed, sessions))
     }
+}
+
+// What the function says of the table.
+fn said_of<T, F: FnOnce(&Table) -> T>(table: &Table, says: F) -> T
+    requires { F.IsAlwaysCallable says }
+    ensures { FnOnceReturnsAt F.FnOnce says table.now result }
+{
+    says(table)
 }

@@ -31,8 +31,8 @@ pub fn from_31_to_204(number: u16) -> Option<Meaning> {
         102 => Some(Meaning {
             parts: "",
             name: "too many nodes",
-            when: "there are more than 4,096 nodes, or would be after a growth",
-            advice: "split the tree, or append fewer nodes",
+            when: "there are more nodes than 4,096, or than `--nodes` says, or would be after a growth",
+            advice: "let it have more by `--nodes`, up to 65535; or split the tree",
         }),
         103 => Some(Meaning {
             parts: "",

@@ -45,7 +45,7 @@ impl<'a, R: Files + Print + Eprint + AllocGlobal + Clone + Drop> Program<'a, R> 
     fn audit_alone<'p>(&self, path: &'p str) -> Result<String, Failure<'p>> {
         let trail = self.read_file(path)?;
         let mut shown = Shown::new(self.rt, self.is_terminal);
-        let answer = audit_cmd(self.rt.alloc(), &trail, &mut shown);
+        let answer = audit_cmd(self.rt.alloc(), &trail, &mut shown, self.nodes);
         shown.end();
         answer.map_err(|fault| self.misread(path, &trail, fault))
     }
@@ -58,7 +58,7 @@ impl<'a, R: Files + Print + Eprint + AllocGlobal + Clone + Drop> Program<'a, R> 
             Err(failure) => return Err(self.told(&failure)),
         };
         let mut shown = Shown::new(self.rt, self.is_terminal);
-        let answer = audit_next_cmd(self.rt.alloc(), &file, before, &mut shown);
+        let answer = audit_next_cmd(self.rt.alloc(), &file, before, &mut shown, self.nodes);
         shown.end();
         match answer {
             Ok((line, last)) => match self.rt.print(line.as_str()) {

@@ -13,7 +13,8 @@ use std::thread::Threads;
 use std::time::{Clock, Duration};
 use tl_generations::Succession;
 use tl_server::{
-    Address, Control, Keeper, LastingServer, ListenFault, Relay, Server, ask_status, ask_to_stop,
+    Address, Control, Keeper, LastingServer, ListenFault, NoJournal, Relay, Server, ask_status,
+    ask_to_stop,
 };
 use tl_workers::{Engine, Session};
 
@@ -126,7 +127,7 @@ where
     ) -> Result<String, Failure<'p>>
     where
         K: Keeper + Finish + Send + Drop,
-        F: FnOnce(Trails, Succession) -> K + Drop,
+        F: FnOnce(Trails, Succession, u16) -> K + Drop,
         requires { F.IsAlwaysCallable archive }
     {
         let file = self.read_file(tree)?;
@@ -149,7 +150,7 @@ where
         trail: Option<&'p str>,
     ) -> Result<String, Failure<'p>> {
         let alloc = self.rt.alloc();
-        let engine = open_engine(alloc, tree)?;
+        let engine = open_engine(alloc, tree, self.nodes)?;
         let sessions = self.sessions_of(&engine, options, connections)?;
         let Some(path) = trail else {
             return Ok(conclude_engine(alloc, engine, sessions)?);
@@ -170,12 +171,12 @@ where
     ) -> Result<String, Failure<'p>>
     where
         K: Keeper + Finish + Send + Drop,
-        F: FnOnce(Trails, Succession) -> K + Drop,
+        F: FnOnce(Trails, Succession, u16) -> K + Drop,
         requires { F.IsAlwaysCallable archive }
     {
         let alloc = self.rt.alloc();
         let trails = self.trails_of(lasting, outputs.trail)?;
-        let (engine, succession) = open_generations(alloc, tree)?;
+        let (engine, succession) = open_generations(alloc, tree, self.nodes)?;
         // One file has one generation.
         let one = matches!(trails, Trails::File(_));
         let epochs = if one {
@@ -183,14 +184,20 @@ where
         } else {
             u32::from(lasting.generation)
         };
-        let relay = Relay::new(alloc, engine, archive(trails, succession), epochs);
+        let relay = Relay::new(
+            alloc,
+            engine,
+            archive(trails, succession, self.nodes),
+            NoJournal,
+            epochs,
+        );
         let relay = if one {
             relay.that_does_not_grow()
         } else {
             relay
         };
         self.serve_connections(&relay, options, lasting.connections)?;
-        let (left, mut archive) = relay.into_parts();
+        let (left, mut archive, _) = relay.into_parts(self.rt, alloc);
         if let Some((engine, sessions)) = left {
             archive.close(engine, sessions);
         }
@@ -223,7 +230,7 @@ where
     // Serves connections until there were as many as were asked for, or until the server is asked to stop.
     fn serve_connections<'p, K: Keeper + Send>(
         &self,
-        relay: &Relay<K>,
+        relay: &Relay<K, NoJournal>,
         options: ServeOptions<'p>,
         connections: Option<u16>,
     ) -> Result<(), Failure<'p>> {
@@ -241,7 +248,7 @@ where
     // The same, where the server can be asked to stop at that control.
     fn serve_until_stopped<'p, K: Keeper + Send>(
         &self,
-        relay: &Relay<K>,
+        relay: &Relay<K, NoJournal>,
         options: ServeOptions<'p>,
         connections: Option<u16>,
         control: &Control<'_>,

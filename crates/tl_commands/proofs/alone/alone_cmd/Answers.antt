@@ -8,13 +8,13 @@ use Rattle.tl_commands.proofs.alone.alone_cmd.Goals as goal
 
 pub returns-in_err-procedure-clause-fault : goal.returns-in_err-procedure-clause-fault
 returns-in_err-procedure-clause-fault c =
-    let file : IsTreeFile c.args.tree.now = record { tree = c.in-Ok.tree; same = c.in-Ok.ensures.ok } in
-    let at = c.in_err-procedure.ensures.fault c.args.tree.now c.args.args.now file in
+    let file : IsTreeFile c.args.limit c.args.tree.now = record { tree = c.in-Ok.tree; same = c.in-Ok.ensures.ok } in
+    let at = c.in_err-procedure.ensures.fault c.args.limit c.args.tree.now c.args.args.now file in
     search rules
 
 pub returns-in_default-alone-clause-fault : goal.returns-in_default-alone-clause-fault
 returns-in_default-alone-clause-fault c =
-    let inputs : Inputs c.args.tree.now c.args.procedure.now c.args.args.now =
+    let inputs : Inputs c.args.limit c.args.tree.now c.args.procedure.now c.args.args.now =
     record {
       tree = c.in-Ok.tree;
       code = c.in_ok-procedure.procedure;
@@ -30,7 +30,7 @@ returns-in_default-alone-clause-fault c =
 
 pub returns-in-Ok-append_lines-clause-printed : goal.returns-in-Ok-append_lines-clause-printed
 returns-in-Ok-append_lines-clause-printed c =
-    let inputs : Inputs c.args.tree.now c.args.procedure.now c.args.args.now =
+    let inputs : Inputs c.args.limit c.args.tree.now c.args.procedure.now c.args.args.now =
     record {
       tree = c.in-Ok.tree;
       code = c.in_ok-procedure.procedure;

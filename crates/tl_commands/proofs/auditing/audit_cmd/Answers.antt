@@ -11,5 +11,5 @@ returns-else-begins_with_list-clause-fault g c =
     let same : text ≡ file = search rules in
     let utf8 : IsUtf8 file = search rules in
     let other : begins_with_list file ≡ false = search rules in
-    IfErr-weaker c.audit_trail_text.result (λ e. IsFirstTrailAuditFault text e) (λ e. IsFirstAuditFault file e)
-    (λ e wrong. of_trail file e utf8 other (subst (λ b. IsFirstTrailAuditFault b e) same wrong)) c.audit_trail_text.ensures.fault
+    IfErr-weaker c.audit_trail_text.result (λ e. IsFirstTrailAuditFault c.args.limit text e) (λ e. IsFirstAuditFault c.args.limit file e)
+    (λ e wrong. of_trail c.args.limit file e utf8 other (subst (λ b. IsFirstTrailAuditFault c.args.limit b e) same wrong)) c.audit_trail_text.ensures.fault

@@ -8,6 +8,6 @@ returns-clause-printed c =
     let s = c.args.script.now in
     let driven = c.in_ok-driven.driven in (
       driven.core.seen,
-      printed t s (string_bytes c.in_ok-text.text) driven.core.seen driven.trace.items c.deref.result.now c.in_ok-driven.ensures.ok c.deref.ensures.value c.in_ok-text.ensures.ok,
+      printed c.args.limit t s (string_bytes c.in_ok-text.text) driven.core.seen driven.trace.items c.deref.result.now c.in_ok-driven.ensures.ok c.deref.ensures.value c.in_ok-text.ensures.ok,
       c.in_ok-trail.ensures.ok,
     )

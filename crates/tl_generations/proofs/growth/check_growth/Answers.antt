@@ -10,8 +10,7 @@ returns-clause-ok c =
     let shape = c.args.shape.now in
     let parents = c.args.parents.now in
     let tree = c.node_count.ensures.tree in
-    let most = tree.few in
-    let few : length shape + length parents ≤ MAX_NODES = omega (arith, most) in
+    let few : length shape + length parents ≤ MAX_NODES = omega arith in
     let count = c.from-first.ensures ∙ c.node_count.ensures.count in
     on_ok_weaker c.check_parents.result
     (λ lower. can_grow shape parents tree few (subst (λ n. AreLower n parents (length parents)) count lower)) c.check_parents.ensures.ok

@@ -1,4 +1,4 @@
-use Rattle.std.proofs.Common.{rules, ◌≡◌, ◌+◌, ◌<◌, ◌≤◌, [], take, length, arith}
+use Rattle.std.proofs.Common.{rules, ◌<◌, [], length, arith}
 use Rattle.std.proofs.lemmas.List.{take_more}
 use Rattle.std.proofs.lemmas.List.Elements.{All-get_or}
 use Rattle.tl_ledger.specs.declared.rows.ChangedRecord.{ChangedRecord}

@@ -11,4 +11,4 @@ returns c =
     let rest = c.each_by_value.new.reader in
     let first = c.in-Some-BeginArray.ensures.value ∙ ap (λ k. token_of k ∷ s) c.in-Some-BeginArray.field-0-is in
     let over : rest ≡ [] = (if_none _ c.next-2.result c.if-is_some.ensures c.next-2.ensures.value).0 in
-    text_listed text s rest (sym c.in_ok-reader.ensures.ok ∙ first) over c.in_ok-listed.listed c.in_ok-listed.ensures
+    text_listed c.args.limit text s rest (sym c.in_ok-reader.ensures.ok ∙ first) over c.in_ok-listed.listed c.in_ok-listed.ensures

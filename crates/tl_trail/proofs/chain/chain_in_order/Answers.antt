@@ -12,8 +12,8 @@ returns-clause-some c =
     let rest = c.each_in_order.new.reader in
     let ts = c.in-Some.trails.items in
     let first = c.in-Some-BeginArray.ensures.value ∙ ap (λ k. token_of k ∷ s) c.in-Some-BeginArray.field-0-is in
-    let got : BeginsWithTrails s ts rest = rw c.in-Some.is at c.in_ok-trails.ensures.some in
+    let got : BeginsWithTrails c.args.limit s ts rest = rw c.in-Some.is at c.in_ok-trails.ensures.some in
     let few : length ts ≤ 256 = rw c.in-Some.is at c.in_ok-trails.ensures.few in
     let over : rest ≡ [] = (if_none _ c.next-2.result c.if-is_some.ensures c.next-2.ensures.value).0 in
     let some : 0 < length ts = grind arith in
-    text_chain text s rest (sym c.in_ok-reader.ensures.ok ∙ first) over ts got some few
+    text_chain c.args.limit text s rest (sym c.in_ok-reader.ensures.ok ∙ first) over ts got some few

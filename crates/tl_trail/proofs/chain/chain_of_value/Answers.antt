@@ -16,8 +16,8 @@ returns-in-Some-clause-ok c =
     let is : Some (items_view vs) ≡ as_array d = search rules in
     let some : 0 < length vs = search rules in
     let few : length vs ≤ 256 = search rules in
-    IfOk-weaker c.trails_of_items.result (λ ts. AreEach (items_of_list (items_view c.deref.result.now)) ts.items) (λ ts. IsChain (chain_of d) ts.items)
-    (λ ts each. value_stands d vs ts.items is some few (subst (λ l. AreEach (items_of_list (items_view l)) ts.items) c.deref.ensures.value each)) c.trails_of_items.ensures.ok
+    IfOk-weaker c.trails_of_items.result (λ ts. AreEach c.args.limit (items_of_list (items_view c.deref.result.now)) ts.items) (λ ts. IsChain c.args.limit (chain_of d) ts.items)
+    (λ ts each. value_stands c.args.limit d vs ts.items is some few (subst (λ l. AreEach c.args.limit (items_of_list (items_view l)) ts.items) c.deref.ensures.value each)) c.trails_of_items.ensures.ok
 
 pub returns-in-Some-clause-fault : goal.returns-in-Some-clause-fault
 returns-in-Some-clause-fault c =
@@ -26,8 +26,8 @@ returns-in-Some-clause-fault c =
     let is : Some (items_view vs) ≡ as_array d = search rules in
     let some : 0 < length vs = search rules in
     let few : length vs ≤ 256 = search rules in
-    IfErr-weaker c.trails_of_items.result (λ e. e ≢ Memory → IsFirstOf (items_of_list (items_view c.deref.result.now)) e) (λ e. e ≢ Memory → IsFaultOfChain (chain_of d) e)
-    (λ e wrong ne. value_wrong d vs e is some few (subst (λ l. IsFirstOf (items_of_list (items_view l)) e) c.deref.ensures.value (wrong ne))) c.trails_of_items.ensures.fault
+    IfErr-weaker c.trails_of_items.result (λ e. e ≢ Memory → IsFirstOf c.args.limit (items_of_list (items_view c.deref.result.now)) e) (λ e. e ≢ Memory → IsFaultOfChain c.args.limit (chain_of d) e)
+    (λ e wrong ne. value_wrong c.args.limit d vs e is some few (subst (λ l. IsFirstOf c.args.limit (items_of_list (items_view l)) e) c.deref.ensures.value (wrong ne))) c.trails_of_items.ensures.fault
 
 pub returns-in_default-clause-fault : goal.returns-in_default-clause-fault
 returns-in_default-clause-fault c = λ ne.

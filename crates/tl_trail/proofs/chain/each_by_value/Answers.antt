@@ -22,7 +22,7 @@ loop-alloc-preserved-in_ok-push-in-Ok-3 c =
     let pushed : c.push.new.self.items ≡ l.trails.items ++ t ∷ [] = c.in_ok-push-in-Ok.ensures.items in (
       ds ++ d ∷ [],
       read_more c.args.reader.now ds l.reader r d l.invariant.1 goes_on.0 (value_of trail_depth l.reader r d got) got.shorter,
-      subst (AreEach (ds ++ d ∷ [])) (sym pushed) (one_each ds l.trails.items d t l.invariant.2 c.in-Ok.ensures.ok),
+      subst (AreEach c.args.limit (ds ++ d ∷ [])) (sym pushed) (one_each c.args.limit ds l.trails.items d t l.invariant.2 c.in-Ok.ensures.ok),
       omega (arith, l.invariant.3, got.shorter),
       omega (arith, ap length pushed, length-append l.trails.items (t ∷ []), l.invariant.4),
     )
@@ -39,8 +39,8 @@ returns-then-len-eq-MAX_TRAILS c =
     let got : BeginsWith Some trail_depth l.reader d r = rw (← goes_on.1) (rw c.in-Some.is at c.in_ok-one.ensures) in
     let read = read_more ts ds l.reader r d l.invariant.1 goes_on.0 (value_of trail_depth l.reader r d got) got.shorter in
     let full : length l.trails.items ≡ 256 = grind arith in
-    IfOk-weaker c.faulty.result _ (λ listed. IsListed ts listed rest)
-    (λ listed left. left_many ts r rest ds d l.trails.items l.invariant.2 read 257 (omega (arith, full)) (omega (arith, full)) listed left)
+    IfOk-weaker c.faulty.result _ (λ listed. IsListed c.args.limit ts listed rest)
+    (λ listed left. left_many c.args.limit ts r rest ds d l.trails.items l.invariant.2 read 257 (omega (arith, full)) (omega (arith, full)) listed left)
     c.faulty.ensures
 
 pub returns-in-Err : goal.returns-in-Err
@@ -55,8 +55,8 @@ returns-in-Err c =
     let got : BeginsWith Some trail_depth l.reader d r = rw (← goes_on.1) (rw c.in-Some.is at c.in_ok-one.ensures) in
     let read = read_more ts ds l.reader r d l.invariant.1 goes_on.0 (value_of trail_depth l.reader r d got) got.shorter in
     let next : c.saturating_add.result ≡ length l.trails.items + 1 = grind arith in
-    IfOk-weaker c.faulty-in-Err.result _ (λ listed. IsListed ts listed rest)
-    (λ listed left. left_wrong ts r rest ds d l.trails.items l.invariant.2 read c.in-Err.fault c.saturating_add.result c.in-Err.ensures.fault next listed left)
+    IfOk-weaker c.faulty-in-Err.result _ (λ listed. IsListed c.args.limit ts listed rest)
+    (λ listed left. left_wrong c.args.limit ts r rest ds d l.trails.items l.invariant.2 read c.in-Err.fault c.saturating_add.result c.in-Err.ensures.fault next listed left)
     c.faulty-in-Err.ensures
 
 pub returns-then-is_empty : goal.returns-then-is_empty
@@ -65,11 +65,11 @@ returns-then-is_empty c = λ ne.
     let r = c.take_end_array.new.self in
     let end : after_end_array l.reader ≡ Some r = grind arith in
     let none : length l.trails.items ≡ 0 = grind arith in
-    listed_none c.args.reader.now r l.invariant.0 l.trails.items l.invariant.2 none (read_ends c.args.reader.now l.invariant.0 l.reader r l.invariant.1 end)
+    listed_none c.args.limit c.args.reader.now r l.invariant.0 l.trails.items l.invariant.2 none (read_ends c.args.reader.now l.invariant.0 l.reader r l.invariant.1 end)
 
 pub returns : goal.returns
 returns c =
     let l = c.loop-alloc in
     let r = c.take_end_array.new.self in
     let end : after_end_array l.reader ≡ Some r = grind arith in
-    (trails_end c.args.reader.now l.invariant.0 l.reader r l.trails.items l.invariant.1 end l.invariant.2 l.invariant.3, grind arith, grind arith)
+    (trails_end c.args.limit c.args.reader.now l.invariant.0 l.reader r l.trails.items l.invariant.1 end l.invariant.2 l.invariant.3, grind arith, grind arith)

@@ -3,4 +3,4 @@ use Rattle.tl_trail.proofs.OneChain.{only_chain}
 use Rattle.tl_trail.proofs.chain.read_chain.Goals as goal
 
 pub returns-clause-taken : goal.returns-clause-taken
-returns-clause-taken c = λ ts is. only_chain (λ v. v.items) (chain_in c.args.text.now) c.chain_of_text.result ts c.chain_of_text.ensures.ok c.chain_of_text.ensures.fault is
+returns-clause-taken c = λ ts is. only_chain c.args.limit (λ v. v.items) (chain_in c.args.text.now) c.chain_of_text.result ts c.chain_of_text.ensures.ok c.chain_of_text.ensures.fault is

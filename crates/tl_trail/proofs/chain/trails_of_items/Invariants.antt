@@ -6,6 +6,6 @@ use Rattle.tl_trail.proofs.chain.trails_of_items.Given as goal
 
 abbrev pub invariant-loop-item : goal.invariant-loop-item
 invariant-loop-item l =
-    AreEach (map view (take l.item-index l.items)) l.trails.items
+    AreEach l.limit (map view (take l.item-index l.items)) l.trails.items
     × (vec_len l.trails ≡ l.item-index)
     × (length l.items ≤ vec_capacity l.trails)

@@ -33,9 +33,9 @@ returns-clause-text c =
     c.in_ok-push_str-3.ensures.bytes ∙ ap (λ l. l ++ codes "]") (c.loop-number.invariant.0 ∙ ap (λ xs. 91 ∷ joined false (map trail_data xs)) all) ∙ list_whole [] (map trail_data ts) ∙ chain_written ts
 
 pub returns-clause-reads_back : goal.returns-clause-reads_back
-returns-clause-reads_back c = λ some few.
+returns-clause-reads_back c = λ some few limit fit.
     let ts = c.args.trails.now in
     let all = take_all c.loop-number.number ts c.loop-number-test.false in
     let text : string_bytes c.push_str-2.new.self ≡ chain_text ts =
     c.in_ok-push_str-3.ensures.bytes ∙ ap (λ l. l ++ codes "]") (c.loop-number.invariant.0 ∙ ap (λ xs. 91 ∷ joined false (map trail_data xs)) all) ∙ list_whole [] (map trail_data ts) ∙ chain_written ts in
-    subst (λ s. IsChainText s ts) (sym text) (chain_read ts (subst (All IsWritable) all c.loop-number.invariant.1) some few)
+    subst (λ s. IsChainText limit s ts) (sym text) (chain_read limit ts (subst (All IsWritable) all c.loop-number.invariant.1) fit some few)

@@ -13,13 +13,13 @@ returns-clause-ok c =
     let found = form_of_data (view c.args.value.now) in
     let tree = c.in_ok-tree.tree in
     let raw = c.in_ok-tree.raw in
-    IfOk-weaker c.checked_trail.result (λ t. (parts : List ℤ × Records) → IsTrailOf tree (form_with raw parts) t) (λ t. IsFound found t)
-    (λ t is. found_is found tree raw t c.in_ok-tree.ensures.ok is) c.checked_trail.ensures.ok
+    IfOk-weaker c.checked_trail.result (λ t. (parts : List ℤ × Records) → IsTrailOf tree (form_with raw parts) t) (λ t. IsFound c.args.limit found t)
+    (λ t is. found_is c.args.limit found tree raw t c.in_ok-tree.ensures.ok is) c.checked_trail.ensures.ok
 
 pub returns-clause-fault : goal.returns-clause-fault
 returns-clause-fault c =
     let found = form_of_data (view c.args.value.now) in
     let tree = c.in_ok-tree.tree in
     let raw = c.in_ok-tree.raw in
-    IfErr-weaker c.checked_trail.result (λ e. e ≢ Memory → (parts : List ℤ × Records) → IsFaultOf tree (form_with raw parts) e) (λ e. e ≢ Memory → IsFaultFound found e)
-    (λ e wrong ne. found_fault found tree raw e c.in_ok-tree.ensures.ok (wrong ne)) c.checked_trail.ensures.fault
+    IfErr-weaker c.checked_trail.result (λ e. e ≢ Memory → (parts : List ℤ × Records) → IsFaultOf tree (form_with raw parts) e) (λ e. e ≢ Memory → IsFaultFound c.args.limit found e)
+    (λ e wrong ne. found_fault c.args.limit found tree raw e c.in_ok-tree.ensures.ok (wrong ne)) c.checked_trail.ensures.fault

@@ -18,8 +18,8 @@ returns c =
     let rest = c.trail_members.new.reader in
     let first = c.in-Some-BeginObject.ensures.value ∙ ap (λ k. token_of k ∷ s) c.in-Some-BeginObject.field-0-is in
     let all = sym c.in_ok-reader.ensures.ok ∙ first in
-    let got : AreOfTrail s c.in-Some.found.0 c.in-Some.found.1 rest = rw c.in-Some.is at c.in_ok-found.ensures in
+    let got : AreOfTrail c.args.limit s c.in-Some.found.0 c.in-Some.found.1 rest = rw c.in-Some.is at c.in_ok-found.ensures in
     let over : rest ≡ [] = (if_none _ c.next-2.result c.if-is_some.ensures c.next-2.ensures.value).0 in
     let is_value = ap (λ ts. converted of_json (value 127 ts)) all ∙ object_begins 127 s (omega arith) ∙ ap (parse_map object) (text_members s rest got.found got.are_members) ∙ ap (λ r. Some (object got.found, r)) over in
     let is : read text ≡ Some (object got.found) = whole (value 127 (tokens text)) (object got.found) is_value in
-    subst (λ o. IsHalfRead (option_and_then form_of_data o) c.in-Some.found.0 c.in-Some.found.1) (sym is) got.half_read
+    subst (λ o. IsHalfRead c.args.limit (option_and_then form_of_data o) c.in-Some.found.0 c.in-Some.found.1) (sym is) got.half_read

@@ -29,5 +29,5 @@ returns c =
     let procedures : BeginsWithMember (codes "procs") (each_of procedure_of) t3 (map procedure_form c.in-Some-5.procedures.items) t4 = rw c.in-Some-5.is at c.in_ok-procedures.ensures in
     let tree_value : BeginsWithMember (codes "tree") Some t4 (view c.in-Some-6.tree) t5 = rw c.in-Some-6.is at c.in_ok-tree.ensures in
     let end : read_key t5 ≡ Some (None, c.next_key.new.self) = rw c.in-Ok-None.field-0-is at c.in-Ok-None.ensures.value in
-    trail_of_members ts t1 t2 t3 t4 t5 c.next_key.new.self width (record { procedures = c.in-Some-5.procedures; calls = c.in-Some.calls; events = c.in-Some-4.events; ends = c.in-Some-3.ends }) c.in-Ok.tree
+    trail_of_members c.args.limit ts t1 t2 t3 t4 t5 c.next_key.new.self width (record { procedures = c.in-Some-5.procedures; calls = c.in-Some.calls; events = c.in-Some-4.events; ends = c.in-Some-3.ends }) c.in-Ok.tree
     ends (view c.in-Some-6.tree) calls ends_value ends_are.0 ends_are.1 events procedures tree_value c.in-Ok.ensures.ok end

@@ -1,7 +1,7 @@
-use Rattle.std.proofs.Common.{◌≡◌, ◌≤◌, ◌++◌, [], length, map, reverse, codes, Ok, ap, ◌∙◌, subst, string_bytes, arith}
+use Rattle.std.proofs.Common.{◌≡◌, ◌≤◌, ◌++◌, ℕ, [], length, map, reverse, codes, Ok, ap, ◌∙◌, subst, string_bytes, arith}
 use Rattle.std.specs.Prelude.{All}
 use Rattle.serde_json.specs.Written.{compact_text}
-use Rattle.tl_tree.specs.Trees.{IsRecord}
+use Rattle.tl_tree.specs.Trees.{TreeValue, IsRecord}
 use Rattle.tl_tree.specs.declared.record.Width.TheVariants.{Wide}
 use Rattle.tl_tree.specs.Reading.{tree_at}
 use Rattle.tl_tree.specs.Writing.{records_data, tree_data}
@@ -55,7 +55,7 @@ returns-clause-writable c =
     let accepted : AreAccepted t.procedures = subst AreAccepted c.procedures.ensures c.in_ok-push_procedures.ensures.accepted in
     let procedures : IsReadBack (list_data (map procedure_data t.procedures)) = subst (λ ps. IsReadBack (list_data (map procedure_data ps))) c.procedures.ensures c.in_ok-push_procedures.ensures.added.back in
     let opening = c.opening.ensures.tree in
-    let tree = subst (λ x. tree_at Wide (tree_data x) ≡ Ok x) opening c.in_ok-push_tree.ensures.reads_back in
+    let tree = subst (λ (x : TreeValue). (limit : ℕ) → length x.parents ≤ limit → tree_at limit Wide (tree_data x) ≡ Ok x) opening c.in_ok-push_tree.ensures.reads_back in
     let tree_back = subst (λ x. IsReadBack (tree_data x)) opening c.in_ok-push_tree.ensures.added.back in
     ok_so c.push_str-6.result _
     (record {

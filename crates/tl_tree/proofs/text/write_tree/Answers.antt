@@ -15,9 +15,9 @@ returns-clause-text c =
     c.in_ok-to_string.ensures.text (ap has_float is ∙ tree_whole tree) ∙ ap compact_text is ∙ tree_written tree
 
 pub returns-clause-reads_back : goal.returns-clause-reads_back
-returns-clause-reads_back c =
+returns-clause-reads_back c = λ limit few.
     let tree = c.args.tree.now in
     let is = c.in_ok-value.ensures.value in
     let deep = ap depth is in
     let shallow : depth (view c.in_ok-value.value) ≤ max_depth = omega (arith, deep, tree_shallow tree) in
-    ap tree_of_read (c.in_ok-to_string.ensures.reads_back shallow) ∙ tree_of_wide (view c.in_ok-value.value) (Ok tree) c.in_ok-value.ensures.reads_back (λ e. cc)
+    ap (tree_of_read limit) (c.in_ok-to_string.ensures.reads_back shallow) ∙ tree_of_wide limit (view c.in_ok-value.value) (Ok tree) (c.in_ok-value.ensures.reads_back limit few) (λ e. cc)

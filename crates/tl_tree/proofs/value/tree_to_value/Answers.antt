@@ -14,4 +14,4 @@ returns-clause-reads_back c =
     let tree = c.args.tree.now in
     let value : IfOk c.parts_to_value.result (λ v. view v ≡ tree_data tree) = search rules in
     let each : All IsRecord tree.records = rw c.records.ensures.records at c.in_ok-records.ensures.each in
-    IfOk-weaker c.parts_to_value.result _ _ (λ v is. ap (tree_at Wide) is ∙ tree_back tree c.shape.ensures.whole each) value
+    IfOk-weaker c.parts_to_value.result _ _ (λ v is limit few. ap (tree_at limit Wide) is ∙ tree_back limit tree few c.shape.ensures.whole each) value

@@ -1,0 +1,49 @@
+use Rattle.std.proofs.Common.{rules, ◌≡◌, ◌+◌, ◌∷◌, [], map, length, pos, refl, ap, ◌∙◌, arith}
+use Rattle.std.proofs.lemmas.List.{map-append, length-map, length-append}
+use Rattle.sqlite_value.specs.declared.value.Value.TheVariants.{Int}
+use Rattle.sqlite_trees.specs.View.{IsClean}
+use Rattle.tl_ledger.proofs.ReadLemmas.{reads_none, reads_more, reads_all}
+use Rattle.tl_ledger.proofs.reading.read_rest.Goals as goal
+
+pub loop-number-init : goal.loop-number-init
+loop-number-init g c = (
+  c.requires.live,
+  (let none = ap length c.new-items.ensures.items in omega arith),
+  λ clean given is. rw c.new-items.ensures.items (reads_none given _ _ is),
+  λ clean. refl,
+  search rules,
+  search rules,
+)
+
+pub loop-number-preserved : goal.loop-number-preserved
+loop-number-preserved g c =
+    let items = c.in-Ok.ensures.items in
+    let old = map g.T.Entry.columns c.loop-number.items.items in
+    let long : length old ≡ length c.loop-number.items.items = length-map c.loop-number.items.items g.T.Entry.columns in
+    let many : c.loop-number.number ≡ c.args.first + length old = omega (arith, c.loop-number.invariant.1, long) in (
+      c.in_ok-item.ensures.live,
+      (let l = ap length items ∙ length-append c.loop-number.items.items (c.in-Some.item ∷ []) in omega (arith, c.loop-number.invariant.1)),
+      λ clean given is.
+          let so_far = c.loop-number.invariant.2 (omega (arith, c.next_item.ensures.quiet.clean)) given is in
+          let moves = (rw c.in-Some.is at c.in_ok-item.ensures.some) clean in
+          rw (items, map-append) (reads_more given _ _ _ _ old _ (g.T.Entry.columns c.in-Some.item) so_far moves (ap (λ k. Int (pos k) ∷ g.T.Entry.columns c.in-Some.item) many)),
+      λ clean.
+          let before : IsClean (g.S.Store.view c.loop-number.store) = omega (arith, clean, c.next_item.ensures.quiet.clean) in
+          let moves = (rw c.in-Some.is at c.in_ok-item.ensures.some) clean in
+          ap (λ v. v.trees) moves.2 ∙ c.loop-number.invariant.3 before,
+      search rules,
+      search rules,
+    )
+
+pub returns-in_default-clause-rows : goal.returns-in_default-clause-rows
+returns-in_default-clause-rows g c = λ clean given is.
+    let before : IsClean (g.S.Store.view c.loop-number.store) = omega (arith, clean, c.next_item.ensures.quiet.clean) in
+    let so_far = c.loop-number.invariant.2 before given is in
+    let moves = (rw c.in_default.is at c.in_ok-item.ensures.none) clean in
+    (reads_all given _ _ _ _ (map g.T.Entry.columns c.loop-number.items.items) [] so_far moves).0
+
+pub returns-in_default-clause-same : goal.returns-in_default-clause-same
+returns-in_default-clause-same g c = λ clean.
+    let before : IsClean (g.S.Store.view c.loop-number.store) = omega (arith, clean, c.next_item.ensures.quiet.clean) in
+    let moves = (rw c.in_default.is at c.in_ok-item.ensures.none) clean in
+    ap (λ v. v.trees) moves.1 ∙ c.loop-number.invariant.3 before

@@ -1,0 +1,115 @@
+-- What a table's calls did since it was read last.
+use Rattle.std.specs.Prelude.{ℕ, ◌<◌, ◌≡◌, Bool, true, false, List, [], ◌∷◌, map, drop, length, reverse, Option, Some, None, option_map, if◌then◌else◌, string_bytes, ℤ}
+use Rattle.std.specs.List.{filter_map}
+use Rattle.std.specs.Arc.{arc_value}
+use Rattle.tl_tree.specs.Records.{Records}
+use Rattle.tl_tree_locking.specs.declared.event.Event.{Event}
+use Rattle.tl_tree_locking.specs.declared.event.Event.TheVariants.{Admit, Lock, Free, Done}
+use Rattle.tl_tree_locking.specs.History.{caller, is_done, records_now}
+use Rattle.tl_tree_locking.specs.World.{reply_of}
+use Rattle.tl_procedures.specs.Names.{Named}
+use Rattle.tl_procedures.specs.declared.request.Request.{Request}
+use Rattle.tl_core.specs.Cores.{CallValue, CoreValue, world_of}
+use Rattle.tl_core.specs.Entries.{procedure_at}
+use Rattle.tl_table.specs.Epochs.{EpochValue, seen}
+use Rattle.tl_table.specs.Tables.{TableValue}
+use Rattle.tl_news.specs.declared.mark.Place.{Place}
+use Rattle.tl_news.specs.declared.mark.Mark.{Mark}
+use Rattle.tl_news.specs.declared.news.Answer.{Answer}
+use Rattle.tl_news.specs.declared.news.NewProcedure.{NewProcedure}
+use Rattle.tl_news.specs.declared.news.EpochNews.{EpochNews}
+
+-- a call that was asked for: the name of its procedure, and its arguments
+pub record Asked : Type 0 where
+  pub name : List ℕ
+  pub args : List ℤ
+
+-- what came of an epoch: its procedures, the number of the first call and the requests of the calls, which calls took turns, and the
+-- replies; and the records at its end, if it is over
+pub record NewsValue : Type 0 where
+  pub epoch : ℕ
+  pub procedures : List Named
+  pub first_call : ℕ
+  pub requests : List Asked
+  pub turns : List ℕ
+  pub answers : List Answer
+  pub records : Option Records
+
+-- ---- the same of the values that a program has
+
+abbrev pub named : NewProcedure → Named
+named p = record { name = string_bytes p.name; code = arc_value p.procedure }
+
+abbrev pub asked : Request → Asked
+asked r = record { name = string_bytes r.name; args = r.args.items }
+
+abbrev pub news_value : EpochNews → NewsValue
+news_value n = record {
+  epoch = n.epoch;
+  procedures = map named n.procedures.items;
+  first_call = n.first_call;
+  requests = map asked n.requests.items;
+  turns = n.turns.items;
+  answers = n.answers.items;
+  records = option_map (λ v. v.items) n.records;
+}
+
+-- ---- of an epoch
+
+-- its events behind the first n, the earliest first
+abbrev pub events_from : ℕ → CoreValue → List Event
+events_from n v = drop n (reverse v.past)
+
+abbrev pub request_of : CoreValue → CallValue → Asked
+request_of v call = record { name = (procedure_at v call.procedure).name; args = call.args }
+
+-- the reply of a call, at the event of its end
+abbrev pub answer_at : CoreValue → Event → Option Answer
+answer_at v (Done c) = Some (record { call = c; reply = reply_of (world_of v) c })
+answer_at v (Admit c) = None
+answer_at v (Lock x c found) = None
+answer_at v (Free x c left) = None
+
+-- the call whose end this is was admitted, and is done
+abbrev pub IsEnd : CoreValue → Event → Type 0
+IsEnd v (Done c) = (c < length v.calls) × (is_done c v.past ≡ true)
+IsEnd v (Admit c) = Unit {0}
+IsEnd v (Lock x c found) = Unit {0}
+IsEnd v (Free x c left) = Unit {0}
+
+-- what came of an epoch with that number and core behind the place, and whether it is over
+abbrev pub news_behind : Place → ℕ → CoreValue → Bool → NewsValue
+news_behind place number v is_over = record {
+  epoch = number;
+  procedures = drop place.procedures v.procedures;
+  first_call = place.calls;
+  requests = map (request_of v) (drop place.calls v.calls);
+  turns = map caller (events_from place.events v);
+  answers = filter_map (answer_at v) (events_from place.events v);
+  records = if is_over then Some (records_now v.past v.opening) else None;
+}
+
+-- behind all of it
+abbrev pub end_of : CoreValue → Place
+end_of v = record { procedures = length v.procedures; calls = length v.calls; events = length v.past }
+
+-- before the epoch that comes after it, which has the same procedures
+abbrev pub start_after : CoreValue → Place
+start_after v = record { procedures = length v.procedures; calls = 0; events = 0 }
+
+-- ---- of a table
+
+-- what came of these epochs that are over, of the first behind the place, and then of the current one
+abbrev pub news_through : Bool → Place → List EpochValue → EpochValue → List NewsValue
+news_through is_over place [] current = news_behind place current.number (seen current) is_over ∷ []
+news_through is_over place (e ∷ es) current =
+    news_behind place e.number (seen e) true ∷ news_through is_over (start_after (seen e)) es current
+
+-- what came of a table since the mark, and whether its current epoch is over too
+abbrev pub news_since : Bool → TableValue → Mark → List NewsValue
+news_since is_over t m = news_through is_over m.place (drop m.epochs t.sealed) t.current
+
+-- the mark once all that is read: of this table, or, if its current epoch is over, of the next one, which has the same procedures
+abbrev pub mark_after : Bool → TableValue → Mark
+mark_after false t = record { epochs = length t.sealed; place = end_of (seen t.current) }
+mark_after true t = record { epochs = 0; place = start_after (seen t.current) }

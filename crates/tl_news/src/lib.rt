@@ -1,0 +1,11 @@
+//! What a table's calls did since it was read last: the new procedures, the requests, the turns and the replies, and the records at the end
+//! of each epoch.
+#![tactic(auto)]
+
+mod mark;
+mod news;
+mod reading;
+
+pub use mark::{Mark, Place};
+pub use news::{Answer, EpochNews, NewProcedure, TableNews};
+pub use reading::news_since;

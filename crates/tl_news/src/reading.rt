@@ -1,0 +1,192 @@
+// A table, read from a mark on.
+
+ghost use Rattle.std.specs.Prelude.{◌≡◌, ◌<◌, All, map, drop, length, reverse, option_map, if◌then◌else◌, Some, None, IfOk};
+ghost use Rattle.std.specs.List.{filter_map};
+ghost use Rattle.tl_tree_locking.specs.History.{caller, records_now};
+ghost use Rattle.tl_news.specs.News.{named, asked, news_value, events_from, request_of, answer_at, IsEnd, news_behind, news_since, mark_after};
+
+use crate::mark::{Mark, Place};
+use crate::news::{Answer, EpochNews, NewProcedure, TableNews};
+use std::alloc::{AllocError, Global};
+use std::sync::Arc;
+use tl_core::Core;
+use tl_procedures::{Procedures, Request};
+use tl_table::Table;
+use tl_tree::Record;
+use tl_tree_locking::Event;
+
+// The items behind the first ones.
+#[tactic(auto, using(std::proofs::lemmas::List::drop_min))]
+fn behind<T>(items: &[T], first: usize) -> &[T]
+    ensures { result.now ≡ drop first items.now }
+{
+    &items[first.min(items.len())..]
+}
+
+// The events behind the first ones, the earliest first.
+fn events_behind(core: &Core, first: usize) -> &[Event]
+    ensures events { result.now ≡ events_from first core.now.seen }
+    ensures ends { All (IsEnd core.now.seen) result.now }
+{
+    // Each call that has ended was admitted.
+    core.lemma_is_sound();
+    behind(core.history().events(), first)
+}
+
+// The procedures behind the first ones.
+fn procedures_behind(
+    alloc: Global,
+    procedures: &Procedures,
+    first: usize,
+) -> Result<Vec<NewProcedure>, AllocError>
+    ensures { IfOk result (λ v. map named v.items ≡ drop first procedures.now) }
+{
+    let mut found = Vec::new(alloc);
+    for number in first..procedures.len() {
+        found.push(NewProcedure {
+            name: String::from_str(alloc, procedures.name(number as u32))?,
+            procedure: Arc::try_clone(procedures.get(number as u32))?,
+        })?;
+    }
+    Ok(found)
+}
+
+// The requests of the calls behind the first ones.
+fn requests_behind(alloc: Global, core: &Core, first: usize) -> Result<Vec<Request>, AllocError>
+    ensures { IfOk result (λ v. map asked v.items ≡ map (request_of core.now.seen) (drop first core.now.seen.calls)) }
+{
+    let mut found = Vec::new(alloc);
+    for call in first..core.calls() {
+        let (procedure, args) = core.request(call as u32);
+        found.push(Request {
+            name: String::from_str(alloc, core.name(procedure))?,
+            args: Vec::from_slice(alloc, args)?,
+        })?;
+    }
+    Ok(found)
+}
+
+// The call that took the turn.
+fn caller(event: &Event) -> u32
+    ensures { result ≡ caller event.now }
+{
+    match *event {
+        Event::Admit { call }
+        | Event::Lock { call, .. }
+        | Event::Free { call, .. }
+        | Event::Done { call } => call,
+    }
+}
+
+// By event: the call that took that turn.
+fn turns(alloc: Global, events: &[Event]) -> Result<Vec<u32>, AllocError>
+    ensures { IfOk result (λ v. v.items ≡ map caller events.now) }
+{
+    events.iter().map(|event| caller(event)).collect(alloc)
+}
+
+// The reply of a call, at its end.
+fn answer(core: &Core, event: &Event) -> Option<Answer>
+    requires { IsEnd core.now.seen event.now }
+    ensures { result ≡ answer_at core.now.seen event.now }
+{
+    match *event {
+        Event::Done { call } => match core.reply(call) {
+            Some(reply) => Some(Answer {
+                call,
+                reply: reply.copy(),
+            }),
+            // A call that has ended has its reply.
+            None => unreachable!(),
+        },
+        Event::Admit { .. } | Event::Lock { .. } | Event::Free { .. } => None,
+    }
+}
+
+// The replies of the calls whose ends are among these events.
+fn answers(alloc: Global, core: &Core, events: &[Event]) -> Result<Vec<Answer>, AllocError>
+    requires { All (IsEnd core.now.seen) events.now }
+    ensures { IfOk result (λ v. v.items ≡ filter_map (answer_at core.now.seen) events.now) }
+{
+    let mut found = Vec::new(alloc);
+    for event in events {
+        if let Some(answer) = answer(core, event) {
+            found.push(answer)?;
+        }
+    }
+    Ok(found)
+}
+
+// The current records, if the epoch is over.
+fn records_if(alloc: Global, core: &Core, is_over: bool) -> Result<Option<Vec<Record>>, AllocError>
+    ensures { IfOk result (λ o. option_map (λ v. v.items) o ≡ (if is_over then Some (records_now core.now.seen.past core.now.seen.opening) else None)) }
+{
+    if !is_over {
+        return Ok(None);
+    }
+    Ok(Some(Vec::from_slice(alloc, core.tree().records())?))
+}
+
+// What came of the epoch with this number behind the place.
+fn epoch_news(
+    alloc: Global,
+    number: u32,
+    core: &Core,
+    place: &Place,
+    is_over: bool,
+) -> Result<EpochNews, AllocError>
+    ensures { IfOk result (λ n. news_value n ≡ news_behind place.now number core.now.seen is_over) }
+{
+    let events = events_behind(core, place.events);
+    Ok(EpochNews {
+        epoch: number,
+        procedures: procedures_behind(alloc, core.procedures(), place.procedures)?,
+        first_call: place.calls,
+        requests: requests_behind(alloc, core, place.calls)?,
+        turns: turns(alloc, events)?,
+        answers: answers(alloc, core, events)?,
+        records: records_if(alloc, core, is_over)?,
+    })
+}
+
+// The mark once all of the table is read.
+fn end_mark(table: &Table, is_over: bool) -> Mark
+    ensures { result ≡ mark_after is_over table.now }
+{
+    if is_over {
+        Mark {
+            epochs: 0,
+            place: Place::start_after(table.core()),
+        }
+    } else {
+        Mark {
+            epochs: table.sealed().len(),
+            place: Place::end_of(table.core()),
+        }
+    }
+}
+
+/// What came of the table since the mark, epoch by epoch, the current one last; and the mark for the next time. If the current epoch is
+/// over too, its news have its records, and the mark is before the table that goes on from here, with the same procedures.
+pub fn news_since(
+    alloc: Global,
+    table: &Table,
+    mark: &Mark,
+    is_over: bool,
+) -> Result<TableNews, AllocError>
+    ensures news { IfOk result (λ n. map news_value n.epochs.items ≡ news_since is_over table.now mark.now) }
+    ensures mark { IfOk result (λ n. n.mark ≡ mark_after is_over table.now) }
+{
+    let mut epochs = Vec::new(alloc);
+    let mut place = mark.place;
+    let unread = behind(table.sealed(), mark.epochs);
+    for closed in unread {
+        epochs.push(epoch_news(alloc, closed.number(), closed.core(), &place, true)?)?;
+        place = Place::start_after(closed.core());
+    }
+    epochs.push(epoch_news(alloc, table.epoch(), table.core(), &place, is_over)?)?;
+    Ok(TableNews {
+        epochs,
+        mark: end_mark(table, is_over),
+    })
+}

@@ -1,0 +1,60 @@
+// Who stores what engines do.
+
+ghost use Rattle.std.specs.Prelude.{◌≡◌, Bool, false, IsOk};
+
+use std::alloc::Global;
+use std::sync::Wait;
+use tl_workers::Engine;
+
+/// What was done isn't stored, and won't be.
+#[derive(Clone, Copy, PartialEq, Eq, Debug)]
+pub struct Unstored;
+
+/// Who stores what engines do, so that an answer leaves only after all that it rests on is stored.
+///
+/// What it is told is kept in memory until `settle` has stored it. If memory is refused for that, `settle` fails from then on.
+pub trait Journal {
+    // Whether it stores anything.
+    ghost is_storing: { Self → Bool };
+
+    /// Whether it stores anything. One that doesn't takes nothing over, and never fails.
+    fn stores(&self) -> bool
+        ensures { result ≡ is_storing self.now };
+
+    /// Takes over what the engine did since the last time. There were `base` epochs before its first. Lines may be at work.
+    fn gather(&self, rt: &impl Wait, alloc: Global, engine: &Engine, base: u32);
+
+    /// The same at the engine's end: all its calls are done, and its current epoch ends now.
+    fn close(&self, rt: &impl Wait, alloc: Global, engine: &Engine, base: u32);
+
+    /// Takes over that nodes of these parents were appended to the tree, before the first epoch of the next engine, which has that number.
+    fn grow(&self, rt: &impl Wait, alloc: Global, parents: &[i64], epoch: u32);
+
+    /// Waits until all that it took over is stored. An error if it isn't and won't be.
+    fn settle(&self, rt: &impl Wait, alloc: Global) -> Result<(), Unstored>
+        ensures { is_storing self.now ≡ false → IsOk result };
+}
+
+/// The journal of a server that stores nothing: there is nothing to wait for.
+#[derive(Clone, Copy, Debug)]
+pub struct NoJournal;
+
+impl Journal for NoJournal {
+    ghost use Rattle.std.specs.Prelude.{false};
+
+    ghost is_storing = { λ _. false };
+
+    fn stores(&self) -> bool {
+        false
+    }
+
+    fn gather(&self, _rt: &impl Wait, _alloc: Global, _engine: &Engine, _base: u32) {}
+
+    fn close(&self, _rt: &impl Wait, _alloc: Global, _engine: &Engine, _base: u32) {}
+
+    fn grow(&self, _rt: &impl Wait, _alloc: Global, _parents: &[i64], _epoch: u32) {}
+
+    fn settle(&self, _rt: &impl Wait, _alloc: Global) -> Result<(), Unstored> {
+        Ok(())
+    }
+}

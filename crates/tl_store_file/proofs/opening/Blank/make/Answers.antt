@@ -1,0 +1,19 @@
+use Rattle.std.proofs.Common.{◌∙◌, ap, arith}
+use Rattle.sqlite_trees.proofs.Doubt.{clean_of}
+use Rattle.sqlite_store.proofs.ListingLemmas.{named_shape}
+use Rattle.sqlite_store.specs.Catalog.{shape_at}
+use Rattle.sqlite_store.specs.FileStore.{schema_of}
+use Rattle.tl_store_file.proofs.opening.Blank.make.Goals as goal
+
+pub invariant_of-result : goal.invariant_of-result
+invariant_of-result g c = record {
+  rests = λ clean. record {
+    is_open = c.in-Ok.ensures.ready.is_open clean;
+    sound = c.in-Ok.ensures.ready.sound clean;
+    settled = c.in-Ok.ensures.ready.clean;
+    tables = λ t less. named_shape t (omega arith) (schema_of c.in-Ok.store) ∙ ap (λ s. shape_at s t) c.in-Ok.ensures.schema ∙ c.args.self.lists t less;
+  };
+}
+
+pub returns-in-Ok : goal.returns-in-Ok
+returns-in-Ok g c = λ clean t less. c.in-Ok.ensures.empty (clean_of _ clean) t (omega arith)

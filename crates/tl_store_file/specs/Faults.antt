@@ -1,0 +1,25 @@
+-- Why a store's file isn't opened.
+use Rattle.std.specs.Prelude.{ℕ, List, [], ◌∷◌}
+use Rattle.sqlite_trees.specs.declared.error.StoreError.{StoreError}
+use Rattle.sqlite_trees.specs.declared.error.StoreError.TheVariants as name
+use Rattle.tl_store_file.specs.declared.fault.FileFault.{FileFault}
+use Rattle.tl_store_file.specs.declared.fault.FileFault.TheVariants.{Unopened, Busy, NotStore, DiskFailed, DiskFull, Damaged, Memory}
+
+-- a fault as numbers
+abbrev pub numbers_of : FileFault → List ℕ
+numbers_of Unopened = 1001 ∷ []
+numbers_of Busy = 1002 ∷ []
+numbers_of NotStore = 1003 ∷ 9 ∷ []
+numbers_of DiskFailed = 1011 ∷ []
+numbers_of DiskFull = 1012 ∷ []
+numbers_of Damaged = 1013 ∷ []
+numbers_of Memory = 1090 ∷ []
+
+-- the fault that a failure of the disk is
+abbrev pub fault_of_name : StoreError → FileFault
+fault_of_name name.OutOfMemory = Memory
+fault_of_name name.Io = DiskFailed
+fault_of_name name.Corrupt = Damaged
+fault_of_name name.Full = DiskFull
+fault_of_name name.Broken = DiskFailed
+fault_of_name name.Unstorable = DiskFailed

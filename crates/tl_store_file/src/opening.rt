@@ -1,0 +1,135 @@
+// A store's file, opened or made.
+
+ghost use Rattle.std.specs.Prelude.{◌≡◌, ◌<◌, [], ℕ, IsTrue, IfOk};
+ghost use Rattle.sqlite_store.specs.FileStore.{view};
+ghost use Rattle.sqlite_store.specs.Unopened.{AreUsable, wanted_by};
+ghost use Rattle.sqlite_trees.specs.View.{IsClean};
+ghost use Rattle.tl_ledger.specs.Contents.{IsAtRest, Holds};
+ghost use Rattle.tl_store_file.specs.Listed.{ListsTables};
+
+use crate::fault::FileFault;
+use sqlite_disk::{Disk, Files, Tally, Unknown};
+use sqlite_pager::{Options, Pager};
+use sqlite_pool::probe_blank;
+use sqlite_std_file::File;
+use sqlite_store::{FileStore, OpenError, Unopened, name_fault};
+use sqlite_wal::PageSize;
+use std::alloc::Global;
+use std::hash::{BuildHasher, RandomState};
+use tl_ledger::tables;
+
+/// How many bytes a page has.
+const PAGE: usize = 4096;
+
+/// A file and its log that hold no database.
+#[derive(Drop)]
+pub struct Blank<D: Disk> {
+    unopened: Unopened<D>,
+    ghost usable: { AreUsable unopened },
+    ghost lists: { ListsTables (wanted_by unopened) },
+}
+
+/// A store that is open, with nothing written that isn't committed.
+#[derive(Drop)]
+pub struct Rested<D: Disk> {
+    pub store: FileStore<D>,
+    ghost rests: { IsClean (view store) → IsAtRest (view store) },
+}
+
+/// What files hold.
+#[derive(Drop)]
+pub enum Found<D: Disk> {
+    /// No database: one can be made.
+    Blank(Blank<D>),
+    /// A store.
+    Store(Rested<D>),
+}
+
+// The files, with the tables that a store has, of which nothing is known yet. They are given back if memory is refused.
+fn unopened<D: Disk + Drop>(
+    alloc: Global,
+    files: Files<D>,
+    seed: u64,
+) -> Result<Unopened<D>, FileFault>
+    requires log { IsTrue (D.Disk.is_usable files.log) }
+    requires db { IsTrue (D.Disk.is_usable files.db) }
+    ensures usable { IfOk result AreUsable }
+    ensures lists { IfOk result (λ it. ListsTables (wanted_by it)) }
+{
+    let Some(size) = PageSize::new(PAGE) else {
+        unreachable!()
+    };
+    let Ok(pager) = Pager::new(alloc, files, size, Options::new(seed)) else {
+        return Err(FileFault::Memory);
+    };
+    match Unopened::new(alloc, pager, &tables()) {
+        Ok(unopened) => Ok(unopened),
+        Err(_) => Err(FileFault::Memory),
+    }
+}
+
+// Why the files aren't opened, where the tally of the disk's failures was that before.
+fn fault_of(error: OpenError, before: Tally, now: Tally) -> FileFault {
+    match error {
+        OpenError::OutOfMemory => FileFault::Memory,
+        OpenError::Io => FileFault::of_disk(name_fault(before, now)),
+        OpenError::Full => FileFault::DiskFull,
+        OpenError::Refused => FileFault::NotStore,
+    }
+}
+
+impl<D: Disk + Drop> Blank<D> {
+    /// Makes a store without rows. A crash leaves no database, one that can be made in its place, or that store.
+    pub fn make(self) -> Result<Rested<D>, FileFault>
+        ensures { IfOk result (λ r. IsClean (view r.store) → Holds (view r.store).committed (λ _. [])) }
+    {
+        let before = self.unopened.tally();
+        match self.unopened.create() {
+            Ok(store) => Ok(Rested { store }),
+            Err((error, unopened)) => Err(fault_of(error, before, unopened.tally())),
+        }
+    }
+}
+
+/// What these files hold, a database and its log. `seed` is a random number.
+pub fn find<D: Disk + Drop>(
+    alloc: Global,
+    files: Files<D>,
+    seed: u64,
+) -> Result<Found<D>, FileFault>
+    requires log { IsTrue (D.Disk.is_usable files.log) }
+    requires db { IsTrue (D.Disk.is_usable files.db) }
+{
+    let mut files = files;
+    let Some(size) = PageSize::new(PAGE) else {
+        unreachable!()
+    };
+    let before = files.tally();
+    let is_blank = match probe_blank(alloc, &mut files, size, false) {
+        Ok(is_blank) => is_blank,
+        Err(sqlite_wal::Error::OutOfMemory) => return Err(FileFault::Memory),
+        Err(_) => return Err(FileFault::of_disk(name_fault(before, files.tally()))),
+    };
+    let unopened = unopened(alloc, files, seed)?;
+    if is_blank {
+        return Ok(Found::Blank(Blank { unopened }));
+    }
+    match unopened.open() {
+        Ok(store) => Ok(Found::Store(Rested { store })),
+        Err((error, unopened)) => Err(fault_of(error, before, unopened.tally())),
+    }
+}
+
+/// What the file of that path holds, and its log beside it. Both are made if they aren't there. As long as they are open, others find the
+/// database locked.
+pub fn open(rt: &HostRuntime, path: &str) -> Result<Found<File>, FileFault> {
+    let Ok(state) = RandomState::new(rt) else {
+        return Err(FileFault::DiskFailed);
+    };
+    match sqlite_std_file::open(rt, path, Unknown) {
+        Ok(files) => find(rt.alloc(), files, state.hash_one(&0u8)),
+        Err(sqlite_std_file::OpenError::OutOfMemory) => Err(FileFault::Memory),
+        Err(sqlite_std_file::OpenError::Busy) => Err(FileFault::Busy),
+        Err(_) => Err(FileFault::Unopened),
+    }
+}
