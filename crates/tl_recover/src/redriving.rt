@@ -3,6 +3,7 @@
 ghost use Rattle.std.specs.Prelude.{◌≡◌, ◌∷◌, ◌++◌, List, map, reverse, true, OnOk};
 ghost use Rattle.tl_tree_locking.specs.declared.event.Event.{Event};
 ghost use Rattle.tl_tree_locking.specs.History.{caller, AllDone};
+ghost use Rattle.tl_procedures.specs.declared.request.Request.{Request as Asked};
 ghost use Rattle.tl_recover.specs.Redriven.{Fits, GoesOn};
 
 use crate::fault::RecoverFault;
@@ -64,6 +65,7 @@ pub fn redrive(
 pub fn finish(core: &mut Core) -> bool
     ensures done { result ≡ true → AllDone core.new.seen.past }
     ensures begins { (more : List Event) × (core.new.seen.past ≡ more ++ core.old.seen.past) }
+    ensures fits { (requests : List Asked) → Fits core.old.seen requests → Fits core.new.seen requests }
     ensures goes_on { GoesOn core.old.seen core.new.seen }
 {
     for _ in 0..u64::MAX {

@@ -1,0 +1,5 @@
+mod TurnLemmas
+mod CallLemmas
+mod RebuiltLemmas
+mod StoredLemmas
+mod ReplyLemmas

@@ -1,0 +1,26 @@
+-- The numbers of the faults of a store.
+use Rattle.std.specs.Prelude.{ℕ, List, [], ◌∷◌}
+use Rattle.sqlite_trees.specs.declared.error.StoreError.{StoreError}
+use Rattle.sqlite_trees.specs.declared.error.StoreError.TheVariants as name
+use Rattle.tl_recover.specs.Faults.{numbers_of as turn_numbers_of}
+use Rattle.tl_store.specs.declared.fault.StoreFault.{StoreFault}
+use Rattle.tl_store.specs.declared.fault.StoreFault.TheVariants.{BadRow, Turn, WrongReply, DiskFailed, DiskFull, Damaged, Memory}
+
+-- a fault as numbers
+abbrev pub numbers_of : StoreFault → List ℕ
+numbers_of (BadRow table) = 1003 ∷ table ∷ []
+numbers_of (Turn fault) = turn_numbers_of fault
+numbers_of (WrongReply call) = 1006 ∷ call ∷ []
+numbers_of DiskFailed = 1011 ∷ []
+numbers_of DiskFull = 1012 ∷ []
+numbers_of Damaged = 1013 ∷ []
+numbers_of Memory = 1090 ∷ []
+
+-- the fault that a failure of the disk is
+abbrev pub fault_of_name : StoreError → StoreFault
+fault_of_name name.OutOfMemory = Memory
+fault_of_name name.Io = DiskFailed
+fault_of_name name.Corrupt = Damaged
+fault_of_name name.Full = DiskFull
+fault_of_name name.Broken = DiskFailed
+fault_of_name name.Unstorable = DiskFailed

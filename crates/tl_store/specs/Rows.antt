@@ -1,0 +1,60 @@
+-- What the rows of a store mean.
+use Rattle.std.specs.Prelude.{◌≡◌, ℕ, ◌<◌, ◌/◌, ◌%◌, ℤ, pos, List, [], ◌∷◌, map, length, get_or, string_bytes, Option, Some, option_and_then}
+use Rattle.std.specs.List.{flat_map}
+use Rattle.serde_json.specs.Read.{read}
+use Rattle.tl_tree.specs.Reading.{integers_of}
+use Rattle.tl_instr.specs.Spelling.{spelling}
+use Rattle.tl_procedures.specs.Names.{Named}
+use Rattle.tl_procedures.specs.declared.request.Request.{Request}
+use Rattle.tl_ledger.specs.declared.rows.NodeRow.{NodeRow}
+use Rattle.tl_ledger.specs.declared.rows.RecordRow.{RecordRow}
+use Rattle.tl_ledger.specs.declared.rows.ProcedureRow.{ProcedureRow}
+use Rattle.tl_ledger.specs.declared.rows.CallRow.{CallRow}
+use Rattle.tl_ledger.specs.declared.rows.TurnRow.{TurnRow}
+
+-- the numbers of a JSON text that is a list of them
+abbrev pub numbers_in : List ℕ → Option (List ℤ)
+numbers_in text = option_and_then integers_of (read text)
+
+-- ---- the tree
+
+abbrev pub parent_in : NodeRow → ℤ
+parent_in row = row.parent
+
+abbrev pub fields_in : RecordRow → List ℤ
+fields_in row = row.fields
+
+-- ---- procedures
+
+-- a name, and the one container of a code
+abbrev pub procedure_form : ProcedureRow → List ℕ × List ℕ
+procedure_form row = (string_bytes row.name, row.container.items)
+
+abbrev pub named_form : Named → List ℕ × List ℕ
+named_form p = (p.name, spelling p.code)
+
+-- ---- calls
+
+-- the name of a procedure, and arguments
+abbrev pub call_form : CallRow → List ℕ × Option (List ℤ)
+call_form row = (string_bytes row.procedure, numbers_in (string_bytes row.arguments))
+
+abbrev pub request_form : Request → List ℕ × Option (List ℤ)
+request_form r = (string_bytes r.name, Some r.args.items)
+
+-- the calls are numbered from 0 in their order
+abbrev pub AreNumbered : List CallRow → Type 0
+AreNumbered calls = (n : ℕ) → n < length calls → get_or (map (λ r. r.number) calls) n (pos 0) ≡ pos n
+
+-- ---- turns
+
+-- a call's number in two bytes, the higher first
+abbrev pub call_bytes : ℕ → List ℕ
+call_bytes call = call / 256 % 256 ∷ call % 256 ∷ []
+
+abbrev pub turn_bytes : List ℕ → List ℕ
+turn_bytes turns = flat_map call_bytes turns
+
+-- the turns of rows, one row after another
+abbrev pub all_turn_bytes : List TurnRow → List ℕ
+all_turn_bytes rows = flat_map (λ r. r.calls.items) rows

@@ -1,0 +1,88 @@
+// The calls that were admitted.
+
+ghost use Rattle.std.specs.Prelude.{◌≡◌, Some, All, pos, map, option_map, option_copied, string_bytes, IsTrue, IfOk};
+ghost use Rattle.tl_store.specs.Rows.{call_form, request_form, AreNumbered};
+
+use crate::fault::StoreFault;
+use crate::numbers::{is_epoch, numbers_of_text, text_of_numbers};
+use std::alloc::{AllocError, Global};
+use tl_ledger::{CALL, CallRow};
+use tl_procedures::Request;
+
+/// The row of a call: its epoch, its number there, its procedure's name, its arguments as JSON text, and its client's key for it.
+pub fn call_row(
+    alloc: Global,
+    epoch: i64,
+    number: i64,
+    procedure: &str,
+    args: &[i64],
+    key: Option<&str>,
+) -> Result<CallRow, AllocError>
+    ensures place { IfOk result (λ row. (row.epoch ≡ epoch) × (row.number ≡ number)) }
+    ensures form { IfOk result (λ row. call_form row ≡ (procedure.now, Some args.now)) }
+    ensures key { IfOk result (λ row. option_map string_bytes row.key ≡ option_copied key.entry) }
+{
+    let procedure = String::from_str(alloc, procedure)?;
+    let arguments = text_of_numbers(alloc, args)?;
+    let key = match key {
+        Some(key) => Some(String::from_str(alloc, key)?),
+        None => None,
+    };
+    Ok(CallRow {
+        epoch,
+        number,
+        procedure,
+        arguments,
+        key,
+    })
+}
+
+// Whether the call has that number.
+fn is_at(call: &CallRow, number: usize) -> bool
+    ensures { IsTrue result → call.now.number ≡ pos number }
+{
+    match usize::try_from(call.number) {
+        Ok(stored) => stored == number,
+        Err(_) => false,
+    }
+}
+
+// Whether the calls are numbered from 0 in their order.
+fn are_numbered(calls: &[CallRow]) -> bool
+    ensures { IsTrue result → AreNumbered calls.now }
+{
+    for number in 0..calls.len() {
+        if !is_at(&calls[number], number) {
+            return false;
+        }
+    }
+    true
+}
+
+// The request that a row stores.
+fn request_of(alloc: Global, call: &CallRow) -> Result<Request, StoreFault>
+    ensures { IfOk result (λ r. call_form call.now ≡ request_form r) }
+{
+    let Some(args) = numbers_of_text(alloc, &call.arguments)? else {
+        return Err(StoreFault::BadRow { table: CALL });
+    };
+    let name = String::from_str(alloc, &call.procedure)?;
+    Ok(Request { name, args })
+}
+
+/// The requests of these rows, in their order. 1003 and the table if a row has another epoch or another number than its place, or its arguments
+/// are no list of numbers.
+pub fn requests_of(alloc: Global, epoch: u64, calls: &[CallRow]) -> Result<Vec<Request>, StoreFault>
+    ensures epoch { IfOk result (λ _. All (λ r. r.epoch ≡ pos epoch) calls.now) }
+    ensures numbered { IfOk result (λ _. AreNumbered calls.now) }
+    ensures requests { IfOk result (λ v. map call_form calls.now ≡ map request_form v.items) }
+{
+    if !calls.iter().all(|call| is_epoch(call.epoch, epoch)) || !are_numbered(calls) {
+        return Err(StoreFault::BadRow { table: CALL });
+    }
+    let mut requests = Vec::new(alloc);
+    for call in calls {
+        requests.push(request_of(alloc, call)?)?;
+    }
+    Ok(requests)
+}

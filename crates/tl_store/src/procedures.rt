@@ -1,0 +1,66 @@
+// The procedures.
+
+ghost use Rattle.std.specs.Prelude.{◌≡◌, ◌∷◌, ◌++◌, [], map, IfOk, OnOk};
+ghost use Rattle.tl_instr.specs.Spelling.{Spelled, spelling};
+ghost use Rattle.tl_store.specs.Rows.{procedure_form, named_form};
+
+use crate::fault::StoreFault;
+use std::alloc::{AllocError, Global};
+use tl_instr::{CodeFault, decode};
+use tl_ledger::{PROCEDURE, ProcedureRow};
+use tl_procedures::{NamingFault, Procedures};
+use tl_verify::{Proc, VerifyFault, verify};
+
+/// The row of a procedure: its name, and its container.
+pub fn procedure_row(
+    alloc: Global,
+    name: &str,
+    procedure: &Proc,
+) -> Result<ProcedureRow, AllocError>
+    ensures { IfOk result (λ row. procedure_form row ≡ (name.now, spelling procedure.now)) }
+{
+    Ok(ProcedureRow {
+        name: String::from_str(alloc, name)?,
+        container: procedure.code().container().to_vec(alloc)?,
+    })
+}
+
+// The procedure of a container.
+fn procedure_of(alloc: Global, container: &[u8]) -> Result<Proc, StoreFault>
+    ensures { IfOk result (λ p. container.now ≡ spelling p) }
+{
+    let code = match decode(alloc, container) {
+        Ok(code) => code,
+        Err(CodeFault::Memory) => return Err(StoreFault::Memory),
+        Err(_) => return Err(StoreFault::BadRow { table: PROCEDURE }),
+    };
+    match verify(alloc, code) {
+        Ok(procedure) => Ok(procedure),
+        Err((_, VerifyFault::Memory)) => Err(StoreFault::Memory),
+        Err(_) => Err(StoreFault::BadRow { table: PROCEDURE }),
+    }
+}
+
+// Adds the procedure of a row.
+fn add(alloc: Global, procedures: &mut Procedures, row: &ProcedureRow) -> Result<(), StoreFault>
+    ensures { OnOk result (map named_form procedures.new ≡ map named_form procedures.old ++ procedure_form row.now ∷ []) }
+{
+    let procedure = procedure_of(alloc, &row.container)?;
+    match procedures.add(alloc, &row.name, procedure) {
+        Ok(_) => Ok(()),
+        Err(NamingFault::Memory) => Err(StoreFault::Memory),
+        Err(_) => Err(StoreFault::BadRow { table: PROCEDURE }),
+    }
+}
+
+/// The procedures of these rows under their names, the first with the number 0. 1003 and the table if a container isn't that of an accepted code, or
+/// a name is none or comes twice.
+pub fn procedures_of(alloc: Global, rows: &[ProcedureRow]) -> Result<Procedures, StoreFault>
+    ensures { IfOk result (λ procedures. map procedure_form rows.now ≡ map named_form procedures) }
+{
+    let mut procedures = Procedures::new(alloc);
+    for row in rows {
+        add(alloc, &mut procedures, row)?;
+    }
+    Ok(procedures)
+}

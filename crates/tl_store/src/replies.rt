@@ -1,0 +1,78 @@
+// The replies that were given.
+
+ghost use Rattle.std.specs.Prelude.{◌≡◌, ◌<◌, pos, true, Some, All, length, IsTrue, IfOk, OnOk, string_bytes};
+ghost use Rattle.tl_tree_locking.specs.History.{is_done};
+ghost use Rattle.tl_tree_locking.specs.World.{reply_of};
+ghost use Rattle.tl_core.specs.Cores.{world_of};
+ghost use Rattle.tl_store.specs.Rows.{numbers_in};
+ghost use Rattle.tl_store.specs.Recovered.{IsReplyOf};
+
+use crate::fault::StoreFault;
+use crate::numbers::{is_epoch, numbers_of_text, text_of_numbers};
+use std::alloc::{AllocError, Global};
+use tl_core::Core;
+use tl_ledger::{REPLY, ReplyRow};
+
+/// The row of a reply: the epoch of its call, the call's number there, and the reply as JSON text.
+pub fn reply_row(
+    alloc: Global,
+    epoch: i64,
+    call: i64,
+    reply: &[i64],
+) -> Result<ReplyRow, AllocError>
+    ensures place { IfOk result (λ row. (row.epoch ≡ epoch) × (row.call ≡ call)) }
+    ensures reply { IfOk result (λ row. numbers_in (string_bytes row.reply) ≡ Some reply.now) }
+{
+    let reply = text_of_numbers(alloc, reply)?;
+    Ok(ReplyRow { epoch, call, reply })
+}
+
+// Whether the call is done with that reply.
+fn has_replied(core: &Core, call: u32, values: &[i64]) -> bool
+    ensures known { IsTrue result → call < length core.now.seen.calls }
+    ensures done { IsTrue result → is_done call core.now.seen.past ≡ true }
+    ensures reply { IsTrue result → reply_of (world_of core.now.seen) call ≡ values.now }
+{
+    if call as usize >= core.calls() {
+        return false;
+    }
+    match core.reply(call) {
+        Some(reply) => reply.values() == values,
+        None => false,
+    }
+}
+
+// Checks that the row is that of the reply of a call of the core.
+fn check_reply(alloc: Global, core: &Core, epoch: u64, row: &ReplyRow) -> Result<(), StoreFault>
+    ensures { OnOk result (IsReplyOf core.now.seen (pos epoch) row.now) }
+{
+    let Ok(call) = u32::try_from(row.call) else {
+        return Err(StoreFault::BadRow { table: REPLY });
+    };
+    let Some(values) = numbers_of_text(alloc, &row.reply)? else {
+        return Err(StoreFault::BadRow { table: REPLY });
+    };
+    if !is_epoch(row.epoch, epoch) {
+        return Err(StoreFault::BadRow { table: REPLY });
+    }
+    if !has_replied(core, call, values.as_slice()) {
+        return Err(StoreFault::WrongReply { call });
+    }
+    Ok(())
+}
+
+/// Checks that each row is that of the reply of a call of the core, which is done. 1006 and the call if one isn't; 1003 and the table if a row has
+/// another epoch, or its reply is no list of numbers.
+pub(crate) fn check_replies(
+    alloc: Global,
+    core: &Core,
+    epoch: u64,
+    rows: &[ReplyRow],
+) -> Result<(), StoreFault>
+    ensures { OnOk result (All (IsReplyOf core.now.seen (pos epoch)) rows.now) }
+{
+    for row in rows {
+        check_reply(alloc, core, epoch, row)?;
+    }
+    Ok(())
+}

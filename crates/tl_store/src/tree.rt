@@ -1,0 +1,82 @@
+// The nodes and their records.
+
+ghost use Rattle.std.specs.Prelude.{◌≡◌, All, pos, map, length, IfOk};
+ghost use Rattle.tl_store.specs.Rows.{parent_in, fields_in};
+
+use crate::fault::StoreFault;
+use std::alloc::{AllocError, Global};
+use std::sync::Arc;
+use tl_ledger::{NODE, NodeRow, RECORD, RecordRow};
+use tl_tree::{Record, Shape, Tree, TreeFault};
+
+/// The rows of a shape's nodes, which were there first at the beginning of that epoch.
+pub fn node_rows(alloc: Global, shape: &Shape, epoch: i64) -> Result<Vec<NodeRow>, AllocError>
+    ensures parents { IfOk result (λ v. map parent_in v.items ≡ map pos shape.now) }
+    ensures epoch { IfOk result (λ v. All (λ r. r.epoch ≡ epoch) v.items) }
+{
+    let mut rows = Vec::new(alloc);
+    for node in 0..shape.node_count() {
+        rows.push(NodeRow {
+            parent: i64::from(shape.parent(node)),
+            epoch,
+        })?;
+    }
+    Ok(rows)
+}
+
+/// The row of a record.
+pub fn record_row(fields: &Record) -> RecordRow
+    ensures { result.fields ≡ fields.now }
+{
+    RecordRow { fields: *fields }
+}
+
+/// The rows of records.
+pub fn record_rows(alloc: Global, records: &[Record]) -> Result<Vec<RecordRow>, AllocError>
+    ensures { IfOk result (λ v. map fields_in v.items ≡ records.now) }
+{
+    let mut rows = Vec::new(alloc);
+    for fields in records {
+        rows.push(record_row(fields))?;
+    }
+    Ok(rows)
+}
+
+fn parents_of(alloc: Global, nodes: &[NodeRow]) -> Result<Vec<i64>, AllocError>
+    ensures { IfOk result (λ v. v.items ≡ map parent_in nodes.now) }
+{
+    let mut parents = Vec::new(alloc);
+    for node in nodes {
+        parents.push(node.parent)?;
+    }
+    Ok(parents)
+}
+
+fn records_of(alloc: Global, rows: &[RecordRow]) -> Result<Vec<Record>, AllocError>
+    ensures { IfOk result (λ v. v.items ≡ map fields_in rows.now) }
+{
+    let mut records = Vec::new(alloc);
+    for row in rows {
+        records.push(row.fields)?;
+    }
+    Ok(records)
+}
+
+/// The tree of these nodes with these records. 1003 and the table of the nodes if they make no tree of 1 to 65,535 nodes, and that of the records
+/// if there aren't as many.
+pub fn tree_of(alloc: Global, nodes: &[NodeRow], records: &[RecordRow]) -> Result<Tree, StoreFault>
+    ensures parents { IfOk result (λ t. map pos t.parents ≡ map parent_in nodes.now) }
+    ensures records { IfOk result (λ t. t.records ≡ map fields_in records.now) }
+{
+    let parents = parents_of(alloc, nodes)?;
+    let shape = match Shape::new(alloc, &parents, u16::MAX) {
+        Ok(shape) => Arc::new(alloc, shape)?,
+        Err(TreeFault::Memory) => return Err(StoreFault::Memory),
+        Err(_) => return Err(StoreFault::BadRow { table: NODE }),
+    };
+    let records = records_of(alloc, records)?;
+    match Tree::new(shape, records) {
+        Ok(tree) => Ok(tree),
+        Err(_) => Err(StoreFault::BadRow { table: RECORD }),
+    }
+}

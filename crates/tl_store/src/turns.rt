@@ -1,0 +1,60 @@
+// The turns that calls took.
+
+ghost use Rattle.std.specs.Prelude.{◌≡◌, ◌+◌, ◌*◌, ◌<◌, ◌++◌, ℕ, pos, List, [], ◌∷◌, length, get_or, IsTrue, IfOk, All};
+ghost use Rattle.tl_store.specs.Rows.{call_bytes, turn_bytes, all_turn_bytes};
+
+use crate::fault::StoreFault;
+use crate::numbers::is_epoch;
+use std::alloc::{AllocError, Global};
+use tl_ledger::{TURN, TurnRow};
+
+/// The row of turns of an epoch: of each turn its call's number, in two bytes, the higher first. The numbers are below 65,536.
+pub fn turn_row(alloc: Global, epoch: i64, turns: &[u32]) -> Result<TurnRow, AllocError>
+    ensures epoch { IfOk result (λ row. row.epoch ≡ epoch) }
+    ensures calls { IfOk result (λ row. row.calls.items ≡ turn_bytes turns.now) }
+{
+    let mut calls = Vec::new(alloc);
+    for turn in turns {
+        calls.push((*turn / 256 % 256) as u8)?;
+        calls.push((*turn % 256) as u8)?;
+    }
+    Ok(TurnRow { epoch, calls })
+}
+
+// The call whose number stands in two bytes.
+fn call_at(bytes: &[u8], at: usize) -> u32
+    requires { 2 * at + 1 < length bytes.now }
+    ensures { call_bytes result ≡ get_or bytes.now (2 * at) 0 ∷ get_or bytes.now (2 * at + 1) 0 ∷ [] }
+{
+    u32::from(bytes[2 * at]) * 256 + u32::from(bytes[2 * at + 1])
+}
+
+// Adds the turns of a row. False if its bytes are an odd number.
+fn push_turns(turns: &mut Vec<u32>, bytes: &[u8]) -> Result<bool, AllocError>
+    ensures { IfOk result (λ whole. IsTrue whole → (more : List ℕ) × (bytes.now ≡ turn_bytes more) × (turns.new.items ≡ turns.old.items ++ more)) }
+{
+    if bytes.len() % 2 != 0 {
+        return Ok(false);
+    }
+    for at in 0..bytes.len() / 2 {
+        turns.push(call_at(bytes, at))?;
+    }
+    Ok(true)
+}
+
+/// The turns of these rows, one row after another. 1003 and the table if a row has another epoch or an odd number of bytes.
+pub fn turns_of(alloc: Global, epoch: u64, rows: &[TurnRow]) -> Result<Vec<u32>, StoreFault>
+    ensures epoch { IfOk result (λ _. All (λ r. r.epoch ≡ pos epoch) rows.now) }
+    ensures turns { IfOk result (λ turns. all_turn_bytes rows.now ≡ turn_bytes turns.items) }
+{
+    if !rows.iter().all(|row| is_epoch(row.epoch, epoch)) {
+        return Err(StoreFault::BadRow { table: TURN });
+    }
+    let mut turns = Vec::new(alloc);
+    for row in rows {
+        if !push_turns(&mut turns, &row.calls)? {
+            return Err(StoreFault::BadRow { table: TURN });
+        }
+    }
+    Ok(turns)
+}
