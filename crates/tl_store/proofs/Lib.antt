@@ -3,3 +3,5 @@ mod CallLemmas
 mod RebuiltLemmas
 mod StoredLemmas
 mod ReplyLemmas
+mod ChangeLemmas
+mod ClosingLemmas

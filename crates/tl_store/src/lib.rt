@@ -2,6 +2,8 @@
 #![tactic(auto)]
 
 mod calls;
+mod changes;
+mod closing;
 mod fault;
 mod numbers;
 mod procedures;
@@ -12,6 +14,7 @@ mod tree;
 mod turns;
 
 pub use calls::{call_row, requests_of};
+pub use closing::closing_news;
 pub use fault::StoreFault;
 pub use procedures::{procedure_row, procedures_of};
 pub use recovering::{Recovered, rebuild, recover};
