@@ -1,9 +1,11 @@
-"""What the scripts of tests/ share: a run of the built program, how many tests passed, and which were asked for.
+"""What the tests share: a run of the built program, the checks of a test, and what a test that isn't run by pytest has in its place.
 
-A script that ends with `main` takes a program, and then names: tests/stopping PROGRAM silence runs its function `silence` alone.
+A test checks many things, and goes on where one of them fails. `tests/run` counts the checks. Under pytest a test with a check that failed has failed.
 """
 
+import contextlib
 import functools
+import os
 import pathlib
 import re
 import resource
@@ -12,8 +14,49 @@ import socket
 import subprocess
 import sys
 import tempfile
+import unittest
 
 TOP = pathlib.Path(__file__).resolve().parent.parent
+
+if "_pytest" in sys.modules:
+    from pytest import fixture
+else:
+    def fixture(made=None, *, scope="function"):
+        """Marks a function as one that makes what the tests of its name are given, for `tests/run`."""
+        if made is None:
+            return functools.partial(fixture, scope=scope)
+        made.scope = scope
+        return made
+
+
+class MissingProgram(Exception):
+    """The program to test isn't built."""
+
+
+def program_named(variable, crate, built_by):
+    """The program that an environment variable names, or the one that is built in a crate."""
+    program = pathlib.Path(os.environ.get(variable) or TOP / f"crates/{crate}/out/{crate}").resolve()
+    if not program.is_file():
+        raise MissingProgram(f"there is no program {program}; {built_by} builds it")
+    return program
+
+
+def skip(reason):
+    """Leaves the rest of a test out, and says why."""
+    raise unittest.SkipTest(reason)
+
+
+@contextlib.contextmanager
+def raises(kind, pattern=""):
+    """What is done within raises such an exception, whose message has this pattern. The list that is lent has the exception afterwards."""
+    raised = []
+    try:
+        yield raised
+    except kind as found:
+        assert re.search(pattern, str(found)), f"{found} has no {pattern}"
+        raised.append(found)
+    else:
+        raise AssertionError(f"nothing was raised in the place of {kind.__name__}")
 
 
 class Run:
@@ -27,25 +70,29 @@ class Run:
 
 
 class Counts:
-    """How many tests passed, failed and were skipped."""
+    """How many checks passed, failed and were skipped."""
 
     def __init__(self):
         self.passed = self.failed = self.skipped = 0
 
     def check(self, name, holds, found):
-        """Counts a test, and tells what was found if it failed."""
+        """Counts a check, and tells what was found if it failed."""
         if holds:
             self.passed += 1
         else:
             self.failed += 1
             print(f"failed: {name}: {found!r}")
 
+    def judge(self):
+        """Ends a test: it has failed if one of its checks has."""
+        assert self.failed == 0, f"{self.failed} of {self.passed + self.failed} checks failed"
+
     def same(self, name, found, wanted):
-        """Counts a test of two values."""
+        """Counts a check of two values."""
         self.check(name, found == wanted, Found(found, wanted))
 
     def end(self):
-        """Prints the last line of a script, and returns its exit status."""
+        """Prints the last line, and returns the exit status."""
         print(f"{self.passed} passed, {self.failed} failed" + (f", {self.skipped} skipped" if self.skipped else ""))
         return 1 if self.failed else 0
 
@@ -61,7 +108,7 @@ class Found:
 
 
 class Tests(Counts):
-    """The program, a folder with the examples to run it in, and how many tests passed."""
+    """The program, a folder with the examples to run it in, and how many checks passed."""
 
     def __init__(self, program, folder):
         super().__init__()
@@ -72,7 +119,7 @@ class Tests(Counts):
         streams = [open(path, "wb") if path else subprocess.PIPE for path in (out, err)]
         limited = functools.partial(resource.setrlimit, resource.RLIMIT_AS, (memory, memory)) if memory else None
         done = subprocess.run([self.program, *words], cwd=self.folder, stdin=subprocess.DEVNULL, stdout=streams[0], stderr=streams[1],
-                              env=env, pass_fds=pass_fds, preexec_fn=limited, timeout=120, check=False)
+                              env=env, pass_fds=pass_fds, preexec_fn=limited, timeout=600, check=False)
         for stream in streams:
             if stream != subprocess.PIPE:
                 stream.close()
@@ -110,7 +157,7 @@ def asked(port, lines):
 
 
 def main(name, groups):
-    """Runs these groups of tests, or those that the command line names, on the program that it names, in a folder with the examples. Returns the exit status."""
+    """The end of a script of tests: runs these groups of tests, or those that the command line names, on the program that it names, in a folder with the examples. Returns the exit status."""
     known = {group.__name__: group for group in groups}
     chosen = [known.get(word, word) for word in sys.argv[2:]] or groups
     if unknown := [group for group in chosen if isinstance(group, str)]:

@@ -12,6 +12,8 @@ ADD = json.dumps({"op": "register", "name": "add", "asm": "arity 2\nfirst n0 v0 
 # A million steps, and then what was counted.
 LONG = json.dumps({"op": "register", "name": "long", "asm": "arity 0\nset v1 1\nrep 65000\nadd v0 v0 v1 else L\nadd v0 v0 v1 else L\nadd v0 v0 v1 else L\nend\nL:\nemit v0\nret\n"})
 CALL = json.dumps({"op": "call", "proc": "add", "args": [0, 3]})
+# After so many seconds without an answer a server hangs. A machine that is busy with other work takes long.
+PATIENCE = 300
 
 
 def named(where, port, socket_file):
@@ -20,14 +22,15 @@ def named(where, port, socket_file):
 
 
 class Server:
-    """A server on a tree, of one node if no other is named, with a control. Where no number of connections is given, it is one that lasts. Each of its two addresses is a
+    """A server on a tree, of one node if no other is named, or on a store alone, with a control. Where no number of connections is given, it is one that lasts. Each of its two addresses is a
     port, or the path of a socket's file in the folder of the tests."""
 
     def __init__(self, tests, *words, connections=100, port=None, control=None, tree="examples/one-node.json", env=None, pass_fds=()):
         self.tests, self.port, self.control = tests, port or free_port(), control or free_port()
         served = [] if connections is None else ["--connections", str(connections)]
         options = [*named(self.port, "--port", "--socket"), *named(self.control, "--control", "--control-socket"), *served, *words]
-        self.process = subprocess.Popen([tests.program, "serve", "--tree", tree, *options], cwd=tests.folder, text=True, pass_fds=pass_fds,
+        begins = [] if tree is None else ["--tree", tree]
+        self.process = subprocess.Popen([tests.program, "serve", *begins, *options], cwd=tests.folder, text=True, pass_fds=pass_fds,
                                         env=None if env is None else {**os.environ, **env}, stdin=subprocess.DEVNULL, stdout=subprocess.PIPE, stderr=subprocess.PIPE)
         self.said = self.process.stderr.readline() + self.process.stderr.readline()
 
@@ -39,7 +42,7 @@ class Server:
 
     def end(self):
         """What the server came to."""
-        printed, more = self.process.communicate(timeout=60)
+        printed, more = self.process.communicate(timeout=PATIENCE)
         return Run(self.process.returncode, printed, self.said + more)
 
 
@@ -58,7 +61,7 @@ class Peer:
     def __init__(self, where, buffer=None):
         is_port = isinstance(where, int)
         self.socket = socket.socket(socket.AF_INET if is_port else socket.AF_UNIX)
-        self.socket.settimeout(30)
+        self.socket.settimeout(PATIENCE)
         if buffer:
             self.socket.setsockopt(socket.SOL_SOCKET, socket.SO_RCVBUF, buffer)
         self.socket.connect(("127.0.0.1", where) if is_port else str(where))

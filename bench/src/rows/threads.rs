@@ -35,28 +35,27 @@ struct OnThreads {
     speedups: [Goal; 2],
 }
 
-fn workloads() -> [OnThreads; 3] {
+/// Calls that lock two nodes of a subtree of their own, and do five local instructions at each so many times.
+fn apart(work: &'static str, fives: u16, engines: u32, least: f64, speedups: [f64; 2]) -> OnThreads {
+    OnThreads {
+        work,
+        code: codes::two_locks(fives),
+        nodes: NODES,
+        chain: CHAIN,
+        engines,
+        turns: 5.0,
+        least,
+        speedups: speedups.map(Goal::AtLeast),
+    }
+}
+
+fn workloads() -> [OnThreads; 6] {
     [
-        OnThreads {
-            work: "two nodes of a subtree of its own, 10,000 local instructions at each",
-            code: codes::two_locks(2_000),
-            nodes: NODES,
-            chain: CHAIN,
-            engines: 1,
-            turns: 5.0,
-            least: 0.9,
-            speedups: [Goal::AtLeast(1.8), Goal::AtLeast(3.4)],
-        },
-        OnThreads {
-            work: "two nodes of a subtree of its own, 20 local instructions at each",
-            code: codes::two_locks(4),
-            nodes: NODES,
-            chain: CHAIN,
-            engines: 10,
-            turns: 5.0,
-            least: 0.6,
-            speedups: [Goal::AtLeast(1.0), Goal::AtLeast(1.0)],
-        },
+        apart("two nodes of a subtree of its own, 10,000 local instructions at each", 2_000, 1, 0.9, [1.8, 3.4]),
+        apart("two nodes of a subtree of its own, 1,000 local instructions at each", 200, 4, 0.9, [0.95, 1.2]),
+        apart("two nodes of a subtree of its own, 300 local instructions at each", 60, 8, 0.8, [0.95, 0.95]),
+        apart("two nodes of a subtree of its own, 100 local instructions at each", 20, 10, 0.7, [0.95, 0.95]),
+        apart("two nodes of a subtree of its own, 20 local instructions at each", 4, 10, 0.6, [0.95, 0.95]),
         OnThreads {
             work: "walks of 127 nodes on one path",
             code: codes::walk(127),

@@ -2,10 +2,11 @@
 //! looks whether it began where the call stands.
 
 use std::sync::{Condvar, Mutex, MutexGuard, PoisonError};
-use std::thread;
+use std::thread::{self, Scope};
 
 use super::core::{Core, Stepped, Turn};
 use super::fault::Fault;
+use super::help::Help;
 use super::machine::{Action, Call, Outside};
 use super::running::Running;
 use super::tree::Tree;
@@ -69,11 +70,13 @@ impl Engine {
     /// Runs the requests on so many threads, of which this is one, and answers their receipts.
     pub fn batch(&self, session: &mut Session, requests: &[Request], workers: usize) -> Result<Vec<Receipt>, Fault> {
         self.lock().admitted = 0;
+        let others = workers.min(requests.len()).saturating_sub(1);
+        let help = &Help::new();
         let mut answers = thread::scope(|scope| {
-            let others: Vec<_> =
-                (1..workers.min(requests.len())).map(|_| scope.spawn(|| self.work(requests))).collect();
-            let own = self.work(requests);
-            others.into_iter().map(|other| other.join().expect("a worker ends")).fold(own, joined)
+            let watching = (others > 0).then(|| scope.spawn(move || self.watch(scope, requests, help, others - 1)));
+            let own = self.work(requests, help);
+            help.end();
+            watching.into_iter().map(|other| other.join().expect("a worker ends")).fold(own, joined)
         })?;
         answers.sort_unstable_by_key(|(place, _)| *place);
         let receipts: Vec<Receipt> = answers.into_iter().map(|(_, receipt)| receipt).collect();
@@ -99,29 +102,67 @@ impl Engine {
     }
 
     /// Admits the next request and runs it, as long as there is one.
-    fn work(&self, requests: &[Request]) -> Answers {
+    fn work(&self, requests: &[Request], help: &Help) -> Answers {
         let mut answers = Vec::with_capacity(requests.len());
         let mut shared = self.lock();
         while let Some(request) = requests.get(shared.admitted) {
-            let place = shared.admitted;
-            shared.admitted += 1;
-            let call = shared.running.admit(&request.name, &request.args)?;
-            let turn = shared.running.core().turn(call).ok_or(Fault::plain(602))?;
-            drop(shared);
-            shared = self.run(call, turn)?;
-            answers.push((place, shared.receipt(call)));
+            let (answer, held) = self.answer(shared, request, help)?;
+            shared = held;
+            answers.push(answer);
         }
         Ok(answers)
     }
 
+    /// Waits until help is wanted, starts so many more workers, and helps too.
+    fn watch<'s>(&'s self, scope: &'s Scope<'s, '_>, requests: &'s [Request], help: &'s Help, more: usize) -> Answers {
+        if !help.is_wanted() {
+            return Ok(Vec::new());
+        }
+        let others: Vec<_> = (0..more).map(|_| scope.spawn(move || self.assist(requests, help))).collect();
+        let own = self.assist(requests, help);
+        others.into_iter().map(|other| other.join().expect("a worker ends")).fold(own, joined)
+    }
+
+    /// Admits the next request and runs it, as long as there is one and help is wanted.
+    fn assist(&self, requests: &[Request], help: &Help) -> Answers {
+        let mut answers = Vec::new();
+        while help.is_wanted() {
+            let shared = self.lock();
+            let Some(request) = requests.get(shared.admitted) else { break };
+            answers.push(self.answer(shared, request, help)?.0);
+        }
+        Ok(answers)
+    }
+
+    /// Admits the next request, which is this one, and runs it. Has the lock then.
+    fn answer<'a>(
+        &'a self,
+        mut shared: MutexGuard<'a, Shared>,
+        request: &Request,
+        help: &Help,
+    ) -> Result<((usize, Receipt), MutexGuard<'a, Shared>), Fault> {
+        let place = shared.admitted;
+        shared.admitted += 1;
+        let call = shared.running.admit(&request.name, &request.args)?;
+        let turn = shared.running.core().turn(call).ok_or(Fault::plain(602))?;
+        drop(shared);
+        help.take(&turn.procedure.bounds);
+        let shared = self.run(call, turn, help)?;
+        let receipt = shared.receipt(call);
+        Ok(((place, receipt), shared))
+    }
+
     /// Runs a call to its end, and has the lock then.
-    fn run(&self, call: u32, turn: Turn) -> Result<MutexGuard<'_, Shared>, Fault> {
+    fn run(&self, call: u32, turn: Turn, help: &Help) -> Result<MutexGuard<'_, Shared>, Fault> {
         let Turn { procedure, shape, state: mut from } = turn;
         let mut to = from;
+        let mut turns = 0;
         loop {
             // Whether it asks for a node or has come to its return: the core looks where it stands.
             let _ = to.run(&procedure, &shape, &mut Outside);
+            turns += 1;
             if let Some(shared) = self.lead(call, &from, &mut to)? {
+                help.learn(u64::from(to.steps()) / turns);
                 return Ok(shared);
             }
             from = to;

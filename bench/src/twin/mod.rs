@@ -7,6 +7,7 @@ pub mod core;
 mod defined;
 pub mod engine;
 pub mod fault;
+mod help;
 pub mod instruction;
 pub mod json;
 pub mod machine;

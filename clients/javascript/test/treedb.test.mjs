@@ -1,4 +1,4 @@
-// The package's own tests, which need no server: `npm test`. `tests/clients` tries the package on a server.
+// The package's own tests, which need no server: `npm test`. `tests/test_clients.py` tries the package on a server.
 
 import assert from "node:assert/strict";
 import { readFileSync, mkdtempSync, rmSync } from "node:fs";

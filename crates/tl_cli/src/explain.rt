@@ -1,8 +1,8 @@
 // What the numbers of faults mean, for people.
 
-use crate::meanings::{Meaning, meaning_of};
 use crate::{MISTAKE, output};
 use std::io;
+use tl_faults::{Meaning, meaning_of};
 
 /// Prints what a fault's number means, and returns the exit status. A number that no fault has is a mistake on the command
 /// line.

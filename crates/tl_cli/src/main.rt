@@ -2,12 +2,8 @@
 #![tactic(auto)]
 
 mod archive;
-mod arguments;
-mod command_line;
 mod explain;
 mod failure;
-mod help;
-mod meanings;
 mod output;
 mod program;
 mod progress;
@@ -16,7 +12,6 @@ mod trail_file;
 
 use archive::{Archive, Finish, Trails};
 use clap::Error;
-use command_line::Asked;
 use program::Program;
 use std::io::{ErrorKind, IsTerminal};
 use std::net::{Net, TcpListener, TcpStream};
@@ -25,11 +20,13 @@ use std::rt::Files;
 use std::sync::Wait;
 use std::thread::Threads;
 use std::time::Clock;
+use tl_arguments::Asked;
 pub use tl_commands::{
     CliFault, Generation, alone_cmd, asm_cmd, audit_cmd, audit_next_cmd, check_cmd,
     close_generation, conclude_engine, conclude_engine_with_trail, dis_cmd, drive_cmd,
-    drive_with_trail_cmd, keep_generation, migrate_cmd, next_engine, open_engine, open_generations,
-    run_cmd, run_with_trail_cmd, take_generation, verify_cmd, widen_cmd,
+    drive_with_trail_cmd, explain_audit_fault, keep_generation, migrate_cmd, next_engine,
+    open_engine, open_generations, run_cmd, run_with_trail_cmd, take_generation, verify_cmd,
+    widen_cmd,
 };
 use tl_generations::Succession;
 pub use tl_language_commands::{LanguageFault, check_procs_cmd, compile_cmd, procs_cmd};
@@ -55,7 +52,7 @@ fn words(rt: &HostRuntime) -> Result<Vec<String>, u8> {
 
 // Prints what the command line itself answers, help or a mistake, and returns the exit status.
 fn tell<R: Print + Eprint>(rt: &R, error: &Error) -> u8 {
-    let status = command_line::status(error);
+    let status = tl_arguments::status(error);
     if status == NO_MEMORY {
         return status;
     }
@@ -84,7 +81,7 @@ where
     F: FnOnce(Trails, Succession, u16) -> K + Drop,
     requires { F.IsAlwaysCallable archive }
 {
-    match command_line::parse(rt.alloc(), words) {
+    match tl_arguments::parse(rt.alloc(), words) {
         Ok(Asked::Request { request, nodes }) => {
             Program::new(rt, is_terminal, nodes).execute(&request, archive)
         }

@@ -5,7 +5,6 @@ mod auditing;
 mod serving;
 
 use crate::archive::{Finish, Trails};
-use crate::command_line::{CallCommand, FileCommand, Outputs, Request, ScriptFiles};
 use crate::failure::Failure;
 use crate::script::{NamedText, RefusedProcedure, first_refused, named_in_list, with_procedures};
 use crate::trail_file::TrailFile;
@@ -20,6 +19,7 @@ use std::rt::Files;
 use std::sync::Wait;
 use std::thread::Threads;
 use std::time::Clock;
+use tl_arguments::{CallCommand, FileCommand, Outputs, Request, ScriptFiles};
 use tl_compiler::CompileFault;
 use tl_generations::Succession;
 use tl_server::Keeper;
@@ -402,7 +402,7 @@ where
                 outputs,
             } => self.answer_calls(tree, command, *outputs, archive),
             Request::Files(command) => self.answer_files(*command),
-            Request::Audit { trails } => self.audit(trails),
+            Request::Audit { trails, explains } => self.audit(trails, *explains),
             Request::Stop { control } => self.stop(*control),
             Request::Status { control } => self.status(*control),
         }

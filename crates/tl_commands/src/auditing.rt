@@ -22,7 +22,7 @@ use tl_serial_order::Order;
 use tl_trail::{Trail, TrailFault, read_chain, read_trail};
 
 // Whether a text is a list, provided it is JSON: whether it begins with a bracket, after any white space.
-fn begins_with_list(text: &str) -> bool
+pub(crate) fn begins_with_list(text: &str) -> bool
     ensures { result ≡ begins_with_list text.now }
 {
     for byte in text.as_bytes() {
@@ -118,7 +118,7 @@ pub fn audit_cmd<P: Progress>(
 }
 
 // The trails of a file: those of a chain if it is a list, else the only one.
-fn trails_of_text(
+pub(crate) fn trails_of_text(
     alloc: Global,
     text: &str,
     is_list: bool,

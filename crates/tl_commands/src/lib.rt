@@ -10,6 +10,7 @@ mod auditing;
 mod checking;
 mod closing;
 mod driving;
+mod explaining;
 mod fault;
 mod generations;
 mod inputs;
@@ -26,6 +27,7 @@ pub use alone::alone_cmd;
 pub use auditing::{audit_cmd, audit_next_cmd};
 pub use checking::check_cmd;
 pub use driving::{drive_cmd, drive_with_trail_cmd};
+pub use explaining::explain_audit_fault;
 pub use fault::CliFault;
 pub use generations::{
     Generation, close_generation, end_generation, keep_generation, next_engine, open_generations,

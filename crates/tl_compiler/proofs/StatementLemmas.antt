@@ -8,7 +8,7 @@ use Rattle.tl_lowering.specs.Outcomes.{after, fails, handled_by}
 use Rattle.tl_compiler.specs.declared.context.Context.{Context}
 use Rattle.tl_compiler.specs.declared.draft.Draft.{Draft}
 use Rattle.tl_compiler.specs.declared.statements.Ways.{Ways}
-use Rattle.tl_compiler.specs.Contexts.{LeadsTo, Agrees, Writes, AreWays, ArePads, exit_of, code_of, way_of, guarded_code}
+use Rattle.tl_compiler.specs.Contexts.{LeadsTo, Describes, Writes, AreWays, ArePads, exit_of, code_of, way_of, guarded_code}
 use Rattle.tl_compiler.specs.NodeSets.{nodes_of, all_sets}
 use Rattle.tl_compiler.specs.Statements as Code
 use Rattle.tl_compiler.specs.Statements.{Site, held_behind, pad_at, pads_of, second_way, joining_code, statement_code, procedure_code}
@@ -26,7 +26,7 @@ pub procedure_written : (body : Statement) (arity here : ℕ) (c : Context) (fir
 procedure_written body arity here c first whole writes values nodes exit held pads place is =
     let one : here ≡ 1 = place ∙ ap length is in
     let start : Site = record { values = arity; nodes = 0; pad = λ held. 1; exit = None } in
-    let agrees : Agrees start c =
+    let agrees : Describes start c =
     record { values = sym values; nodes = sym nodes; pads = subst (λ n. LeadsTo (λ held. n) c.pads.now) one pads; exit = sym (ap (option_map exit_of) exit) } in
     writes.written start agrees ∙ ap₂ (λ h k. statement_code body h start k) held is
 
@@ -44,10 +44,10 @@ guarded_written body held handled ways padded c inside is_one old half new r don
     made x = pads_of all_sets (fails body held) handled ways.second.0 (record { code = code_of old; pad = pad_at handled ways.second.0 x.pad; are_some = false })
 
     by : Writes (λ x k. statement_code body held x (joining_code (after body held) (nodes_of padded.kept) padded.jumps padded.done.0 k)) inside half new
-        → (x : Site) → Agrees x c → ArePads (made x) half inside.pads.now is_one → code_of new ≡ guarded_code body held handled ways x (code_of old)
+        → (x : Site) → Describes x c → ArePads (made x) half inside.pads.now is_one → code_of new ≡ guarded_code body held handled ways x (code_of old)
     by writes x agrees are =
         let there : Site = record x { pad = (made x).pad } in
-        let same : Agrees there inside =
+        let same : Describes there inside =
         record { values = agrees.values ∙ sym values; nodes = agrees.nodes ∙ sym nodes; pads = are.leads; exit = agrees.exit ∙ sym (ap (option_map exit_of) exit) } in
         writes.written there same
         ∙ ap (λ (w : Ways). statement_code body held there (joining_code (after body held) (nodes_of w.kept) w.jumps w.done.0 (code_of half))) jumps
@@ -65,13 +65,13 @@ try_by a b held x start kept k =
 pub try_written : (s a b : Statement) (held start kept : Nodes) (c d : Context) (ways : Ways) (old half new : Draft)
     → ((x : Site) (k : List Instr) → statement_code s held x k ≡ try_by a b held x (handled_by held (all_of (fails a held))) (held_behind (after s held)) k)
     → start ≡ handled_by held (all_of (fails a held)) → kept ≡ held_behind (after s held)
-    → ((x : Site) → Agrees x c → Agrees x d)
-    → ((x : Site) → Agrees x d → AreWays ways (second_way (way_of b start x) kept (code_of old)) kept old half)
+    → ((x : Site) → Describes x c → Describes x d)
+    → ((x : Site) → Describes x d → AreWays ways (second_way (way_of b start x) kept (code_of old)) kept old half)
     → Writes (guarded_code a held start ways) c half new
     → Writes (statement_code s held) c old new
 try_written s a b held start kept c d ways old half new is begins keeps same second writes = record { written = λ x agrees. by x agrees (second x (same x agrees)) }
   where
-    by : (x : Site) → Agrees x c → AreWays ways (second_way (way_of b start x) kept (code_of old)) kept old half → code_of new ≡ statement_code s held x (code_of old)
+    by : (x : Site) → Describes x c → AreWays ways (second_way (way_of b start x) kept (code_of old)) kept old half → code_of new ≡ statement_code s held x (code_of old)
     by x agrees are =
         writes.written x agrees
         ∙ ap₂ (λ kept label. try_code a held x start kept label ways.jumps ways.done.0 (code_of half)) are.keeps are.label

@@ -17,7 +17,7 @@ use Rattle.tl_lowering.specs.declared.program.Place.{Place}
 use Rattle.tl_lowering.specs.declared.program.Statement.{Statement}
 use Rattle.tl_lowering.specs.declared.program.Statement.TheVariants as S
 use Rattle.tl_lowering.specs.Sets.{Nodes, none_held, holds, both, both_of, minus, same, is_among, all_of, with_node, without_node}
-use Rattle.tl_lowering.specs.Sound.{IsSound, KeepsHeld, nodes_behind}
+use Rattle.tl_lowering.specs.Sound.{IsWellFormed, KeepsHeld, nodes_behind}
 use Rattle.tl_lowering.specs.Outcomes.{may_fail, condition_may_fail, locked, unlocked, here_if, next, going_on, handled_by, behind_loop, after, fails, breaks}
 use Rattle.tl_compiler.specs.Labels.{target_of}
 use Rattle.tl_compiler.specs.NodeSets.{all_sets}
@@ -41,7 +41,7 @@ use Rattle.tl_compiler.proofs.Marking.{begins_label, at_end, number_marked, oper
 -- the facts of a statement, but for what stands behind it
 pub record Facts (a : Statement) (held : Nodes) (e : Bool) (x : Site) : Type 0 where
   pub sized : length held ≡ NODE_REGISTERS
-  pub sound : IsSound a x.values x.nodes held (is_some x.exit)
+  pub sound : IsWellFormed a x.values x.nodes held (is_some x.exit)
   pub enters : EntersOnce a e
   pub slots : AllSlots a x.nodes
   pub turns : AllTurn a
@@ -398,7 +398,7 @@ sequence_marked p a q b one two held e x k ns size facts pr = by (after a held) 
         let facts_b : Facts b h f x =
         record {
           sized = (sizes a held facts.sized).after h is;
-          sound = subst (λ o. IfSome o (λ g. IsSound b x.values x.nodes g (is_some x.exit))) is facts.sound.1;
+          sound = subst (λ o. IfSome o (λ g. IsWellFormed b x.values x.nodes g (is_some x.exit))) is facts.sound.1;
           enters = subst (λ o. IfSome o (λ g. EntersOnce b g)) goes facts.enters.1;
           slots = facts.slots.1;
           turns = facts.turns.1;
@@ -622,7 +622,7 @@ let_marked v n p a one held e x k ns size facts pr =
     let facts_a : Facts a held e y =
     record {
       sized = facts.sized;
-      sound = subst (λ w. IsSound a (w + 1) x.nodes held (is_some x.exit)) (sym sound_v) facts.sound.2;
+      sound = subst (λ w. IsWellFormed a (w + 1) x.nodes held (is_some x.exit)) (sym sound_v) facts.sound.2;
       enters = facts.enters;
       slots = facts.slots;
       turns = facts.turns;
@@ -655,7 +655,7 @@ let_else_marked v n p a q o one two held e x k ns size facts pr =
     let facts_a : Facts a held e y =
     record {
       sized = facts.sized;
-      sound = subst (λ w. IsSound a (w + 1) x.nodes held (is_some x.exit)) (sym sound_v) facts.sound.2;
+      sound = subst (λ w. IsWellFormed a (w + 1) x.nodes held (is_some x.exit)) (sym sound_v) facts.sound.2;
       enters = facts.enters.0;
       slots = facts.slots.0;
       turns = facts.turns.0;
@@ -906,7 +906,7 @@ pub record Rest (leaves : Bool) (held : Nodes) (p : Option Bool) (c k : List Ins
   pub begins : (w : Bool) → leaves ≡ true → p ≡ Some w → Brings list (length list) (marks held w)
 
 module _ (a : Statement) (one : StatementMarked a) (held : Nodes) (e : Bool) (x : Site) (k : List Instr) (ns : List (Option Marks)) (size : length ns ≡ length k) (sized : length held ≡ NODE_REGISTERS)
-    (sound : IsSound a x.values x.nodes held true) (keeps : KeepsHeld (after a held) held) (enters_once : EntersOnce a e) (stays_open : IfSome (entered a e).after (λ f. f ≡ true → e ≡ true)) (slots : AllSlots a x.nodes) (all_turn : AllTurn a)
+    (sound : IsWellFormed a x.values x.nodes held true) (keeps : KeepsHeld (after a held) held) (enters_once : EntersOnce a e) (stays_open : IfSome (entered a e).after (λ f. f ≡ true → e ≡ true)) (slots : AllSlots a x.nodes) (all_turn : AllTurn a)
     (deep : loops a < MAX_DEPTH) (whole_of : Option Nodes) (sized_whole : AnySized whole_of) (leaves : Bool) (says : (h : Nodes) → after a held ≡ Some h → leaves ≡ true) (whole_is : leaves ≡ true → whole_of ≡ Some (held_behind whole_of))
     (within_held : leaves ≡ true → Within (held_behind whole_of) held) (broken_is : (h : Nodes) → IsIn h (breaks a held) → (whole_of ≡ Some (held_behind whole_of)) × Within (held_behind whole_of) h) (p : Option Bool)
     (promise : (h : Nodes) (f : Bool) → whole_of ≡ Some h → p ≡ Some f → Brings ns (length k) (marks h f)) (by_after : (f : Bool) → (entered a e).after ≡ Some f → OneOf p f) (by_breaks : (f : Bool) → (entered a e).breaks ≡ Some f → OneOf p f)

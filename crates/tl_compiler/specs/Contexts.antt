@@ -23,7 +23,7 @@ abbrev pub exit_of : Loop.Exit → Exit
 exit_of exit = record { label = exit.label.0; held = nodes_of exit.held }
 
 -- the definition's site is where the compiler stands
-pub record Agrees (x : Site) (context : Context) : Type 0 where
+pub record Describes (x : Site) (context : Context) : Type 0 where
   pub values : x.values ≡ context.values
   pub nodes : x.nodes ≡ context.nodes
   pub pads : LeadsTo x.pad context.pads.now
@@ -35,7 +35,7 @@ code_of draft = reverse draft.instrs.items
 
 -- code of a statement that stands there was put before all that was written
 pub record Writes (code : Site → List Instr → List Instr) (context : Context) (old new : Draft) : Type 0 where
-  pub written : (x : Site) → Agrees x context → code_of new ≡ code x (code_of old)
+  pub written : (x : Site) → Describes x context → code_of new ≡ code x (code_of old)
 
 -- a statement as one of two ways
 abbrev pub way_of : Statement → Nodes → Site → Way

@@ -104,7 +104,7 @@ fn refused(alloc: Global, text: &[u8], draft: &Draft, fault: VerifyFault) -> Com
 
 // The code of a draft of at most 1,024 instructions.
 #[tactic(auto, using(crate::proofs::CodeForms::is_code, crate::proofs::CodeLemmas::as_many))]
-fn placed(alloc: Global, arity: u8, draft: &Draft) -> Result<Code, AllocError>
+fn assembled(alloc: Global, arity: u8, draft: &Draft) -> Result<Code, AllocError>
     requires arity { arity ≤ MAX_ARGS }
     requires some { 0 < vec_len draft.now.instrs }
     requires few { vec_len draft.now.instrs ≤ MAX_COUNT }
@@ -144,7 +144,7 @@ fn compile_one(alloc: Global, text: &[u8], source: Procedure) -> Result<Compiled
     if draft.instrs.len() > MAX_COUNT {
         return Err(over(alloc, text, &draft, Excess::Instructions));
     }
-    let code = placed(alloc, source.arity, &draft)?;
+    let code = assembled(alloc, source.arity, &draft)?;
     match verify(alloc, code) {
         Ok(procedure) => Ok(Compiled {
             name: name_of(source.name),

@@ -1,7 +1,7 @@
 // Where a statement stands.
 
 ghost use Rattle.std.specs.Prelude.{◌≡◌, ◌+◌, Some};
-ghost use Rattle.tl_compiler.specs.Contexts.{Agrees, exit_of};
+ghost use Rattle.tl_compiler.specs.Contexts.{Describes, exit_of};
 ghost use Rattle.tl_compiler.specs.NodeSets.{nodes_of};
 ghost use Rattle.tl_lowering.specs.Sound.{nodes_behind};
 
@@ -75,7 +75,7 @@ impl<'a> Context<'a> {
 
     pub fn with_held(self, held: NodeSet) -> Context<'a>
         ensures held { result.held ≡ held }
-        ensures same { (x : _) → Agrees x self.entry → Agrees x result }
+        ensures same { (x : _) → Describes x self.entry → Describes x result }
         ensures values { result.values ≡ self.entry.values }
         ensures nodes { result.nodes ≡ self.entry.nodes }
     {
@@ -84,7 +84,7 @@ impl<'a> Context<'a> {
 
     pub fn with_origin(self, origin: usize) -> Context<'a>
         ensures held { result.held ≡ self.entry.held }
-        ensures same { (x : _) → Agrees x self.entry → Agrees x result }
+        ensures same { (x : _) → Describes x self.entry → Describes x result }
         ensures values { result.values ≡ self.entry.values }
         ensures nodes { result.nodes ≡ self.entry.nodes }
     {
@@ -93,7 +93,7 @@ impl<'a> Context<'a> {
 
     pub fn with_exit(self, exit: Exit) -> Context<'a>
         ensures held { result.held ≡ self.entry.held }
-        ensures same { (x : _) → Agrees x self.entry → Agrees (record x { exit = Some (exit_of exit) }) result }
+        ensures same { (x : _) → Describes x self.entry → Describes (record x { exit = Some (exit_of exit) }) result }
         ensures values { result.values ≡ self.entry.values }
         ensures nodes { result.nodes ≡ self.entry.nodes }
     {
@@ -106,7 +106,7 @@ impl<'a> Context<'a> {
     /// The context in which the value has the register, and the registers after it are free.
     pub fn with_value(self, register: ValueRegister) -> Context<'a>
         ensures held { result.held ≡ self.entry.held }
-        ensures same { (x : _) → Agrees x self.entry → Agrees (record x { values = register + 1 }) result }
+        ensures same { (x : _) → Describes x self.entry → Describes (record x { values = register + 1 }) result }
         ensures values { result.values ≡ register + 1 }
         ensures nodes { result.nodes ≡ self.entry.nodes }
     {
@@ -119,7 +119,7 @@ impl<'a> Context<'a> {
     /// The context in which the place is locked.
     pub fn with_place(self, place: &Place) -> Context<'a>
         ensures held { nodes_of result.held ≡ locked place.now (nodes_of self.entry.held) }
-        ensures same { (x : _) → Agrees x self.entry → Agrees (record x { nodes = nodes_behind place.now }) result }
+        ensures same { (x : _) → Describes x self.entry → Describes (record x { nodes = nodes_behind place.now }) result }
         ensures values { result.values ≡ self.entry.values }
         ensures nodes { result.nodes ≡ nodes_behind place.now }
     {
@@ -132,7 +132,7 @@ impl<'a> Context<'a> {
 
     /// The label that the statement's failure leads to.
     pub fn failure(&self) -> Label
-        ensures { (x : _) → Agrees x self.now → result.0 ≡ x.pad (nodes_of self.now.held) }
+        ensures { (x : _) → Describes x self.now → result.0 ≡ x.pad (nodes_of self.now.held) }
     {
         self.pads.label(self.held)
     }

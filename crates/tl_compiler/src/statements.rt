@@ -1,7 +1,7 @@
 // The code of statements.
 
 ghost use Rattle.std.specs.Prelude.{◌≡◌, ◌+◌, ◌<◌, ◌≤◌, ◌∷◌, ◌||◌, false, not, List, length, reverse, is_some, option_map, OnOk, IfOk};
-ghost use Rattle.tl_compiler.specs.Contexts.{Agrees, LeadsTo, Writes, AreWays, ArePads, code_of, way_of, guarded_code};
+ghost use Rattle.tl_compiler.specs.Contexts.{Describes, LeadsTo, Writes, AreWays, ArePads, code_of, way_of, guarded_code};
 ghost use Rattle.tl_compiler.specs.NodeSets.{nodes_of, nodes_at, all_sets, AreThose};
 ghost use Rattle.tl_compiler.specs.Numbers.{register_of, behind, operand_code};
 ghost use Rattle.tl_compiler.specs.Rooms.{Fits};
@@ -34,7 +34,7 @@ struct Ways {
 
 // Where a break leads that frees nothing.
 fn way_out(context: Context<'_>) -> Option<Label>
-    ensures { (x : _) → Agrees x context.entry → option_map (λ label. label.0) result ≡ way_out (nodes_of context.entry.held) x.exit }
+    ensures { (x : _) → Describes x context.entry → option_map (λ label. label.0) result ≡ way_out (nodes_of context.entry.held) x.exit }
 {
     let Some(exit) = context.exit else {
         return None;
@@ -48,7 +48,7 @@ fn way_out(context: Context<'_>) -> Option<Label>
 
 // Where control goes from a statement that needs no code of its own.
 fn direct(statement: &Statement, context: Context<'_>) -> Option<Label>
-    ensures { (x : _) → Agrees x context.entry → option_map (λ label. label.0) result ≡ direct statement.now (nodes_of context.entry.held) x }
+    ensures { (x : _) → Describes x context.entry → option_map (λ label. label.0) result ≡ direct statement.now (nodes_of context.entry.held) x }
 {
     match statement {
         Statement::At(_, inner) => direct(inner, context),
@@ -106,7 +106,7 @@ impl Draft {
 
     // The second way is that of a failure.
     fn no_second_way(&self, kept: NodeSet, context: Context<'_>) -> Ways
-        ensures second { (x : _) → Agrees x context.entry → result.second.0 ≡ x.pad (nodes_of context.entry.held) }
+        ensures second { (x : _) → Describes x context.entry → result.second.0 ≡ x.pad (nodes_of context.entry.held) }
         ensures done { result.done.0 ≡ length (code_of self.now) }
         ensures jumps { result.jumps ≡ false }
         ensures kept { result.kept ≡ kept }
@@ -148,7 +148,7 @@ impl Draft {
         context: Context<'_>,
     ) -> Result<Ways, AllocError>
         requires { Fits statement.now context.values context.nodes }
-        ensures { IfOk result (λ ways. (x : _) → Agrees x context.entry → AreWays ways (second_way (way_of statement.now (nodes_of context.entry.held) x) (nodes_of kept) (code_of self.old)) (nodes_of kept) self.old self.new) }
+        ensures { IfOk result (λ ways. (x : _) → Describes x context.entry → AreWays ways (second_way (way_of statement.now (nodes_of context.entry.held) x) (nodes_of kept) (code_of self.old)) (nodes_of kept) self.old self.new) }
     {
         let done = self.here();
         if let Some(label) = direct(statement, context) {

@@ -1,3 +1,4 @@
 mod RowLemmas
 mod CommitLemmas
 mod ReadLemmas
+pub mod OnlyReading

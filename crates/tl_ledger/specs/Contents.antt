@@ -1,5 +1,5 @@
 -- What the tables of a store say: for each table its rows, without their numbers.
-use Rattle.std.specs.Prelude.{◌≡◌, ℕ, ◌<◌, ◌==◌, false, if◌then◌else◌, List, ◌++◌, IsTrue}
+use Rattle.std.specs.Prelude.{◌≡◌, ℕ, ◌<◌, ◌==◌, false, if◌then◌else◌, List, [], ◌++◌, IsTrue}
 use Rattle.sqlite_value.specs.Order.{Row}
 use Rattle.sqlite_trees.specs.Tree.{Trees}
 use Rattle.sqlite_trees.specs.View.{View}
@@ -9,6 +9,10 @@ use Rattle.tl_ledger.specs.Rows.{rows_from}
 
 abbrev pub Contents : Type 0
 Contents = ℕ → List Row
+
+-- tables without rows
+abbrev pub no_contents : Contents
+no_contents t = []
 
 -- a database has these rows, numbered from 0
 abbrev pub Holds : Trees → Contents → Type 0
@@ -25,6 +29,10 @@ with_more c table more = with_rows c table (c table ++ more)
 -- the tables are there
 abbrev pub AreTables : View → Type 0
 AreTables v = (t : ℕ) → t < TABLES → v.shape t ≡ Table
+
+-- only cursors may differ
+pub record OnlyReads (old new : View) : Type 0 where
+  pub same : new ≡ record old { cursors = new.cursors }
 
 -- nothing is written that isn't committed, and what is committed is on the disk
 pub record IsAtRest (v : View) : Type 0 where

@@ -1,8 +1,8 @@
 // What came since the last commit, in one transaction of the store.
 
-ghost use Rattle.std.specs.Prelude.{◌≡◌, ◌⊎◌, OnOk, OnErr};
+ghost use Rattle.std.specs.Prelude.{◌≡◌, ◌≤◌, ◌⊎◌, OnOk, OnErr};
 ghost use Rattle.sqlite_trees.specs.Tree.{Trees};
-ghost use Rattle.sqlite_trees.specs.View.{IsClean, IsQuiet, KeepsSchema};
+ghost use Rattle.sqlite_trees.specs.View.{IsClean, IsQuiet, KeepsSchema, doubt};
 ghost use Rattle.tl_ledger.specs.Contents.{Contents, Holds, AreTables, IsAtRest};
 ghost use Rattle.tl_ledger.specs.News.{after_news, IsMarked, HasRoom, Adds};
 
@@ -73,6 +73,7 @@ pub fn commit_news<S: Store>(
         → Holds (S.Store.view store.old).committed c → (db : Trees) → S.Store.recovers store.new db → Holds db (after_news c news.now)) }
     ensures crash { IsClean (S.Store.view store.new) → (c : Contents) → IsMarked c marks.now
         → Holds (S.Store.view store.old).committed c → (db : Trees) → S.Store.recovers store.new db → Holds db c ⊎ Holds db (after_news c news.now) }
+    ensures clean { doubt (S.Store.view store.old).is_clean ≤ doubt (S.Store.view store.new).is_clean }
 {
     if let Err(error) = write_news(store, row, marks, news) {
         store.rollback();

@@ -4,7 +4,7 @@ ghost use Rattle.std.specs.Prelude.{◌≡◌, ◌<◌, ◌^◌, List, [], pos, 
 ghost use Rattle.sqlite_trees.specs.View.{IsClean, IsQuiet, KeepsSchema};
 ghost use Rattle.sqlite_value.specs.Order.{column, Row as Columns};
 ghost use Rattle.sqlite_value.specs.declared.value.Value.TheVariants.{Int};
-ghost use Rattle.tl_ledger.specs.Contents.{Contents, Holds, AreTables};
+ghost use Rattle.tl_ledger.specs.Contents.{OnlyReads, Contents, Holds, AreTables};
 ghost use Rattle.tl_ledger.specs.News.{IsMarked};
 ghost use Rattle.tl_ledger.specs.Rows.{rows_from, IsLast, IsLastRow};
 
@@ -22,7 +22,7 @@ fn last_row<S: Store>(store: &mut S, row: &mut Row, table: u32) -> Result<bool, 
     requires { IsClean (S.Store.view store.old) → (S.Store.view store.old).shape table ≡ Shape.Table }
     ensures last { IfOk result (λ found. IsClean (S.Store.view store.new) → (columns : List Columns) → (S.Store.view store.old).trees table ≡ rows_from 0 columns
         → IsLastRow columns row.new found) }
-    ensures same { OnOk result (IsClean (S.Store.view store.new) → (S.Store.view store.new).trees ≡ (S.Store.view store.old).trees) }
+    ensures reads { OnOk result (IsClean (S.Store.view store.new) → OnlyReads (S.Store.view store.old) (S.Store.view store.new)) }
     ensures schema { KeepsSchema (S.Store.view store.old) (S.Store.view store.new) }
     ensures quiet { IsQuiet S.Store.view S.Store.faults S.Store.recovers S.Store.is_shielded store.old store.new }
 {
@@ -53,7 +53,7 @@ pub fn read_last<S: Store, T: ReadEntry + Drop>(
         → columns ≡ [])) }
     ensures last { IfOk result (λ o. IfSome o (λ l. IsClean (S.Store.view store.new) → (columns : List Columns) → (S.Store.view store.old).trees table ≡ rows_from 0 columns
         → IsLast columns l.0 (T.Entry.columns l.1))) }
-    ensures same { OnOk result (IsClean (S.Store.view store.new) → (S.Store.view store.new).trees ≡ (S.Store.view store.old).trees) }
+    ensures reads { OnOk result (IsClean (S.Store.view store.new) → OnlyReads (S.Store.view store.old) (S.Store.view store.new)) }
     ensures schema { KeepsSchema (S.Store.view store.old) (S.Store.view store.new) }
     ensures quiet { IsQuiet S.Store.view S.Store.faults S.Store.recovers S.Store.is_shielded store.old store.new }
 {
@@ -75,7 +75,7 @@ pub fn count_rows<S: Store>(store: &mut S, row: &mut Row, table: u32) -> Result<
     requires { IsClean (S.Store.view store.old) → (S.Store.view store.old).shape table ≡ Shape.Table }
     ensures count { IfOk result (λ n. IsClean (S.Store.view store.new) → (columns : List Columns) → (S.Store.view store.old).trees table ≡ rows_from 0 columns
         → length columns ≡ n) }
-    ensures same { OnOk result (IsClean (S.Store.view store.new) → (S.Store.view store.new).trees ≡ (S.Store.view store.old).trees) }
+    ensures reads { OnOk result (IsClean (S.Store.view store.new) → OnlyReads (S.Store.view store.old) (S.Store.view store.new)) }
     ensures schema { KeepsSchema (S.Store.view store.old) (S.Store.view store.new) }
     ensures quiet { IsQuiet S.Store.view S.Store.faults S.Store.recovers S.Store.is_shielded store.old store.new }
 {
@@ -92,7 +92,7 @@ pub fn count_rows<S: Store>(store: &mut S, row: &mut Row, table: u32) -> Result<
 pub fn marks_of<S: Store>(alloc: Global, store: &mut S) -> Result<Marks, ReadFault>
     requires { IsClean (S.Store.view store.old) → AreTables (S.Store.view store.old) }
     ensures marks { IfOk result (λ marks. IsClean (S.Store.view store.new) → (c : Contents) → Holds (S.Store.view store.old).trees c → IsMarked c marks) }
-    ensures same { OnOk result (IsClean (S.Store.view store.new) → (S.Store.view store.new).trees ≡ (S.Store.view store.old).trees) }
+    ensures reads { OnOk result (IsClean (S.Store.view store.new) → OnlyReads (S.Store.view store.old) (S.Store.view store.new)) }
     ensures schema { KeepsSchema (S.Store.view store.old) (S.Store.view store.new) }
     ensures quiet { IsQuiet S.Store.view S.Store.faults S.Store.recovers S.Store.is_shielded store.old store.new }
 {

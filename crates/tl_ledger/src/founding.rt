@@ -2,7 +2,7 @@
 
 ghost use Rattle.std.specs.Prelude.{◌≡◌, ◌⊎◌, ◌≤◌, ◌^◌, length, OnOk, IfOk};
 ghost use Rattle.sqlite_trees.specs.Tree.{Trees};
-ghost use Rattle.sqlite_trees.specs.View.{IsClean, IsQuiet, KeepsSchema};
+ghost use Rattle.sqlite_trees.specs.View.{IsClean, IsQuiet, KeepsSchema, doubt};
 ghost use Rattle.tl_ledger.specs.Contents.{Contents, Holds, AreTables, IsAtRest};
 ghost use Rattle.tl_ledger.specs.News.{AreEmpty, after_founding, IsMarked, Founds};
 
@@ -69,6 +69,7 @@ pub fn found<S: Store>(store: &mut S, row: &mut Row, first: &Founding) -> Result
         → Holds (S.Store.view store.old).committed c → (db : Trees) → S.Store.recovers store.new db → Holds db (after_founding c first.now)) }
     ensures crash { IsClean (S.Store.view store.new) → (c : Contents) → AreEmpty c
         → Holds (S.Store.view store.old).committed c → (db : Trees) → S.Store.recovers store.new db → Holds db c ⊎ Holds db (after_founding c first.now) }
+    ensures clean { doubt (S.Store.view store.old).is_clean ≤ doubt (S.Store.view store.new).is_clean }
 {
     if !fits(0, first.nodes.len()) || !fits(0, first.procedures.len()) {
         return Err(StoreError::Full);

@@ -2,7 +2,7 @@
 
 ghost use Rattle.std.specs.Prelude.{◌≡◌, ◌⊎◌, ◌↔◌, ◌+◌, ◌<◌, ◌≤◌, ◌^◌, true, false, All, IsTrue, OnOk, OnErr};
 ghost use Rattle.sqlite_trees.specs.Tree.{Trees};
-ghost use Rattle.sqlite_trees.specs.View.{IsClean};
+ghost use Rattle.sqlite_trees.specs.View.{IsClean, doubt};
 ghost use Rattle.tl_ledger.specs.Contents.{Contents, Holds, IsAtRest};
 ghost use Rattle.tl_ledger.specs.News.{after_news, IsMarked, HasRoom};
 
@@ -98,6 +98,7 @@ impl<S: Store> Ledger<S> {
             → Holds (S.Store.view self.old.store).committed c → (db : Trees) → S.Store.recovers self.new.store db → Holds db (after_news c news.now)) }
         ensures crash { self.old.is_shut ≡ false → IsClean (S.Store.view self.new.store) → (c : Contents) → IsMarked c self.old.marks
             → Holds (S.Store.view self.old.store).committed c → (db : Trees) → S.Store.recovers self.new.store db → Holds db c ⊎ Holds db (after_news c news.now) }
+        ensures clean { doubt (S.Store.view self.old.store).is_clean ≤ doubt (S.Store.view self.new.store).is_clean }
     {
         if self.is_shut {
             return Err(StoreError::Broken);

@@ -5,6 +5,7 @@ ghost use Rattle.sqlite_trees.specs.View.{IsClean, IsQuiet, KeepsSchema, Advance
 ghost use Rattle.sqlite_value.specs.Order.{column, Row as Columns};
 ghost use Rattle.sqlite_value.specs.declared.value.Value.{Value};
 ghost use Rattle.sqlite_value.specs.declared.value.Value.TheVariants.{Int};
+ghost use Rattle.tl_ledger.specs.Contents.{OnlyReads};
 ghost use Rattle.tl_ledger.specs.Rows.{rows_from, IsNumbered};
 
 use crate::entry::Entry;
@@ -114,7 +115,7 @@ fn read_rest<S: Store, T: ReadEntry + Drop>(
     requires live { IsSome ((S.Store.view store.old).cursors 0) }
     ensures rows { IfOk result (λ items. IsClean (S.Store.view store.new) → (left : List Columns) → (S.Store.view store.old).cursors 0 ≡ Some left
         → left ≡ rows_from first (map T.Entry.columns items.items)) }
-    ensures same { OnOk result (IsClean (S.Store.view store.new) → (S.Store.view store.new).trees ≡ (S.Store.view store.old).trees) }
+    ensures reads { OnOk result (IsClean (S.Store.view store.new) → OnlyReads (S.Store.view store.old) (S.Store.view store.new)) }
     ensures schema { KeepsSchema (S.Store.view store.old) (S.Store.view store.new) }
     ensures quiet { IsQuiet S.Store.view S.Store.faults S.Store.recovers S.Store.is_shielded store.old store.new }
 {
@@ -138,7 +139,7 @@ pub fn read_all<S: Store, T: ReadEntry + Drop>(
 ) -> Result<Vec<T>, ReadFault>
     requires { IsClean (S.Store.view store.old) → (S.Store.view store.old).shape table ≡ Shape.Table }
     ensures rows { IfOk result (λ items. IsClean (S.Store.view store.new) → (S.Store.view store.old).trees table ≡ rows_from 0 (map T.Entry.columns items.items)) }
-    ensures same { OnOk result (IsClean (S.Store.view store.new) → (S.Store.view store.new).trees ≡ (S.Store.view store.old).trees) }
+    ensures reads { OnOk result (IsClean (S.Store.view store.new) → OnlyReads (S.Store.view store.old) (S.Store.view store.new)) }
     ensures schema { KeepsSchema (S.Store.view store.old) (S.Store.view store.new) }
     ensures quiet { IsQuiet S.Store.view S.Store.faults S.Store.recovers S.Store.is_shielded store.old store.new }
 {
@@ -157,7 +158,7 @@ pub fn read_from<S: Store, T: ReadEntry + Drop>(
     requires { IsClean (S.Store.view store.old) → (S.Store.view store.old).shape table ≡ Shape.Table }
     ensures rows { IfOk result (λ items. IsClean (S.Store.view store.new) → (columns : List Columns) → (S.Store.view store.old).trees table ≡ rows_from 0 columns
         → first ≤ length columns → map T.Entry.columns items.items ≡ drop first columns) }
-    ensures same { OnOk result (IsClean (S.Store.view store.new) → (S.Store.view store.new).trees ≡ (S.Store.view store.old).trees) }
+    ensures reads { OnOk result (IsClean (S.Store.view store.new) → OnlyReads (S.Store.view store.old) (S.Store.view store.new)) }
     ensures schema { KeepsSchema (S.Store.view store.old) (S.Store.view store.new) }
     ensures quiet { IsQuiet S.Store.view S.Store.faults S.Store.recovers S.Store.is_shielded store.old store.new }
 {

@@ -23,7 +23,7 @@ use Rattle.tl_lowering.specs.declared.program.Procedure.{Procedure}
 use Rattle.tl_lowering.specs.declared.program.Statement.{Statement}
 use Rattle.tl_lowering.specs.Alike.{same_constant, same_value, same_children, same_operation, same_greater, same_not, same_child, SameStatement, same_skip, same_sequence, same_assign, same_break, same_fail, same_if, same_let, same_let_else, same_lock, same_try, same_repeat, same_repeat_up_to, same_at, AllSame, none_same, more_same, SameProcedure, SameProcedures, no_procedures, more_procedures}
 use Rattle.tl_lowering.specs.Drafts.{opens}
-use Rattle.tl_lowering.specs.Names.{Names, stands_for, in_loop, with_constant, with_field, with_procedure, with_unnamed, with_value, with_values, with_node, without_meaning}
+use Rattle.tl_lowering.specs.Names.{Names, stands_for, in_loop, with_constant, with_field, with_procedure, with_index, with_value, with_values, with_node, without_meaning}
 use Rattle.tl_lowering.specs.Naming.{calculated, opposite, IsAction, assigns, writes, emits, requires, descends, takes, frees, breaks, returns, fails, then, declares}
 use Rattle.tl_lowering.specs.Reading.{IsAtOffset, at, IsTried, tried, IsVisiting, visiting, IsBlock, block, AreStatements, no_more, next, let_rest, let_else, lock_rest, lock_else, IsStatement, act, act_else, try, if, if_lock, repeat, repeat_up_to, for_each, IsBody, IsProcedure, IsProgram, IsWithField, AreDeclared, none_declared, next_field, next_constant, next_procedure}
 use Rattle.tl_lowering.proofs.AlikeLemmas.{alike_number, alike_condition, alike_count, alike_place, same_names, alike_halved, alike_action}
@@ -208,11 +208,12 @@ mutual
       let same = repeat_at_most_of xs vs s refl refl in same_repeat_up_to (alike_number same.0 n m) (alike_count same.1 c d) (alike_block same.2 a b)
   alike_statement s (repeat xs deep c a) (repeat_up_to vs deeper m its turns d b) = absurd (no_most_needed xs vs s refl refl)
   alike_statement s (repeat_up_to xs deep n has turn c a) (repeat vs deeper d b) = absurd (most_needed xs vs s refl refl)
-  alike_statement {names} s (for_each xs deep new room has e c a v) (for_each vs {a = body} deeper fresh space its f d b w) =
+  alike_statement {names} s (for_each {child = name} {index = place} xs deep new room has e c a v) (for_each {child = name'} {index = place'} vs {a = body} deeper fresh space its f d b w) =
       let same = for_each_of xs vs s refl refl in
-      let node = sym e ∙ ap (stands_for names) same.1 ∙ f in
-      visiting_of (cc) (alike_count same.2 c d)
-      (alike_block same.3 a (subst (λ z. IsBlock (with_node (with_unnamed (in_loop names)) z) vs.items body) (sym same.0) b)) v w
+      let node = sym e ∙ ap (stands_for names) same.2 ∙ f in
+      let called : IsBlock (with_node (with_index (in_loop names) place') name) vs.items body = subst (λ z. IsBlock (with_node (with_index (in_loop names) place') z) vs.items body) (sym same.0) b in
+      visiting_of (cc) (alike_count same.3 c d)
+      (alike_block same.4 a (subst (λ z. IsBlock (with_node (with_index (in_loop names) z) name) vs.items body) (sym same.1) called)) v w
   alike_statement s x y = absurd (omega (arith, same_statement_rank s))
 
 -- ---- procedures

@@ -22,7 +22,7 @@ use Rattle.tl_lowering.specs.declared.program.Place.{Place}
 use Rattle.tl_lowering.specs.declared.program.Statement.{Statement}
 use Rattle.tl_lowering.specs.Alike.{SameNumber, same_constant, same_value, same_field, same_children, same_operation, SameCondition, same_less, same_greater, same_equal, same_not, same_and, SamePlace, same_node, same_child, same_pair, SameStatement, same_skip, same_sequence, same_assign, same_write, same_emit, same_free, same_descend, same_take, same_break, same_return, same_fail, same_if, AllSame, none_same, more_same}
 use Rattle.tl_lowering.specs.Names.{Names, stands_for, field_named, with_node, with_place}
-use Rattle.tl_lowering.specs.Naming.{IsCalculated, calculated, IsNumber, number, constant, value, field, children, negated, operation, IsCount, count, constant_count, IsNot, opposite, IsBoth, together, IsComparison, IsCondition, comparison, negation, conjunction, disjunction, IsPlace, node, child, pair, IsThen, then, IsHalved, none, one, more, IsChanged, AreEmits, no_emits, next_emit, IsAction, assigns, writes, emits, requires, descends, takes, frees, breaks, returns, fails}
+use Rattle.tl_lowering.specs.Naming.{IsCalculated, calculated, IsNumber, number, constant, value, index, field, children, negated, operation, IsCount, count, constant_count, IsNot, opposite, IsBoth, together, IsComparison, IsCondition, comparison, negation, conjunction, disjunction, IsPlace, node, child, pair, IsThen, then, IsHalved, none, one, more, IsChanged, AreEmits, no_emits, next_emit, IsAction, assigns, writes, emits, requires, descends, takes, frees, breaks, returns, fails}
 
 -- ---- numbers and conditions
 
@@ -39,6 +39,16 @@ alike_number {names} s (value {name = x} g) (constant {name = y} h) =
     let same = same_plain (omega arith) s in let n : x ≡ y = cc in let w = sym g ∙ ap (stands_for names) n ∙ h in cc
 alike_number {names} s (value {name = x} g) (value {name = y} h) =
     let same = same_plain (omega arith) s in let n : x ≡ y = cc in let w = sym g ∙ ap (stands_for names) n ∙ h in same_value cc
+alike_number {names} s (index {name = x} g) (index {name = y} h) =
+    let same = same_plain (omega arith) s in let n : x ≡ y = cc in let w = sym g ∙ ap (stands_for names) n ∙ h in same_value cc
+alike_number {names} s (index {name = x} g) (constant {name = y} h) =
+    let same = same_plain (omega arith) s in let n : x ≡ y = cc in let w = sym g ∙ ap (stands_for names) n ∙ h in cc
+alike_number {names} s (constant {name = x} g) (index {name = y} h) =
+    let same = same_plain (omega arith) s in let n : x ≡ y = cc in let w = sym g ∙ ap (stands_for names) n ∙ h in cc
+alike_number {names} s (index {name = x} g) (value {name = y} h) =
+    let same = same_plain (omega arith) s in let n : x ≡ y = cc in let w = sym g ∙ ap (stands_for names) n ∙ h in cc
+alike_number {names} s (value {name = x} g) (index {name = y} h) =
+    let same = same_plain (omega arith) s in let n : x ≡ y = cc in let w = sym g ∙ ap (stands_for names) n ∙ h in cc
 alike_number {names} s (field {node = x} {field = y} g i) (field {node = z} {field = v} h j) =
     let same = same_plain (omega arith) s in
     let n : x ≡ z = cc in let m : y ≡ v = cc in

@@ -1,6 +1,6 @@
 -- A block descends from no node above those that have names, and is no end of a `for each`.
-use Rattle.std.proofs.Common.{◌≡◌, ◌≢◌, ℕ, ◌+◌, ◌<◌, ◌≤◌, ◌/◌, List, [], length, get_or, Bool, true, false, ◌&&◌, ◌⊎◌, inl, inr, None, refl, sym, ap, ap₂, ◌∙◌, subst, arith}
-use Rattle.std.specs.Prelude.{◌||◌, not, nat_eq, slice_set}
+use Rattle.std.proofs.Common.{◌≡◌, ◌≢◌, ℕ, ◌+◌, ◌<◌, ◌≤◌, ◌/◌, List, [], length, get_or, Bool, true, false, ◌&&◌, ◌⊎◌, inl, inr, Option, None, Some, refl, sym, ap, ap₂, ◌∙◌, subst, arith}
+use Rattle.std.specs.Prelude.{◌||◌, not, nat_eq, slice_set, IfSome}
 use Rattle.std.specs.List.{All}
 use Rattle.std.proofs.lemmas.Bool.{eq-eqb, ne_eqb, cases_eq, cases_lt}
 use Rattle.std.proofs.lemmas.List.{get_or_past, get_or-set_same, get_or-set_other, length-set}
@@ -21,16 +21,17 @@ use Rattle.tl_lowering.specs.declared.scope.Meaning.TheVariants as M
 use Rattle.tl_lowering.specs.Choosing.{names_within}
 use Rattle.tl_lowering.specs.Descending.{locks_in, descends_from, descend_from, node_in, is_in, Knows}
 use Rattle.tl_lowering.specs.Entering.{before_of, before_turns, turn_descends, is_break}
-use Rattle.tl_lowering.specs.Names.{Names, names_in, in_loop, with_unnamed, with_value, with_node, with_place}
+use Rattle.tl_lowering.specs.Names.{Names, names_in, AreFresh, in_loop, with_index, with_value, with_node, with_place}
 use Rattle.tl_lowering.specs.Naming.{IsPlace, node, child, pair, IsAction, assigns, writes, emits, requires, descends, takes, frees, breaks, returns, fails, then, IsHalved, none, one, more, calculated, opposite}
 use Rattle.tl_lowering.specs.Passing.{walks, registers}
 use Rattle.tl_lowering.specs.Paths.{bits, passed_of}
 use Rattle.tl_lowering.specs.Reading.{IsAtOffset, at, tried, IsVisiting, visiting, IsBlock, block, AreStatements, no_more, next, let_rest, let_else, lock_rest, lock_else, IsStatement, act, act_else, try, if, if_lock, repeat, repeat_up_to, for_each}
 use Rattle.tl_lowering.specs.Repeating.{IsRepetition}
-use Rattle.tl_lowering.specs.Scopes.{View, IsBelow, IsInUse}
+use Rattle.tl_lowering.specs.Scopes.{View, meaning_of, IsBelow, IsInUse}
 use Rattle.tl_lowering.specs.Sets.{Nodes, holds, minus}
 use Rattle.tl_lowering.proofs.BitLemmas.{bits_are}
-use Rattle.tl_lowering.proofs.DescendLemmas.{descend_halved, emits_nothing, placed, in_block, block_are, block_descends, knows_child, knows_loop}
+use Rattle.tl_lowering.proofs.DescendLemmas.{descend_halved, emits_nothing, at_offset, in_block, block_are, block_descends, knows_child, knows_loop}
+use Rattle.tl_lowering.proofs.NumberLemmas.{new_beside}
 
 -- ---- names stand for nodes in use
 
@@ -48,6 +49,7 @@ pub none_beyond : (t m : ℕ) (x : Meaning) (n : ℕ) → IsBelow t m x → m �
 none_beyond t m M.Nothing n below le = refl
 none_beyond t m (M.Constant w) n below le = refl
 none_beyond t m (M.Value x) n below le = refl
+none_beyond t m (M.Index x) n below le = refl
 none_beyond t m (M.Node k) n below le = ne_eqb k n (λ e. absurd (omega arith))
 
 nothing_there : (n : ℕ) → M.Nothing ≡ M.Node n → ⊥
@@ -74,8 +76,13 @@ named_loop : {names : Names} → AreNamed names → AreNamed (in_loop names)
 named_loop named = record { below = named.below }
 
 -- in the body of a `for each`
-named_inside : {names : Names} (name : Name) → AreNamed names → AreNamed (with_node (with_unnamed (in_loop names)) name)
-named_inside {names} name named = named_node {names = with_unnamed (in_loop names)} name (record { below = named.below })
+named_index : {names : Names} (index : Option Name) → AreNamed names → AreNamed (with_index (in_loop names) index)
+named_index None named = record { below = named.below }
+named_index {names} (Some name) named =
+    named_set {names = names} {new = with_index (in_loop names) (Some name)} name.symbol.0 (M.Index names.values) named (λ n e. cc) refl (omega arith)
+
+named_inside : {names : Names} (name : Name) (index : Option Name) → AreNamed names → AreNamed (with_node (with_index (in_loop names) index) name)
+named_inside {names} name index named = named_node {names = with_index (in_loop names) index} name (named_index index named)
 
 named_place : {names : Names} {text : TextPlace} {place : Place} → AreNamed names → IsPlace names text place → AreNamed (with_place names text)
 named_place named (node {name = name} fresh room is fits) = named_node name named
@@ -132,7 +139,7 @@ action_beyond n named le returns = refl
 action_beyond n named le fails = refl
 
 put_beyond : {offset : ℕ} {a b : Statement} (n : ℕ) → IsAtOffset offset a b → descends_from a n ≡ false → (descends_from b n || false) ≡ false
-put_beyond n put e = ap (λ z. z || false) (placed n put ∙ e)
+put_beyond n put e = ap (λ z. z || false) (at_offset n put ∙ e)
 
 walk_beyond : {index child parent turns : ℕ} {body whole : Statement} (n : ℕ) → (descends_from body n ≡ false) ⊎ (nat_eq child n ≡ true) → IsVisiting index child parent turns body whole → descends_from whole n ≡ false
 walk_beyond {child = register} {body = body} n e (visiting opposite calculated then then) = ap (λ z. z || false) (not_both (descends_from body n) (nat_eq register n) e)
@@ -144,7 +151,7 @@ mutual
   statements_beyond : {names : Names} {xs : List TextStatement} {parts : List Statement} (n : ℕ) → AreNamed names → names.nodes ≤ n → AreStatements names xs parts → descend_from parts n ≡ false
   statements_beyond n named le no_more = refl
   statements_beyond n named le (next {b = b} {parts = parts} s put rest leaves) =
-      either_none (descends_from b n) (descend_from parts n) (placed n put ∙ statement_beyond n named le s) (statements_beyond n named le rest)
+      either_none (descends_from b n) (descend_from parts n) (at_offset n put ∙ statement_beyond n named le s) (statements_beyond n named le rest)
   statements_beyond n named le (let_rest {name = name} form fresh room is fits body put) = put_beyond n put (block_beyond n (named_value name named) le body)
   statements_beyond n named le (let_else {name = name} {body = inner} {other = outer} form fresh room is fits other leaves body put) =
       put_beyond n put (either_none (descends_from inner n) (descends_from outer n) (block_beyond n (named_value name named) le body) (block_beyond n named le other))
@@ -163,8 +170,8 @@ mutual
       either_none _ (descends_from b n) (locking_beyond a n le place (λ above. block_beyond n (named_place named place) above first)) (block_beyond n named le second)
   statement_beyond n named le (repeat xs deep c a) = block_beyond n (named_loop named) le a
   statement_beyond n named le (repeat_up_to xs deep num has turn c a) = block_beyond n (named_loop named) le a
-  statement_beyond {names} n named le (for_each {child = name} xs {a = body} deep fresh room has is c a v) =
-      walk_beyond n (own_or_above body names.nodes n le (λ above. block_beyond n (named_inside name named) above a)) v
+  statement_beyond {names} n named le (for_each {child = name} {index = index} xs {a = body} deep fresh room has is c a v) =
+      walk_beyond n (own_or_above body names.nodes n le (λ above. block_beyond n (named_inside name index named) above a)) v
 
 -- ---- where a loop begins
 
@@ -184,6 +191,12 @@ and_true : (x l : Bool) → l ≡ false → x ≡ (x && not l)
 and_true true l e = ap not (sym e)
 and_true false l e = refl
 
+-- what a `for each` declares is free
+are_fresh : (scope : View) (name : Name) (index : Option Name) → meaning_of scope name.symbol ≡ M.Nothing
+    → IfSome index (λ n. (meaning_of scope n.symbol ≡ M.Nothing) × (n.symbol.0 ≢ name.symbol.0)) → AreFresh (names_in scope) name index
+are_fresh scope name None e h = e
+are_fresh scope name (Some index) e h = (e, new_beside (names_in scope) name index h.1 h.0)
+
 turns_descend : (scope : View) (held : Held) (repetition : Repetition) (items : List TextStatement) (nodes : Nodes) (body : Statement) → IsInUse scope → IsRepetition scope held repetition → SaysDescents scope items nodes
     → IsBlock (names_within (names_in scope) repetition) items body → (n : ℕ) → holds nodes n ≡ turn_descends repetition body n
 turns_descend scope held (R.Times w) items nodes body in_scope is says b n = by (cases_lt n scope.nodes)
@@ -200,10 +213,10 @@ turns_descend scope held (R.Children v) items nodes body in_scope is says b n = 
   where
     above : scope.nodes ≤ n → (scope.nodes ≡ n) ⊎ (scope.nodes ≢ n) → (descends_from body n ≡ false) ⊎ (nat_eq v.child n ≡ true)
     above le (inl e) = inr (at_register v.child n (is.child ∙ e))
-    above le (inr ne) = inl (block_beyond n (named_inside v.name (are_named scope in_scope)) (omega arith) b)
+    above le (inr ne) = inl (block_beyond n (named_inside v.name v.index_name (are_named scope in_scope)) (omega arith) b)
 
     by : (n < scope.nodes) ⊎ (scope.nodes ≤ n) → holds nodes n ≡ (descends_from body n && not (nat_eq v.child n))
-    by (inl lt) = says_of n says (knows_child v.name (knows_self scope) is.name) lt b ∙ and_true (descends_from body n) (nat_eq v.child n) (ne_eqb v.child n (λ e. absurd (omega (arith, is.child))))
+    by (inl lt) = says_of n says (knows_child v.name v.index_name (knows_self scope) (are_fresh scope v.name v.index_name is.name is.index_name)) lt b ∙ and_true (descends_from body n) (nat_eq v.child n) (ne_eqb v.child n (λ e. absurd (omega (arith, is.child))))
     by (inr le) = says.beyond n le ∙ sym (not_both (descends_from body n) (nat_eq v.child n) (above le (cases_eq scope.nodes n)))
 
 -- a loop begins without what its turns descend from

@@ -12,8 +12,8 @@ use Rattle.tl_lowering.specs.declared.program.Statement.TheVariants as S
 use Rattle.tl_lowering.specs.Sets.{Nodes, without_node, both_of, all_of}
 use Rattle.tl_lowering.specs.Outcomes.{may_fail, here_if, locked, unlocked, after, fails, breaks}
 use Rattle.tl_lowering.specs.Paths.{Paths, outcomes, on, failing_if, keeping}
-use Rattle.tl_lowering.specs.Blocks.{followed, then_of, outcomes_all, AreSound, IsSequence, IsSame, binding_paths, IsNext, IsBinding, values_with, nodes_more, nodes_with, Reached, reached, AreSoundAt, IsSoundAt, IsBindingAt, AreOpen, AreAlike, AreFree, IsClosing, Closes}
-use Rattle.tl_lowering.specs.Sound.{IsSound, nodes_behind}
+use Rattle.tl_lowering.specs.Blocks.{followed, then_of, outcomes_all, AreWellFormed, IsSequence, IsSame, binding_paths, IsNext, IsBinding, values_with, nodes_more, nodes_with, Standing, reached, AreWellFormedAt, IsWellFormedAt, IsBindingAt, AreOpen, AreAlike, AreFree, IsClosing, Closes}
+use Rattle.tl_lowering.specs.Sound.{IsWellFormed, nodes_behind}
 use Rattle.tl_lowering.proofs.SetLemmas.{both_without, both_of_none, both_of_comm, all_of_append}
 use Rattle.tl_lowering.proofs.PathLemmas.{then_on, then_assoc, outcomes_append, sound_append, keeping_after}
 
@@ -59,7 +59,7 @@ value_paths : (rest : Statement) (b : Bool) (h k : Nodes)
 value_paths rest true h k = record { after = refl; fails = refl; breaks = refl }
 value_paths rest false h k = record { after = refl; fails = refl; breaks = refl }
 
-value_sound : (rest : Statement) (d m : ℕ) (k : Nodes) (in_loop : Bool) (b : Bool) → IfSome (failing_if b (on k) k).after (λ h. IsSound rest d m h in_loop) → IsSound rest d m k in_loop
+value_sound : (rest : Statement) (d m : ℕ) (k : Nodes) (in_loop : Bool) (b : Bool) → IfSome (failing_if b (on k) k).after (λ h. IsWellFormed rest d m h in_loop) → IsWellFormed rest d m k in_loop
 value_sound rest d m k in_loop true t = t
 value_sound rest d m k in_loop false t = t
 
@@ -92,7 +92,7 @@ closing_nodes place rest o = record {
     fails = swapped (fails o k) (fails rest (locked place k));
     breaks = swapped (breaks o k) (breaks rest (locked place k));
   };
-  sound = λ d m k in_loop s t. (s.0, subst (λ n. IsSound rest d n (locked place k) in_loop) (next_nodes place m s.1) t, s.2);
+  sound = λ d m k in_loop s t. (s.0, subst (λ n. IsWellFormed rest d n (locked place k) in_loop) (next_nodes place m s.1) t, s.2);
 }
 
 pub closing_value_of : {p : _} (x : ℕ) (e : Expression) (rest r : Statement) → r ≡ rest → IsClosing (B.Value x e) rest (S.Let' x e p r)
@@ -123,7 +123,7 @@ closes o rest here marked whole c m s = record {
     xs : List Statement
     xs = o.earlier.items
 
-    each : (r : Reached) (outer : Nodes) (in_loop : Bool) (p : Paths) → IsBindingAt o.binding r p in_loop → AreFree r.nodes outer
+    each : (r : Standing) (outer : Nodes) (in_loop : Bool) (p : Paths) → IsBindingAt o.binding r p in_loop → AreFree r.nodes outer
         → IfSome p.after (λ k. AreAlike outer (then_of (binding_paths o.binding k) (outcomes rest)) (outcomes here k))
     each r outer in_loop p b free = by p.after b
       where
@@ -149,13 +149,13 @@ closes o rest here marked whole c m s = record {
         by (Some k) f b = ap (λ q. record { after = q.after; fails = both_of f q.fails; breaks = both_of b q.breaks }) (whole_paths k)
 
     ends : (d n : ℕ) (in_loop : Bool) (p : Paths) → IfSome p.after (λ k. IsBinding o.binding d n k in_loop)
-        → IfSome (then_of p (binding_paths o.binding)).after (λ h. IsSound rest (values_with o.binding d) (nodes_with o.binding n) h in_loop)
-        → IfSome p.after (λ k. AreSound (marked ∷ []) d n k in_loop)
+        → IfSome (then_of p (binding_paths o.binding)).after (λ h. IsWellFormed rest (values_with o.binding d) (nodes_with o.binding n) h in_loop)
+        → IfSome p.after (λ k. AreWellFormed (marked ∷ []) d n k in_loop)
     ends d n in_loop p b t = by p.after p.fails p.breaks b t
       where
         by : (a f g : Option Nodes) → IfSome a (λ k. IsBinding o.binding d n k in_loop)
-            → IfSome (then_of (record { after = a; fails = f; breaks = g }) (binding_paths o.binding)).after (λ h. IsSound rest (values_with o.binding d) (nodes_with o.binding n) h in_loop)
-            → IfSome a (λ k. AreSound (marked ∷ []) d n k in_loop)
+            → IfSome (then_of (record { after = a; fails = f; breaks = g }) (binding_paths o.binding)).after (λ h. IsWellFormed rest (values_with o.binding d) (nodes_with o.binding n) h in_loop)
+            → IfSome a (λ k. AreWellFormed (marked ∷ []) d n k in_loop)
         by None f g b t = tt
         by (Some k) f g b t = (m.sound d n k in_loop (c.sound d n k in_loop b t), nothing (after marked k))
           where
@@ -163,26 +163,26 @@ closes o rest here marked whole c m s = record {
             nothing None = tt
             nothing (Some h) = tt
 
-    soundly : (r : Reached) (in_loop : Bool) → AreSoundAt xs r in_loop → IsBindingAt o.binding r (then_of r.paths (outcomes_all xs)) in_loop
-        → IsSoundAt rest (reached (o ∷ []) r) in_loop → IsSoundAt whole r in_loop
+    soundly : (r : Standing) (in_loop : Bool) → AreWellFormedAt xs r in_loop → IsBindingAt o.binding r (then_of r.paths (outcomes_all xs)) in_loop
+        → IsWellFormedAt rest (reached (o ∷ []) r) in_loop → IsWellFormedAt whole r in_loop
     soundly r in_loop a b t = by r.paths.after r.paths.fails r.paths.breaks a b t
       where
-        by : (p f g : Option Nodes) → IfSome p (λ k. AreSound xs r.values r.nodes k in_loop)
+        by : (p f g : Option Nodes) → IfSome p (λ k. AreWellFormed xs r.values r.nodes k in_loop)
             → IfSome (then_of (record { after = p; fails = f; breaks = g }) (outcomes_all xs)).after (λ k. IsBinding o.binding r.values r.nodes k in_loop)
-            → IfSome (then_of (then_of (record { after = p; fails = f; breaks = g }) (outcomes_all xs)) (binding_paths o.binding)).after (λ h. IsSound rest (values_with o.binding r.values) (nodes_with o.binding r.nodes) h in_loop)
-            → IfSome p (λ k. IsSound whole r.values r.nodes k in_loop)
+            → IfSome (then_of (then_of (record { after = p; fails = f; breaks = g }) (outcomes_all xs)) (binding_paths o.binding)).after (λ h. IsWellFormed rest (values_with o.binding r.values) (nodes_with o.binding r.nodes) h in_loop)
+            → IfSome p (λ k. IsWellFormed whole r.values r.nodes k in_loop)
         by None f g a b t = tt
         by (Some k) f g a b t =
             s.sound r.values r.nodes k in_loop
             (sound_append xs (marked ∷ []) r.values r.nodes k in_loop a
             (ends r.values r.nodes in_loop (outcomes_all xs k) b (onward (outcomes_all xs k) t)))
           where
-            onward : (q : Paths) → IfSome (then_of (followed (Some k) (record { after = Some k; fails = f; breaks = g }) (λ h. q)) (binding_paths o.binding)).after (λ h. IsSound rest (values_with o.binding r.values) (nodes_with o.binding r.nodes) h in_loop)
-                → IfSome (then_of q (binding_paths o.binding)).after (λ h. IsSound rest (values_with o.binding r.values) (nodes_with o.binding r.nodes) h in_loop)
+            onward : (q : Paths) → IfSome (then_of (followed (Some k) (record { after = Some k; fails = f; breaks = g }) (λ h. q)) (binding_paths o.binding)).after (λ h. IsWellFormed rest (values_with o.binding r.values) (nodes_with o.binding r.nodes) h in_loop)
+                → IfSome (then_of q (binding_paths o.binding)).after (λ h. IsWellFormed rest (values_with o.binding r.values) (nodes_with o.binding r.nodes) h in_loop)
             onward q t = at q.after q.fails q.breaks t
               where
-                at : (a x y : Option Nodes) → IfSome (then_of (record { after = a; fails = both_of f x; breaks = both_of g y }) (binding_paths o.binding)).after (λ h. IsSound rest (values_with o.binding r.values) (nodes_with o.binding r.nodes) h in_loop)
-                    → IfSome (then_of (record { after = a; fails = x; breaks = y }) (binding_paths o.binding)).after (λ h. IsSound rest (values_with o.binding r.values) (nodes_with o.binding r.nodes) h in_loop)
+                at : (a x y : Option Nodes) → IfSome (then_of (record { after = a; fails = both_of f x; breaks = both_of g y }) (binding_paths o.binding)).after (λ h. IsWellFormed rest (values_with o.binding r.values) (nodes_with o.binding r.nodes) h in_loop)
+                    → IfSome (then_of (record { after = a; fails = x; breaks = y }) (binding_paths o.binding)).after (λ h. IsWellFormed rest (values_with o.binding r.values) (nodes_with o.binding r.nodes) h in_loop)
                 at None x y t = t
                 at (Some h) x y t = t
 
@@ -198,13 +198,13 @@ with_nodes (B.Value x e) m = omega arith
 with_nodes (B.ValueElse x e o) m = omega arith
 with_nodes (B.Nodes place o) m = more_nodes place m
 
-pub nodes_rise : (os : List Opened) (r : Reached) → r.nodes ≤ (reached os r).nodes
+pub nodes_rise : (os : List Opened) (r : Standing) → r.nodes ≤ (reached os r).nodes
 nodes_rise [] r = omega arith
 nodes_rise (o ∷ os) r = let e = nodes_rise os r in let f = with_nodes o.binding (reached os r).nodes in omega arith
 
 -- ---- the last declaration that is open
 
-pub close_last : (o : Opened) (os : List Opened) (r : Reached) (outer : Nodes) (in_loop : Bool) (rest whole : Statement) (total : Paths) → Closes o rest whole → AreOpen (o ∷ os) r in_loop
+pub close_last : (o : Opened) (os : List Opened) (r : Standing) (outer : Nodes) (in_loop : Bool) (rest whole : Statement) (total : Paths) → Closes o rest whole → AreOpen (o ∷ os) r in_loop
     → AreFree r.nodes outer → AreAlike outer (then_of (reached (o ∷ os) r).paths (outcomes rest)) total → AreAlike outer (then_of (reached os r).paths (outcomes whole)) total
 close_last o os r outer in_loop rest whole total c opened free alike =
     alike_trans outer _ _ _

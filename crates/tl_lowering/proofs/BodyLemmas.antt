@@ -11,14 +11,14 @@ use Rattle.tl_lowering.specs.declared.paths.Flow.{Flow}
 use Rattle.tl_lowering.specs.declared.paths.Held.{Held}
 use Rattle.tl_lowering.specs.declared.program.Statement.{Statement}
 use Rattle.tl_lowering.specs.declared.program.Statement.TheVariants as S
-use Rattle.tl_lowering.specs.Blocks.{then_of, Reached, AreFree}
+use Rattle.tl_lowering.specs.Blocks.{then_of, Standing, AreFree}
 use Rattle.tl_lowering.specs.Lowering.{IsInside, behind_opened, behind_draft, IsDraft, entered, nodes_in}
 use Rattle.tl_lowering.specs.Outcomes.{handled_by, after, fails}
 use Rattle.tl_lowering.specs.Paths.{Paths, bits, nodes_of, known, paths_of, outcomes, keeping}
 use Rattle.tl_lowering.specs.Repeating.{IsRepetition, begun, more_in, IsTurn}
 use Rattle.tl_lowering.specs.Scopes.{View, IsInUse, IsAt, IsLowered, Extends, forget, is_in_loop}
 use Rattle.tl_lowering.specs.Sets.{Nodes, none_held, holds, both_of, all_of}
-use Rattle.tl_lowering.specs.Sound.{IsReadable, IsSound}
+use Rattle.tl_lowering.specs.Sound.{IsReadable, IsWellFormed}
 use Rattle.tl_lowering.proofs.LoweringLemmas.{extends_self, returned}
 
 -- ---- results
@@ -40,7 +40,7 @@ then_flow p h flow next new e a n = n ∙ by (known flow.after) a ∙ ap (λ q. 
     by None e = cc
     by (Some k) e = refl
 
-pub same_draft : (start : Reached) (draft new : Draft) (scope : View) → new.opened.items ≡ draft.opened.items → new.statements.items ≡ draft.statements.items → IsDraft start draft scope → IsDraft start new scope
+pub same_draft : (start : Standing) (draft new : Draft) (scope : View) → new.opened.items ≡ draft.opened.items → new.statements.items ≡ draft.statements.items → IsDraft start draft scope → IsDraft start new scope
 unfolding behind_opened behind_draft
 same_draft start draft new scope o s d = record {
   opened = rw o d.opened;
@@ -49,7 +49,7 @@ same_draft start draft new scope o s d = record {
   nodes = rw o d.nodes;
 }
 
-pub same_behind : (start : Reached) (draft new : Draft) → new.opened.items ≡ draft.opened.items → new.statements.items ≡ draft.statements.items → behind_draft start new ≡ behind_draft start draft
+pub same_behind : (start : Standing) (draft new : Draft) → new.opened.items ≡ draft.opened.items → new.statements.items ≡ draft.statements.items → behind_draft start new ≡ behind_draft start draft
 unfolding behind_opened behind_draft
 same_behind start draft new o s = rw (o, s) refl
 
@@ -88,7 +88,7 @@ pub is_inside : (scope inner : View) (held inside : Held) (entrance : Entrance) 
     → inner.values ≡ scope.values → inner.nodes ≡ nodes_in entrance scope.nodes → inner.loops ≡ scope.loops → nodes_of inside ≡ entered entrance (nodes_of held)
     → IsInside scope held entrance s flow
 is_inside scope inner held inside entrance s flow l v n o h =
-    let sound : IsSound s inner.values inner.nodes (nodes_of inside) (nat_lt 0 inner.loops) = l.sound in
+    let sound : IsWellFormed s inner.values inner.nodes (nodes_of inside) (nat_lt 0 inner.loops) = l.sound in
     record { sound = rw v at (rw n at (rw o at (rw h at sound))); paths = l.paths ∙ ap (outcomes s) h }
 
 -- ---- a loop
@@ -96,7 +96,7 @@ is_inside scope inner held inside entrance s flow l v n o h =
 pub same_repetition : (scope : View) (a b : Held) (r : Repetition) → nodes_of b ≡ nodes_of a → IsRepetition scope a r → IsRepetition scope b r
 same_repetition scope a b (R.Times w) e t = tt
 same_repetition scope a b (R.UpTo x w) e t = subst (λ h. IsReadable scope.values h x) (sym e) t
-same_repetition scope a b (R.Children v) e t = record { name = t.name; child = t.child; index = t.index; room = t.room; parent = ap (λ h. holds h v.parent) e ∙ t.parent }
+same_repetition scope a b (R.Children v) e t = record { name = t.name; index_name = t.index_name; child = t.child; index = t.index; room = t.room; parent = ap (λ h. holds h v.parent) e ∙ t.parent }
 
 turns_around : (n m : ℕ) → m ≡ n + 1 → nat_lt 0 m ≡ true
 turns_around n m e = lt-ltb 0 m (omega arith)
@@ -109,16 +109,16 @@ pub is_turn : (scope inner : View) (held start inside : Held) (r : Repetition) (
 is_turn scope inner held start inside r body flow checked l v n o i e p kept =
     let h : Nodes = nodes_of held in
     let begins : nodes_of inside ≡ begun r h = i ∙ ap (begun r) e in
-    let sound : IsSound body inner.values inner.nodes (nodes_of inside) (nat_lt 0 inner.loops) = l.sound in
+    let sound : IsWellFormed body inner.values inner.nodes (nodes_of inside) (nat_lt 0 inner.loops) = l.sound in
     let paths : paths_of checked ≡ record (outcomes body (begun r h)) { after = keeping h (after body (begun r h)) } =
     p ∙ ap (λ k. record (paths_of flow) { after = keeping k (paths_of flow).after }) e
     ∙ ap (λ (q : Paths). record q { after = keeping h q.after }) (l.paths ∙ ap (outcomes body) begins) in
     record {
       turn = record {
-        sound = subst (λ b. IsSound body (more_in r scope.values) (more_in r scope.nodes) (begun r h) b) (turns_around scope.loops inner.loops o)
-            (subst (λ k. IsSound body (more_in r scope.values) (more_in r scope.nodes) k (nat_lt 0 inner.loops)) begins
-            (subst (λ k. IsSound body (more_in r scope.values) k (nodes_of inside) (nat_lt 0 inner.loops)) n
-            (subst (λ k. IsSound body k inner.nodes (nodes_of inside) (nat_lt 0 inner.loops)) v sound)));
+        sound = subst (λ b. IsWellFormed body (more_in r scope.values) (more_in r scope.nodes) (begun r h) b) (turns_around scope.loops inner.loops o)
+            (subst (λ k. IsWellFormed body (more_in r scope.values) (more_in r scope.nodes) k (nat_lt 0 inner.loops)) begins
+            (subst (λ k. IsWellFormed body (more_in r scope.values) k (nodes_of inside) (nat_lt 0 inner.loops)) n
+            (subst (λ k. IsWellFormed body k inner.nodes (nodes_of inside) (nat_lt 0 inner.loops)) v sound)));
         kept = subst (λ (q : Paths). IfSome q.after (λ k. k ≡ h)) paths (subst (λ k. IfSome (paths_of checked).after (λ x. x ≡ k)) e kept);
       };
       paths = paths;
@@ -140,10 +140,10 @@ at_nothing scope held e names = record { names = names; nodes = λ n le. rw (e, 
 
 -- a body whose failures are all handled
 pub body_sound : (scope : View) (held : Held) (s a b : Statement) (flow : Flow) → held.nodes ≡ 0 → IsLowered scope held s flow → a ≡ s → b ≡ S.Skip
-    → IsSound a scope.values scope.nodes none_held (is_in_loop scope) × IsSound b scope.values scope.nodes (handled_by none_held (all_of (fails a none_held))) (is_in_loop scope)
+    → IsWellFormed a scope.values scope.nodes none_held (is_in_loop scope) × IsWellFormed b scope.values scope.nodes (handled_by none_held (all_of (fails a none_held))) (is_in_loop scope)
 body_sound scope held s a b flow e l f g =
     let is : nodes_of held ≡ none_held = ap bits e ∙ none_bits in
-    let sound : IsSound s scope.values scope.nodes none_held (is_in_loop scope) = subst (λ k. IsSound s scope.values scope.nodes k (is_in_loop scope)) is l.sound in (
-      subst (λ z. IsSound z scope.values scope.nodes none_held (is_in_loop scope)) (sym f) sound,
-      subst (λ z. IsSound z scope.values scope.nodes (handled_by none_held (all_of (fails a none_held))) (is_in_loop scope)) (sym g) tt,
+    let sound : IsWellFormed s scope.values scope.nodes none_held (is_in_loop scope) = subst (λ k. IsWellFormed s scope.values scope.nodes k (is_in_loop scope)) is l.sound in (
+      subst (λ z. IsWellFormed z scope.values scope.nodes none_held (is_in_loop scope)) (sym f) sound,
+      subst (λ z. IsWellFormed z scope.values scope.nodes (handled_by none_held (all_of (fails a none_held))) (is_in_loop scope)) (sym g) tt,
     )

@@ -1,5 +1,5 @@
 -- The blocks of a statement are less deep than the statement.
-use Rattle.std.proofs.Common.{◌≡◌, ℕ, ◌+◌, ◌*◌, ◌<◌, List, Vec, Global, sym, subst, arith}
+use Rattle.std.proofs.Common.{◌≡◌, ℕ, ◌+◌, ◌*◌, ◌<◌, List, Option, Vec, Global, sym, subst, arith}
 use Rattle.tl_syntax.specs.declared.parsed.Name.{Name}
 use Rattle.tl_syntax.specs.declared.parsed.Expression.{Expression}
 use Rattle.tl_syntax.specs.declared.parsed.Question.{Question}
@@ -21,8 +21,8 @@ in_first f q body otherwise e = grind (arith, the_lemmas)
 in_second : (f : StatementForm) (q : Question) (body otherwise : Vec Statement Global) → f ≡ If q body otherwise → most statement.the_size otherwise.items < form.the_size f
 in_second f q body otherwise e = grind (arith, the_lemmas)
 
-in_visit : (f : StatementForm) (child parent : Name) (at_most : Expression) (body : Vec Statement Global) → f ≡ ForEach child parent at_most body → most statement.the_size body.items < form.the_size f
-in_visit f child parent at_most body e = grind (arith, the_lemmas)
+in_visit : (f : StatementForm) (child : Name) (index : Option Name) (parent : Name) (at_most : Expression) (body : Vec Statement Global) → f ≡ ForEach child index parent at_most body → most statement.the_size body.items < form.the_size f
+in_visit f child index parent at_most body e = grind (arith, the_lemmas)
 
 -- a step down takes less, whichever function does it
 falls : (t k : ℕ) (f : StatementForm) (block items : List Statement) → 3 * form.the_size f + 0 ≡ t → block ≡ items → k < 3 → most statement.the_size items < form.the_size f → 3 * most statement.the_size block + k < t
@@ -40,6 +40,6 @@ falls_in_first t k f q body otherwise block e is few at = falls t k f block body
 pub falls_in_second : (t k : ℕ) (f : StatementForm) (q : Question) (body otherwise : Vec Statement Global) (block : List Statement) → 3 * form.the_size f + 0 ≡ t → block ≡ otherwise.items → k < 3 → f ≡ If q body otherwise → 3 * most statement.the_size block + k < t
 falls_in_second t k f q body otherwise block e is few at = falls t k f block otherwise.items e is few (in_second f q body otherwise at)
 
-pub falls_in_visit : (t k : ℕ) (f : StatementForm) (child parent : Name) (at_most : Expression) (body : Vec Statement Global) (block : List Statement) → 3 * form.the_size f + 0 ≡ t → block ≡ body.items → k < 3 → f ≡ ForEach child parent at_most body
+pub falls_in_visit : (t k : ℕ) (f : StatementForm) (child : Name) (index : Option Name) (parent : Name) (at_most : Expression) (body : Vec Statement Global) (block : List Statement) → 3 * form.the_size f + 0 ≡ t → block ≡ body.items → k < 3 → f ≡ ForEach child index parent at_most body
     → 3 * most statement.the_size block + k < t
-falls_in_visit t k f child parent at_most body block e is few at = falls t k f block body.items e is few (in_visit f child parent at_most body at)
+falls_in_visit t k f child index parent at_most body block e is few at = falls t k f block body.items e is few (in_visit f child index parent at_most body at)

@@ -24,7 +24,7 @@ use Rattle.tl_lowering.specs.declared.program.Statement.TheVariants as S
 use Rattle.tl_lowering.specs.declared.scope.Meaning.{Meaning}
 use Rattle.tl_lowering.specs.declared.scope.Meaning.TheVariants as M
 use Rattle.tl_lowering.specs.Descending.{locks_in, descends_from, descend_from, node_in, is_in, Knows, IsDescending, here, declared, declared_else, IsElseDescending, no_else, some_else}
-use Rattle.tl_lowering.specs.Names.{Names, IsNew, in_loop, with_unnamed, with_value, with_node, with_place}
+use Rattle.tl_lowering.specs.Names.{Names, IsNew, AreFresh, in_loop, with_index, with_value, with_node, with_place}
 use Rattle.tl_lowering.specs.Naming.{declares, IsPlace, node, child, pair, AreEmits, no_emits, next_emit, IsAction, assigns, writes, emits, requires, descends, takes, frees, breaks, returns, fails, then, IsHalved, none, one, more, calculated, opposite}
 use Rattle.tl_lowering.specs.Reading.{IsAtOffset, at, tried, IsVisiting, visiting, IsBlock, block, AreStatements, no_more, next, let_rest, let_else, lock_rest, lock_else, IsStatement, act, act_else, try, if, if_lock, repeat, repeat_up_to, for_each}
 use Rattle.tl_lowering.specs.Scopes.{View}
@@ -86,8 +86,35 @@ knows_node {outer} {names} name k fresh =
 pub knows_loop : {outer : View} {names : Names} → Knows outer names → Knows outer (in_loop names)
 knows_loop k = record { more = k.more; still = k.still; only = k.only }
 
-pub knows_child : {outer : View} {names : Names} (name : Name) → Knows outer names → IsNew names name → Knows outer (with_node (with_unnamed (in_loop names)) name)
-knows_child name k fresh = knows_node name (record { more = k.more; still = k.still; only = k.only }) fresh
+-- the place of a loop's child is no node; its name is a new one
+knows_index : {outer : View} {names : Names} (name : Name) → Knows outer names → IsNew names name → Knows outer (with_index names (Some name))
+knows_index {outer} {names} name k fresh = knows_set name.symbol.0 (M.Index names.values) k fresh (λ n lt e. cc) refl (omega arith)
+
+free_beside : (names : Names) (called place : Name) → IsNew names called → IsNew (with_node names called) place → IsNew names place
+free_beside names called place e f = by (cases_eq place.symbol.0 called.symbol.0)
+  where
+    by : (place.symbol.0 ≡ called.symbol.0) ⊎ (place.symbol.0 ≢ called.symbol.0) → IsNew names place
+    by (inl same) = ap (λ i. get_or names.meanings i M.Nothing) same ∙ e
+    by (inr ne) = sym (get_or-set_other names.meanings called.symbol.0 place.symbol.0 (M.Node names.nodes) M.Nothing ne) ∙ f
+
+-- the child's name is free where that of its place is declared
+child_beside : (names : Names) (called place : Name) → IsNew names called → IsNew (with_node names called) place → IsNew (with_index (in_loop names) (Some place)) called
+child_beside names called place e f = by (cases_eq called.symbol.0 place.symbol.0) (cases_lt place.symbol.0 (length names.meanings))
+  where
+    by : (called.symbol.0 ≡ place.symbol.0) ⊎ (called.symbol.0 ≢ place.symbol.0) → (place.symbol.0 < length names.meanings) ⊎ (length names.meanings ≤ place.symbol.0)
+        → IsNew (with_index (in_loop names) (Some place)) called
+    by (inl same) (inl lt) =
+        let there : get_or (slice_set names.meanings called.symbol.0 (M.Node names.nodes)) called.symbol.0 M.Nothing ≡ M.Node names.nodes =
+        get_or-set_same names.meanings called.symbol.0 (M.Node names.nodes) M.Nothing (omega arith) in
+        absurd (nothing_there M.Nothing names.nodes refl (sym f ∙ ap (λ i. get_or (slice_set names.meanings called.symbol.0 (M.Node names.nodes)) i M.Nothing) (sym same) ∙ there))
+    by (inl same) (inr le) = get_or_past (slice_set names.meanings place.symbol.0 (M.Index names.values)) called.symbol.0 M.Nothing (omega (arith, length-set names.meanings place.symbol.0 (M.Index names.values)))
+    by (inr ne) c = get_or-set_other names.meanings place.symbol.0 called.symbol.0 (M.Index names.values) M.Nothing ne ∙ e
+
+pub knows_child : {outer : View} {names : Names} (name : Name) (index : Option Name) → Knows outer names → AreFresh names name index → Knows outer (with_node (with_index (in_loop names) index) name)
+knows_child name None k fresh = knows_node name (record { more = k.more; still = k.still; only = k.only }) fresh
+knows_child {outer} {names} name (Some index) k fresh =
+    knows_node {names = with_index (in_loop names) (Some index)} name (knows_index {names = in_loop names} index (knows_loop k) (free_beside names name index fresh.0 fresh.1))
+    (child_beside names name index fresh.0 fresh.1)
 
 pub knows_place : {outer : View} {names : Names} {text : TextPlace} {place : Place} → Knows outer names → IsPlace names text place → Knows outer (with_place names text)
 knows_place k (node {name = name} fresh room is fits) = knows_node name k fresh
@@ -147,8 +174,8 @@ block_are (block are halved) = are
 pub block_descends : {names : Names} {statements : List TextStatement} {whole : Statement} (n : ℕ) (b : IsBlock names statements whole) → descends_from whole n ≡ descend_from (in_block b) n
 block_descends n (block are halved) = descend_halved n halved
 
-pub placed : {offset : ℕ} {a b : Statement} (n : ℕ) → IsAtOffset offset a b → descends_from b n ≡ descends_from a n
-placed n at = refl
+pub at_offset : {offset : ℕ} {a b : Statement} (n : ℕ) → IsAtOffset offset a b → descends_from b n ≡ descends_from a n
+at_offset n at = refl
 
 locking : (x y l : Bool) → l ≡ false → ((x && not l) || y) ≡ (y || x)
 locking x y l e = ap (λ z. (x && not z) || y) e ∙ ap (λ z. z || y) (and_true x) ∙ or_comm x y
@@ -166,7 +193,7 @@ step {s = s} {all = all} {here_is = here_is} so_far n lt says {names} k same (ne
   parts = parts;
   knows = k;
   are = are;
-  same = or_step all so_far here_is (descend_from parts n) _ same (ap (λ z. z || descend_from parts n) (placed n put ∙ sym (says names (descends_from a n) k (here is))));
+  same = or_step all so_far here_is (descend_from parts n) _ same (ap (λ z. z || descend_from parts n) (at_offset n put ∙ sym (says names (descends_from a n) k (here is))));
 }
 step {s = s} {all = all} {here_is = here_is} so_far n lt says {names} k same (let_rest {name = name} {body = body} form fresh room is fits b put) = record {
   names = with_value names name;
@@ -175,7 +202,7 @@ step {s = s} {all = all} {here_is = here_is} so_far n lt says {names} k same (le
   are = block_are b;
   same =
       or_step all so_far here_is (descend_from (in_block b) n) _ same
-      (or_false _ ∙ placed n put ∙ block_descends n b ∙ ap (λ z. z || descend_from (in_block b) n) (sym (says_form s n says form k (declared refl))));
+      (or_false _ ∙ at_offset n put ∙ block_descends n b ∙ ap (λ z. z || descend_from (in_block b) n) (sym (says_form s n says form k (declared refl))));
 }
 step {s = s} {all = all} {here_is = here_is} so_far n lt says {names} k same (let_else {name = name} {body = body} {other = other} form fresh room is fits o leaves b put) = record {
   names = with_value names name;
@@ -184,7 +211,7 @@ step {s = s} {all = all} {here_is = here_is} so_far n lt says {names} k same (le
   are = block_are b;
   same =
       or_step all so_far here_is (descend_from (in_block b) n) _ same
-      (or_false _ ∙ placed n put ∙ or_comm (descends_from body n) (descends_from other n)
+      (or_false _ ∙ at_offset n put ∙ or_comm (descends_from body n) (descends_from other n)
       ∙ ap₂ (λ x y. x || y) (sym (says_form s n says form k (declared_else refl o))) (block_descends n b));
 }
 step {s = s} {all = all} {here_is = here_is} so_far n lt says {names} k same (lock_rest {text = text} {place = place} {body = body} form is b put) = record {
@@ -194,7 +221,7 @@ step {s = s} {all = all} {here_is = here_is} so_far n lt says {names} k same (lo
   are = block_are b;
   same =
       or_step all so_far here_is (descend_from (in_block b) n) _ same
-      (or_false _ ∙ placed n put ∙ locking (descends_from body n) false (locks_in place n) (not_locked n k lt is)
+      (or_false _ ∙ at_offset n put ∙ locking (descends_from body n) false (locks_in place n) (not_locked n k lt is)
       ∙ ap₂ (λ x y. x || y) (sym (says_form s n says form k (declared refl))) (block_descends n b));
 }
 step {s = s} {all = all} {here_is = here_is} so_far n lt says {names} k same (lock_else {text = text} {place = place} {body = body} {other = other} form is o leaves b put) = record {
@@ -204,7 +231,7 @@ step {s = s} {all = all} {here_is = here_is} so_far n lt says {names} k same (lo
   are = block_are b;
   same =
       or_step all so_far here_is (descend_from (in_block b) n) _ same
-      (or_false _ ∙ placed n put ∙ locking (descends_from body n) (descends_from other n) (locks_in place n) (not_locked n k lt is)
+      (or_false _ ∙ at_offset n put ∙ locking (descends_from body n) (descends_from other n) (locks_in place n) (not_locked n k lt is)
       ∙ ap₂ (λ x y. x || y) (sym (says_form s n says form k (declared_else refl o))) (block_descends n b));
 }
 
@@ -222,6 +249,7 @@ same_node {outer} {names} i k n h lt is = by (cases_eq k n)
     other ne M.Nothing e = refl
     other ne (M.Constant w) e = refl
     other ne (M.Value x) e = refl
+    other ne (M.Index x) e = refl
     other ne (M.Node j) e = ne_eqb j n (λ f. let g : M.Node k ≡ M.Node n = sym is ∙ h.still i n lt (e ∙ ap M.Node f) in ne cc)
 
     by : (k ≡ n) ⊎ (k ≢ n) → is_in (node_in (get_or outer.meanings i M.Nothing)) n ≡ nat_eq k n
@@ -282,14 +310,14 @@ open_first (O.Act action o) = []
 open_first (O.Try xs ys) = xs.items
 open_first (O.If q xs ys) = xs.items
 open_first (O.Repeat count most xs) = xs.items
-open_first (O.ForEach name parent most xs) = xs.items
+open_first (O.ForEach name index parent most xs) = xs.items
 
 abbrev open_second : {A B : Type 0} → StatementForm-F A B TextStatement → List TextStatement
 open_second (O.Act action o) = []
 open_second (O.Try xs ys) = ys.items
 open_second (O.If q xs ys) = ys.items
 open_second (O.Repeat count most xs) = []
-open_second (O.ForEach name parent most xs) = []
+open_second (O.ForEach name index parent most xs) = []
 
 abbrev first_block : StatementForm → List TextStatement
 first_block f = open_first (out-StatementForm f)
@@ -355,19 +383,19 @@ repeat_here n lt {names} k {a = a} count most xs e f (for_each us h i r m p c b 
 walk_descends : {index child parent turns : ℕ} {body whole : Statement} (n : ℕ) → n < child → IsVisiting index child parent turns body whole → descends_from body n ≡ descends_from whole n
 walk_descends {child = m} {body = body} n less (visiting opposite calculated then then) = sym (locking (descends_from body n) false (nat_eq m n) (other_register m n less))
 
-each_here : {outer : View} (n : ℕ) (lt : n < outer.nodes) {names : Names} (k : Knows outer names) {form : StatementForm} {a : Statement} {x : Bool} (child parent : Name) (most : TextExpression) (xs : Vec TextStatement Global) → form ≡ T.ForEach child parent most xs → Says outer n xs.items x → IsStatement names form a → x ≡ descends_from a n
+each_here : {outer : View} (n : ℕ) (lt : n < outer.nodes) {names : Names} (k : Knows outer names) {form : StatementForm} {a : Statement} {x : Bool} (child : Name) (index : Option Name) (parent : Name) (most : TextExpression) (xs : Vec TextStatement Global) → form ≡ T.ForEach child index parent most xs → Says outer n xs.items x → IsStatement names form a → x ≡ descends_from a n
 unfolding roll-StatementForm denote.Hole.Carrier.roll
-each_here n lt {names} k {a = a} of parent most xs e f (act is) = cc
-each_here n lt {names} k {a = a} of parent most xs e f (act_else is b t) = cc
-each_here n lt {names} k {a = a} of parent most xs e f (try us vs b c tried) = cc
-each_here n lt {names} k {a = a} of parent most xs e f (if us vs c b d) = cc
-each_here n lt {names} k {a = a} of parent most xs e f (if_lock us vs c b d) = cc
-each_here n lt {names} k {a = a} of parent most xs e f (repeat us h c b) = cc
-each_here n lt {names} k {a = a} of parent most xs e f (repeat_up_to us h i r m c b) = cc
-each_here n lt {names} k {a = a} of parent most xs e f (for_each {child = name} {parent = over} {most = limit} us {a = body} h fresh r m p c b v) =
-    let q : us.items ≡ xs.items = sym (ap open_first (out-roll-StatementForm (O.ForEach name over limit us))) ∙ ap first_block e ∙ ap open_first (out-roll-StatementForm (O.ForEach of parent most xs)) in
+each_here n lt {names} k {a = a} of there parent most xs e f (act is) = cc
+each_here n lt {names} k {a = a} of there parent most xs e f (act_else is b t) = cc
+each_here n lt {names} k {a = a} of there parent most xs e f (try us vs b c tried) = cc
+each_here n lt {names} k {a = a} of there parent most xs e f (if us vs c b d) = cc
+each_here n lt {names} k {a = a} of there parent most xs e f (if_lock us vs c b d) = cc
+each_here n lt {names} k {a = a} of there parent most xs e f (repeat us h c b) = cc
+each_here n lt {names} k {a = a} of there parent most xs e f (repeat_up_to us h i r m c b) = cc
+each_here n lt {names} k {a = a} of there parent most xs e f (for_each {child = name} {parent = over} {index = place} {most = limit} us {a = body} h fresh r m p c b v) =
+    let q : us.items ≡ xs.items = sym (ap open_first (out-roll-StatementForm (O.ForEach name place over limit us))) ∙ ap first_block e ∙ ap open_first (out-roll-StatementForm (O.ForEach of there parent most xs)) in
     let le = k.more in
-    f (with_node (with_unnamed (in_loop names)) name) body (knows_child name k fresh) (subst (λ z. IsBlock (with_node (with_unnamed (in_loop names)) name) z body) q b)
+    f (with_node (with_index (in_loop names) place) name) body (knows_child name place k fresh) (subst (λ z. IsBlock (with_node (with_index (in_loop names) place) name) z body) q b)
     ∙ walk_descends n (omega arith) v
 
 act_here : {outer : View} (n : ℕ) (lt : n < outer.nodes) {names : Names} (k : Knows outer names) {form : StatementForm} {a : Statement} {x y : Bool} (action : Action) (o : Option Otherwise) → form ≡ T.Act action o → ((a : Statement) → IsAction names action a → x ≡ descends_from a n)
@@ -402,10 +430,10 @@ repeat_descending n lt {names} k count most xs e f (here is) = repeat_here n lt 
 repeat_descending n lt {names} k count most xs e f (declared d) = cc
 repeat_descending n lt {names} k count most xs e f (declared_else d c) = cc
 
-pub each_descending : {outer : View} (n : ℕ) (lt : n < outer.nodes) {names : Names} (k : Knows outer names) {form : StatementForm} {b : Bool} {x : Bool} (child parent : Name) (most : TextExpression) (xs : Vec TextStatement Global) → form ≡ T.ForEach child parent most xs → Says outer n xs.items x → IsDescending names n form b → x ≡ b
-each_descending n lt {names} k of parent most xs e f (here is) = each_here n lt k of parent most xs e f is
-each_descending n lt {names} k of parent most xs e f (declared d) = cc
-each_descending n lt {names} k of parent most xs e f (declared_else d c) = cc
+pub each_descending : {outer : View} (n : ℕ) (lt : n < outer.nodes) {names : Names} (k : Knows outer names) {form : StatementForm} {b : Bool} {x : Bool} (child : Name) (index : Option Name) (parent : Name) (most : TextExpression) (xs : Vec TextStatement Global) → form ≡ T.ForEach child index parent most xs → Says outer n xs.items x → IsDescending names n form b → x ≡ b
+each_descending n lt {names} k of there parent most xs e f (here is) = each_here n lt k of there parent most xs e f is
+each_descending n lt {names} k of there parent most xs e f (declared d) = cc
+each_descending n lt {names} k of there parent most xs e f (declared_else d c) = cc
 
 pub act_descending : {outer : View} (n : ℕ) (lt : n < outer.nodes) {names : Names} (k : Knows outer names) {form : StatementForm} {b : Bool} {x y : Bool} (action : Action) (o : Option Otherwise) → form ≡ T.Act action o → (declares action ≡ true → x ≡ false) → ((a : Statement) → IsAction names action a → x ≡ descends_from a n)
     → ((b : Bool) → IsElseDescending names n o b → y ≡ b) → IsDescending names n form b → (x || y) ≡ b

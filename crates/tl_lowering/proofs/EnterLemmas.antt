@@ -250,18 +250,18 @@ nothing (Some e) = tt
 
 opened_step : (h : Before) (draft : Draft) (o : Opened) (flow : Flow) (items all : List Statement) → IsEnteringBinding h o.binding flow → o.earlier.items ≡ draft.statements.items
     → Ends (o ∷ reverse draft.opened.items) items all → IsStep draft h (entered_of flow) items all
-opened_step h draft o flow items all is earlier (last_open {rest = rest} {bound = bound} {placed = placed} j b at ends) =
+opened_step h draft o flow items all is earlier (last_open {rest = rest} {bound = bound} {at_offset = at_offset} j b at ends) =
     let whole : entered bound h ≡ then_by (entered_of flow).after (entered_of flow) (entered_all items) =
     binds_entered h b is.once
     ∙ next_same (binding_entered o.binding h) (entered rest) (entered_all items) (entered_halved j)
     ∙ ap (λ (z : Entered). then_by z.after z (entered_all items)) (sym is.paths) in
     record {
-      made = placed ∷ [];
-      becomes = subst (λ z. Ends (reverse draft.opened.items) (z ++ placed ∷ []) all) earlier ends;
+      made = at_offset ∷ [];
+      becomes = subst (λ z. Ends (reverse draft.opened.items) (z ++ at_offset ∷ []) all) earlier ends;
       once = λ k.
           let inside : IfSome (binding_entered o.binding h).after (AllEnterOnce items) = subst (λ (z : Entered). IfSome z.after (AllEnterOnce items)) is.paths k in
-          (binds_once h b is.once (once_next (binding_entered o.binding h).after (AllEnterOnce items) (EntersOnce rest) (once_halved j) inside), nothing (entered placed h).after);
-      paths = next_on (entered placed h) ∙ whole;
+          (binds_once h b is.once (once_next (binding_entered o.binding h).after (AllEnterOnce items) (EntersOnce rest) (once_halved j) inside), nothing (entered at_offset h).after);
+      paths = next_on (entered at_offset h) ∙ whole;
     }
 
 pub opened_entered : (e h : Before) (draft new : Draft) (x : Entered) (o : Opened) (flow : Flow) → x.after ≡ Some h → EntersSoFar e draft x → IsEnteringBinding h o.binding flow

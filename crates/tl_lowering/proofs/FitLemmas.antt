@@ -1,5 +1,5 @@
 -- What is read takes registers that there are, and its loops turn and don't nest too deep.
-use Rattle.std.proofs.Common.{◌≡◌, ℕ, ◌+◌, ◌/◌, ◌<◌, ◌≤◌, List, [], length, sym, subst, arith}
+use Rattle.std.proofs.Common.{◌≡◌, ℕ, ◌+◌, ◌/◌, ◌<◌, ◌≤◌, List, [], length, Option, sym, subst, arith}
 use Rattle.std.specs.Prelude.{max, nat_lt, false}
 use Rattle.std.specs.List.{All}
 use Rattle.std.proofs.lemmas.List.Elements.{All-nil, All-cons, All-head, All-push, All-take, All-drop}
@@ -23,14 +23,14 @@ use Rattle.tl_lowering.specs.declared.program.Procedure.{Procedure}
 use Rattle.tl_lowering.specs.declared.program.Statement.{Statement}
 use Rattle.tl_lowering.specs.declared.program.Statement.TheVariants as S
 use Rattle.tl_lowering.specs.Fit.{loops, AllTurn, AllSlots, HasBoth, IsWord, HasConditionRoom, HasRoom}
-use Rattle.tl_lowering.specs.Names.{Names, names_in, HasNode, in_loop, with_node, with_unnamed, with_place}
+use Rattle.tl_lowering.specs.Names.{Names, names_in, HasNode, in_loop, with_node, with_index, with_place}
 use Rattle.tl_lowering.specs.Naming.{IsCount, count, constant_count, IsPlace, node, child, pair, calculated, opposite, together, IsComparison, IsCondition, comparison, negation, conjunction, disjunction, then, IsHalved, none, one, more, AreEmits, no_emits, next_emit, IsAction, assigns, writes, emits, requires, descends, takes, frees, breaks, returns, fails}
 use Rattle.tl_lowering.specs.Outcomes.{fails as failures}
 use Rattle.tl_lowering.specs.Passing.{nothing_before, EntersOnce}
 use Rattle.tl_lowering.specs.Reading.{IsAtOffset, at, IsTried, tried, IsVisiting, visiting, IsBlock, block, AreStatements, no_more, next, let_rest, let_else, lock_rest, lock_else, IsStatement, act, act_else, try, if, if_lock, repeat, repeat_up_to, for_each, IsBody}
 use Rattle.tl_lowering.specs.Scopes.{View, is_in_loop}
 use Rattle.tl_lowering.specs.Sets.{none_held}
-use Rattle.tl_lowering.specs.Sound.{IsSound, IsInOrder}
+use Rattle.tl_lowering.specs.Sound.{IsWellFormed, IsInOrder}
 
 -- what is asked of a statement that stands where names are these
 pub record Fits (names : Names) (s : Statement) : Type 0 where
@@ -47,8 +47,8 @@ two x y = record { turns = (x.turns, y.turns); slots = (x.slots, y.slots); depth
 handled : {names : Names} {a b whole : Statement} → Fits names a → Fits names b → IsTried a b whole → Fits names whole
 handled x y tried = record { turns = (x.turns, y.turns); slots = (x.slots, y.slots); depth = omega (arith, x.depth, y.depth); room = (x.room, y.room) }
 
-placed : {names : Names} {offset : ℕ} {a b : Statement} → Fits names a → IsAtOffset offset a b → Fits names b
-placed x at = record { turns = x.turns; slots = x.slots; depth = x.depth; room = x.room }
+at_offset : {names : Names} {offset : ℕ} {a b : Statement} → Fits names a → IsAtOffset offset a b → Fits names b
+at_offset x at = record { turns = x.turns; slots = x.slots; depth = x.depth; room = x.room }
 
 choice : {p q : _} {names : Names} {c : Condition} {a b : Statement} → HasConditionRoom c names.values → Fits names a → Fits names b → Fits names (S.If' c p a q b)
 choice c x y = record { turns = (x.turns, y.turns); slots = (x.slots, y.slots); depth = omega (arith, x.depth, y.depth); room = (c, x.room, y.room) }
@@ -74,9 +74,10 @@ locking {names = names} {a = a} (pair new other room e f n has m second) x y =
     let first : names.nodes < NODE_REGISTERS = omega (arith, room) in
     record { turns = (x.turns, y.turns); slots = ((first, room), subst (AllSlots a) behind x.slots, y.slots); depth = omega (arith, x.depth, y.depth); room = ((has, second), x.room, y.room) }
 
-walk : {names : Names} (name : Name) {parent turns : ℕ} {body whole : Statement} → HasNode names → names.values + 2 ≤ VALUE_REGISTERS → 0 < turns → Fits (with_node (with_unnamed (in_loop names)) name) body
+walk : {names : Names} (name : Name) (index : Option Name) {parent turns : ℕ} {body whole : Statement} → HasNode names → names.values + 2 ≤ VALUE_REGISTERS → 0 < turns →
+    Fits (with_node (with_index (in_loop names) index) name) body
     → IsVisiting names.values names.nodes parent turns body whole → Fits names whole
-walk name room has lt x (visiting opposite calculated then then) = record {
+walk name index room has lt x (visiting opposite calculated then then) = record {
   turns = ((tt, tt), (lt, (tt, (x.turns, tt))));
   slots = ((tt, tt), (tt, (room, x.slots, tt)));
   depth = omega (arith, x.depth);
@@ -132,18 +133,18 @@ mutual
 
   in_statements : {names : Names} {xs : List TextStatement} {parts : List Statement} → names.loops ≤ MAX_DEPTH → AreStatements names xs parts → All (Fits names) parts
   in_statements {names} le no_more = All-nil (Fits names)
-  in_statements {names} le (next {b = b} {parts = parts} s a rest reached) = All-cons (Fits names) b parts (placed (in_statement le s) a) (in_statements le rest)
+  in_statements {names} le (next {b = b} {parts = parts} s a rest reached) = All-cons (Fits names) b parts (at_offset (in_statement le s) a) (in_statements le rest)
   in_statements {names} le (let_rest {a = a} f new room n has body o) =
       let x = in_block le body in
-      All-cons (Fits names) a [] (placed (record { turns = x.turns; slots = x.slots; depth = x.depth; room = (has, x.room) }) o) (All-nil (Fits names))
+      All-cons (Fits names) a [] (at_offset (record { turns = x.turns; slots = x.slots; depth = x.depth; room = (has, x.room) }) o) (All-nil (Fits names))
   in_statements {names} le (let_else {a = a} f new room n has other leaves body o) =
       let x = in_block le body in
       let y = in_block le other in
-      All-cons (Fits names) a [] (placed (record { turns = (x.turns, y.turns); slots = (x.slots, y.slots); depth = omega (arith, x.depth, y.depth); room = (has, x.room, y.room) }) o) (All-nil (Fits names))
+      All-cons (Fits names) a [] (at_offset (record { turns = (x.turns, y.turns); slots = (x.slots, y.slots); depth = omega (arith, x.depth, y.depth); room = (has, x.room, y.room) }) o) (All-nil (Fits names))
   in_statements {names} le (lock_rest {text = text} {a = a} f place body o) =
-      All-cons (Fits names) a [] (placed (locking place (in_block (beside names text le) body) (failing le)) o) (All-nil (Fits names))
+      All-cons (Fits names) a [] (at_offset (locking place (in_block (beside names text le) body) (failing le)) o) (All-nil (Fits names))
   in_statements {names} le (lock_else {text = text} {a = a} f place other leaves body o) =
-      All-cons (Fits names) a [] (placed (locking place (in_block (beside names text le) body) (in_block le other)) o) (All-nil (Fits names))
+      All-cons (Fits names) a [] (at_offset (locking place (in_block (beside names text le) body) (in_block le other)) o) (All-nil (Fits names))
 
   in_statement : {names : Names} {form : StatementForm} {s : Statement} → names.loops ≤ MAX_DEPTH → IsStatement names form s → Fits names s
   in_statement le (act a) = action le a
@@ -155,7 +156,7 @@ mutual
   in_statement le (repeat_up_to xs deep n has turn c a) =
       let x = in_block (omega (arith, deep)) a in
       record { turns = (may_turn c, x.turns); slots = x.slots; depth = omega (arith, x.depth); room = (has, turn, x.room) }
-  in_statement le (for_each {child = called} xs deep new room has e c a v) = walk called room has (may_turn c) (in_block (omega (arith, deep)) a) v
+  in_statement le (for_each {child = called} {index = index} xs deep new room has e c a v) = walk called index room has (may_turn c) (in_block (omega (arith, deep)) a) v
 
 -- ---- procedures
 
@@ -163,14 +164,14 @@ in_body : {names : Names} {text : TextProcedure} {s : Statement} → names.loops
 in_body le b = handled (handled (in_block le b.body_is) (in_block le b.handler_is) b.handled_is) (record { turns = tt; slots = tt; depth = omega arith; room = tt }) b.whole_is
 
 pub in_order : (scope : View) (text : TextProcedure) (p : Procedure) → p.arity ≡ scope.values → scope.values ≤ MAX_ARGS → scope.nodes ≡ 0 → scope.loops ≡ 0
-    → IsBody (names_in scope) text p.body → IsSound p.body scope.values scope.nodes none_held (is_in_loop scope) → failures p.body none_held ≡ [] → EntersOnce p.body nothing_before → IsWord p.name.items → IsInOrder p
+    → IsBody (names_in scope) text p.body → IsWellFormed p.body scope.values scope.nodes none_held (is_in_loop scope) → failures p.body none_held ≡ [] → EntersOnce p.body nothing_before → IsWord p.name.items → IsInOrder p
 in_order scope text p arity few nodes loops body sound handled enters name =
     let outside : scope.loops ≤ MAX_DEPTH = omega arith in
     let f = in_body outside body in
     record {
       sound =
-          subst (λ n. IsSound p.body n 0 none_held false) (sym arity)
-          (subst (λ n. IsSound p.body scope.values n none_held false) nodes (subst (λ n. IsSound p.body scope.values scope.nodes none_held (nat_lt 0 n)) loops sound));
+          subst (λ n. IsWellFormed p.body n 0 none_held false) (sym arity)
+          (subst (λ n. IsWellFormed p.body scope.values n none_held false) nodes (subst (λ n. IsWellFormed p.body scope.values scope.nodes none_held (nat_lt 0 n)) loops sound));
       handled = handled;
       few = omega arith;
       slots = subst (AllSlots p.body) nodes f.slots;

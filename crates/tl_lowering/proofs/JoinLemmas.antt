@@ -83,7 +83,7 @@ pub next_ending : (draft : Draft) (old new : List Opened) (last : Opened) (rest 
 next_ending draft old new last rest whole s e c =
     let f : reverse old ≡ last ∷ reverse new = ap reverse e ∙ reverse-append new (last ∷ []) in
     record {
-      parts = last.earlier.items ++ c.placed ∷ [];
+      parts = last.earlier.items ++ c.at_offset ∷ [];
       joined = c.joined;
       ends = λ all g. s.ends all (subst (λ os. Ends os s.parts all) (sym f) (last_open s.joined c.bound_is c.placed_is g));
     }

@@ -17,7 +17,7 @@ use Rattle.tl_lowering.specs.Paths.{Paths, nodes_of, known, paths_of, outcomes, 
 use Rattle.tl_lowering.specs.Repeating.{IsTurn, IsWalk}
 use Rattle.tl_lowering.specs.Scopes.{View, IsLowered, is_in_loop}
 use Rattle.tl_lowering.specs.Sets.{Nodes, holds, with_node, without_node, both, both_of, all_of}
-use Rattle.tl_lowering.specs.Sound.{IsReadable, IsTestable, IsSound, KeepsHeld}
+use Rattle.tl_lowering.specs.Sound.{IsReadable, IsTestable, IsWellFormed, KeepsHeld}
 use Rattle.tl_lowering.proofs.SetLemmas.{both_without, without_with, both_of_self, both_of_comm, both_of_assoc, all_of_append}
 use Rattle.tl_lowering.proofs.PathLemmas.{keeping_after}
 
@@ -110,7 +110,7 @@ pub walk : (p1 p2 p3 p4 p5 p6 : _) (c : _) (w : ℕ) (d m : ℕ) (h : Nodes) (in
     → IsPair turn (S.Assign x next) (S.Lock' (P.Child n parent (E.Value x)) p5 body p6 S.Break)
     → x ≡ d → n ≡ m → holds h n ≡ false → holds h parent ≡ true
     → IsTestable d h fits → condition_may_fail fits ≡ false → IsReadable (d + 1) h next → may_fail next ≡ true
-    → IsSound body (d + 1) (m + 1) (with_node h n) true → IfSome (keeping h (after body (with_node h n))) (λ k. k ≡ h)
+    → IsWellFormed body (d + 1) (m + 1) (with_node h n) true → IfSome (keeping h (after body (with_node h n))) (λ k. k ≡ h)
     → IsWalk d m h in_loop n body whole
 walk p1 p2 p3 p4 p5 p6 c w d m h in_loop x n parent fits next body turn whole wp tp xd nm empty has testable sure readable unsure sound kept = record {
   sound = wp.sound d m h in_loop (testable, tt, tt) (xd, tt, (subst (λ o. KeepsHeld o h) (sym turn_after) (given_up h n (after body inside) (keeping_after body inside) empty kept), turn_sound));
@@ -130,8 +130,8 @@ walk p1 p2 p3 p4 p5 p6 c w d m h in_loop x n parent fits next body turn whole wp
     turn_after : after turn h ≡ option_map (λ a. without_node a n) (both_of (after body inside) None)
     turn_after = ap (λ (q : Paths). q.after) turn_paths
 
-    turn_sound : IsSound turn (d + 1) m h true
-    turn_sound = tp.sound (d + 1) m h true (below, readable) ((empty, has, below), subst (λ k. IsSound body (d + 1) k inside true) (omega arith) sound, refl)
+    turn_sound : IsWellFormed turn (d + 1) m h true
+    turn_sound = tp.sound (d + 1) m h true (below, readable) ((empty, has, below), subst (λ k. IsWellFormed body (d + 1) k inside true) (omega arith) sound, refl)
       where
         below : x < d + 1
         below = omega arith
@@ -169,7 +169,7 @@ pub walk_of : (p1 p2 p3 p4 p5 p6 : _) (c : _) (w : ℕ) (d m : ℕ) (h : Nodes) 
     → skip ≡ S.Skip → fail ≡ S.Fail → turns ≡ S.Repeat' w p4 inner → inner ≡ turn → bodied ≡ body → broken ≡ S.Break
     → x ≡ d → n ≡ m → holds h n ≡ false → holds h parent ≡ true
     → IsTestable d h fits → condition_may_fail fits ≡ false → IsReadable (d + 1) h next → may_fail next ≡ true
-    → IsSound body (d + 1) (m + 1) (with_node h n) true → IfSome (keeping h (after body (with_node h n))) (λ k. k ≡ h)
+    → IsWellFormed body (d + 1) (m + 1) (with_node h n) true → IfSome (keeping h (after body (with_node h n))) (λ k. k ≡ h)
     → IsWalk d m h in_loop n body whole
 walk_of p1 p2 p3 p4 p5 p6 c w d m h in_loop x n parent fits next body turn whole skip fail turns inner bodied broken wp tp e1 e2 e3 e4 e5 e6 =
     walk p1 p2 p3 p4 p5 p6 c w d m h in_loop x n parent fits next body turn whole

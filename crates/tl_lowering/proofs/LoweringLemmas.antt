@@ -19,7 +19,7 @@ use Rattle.tl_lowering.specs.Outcomes.{may_fail, condition_may_fail, here_if, lo
 use Rattle.tl_lowering.specs.Paths.{Paths, nodes_of, known, paths_of, outcomes, on, nowhere, failing, failing_if, either, with_handler, keeping}
 use Rattle.tl_lowering.specs.Scopes.{View, IsInUse, IsAt, IsLowered, Extends, is_in_loop, forget}
 use Rattle.tl_lowering.specs.Sets.{Nodes, holds, with_node, both, both_of, all_of}
-use Rattle.tl_lowering.specs.Sound.{IsTestable, IsLockable, IsSound}
+use Rattle.tl_lowering.specs.Sound.{IsTestable, IsLockable, IsWellFormed}
 use Rattle.tl_lowering.proofs.BlockLemmas.{keeping_unlocked, next_nodes}
 use Rattle.tl_lowering.proofs.NamingLemmas.{free_locked}
 use Rattle.tl_lowering.proofs.PathLemmas.{keeping_after}
@@ -103,7 +103,7 @@ module _ (scope : View) (held : Held) (first second : Statement) (one other : Fl
       }
 
   pub chosen_lock : {p : _} {q : _} (place : Place) (kept flow : Flow) → IsAt scope held → IsLockable place scope.values (nodes_of held) → IsNext place scope.nodes
-      → IsSound first scope.values (nodes_more place scope.nodes) (locked place (nodes_of held)) (is_in_loop scope) → paths_of one ≡ outcomes first (locked place (nodes_of held)) → IsLowered scope held second other
+      → IsWellFormed first scope.values (nodes_more place scope.nodes) (locked place (nodes_of held)) (is_in_loop scope) → paths_of one ≡ outcomes first (locked place (nodes_of held)) → IsLowered scope held second other
       → paths_of kept ≡ record (paths_of one) { after = keeping (nodes_of held) (paths_of one).after } → paths_of flow ≡ either (paths_of kept) (paths_of other)
       → IsLowered scope held (S.Lock' place p first q second) flow
   chosen_lock {p} {q} place kept flow a lockable next s l m k f =
@@ -112,7 +112,7 @@ module _ (scope : View) (held : Held) (first second : Statement) (one other : Fl
       ap (both_of (keeping h (after first inside))) (sym (keeping_after second h)) ∙ sym (keeping_both h (after first inside) (after second h))
       ∙ sym (keeping_unlocked place scope.nodes h (both_of (after first inside) (after second h)) next a.nodes) ∙ keeping_after (S.Lock' place p first q second) h in
       record {
-        sound = (lockable, subst (λ n. IsSound first scope.values n inside (is_in_loop scope)) (next_nodes place scope.nodes next) s, m.sound);
+        sound = (lockable, subst (λ n. IsWellFormed first scope.values n inside (is_in_loop scope)) (next_nodes place scope.nodes next) s, m.sound);
         paths =
             f ∙ ap₂ either (k ∙ ap (λ (z : Paths). record z { after = keeping h z.after }) l) m.paths
             ∙ ap (λ z. record { after = z; fails = both_of (all_of (fails first inside)) (all_of (fails second h)); breaks = both_of (all_of (breaks first inside)) (all_of (breaks second h)) }) behind
@@ -127,7 +127,7 @@ handled_lowered scope held start body handler whole flow other both l e m w p =
     let h : Nodes = nodes_of held in
     let s : nodes_of start ≡ handled_by h (all_of (fails body h)) = e ∙ ap (λ (q : Paths). handled_by h q.fails) l.paths in
     record {
-      sound = w.sound scope.values scope.nodes h (is_in_loop scope) l.sound (subst (λ k. IsSound handler scope.values scope.nodes k (is_in_loop scope)) s m.sound);
+      sound = w.sound scope.values scope.nodes h (is_in_loop scope) l.sound (subst (λ k. IsWellFormed handler scope.values scope.nodes k (is_in_loop scope)) s m.sound);
       paths = p ∙ ap₂ with_handler l.paths (m.paths ∙ ap (outcomes handler) s) ∙ sym (w.paths h);
     }
 
@@ -189,7 +189,7 @@ chosen_if_of {p} {q} scope held first second one other c tested middle flow a b 
 
 pub chosen_lock_of : {p : _} {q : _} (scope : View) (held : Held) (first second : Statement) (one other : Flow) (place : Place) (kept flow : Flow) (a b : Statement) → a ≡ first → b ≡ second → IsAt scope held
     → IsLockable place scope.values (nodes_of held) → IsNext place scope.nodes
-    → IsSound first scope.values (nodes_more place scope.nodes) (locked place (nodes_of held)) (is_in_loop scope) → paths_of one ≡ outcomes first (locked place (nodes_of held)) → IsLowered scope held second other
+    → IsWellFormed first scope.values (nodes_more place scope.nodes) (locked place (nodes_of held)) (is_in_loop scope) → paths_of one ≡ outcomes first (locked place (nodes_of held)) → IsLowered scope held second other
     → paths_of kept ≡ record (paths_of one) { after = keeping (nodes_of held) (paths_of one).after } → paths_of flow ≡ either (paths_of kept) (paths_of other)
     → IsLowered scope held (S.Lock' place p a q b) flow
 chosen_lock_of {p} {q} scope held first second one other place kept flow a b e f at lockable next s l m x y =

@@ -9,7 +9,7 @@ use Rattle.tl_lowering.specs.declared.program.Place.{Place}
 use Rattle.tl_lowering.specs.declared.program.Place.TheVariants as P
 use Rattle.tl_lowering.specs.declared.program.Statement.{Statement}
 use Rattle.tl_lowering.specs.declared.program.Statement.TheVariants as S
-use Rattle.tl_lowering.specs.Blocks.{followed, then_of, outcomes_all, AreSound, IsNext, nodes_more, AreFree}
+use Rattle.tl_lowering.specs.Blocks.{followed, then_of, outcomes_all, AreWellFormed, IsNext, nodes_more, AreFree}
 use Rattle.tl_lowering.specs.Outcomes.{may_fail, condition_may_fail, here_if, locked}
 use Rattle.tl_lowering.specs.Paths.{Paths, nodes_of, paths_of, on, nowhere, failing, failing_if}
 use Rattle.tl_lowering.specs.Scopes.{View, IsLowered, is_in_loop}
@@ -63,7 +63,7 @@ emit_more p h e a = by p.after p.fails p.breaks (may_fail e) a
 
 -- the values so far, and where they lead
 pub record AreEmitted (scope : View) (held : Held) (emits : List Statement) (flow : Flow) : Type 0 where
-  pub sound : AreSound emits scope.values scope.nodes (nodes_of held) (is_in_loop scope)
+  pub sound : AreWellFormed emits scope.values scope.nodes (nodes_of held) (is_in_loop scope)
   pub after : (paths_of flow).after ≡ Some (nodes_of held)
   pub paths : paths_of flow ≡ outcomes_all emits (nodes_of held)
 
@@ -72,7 +72,7 @@ pub more_emitted : (scope : View) (held : Held) (emits : List Statement) (flow n
 more_emitted scope held emits flow next e b a r f p = record {
   sound =
       sound_append emits (S.Emit e ∷ []) scope.values scope.nodes (nodes_of held) (is_in_loop scope) a.sound
-      (subst (λ o. IfSome o (λ h. AreSound (S.Emit e ∷ []) scope.values scope.nodes h (is_in_loop scope))) (sym (sym (ap (λ (q : Paths). q.after) a.paths) ∙ a.after)) (r, tt));
+      (subst (λ o. IfSome o (λ h. AreWellFormed (S.Emit e ∷ []) scope.values scope.nodes h (is_in_loop scope))) (sym (sym (ap (λ (q : Paths). q.after) a.paths) ∙ a.after)) (r, tt));
   after = ap (λ (q : Paths). q.after) p ∙ same b (paths_of flow) ∙ a.after;
   paths =
       p ∙ ap (λ c. failing_if c (paths_of flow) (nodes_of held)) f ∙ emit_more (paths_of flow) (nodes_of held) e a.after

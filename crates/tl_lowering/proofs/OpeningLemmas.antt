@@ -60,12 +60,12 @@ nodes_opens {names} {later} {form} {l} {a} (Some (s, flow)) e g leaves (opening_
 
 -- ---- and with the rest of its block
 
-pub opens_rest : {names inner : Names} {s : TextStatement} {rest : List TextStatement} {b : Binding} {body bound placed : Statement} → Opens names s.form b inner
-    → IsBlock inner rest body → Binds b body bound → IsAtOffset s.offset bound placed → AreStatements names (s ∷ rest) (placed ∷ [])
-opens_rest {s = s} {body = body} {placed = placed} (opens_value {e = e} f g new room n has) k (binds_value {p = p}) a =
-    let_rest f new room n has k (subst (λ z. IsAtOffset s.offset (S.Let' z e p body) placed) g a)
-opens_rest {s = s} {body = body} {placed = placed} (opens_value_else {e = e} {other = other} f g new room n has o leaves) k (binds_value_else {p = p} {q = q}) a =
-    let_else f new room n has o leaves k (subst (λ z. IsAtOffset s.offset (S.LetElse' z e p body q other) placed) g a)
+pub opens_rest : {names inner : Names} {s : TextStatement} {rest : List TextStatement} {b : Binding} {body bound at_offset : Statement} → Opens names s.form b inner
+    → IsBlock inner rest body → Binds b body bound → IsAtOffset s.offset bound at_offset → AreStatements names (s ∷ rest) (at_offset ∷ [])
+opens_rest {s = s} {body = body} {at_offset = at_offset} (opens_value {e = e} f g new room n has) k (binds_value {p = p}) a =
+    let_rest f new room n has k (subst (λ z. IsAtOffset s.offset (S.Let' z e p body) at_offset) g a)
+opens_rest {s = s} {body = body} {at_offset = at_offset} (opens_value_else {e = e} {other = other} f g new room n has o leaves) k (binds_value_else {p = p} {q = q}) a =
+    let_else f new room n has o leaves k (subst (λ z. IsAtOffset s.offset (S.LetElse' z e p body q other) at_offset) g a)
 opens_rest (opens_nodes f h) k binds_nodes a = lock_rest f h k a
 opens_rest (opens_nodes_else f h o leaves) k binds_nodes a = lock_else f h o leaves k a
 

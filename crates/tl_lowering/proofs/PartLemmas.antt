@@ -28,7 +28,7 @@ use Rattle.tl_lowering.specs.declared.loops.Visit.{Visit}
 use Rattle.tl_lowering.specs.declared.program.Expression.{Expression}
 use Rattle.tl_lowering.specs.declared.scope.Meaning.TheVariants as M
 use Rattle.tl_lowering.specs.Registers.{behind, HasRegisters}
-use Rattle.tl_lowering.specs.Names.{Names, stands_for, IsNew, HasNode, HasLoop, in_loop, with_node, with_unnamed}
+use Rattle.tl_lowering.specs.Names.{Names, stands_for, AreFresh, HasNode, HasLoop, in_loop, with_node, with_index}
 use Rattle.tl_lowering.specs.Naming.{IsNumber, IsCount, IsAction}
 use Rattle.tl_lowering.specs.Reading.{Leaves, IsVisiting, IsAtOffset, IsBlock, block, AreStatements, no_more, next, IsStatement, act_else, try, if, if_lock, repeat, repeat_up_to, for_each}
 use Rattle.tl_lowering.specs.Paths.{known}
@@ -69,9 +69,9 @@ whole_part {names} {before = before} part f =
 pub plain_extended : {names later : Names} (s : TextStatement) (draft new : Draft) {a b : Statement} (flow : Flow) → (Leaves a → known flow.after ≡ None) → later ≡ names → IsStatement names s.form a → IsAtOffset s.offset a b
     → new.opened.items ≡ draft.opened.items → new.statements.items ≡ draft.statements.items ++ b ∷ []
     → (rest : List TextStatement) (items all : List Statement) → MayFollow flow rest → AreStatements later rest items → Becomes new items all → IsExtended names s rest draft all
-plain_extended s draft new {b = b} flow ends l st placed os ss rest items all may are becomes = record {
+plain_extended s draft new {b = b} flow ends l st at_offset os ss rest items all may are becomes = record {
   items = b ∷ items;
-  are = next st placed (subst (λ n. AreStatements n rest items) l are) (λ leaves. may (ends leaves));
+  are = next st at_offset (subst (λ n. AreStatements n rest items) l are) (λ leaves. may (ends leaves));
   becomes =
       subst (λ z. Ends (reverse draft.opened.items) z all) (ap (λ z. z ++ items) ss ∙ append_assoc draft.statements.items (b ∷ []) items)
       (subst (λ z. Ends (reverse z) (new.statements.items ++ items) all) os becomes);
@@ -79,10 +79,10 @@ plain_extended s draft new {b = b} flow ends l st placed os ss rest items all ma
 
 ends_last : {names inner : Names} (s : TextStatement) (draft : Draft) {o : Opened} (rest : List TextStatement) (items all : List Statement) → Opens names s.form o.binding inner
     → o.offset ≡ s.offset → o.earlier.items ≡ draft.statements.items → AreStatements inner rest items → Ends (o ∷ reverse draft.opened.items) items all → IsExtended names s rest draft all
-ends_last s draft rest items all op f earlier are (last_open {bound = bound} {placed = placed} j b there e) = record {
-  items = placed ∷ [];
-  are = opens_rest op (block are j) b (subst (λ n. IsAtOffset n bound placed) f there);
-  becomes = subst (λ z. Ends (reverse draft.opened.items) (z ++ placed ∷ []) all) earlier e;
+ends_last s draft rest items all op f earlier are (last_open {bound = bound} {at_offset = at_offset} j b there e) = record {
+  items = at_offset ∷ [];
+  are = opens_rest op (block are j) b (subst (λ n. IsAtOffset n bound at_offset) f there);
+  becomes = subst (λ z. Ends (reverse draft.opened.items) (z ++ at_offset ∷ []) all) earlier e;
 }
 
 pub opened_extended : {names inner : Names} (s : TextStatement) (draft new : Draft) (flow : Flow) (o : Opened) → Opens names s.form o.binding inner → o.offset ≡ s.offset
@@ -120,11 +120,13 @@ loop_up_to : {names : Names} {count most : TextExpression} {e : Expression} {w :
     → HasRegisters e names.values → behind e names.values + 1 ≤ VALUE_REGISTERS → IsCount names most.form w → IsBlock (in_loop names) xs.items a → IsTurning a (R.UpTo e w) whole → IsStatement names (T.Repeat count (Some most) xs) whole
 loop_up_to xs l n has more c b turning_up_to = repeat_up_to xs l n has more c b
 
-loop_children : {names : Names} {child parent : Name} {most : TextExpression} (xs : Vec TextStatement Global) {v : Visit} {a whole : Statement} → HasLoop names → IsNew names child → HasNode names → names.values + 2 ≤ VALUE_REGISTERS → v.name ≡ child → v.child ≡ names.nodes
+loop_children : {names : Names} {child parent : Name} {index : Option Name} {most : TextExpression} (xs : Vec TextStatement Global) {v : Visit} {a whole : Statement} → HasLoop names
+    → AreFresh names child index → HasNode names → names.values + 2 ≤ VALUE_REGISTERS → v.name ≡ child → v.index_name ≡ index → v.child ≡ names.nodes
     → v.index ≡ names.values → stands_for names parent ≡ M.Node v.parent → IsCount names most.form v.turns → IsBlock (names_within names (R.Children v)) xs.items a
-    → IsTurning a (R.Children v) whole → IsStatement names (T.ForEach child parent most xs) whole
-loop_children {names} {child} {parent} {most} xs {v} {a} {whole} l new room has n c i p t b (turning_children w) =
-    for_each xs l new room has p t (subst (λ z. IsBlock (with_node (with_unnamed (in_loop names)) z) xs.items a) n b)
+    → IsTurning a (R.Children v) whole → IsStatement names (T.ForEach child index parent most xs) whole
+loop_children {names} {child} {parent} {index} {most} xs {v} {a} {whole} l new room has n o c i p t b (turning_children w) =
+    let called : IsBlock (with_node (with_index (in_loop names) v.index_name) child) xs.items a = subst (λ z. IsBlock (with_node (with_index (in_loop names) v.index_name) z) xs.items a) n b in
+    for_each xs l new room has p t (subst (λ z. IsBlock (with_node (with_index (in_loop names) z) child) xs.items a) o called)
     (subst (λ z. IsVisiting z names.nodes v.parent v.turns a whole) i (subst (λ z. IsVisiting v.index z v.parent v.turns a whole) c w))
 
 pub repeated_statement : {names : Names} (count : TextExpression) (most : Option TextExpression) {r : Repetition} (xs : Vec TextStatement Global) {whole : Statement}
@@ -132,9 +134,9 @@ pub repeated_statement : {names : Names} (count : TextExpression) (most : Option
 repeated_statement count None xs (repeated_times d c) l = loop_times xs d c l.body_is l.whole_is
 repeated_statement count (Some most) xs (repeated_up_to d n has more c) l = loop_up_to xs d n has more c l.body_is l.whole_is
 
-pub visited_statement : {names : Names} {child parent : Name} {most : TextExpression} (xs : Vec TextStatement Global) {r : Repetition} {whole : Statement}
-    → IsVisited names child parent most.form r → IsLoop names r xs.items whole → IsStatement names (T.ForEach child parent most xs) whole
-visited_statement xs (visited d new room has n c i p t) l = loop_children xs d new room has n c i p t l.body_is l.whole_is
+pub visited_statement : {names : Names} {child parent : Name} {index : Option Name} {most : TextExpression} (xs : Vec TextStatement Global) {r : Repetition} {whole : Statement}
+    → IsVisited names child index parent most.form r → IsLoop names r xs.items whole → IsStatement names (T.ForEach child index parent most xs) whole
+visited_statement xs (visited d new room has n o c i p t) l = loop_children xs d new room has n o c i p t l.body_is l.whole_is
 
 pub forms_of : (r : Option (Bor TextExpression)) (m : Option TextExpression) → option_map (λ (e : Bor TextExpression). e.now) r ≡ m
     → option_map (λ (e : Bor TextExpression). e.now.form) r ≡ option_map (λ (e : TextExpression). e.form) m

@@ -10,8 +10,8 @@ use Rattle.tl_lowering.specs.declared.program.Statement.TheVariants as S
 use Rattle.tl_lowering.specs.Sets.{Nodes, with_node, without_node, both, both_of, all_of}
 use Rattle.tl_lowering.specs.Outcomes.{locked, unlocked, next, going_on, handled_by, after, fails, breaks}
 use Rattle.tl_lowering.specs.Paths.{Paths, outcomes, on, keeping}
-use Rattle.tl_lowering.specs.Blocks.{followed, then_of, outcomes_all, AreSound, IsSequence, IsSame, IsPair, IsAttempt}
-use Rattle.tl_lowering.specs.Sound.{IsSound}
+use Rattle.tl_lowering.specs.Blocks.{followed, then_of, outcomes_all, AreWellFormed, IsSequence, IsSame, IsPair, IsAttempt}
+use Rattle.tl_lowering.specs.Sound.{IsWellFormed}
 use Rattle.tl_lowering.proofs.SetLemmas.{both_self, within_trans, both_within, within_without, within_with, without_with, without_swap, both_of_none, both_of_assoc, all_of_append, keeping_self, keeping_both}
 
 -- ---- one after another
@@ -58,33 +58,33 @@ outcomes_append (x ∷ xs) ys held =
 
 -- ---- in order, one after another
 
-pub sound_append : (xs ys : List Statement) (d m : ℕ) (held : Nodes) (in_loop : Bool) → AreSound xs d m held in_loop
-    → IfSome (outcomes_all xs held).after (λ h. AreSound ys d m h in_loop) → AreSound (xs ++ ys) d m held in_loop
+pub sound_append : (xs ys : List Statement) (d m : ℕ) (held : Nodes) (in_loop : Bool) → AreWellFormed xs d m held in_loop
+    → IfSome (outcomes_all xs held).after (λ h. AreWellFormed ys d m h in_loop) → AreWellFormed (xs ++ ys) d m held in_loop
 sound_append [] ys d m held in_loop s t = t
 sound_append (x ∷ xs) ys d m held in_loop s t = (s.0, by (λ h. sound_append xs ys d m h in_loop) (after x held) s.1 t)
   where
-    by : ((h : Nodes) → AreSound xs d m h in_loop → IfSome (outcomes_all xs h).after (λ k. AreSound ys d m k in_loop) → AreSound (xs ++ ys) d m h in_loop)
-        → (o : Option Nodes) → IfSome o (λ h. AreSound xs d m h in_loop) → IfSome (followed o (outcomes x held) (outcomes_all xs)).after (λ h. AreSound ys d m h in_loop)
-        → IfSome o (λ h. AreSound (xs ++ ys) d m h in_loop)
+    by : ((h : Nodes) → AreWellFormed xs d m h in_loop → IfSome (outcomes_all xs h).after (λ k. AreWellFormed ys d m k in_loop) → AreWellFormed (xs ++ ys) d m h in_loop)
+        → (o : Option Nodes) → IfSome o (λ h. AreWellFormed xs d m h in_loop) → IfSome (followed o (outcomes x held) (outcomes_all xs)).after (λ h. AreWellFormed ys d m h in_loop)
+        → IfSome o (λ h. AreWellFormed (xs ++ ys) d m h in_loop)
     by more None s t = tt
     by more (Some h) s t = more h s t
 
-pub sound_first : (xs ys : List Statement) (d m : ℕ) (held : Nodes) (in_loop : Bool) → AreSound (xs ++ ys) d m held in_loop → AreSound xs d m held in_loop
+pub sound_first : (xs ys : List Statement) (d m : ℕ) (held : Nodes) (in_loop : Bool) → AreWellFormed (xs ++ ys) d m held in_loop → AreWellFormed xs d m held in_loop
 sound_first [] ys d m held in_loop s = tt
 sound_first (x ∷ xs) ys d m held in_loop s = (s.0, by (λ h. sound_first xs ys d m h in_loop) (after x held) s.1)
   where
-    by : ((h : Nodes) → AreSound (xs ++ ys) d m h in_loop → AreSound xs d m h in_loop) → (o : Option Nodes) → IfSome o (λ h. AreSound (xs ++ ys) d m h in_loop) → IfSome o (λ h. AreSound xs d m h in_loop)
+    by : ((h : Nodes) → AreWellFormed (xs ++ ys) d m h in_loop → AreWellFormed xs d m h in_loop) → (o : Option Nodes) → IfSome o (λ h. AreWellFormed (xs ++ ys) d m h in_loop) → IfSome o (λ h. AreWellFormed xs d m h in_loop)
     by more None s = tt
     by more (Some h) s = more h s
 
-pub sound_second : (xs ys : List Statement) (d m : ℕ) (held : Nodes) (in_loop : Bool) → AreSound (xs ++ ys) d m held in_loop
-    → IfSome (outcomes_all xs held).after (λ h. AreSound ys d m h in_loop)
+pub sound_second : (xs ys : List Statement) (d m : ℕ) (held : Nodes) (in_loop : Bool) → AreWellFormed (xs ++ ys) d m held in_loop
+    → IfSome (outcomes_all xs held).after (λ h. AreWellFormed ys d m h in_loop)
 sound_second [] ys d m held in_loop s = s
 sound_second (x ∷ xs) ys d m held in_loop s = by (λ h. sound_second xs ys d m h in_loop) (after x held) (all_of (fails x held)) (all_of (breaks x held)) s.1
   where
-    by : ((h : Nodes) → AreSound (xs ++ ys) d m h in_loop → IfSome (outcomes_all xs h).after (λ k. AreSound ys d m k in_loop))
-        → (o f b : Option Nodes) → IfSome o (λ h. AreSound (xs ++ ys) d m h in_loop)
-        → IfSome (then_of (record { after = o; fails = f; breaks = b }) (outcomes_all xs)).after (λ h. AreSound ys d m h in_loop)
+    by : ((h : Nodes) → AreWellFormed (xs ++ ys) d m h in_loop → IfSome (outcomes_all xs h).after (λ k. AreWellFormed ys d m k in_loop))
+        → (o f b : Option Nodes) → IfSome o (λ h. AreWellFormed (xs ++ ys) d m h in_loop)
+        → IfSome (then_of (record { after = o; fails = f; breaks = b }) (outcomes_all xs)).after (λ h. AreWellFormed ys d m h in_loop)
     by more None f b s = tt
     by more (Some h) f b s = more h s
 
@@ -120,12 +120,12 @@ sequence_both whole a b xs ys w s t = record {
       w.sound d m held in_loop (s.sound d m held in_loop (sound_first xs ys d m held in_loop h)) (second d m held in_loop (sound_second xs ys d m held in_loop h));
 }
   where
-    second : (d m : ℕ) (held : Nodes) (in_loop : Bool) → IfSome (outcomes_all xs held).after (λ h. AreSound ys d m h in_loop) → IfSome (after a held) (λ h. IsSound b d m h in_loop)
+    second : (d m : ℕ) (held : Nodes) (in_loop : Bool) → IfSome (outcomes_all xs held).after (λ h. AreWellFormed ys d m h in_loop) → IfSome (after a held) (λ h. IsWellFormed b d m h in_loop)
     second d m held in_loop h =
         let e : (outcomes_all xs held).after ≡ after a held = sym (ap (λ (p : Paths). p.after) (s.paths held)) in
-        by (after a held) (subst (λ o. IfSome o (λ h. AreSound ys d m h in_loop)) e h)
+        by (after a held) (subst (λ o. IfSome o (λ h. AreWellFormed ys d m h in_loop)) e h)
       where
-        by : (o : Option Nodes) → IfSome o (λ h. AreSound ys d m h in_loop) → IfSome o (λ h. IsSound b d m h in_loop)
+        by : (o : Option Nodes) → IfSome o (λ h. AreWellFormed ys d m h in_loop) → IfSome o (λ h. IsWellFormed b d m h in_loop)
         by None h = tt
         by (Some k) h = t.sound d m k in_loop h
 

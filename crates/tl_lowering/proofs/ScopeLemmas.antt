@@ -57,6 +57,7 @@ more_below : (t u m k : ℕ) (x : Meaning) → t ≤ u → m ≤ k → IsBelow t
 more_below t u m k M.Nothing a b h = tt
 more_below t u m k (M.Constant w) a b h = tt
 more_below t u m k (M.Value x) a b h = omega arith
+more_below t u m k (M.Index x) a b h = omega arith
 more_below t u m k (M.Node n) a b h = omega arith
 
 -- a name gets a meaning, which is no node that another name has
@@ -95,6 +96,9 @@ constant_in_use t m ms s w h = set_in_use t t m m ms s (M.Constant w) (omega ari
 
 pub value_in_use : (t m : ℕ) (ms : List Meaning) (s x : ℕ) → x ≡ t → AreInUse t m ms → AreInUse (t + 1) m (slice_set ms s (M.Value x))
 value_in_use t m ms s x e h = set_in_use t (t + 1) m m ms s (M.Value x) (omega arith) (omega arith) (omega arith) (λ n e. cc) h
+
+pub index_in_use : (t m : ℕ) (ms : List Meaning) (s x : ℕ) → x ≡ t → AreInUse t m ms → AreInUse (t + 1) m (slice_set ms s (M.Index x))
+index_in_use t m ms s x e h = set_in_use t (t + 1) m m ms s (M.Index x) (omega arith) (omega arith) (omega arith) (λ n e. cc) h
 
 pub node_in_use : (t m : ℕ) (ms : List Meaning) (s x : ℕ) → x ≡ m → AreInUse t m ms → AreInUse t (m + 1) (slice_set ms s (M.Node x))
 node_in_use t m ms s x w h = set_in_use t t m (m + 1) ms s (M.Node x) (omega arith) (omega arith) (omega arith) (λ n e. let f : x ≡ n = cc in omega arith) h

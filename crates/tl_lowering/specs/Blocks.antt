@@ -9,7 +9,7 @@ use Rattle.tl_lowering.specs.declared.program.Statement.{Statement}
 use Rattle.tl_lowering.specs.Sets.{Nodes, holds, both_of, all_of}
 use Rattle.tl_lowering.specs.Outcomes.{may_fail, locked, handled_by, after, fails}
 use Rattle.tl_lowering.specs.Paths.{Paths, outcomes, on, failing_if, with_handler, keeping}
-use Rattle.tl_lowering.specs.Sound.{IsReadable, IsLockable, IsSound}
+use Rattle.tl_lowering.specs.Sound.{IsReadable, IsLockable, IsWellFormed}
 
 -- the paths of what is done first, and then of what follows where control goes on
 abbrev pub followed : Option Nodes → Paths → (Nodes → Paths) → Paths
@@ -25,31 +25,31 @@ outcomes_all [] held = on held
 outcomes_all (s ∷ ss) held = then_of (outcomes s held) (outcomes_all ss)
 
 -- each is in order where the one before it leads
-abbrev pub AreSound : List Statement → ℕ → ℕ → Nodes → Bool → Type 0
-AreSound [] d m held in_loop = Unit {0}
-AreSound (s ∷ ss) d m held in_loop = IsSound s d m held in_loop × IfSome (after s held) (λ h. AreSound ss d m h in_loop)
+abbrev pub AreWellFormed : List Statement → ℕ → ℕ → Nodes → Bool → Type 0
+AreWellFormed [] d m held in_loop = Unit {0}
+AreWellFormed (s ∷ ss) d m held in_loop = IsWellFormed s d m held in_loop × IfSome (after s held) (λ h. AreWellFormed ss d m h in_loop)
 
 -- one statement that does these one after another
 pub record IsSequence (whole : Statement) (parts : List Statement) : Type 0 where
   pub paths : (held : Nodes) → outcomes whole held ≡ outcomes_all parts held
-  pub sound : (d m : ℕ) (held : Nodes) (in_loop : Bool) → AreSound parts d m held in_loop → IsSound whole d m held in_loop
+  pub sound : (d m : ℕ) (held : Nodes) (in_loop : Bool) → AreWellFormed parts d m held in_loop → IsWellFormed whole d m held in_loop
 
 -- the same statement, elsewhere in the text
 pub record IsSame (a b : Statement) : Type 0 where
   pub paths : (held : Nodes) → outcomes a held ≡ outcomes b held
-  pub sound : (d m : ℕ) (held : Nodes) (in_loop : Bool) → IsSound b d m held in_loop → IsSound a d m held in_loop
+  pub sound : (d m : ℕ) (held : Nodes) (in_loop : Bool) → IsWellFormed b d m held in_loop → IsWellFormed a d m held in_loop
 
 -- the first statement and then the second
 pub record IsPair (whole first second : Statement) : Type 0 where
   pub paths : (held : Nodes) → outcomes whole held ≡ then_of (outcomes first held) (outcomes second)
-  pub sound : (d m : ℕ) (held : Nodes) (in_loop : Bool) → IsSound first d m held in_loop → IfSome (after first held) (λ h. IsSound second d m h in_loop)
-      → IsSound whole d m held in_loop
+  pub sound : (d m : ℕ) (held : Nodes) (in_loop : Bool) → IsWellFormed first d m held in_loop → IfSome (after first held) (λ h. IsWellFormed second d m h in_loop)
+      → IsWellFormed whole d m held in_loop
 
 -- a statement with the handler of its failure
 pub record IsAttempt (whole body handler : Statement) : Type 0 where
   pub paths : (held : Nodes) → outcomes whole held ≡ with_handler (outcomes body held) (outcomes handler (handled_by held (all_of (fails body held))))
-  pub sound : (d m : ℕ) (held : Nodes) (in_loop : Bool) → IsSound body d m held in_loop → IsSound handler d m (handled_by held (all_of (fails body held))) in_loop
-      → IsSound whole d m held in_loop
+  pub sound : (d m : ℕ) (held : Nodes) (in_loop : Bool) → IsWellFormed body d m held in_loop → IsWellFormed handler d m (handled_by held (all_of (fails body held))) in_loop
+      → IsWellFormed whole d m held in_loop
 
 -- what a `let` or a `lock` leads to
 abbrev pub binding_paths : Binding → Nodes → Paths
@@ -66,9 +66,9 @@ IsNext (P.Pair n k p a b) m = (n ≡ m) × (k ≡ m + 1)
 -- a `let` or a `lock` is in order, and its `else` leaves the block
 abbrev pub IsBinding : Binding → ℕ → ℕ → Nodes → Bool → Type 0
 IsBinding (B.Value x e) d m held in_loop = (x ≡ d) × IsReadable d held e
-IsBinding (B.ValueElse x e o) d m held in_loop = (x ≡ d) × IsReadable d held e × IsSound o d m held in_loop × (after o held ≡ None)
+IsBinding (B.ValueElse x e o) d m held in_loop = (x ≡ d) × IsReadable d held e × IsWellFormed o d m held in_loop × (after o held ≡ None)
 IsBinding (B.Nodes place o) d m held in_loop =
-    IsLockable place d held × IsNext place m × IsSound o d m held in_loop × (after o held ≡ None)
+    IsLockable place d held × IsNext place m × IsWellFormed o d m held in_loop × (after o held ≡ None)
 
 abbrev pub values_with : Binding → ℕ → ℕ
 values_with (B.Value x e) d = d + 1
@@ -87,17 +87,17 @@ nodes_with (B.ValueElse x e o) m = m
 nodes_with (B.Nodes place o) m = nodes_more place m
 
 -- how many registers are in use at a place, and the paths that lead there
-pub record Reached : Type 0 where
+pub record Standing : Type 0 where
   pub values : ℕ
   pub nodes : ℕ
   pub paths : Paths
 
 -- where a block begins
-abbrev pub at_start : ℕ → ℕ → Nodes → Reached
+abbrev pub at_start : ℕ → ℕ → Nodes → Standing
 at_start d m held = record { values = d; nodes = m; paths = on held }
 
 -- behind the open declarations, of which the last comes first
-abbrev pub reached : List Opened → Reached → Reached
+abbrev pub reached : List Opened → Standing → Standing
 reached [] r = r
 reached (o ∷ outer) r =
     let u = reached outer r in
@@ -108,21 +108,21 @@ reached (o ∷ outer) r =
     }
 
 -- statements are in order where paths lead, if any leads there
-abbrev pub AreSoundAt : List Statement → Reached → Bool → Type 0
-AreSoundAt ss r in_loop = IfSome r.paths.after (λ h. AreSound ss r.values r.nodes h in_loop)
+abbrev pub AreWellFormedAt : List Statement → Standing → Bool → Type 0
+AreWellFormedAt ss r in_loop = IfSome r.paths.after (λ h. AreWellFormed ss r.values r.nodes h in_loop)
 
-abbrev pub IsSoundAt : Statement → Reached → Bool → Type 0
-IsSoundAt s r in_loop = IfSome r.paths.after (λ h. IsSound s r.values r.nodes h in_loop)
+abbrev pub IsWellFormedAt : Statement → Standing → Bool → Type 0
+IsWellFormedAt s r in_loop = IfSome r.paths.after (λ h. IsWellFormed s r.values r.nodes h in_loop)
 
-abbrev pub IsBindingAt : Binding → Reached → Paths → Bool → Type 0
+abbrev pub IsBindingAt : Binding → Standing → Paths → Bool → Type 0
 IsBindingAt b r p in_loop = IfSome p.after (λ h. IsBinding b r.values r.nodes h in_loop)
 
 -- the open declarations are in order, with what the block does before each
-abbrev pub AreOpen : List Opened → Reached → Bool → Type 0
+abbrev pub AreOpen : List Opened → Standing → Bool → Type 0
 AreOpen [] r in_loop = Unit {0}
 AreOpen (o ∷ outer) r in_loop =
     let u = reached outer r in
-    AreOpen outer r in_loop × AreSoundAt o.earlier.items u in_loop × IsBindingAt o.binding u (then_of u.paths (outcomes_all o.earlier.items)) in_loop
+    AreOpen outer r in_loop × AreWellFormedAt o.earlier.items u in_loop × IsBindingAt o.binding u (then_of u.paths (outcomes_all o.earlier.items)) in_loop
 
 -- the same paths, but for nodes that these don't contain
 pub record AreAlike (held : Nodes) (p q : Paths) : Type 0 where
@@ -139,10 +139,10 @@ pub record IsClosing (b : Binding) (rest whole : Statement) : Type 0 where
   pub paths : (d m : ℕ) (outer here : Nodes) (in_loop : Bool) → IsBinding b d m here in_loop → AreFree m outer
       → AreAlike outer (then_of (binding_paths b here) (outcomes rest)) (outcomes whole here)
   pub sound : (d m : ℕ) (here : Nodes) (in_loop : Bool) → IsBinding b d m here in_loop
-      → IfSome (binding_paths b here).after (λ h. IsSound rest (values_with b d) (nodes_with b m) h in_loop) → IsSound whole d m here in_loop
+      → IfSome (binding_paths b here).after (λ h. IsWellFormed rest (values_with b d) (nodes_with b m) h in_loop) → IsWellFormed whole d m here in_loop
 
 -- and so it is with what the block does before the declaration
 pub record Closes (o : Opened) (rest whole : Statement) : Type 0 where
-  pub paths : (r : Reached) (outer : Nodes) (in_loop : Bool) → AreOpen (o ∷ []) r in_loop → AreFree r.nodes outer
+  pub paths : (r : Standing) (outer : Nodes) (in_loop : Bool) → AreOpen (o ∷ []) r in_loop → AreFree r.nodes outer
       → AreAlike outer (then_of (reached (o ∷ []) r).paths (outcomes rest)) (then_of r.paths (outcomes whole))
-  pub sound : (r : Reached) (in_loop : Bool) → AreOpen (o ∷ []) r in_loop → IsSoundAt rest (reached (o ∷ []) r) in_loop → IsSoundAt whole r in_loop
+  pub sound : (r : Standing) (in_loop : Bool) → AreOpen (o ∷ []) r in_loop → IsWellFormedAt rest (reached (o ∷ []) r) in_loop → IsWellFormedAt whole r in_loop

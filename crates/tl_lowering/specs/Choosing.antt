@@ -20,7 +20,7 @@ use Rattle.tl_lowering.specs.declared.program.Statement.{Statement}
 use Rattle.tl_lowering.specs.declared.program.Statement.TheVariants as S
 use Rattle.tl_lowering.specs.declared.scope.Meaning.TheVariants as M
 use Rattle.tl_lowering.specs.Registers.{behind, HasRegisters}
-use Rattle.tl_lowering.specs.Names.{Names, stands_for, IsNew, HasNode, HasLoop, in_loop, with_unnamed, with_node}
+use Rattle.tl_lowering.specs.Names.{Names, stands_for, AreFresh, HasNode, HasLoop, in_loop, with_index, with_node}
 use Rattle.tl_lowering.specs.Naming.{IsNumber, IsCount, IsCondition, Locks, with_locking}
 use Rattle.tl_lowering.specs.Reading.{IsVisiting, IsBlock}
 
@@ -51,15 +51,16 @@ pub data IsRepeated (names : Names) (count : Form) : Option Form → Repetition 
       IsRepeated names count (Some most) (R.UpTo e w)
 
 -- the loop over the children of a node takes the next registers for a child and for its index
-pub data IsVisited (names : Names) (child parent : Name) (most : Form) : Repetition → Type 0 where
-  visited : {v : Visit} → HasLoop names → IsNew names child → HasNode names → names.values + 2 ≤ VALUE_REGISTERS → v.name ≡ child → v.child ≡ names.nodes →
-      v.index ≡ names.values → stands_for names parent ≡ M.Node v.parent → IsCount names most v.turns → IsVisited names child parent most (R.Children v)
+pub data IsVisited (names : Names) (child : Name) (index : Option Name) (parent : Name) (most : Form) : Repetition → Type 0 where
+  visited : {v : Visit} → HasLoop names → AreFresh names child index → HasNode names → names.values + 2 ≤ VALUE_REGISTERS → v.name ≡ child →
+      v.index_name ≡ index → v.child ≡ names.nodes → v.index ≡ names.values → stands_for names parent ≡ M.Node v.parent → IsCount names most v.turns →
+      IsVisited names child index parent most (R.Children v)
 
 -- what names stand for in the body
 abbrev pub names_within : Names → Repetition → Names
 names_within names (R.Times w) = in_loop names
 names_within names (R.UpTo e w) = in_loop names
-names_within names (R.Children v) = with_node (with_unnamed (in_loop names)) v.name
+names_within names (R.Children v) = with_node (with_index (in_loop names) v.index_name) v.name
 
 -- the loop with its body
 pub data IsTurning (body : Statement) : Repetition → Statement → Type 0 where

@@ -18,6 +18,7 @@ abbrev pub node_in : Meaning → Option ℕ
 node_in M.Nothing = None
 node_in (M.Constant w) = None
 node_in (M.Value x) = None
+node_in (M.Index x) = None
 node_in (M.Node n) = Some n
 
 abbrev pub is_in : Option ℕ → ℕ → Bool

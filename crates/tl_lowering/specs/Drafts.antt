@@ -84,18 +84,18 @@ pub data Binds : Binding → Statement → Statement → Type 0 where
 -- behind what the block does before it
 pub record Encloses (o : Opened) (rest whole : Statement) : Type 0 where
   pub bound : Statement
-  pub placed : Statement
+  pub at_offset : Statement
   pub bound_is : Binds o.binding rest bound
-  pub placed_is : IsAtOffset o.offset bound placed
-  pub joined : IsHalved whole (o.earlier.items ++ placed ∷ [])
+  pub placed_is : IsAtOffset o.offset bound at_offset
+  pub joined : IsHalved whole (o.earlier.items ++ at_offset ∷ [])
 
 -- ---- a block
 
 -- what a block becomes whose declarations are open, the last one first
 pub data Ends : List Opened → List Statement → List Statement → Type 0 where
   none_open : {items : List Statement} → Ends [] items items
-  last_open : {o : Opened} {outer : List Opened} {items all : List Statement} {rest bound placed : Statement} → IsHalved rest items →
-      Binds o.binding rest bound → IsAtOffset o.offset bound placed → Ends outer (o.earlier.items ++ placed ∷ []) all →
+  last_open : {o : Opened} {outer : List Opened} {items all : List Statement} {rest bound at_offset : Statement} → IsHalved rest items →
+      Binds o.binding rest bound → IsAtOffset o.offset bound at_offset → Ends outer (o.earlier.items ++ at_offset ∷ []) all →
       Ends (o ∷ outer) items all
 
 -- what the whole block becomes if these follow what was read

@@ -8,13 +8,13 @@ use Rattle.tl_lowering.specs.declared.lowering.Head.TheVariants as H
 use Rattle.tl_lowering.specs.declared.paths.Flow.{Flow}
 use Rattle.tl_lowering.specs.declared.paths.Held.{Held}
 use Rattle.tl_lowering.specs.declared.program.Statement.{Statement}
-use Rattle.tl_lowering.specs.Blocks.{then_of, outcomes_all, Reached, reached, AreSoundAt, AreOpen, nodes_more}
+use Rattle.tl_lowering.specs.Blocks.{then_of, outcomes_all, Standing, reached, AreWellFormedAt, AreOpen, nodes_more}
 use Rattle.tl_lowering.specs.Declaring.{IsNewValue, IsLocking}
 use Rattle.tl_lowering.specs.Outcomes.{locked}
 use Rattle.tl_lowering.specs.Paths.{Paths, nodes_of, outcomes, paths_of}
 use Rattle.tl_lowering.specs.Scopes.{View, IsLowered, is_in_loop}
 use Rattle.tl_lowering.specs.Sets.{Nodes}
-use Rattle.tl_lowering.specs.Sound.{IsTestable, IsSound}
+use Rattle.tl_lowering.specs.Sound.{IsTestable, IsWellFormed}
 
 -- what a declaration is about to declare is in order
 abbrev pub IsHead : View → Held → Head → Type 0
@@ -37,7 +37,7 @@ nodes_in (E.Lock locking) m = nodes_more locking.place m
 
 -- the first block of an `if` is in order, and where the paths through it lead
 pub record IsInside (scope : View) (held : Held) (entrance : Entrance) (statement : Statement) (flow : Flow) : Type 0 where
-  pub sound : IsSound statement scope.values (nodes_in entrance scope.nodes) (entered entrance (nodes_of held)) (is_in_loop scope)
+  pub sound : IsWellFormed statement scope.values (nodes_in entrance scope.nodes) (entered entrance (nodes_of held)) (is_in_loop scope)
   pub paths : paths_of flow ≡ outcomes statement (entered entrance (nodes_of held))
 
 -- an `else` that is in order and leaves the block
@@ -46,15 +46,15 @@ pub record IsRefusal (scope : View) (held : Held) (statement : Statement) (flow 
   pub ends : (paths_of flow).after ≡ None
 
 -- where the part of a block that was read leads
-unfoldable pub behind_opened : Reached → Draft → Reached
+unfoldable pub behind_opened : Standing → Draft → Standing
 behind_opened start draft = reached (reverse draft.opened.items) start
 
-unfoldable pub behind_draft : Reached → Draft → Paths
+unfoldable pub behind_draft : Standing → Draft → Paths
 behind_draft start draft = then_of (behind_opened start draft).paths (outcomes_all draft.statements.items)
 
 -- the part of a block that was read is in order
-pub record IsDraft (start : Reached) (draft : Draft) (scope : View) : Type 0 where
+pub record IsDraft (start : Standing) (draft : Draft) (scope : View) : Type 0 where
   pub opened : AreOpen (reverse draft.opened.items) start (is_in_loop scope)
-  pub statements : AreSoundAt draft.statements.items (behind_opened start draft) (is_in_loop scope)
+  pub statements : AreWellFormedAt draft.statements.items (behind_opened start draft) (is_in_loop scope)
   pub values : (behind_opened start draft).values ≡ scope.values
   pub nodes : (behind_opened start draft).nodes ≡ scope.nodes

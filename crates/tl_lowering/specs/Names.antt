@@ -55,11 +55,11 @@ abbrev pub is_procedure : Names → Name → Bool
 is_procedure names name = get_or names.procedures name.symbol.0 false
 
 -- from here on the name stands for that
-abbrev pub meaning : Names → Name → Meaning → Names
-meaning names name m = record names { meanings = slice_set names.meanings name.symbol.0 m }
+abbrev pub with_meaning : Names → Name → Meaning → Names
+with_meaning names name m = record names { meanings = slice_set names.meanings name.symbol.0 m }
 
 abbrev pub with_constant : Names → Name → ℤ → Names
-with_constant names name number = meaning names name (M.Constant number)
+with_constant names name number = with_meaning names name (M.Constant number)
 
 abbrev pub with_field : Names → Name → Field → Names
 with_field names name field = record names { fields = slice_set names.fields name.symbol.0 (Some field) }
@@ -68,13 +68,21 @@ with_field names name field = record names { fields = slice_set names.fields nam
 abbrev pub with_procedure : Names → Name → Names
 with_procedure names name = record names { procedures = slice_set names.procedures name.symbol.0 true }
 
+-- the name, if there is one, stands for the place of a loop's child: a value that can't be assigned, in the next register
+abbrev pub meanings_with : Names → Option Name → List Meaning
+meanings_with names None = names.meanings
+meanings_with names (Some name) = slice_set names.meanings name.symbol.0 (M.Index names.values)
+
+abbrev pub with_index : Names → Option Name → Names
+with_index names index = record names { meanings = meanings_with names index; values = names.values + 1 }
+
 -- a value without a name takes the next register
 abbrev pub with_unnamed : Names → Names
 with_unnamed names = record names { values = names.values + 1 }
 
 -- the name stands for a value in the next register
 abbrev pub with_value : Names → Name → Names
-with_value names name = record (meaning names name (M.Value names.values)) { values = names.values + 1 }
+with_value names name = record (with_meaning names name (M.Value names.values)) { values = names.values + 1 }
 
 abbrev pub with_values : Names → List Name → Names
 with_values names [] = names
@@ -91,10 +99,15 @@ AreNew names (name ∷ others) = IsNew names name × AreNew (with_value names na
 
 -- the name owns a node in the next register
 abbrev pub with_node : Names → Name → Names
-with_node names name = record (meaning names name (M.Node names.nodes)) { nodes = names.nodes + 1 }
+with_node names name = record (with_meaning names name (M.Node names.nodes)) { nodes = names.nodes + 1 }
 
 -- the names of what is locked
 abbrev pub with_place : Names → Place → Names
 with_place names (P.Node name offset number) = with_node names name
 with_place names (P.Child child) = with_node names child.name
 with_place names (P.Pair first second) = with_node (with_node names first.name) second.name
+
+-- the names of a loop's child and of its place are free, and differ
+abbrev pub AreFresh : Names → Name → Option Name → Type 0
+AreFresh names child None = IsNew names child
+AreFresh names child (Some index) = IsNew names child × IsNew (with_node names child) index

@@ -43,6 +43,7 @@ pub data IsNumber (names : Names) : Form → Expression → Type 0 where
   number : {w : ℤ} → IsNumber names (F.Number w) (E.Constant w)
   constant : {name : Name} {w : ℤ} → stands_for names name ≡ M.Constant w → IsNumber names (F.Named name) (E.Constant w)
   value : {name : Name} {x : ℕ} → stands_for names name ≡ M.Value x → IsNumber names (F.Named name) (E.Value x)
+  index : {name : Name} {x : ℕ} → stands_for names name ≡ M.Index x → IsNumber names (F.Named name) (E.Value x)
   field : {node field : Name} {n f : ℕ} → stands_for names node ≡ M.Node n → field_named names field ≡ Some f →
       IsNumber names (F.Field node field) (E.Field n f)
   children : {node : Name} {n : ℕ} → stands_for names node ≡ M.Node n → IsNumber names (F.Children node) (E.Children n)

@@ -1,5 +1,5 @@
 -- Blocks, procedures and texts, and their core forms.
-use Rattle.std.specs.Prelude.{◌≡◌, ◌≤◌, ◌+◌, ℕ, List, [], ◌∷◌, false, Some, None, length, get_or, ℤ, pos, neg_ℤ}
+use Rattle.std.specs.Prelude.{◌≡◌, ◌≤◌, ◌+◌, ℕ, List, [], ◌∷◌, false, Option, Some, None, length, get_or, ℤ, pos, neg_ℤ}
 use Rattle.std.specs.declared.vec.Vec.{Vec}
 use Rattle.std.specs.declared.alloc.Global.{Global}
 use Rattle.tl_syntax.specs.declared.operator.Operator.TheVariants as O
@@ -32,7 +32,7 @@ use Rattle.tl_lowering.specs.declared.scope.Meaning.TheVariants as M
 use Rattle.tl_lowering.specs.Outcomes.{after}
 use Rattle.tl_lowering.specs.Sets.{Nodes}
 use Rattle.tl_lowering.specs.Registers.{behind, HasTemporaries, HasRegisters}
-use Rattle.tl_lowering.specs.Names.{Names, without_meaning, stands_for, IsNew, HasNode, HasValue, HasLoop, in_loop, with_constant, with_field, is_procedure, with_procedure, with_unnamed, with_value, with_values, AreNew, field_named, with_node, with_place}
+use Rattle.tl_lowering.specs.Names.{Names, without_meaning, stands_for, IsNew, HasNode, HasValue, HasLoop, in_loop, with_constant, with_field, is_procedure, with_procedure, with_index, with_value, with_values, AreNew, AreFresh, field_named, with_node, with_place}
 use Rattle.tl_lowering.specs.Naming.{IsCalculated, IsNumber, IsCount, IsNot, IsCondition, IsPlace, IsAction, IsThen, IsHalved}
 
 -- a statement that stands in the text at that offset
@@ -106,10 +106,11 @@ mutual
         {a : Statement} → HasLoop names → IsNumber names number.form e → HasRegisters e names.values →
         behind e names.values + 1 ≤ VALUE_REGISTERS → IsCount names most.form turns → IsBlock (in_loop names) xs.items a →
         IsStatement names (T.Repeat number (Some most) xs) (S.RepeatUpTo' e turns p a)
-    for_each : {names : Names} {child parent : Name} {most : TextExpression} (xs : Vec TextStatement Global) {n turns : ℕ}
-        {a whole : Statement} → HasLoop names → IsNew names child → HasNode names → names.values + 2 ≤ VALUE_REGISTERS → stands_for names parent ≡ M.Node n →
-        IsCount names most.form turns → IsBlock (with_node (with_unnamed (in_loop names)) child) xs.items a → IsVisiting names.values names.nodes n turns a whole →
-        IsStatement names (T.ForEach child parent most xs) whole
+    -- the child's place is in the next value register, whether it has a name or not
+    for_each : {names : Names} {child parent : Name} {index : Option Name} {most : TextExpression} (xs : Vec TextStatement Global) {n turns : ℕ}
+        {a whole : Statement} → HasLoop names → AreFresh names child index → HasNode names → names.values + 2 ≤ VALUE_REGISTERS → stands_for names parent ≡ M.Node n →
+        IsCount names most.form turns → IsBlock (with_node (with_index (in_loop names) index) child) xs.items a → IsVisiting names.values names.nodes n turns a whole →
+        IsStatement names (T.ForEach child index parent most xs) whole
 
 -- what isn't handled by its `else` ends a procedure
 pub record IsBody (names : Names) (text : TextProcedure) (whole : Statement) : Type 0 where

@@ -1,5 +1,5 @@
 -- What a loop repeats.
-use Rattle.std.specs.Prelude.{◌≡◌, ℕ, ◌+◌, ◌≤◌, Bool, true, false, Some, None, IfSome}
+use Rattle.std.specs.Prelude.{◌≡◌, ◌≢◌, ℕ, ◌+◌, ◌≤◌, Bool, true, false, Some, None, IfSome}
 use Rattle.tl_instr.specs.declared.operand.TheConstants.{VALUE_REGISTERS}
 use Rattle.tl_lowering.specs.declared.loops.Repetition.{Repetition}
 use Rattle.tl_lowering.specs.declared.loops.Repetition.TheVariants as R
@@ -12,11 +12,12 @@ use Rattle.tl_lowering.specs.Outcomes.{after, fails, breaks}
 use Rattle.tl_lowering.specs.Paths.{nodes_of, paths_of, outcomes, keeping}
 use Rattle.tl_lowering.specs.Scopes.{View, meaning_of}
 use Rattle.tl_lowering.specs.Sets.{Nodes, holds, with_node, without_node, both_of, all_of}
-use Rattle.tl_lowering.specs.Sound.{IsReadable, IsSound}
+use Rattle.tl_lowering.specs.Sound.{IsReadable, IsWellFormed}
 
--- the child's name stands for nothing yet, its register and that of its number are the next ones, and its parent is held
+-- the names of the child and of its place stand for nothing yet and differ, their registers are the next ones, and the child's parent is held
 pub record IsVisit (scope : View) (held : Held) (v : Visit) : Type 0 where
   pub name : meaning_of scope v.name.symbol ≡ M.Nothing
+  pub index_name : IfSome v.index_name (λ n. (meaning_of scope n.symbol ≡ M.Nothing) × (n.symbol.0 ≢ v.name.symbol.0))
   pub child : v.child ≡ scope.nodes
   pub index : v.index ≡ scope.values
   pub room : scope.values + 2 ≤ VALUE_REGISTERS
@@ -52,7 +53,7 @@ more_in (R.Children v) n = n + 1
 
 -- a body that is in order, and that holds at its end what was held before it
 pub record IsBody (d m : ℕ) (held : Nodes) (repetition : Repetition) (body : Statement) : Type 0 where
-  pub sound : IsSound body (more_in repetition d) (more_in repetition m) (begun repetition held) true
+  pub sound : IsWellFormed body (more_in repetition d) (more_in repetition m) (begun repetition held) true
   pub kept : IfSome (keeping held (after body (begun repetition held))) (λ h. h ≡ held)
 
 -- and where the paths through it lead
@@ -62,7 +63,7 @@ pub record IsTurn (d m : ℕ) (held : Nodes) (repetition : Repetition) (body : S
 
 -- a loop over all children: it may be left at each of them and behind the last, and it fails if there are too many
 pub record IsWalk (d m : ℕ) (held : Nodes) (in_loop : Bool) (child : ℕ) (body whole : Statement) : Type 0 where
-  pub sound : IsSound whole d m held in_loop
+  pub sound : IsWellFormed whole d m held in_loop
   pub paths : outcomes whole held ≡ record {
     after = keeping held (both_of (Some held) (all_of (breaks body (with_node held child))));
     fails = both_of (Some held) (all_of (fails body (with_node held child)));

@@ -10,13 +10,14 @@ use Rattle.tl_lowering.specs.declared.scope.Meaning.TheVariants as M
 use Rattle.tl_lowering.specs.declared.scope.Scope.{Scope}
 use Rattle.tl_lowering.specs.Blocks.{AreFree}
 use Rattle.tl_lowering.specs.Paths.{nodes_of, outcomes, paths_of}
-use Rattle.tl_lowering.specs.Sound.{IsSound}
+use Rattle.tl_lowering.specs.Sound.{IsWellFormed}
 
 -- a value has one of the first t registers, and a node one of the first m
 abbrev pub IsBelow : ℕ → ℕ → Meaning → Type 0
 IsBelow t m M.Nothing = Unit {0}
 IsBelow t m (M.Constant w) = Unit {0}
 IsBelow t m (M.Value x) = x < t
+IsBelow t m (M.Index x) = x < t
 IsBelow t m (M.Node n) = n < m
 
 -- what a scope says, wherever it lies in memory
@@ -75,5 +76,5 @@ pub record IsAt (scope : View) (held : Held) : Type 0 where
 
 -- a statement that is in order at a place, and where the paths through it lead
 pub record IsLowered (scope : View) (held : Held) (statement : Statement) (flow : Flow) : Type 0 where
-  pub sound : IsSound statement scope.values scope.nodes (nodes_of held) (is_in_loop scope)
+  pub sound : IsWellFormed statement scope.values scope.nodes (nodes_of held) (is_in_loop scope)
   pub paths : paths_of flow ≡ outcomes statement (nodes_of held)

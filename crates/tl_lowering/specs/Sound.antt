@@ -44,35 +44,35 @@ abbrev pub KeepsHeld : Option Nodes → Nodes → Type 0
 KeepsHeld end held = IfSome end (λ h. h ≡ held)
 
 -- The first d value registers are those of values, and m is a free node register. `in_loop` says whether a loop is around.
-abbrev pub IsSound : Statement → ℕ → ℕ → Nodes → Bool → Type 0
-IsSound S.Skip d m held in_loop = Unit {0}
-IsSound (S.Sequence' p a q b) d m held in_loop = IsSound a d m held in_loop × IfSome (after a held) (λ h. IsSound b d m h in_loop)
-IsSound (S.Assign v e) d m held in_loop = (v < d) × IsReadable d held e
-IsSound (S.Write n f e) d m held in_loop = (holds held n ≡ true) × IsReadable d held e
-IsSound (S.Emit e) d m held in_loop = IsReadable d held e
-IsSound (S.Free n) d m held in_loop = holds held n ≡ true
-IsSound (S.Descend n e) d m held in_loop = (holds held n ≡ true) × (holds held m ≡ false) × IsReadable d held e
-IsSound (S.Take n k) d m held in_loop = (n ≢ k) × (holds held n ≡ true) × (holds held k ≡ true)
-IsSound S.Break d m held in_loop = in_loop ≡ true
-IsSound S.Return d m held in_loop = Unit {0}
-IsSound S.Fail d m held in_loop = Unit {0}
-IsSound (S.If' c p a q b) d m held in_loop = IsTestable d held c × IsSound a d m held in_loop × IsSound b d m held in_loop
-IsSound (S.Let' v e p a) d m held in_loop = (v ≡ d) × IsReadable d held e × IsSound a (d + 1) m held in_loop
-IsSound (S.LetElse' v e p a q o) d m held in_loop =
-    (v ≡ d) × IsReadable d held e × IsSound a (d + 1) m held in_loop × IsSound o d m held in_loop
-IsSound (S.Lock' place p a q o) d m held in_loop =
-    IsLockable place d held × IsSound a d (nodes_behind place) (locked place held) in_loop × IsSound o d m held in_loop
-IsSound (S.Try' p a q b) d m held in_loop =
-    IsSound a d m held in_loop × IsSound b d m (handled_by held (all_of (fails a held))) in_loop
-IsSound (S.Repeat' w p a) d m held in_loop = KeepsHeld (after a held) held × IsSound a d m held true
-IsSound (S.RepeatUpTo' e w p a) d m held in_loop =
-    IsReadable d held e × KeepsHeld (after a held) held × IsSound a d m held true
-IsSound (S.At' offset p a) d m held in_loop = IsSound a d m held in_loop
+abbrev pub IsWellFormed : Statement → ℕ → ℕ → Nodes → Bool → Type 0
+IsWellFormed S.Skip d m held in_loop = Unit {0}
+IsWellFormed (S.Sequence' p a q b) d m held in_loop = IsWellFormed a d m held in_loop × IfSome (after a held) (λ h. IsWellFormed b d m h in_loop)
+IsWellFormed (S.Assign v e) d m held in_loop = (v < d) × IsReadable d held e
+IsWellFormed (S.Write n f e) d m held in_loop = (holds held n ≡ true) × IsReadable d held e
+IsWellFormed (S.Emit e) d m held in_loop = IsReadable d held e
+IsWellFormed (S.Free n) d m held in_loop = holds held n ≡ true
+IsWellFormed (S.Descend n e) d m held in_loop = (holds held n ≡ true) × (holds held m ≡ false) × IsReadable d held e
+IsWellFormed (S.Take n k) d m held in_loop = (n ≢ k) × (holds held n ≡ true) × (holds held k ≡ true)
+IsWellFormed S.Break d m held in_loop = in_loop ≡ true
+IsWellFormed S.Return d m held in_loop = Unit {0}
+IsWellFormed S.Fail d m held in_loop = Unit {0}
+IsWellFormed (S.If' c p a q b) d m held in_loop = IsTestable d held c × IsWellFormed a d m held in_loop × IsWellFormed b d m held in_loop
+IsWellFormed (S.Let' v e p a) d m held in_loop = (v ≡ d) × IsReadable d held e × IsWellFormed a (d + 1) m held in_loop
+IsWellFormed (S.LetElse' v e p a q o) d m held in_loop =
+    (v ≡ d) × IsReadable d held e × IsWellFormed a (d + 1) m held in_loop × IsWellFormed o d m held in_loop
+IsWellFormed (S.Lock' place p a q o) d m held in_loop =
+    IsLockable place d held × IsWellFormed a d (nodes_behind place) (locked place held) in_loop × IsWellFormed o d m held in_loop
+IsWellFormed (S.Try' p a q b) d m held in_loop =
+    IsWellFormed a d m held in_loop × IsWellFormed b d m (handled_by held (all_of (fails a held))) in_loop
+IsWellFormed (S.Repeat' w p a) d m held in_loop = KeepsHeld (after a held) held × IsWellFormed a d m held true
+IsWellFormed (S.RepeatUpTo' e w p a) d m held in_loop =
+    IsReadable d held e × KeepsHeld (after a held) held × IsWellFormed a d m held true
+IsWellFormed (S.At' offset p a) d m held in_loop = IsWellFormed a d m held in_loop
 
 -- A procedure's body is in order where its arguments alone are known and nothing is held, and handles each failure. It takes
 -- registers that there are, and its loops turn and don't nest too deep.
 pub record IsInOrder (p : Procedure) : Type 0 where
-  pub sound : IsSound p.body p.arity 0 none_held false
+  pub sound : IsWellFormed p.body p.arity 0 none_held false
   pub handled : fails p.body none_held ≡ []
   pub few : p.arity ≤ MAX_ARGS
   pub slots : AllSlots p.body 0

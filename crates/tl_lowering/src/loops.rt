@@ -1,17 +1,18 @@
 // Loops without their blocks, with registers in place of names.
 
-ghost use Rattle.std.specs.Prelude.{◌≡◌, ◌+◌, ◌<◌, Bool, true, None, option_map, IfOk, OnOk, IfSome};
+ghost use Rattle.std.specs.Prelude.{◌≡◌, ◌≢◌, ◌+◌, ◌<◌, Bool, true, None, option_map, IfOk, OnOk, IfSome};
 ghost use Rattle.std.specs.Borrow.{Bor};
 ghost use Rattle.tl_lowering.specs.declared.paths.Held.{Held};
 ghost use Rattle.tl_lowering.specs.Entering.{before_of, entered_at, entered_of, before_body, before_turns, IsEntering};
 ghost use Rattle.tl_lowering.specs.Choosing.{IsRepeated, IsVisited, names_within, IsTurning};
-ghost use Rattle.tl_lowering.specs.Names.{names_of};
+ghost use Rattle.tl_lowering.specs.Names.{names_of, AreFresh};
+ghost use Rattle.tl_lowering.specs.declared.scope.Meaning.TheVariants.{Nothing};
 ghost use Rattle.tl_lowering.specs.Passing.{walks, KeepsOut};
 ghost use Rattle.tl_lowering.specs.Reading.{IsVisiting};
 ghost use Rattle.tl_syntax.specs.declared.parsed.Expression.{Expression as TextExpression};
 ghost use Rattle.tl_lowering.specs.Paths.{nodes_of, passed_of, known, paths_of, keeping};
 ghost use Rattle.tl_lowering.specs.Repeating.{IsRepetition, IsVisit, IsBody, IsTurn, IsWalk, IsUnpassed, begun, passed_within, more_in};
-ghost use Rattle.tl_lowering.specs.Scopes.{View, view_of, IsInUse, IsAt, IsLowered, Extends};
+ghost use Rattle.tl_lowering.specs.Scopes.{View, view_of, meaning_of, IsInUse, IsAt, IsLowered, Extends};
 
 use crate::lowering::{Lowered, Lowering};
 use crate::paths::{Flow, Held, join};
@@ -26,6 +27,8 @@ use tl_syntax::{Operator, SyntaxFault, Wrong};
 #[derive(Clone, Copy)]
 pub struct Visit {
     pub name: Name,
+    /// The name of the child's place.
+    pub index_name: Option<Name>,
     pub child: NodeRegister,
     pub parent: NodeRegister,
     pub index: ValueRegister,
@@ -88,24 +91,41 @@ impl Lowering {
         Ok(Repetition::UpTo(number, self.scope.turns(at_most)?))
     }
 
+    // 276 if the name of a loop's child or that of its place is declared already.
+    fn check_names(&self, child: Name, index: Option<Name>) -> Result<(), SyntaxFault>
+        ensures named { OnOk result (AreFresh (names_of self.now.scope) child index) }
+        ensures child { OnOk result (meaning_of (view_of self.now.scope) child.symbol ≡ Nothing) }
+        ensures index { OnOk result (IfSome index (λ n. (meaning_of (view_of self.now.scope) n.symbol ≡ Nothing) × (n.symbol.0 ≢ child.symbol.0))) }
+    {
+        self.scope.check_new(child)?;
+        let Some(index) = index else {
+            return Ok(());
+        };
+        self.scope.check_new(index)?;
+        if index.symbol == child.symbol {
+            return Err(SyntaxFault::at(Wrong::Twice, index.offset));
+        }
+        Ok(())
+    }
+
     /// A loop over the children of a node: its registers, and how many turns it has at most. 275 to 277, 280, 281, 284 or 291 to
     /// 293 at the first part that is wrong.
     pub fn visit(
         &self,
-        names: (Name, Name),
+        names: (Name, Option<Name>, Name),
         at_most: &parsed::Expression,
         offset: usize,
         held: Held,
     ) -> Result<Repetition, SyntaxFault>
         requires { IsInUse (view_of self.now.scope) }
-        ensures named { IfOk result (IsVisited (names_of self.now.scope) names.0 names.1 at_most.now.form) }
+        ensures named { IfOk result (IsVisited (names_of self.now.scope) names.0 names.1 names.2 at_most.now.form) }
         ensures repetition { IfOk result (λ r. IsRepetition (view_of self.now.scope) held r) }
         ensures fresh { IfOk result (IsUnpassed (passed_of held)) }
         ensures depth { OnOk result (self.now.scope.loops < MAX_DEPTH) }
     {
         self.check_depth(offset)?;
-        let (name, parent) = names;
-        self.scope.check_new(name)?;
+        let (name, index_name, parent) = names;
+        self.check_names(name, index_name)?;
         let child = self.scope.next_node(0, name.offset)?;
         let index = self.scope.next_value(name.offset)?;
         check_registers(usize::from(self.scope.values) + 2, name.offset)?;
@@ -115,6 +135,7 @@ impl Lowering {
         }
         Ok(Repetition::Children(Visit {
             name,
+            index_name,
             child,
             parent: owner,
             index,
@@ -141,7 +162,7 @@ impl Lowering {
         let Repetition::Children(visit) = repetition else {
             return Ok(start);
         };
-        self.scope.add_value();
+        self.scope.declare_index(visit.index_name, visit.index)?;
         self.scope.declare_node(visit.name, visit.child)?;
         Ok(start.visiting(visit.parent).with(visit.child))
     }

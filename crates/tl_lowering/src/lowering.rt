@@ -3,7 +3,7 @@
 ghost use Rattle.std.specs.Prelude.{◌≡◌, ◌+◌, ◌<◌, ◌≤◌, IfOk, OnOk, IfSome, length, take, drop, List, Some, false};
 ghost use Rattle.std.specs.Vec.Iter.{into_iter_items, into_iter_len};
 ghost use Rattle.tl_budget.specs.declared.limits.TheConstants.{MAX_DEPTH};
-ghost use Rattle.tl_lowering.specs.Blocks.{IsSequence, IsSame, IsPair, IsAttempt, IsBinding, IsClosing, Closes, IsSoundAt, AreAlike, AreFree, Reached, then_of, binding_paths, values_with, nodes_with};
+ghost use Rattle.tl_lowering.specs.Blocks.{IsSequence, IsSame, IsPair, IsAttempt, IsBinding, IsClosing, Closes, IsWellFormedAt, AreAlike, AreFree, Standing, then_of, binding_paths, values_with, nodes_with};
 ghost use Rattle.tl_lowering.specs.Choosing.{IsEntered, names_behind, IsChosen, IsLoop};
 ghost use Rattle.tl_lowering.specs.Drafts.{opens, IsOpening, IsHeadOf, IsElse, IsElseOf, other_of, Opens, Binds, Encloses, Becomes, IsFinished, MayFollow, IsExtended, IsHandled};
 ghost use Rattle.tl_lowering.specs.Entering.{before_of, entered_of, is_break, IsEntering, IsEnteringHead, IsEnteringBinding, IsEnteringEntrance, entrance_entered, EntersSoFar};
@@ -193,7 +193,7 @@ impl Lowering {
     // The complete block.
     fn finished(&self, draft: Draft) -> Result<Statement, SyntaxFault>
         ensures named { IfOk result (IsFinished draft) }
-        ensures order { (start : Reached) (scope : View) (outer : Nodes) → IsDraft start draft scope → AreFree start.nodes outer → IfOk result (λ s. AreAlike outer (then_of start.paths (outcomes s)) (behind_draft start draft) × IsSoundAt s start (is_in_loop scope)) }
+        ensures order { (start : Standing) (scope : View) (outer : Nodes) → IsDraft start draft scope → AreFree start.nodes outer → IfOk result (λ s. AreAlike outer (then_of start.paths (outcomes s)) (behind_draft start draft) × IsWellFormedAt s start (is_in_loop scope)) }
     {
         let Draft {
             mut opened,
@@ -333,8 +333,8 @@ impl Lowering {
     ) -> Result<Flow, SyntaxFault>
         requires { IsAt (view_of self.old.scope) held }
         ensures named { IfOk result (λ f. (rest : List TextStatement) (items all : List CoreStatement) → MayFollow f rest → AreStatements (names_of self.new.scope) rest items → Becomes draft.new items all → IsExtended (names_of self.old.scope) statement.now rest draft.old all) }
-        ensures draft { (start : Reached) → IsDraft start draft.old (view_of self.old.scope) → (behind_draft start draft.old).after ≡ Some (nodes_of held) → OnOk result (IsDraft start draft.new (view_of self.new.scope)) }
-        ensures paths { (start : Reached) → (behind_draft start draft.old).after ≡ Some (nodes_of held) → IfOk result (λ f. behind_draft start draft.new ≡ then_of (behind_draft start draft.old) (λ h. paths_of f)) }
+        ensures draft { (start : Standing) → IsDraft start draft.old (view_of self.old.scope) → (behind_draft start draft.old).after ≡ Some (nodes_of held) → OnOk result (IsDraft start draft.new (view_of self.new.scope)) }
+        ensures paths { (start : Standing) → (behind_draft start draft.old).after ≡ Some (nodes_of held) → IfOk result (λ f. behind_draft start draft.new ≡ then_of (behind_draft start draft.old) (λ h. paths_of f)) }
         ensures entering { (e : Before) (x : Entered) → x.after ≡ Some (before_of held) → EntersSoFar e draft.old x → IfOk result (λ f. EntersSoFar e draft.new (then_by x.after x (λ h. entered_of f))) }
         ensures flow { OnOk result (draft.new.flow ≡ draft.old.flow) }
         ensures at { IfOk result (λ f. IfSome f.after (IsAt (view_of self.new.scope))) }
@@ -400,11 +400,13 @@ impl Lowering {
             }
             StatementForm::ForEach {
                 child,
+                index,
                 parent,
                 at_most,
                 body,
             } => {
-                let repetition = self.visit((*child, *parent), at_most, offset, held)?;
+                let names = (*child, *index, *parent);
+                let repetition = self.visit(names, at_most, offset, held)?;
                 self.turns(repetition, body, offset, held)
             }
         }

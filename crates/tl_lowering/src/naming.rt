@@ -163,7 +163,7 @@ impl Lowering {
     {
         let node = self.scope.node(name, held)?;
         if name.symbol == from.symbol {
-            return Err(SyntaxFault::at(Wrong::Kind, from.offset));
+            return Err(SyntaxFault::at(Wrong::SameNode, from.offset));
         }
         let other = self.scope.node(from, held)?;
         let flow = Flow::on(held.taking(node, other));

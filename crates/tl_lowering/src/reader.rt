@@ -10,7 +10,7 @@ ghost use Rattle.tl_lowering.specs.Passing.{nothing_before, EntersOnce};
 ghost use Rattle.tl_lowering.specs.Reading.{IsBody, IsProcedure, IsWithField, AreDeclared, IsProgram};
 ghost use Rattle.tl_lowering.specs.Scopes.{view_of, IsInUse, IsAt, IsBare, Extends, is_in_loop};
 ghost use Rattle.tl_lowering.specs.Sets.{none_held};
-ghost use Rattle.tl_lowering.specs.Sound.{IsSound, IsInOrder};
+ghost use Rattle.tl_lowering.specs.Sound.{IsWellFormed, IsInOrder};
 ghost use Rattle.tl_syntax.specs.Tokens.{spellings};
 
 use crate::lowering::Lowering;
@@ -65,7 +65,7 @@ impl Lowering {
         requires { IsAt (view_of self.old.scope) Held.NOTHING }
         ensures scope { OnOk result (view_of self.new.scope ≡ view_of self.old.scope) }
         ensures named { IfOk result (IsBody (names_of self.old.scope) procedure.now) }
-        ensures sound { IfOk result (λ s. IsSound s self.old.scope.values self.old.scope.nodes none_held (is_in_loop (view_of self.old.scope))) }
+        ensures sound { IfOk result (λ s. IsWellFormed s self.old.scope.values self.old.scope.nodes none_held (is_in_loop (view_of self.old.scope))) }
         ensures handled { IfOk result (λ s. fails s none_held ≡ []) }
         ensures enters { IfOk result (λ s. EntersOnce s nothing_before) }
     {

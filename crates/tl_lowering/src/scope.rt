@@ -1,9 +1,9 @@
 // What names stand for.
 
-ghost use Rattle.std.specs.Prelude.{◌≡◌, ◌+◌, ◌<◌, length, slice_set, take, drop, true, false, Some, None, IfOk, OnOk};
+ghost use Rattle.std.specs.Prelude.{◌≡◌, ◌+◌, ◌<◌, length, slice_set, take, drop, true, false, Some, None, IfOk, OnOk, IfSome};
 ghost use Rattle.tl_instr.specs.declared.operand.TheConstants.{VALUE_REGISTERS, NODE_REGISTERS};
 ghost use Rattle.tl_lowering.specs.declared.scope.Meaning.TheVariants.{Nothing, Value, Node};
-ghost use Rattle.tl_lowering.specs.Names.{names_of, without_meaning, stands_for, field_named, is_procedure, with_constant, with_field, with_procedure, with_unnamed, with_value, with_node};
+ghost use Rattle.tl_lowering.specs.Names.{names_of, without_meaning, stands_for, field_named, is_procedure, with_constant, with_field, with_procedure, with_unnamed, with_index, with_value, with_node};
 ghost use Rattle.tl_lowering.specs.Descending.{node_in};
 ghost use Rattle.tl_lowering.specs.Paths.{nodes_of};
 ghost use Rattle.tl_lowering.specs.Sets.{holds};
@@ -21,6 +21,8 @@ pub enum Meaning {
     Nothing,
     Constant(i32),
     Value(ValueRegister),
+    /// The place of a loop's child: a value that can't be assigned.
+    Index(ValueRegister),
     Node(NodeRegister),
 }
 
@@ -173,6 +175,30 @@ impl Scope {
         Ok(())
     }
 
+    /// From here on the name, if there is one, stands for the place of a loop's child. It is in `register`, which must be the next one.
+    pub fn declare_index(
+        &mut self,
+        name: Option<Name>,
+        register: ValueRegister,
+    ) -> Result<(), SyntaxFault>
+        requires { register ≡ self.old.values }
+        ensures in_use { OnOk result (IsInUse (view_of self.old) → IsInUse (view_of self.new)) }
+        ensures values { OnOk result (self.new.values ≡ self.old.values + 1) }
+        ensures nodes { OnOk result (self.new.nodes ≡ self.old.nodes) }
+        ensures loops { OnOk result (self.new.loops ≡ self.old.loops) }
+        ensures names { OnOk result ((outer : View) → IfSome name (λ n. meaning_of (view_of self.old) n.symbol ≡ Nothing) → Extends outer (view_of self.old) → Extends outer (view_of self.new)) }
+        ensures named { OnOk result (names_of self.new ≡ with_index (names_of self.old) name) }
+    {
+        let Some(name) = name else {
+            self.add_value();
+            return Ok(());
+        };
+        self.local.push(name.symbol)?;
+        self.set(name.symbol, Meaning::Index(register));
+        self.add_value();
+        Ok(())
+    }
+
     /// Adds a value without a name.
     pub fn add_value(&mut self)
         requires { self.old.values < VALUE_REGISTERS }
@@ -256,7 +282,7 @@ impl Scope {
     {
         match self.known(name)? {
             Meaning::Value(register) => Ok(register),
-            _ => Err(SyntaxFault::at(Wrong::Kind, name.offset)),
+            _ => Err(SyntaxFault::at(Wrong::NoValue, name.offset)),
         }
     }
 
@@ -268,7 +294,7 @@ impl Scope {
         match self.known(name)? {
             Meaning::Node(register) if held.holds(register) => Ok(register),
             Meaning::Node(_) => Err(SyntaxFault::at(Wrong::NotHeld, name.offset)),
-            _ => Err(SyntaxFault::at(Wrong::Kind, name.offset)),
+            _ => Err(SyntaxFault::at(Wrong::NoNode, name.offset)),
         }
     }
 

@@ -144,7 +144,8 @@ impl Scope {
         match self.known(name)? {
             Meaning::Constant(number) => Ok(Expression::Constant(number)),
             Meaning::Value(register) => Ok(Expression::Value(register)),
-            _ => Err(SyntaxFault::at(Wrong::Kind, offset)),
+            Meaning::Index(register) => Ok(Expression::Value(register)),
+            _ => Err(SyntaxFault::at(Wrong::NoNumber, offset)),
         }
     }
 
@@ -176,7 +177,7 @@ impl Scope {
                 let right = self.number(alloc, right, held)?;
                 calculated(alloc, *operator, left, right)
             }
-            _ => Err(SyntaxFault::at(Wrong::Kind, expression.offset)),
+            _ => Err(SyntaxFault::at(Wrong::NoNumber, expression.offset)),
         }
     }
 
@@ -259,7 +260,7 @@ impl Scope {
                 let second = negated(alloc, self.condition(alloc, second, held)?)?;
                 negated(alloc, both(alloc, first, second)?)
             }
-            _ => Err(SyntaxFault::at(Wrong::Kind, expression.offset)),
+            _ => Err(SyntaxFault::at(Wrong::NoCondition, expression.offset)),
         }
     }
 

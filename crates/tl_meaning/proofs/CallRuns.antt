@@ -19,11 +19,11 @@ use Rattle.tl_lowering.specs.Sets.{none_held}
 use Rattle.tl_lowering.specs.Outcomes.{after, fails, breaks}
 use Rattle.tl_compiler.specs.Statements.{Site, procedure_code}
 use Rattle.tl_meaning.specs.Calls.{DoesCall}
-use Rattle.tl_meaning.specs.Meaning.{Outcome, On, Breaks, Fails, Returns, Done, after_events, is_on, leave, meaning}
+use Rattle.tl_meaning.specs.Meaning.{Ending, On, Breaks, Fails, Returns, Done, after_events, is_on, leave, behaviour}
 use Rattle.tl_meaning.specs.Leading.{with_actions, Leads, Runs}
-use Rattle.tl_meaning.specs.Endings.{Agrees, IsSite, LeadsBy}
+use Rattle.tl_meaning.specs.Endings.{Mirrors, IsSite, LeadsBy}
 use Rattle.tl_compiler.specs.Among.{IsIn}
-use Rattle.tl_lowering.specs.Sound.{IsSound}
+use Rattle.tl_lowering.specs.Sound.{IsWellFormed}
 use Rattle.tl_meaning.specs.Told.{told}
 use Rattle.tl_meaning.proofs.Steps.{and_on, returns}
 use Rattle.tl_compiler.proofs.TailLemmas.{tail_whole}
@@ -72,7 +72,7 @@ module _ (arity : ℕ) (parents : List ℕ) (body : Statement) (ready : Runs (pr
   abbrev site : Site
   site = record { values = arity; nodes = 0; pad = λ held. 1; exit = None }
 
-  to_end : (from : Run) (o : Outcome) (s : State) (events : List Action) → LeadsBy (after body none_held) (fails body none_held) (breaks body none_held) code parents [] site 1 from o s events
+  to_end : (from : Run) (o : Ending) (s : State) (events : List Action) → LeadsBy (after body none_held) (fails body none_held) (breaks body none_held) code parents [] site 1 from o s events
       → let d = call_of (record { outcome = o; state = s; events = events }) in (u : State) × Leads from d.events (Ended u) × (u.records ≡ d.state.records)
   to_end from On s events l =
       let u = l.0 in
@@ -82,14 +82,14 @@ module _ (arity : ℕ) (parents : List ℕ) (body : Statement) (ready : Runs (pr
   to_end from Breaks s events l = let e = l.4 in cc
   to_end from Returns s events l = l
 
-  pub call_runs : IsSound body arity 0 none_held false → (args : List ℤ) (t : Records) → length args ≤ VALUE_REGISTERS → DoesCall (at_positions code) parents body args t
+  pub call_runs : IsWellFormed body arity 0 none_held false → (args : List ℤ) (t : Records) → length args ≤ VALUE_REGISTERS → DoesCall (at_positions code) parents body args t
   call_runs sound args t few =
       let s = start args t in
       let size = start_values args t few in
       let empty : Option Held = None in
-      let agrees : Agrees arity none_held s s = record { kept = kept_all arity s size; values = size; nodes = length-replicate NODE_REGISTERS empty; held = refl } in
+      let agrees : Mirrors arity none_held s s = record { kept = kept_all arity s size; values = size; nodes = length-replicate NODE_REGISTERS empty; held = refl } in
       let is_site : IsSite code [] site 1 = record { inside = tt; pads = λ h. omega arith; exits = λ e is. cc; sizes = λ e is. cc } in
-      let d = meaning parents body s in
+      let d = behaviour parents body s in
       let first : left (at_positions code) parents [] (length code - length code) s ≡ alone (at_positions code) parents args t = ap (λ p. left (at_positions code) parents [] p s) (omega arith) in
       let ends = to_end (left (at_positions code) parents [] (length code - length code) s) d.outcome d.state d.events
       (every_runs parents ready body none_held site (I.Return ∷ []) [] s s (tail_whole code) is_site sound agrees) in

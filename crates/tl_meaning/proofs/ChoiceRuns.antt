@@ -18,11 +18,11 @@ use Rattle.tl_compiler.specs.Numbers.{into_code}
 use Rattle.tl_lowering.specs.Sets.{Nodes, both_of, same}
 use Rattle.tl_lowering.specs.Outcomes.{may_fail, condition_may_fail, here_if, after, fails, breaks}
 use Rattle.tl_compiler.specs.Statements.{Site, Exit, way_out, direct, is_skip, joining_code, Second, second_by, held_behind, statement_code}
-use Rattle.tl_meaning.specs.Meaning.{Outcome, On, Breaks, Fails, Returns, with_both, opposite, both_true, number, truth, given, leaving, held_at, meaning}
+use Rattle.tl_meaning.specs.Meaning.{Ending, On, Breaks, Fails, Returns, with_both, opposite, both_true, number, truth, given, leaving, held_at, behaviour}
 use Rattle.tl_compiler.specs.Tails.{Tail}
 use Rattle.tl_meaning.specs.Leading.{Runs, from_label, IsInside, NumberLeads}
-use Rattle.tl_lowering.specs.Sound.{IsReadable, IsTestable, IsSound}
-use Rattle.tl_meaning.specs.Endings.{Agrees, IsSite, LeadsBy, StatementLeads}
+use Rattle.tl_lowering.specs.Sound.{IsReadable, IsTestable, IsWellFormed}
+use Rattle.tl_meaning.specs.Endings.{Mirrors, IsSite, LeadsBy, StatementLeads}
 use Rattle.tl_compiler.proofs.TailLemmas.{tail_further, tail_length}
 use Rattle.tl_meaning.proofs.Steps.{further_in}
 use Rattle.tl_compiler.proofs.Stretches.{tail_of_stretch}
@@ -36,7 +36,7 @@ use Rattle.tl_meaning.proofs.SimpleRuns.{held_size, further_site}
 use Rattle.tl_compiler.proofs.WayLemmas.{Keeps, keeps_first, keeps_second, keeps_itself}
 use Rattle.tl_meaning.proofs.WayRuns.{joined, second_runs, first_runs}
 
-pub testable_there : (d : Condition) {t : ℕ} {h : Nodes} {s u : State} → Agrees t h s u → IsTestable t h d → IsTestable t (held_at u) d
+pub testable_there : (d : Condition) {t : ℕ} {h : Nodes} {s u : State} → Mirrors t h s u → IsTestable t h d → IsTestable t (held_at u) d
 testable_there d {t} {h} {s} {u} a r = subst (λ g. IsTestable t g d) (sym (ap (map is_some) a.kept.nodes ∙ a.held)) r
 
 -- a condition of which no operation is part doesn't fail
@@ -89,7 +89,7 @@ pub second_bounds : {c : List Instr} {fs : List Frame} (b : Statement) (held : N
 second_bounds b held x kept k site (Some label) e = (omega arith, direct_bound b held x (length k) label site e)
 second_bounds b held x kept k site None e = (tail_length (tail_of_stretch (second_stretch None (is_skip b) (after b held) kept (statement_code b held x) k (statement_stretch b held x))), omega arith)
 
-pub agrees_fewer : {d e : ℕ} {h : Nodes} {s u : State} → d ≤ e → Agrees e h s u → Agrees d h s u
+pub agrees_fewer : {d e : ℕ} {h : Nodes} {s u : State} → d ≤ e → Mirrors e h s u → Mirrors d h s u
 agrees_fewer le a = record { kept = kept_below le a.kept; values = a.values; nodes = a.nodes; held = a.held }
 
 -- the site with so many values
@@ -101,7 +101,7 @@ site_of_values n site = record { inside = site.inside; pads = site.pads; exits =
 
 module _ (c : List Instr) (parents : List ℕ) where
   -- behind a statement in which more values have registers
-  pub fewer_values : (A : Option Nodes) (F B : List Nodes) (fs : List Frame) (x : Site) (n on : ℕ) → x.values ≤ n → (from : Run) (o : Outcome) (s : State) (events : List Action)
+  pub fewer_values : (A : Option Nodes) (F B : List Nodes) (fs : List Frame) (x : Site) (n on : ℕ) → x.values ≤ n → (from : Run) (o : Ending) (s : State) (events : List Action)
       → LeadsBy A F B c parents fs (with_values x n) on from o s events → LeadsBy A F B c parents fs x on from o s events
   fewer_values A F B fs x n on le from On s events l = (l.0, l.1, l.2, l.3, agrees_fewer le l.4)
   fewer_values A F B fs x n on le from Fails s events l = (l.0, l.1, l.2, l.3, agrees_fewer le l.4)
@@ -111,7 +111,7 @@ module _ (c : List Instr) (parents : List ℕ) where
 module _ {c : List Instr} (parents : List ℕ) (ready : Runs c) where
   -- where a value's number is made
   valued : (v : ℕ) (e : Expression) (held : Nodes) (x : Site) (f : ℕ) (k : List Instr) (fs : List Frame) (s u : State) → Tail c (into_code e v v f k) → f ≤ length k → IsInside c fs (length k)
-      → v ≡ x.values → IsReadable x.values held e → Agrees x.values held s u
+      → v ≡ x.values → IsReadable x.values held e → Mirrors x.values held s u
       → NumberLeads c parents fs v x.values f (length k) (from_label c parents fs (length (into_code e v v f k)) u) u (number parents e s)
   valued v e held x f k fs s u tail le inside same readable agrees =
       subst (λ t. NumberLeads c parents fs v t f (length k) (from_label c parents fs (length (into_code e v v f k)) u) u (number parents e s)) same
@@ -138,9 +138,9 @@ module _ {c : List Instr} (parents : List ℕ) (ready : Runs c) where
 
   let_by : (v : ℕ) (e : Expression) (a : Statement) → StatementRuns parents ready a → (held : Nodes) (x : Site) (k : List Instr) (fs : List Frame) (s u : State)
       → Tail c (let_body a v held x k) → IsSite c fs x (length k) → v < VALUE_REGISTERS
-      → v ≡ x.values → IsReadable x.values held e → IsSound a (v + 1) x.nodes held (is_some x.exit) → Agrees x.values held s u
+      → v ≡ x.values → IsReadable x.values held e → IsWellFormed a (v + 1) x.nodes held (is_some x.exit) → Mirrors x.values held s u
       → (from : Run) (n : Option ℤ) → number parents e s ≡ n → NumberLeads c parents fs v x.values (x.pad held) (length (let_body a v held x k)) from u n
-      → StatementLeads (after a held) (here_if (may_fail e) held ++ fails a held) (breaks a held) c parents fs x (length k) from (leaving (after a held) (given n s (λ y. meaning parents a (with_value s v y))))
+      → StatementLeads (after a held) (here_if (may_fail e) held ++ fails a held) (breaks a held) c parents fs x (length k) from (leaving (after a held) (given n s (λ y. behaviour parents a (with_value s v y))))
   let_by v e a runs held x k fs s u tail site lt same readable sound agrees from None f l =
       (l.0, held, in_left held (here_if (may_fail e) held) (fails a held) (here (may_fail e) held (may_fail_at parents e x.values s (subst (λ h. IsReadable x.values h e) (sym agrees.held) readable) f)), l.1, agrees_kept agrees l.2)
   let_by v e a runs held x k fs s u tail site lt same readable sound agrees from (Some n) f l =
@@ -148,9 +148,9 @@ module _ {c : List Instr} (parents : List ℕ) (ready : Runs c) where
       let rest = let_rest a held k in
       let t = with_value s v n in
       let there = from_label c parents fs (length (let_body a v held x k)) l.0 in
-      let agrees_then : Agrees (v + 1) held t l.0 = agrees_given agrees lt l.2 (λ i less ne. one_more v x.values i same less ne) in
+      let agrees_then : Mirrors (v + 1) held t l.0 = agrees_given agrees lt l.2 (λ i less ne. one_more v x.values i same less ne) in
       let long : length k ≤ length rest = tail_length (tail_of_stretch (joining_stretch (after a held) (held_behind (after a held)) false (length k) k)) in
-      let done = meaning parents a t in
+      let done = behaviour parents a t in
       let all = leaving (after a held) done in
       let inner = runs held y rest fs t l.0 tail (site_of_values (v + 1) (further_site (length k) (length rest) long site)) sound agrees_then in
       let ends = joined parents ready (after a held) (after a held) (held_behind (after a held)) (keeps_itself (after a held) (sizes a held (held_size agrees)).after) (fails a held) (breaks a held) y false (length k) k fs
@@ -162,16 +162,16 @@ module _ {c : List Instr} (parents : List ℕ) (ready : Runs c) where
   -- a value, in the statement behind it
   pub let_runs : (v : ℕ) (e : Expression) (a : Statement) → StatementRuns parents ready a → (held : Nodes) (x : Site) (k : List Instr) (fs : List Frame) (s u : State)
       → Tail c (into_code e v v (x.pad held) (let_body a v held x k)) → IsSite c fs x (length k)
-      → v ≡ x.values → IsReadable x.values held e → IsSound a (x.values + 1) x.nodes held (is_some x.exit) → Agrees x.values held s u
+      → v ≡ x.values → IsReadable x.values held e → IsWellFormed a (x.values + 1) x.nodes held (is_some x.exit) → Mirrors x.values held s u
       → StatementLeads (after a held) (here_if (may_fail e) held ++ fails a held) (breaks a held) c parents fs x (length k)
       (from_label c parents fs (length (into_code e v v (x.pad held) (let_body a v held x k))) u)
-      (leaving (after a held) (given (number parents e s) s (λ y. meaning parents a (with_value s v y))))
+      (leaving (after a held) (given (number parents e s) s (λ y. behaviour parents a (with_value s v y))))
   let_runs v e a runs held x k fs s u tail site same readable sound agrees =
       let body = let_body a v held x k in
       let long = let_long a v held x k in
       let le = site.pads held in
       let_by v e a runs held x k fs s u (tail_further tail (tail_of_stretch (into_stretch e v v (x.pad held) body))) site (into_range parents ready e v v (x.pad held) body tail) same readable
-      (subst (λ d. IsSound a (d + 1) x.nodes held (is_some x.exit)) (sym same) sound) agrees (from_label c parents fs (length (into_code e v v (x.pad held) body)) u) (number parents e s) refl
+      (subst (λ d. IsWellFormed a (d + 1) x.nodes held (is_some x.exit)) (sym same) sound) agrees (from_label c parents fs (length (into_code e v v (x.pad held) body)) u) (number parents e s) refl
       (valued v e held x (x.pad held) body fs s u tail (omega (arith, le, long)) (further_in c fs (length k) (length body) long site.inside) same readable agrees)
 
   -- ---- two ways
@@ -190,11 +190,11 @@ module _ {c : List Instr} (parents : List ℕ) (ready : Runs c) where
   -- one of two ways, by a choice that was made at a place
   pub way_runs : (a b : Statement) → StatementRuns parents ready a → StatementRuns parents ready b → (held hb : Nodes) (y x : Site) (whole : Option Nodes) → (kept : Nodes) → Keeps (after a held) whole kept → Keeps (after b hb) whole kept
       → (k : List Instr) (fs : List Frame) → Tail c (first_at a held y kept (second_at b hb x kept k) k) → IsSite c fs x (length k) → IsSite c fs y (length k)
-      → IsSound a y.values y.nodes held (is_some y.exit) → IsSound b x.values x.nodes hb (is_some x.exit)
-      → ((s u : State) → Agrees y.values held s u
-      → StatementLeads whole (fails a held) (breaks a held) c parents fs y (length k) (from_label c parents fs (length (first_at a held y kept (second_at b hb x kept k) k)) u) (leaving whole (meaning parents a s)))
-      × ((s u : State) → Agrees x.values hb s u
-      → StatementLeads whole (fails b hb) (breaks b hb) c parents fs x (length k) (from_label c parents fs (second_at b hb x kept k).label u) (leaving whole (meaning parents b s)))
+      → IsWellFormed a y.values y.nodes held (is_some y.exit) → IsWellFormed b x.values x.nodes hb (is_some x.exit)
+      → ((s u : State) → Mirrors y.values held s u
+      → StatementLeads whole (fails a held) (breaks a held) c parents fs y (length k) (from_label c parents fs (length (first_at a held y kept (second_at b hb x kept k) k)) u) (leaving whole (behaviour parents a s)))
+      × ((s u : State) → Mirrors x.values hb s u
+      → StatementLeads whole (fails b hb) (breaks b hb) c parents fs x (length k) (from_label c parents fs (second_at b hb x kept k).label u) (leaving whole (behaviour parents b s)))
   way_runs a b ones twos held hb y x whole kept keeps_a keeps_b k fs tail site_x site_y sound_a sound_b =
       let second = second_at b hb x kept k in
       let bounds = second_bounds b hb x kept k site_x (direct b hb x) refl in (
@@ -204,12 +204,12 @@ module _ {c : List Instr} (parents : List ℕ) (ready : Runs c) where
 
   else_by : (v : ℕ) (e : Expression) (a o : Statement) → StatementRuns parents ready a → StatementRuns parents ready o → (held : Nodes) (x : Site) (k : List Instr) (fs : List Frame) (s u : State)
       → Tail c (first_at a held (with_values x (v + 1)) (held_behind (both_of (after a held) (after o held))) (second_at o held x (held_behind (both_of (after a held) (after o held))) k) k) → IsSite c fs x (length k) → v < VALUE_REGISTERS
-      → v ≡ x.values → IsSound a (v + 1) x.nodes held (is_some x.exit) → IsSound o x.values x.nodes held (is_some x.exit) → Agrees x.values held s u
+      → v ≡ x.values → IsWellFormed a (v + 1) x.nodes held (is_some x.exit) → IsWellFormed o x.values x.nodes held (is_some x.exit) → Mirrors x.values held s u
       → (from : Run) (n : Option ℤ)
       → NumberLeads c parents fs v x.values (second_at o held x (held_behind (both_of (after a held) (after o held))) k).label
       (length (first_at a held (with_values x (v + 1)) (held_behind (both_of (after a held) (after o held))) (second_at o held x (held_behind (both_of (after a held) (after o held))) k) k)) from u n
       → StatementLeads (both_of (after a held) (after o held)) (fails a held ++ fails o held) (breaks a held ++ breaks o held) c parents fs x (length k) from
-      (leaving (both_of (after a held) (after o held)) (elim n [ Some y ↦ meaning parents a (with_value s v y) | None ↦ meaning parents o s ]))
+      (leaving (both_of (after a held) (after o held)) (elim n [ Some y ↦ behaviour parents a (with_value s v y) | None ↦ behaviour parents o s ]))
   else_by v e a o ones twos held x k fs s u tail site lt same sound_a sound_o agrees from None l =
       let whole = both_of (after a held) (after o held) in
       let kept = held_behind whole in
@@ -217,7 +217,7 @@ module _ {c : List Instr} (parents : List ℕ) (ready : Runs c) where
       let ways = way_runs a o ones twos held held (with_values x (v + 1)) x whole kept (keeps_first (after a held) (after o held) (sizes a held size).after (sizes o held size).after) (keeps_second (after a held) (after o held) (sizes a held size).after (sizes o held size).after)
       k fs tail site (site_of_values (v + 1) site) sound_a sound_o in
       let there = from_label c parents fs (second_at o held x kept k).label l.0 in
-      let all = leaving whole (meaning parents o s) in
+      let all = leaving whole (behaviour parents o s) in
       prefixed c parents whole (fails a held ++ fails o held) (breaks a held ++ breaks o held) fs x (length k) from there [] l.1 all.outcome all.state all.events
       (widened c parents whole (fails o held) (breaks o held) (fails a held ++ fails o held) (breaks a held ++ breaks o held) fs x (length k) there (λ h m. in_right h (fails a held) (fails o held) m) (λ h m. in_right h (breaks a held) (breaks o held) m) all.outcome all.state all.events
       (ways.1 s l.0 (agrees_kept agrees l.2)))
@@ -230,18 +230,18 @@ module _ {c : List Instr} (parents : List ℕ) (ready : Runs c) where
       let ways = way_runs a o ones twos held held y x whole kept (keeps_first (after a held) (after o held) (sizes a held size).after (sizes o held size).after) (keeps_second (after a held) (after o held) (sizes a held size).after (sizes o held size).after)
       k fs tail site (site_of_values (v + 1) site) sound_a sound_o in
       let there = from_label c parents fs (length (first_at a held y kept (second_at o held x kept k) k)) l.0 in
-      let agrees_then : Agrees (v + 1) held t l.0 = agrees_given agrees lt l.2 (λ i less ne. one_more v x.values i same less ne) in
-      let all = leaving whole (meaning parents a t) in
+      let agrees_then : Mirrors (v + 1) held t l.0 = agrees_given agrees lt l.2 (λ i less ne. one_more v x.values i same less ne) in
+      let all = leaving whole (behaviour parents a t) in
       prefixed c parents whole (fails a held ++ fails o held) (breaks a held ++ breaks o held) fs x (length k) from there [] l.1 all.outcome all.state all.events
       (widened c parents whole (fails a held) (breaks a held) (fails a held ++ fails o held) (breaks a held ++ breaks o held) fs x (length k) there (λ h m. in_left h (fails a held) (fails o held) m) (λ h m. in_left h (breaks a held) (breaks o held) m) all.outcome all.state all.events
       (fewer_values c parents whole (fails a held) (breaks a held) fs x (v + 1) (length k) (omega (arith, same)) there all.outcome all.state all.events (ways.0 t l.0 agrees_then)))
 
   pub else_runs : (v : ℕ) (e : Expression) (a o : Statement) → StatementRuns parents ready a → StatementRuns parents ready o → (held : Nodes) (x : Site) (k : List Instr) (fs : List Frame) (s u : State)
       → Tail c (into_code e v v (second_at o held x (held_behind (both_of (after a held) (after o held))) k).label (first_at a held (with_values x (v + 1)) (held_behind (both_of (after a held) (after o held))) (second_at o held x (held_behind (both_of (after a held) (after o held))) k) k))
-      → IsSite c fs x (length k) → v ≡ x.values → IsReadable x.values held e → IsSound a (x.values + 1) x.nodes held (is_some x.exit) → IsSound o x.values x.nodes held (is_some x.exit) → Agrees x.values held s u
+      → IsSite c fs x (length k) → v ≡ x.values → IsReadable x.values held e → IsWellFormed a (x.values + 1) x.nodes held (is_some x.exit) → IsWellFormed o x.values x.nodes held (is_some x.exit) → Mirrors x.values held s u
       → StatementLeads (both_of (after a held) (after o held)) (fails a held ++ fails o held) (breaks a held ++ breaks o held) c parents fs x (length k)
       (from_label c parents fs (length (into_code e v v (second_at o held x (held_behind (both_of (after a held) (after o held))) k).label (first_at a held (with_values x (v + 1)) (held_behind (both_of (after a held) (after o held))) (second_at o held x (held_behind (both_of (after a held) (after o held))) k) k))) u)
-      (leaving (both_of (after a held) (after o held)) (elim (number parents e s) [ Some y ↦ meaning parents a (with_value s v y) | None ↦ meaning parents o s ]))
+      (leaving (both_of (after a held) (after o held)) (elim (number parents e s) [ Some y ↦ behaviour parents a (with_value s v y) | None ↦ behaviour parents o s ]))
   else_runs v e a o ones twos held x k fs s u tail site same readable sound_a sound_o agrees =
       let kept = held_behind (both_of (after a held) (after o held)) in
       let second = second_at o held x kept k in
@@ -251,5 +251,5 @@ module _ {c : List Instr} (parents : List ℕ) (ready : Runs c) where
       let le = bounds.1 in
       let first = bounds.0 in
       else_by v e a o ones twos held x k fs s u (tail_further tail (tail_of_stretch (into_stretch e v v second.label code))) site (into_range parents ready e v v second.label code tail) same
-      (subst (λ d. IsSound a (d + 1) x.nodes held (is_some x.exit)) (sym same) sound_a) sound_o agrees (from_label c parents fs (length (into_code e v v second.label code)) u) (number parents e s)
+      (subst (λ d. IsWellFormed a (d + 1) x.nodes held (is_some x.exit)) (sym same) sound_a) sound_o agrees (from_label c parents fs (length (into_code e v v second.label code)) u) (number parents e s)
       (valued v e held x second.label code fs s u tail (omega (arith, le, long)) (further_in c fs (length k) (length code) (omega (arith, first, long)) site.inside) same readable agrees)

@@ -18,7 +18,7 @@ use Rattle.tl_compiler.specs.Statements.{Site}
 use Rattle.tl_meaning.specs.Meaning.{given, number, lock_kid, lock_child_by, go_down, descend_by}
 use Rattle.tl_meaning.specs.Leading.{Leads, Runs, from_label}
 use Rattle.tl_compiler.specs.Tails.{Tail}
-use Rattle.tl_meaning.specs.Endings.{Agrees, IsSite, StatementLeads}
+use Rattle.tl_meaning.specs.Endings.{Mirrors, IsSite, StatementLeads}
 use Rattle.tl_meaning.proofs.Steps.{and_on, further_in, in_range}
 use Rattle.tl_compiler.proofs.TailLemmas.{tail_further, tail_behind}
 use Rattle.tl_meaning.proofs.NumberRuns.{OperandEnds, operand_runs}
@@ -52,7 +52,7 @@ module _ {c : List Instr} (parents : List ℕ) (ready : Runs c) (n m r f : ℕ) 
   freeing = I.Release n ∷ I.Move n m ∷ k
 
   -- with the number in its register
-  pub down : (s u : State) (v : ℤ) → Tail c (I.Child m n r (target_of f) ∷ freeing) → Agrees x.values held s u → value u r ≡ v
+  pub down : (s u : State) (v : ℤ) → Tail c (I.Child m n r (target_of f) ∷ freeing) → Mirrors x.values held s u → value u r ≡ v
       → StatementLeads (Some held) (held ∷ []) [] c parents fs x (length k) (from_label c parents fs (suc (length freeing)) u) (descend_by parents n (node s n) v s)
   down s u v tail agrees is =
       let h = held_by s.nodes n (subst (λ l. holds l n ≡ true) (sym agrees.held) is_held) in

@@ -12,11 +12,11 @@ use Rattle.tl_compiler.specs.Numbers.{branch_code}
 use Rattle.tl_lowering.specs.Sets.{Nodes, holds, both_of}
 use Rattle.tl_lowering.specs.Outcomes.{condition_may_fail, here_if, after, fails, breaks}
 use Rattle.tl_compiler.specs.Statements.{Site, direct, is_skip, Way, choice_code, held_behind, statement_code}
-use Rattle.tl_meaning.specs.Meaning.{Outcome, On, Breaks, Fails, Returns, plain, after_events, truth, chosen, leave, leaving, meaning}
+use Rattle.tl_meaning.specs.Meaning.{Ending, On, Breaks, Fails, Returns, plain, after_events, truth, chosen, leave, leaving, behaviour}
 use Rattle.tl_meaning.specs.Leading.{Leads, Runs, from_label, Kept, ConditionLeads}
 use Rattle.tl_compiler.specs.Tails.{Tail}
-use Rattle.tl_lowering.specs.Sound.{IsTestable, IsSound}
-use Rattle.tl_meaning.specs.Endings.{Agrees, IsSite, LeadsBy, StatementLeads}
+use Rattle.tl_lowering.specs.Sound.{IsTestable, IsWellFormed}
+use Rattle.tl_meaning.specs.Endings.{Mirrors, IsSite, LeadsBy, StatementLeads}
 use Rattle.tl_compiler.proofs.TailLemmas.{tail_further, tail_length}
 use Rattle.tl_meaning.proofs.Steps.{further_in}
 use Rattle.tl_compiler.proofs.Stretches.{tail_of_stretch}
@@ -39,7 +39,7 @@ direct_after b held x label e = cc
 
 module _ (c : List Instr) (parents : List ℕ) where
   -- where nothing is to be freed behind a way
-  unjoined : (A : Option Nodes) (F B : List Nodes) (fs : List Frame) (x : Site) (on : ℕ) (from : Run) (o : Outcome) (s : State) (events : List Action) → LeadsBy A F B c parents fs x on from o s events
+  unjoined : (A : Option Nodes) (F B : List Nodes) (fs : List Frame) (x : Site) (on : ℕ) (from : Run) (o : Ending) (s : State) (events : List Action) → LeadsBy A F B c parents fs x on from o s events
       → StatementLeads A F B c parents fs x on from (leaving A (record { outcome = o; state = s; events = events }))
   unjoined A F B fs x on from Fails s events l = l
   unjoined A F B fs x on from Breaks s events l = l
@@ -54,7 +54,7 @@ module _ (c : List Instr) (parents : List ℕ) where
       subst (λ d. StatementLeads (Some h) F B c parents fs x on from (after_events events d)) (sym none) ends
 
 module _ {c : List Instr} (parents : List ℕ) (ready : Runs c) (d : Condition) (a b : Statement) (ones : StatementRuns parents ready a) (twos : StatementRuns parents ready b) (held : Nodes) (x : Site) (k : List Instr) (fs : List Frame) (s u : State)
-    (site : IsSite c fs x (length k)) (testable : IsTestable x.values held d) (sound_a : IsSound a x.values x.nodes held (is_some x.exit)) (sound_b : IsSound b x.values x.nodes held (is_some x.exit)) (agrees : Agrees x.values held s u) where
+    (site : IsSite c fs x (length k)) (testable : IsTestable x.values held d) (sound_a : IsWellFormed a x.values x.nodes held (is_some x.exit)) (sound_b : IsWellFormed b x.values x.nodes held (is_some x.exit)) (agrees : Mirrors x.values held s u) where
   abbrev whole : Option Nodes
   whole = both_of (after a held) (after b held)
 
@@ -77,18 +77,18 @@ module _ {c : List Instr} (parents : List ℕ) (ready : Runs c) (d : Condition) 
   )
 
   -- the first way was taken, or the second one
-  took_first : (from there : Run) → Leads from [] there → StatementLeads whole (fails a held) (breaks a held) c parents fs x (length k) there (leaving whole (meaning parents a s))
-      → StatementLeads whole failing breaking c parents fs x (length k) from (leaving whole (meaning parents a s))
+  took_first : (from there : Run) → Leads from [] there → StatementLeads whole (fails a held) (breaks a held) c parents fs x (length k) there (leaving whole (behaviour parents a s))
+      → StatementLeads whole failing breaking c parents fs x (length k) from (leaving whole (behaviour parents a s))
   took_first from there leads l =
-      let all = leaving whole (meaning parents a s) in
+      let all = leaving whole (behaviour parents a s) in
       prefixed c parents whole failing breaking fs x (length k) from there [] leads all.outcome all.state all.events
       (widened c parents whole (fails a held) (breaks a held) failing breaking fs x (length k) there
       (λ h m. in_right h (here_if (condition_may_fail d) held) (fails a held ++ fails b held) (in_left h (fails a held) (fails b held) m)) (λ h m. in_left h (breaks a held) (breaks b held) m) all.outcome all.state all.events l)
 
-  took_second : (from there : Run) → Leads from [] there → StatementLeads whole (fails b held) (breaks b held) c parents fs x (length k) there (leaving whole (meaning parents b s))
-      → StatementLeads whole failing breaking c parents fs x (length k) from (leaving whole (meaning parents b s))
+  took_second : (from there : Run) → Leads from [] there → StatementLeads whole (fails b held) (breaks b held) c parents fs x (length k) there (leaving whole (behaviour parents b s))
+      → StatementLeads whole failing breaking c parents fs x (length k) from (leaving whole (behaviour parents b s))
   took_second from there leads l =
-      let all = leaving whole (meaning parents b s) in
+      let all = leaving whole (behaviour parents b s) in
       prefixed c parents whole failing breaking fs x (length k) from there [] leads all.outcome all.state all.events
       (widened c parents whole (fails b held) (breaks b held) failing breaking fs x (length k) there
       (λ h m. in_right h (here_if (condition_may_fail d) held) (fails a held ++ fails b held) (in_right h (fails a held) (fails b held) m)) (λ h m. in_right h (breaks a held) (breaks b held) m) all.outcome all.state all.events l)
@@ -103,7 +103,7 @@ module _ {c : List Instr} (parents : List ℕ) (ready : Runs c) (d : Condition) 
 
   by_ways : Tail c (first_at parents ready a held x (held_behind whole) (second_at parents ready b held x (held_behind whole) k) k) → (from : Run) (t : Option Bool) → truth parents d s ≡ t
       → ConditionLeads c parents fs false (second_at parents ready b held x (held_behind whole) k).label x.values (x.pad held) (length (first_at parents ready a held x (held_behind whole) (second_at parents ready b held x (held_behind whole) k) k)) from u t
-      → StatementLeads whole failing breaking c parents fs x (length k) from (leaving whole (chosen t s (meaning parents a) (meaning parents b)))
+      → StatementLeads whole failing breaking c parents fs x (length k) from (leaving whole (chosen t s (behaviour parents a) (behaviour parents b)))
   by_ways tail from None f l = failed (length k) from f l
   by_ways tail from (Some true) f l =
       let size = held_size agrees in
@@ -120,7 +120,7 @@ module _ {c : List Instr} (parents : List ℕ) (ready : Runs c) (d : Condition) 
 
   by_jump : (label : ℕ) → direct a held x ≡ Some label → Tail c (statement_code b held x k) → (from : Run) (t : Option Bool) → truth parents d s ≡ t
       → ConditionLeads c parents fs true label x.values (x.pad held) (length (statement_code b held x k)) from u t
-      → StatementLeads whole failing breaking c parents fs x (length k) from (leaving whole (chosen t s (meaning parents a) (meaning parents b)))
+      → StatementLeads whole failing breaking c parents fs x (length k) from (leaving whole (chosen t s (behaviour parents a) (behaviour parents b)))
   by_jump label e tail from None f l = failed (length k) from f l
   by_jump label e tail from (Some true) f l =
       let size = held_size agrees in
@@ -129,7 +129,7 @@ module _ {c : List Instr} (parents : List ℕ) (ready : Runs c) (d : Condition) 
       (tail_further tail (tail_of_stretch (statement_stretch b held x k))) site sound_a (agrees_kept agrees l.2))
   by_jump label e tail from (Some false) f l =
       let there = from_label c parents fs (length (statement_code b held x k)) l.0 in
-      let done = meaning parents b s in
+      let done = behaviour parents b s in
       let is : after b held ≡ whole = ap (λ o. both_of o (after b held)) (sym (direct_after a held x label e)) in
       took_second from there l.1
       (subst (λ o. StatementLeads o (fails b held) (breaks b held) c parents fs x (length k) there (leaving o done)) is
@@ -148,7 +148,7 @@ module _ {c : List Instr} (parents : List ℕ) (ready : Runs c) (d : Condition) 
   by_both : Tail c (branching false (second_at parents ready b held x (held_behind whole) k).label (first_at parents ready a held x (held_behind whole) (second_at parents ready b held x (held_behind whole) k) k))
       → StatementLeads whole failing breaking c parents fs x (length k)
       (from_label c parents fs (length (branching false (second_at parents ready b held x (held_behind whole) k).label (first_at parents ready a held x (held_behind whole) (second_at parents ready b held x (held_behind whole) k) k))) u)
-      (leaving whole (chosen (truth parents d s) s (meaning parents a) (meaning parents b)))
+      (leaving whole (chosen (truth parents d s) s (behaviour parents a) (behaviour parents b)))
   by_both tail =
       let kept = held_behind whole in
       let second = second_at parents ready b held x kept k in
@@ -160,7 +160,7 @@ module _ {c : List Instr} (parents : List ℕ) (ready : Runs c) (d : Condition) 
 
   pub if_by : (to other : Option ℕ) → direct a held x ≡ to → direct b held x ≡ other → Tail c (choice_code branching to other one two (held_behind whole) k)
       → StatementLeads whole failing breaking c parents fs x (length k) (from_label c parents fs (length (choice_code branching to other one two (held_behind whole) k)) u)
-      (leaving whole (chosen (truth parents d s) s (meaning parents a) (meaning parents b)))
+      (leaving whole (chosen (truth parents d s) s (behaviour parents a) (behaviour parents b)))
   if_by (Some label) None e f tail =
       let code = statement_code b held x k in
       let long = tail_length (tail_of_stretch (statement_stretch b held x k)) in

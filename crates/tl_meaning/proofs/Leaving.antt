@@ -9,7 +9,7 @@ use Rattle.tl_machine.specs.Runs.{Held, State}
 use Rattle.tl_machine.specs.Alone.{node, start}
 use Rattle.tl_lowering.specs.declared.program.Statement.{Statement}
 use Rattle.tl_lowering.specs.Sets.{none_held}
-use Rattle.tl_meaning.specs.Meaning.{On, Done, and_then, free, free_by, leave_below, is_on, meaning, call}
+use Rattle.tl_meaning.specs.Meaning.{On, Done, and_then, free, free_by, leave_below, is_on, behaviour, call}
 
 pub cleared : (l : List (Option Held)) (n : ℕ) → get_or (slice_set l n None) n None ≡ None
 cleared [] n = refl
@@ -59,5 +59,5 @@ below (suc m) s n le lt =
     by (inr h) further = further h
 
 pub left_empty : (parents : List ℕ) (body : Statement) (args : List ℤ) (t : Records) (n : ℕ) → n < NODE_REGISTERS
-    → is_on (meaning parents body (start args t)).outcome ≡ false → node (call parents body args t).state n ≡ None
-left_empty parents body args t n lt e = rw e (below NODE_REGISTERS (meaning parents body (start args t)).state n (omega arith) lt)
+    → is_on (behaviour parents body (start args t)).outcome ≡ false → node (call parents body args t).state n ≡ None
+left_empty parents body args t n lt e = rw e (below NODE_REGISTERS (behaviour parents body (start args t)).state n (omega arith) lt)

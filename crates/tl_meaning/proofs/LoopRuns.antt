@@ -14,11 +14,11 @@ use Rattle.tl_lowering.specs.declared.program.Statement.{Statement}
 use Rattle.tl_lowering.specs.Sets.{Nodes, holds, both, all_of, minus}
 use Rattle.tl_lowering.specs.Outcomes.{behind_loop, after, fails, breaks}
 use Rattle.tl_compiler.specs.Statements.{Site, Exit, release_code, held_behind, loop_code, statement_code}
-use Rattle.tl_meaning.specs.Meaning.{Outcome, On, Breaks, Fails, Returns, and_then, leave, leaving, turns, broken, meaning}
+use Rattle.tl_meaning.specs.Meaning.{Ending, On, Breaks, Fails, Returns, and_then, leave, leaving, turns, broken, behaviour}
 use Rattle.tl_meaning.specs.Leading.{Leads, Runs, from_label}
 use Rattle.tl_compiler.specs.Tails.{Tail}
-use Rattle.tl_meaning.specs.Endings.{Agrees, IsSite, LeadsBy, StatementLeads}
-use Rattle.tl_lowering.specs.Sound.{IsSound, KeepsHeld}
+use Rattle.tl_meaning.specs.Endings.{Mirrors, IsSite, LeadsBy, StatementLeads}
+use Rattle.tl_lowering.specs.Sound.{IsWellFormed, KeepsHeld}
 use Rattle.tl_meaning.proofs.Steps.{and_on, further_in}
 use Rattle.tl_compiler.proofs.TailLemmas.{tail_behind, tail_further, tail_length}
 use Rattle.tl_compiler.proofs.Stretches.{Stretch, tail_of_stretch}
@@ -36,7 +36,7 @@ module _ {c : List Instr} (parents : List ℕ) (ready : Runs c) (a : Statement) 
   abbrev body : List Instr
   body = statement_code a held inner (I.End ∷ rest)
 
-  module _ (keeps : KeepsHeld (after a held) held) (site : IsSite c fs inner (length rest)) (tail : Tail c body) (sound : IsSound a inner.values inner.nodes held (is_some inner.exit)) (long : suc (length body) ≤ length c) where
+  module _ (keeps : KeepsHeld (after a held) held) (site : IsSite c fs inner (length rest)) (tail : Tail c body) (sound : IsWellFormed a inner.values inner.nodes held (is_some inner.exit)) (long : suc (length body) ≤ length c) where
     ends : Stretch body (I.End ∷ rest)
     ends = statement_stretch a held inner (I.End ∷ rest)
 
@@ -56,9 +56,9 @@ module _ {c : List Instr} (parents : List ℕ) (ready : Runs c) (a : Statement) 
 
     -- behind a turn
     behind_turn : (more : ℕ)
-        → ((s u : State) → Agrees inner.values held s u → (m : ℕ) → suc m ≡ more → StatementLeads (after a held) (fails a held) (breaks a held) c parents fs inner (length rest) (from_label c parents (frame c body rest m ∷ fs) (length body) u) (turns more (meaning parents a) s))
-        → (from : Run) (o : Outcome) (s : State) (events : List Action) → LeadsBy (after a held) (fails a held) (breaks a held) c parents (frame c body rest more ∷ fs) inner (suc (length rest)) from o s events
-        → StatementLeads (after a held) (fails a held) (breaks a held) c parents fs inner (length rest) from (and_then (record { outcome = o; state = s; events = events }) (turns more (meaning parents a)))
+        → ((s u : State) → Mirrors inner.values held s u → (m : ℕ) → suc m ≡ more → StatementLeads (after a held) (fails a held) (breaks a held) c parents fs inner (length rest) (from_label c parents (frame c body rest m ∷ fs) (length body) u) (turns more (behaviour parents a) s))
+        → (from : Run) (o : Ending) (s : State) (events : List Action) → LeadsBy (after a held) (fails a held) (breaks a held) c parents (frame c body rest more ∷ fs) inner (suc (length rest)) from o s events
+        → StatementLeads (after a held) (fails a held) (breaks a held) c parents fs inner (length rest) from (and_then (record { outcome = o; state = s; events = events }) (turns more (behaviour parents a)))
     behind_turn more again from Fails s events l =
         (l.0, l.1, l.2, subst (Leads from events) (out_of parents ready fs body rest ends more (inner.pad l.1) l.0 long_rest (site.pads l.1)) l.3, l.4)
     behind_turn more again from Breaks s events l =
@@ -68,24 +68,24 @@ module _ {c : List Instr} (parents : List ℕ) (ready : Runs c) (a : Statement) 
     behind_turn zero again from On s events l =
         (l.0, l.1, l.2, and_on l.3 (closes_last parents ready fs body rest ends l.0 long_rest), l.4)
     behind_turn (suc m) again from On s events l =
-        let d = turns (suc m) (meaning parents a) s in
+        let d = turns (suc m) (behaviour parents a) s in
         let there = from_label c parents (frame c body rest m ∷ fs) (length body) l.0 in
-        let agrees : Agrees inner.values held s l.0 = subst (λ h. Agrees inner.values h s l.0) (same_held l.1 l.2) l.4 in
+        let agrees : Mirrors inner.values held s l.0 = subst (λ h. Mirrors inner.values h s l.0) (same_held l.1 l.2) l.4 in
         prefixed c parents (after a held) (fails a held) (breaks a held) fs inner (length rest) from there events
         (subst (λ es. Leads from es there) (append-nil events) (and_on l.3 (closes_again parents ready fs body rest ends m l.0 long))) d.outcome d.state d.events
         (again s l.0 agrees m refl)
 
     -- all turns from the start of one on
-    pub turns_run : (more : ℕ) (s u : State) → Agrees inner.values held s u
-        → StatementLeads (after a held) (fails a held) (breaks a held) c parents fs inner (length rest) (from_label c parents (frame c body rest more ∷ fs) (length body) u) (turns (suc more) (meaning parents a) s)
+    pub turns_run : (more : ℕ) (s u : State) → Mirrors inner.values held s u
+        → StatementLeads (after a held) (fails a held) (breaks a held) c parents fs inner (length rest) (from_label c parents (frame c body rest more ∷ fs) (length body) u) (turns (suc more) (behaviour parents a) s)
     turns_run zero s u agrees =
-        let d = meaning parents a s in
+        let d = behaviour parents a s in
         behind_turn zero (λ s u agrees m e. absurd (omega (arith, e))) (from_label c parents (frame c body rest 0 ∷ fs) (length body) u) d.outcome d.state d.events
         (ones held inner (I.End ∷ rest) (frame c body rest 0 ∷ fs) s u tail (in_loop 0) sound agrees)
     turns_run (suc more) s u agrees =
-        let d = meaning parents a s in
+        let d = behaviour parents a s in
         behind_turn (suc more)
-        (λ s u agrees m e. let same : m ≡ more = omega (arith, e) in subst (λ n. StatementLeads (after a held) (fails a held) (breaks a held) c parents fs inner (length rest) (from_label c parents (frame c body rest n ∷ fs) (length body) u) (turns (suc more) (meaning parents a) s)) (sym same) (turns_run more s u agrees))
+        (λ s u agrees m e. let same : m ≡ more = omega (arith, e) in subst (λ n. StatementLeads (after a held) (fails a held) (breaks a held) c parents fs inner (length rest) (from_label c parents (frame c body rest n ∷ fs) (length body) u) (turns (suc more) (behaviour parents a) s)) (sym same) (turns_run more s u agrees))
         (from_label c parents (frame c body rest (suc more) ∷ fs) (length body) u) d.outcome d.state d.events
         (ones held inner (I.End ∷ rest) (frame c body rest (suc more) ∷ fs) s u tail (in_loop (suc more)) sound agrees)
 
@@ -114,7 +114,7 @@ module _ {c : List Instr} (parents : List ℕ) (ready : Runs c) (a : Statement) 
       }
 
   pub on_by : (b : Bool) → b ≡ true → Keeps (Some held) whole (held_behind whole) → IsSite c fs x (length k) → (from : Run) (s u : State) (events : List Action) → Tail c (if b then release_code (minus held (held_behind whole)) k else k)
-      → Leads from events (from_label c parents fs (length (if b then release_code (minus held (held_behind whole)) k else k)) u) → Agrees x.values held s u
+      → Leads from events (from_label c parents fs (length (if b then release_code (minus held (held_behind whole)) k else k)) u) → Mirrors x.values held s u
       → StatementLeads whole (fails a held) [] c parents fs x (length k) from (leaving whole (record { outcome = On; state = s; events = events }))
   on_by false e keeps site from s u events tail leads agrees = cc
   on_by true e keeps site from s u events tail leads agrees =
@@ -122,13 +122,13 @@ module _ {c : List Instr} (parents : List ℕ) (ready : Runs c) (a : Statement) 
 
   -- behind the turns
   finish : Tail c behind_end → IsSite c fs x (length k) → length held ≡ NODE_REGISTERS → KeepsHeld (after a held) held → AnySized whole
-      → (from : Run) (o : Outcome) (s : State) (events : List Action) → LeadsBy (after a held) (fails a held) (breaks a held) c parents fs inside (length behind_end) from o s events
+      → (from : Run) (o : Ending) (s : State) (events : List Action) → LeadsBy (after a held) (fails a held) (breaks a held) c parents fs inside (length behind_end) from o s events
       → StatementLeads whole (fails a held) [] c parents fs x (length k) from (leaving whole (broken (record { outcome = o; state = s; events = events })))
   finish tail site size keeps sized from Fails s events l = (l.0, l.1, l.2, l.3, l.4)
   finish tail site size keeps sized from Returns s events l = l
   finish tail site size keeps sized from On s events l =
       let same : l.1 ≡ held = subst (λ o. KeepsHeld o held) l.2 keeps in
-      on_by leaves (says l.1 l.2) (keeps_end (ended l.1 l.2) size sized) site from s l.0 events tail l.3 (subst (λ h. Agrees x.values h s l.0) same l.4)
+      on_by leaves (says l.1 l.2) (keeps_end (ended l.1 l.2) size sized) site from s l.0 events tail l.3 (subst (λ h. Mirrors x.values h s l.0) same l.4)
   finish tail site size keeps sized from Breaks s events l =
       let h = l.1 in
       let e = l.3 in
@@ -141,12 +141,12 @@ module _ {c : List Instr} (parents : List ℕ) (ready : Runs c) (a : Statement) 
       let within : Within kept h = λ i b. all_within h (breaks a held) g.0 l.2 g.1 i (ways.within g.0 g.1 i b) in
       let leads : Leads from (events ++ (leave kept s).events) (from_label c parents fs (length k) l.0) =
       subst (λ (q : Exit). Leads from (events ++ (leave q.held s).events) (from_label c parents fs q.label l.0)) (sym same) l.5 in
-      let agrees : Agrees x.values (both h kept) (leave kept s).state l.0 =
-      subst (λ (q : Exit). Agrees x.values (both h q.held) (leave q.held s).state l.0) (sym same) l.6 in
+      let agrees : Mirrors x.values (both h kept) (leave kept s).state l.0 =
+      subst (λ (q : Exit). Mirrors x.values (both h q.held) (leave q.held s).state l.0) (sym same) l.6 in
       let h_size = (sizes a held size).breaks h l.2 in
       let is_kept : both h kept ≡ kept = both_within h kept (h_size ∙ sym (sized kept is)) within in
       let ends : LeadsBy whole (fails a held) [] c parents fs x (length k) from On (leave kept s).state (events ++ (leave kept s).events) =
-      (l.0, kept, is, leads, subst (λ q. Agrees x.values q (leave kept s).state l.0) is_kept agrees) in
+      (l.0, kept, is, leads, subst (λ q. Mirrors x.values q (leave kept s).state l.0) is_kept agrees) in
       let by_kept : StatementLeads whole (fails a held) [] c parents fs x (length k) from (leaving (Some kept) (record { outcome = On; state = s; events = events })) =
       subst (λ o. LeadsBy whole (fails a held) [] c parents fs x (length k) from o (leave kept s).state (events ++ (leave kept s).events)) (sym (leave_on NODE_REGISTERS kept s)) ends in
       subst (λ w. StatementLeads whole (fails a held) [] c parents fs x (length k) from (leaving w (record { outcome = On; state = s; events = events }))) (sym is) by_kept
@@ -172,9 +172,9 @@ module _ {c : List Instr} (parents : List ℕ) (ready : Runs c) (a : Statement) 
       }
 
   -- a loop that makes so many turns, from the instruction that opens it
-  pub loop_runs : StatementRuns parents ready a → IsSite c fs x (length k) → KeepsHeld (after a held) held → IsSound a x.values x.nodes held true → AnySized whole
-      → (i : Instr) (w more : ℕ) (s u : State) → Tail c (i ∷ loop_code (statement_code a held) leaves held (held_behind whole) x k) → kind i ≡ Opens w → kind (aimed (length c) i) ≡ Opens w → turn_count (aimed (length c) i) w u.values ≡ suc more → Agrees x.values held s u
-      → StatementLeads whole (fails a held) [] c parents fs x (length k) (from_label c parents fs (suc (length (loop_code (statement_code a held) leaves held (held_behind whole) x k))) u) (leaving whole (broken (turns (suc more) (meaning parents a) s)))
+  pub loop_runs : StatementRuns parents ready a → IsSite c fs x (length k) → KeepsHeld (after a held) held → IsWellFormed a x.values x.nodes held true → AnySized whole
+      → (i : Instr) (w more : ℕ) (s u : State) → Tail c (i ∷ loop_code (statement_code a held) leaves held (held_behind whole) x k) → kind i ≡ Opens w → kind (aimed (length c) i) ≡ Opens w → turn_count (aimed (length c) i) w u.values ≡ suc more → Mirrors x.values held s u
+      → StatementLeads whole (fails a held) [] c parents fs x (length k) (from_label c parents fs (suc (length (loop_code (statement_code a held) leaves held (held_behind whole) x k))) u) (leaving whole (broken (turns (suc more) (behaviour parents a) s)))
   loop_runs ones site keeps sound sized i w more s u tail is is_aimed turns_are agrees =
       let code = statement_code a held inside (I.End ∷ behind_end) in
       let stretch = statement_stretch a held inside (I.End ∷ behind_end) in
@@ -184,7 +184,7 @@ module _ {c : List Instr} (parents : List ℕ) (ready : Runs c) (a : Statement) 
       let site_in = inside_site site sized in
       let tail_code = tail_further tail (tail_behind i code) in
       let opening = opens parents ready fs code behind_end stretch i w more u tail is is_aimed (further_in c fs (length k) (length code) (omega (arith, long, longer)) site.inside) turns_are in
-      let d = turns (suc more) (meaning parents a) s in
+      let d = turns (suc more) (behaviour parents a) s in
       let all = turns_run parents ready a ones held inside behind_end fs keeps site_in tail_code sound (tail_length tail) more s u agrees in
       let from = from_label c parents fs (suc (length code)) u in
       let there = from_label c parents (frame c code behind_end more ∷ fs) (length code) u in

@@ -13,7 +13,7 @@ use Rattle.tl_compiler.specs.Statements.{release_code, Pads, pad_at, one_pad, pa
 use Rattle.tl_meaning.specs.Meaning.{On, Done, plain, leave}
 use Rattle.tl_meaning.specs.Leading.{Leads, Runs, from_label, IsInside}
 use Rattle.tl_compiler.specs.Tails.{Tail}
-use Rattle.tl_meaning.specs.Endings.{Agrees}
+use Rattle.tl_meaning.specs.Endings.{Mirrors}
 use Rattle.tl_compiler.specs.Among.{IsIn}
 use Rattle.tl_meaning.proofs.Steps.{stays, and_on, further_in, goes_to_label}
 use Rattle.tl_compiler.proofs.TailLemmas.{tail_further, tail_behind, tail_length}
@@ -49,34 +49,34 @@ pads_bound (g ∷ others) failing handled label base le h = by (is_among g faili
 pub record Handled (c : List Instr) (parents : List ℕ) (fs : List Frame) (d label : ℕ) (start : Nodes) (from : Run) (s : State) : Type 0 where
   pub state : State
   pub leads : Leads from (leave start s).events (from_label c parents fs label state)
-  pub agrees : Agrees d start (leave start s).state state
+  pub agrees : Mirrors d start (leave start s).state state
   pub goes_on : (leave start s).outcome ≡ On
 
 module _ {c : List Instr} (parents : List ℕ) (ready : Runs c) (fs : List Frame) (d : ℕ) (failing : List Nodes) (start : Nodes) (size : length start ≡ NODE_REGISTERS) (label : ℕ) (base : Pads) (pad : Nodes → ℕ)
     (is_base : (h : Nodes) → base.pad h ≡ pad_at start label pad h) (inside : IsInside c fs (length base.code)) (le : label ≤ length base.code) where
   -- where the handler begins with all that is held
-  handled_at_once : (s w : State) → Agrees d start s w → Handled c parents fs d label start (from_label c parents fs label w) s
+  handled_at_once : (s w : State) → Mirrors d start s w → Handled c parents fs d label start (from_label c parents fs label w) s
   handled_at_once s w agrees =
       let none : leave start s ≡ plain On s = leaves_all NODE_REGISTERS start s (λ i h. holds_there agrees i ∙ h) in
       record {
         state = w;
         leads = subst (λ (x : Done). Leads (from_label c parents fs label w) x.events (from_label c parents fs label w)) (sym none) (stays (from_label c parents fs label w));
-        agrees = subst (λ (x : Done). Agrees d start x.state w) (sym none) agrees;
+        agrees = subst (λ (x : Done). Mirrors d start x.state w) (sym none) agrees;
         goes_on = ap (λ (x : Done). x.outcome) none;
       }
 
-  by_base : (h : Nodes) (s w : State) → h ≡ start → Agrees d h s w → Handled c parents fs d label start (from_label c parents fs (base.pad h) w) s
+  by_base : (h : Nodes) (s w : State) → h ≡ start → Mirrors d h s w → Handled c parents fs d label start (from_label c parents fs (base.pad h) w) s
   by_base h s w e agrees =
       let at : base.pad h ≡ label = is_base h ∙ ap (λ b. if b then label else pad h) (ap (same start) e ∙ same_itself start) in
       subst (λ l. Handled c parents fs d label start (from_label c parents fs l w) s) (sym at)
-      (handled_at_once s w (subst (λ g. Agrees d g s w) e agrees))
+      (handled_at_once s w (subst (λ g. Mirrors d g s w) e agrees))
 
   -- the pad frees what the handler doesn't begin with
-  by_pad : (g h : Nodes) (more : List Instr) (s w : State) → g ≡ h → Within start h → Agrees d h s w → Tail c (release_code (minus g start) (I.Jump (target_of label) ∷ more)) → length base.code ≤ length more
+  by_pad : (g h : Nodes) (more : List Instr) (s w : State) → g ≡ h → Within start h → Mirrors d h s w → Tail c (release_code (minus g start) (I.Jump (target_of label) ∷ more)) → length base.code ≤ length more
       → Handled c parents fs d label start (from_label c parents fs (length (release_code (minus g start) (I.Jump (target_of label) ∷ more))) w) s
   by_pad g h more s w e within agrees tail long =
       let code = I.Jump (target_of label) ∷ more in
-      let agrees_g = subst (λ l. Agrees d l s w) (sym e) agrees in
+      let agrees_g = subst (λ l. Mirrors d l s w) (sym e) agrees in
       let inside_more = further_in c fs (length base.code) (length more) long inside in
       let r = released parents ready fs d g start code s w tail (further_in c fs (length more) (suc (length more)) (omega arith) inside_more) size agrees_g in
       let then_tail = tail_further tail (tail_of_stretch (release_stretch NODE_REGISTERS (minus g start) code)) in
@@ -85,12 +85,12 @@ module _ {c : List Instr} (parents : List ℕ) (ready : Runs c) (fs : List Frame
       record {
         state = r.state;
         leads = subst (λ es. Leads (from_label c parents fs (length (release_code (minus g start) code)) w) es (from_label c parents fs label r.state)) (append-nil (leave start s).events) (and_on r.leads jump);
-        agrees = subst (λ l. Agrees d l (leave start s).state r.state) both_is r.agrees;
+        agrees = subst (λ l. Mirrors d l (leave start s).state r.state) both_is r.agrees;
         goes_on = r.goes_on;
       }
 
   -- a failure comes to the handler
-  pub pad_runs : (sets : List Nodes) (h : Nodes) (s w : State) → IsIn h sets ⊎ (h ≡ start) → IsIn h failing → Within start h → Agrees d h s w → Tail c (pads_of sets failing start label base).code
+  pub pad_runs : (sets : List Nodes) (h : Nodes) (s w : State) → IsIn h sets ⊎ (h ≡ start) → IsIn h failing → Within start h → Mirrors d h s w → Tail c (pads_of sets failing start label base).code
       → Handled c parents fs d label start (from_label c parents fs ((pads_of sets failing start label base).pad h) w) s
   pad_runs [] h s w (inl e) m within agrees tail = absurd e
   pad_runs [] h s w (inr e) m within agrees tail = by_base h s w e agrees

@@ -21,11 +21,11 @@ use Rattle.tl_compiler.specs.Labels.{target_of}
 use Rattle.tl_compiler.specs.Numbers.{register_of, behind, operand_code}
 use Rattle.tl_lowering.specs.Sets.{Nodes, holds, with_node as also}
 use Rattle.tl_compiler.specs.Statements.{in_order_code, pair_code, place_code}
-use Rattle.tl_meaning.specs.Meaning.{Outcome, On, Breaks, Fails, Returns, Done, plain, and_then, or_else, free, free_by, lock_child, lock_in_order, lock_pair, lock_place, given, number, held_at}
+use Rattle.tl_meaning.specs.Meaning.{Ending, On, Breaks, Fails, Returns, Done, plain, and_then, or_else, free, free_by, lock_child, lock_in_order, lock_pair, lock_place, given, number, held_at}
 use Rattle.tl_meaning.specs.Leading.{Leads, Runs, from_label, IsInside}
 use Rattle.tl_compiler.specs.Tails.{Tail}
 use Rattle.tl_lowering.specs.Sound.{IsReadable}
-use Rattle.tl_meaning.specs.Endings.{Agrees}
+use Rattle.tl_meaning.specs.Endings.{Mirrors}
 use Rattle.tl_meaning.proofs.Steps.{and_on, further_in, in_range, goes_to_next, goes_to_label}
 use Rattle.tl_compiler.proofs.TailLemmas.{tail_further, tail_behind, tail_length}
 use Rattle.tl_compiler.proofs.Stretches.{tail_of_stretch}
@@ -50,7 +50,7 @@ free_again (b ∷ l) zero e = ap (λ x. x ∷ l) (sym e)
 free_again (b ∷ l) (suc n) e = ap (λ l. b ∷ l) (free_again l n e)
 
 pub behind_place : {c : List Instr} (parents : List ℕ) (ready : Runs c) (fs : List Frame) (d : ℕ) (h g : Nodes) (f on : ℕ) (from there : Run) (first : List Action) → Leads from first there
-    → (o : Outcome) (s : State) (es : List Action) → PlaceLeads parents ready fs d h g f on there o s es → PlaceLeads parents ready fs d h g f on from o s (first ++ es)
+    → (o : Ending) (s : State) (es : List Action) → PlaceLeads parents ready fs d h g f on there o s es → PlaceLeads parents ready fs d h g f on from o s (first ++ es)
 behind_place parents ready fs d h g f on from there first leads On s es l = (l.0, and_on leads l.1, l.2)
 behind_place parents ready fs d h g f on from there first leads Fails s es l = (l.0, and_on leads l.1, l.2)
 behind_place parents ready fs d h g f on from there first leads Breaks s es l = l
@@ -68,7 +68,7 @@ module _ {c : List Instr} (parents : List ℕ) (ready : Runs c) (fs : List Frame
   far n more = further_in c fs (length k) n more inside
 
   -- where the second child can't be locked
-  undo : (s u : State) → lower < NODE_REGISTERS → Tail c undone → Agrees d (also held lower) s u
+  undo : (s u : State) → lower < NODE_REGISTERS → Tail c undone → Mirrors d (also held lower) s u
       → PlaceLeads parents ready fs d held (also (also held lower) upper) f done (from_label c parents fs (length undone) u) (and_then (free lower s) (plain Fails)).outcome (and_then (free lower s) (plain Fails)).state (and_then (free lower s) (plain Fails)).events
   undo s u lt tail agrees =
       let there : holds (also held lower) lower ≡ true = get_or-set_same held lower true false (subst (λ n. lower < n) (sym (length_before agrees)) lt) in
@@ -77,15 +77,15 @@ module _ {c : List Instr} (parents : List ℕ) (ready : Runs c) (fs : List Frame
       let w = with_node u lower None in
       let first = release_step parents ready fs lower code d s u h.0 h.1 tail (far (suc (length k)) (omega arith)) agrees.kept in
       let jump = goes_to_label parents ready fs (I.Jump (target_of f)) k w w did.Plain f (tail_further tail (tail_behind (I.Release lower) code)) inside refl le refl in
-      let again : Agrees d held (with_node s lower None) w = subst (λ l. Agrees d l (with_node s lower None) w) (free_again held lower is_free) (agrees_free lower agrees) in
+      let again : Mirrors d held (with_node s lower None) w = subst (λ l. Mirrors d l (with_node s lower None) w) (free_again held lower is_free) (agrees_free lower agrees) in
       subst (λ o. let r = and_then (free_by o lower s) (plain Fails) in PlaceLeads parents ready fs d held (also (also held lower) upper) f done (from_label c parents fs (length undone) u) r.outcome r.state r.events) (sym h.1)
       (w, and_on first jump, again)
     where
-      length_before : {s u : State} → Agrees d (also held lower) s u → length held ≡ NODE_REGISTERS
+      length_before : {s u : State} → Mirrors d (also held lower) s u → length held ≡ NODE_REGISTERS
       length_before a = sym (length-set held lower true) ∙ held_size a
 
   -- behind the lock of the second child
-  behind_upper : (s : State) (vs : List ℤ) → lower < NODE_REGISTERS → Tail c second → (from : Run) (o : Outcome) (t : State) (events : List Action)
+  behind_upper : (s : State) (vs : List ℤ) → lower < NODE_REGISTERS → Tail c second → (from : Run) (o : Ending) (t : State) (events : List Action)
       → KidLeads parents ready fs vs d (also held lower) (also (also held lower) upper) (length undone) (length second) from o t events
       → let r = or_else (record { outcome = o; state = t; events = events }) (λ s. and_then (free lower s) (plain Fails)) in PlaceLeads parents ready fs d held (also (also held lower) upper) f done from r.outcome r.state r.events
   behind_upper s vs lt tail from On t events l = (
@@ -105,7 +105,7 @@ module _ {c : List Instr} (parents : List ℕ) (ready : Runs c) (fs : List Frame
   upper_code = I.Child upper q y (target_of (length undone)) ∷ second
 
   -- behind the lock of the first child
-  behind_lower : (vs : List ℤ) (vy : ℤ) → lower < NODE_REGISTERS → get_or vs y (pos 0) ≡ vy → Tail c upper_code → (from : Run) (o : Outcome) (t : State) (events : List Action)
+  behind_lower : (vs : List ℤ) (vy : ℤ) → lower < NODE_REGISTERS → get_or vs y (pos 0) ≡ vy → Tail c upper_code → (from : Run) (o : Ending) (t : State) (events : List Action)
       → KidLeads parents ready fs vs d held (also held lower) f (length upper_code) from o t events
       → let r = and_then (record { outcome = o; state = t; events = events }) (λ s. or_else (lock_child parents upper q vy s) (λ s. and_then (free lower s) (plain Fails))) in
       PlaceLeads parents ready fs d held (also (also held lower) upper) f done from r.outcome r.state r.events
@@ -122,7 +122,7 @@ module _ {c : List Instr} (parents : List ℕ) (ready : Runs c) (fs : List Frame
       (child_runs parents ready fs upper q y (length undone) d (also held lower) second t l.0 vy tail (omega arith) (far (length second) (omega arith)) (still_held held lower q is_held) l.2 there_is))
 
   -- both, the lower one first
-  pub in_order : (s u : State) (vx vy : ℤ) → Tail c (in_order_code lower x upper y q done f k) → Agrees d held s u → value u x ≡ vx → value u y ≡ vy
+  pub in_order : (s u : State) (vx vy : ℤ) → Tail c (in_order_code lower x upper y q done f k) → Mirrors d held s u → value u x ≡ vx → value u y ≡ vy
       → let r = lock_in_order parents lower vx upper vy q s in
       PlaceLeads parents ready fs d held (also (also held lower) upper) f done (from_label c parents fs (length (in_order_code lower x upper y q done f k)) u) r.outcome r.state r.events
   in_order s u vx vy tail agrees is_x is_y =
@@ -160,7 +160,7 @@ module _ {c : List Instr} (parents : List ℕ) (ready : Runs c) (fs : List Frame
   far_in l more = further_in c fs (length k) l more inside
 
   -- by how both numbers compare
-  both_by : (is_less is_equal : Bool) (s u : State) (vx vy : ℤ) → lt_z vx vy ≡ is_less → int_eq vx vy ≡ is_equal → Tail c (less ∷ equal ∷ downward) → Agrees d held s u → value u x ≡ vx → value u y ≡ vy
+  both_by : (is_less is_equal : Bool) (s u : State) (vx vy : ℤ) → lt_z vx vy ≡ is_less → int_eq vx vy ≡ is_equal → Tail c (less ∷ equal ∷ downward) → Mirrors d held s u → value u x ≡ vx → value u y ≡ vy
       → ends_at (from_label c parents fs (suc (suc (length downward))) u) (if is_equal then plain Fails s else (if is_less then lock_in_order parents n vx m vy q s else lock_in_order parents m vy n vx q s))
   both_by true true s u vx vy l e tail agrees is_x is_y = absurd (apart vx vy l e)
   both_by true false s u vx vy l e tail agrees is_x is_y =
@@ -189,7 +189,7 @@ module _ {c : List Instr} (parents : List ℕ) (ready : Runs c) (fs : List Frame
       (in_order parents ready fs m y n x q (length k) f d upward (omega arith) (omega arith) (far_in (length upward) (omega arith)) held is_held free_m s u vy vx
       (tail_further tail (tail_further (tail_behind less (equal ∷ downward)) (tail_behind equal downward))) agrees is_y is_x))
 
-  pub compared : (s u : State) (vx vy : ℤ) → Tail c (pair_code n x m y q f k) → Agrees d held s u → value u x ≡ vx → value u y ≡ vy
+  pub compared : (s u : State) (vx vy : ℤ) → Tail c (pair_code n x m y q f k) → Mirrors d held s u → value u x ≡ vx → value u y ≡ vy
       → ends_at (from_label c parents fs (length (pair_code n x m y q f k)) u) (lock_pair parents n vx m vy q s)
   compared s u vx vy tail agrees is_x is_y = both_by (lt_z vx vy) (int_eq vx vy) s u vx vy refl refl tail agrees is_x is_y
 
@@ -208,7 +208,7 @@ module _ {c : List Instr} (parents : List ℕ) (ready : Runs c) (fs : List Frame
   leads from r = PlaceLeads parents ready fs d held (also (also held n) m) f (length k) from r.outcome r.state r.events
 
   -- with both numbers
-  then_pair : (s u : State) (vx : ℤ) → Tail c pair → Agrees d held s u → value u x ≡ vx → (from : Run) (vy : Option ℤ) → OperandEnds parents ready fs b (behind a d) f pair from u vy
+  then_pair : (s u : State) (vx : ℤ) → Tail c pair → Mirrors d held s u → value u x ≡ vx → (from : Run) (vy : Option ℤ) → OperandEnds parents ready fs b (behind a d) f pair from u vy
       → leads from (given vy s (λ vy. lock_pair parents n vx m vy q s))
   then_pair s u vx tail agrees is_x from None l = (l.0, l.1, agrees_kept agrees (kept_below (behind_above a d) l.2))
   then_pair s u vx tail agrees is_x from (Some vy) l =
@@ -220,7 +220,7 @@ module _ {c : List Instr} (parents : List ℕ) (ready : Runs c) (fs : List Frame
       (made.kept.values x (register_below a d held readable_a) ∙ is_x) made.here)
 
   -- with the first number
-  then_second : (s u : State) → Tail c (operand_code b (behind a d) f pair) → Agrees d held s u → (from : Run) (vx : Option ℤ) → OperandEnds parents ready fs a d f (operand_code b (behind a d) f pair) from u vx
+  then_second : (s u : State) → Tail c (operand_code b (behind a d) f pair) → Mirrors d held s u → (from : Run) (vx : Option ℤ) → OperandEnds parents ready fs a d f (operand_code b (behind a d) f pair) from u vx
       → leads from (given vx s (λ vx. given (number parents b s) s (λ vy. lock_pair parents n vx m vy q s)))
   then_second s u tail agrees from None l = (l.0, l.1, agrees_kept agrees l.2)
   then_second s u tail agrees from (Some vx) l =
@@ -235,7 +235,7 @@ module _ {c : List Instr} (parents : List ℕ) (ready : Runs c) (fs : List Frame
       (operand_runs parents ready fs b (behind a d) f pair w tail (omega arith) (further_in c fs (length k) (length pair) (omega arith) inside)
       (readable_further b d (behind a d) (held_at w) (behind_above a d) (readable_there b agrees_then readable_b)) made.kept.size)))
 
-  pub pair_runs : (s u : State) → Tail c (place_code (P.Pair n m q a b) d f k) → Agrees d held s u → leads (from_label c parents fs (length (place_code (P.Pair n m q a b) d f k)) u) (lock_place parents (P.Pair n m q a b) s)
+  pub pair_runs : (s u : State) → Tail c (place_code (P.Pair n m q a b) d f k) → Mirrors d held s u → leads (from_label c parents fs (length (place_code (P.Pair n m q a b) d f k)) u) (lock_place parents (P.Pair n m q a b) s)
   pair_runs s u tail agrees =
       let second = operand_code b (behind a d) f pair in
       let from = from_label c parents fs (length (place_code (P.Pair n m q a b) d f k)) u in

@@ -19,11 +19,11 @@ use Rattle.tl_compiler.specs.Numbers.{register_of, operand_code}
 use Rattle.tl_lowering.specs.Sets.{Nodes, holds, with_node as also}
 use Rattle.tl_lowering.specs.Outcomes.{locked}
 use Rattle.tl_compiler.specs.Statements.{place_code}
-use Rattle.tl_meaning.specs.Meaning.{Outcome, On, Breaks, Fails, Returns, Done, given, number, lock_node, lock_kid, lock_child_by, lock_child, lock_place}
+use Rattle.tl_meaning.specs.Meaning.{Ending, On, Breaks, Fails, Returns, Done, given, number, lock_node, lock_kid, lock_child_by, lock_child, lock_place}
 use Rattle.tl_meaning.specs.Leading.{Leads, Runs, from_label, IsInside}
 use Rattle.tl_compiler.specs.Tails.{Tail}
 use Rattle.tl_lowering.specs.Sound.{IsReadable}
-use Rattle.tl_meaning.specs.Endings.{Agrees}
+use Rattle.tl_meaning.specs.Endings.{Mirrors}
 use Rattle.tl_meaning.proofs.Steps.{and_on, further_in, goes_to_next, goes_to_label}
 use Rattle.tl_compiler.proofs.TailLemmas.{tail_further}
 use Rattle.tl_meaning.proofs.NumberRuns.{OperandEnds, operand_runs}
@@ -37,7 +37,7 @@ held_again [] n e = refl
 held_again (x ∷ l) zero e = ap (λ b. b ∷ l) (sym e)
 held_again (x ∷ l) (suc n) e = ap (λ l. x ∷ l) (held_again l n e)
 
-pub agrees_lock : {d : ℕ} {h : Nodes} {s u : State} (n y : ℕ) → Agrees d h s u → Agrees d (also h n) (with_node s n (Some (record { node = y; cursor = 0 }))) (with_node u n (Some (record { node = y; cursor = 0 })))
+pub agrees_lock : {d : ℕ} {h : Nodes} {s u : State} (n y : ℕ) → Mirrors d h s u → Mirrors d (also h n) (with_node s n (Some (record { node = y; cursor = 0 }))) (with_node u n (Some (record { node = y; cursor = 0 })))
 agrees_lock {d} {h} {s} {u} n y a =
     let o : Option Held = Some (record { node = y; cursor = 0 }) in
     record {
@@ -47,7 +47,7 @@ agrees_lock {d} {h} {s} {u} n y a =
       held = held_set s.nodes n o ∙ ap (λ l. slice_set l n true) a.held;
     }
 
-pub agrees_cursor : {d : ℕ} {h : Nodes} {s u : State} (p : ℕ) (g : Held) → holds h p ≡ true → Agrees d h s u → Agrees d h (with_node s p (Some g)) (with_node u p (Some g))
+pub agrees_cursor : {d : ℕ} {h : Nodes} {s u : State} (p : ℕ) (g : Held) → holds h p ≡ true → Mirrors d h s u → Mirrors d h (with_node s p (Some g)) (with_node u p (Some g))
 agrees_cursor {d} {h} {s} {u} p g is a = record {
   kept = record { values = a.kept.values; nodes = ap (λ ns. slice_set ns p (Some g)) a.kept.nodes; records = a.kept.records; size = a.kept.size };
   values = a.values;
@@ -57,27 +57,27 @@ agrees_cursor {d} {h} {s} {u} p g is a = record {
 
 module _ {c : List Instr} (parents : List ℕ) (ready : Runs c) (fs : List Frame) where
   -- where the code of a place leads, which stands before a label: there, or to the label of its failure
-  abbrev pub PlaceLeads : ℕ → Nodes → Nodes → ℕ → ℕ → Run → Outcome → State → List Action → Type 0
-  PlaceLeads d held locked f on from On s events = (u : State) × Leads from events (from_label c parents fs on u) × Agrees d locked s u
-  PlaceLeads d held locked f on from Fails s events = (u : State) × Leads from events (from_label c parents fs f u) × Agrees d held s u
+  abbrev pub PlaceLeads : ℕ → Nodes → Nodes → ℕ → ℕ → Run → Ending → State → List Action → Type 0
+  PlaceLeads d held locked f on from On s events = (u : State) × Leads from events (from_label c parents fs on u) × Mirrors d locked s u
+  PlaceLeads d held locked f on from Fails s events = (u : State) × Leads from events (from_label c parents fs f u) × Mirrors d held s u
   PlaceLeads d held locked f on from Breaks s events = ⊥
   PlaceLeads d held locked f on from Returns s events = ⊥
 
   -- the same, and the values are these
-  abbrev pub KidLeads : List ℤ → ℕ → Nodes → Nodes → ℕ → ℕ → Run → Outcome → State → List Action → Type 0
-  KidLeads vs d held locked f on from On s events = (u : State) × Leads from events (from_label c parents fs on u) × Agrees d locked s u × (u.values ≡ vs)
-  KidLeads vs d held locked f on from Fails s events = (u : State) × Leads from events (from_label c parents fs f u) × Agrees d held s u × (u.values ≡ vs)
+  abbrev pub KidLeads : List ℤ → ℕ → Nodes → Nodes → ℕ → ℕ → Run → Ending → State → List Action → Type 0
+  KidLeads vs d held locked f on from On s events = (u : State) × Leads from events (from_label c parents fs on u) × Mirrors d locked s u × (u.values ≡ vs)
+  KidLeads vs d held locked f on from Fails s events = (u : State) × Leads from events (from_label c parents fs f u) × Mirrors d held s u × (u.values ≡ vs)
   KidLeads vs d held locked f on from Breaks s events = ⊥
   KidLeads vs d held locked f on from Returns s events = ⊥
 
-  only_place : (vs : List ℤ) (d : ℕ) (held locked : Nodes) (f on : ℕ) (from : Run) (o : Outcome) (s : State) (events : List Action) → KidLeads vs d held locked f on from o s events → PlaceLeads d held locked f on from o s events
+  only_place : (vs : List ℤ) (d : ℕ) (held locked : Nodes) (f on : ℕ) (from : Run) (o : Ending) (s : State) (events : List Action) → KidLeads vs d held locked f on from o s events → PlaceLeads d held locked f on from o s events
   only_place vs d held locked f on from On s events l = (l.0, l.1, l.2)
   only_place vs d held locked f on from Fails s events l = (l.0, l.1, l.2)
   only_place vs d held locked f on from Breaks s events l = l
   only_place vs d held locked f on from Returns s events l = l
 
   -- a node by its number
-  first_runs : (n r f d : ℕ) (held : Nodes) (k : List Instr) (s u : State) (v : ℤ) → Tail c (I.First n r (target_of f) ∷ k) → f ≤ length k → IsInside c fs (length k) → Agrees d held s u → value u r ≡ v
+  first_runs : (n r f d : ℕ) (held : Nodes) (k : List Instr) (s u : State) (v : ℤ) → Tail c (I.First n r (target_of f) ∷ k) → f ≤ length k → IsInside c fs (length k) → Mirrors d held s u → value u r ≡ v
       → let done = lock_node n (numbered (length parents) v) s in PlaceLeads d held (also held n) f (length k) (from_label c parents fs (suc (length k)) u) done.outcome done.state done.events
   first_runs n r f d held k s u v tail le inside agrees is = by (numbered (length parents) v) refl
     where
@@ -98,7 +98,7 @@ module _ {c : List Instr} (parents : List ℕ) (ready : Runs c) (fs : List Frame
           )
 
   -- a child by its number
-  pub child_runs : (n q r f d : ℕ) (held : Nodes) (k : List Instr) (s u : State) (v : ℤ) → Tail c (I.Child n q r (target_of f) ∷ k) → f ≤ length k → IsInside c fs (length k) → holds held q ≡ true → Agrees d held s u → value u r ≡ v
+  pub child_runs : (n q r f d : ℕ) (held : Nodes) (k : List Instr) (s u : State) (v : ℤ) → Tail c (I.Child n q r (target_of f) ∷ k) → f ≤ length k → IsInside c fs (length k) → holds held q ≡ true → Mirrors d held s u → value u r ≡ v
       → KidLeads u.values d held (also held n) f (length k) (from_label c parents fs (suc (length k)) u) (lock_child parents n q v s).outcome (lock_child parents n q v s).state (lock_child parents n q v s).events
   child_runs n q r f d held k s u v tail le inside is_held agrees is =
       let h = held_by s.nodes q (subst (λ l. holds l q ≡ true) (sym agrees.held) is_held) in
@@ -132,16 +132,16 @@ module _ {c : List Instr} (parents : List ℕ) (ready : Runs c) (fs : List Frame
             refl,
           )
 
-  prefixed_place : (d : ℕ) (held locked : Nodes) (f on : ℕ) (from there : Run) → Leads from [] there → (o : Outcome) (s : State) (events : List Action) → PlaceLeads d held locked f on there o s events → PlaceLeads d held locked f on from o s events
+  prefixed_place : (d : ℕ) (held locked : Nodes) (f on : ℕ) (from there : Run) → Leads from [] there → (o : Ending) (s : State) (events : List Action) → PlaceLeads d held locked f on there o s events → PlaceLeads d held locked f on from o s events
   prefixed_place d held locked f on from there leads On s events l = (l.0, and_on leads l.1, l.2)
   prefixed_place d held locked f on from there leads Fails s events l = (l.0, and_on leads l.1, l.2)
   prefixed_place d held locked f on from there leads Breaks s events l = l
   prefixed_place d held locked f on from there leads Returns s events l = l
 
   -- a place that is found by one number
-  by_number : (e : Expression) (d f : ℕ) (held locked : Nodes) (i : Instr) (k : List Instr) (s u : State) → Tail c (operand_code e d f (i ∷ k)) → f ≤ length k → IsInside c fs (length k) → IsReadable d held e → Agrees d held s u
+  by_number : (e : Expression) (d f : ℕ) (held locked : Nodes) (i : Instr) (k : List Instr) (s u : State) → Tail c (operand_code e d f (i ∷ k)) → f ≤ length k → IsInside c fs (length k) → IsReadable d held e → Mirrors d held s u
       → (go : ℤ → Done)
-      → ((v : ℤ) (w : State) → value w (register_of e d) ≡ v → Agrees d held s w → PlaceLeads d held locked f (length k) (from_label c parents fs (suc (length k)) w) (go v).outcome (go v).state (go v).events)
+      → ((v : ℤ) (w : State) → value w (register_of e d) ≡ v → Mirrors d held s w → PlaceLeads d held locked f (length k) (from_label c parents fs (suc (length k)) w) (go v).outcome (go v).state (go v).events)
       → PlaceLeads d held locked f (length k) (from_label c parents fs (length (operand_code e d f (i ∷ k))) u) (given (number parents e s) s go).outcome (given (number parents e s) s go).state (given (number parents e s) s go).events
   by_number e d f held locked i k s u tail le inside readable agrees go found =
       by (number parents e s)
@@ -155,14 +155,14 @@ module _ {c : List Instr} (parents : List ℕ) (ready : Runs c) (fs : List Frame
           prefixed_place d held locked f (length k) (from_label c parents fs (length (operand_code e d f (i ∷ k))) u) (from_label c parents fs (suc (length k)) l.0) l.1 (go v).outcome (go v).state (go v).events
           (found v l.0 (l.2).here (agrees_kept agrees (l.2).kept))
 
-  pub node_runs : (n : ℕ) (e : Expression) (d f : ℕ) (held : Nodes) (k : List Instr) (s u : State) → Tail c (place_code (P.Node n e) d f k) → f ≤ length k → IsInside c fs (length k) → IsReadable d held e → Agrees d held s u
+  pub node_runs : (n : ℕ) (e : Expression) (d f : ℕ) (held : Nodes) (k : List Instr) (s u : State) → Tail c (place_code (P.Node n e) d f k) → f ≤ length k → IsInside c fs (length k) → IsReadable d held e → Mirrors d held s u
       → PlaceLeads d held (also held n) f (length k) (from_label c parents fs (length (place_code (P.Node n e) d f k)) u) (lock_place parents (P.Node n e) s).outcome (lock_place parents (P.Node n e) s).state (lock_place parents (P.Node n e) s).events
   node_runs n e d f held k s u tail le inside readable agrees =
       let i = I.First n (register_of e d) (target_of f) in
       by_number e d f held (also held n) i k s u tail le inside readable agrees (λ v. lock_node n (numbered (length parents) v) s)
       (λ v w is agrees_then. first_runs n (register_of e d) f d held k s w v (tail_further tail (operand_tail e d f (i ∷ k))) le inside agrees_then is)
 
-  pub kid_runs : (n q : ℕ) (e : Expression) (d f : ℕ) (held : Nodes) (k : List Instr) (s u : State) → Tail c (place_code (P.Child n q e) d f k) → f ≤ length k → IsInside c fs (length k) → holds held q ≡ true → IsReadable d held e → Agrees d held s u
+  pub kid_runs : (n q : ℕ) (e : Expression) (d f : ℕ) (held : Nodes) (k : List Instr) (s u : State) → Tail c (place_code (P.Child n q e) d f k) → f ≤ length k → IsInside c fs (length k) → holds held q ≡ true → IsReadable d held e → Mirrors d held s u
       → PlaceLeads d held (also held n) f (length k) (from_label c parents fs (length (place_code (P.Child n q e) d f k)) u) (lock_place parents (P.Child n q e) s).outcome (lock_place parents (P.Child n q e) s).state (lock_place parents (P.Child n q e) s).events
   kid_runs n q e d f held k s u tail le inside is_held readable agrees =
       let i = I.Child n q (register_of e d) (target_of f) in

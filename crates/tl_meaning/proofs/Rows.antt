@@ -13,7 +13,7 @@ use Rattle.tl_lowering.specs.Sets.{none_held}
 use Rattle.tl_lowering.specs.Outcomes.{fails}
 use Rattle.tl_compiler.specs.Statements.{procedure_code}
 use Rattle.tl_meaning.specs.Meaning.{call}
-use Rattle.tl_lowering.specs.Sound.{IsSound}
+use Rattle.tl_lowering.specs.Sound.{IsWellFormed}
 use Rattle.tl_meaning.specs.Told.{told}
 
 -- lock root = node(0); lock first = child(root, 0); first.value = amount; free first; lock second = child(root, 1); emit second.value;
@@ -31,7 +31,7 @@ both_children : (p : _) → (let body : Statement = S.Try' p (S.Try' p
     let events = did.Lock 0 (replicate 8 (pos 0)) ∷ did.Lock 1 (replicate 8 (pos 0)) ∷ did.Write 1 0 (pos 7)
     ∷ did.Free 1 (pos 7 ∷ replicate 7 (pos 0)) ∷ did.Lock 2 (replicate 8 (pos 0)) ∷ did.Emit (pos 0)
     ∷ did.Free 2 (replicate 8 (pos 0)) ∷ did.Free 0 (replicate 8 (pos 0)) ∷ [] in
-    IsSound body 1 0 none_held false
+    IsWellFormed body 1 0 none_held false
     × (fails body none_held ≡ [])
     × ((call (0 ∷ 0 ∷ 0 ∷ []) body (pos 7 ∷ []) zeros).events ≡ events)
     × (told (actions (alone (at_positions (procedure_code 1 body)) (0 ∷ 0 ∷ 0 ∷ []) (pos 7 ∷ []) zeros)) ≡ events))

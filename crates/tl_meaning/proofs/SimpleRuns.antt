@@ -18,11 +18,11 @@ use Rattle.tl_compiler.specs.Labels.{target_of}
 use Rattle.tl_lowering.specs.Sets.{Nodes, none_held, holds, without_node, both, minus}
 use Rattle.tl_lowering.specs.Outcomes.{next, going_on, after, fails, breaks}
 use Rattle.tl_compiler.specs.Statements.{Site, Exit, release_code, leave_code, statement_code, held_behind}
-use Rattle.tl_meaning.specs.Meaning.{Outcome, On, Breaks, Fails, Returns, plain, after_events, and_then, free_by, leave, held_at, meaning}
+use Rattle.tl_meaning.specs.Meaning.{Ending, On, Breaks, Fails, Returns, plain, after_events, and_then, free_by, leave, held_at, behaviour}
 use Rattle.tl_meaning.specs.Leading.{Leads, Runs, from_label, IsInside}
 use Rattle.tl_compiler.specs.Tails.{Tail}
-use Rattle.tl_meaning.specs.Endings.{Agrees, IsSite, LeadsBy, StatementLeads}
-use Rattle.tl_lowering.specs.Sound.{IsSound}
+use Rattle.tl_meaning.specs.Endings.{Mirrors, IsSite, LeadsBy, StatementLeads}
+use Rattle.tl_lowering.specs.Sound.{IsWellFormed}
 use Rattle.tl_meaning.proofs.Steps.{and_on, further_in, goes_to_next, goes_to_label, returns}
 use Rattle.tl_compiler.proofs.TailLemmas.{tail_further, tail_behind, tail_length}
 use Rattle.tl_compiler.proofs.Stretches.{tail_of_stretch}
@@ -33,7 +33,7 @@ use Rattle.tl_compiler.proofs.NumberStretches.{release_stretch}
 use Rattle.tl_compiler.proofs.StatementStretches.{statement_stretch}
 use Rattle.tl_meaning.proofs.StatementRuns.{prefixed, widened, StatementRuns}
 
-pub agrees_free : {d : ℕ} {h : Nodes} {s u : State} (n : ℕ) → Agrees d h s u → Agrees d (without_node h n) (with_node s n None) (with_node u n None)
+pub agrees_free : {d : ℕ} {h : Nodes} {s u : State} (n : ℕ) → Mirrors d h s u → Mirrors d (without_node h n) (with_node s n None) (with_node u n None)
 agrees_free {d} {h} {s} {u} n a = record {
   kept = kept_free n a.kept;
   values = a.values;
@@ -41,10 +41,10 @@ agrees_free {d} {h} {s} {u} n a = record {
   held = held_set s.nodes n None ∙ ap (λ l. slice_set l n false) a.held;
 }
 
-pub held_size : {d : ℕ} {h : Nodes} {s u : State} → Agrees d h s u → length h ≡ NODE_REGISTERS
+pub held_size : {d : ℕ} {h : Nodes} {s u : State} → Mirrors d h s u → length h ≡ NODE_REGISTERS
 held_size {d} {h} {s} {u} a = ap length (sym a.held) ∙ held_length s.nodes ∙ a.nodes
 
-pub holds_there : {d : ℕ} {h : Nodes} {s u : State} → Agrees d h s u → (i : ℕ) → holds h i ≡ is_some (node s i)
+pub holds_there : {d : ℕ} {h : Nodes} {s u : State} → Mirrors d h s u → (i : ℕ) → holds h i ≡ is_some (node s i)
 holds_there {d} {h} {s} {u} a i = ap (λ l. holds l i) (sym a.held) ∙ held_is s.nodes i
 
 pub further_site : {c : List Instr} {fs : List Frame} {x : Site} (l m : ℕ) → l ≤ m → IsSite c fs x l → IsSite c fs x m
@@ -59,12 +59,12 @@ further_site {c} {fs} l m le site = record {
 pub record Released (c : List Instr) (parents : List ℕ) (fs : List Frame) (d on : ℕ) (held kept : Nodes) (from : Run) (s : State) : Type 0 where
   pub state : State
   pub leads : Leads from (leave kept s).events (from_label c parents fs on state)
-  pub agrees : Agrees d (both held kept) (leave kept s).state state
+  pub agrees : Mirrors d (both held kept) (leave kept s).state state
   pub goes_on : (leave kept s).outcome ≡ On
 
 module _ {c : List Instr} (parents : List ℕ) (ready : Runs c) where
   pub released : (fs : List Frame) (d : ℕ) (held kept : Nodes) (k : List Instr) (s u : State) → Tail c (release_code (minus held kept) k) → IsInside c fs (length k)
-      → length kept ≡ NODE_REGISTERS → Agrees d held s u
+      → length kept ≡ NODE_REGISTERS → Mirrors d held s u
       → Released c parents fs d (length k) held kept (from_label c parents fs (length (release_code (minus held kept) k)) u) s
   released fs d held kept k s u tail inside size agrees =
       let does = below parents ready fs k inside (minus held kept) kept d NODE_REGISTERS s u tail agrees.kept
@@ -190,17 +190,17 @@ module _ {c : List Instr} (parents : List ℕ) (ready : Runs c) where
 
   -- one statement behind another
   then_runs : (b : Statement) → StatementRuns parents ready b → (A : Option Nodes) (F B : List Nodes) (x : Site) (k : List Instr) (fs : List Frame) → Tail c (statement_code b (held_behind A) x k) → IsSite c fs x (length k)
-      → IfSome A (λ h. IsSound b x.values x.nodes h (is_some x.exit))
-      → (from : Run) (o : Outcome) (s : State) (events : List Action) → LeadsBy A F B c parents fs x (length (statement_code b (held_behind A) x k)) from o s events
-      → StatementLeads (next A (after b)) (F ++ going_on A (fails b)) (B ++ going_on A (breaks b)) c parents fs x (length k) from (and_then (record { outcome = o; state = s; events = events }) (meaning parents b))
+      → IfSome A (λ h. IsWellFormed b x.values x.nodes h (is_some x.exit))
+      → (from : Run) (o : Ending) (s : State) (events : List Action) → LeadsBy A F B c parents fs x (length (statement_code b (held_behind A) x k)) from o s events
+      → StatementLeads (next A (after b)) (F ++ going_on A (fails b)) (B ++ going_on A (breaks b)) c parents fs x (length k) from (and_then (record { outcome = o; state = s; events = events }) (behaviour parents b))
   then_runs b runs A F B x k fs tail site sound from Fails s events l = (l.0, l.1, in_left l.1 F (going_on A (fails b)) l.2, l.3, l.4)
   then_runs b runs A F B x k fs tail site sound from Breaks s events l = (l.0, l.1, in_left l.1 B (going_on A (breaks b)) l.2, l.3, l.4, l.5, l.6)
   then_runs b runs A F B x k fs tail site sound from Returns s events l = l
   then_runs b runs None F B x k fs tail site sound from On s events l = let e = l.2 in cc
   then_runs b runs (Some h) F B x k fs tail site sound from On s events l =
       let same : h ≡ l.1 = let e = l.2 in cc in
-      let agrees : Agrees x.values h s l.0 = subst (λ g. Agrees x.values g s l.0) (sym same) l.4 in
-      let done = meaning parents b s in
+      let agrees : Mirrors x.values h s l.0 = subst (λ g. Mirrors x.values g s l.0) (sym same) l.4 in
+      let done = behaviour parents b s in
       let there = from_label c parents fs (length (statement_code b h x k)) l.0 in
       prefixed c parents (after b h) (F ++ fails b h) (B ++ breaks b h) fs x (length k) from there events l.3 done.outcome done.state done.events
       (widened c parents (after b h) (fails b h) (breaks b h) (F ++ fails b h) (B ++ breaks b h) fs x (length k) there (λ g m. in_right g F (fails b h) m) (λ g m. in_right g B (breaks b h) m) done.outcome done.state done.events
@@ -208,13 +208,13 @@ module _ {c : List Instr} (parents : List ℕ) (ready : Runs c) where
 
   pub sequence_runs : (a b : Statement) → StatementRuns parents ready a → StatementRuns parents ready b → (held : Nodes) (x : Site) (k : List Instr) (fs : List Frame) (s u : State)
       → Tail c (statement_code a held x (statement_code b (held_behind (after a held)) x k)) → IsSite c fs x (length k)
-      → IsSound a x.values x.nodes held (is_some x.exit) → IfSome (after a held) (λ h. IsSound b x.values x.nodes h (is_some x.exit)) → Agrees x.values held s u
+      → IsWellFormed a x.values x.nodes held (is_some x.exit) → IfSome (after a held) (λ h. IsWellFormed b x.values x.nodes h (is_some x.exit)) → Mirrors x.values held s u
       → StatementLeads (next (after a held) (after b)) (fails a held ++ going_on (after a held) (fails b)) (breaks a held ++ going_on (after a held) (breaks b)) c parents fs x (length k)
-      (from_label c parents fs (length (statement_code a held x (statement_code b (held_behind (after a held)) x k))) u) (and_then (meaning parents a s) (meaning parents b))
+      (from_label c parents fs (length (statement_code a held x (statement_code b (held_behind (after a held)) x k))) u) (and_then (behaviour parents a s) (behaviour parents b))
   sequence_runs a b first second held x k fs s u tail site sound_a sound_b agrees =
       let code = statement_code b (held_behind (after a held)) x k in
       let long : length k ≤ length code = tail_length (tail_of_stretch (statement_stretch b (held_behind (after a held)) x k)) in
-      let done = meaning parents a s in
+      let done = behaviour parents a s in
       then_runs b second (after a held) (fails a held) (breaks a held) x k fs (tail_further tail (tail_of_stretch (statement_stretch a held x code))) site sound_b
       (from_label c parents fs (length (statement_code a held x code)) u) done.outcome done.state done.events
       (first held x code fs s u tail (further_site (length k) (length code) long site) sound_a agrees)

@@ -23,11 +23,11 @@ use Rattle.tl_compiler.specs.Numbers.{register_of, into_code, operand_code}
 use Rattle.tl_lowering.specs.Sets.{Nodes, none_held, holds}
 use Rattle.tl_lowering.specs.Outcomes.{may_fail, here_if, after, fails, breaks}
 use Rattle.tl_compiler.specs.Statements.{Site, statement_code}
-use Rattle.tl_meaning.specs.Meaning.{Outcome, On, Breaks, Fails, Returns, Done, plain, telling, given, write, leave, of_node, number, held_at, meaning}
+use Rattle.tl_meaning.specs.Meaning.{Ending, On, Breaks, Fails, Returns, Done, plain, telling, given, write, leave, of_node, number, held_at, behaviour}
 use Rattle.tl_meaning.specs.Leading.{Leads, Runs, from_label, Kept, Given, NumberLeads}
 use Rattle.tl_compiler.specs.Tails.{Tail}
-use Rattle.tl_lowering.specs.Sound.{IsReadable, IsSound}
-use Rattle.tl_meaning.specs.Endings.{Agrees, IsSite, LeadsBy, StatementLeads}
+use Rattle.tl_lowering.specs.Sound.{IsReadable, IsWellFormed}
+use Rattle.tl_meaning.specs.Endings.{Mirrors, IsSite, LeadsBy, StatementLeads}
 use Rattle.tl_compiler.specs.Among.{IsIn}
 use Rattle.tl_meaning.proofs.Steps.{stays, and_on, further_in, goes_to_next, goes_to_label}
 use Rattle.tl_compiler.proofs.TailLemmas.{tail_further}
@@ -37,11 +37,11 @@ use Rattle.tl_meaning.proofs.ReleaseRuns.{below}
 
 -- ---- states that agree
 
-pub agrees_kept : {d : ℕ} {h : Nodes} {s u w : State} → Agrees d h s u → Kept d u w → Agrees d h s w
+pub agrees_kept : {d : ℕ} {h : Nodes} {s u w : State} → Mirrors d h s u → Kept d u w → Mirrors d h s w
 agrees_kept a k = record { kept = kept_on (omega arith) a.kept k; values = a.values; nodes = a.nodes; held = a.held }
 
-pub agrees_given : {d e v : ℕ} {n : ℤ} {h : Nodes} {s u w : State} → Agrees d h s u → v < VALUE_REGISTERS → Given v n d u w → ((i : ℕ) → i < e → i ≢ v → i < d)
-    → Agrees e h (with_value s v n) w
+pub agrees_given : {d e v : ℕ} {n : ℤ} {h : Nodes} {s u w : State} → Mirrors d h s u → v < VALUE_REGISTERS → Given v n d u w → ((i : ℕ) → i < e → i ≢ v → i < d)
+    → Mirrors e h (with_value s v n) w
 agrees_given {d} {e} {v} {n} {h} {s} {u} {w} a lt g fits = record {
   kept = record {
     values = λ i below. by i below (cases_eq i v);
@@ -58,10 +58,10 @@ agrees_given {d} {e} {v} {n} {h} {s} {u} {w} a lt g fits = record {
     by i below (inl same) = ap (value w) same ∙ g.here ∙ sym (get_or-set_same s.values v n (pos 0) (subst (λ k. v < k) (sym a.values) lt)) ∙ ap (value (with_value s v n)) (sym same)
     by i below (inr ne) = g.values i (fits i below ne) ne ∙ a.kept.values i (fits i below ne) ∙ sym (get_or-set_other s.values v i n (pos 0) ne)
 
-pub readable_there : (e : Expression) {d : ℕ} {h : Nodes} {s u : State} → Agrees d h s u → IsReadable d h e → IsReadable d (held_at u) e
+pub readable_there : (e : Expression) {d : ℕ} {h : Nodes} {s u : State} → Mirrors d h s u → IsReadable d h e → IsReadable d (held_at u) e
 readable_there e {d} {h} {s} {u} a r = subst (λ g. IsReadable d g e) (sym (ap (map is_some) a.kept.nodes ∙ a.held)) r
 
-pub number_there : (parents : List ℕ) (e : Expression) {d : ℕ} {h : Nodes} {s u : State} → Agrees d h s u → IsReadable d h e → number parents e u ≡ number parents e s
+pub number_there : (parents : List ℕ) (e : Expression) {d : ℕ} {h : Nodes} {s u : State} → Mirrors d h s u → IsReadable d h e → number parents e u ≡ number parents e s
 number_there parents e {d} {h} {s} {u} a r = same_number parents e d h s u r a.kept
 
 -- a number of which no operation is part doesn't fail
@@ -89,7 +89,7 @@ here false h e = cc
 module _ (c : List Instr) (parents : List ℕ) where
   -- what was done before
   pub prefixed : (A : Option Nodes) (F B : List Nodes) (fs : List Frame) (x : Site) (on : ℕ) (from to : Run) (first : List Action) → Leads from first to
-      → (o : Outcome) (s : State) (events : List Action) → LeadsBy A F B c parents fs x on to o s events → LeadsBy A F B c parents fs x on from o s (first ++ events)
+      → (o : Ending) (s : State) (events : List Action) → LeadsBy A F B c parents fs x on to o s events → LeadsBy A F B c parents fs x on from o s (first ++ events)
   prefixed A F B fs x on from to first leads On s events l = (l.0, l.1, l.2, and_on leads l.3, l.4)
   prefixed A F B fs x on from to first leads Fails s events l = (l.0, l.1, l.2, and_on leads l.3, l.4)
   prefixed A F B fs x on from to first leads Breaks s events l =
@@ -107,7 +107,7 @@ module _ (c : List Instr) (parents : List ℕ) where
 
   -- of which less is known
   pub widened : (A : Option Nodes) (F B G C : List Nodes) (fs : List Frame) (x : Site) (on : ℕ) (from : Run) → ((h : Nodes) → IsIn h F → IsIn h G) → ((h : Nodes) → IsIn h B → IsIn h C)
-      → (o : Outcome) (s : State) (events : List Action) → LeadsBy A F B c parents fs x on from o s events → LeadsBy A G C c parents fs x on from o s events
+      → (o : Ending) (s : State) (events : List Action) → LeadsBy A F B c parents fs x on from o s events → LeadsBy A G C c parents fs x on from o s events
   widened A F B G C fs x on from f b On s events l = l
   widened A F B G C fs x on from f b Fails s events l = (l.0, l.1, f l.1 l.2, l.3, l.4)
   widened A F B G C fs x on from f b Breaks s events l = (l.0, l.1, b l.1 l.2, l.3, l.4, l.5, l.6)
@@ -117,8 +117,8 @@ module _ {c : List Instr} (parents : List ℕ) (ready : Runs c) where
   -- the code of the statement, wherever it stands, does what the statement means
   abbrev pub StatementRuns : Statement → Type 0
   StatementRuns S = (held : Nodes) (x : Site) (k : List Instr) (fs : List Frame) (s u : State) → Tail c (statement_code S held x k) → IsSite c fs x (length k)
-      → IsSound S x.values x.nodes held (is_some x.exit) → Agrees x.values held s u
-      → StatementLeads (after S held) (fails S held) (breaks S held) c parents fs x (length k) (from_label c parents fs (length (statement_code S held x k)) u) (meaning parents S s)
+      → IsWellFormed S x.values x.nodes held (is_some x.exit) → Mirrors x.values held s u
+      → StatementLeads (after S held) (fails S held) (breaks S held) c parents fs x (length k) (from_label c parents fs (length (statement_code S held x k)) u) (behaviour parents S s)
 
   pub skip_runs : StatementRuns S.Skip
   skip_runs held x k fs s u tail site sound agrees = (u, held, refl, stays (from_label c parents fs (length k) u), agrees)
@@ -142,8 +142,8 @@ module _ {c : List Instr} (parents : List ℕ) (ready : Runs c) where
 
   -- a number that is used once
   operand_used : (e : Expression) (held : Nodes) (x : Site) (i : Instr) (k : List Instr) (fs : List Frame) (s u : State) → Tail c (operand_code e x.values (x.pad held) (i ∷ k)) → IsSite c fs x (length k)
-      → IsReadable x.values held e → Agrees x.values held s u
-      → (go : ℤ → Done) → ((n : ℤ) (w : State) → Operand e x.values n u w → Agrees x.values held s w → StatementLeads (Some held) [] [] c parents fs x (length k) (from_label c parents fs (suc (length k)) w) (go n))
+      → IsReadable x.values held e → Mirrors x.values held s u
+      → (go : ℤ → Done) → ((n : ℤ) (w : State) → Operand e x.values n u w → Mirrors x.values held s w → StatementLeads (Some held) [] [] c parents fs x (length k) (from_label c parents fs (suc (length k)) w) (go n))
       → StatementLeads (Some held) (here_if (may_fail e) held) [] c parents fs x (length k) (from_label c parents fs (length (operand_code e x.values (x.pad held) (i ∷ k))) u) (given (number parents e s) s go)
   operand_used e held x i k fs s u tail site readable agrees go used =
       by (number parents e s) refl

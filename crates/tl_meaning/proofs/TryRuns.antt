@@ -10,12 +10,12 @@ use Rattle.tl_lowering.specs.Sets.{Nodes, both_of, same, all_of}
 use Rattle.tl_compiler.specs.NodeSets.{all_sets}
 use Rattle.tl_lowering.specs.Outcomes.{handled_by, after, fails, breaks}
 use Rattle.tl_compiler.specs.Statements.{Site, direct, joining_code, Second, Pads, pad_at, pads_of, held_behind, statement_code}
-use Rattle.tl_meaning.specs.Meaning.{Outcome, On, Breaks, Fails, Returns, Done, after_events, is_on, and_then, or_else, leave, leaving, meaning}
+use Rattle.tl_meaning.specs.Meaning.{Ending, On, Breaks, Fails, Returns, Done, after_events, is_on, and_then, or_else, leave, leaving, behaviour}
 use Rattle.tl_compiler.specs.Tails.{Tail}
 use Rattle.tl_meaning.specs.Leading.{Runs, from_label}
-use Rattle.tl_meaning.specs.Endings.{Agrees, IsSite, LeadsBy, StatementLeads}
+use Rattle.tl_meaning.specs.Endings.{Mirrors, IsSite, LeadsBy, StatementLeads}
 use Rattle.tl_compiler.specs.Among.{IsIn}
-use Rattle.tl_lowering.specs.Sound.{IsSound}
+use Rattle.tl_lowering.specs.Sound.{IsWellFormed}
 use Rattle.tl_meaning.proofs.Steps.{and_on, further_in}
 use Rattle.tl_compiler.proofs.TailLemmas.{tail_further, tail_length}
 use Rattle.tl_compiler.proofs.Stretches.{tail_of_stretch}
@@ -34,7 +34,7 @@ use Rattle.tl_meaning.proofs.PadRuns.{pads_bound, pad_runs}
 pub leaving_behind : (whole : Option Nodes) (first : List Action) (d : Done) → leaving whole (after_events first d) ≡ after_events first (leaving whole d)
 leaving_behind whole first d = by d.outcome whole
   where
-    by : (o : Outcome) (whole : Option Nodes) → leaving whole (after_events first (record { outcome = o; state = d.state; events = d.events })) ≡ after_events first (leaving whole (record { outcome = o; state = d.state; events = d.events }))
+    by : (o : Ending) (whole : Option Nodes) → leaving whole (after_events first (record { outcome = o; state = d.state; events = d.events })) ≡ after_events first (leaving whole (record { outcome = o; state = d.state; events = d.events }))
     by On None = ap (λ es. let r : Done = record { outcome = On; state = d.state; events = es } in r) (append_assoc first d.events [])
     by On (Some kept) = ap (λ es. let r : Done = record { outcome = (leave kept d.state).outcome; state = (leave kept d.state).state; events = es } in r) (append_assoc first d.events (leave kept d.state).events)
     by Breaks whole = refl
@@ -115,10 +115,10 @@ module _ {c : List Instr} (parents : List ℕ) (ready : Runs c) (a b : Statement
     joined_end true e = refl
     joined_end false e = same_end e
 
-    try_by : (s u : State) → Agrees x.values held s u → Tail c rest → IsSound b x.values x.nodes start (is_some x.exit)
-        → (from : Run) (o : Outcome) (t : State) (events : List Action) → LeadsBy (after a held) (fails a held) (breaks a held) c parents fs inner (length rest) from o t events
+    try_by : (s u : State) → Mirrors x.values held s u → Tail c rest → IsWellFormed b x.values x.nodes start (is_some x.exit)
+        → (from : Run) (o : Ending) (t : State) (events : List Action) → LeadsBy (after a held) (fails a held) (breaks a held) c parents fs inner (length rest) from o t events
         → StatementLeads whole (fails b start) (breaks a held ++ breaks b start) c parents fs x (length k) from
-        (leaving whole (or_else (record { outcome = o; state = t; events = events }) (λ t. and_then (leave start t) (meaning parents b))))
+        (leaving whole (or_else (record { outcome = o; state = t; events = events }) (λ t. and_then (leave start t) (behaviour parents b))))
     try_by s u agrees tail sound from Breaks t events l = (l.0, l.1, in_left l.1 (breaks a held) (breaks b start) l.2, l.3, l.4, l.5, l.6)
     try_by s u agrees tail sound from Returns t events l = l
     try_by s u agrees tail sound from On t events l =
@@ -141,23 +141,23 @@ module _ {c : List Instr} (parents : List ℕ) (ready : Runs c) (a b : Statement
         let p = pad_runs parents ready fs x.values (fails a held) start start_size second.label base x.pad (λ h. refl) (further_in c fs (length k) (length second.code) first site.inside) bounds.1
         all_sets l.1 t l.0 (inl (one_of_all l.1 (held_size l.4))) l.2 (start_within held l.1 (fails a held) l.2) l.4 tail_pads in
         let freed = leave start t in
-        let done = meaning parents b freed.state in
+        let done = behaviour parents b freed.state in
         let all = leaving whole done in
         let there = from_label c parents fs second.label p.state in
         let q = second_runs parents ready b twos start x whole (held_behind whole) (keeps_second (after a held) (after b start) known.after known_b.after) k fs freed.state p.state (direct b start x) refl tail_second site sound p.agrees in
         let wide = widened c parents whole (fails b start) (breaks b start) (fails b start) (breaks a held ++ breaks b start) fs x (length k) there (λ h m. m) (λ h m. in_right h (breaks a held) (breaks b start) m) all.outcome all.state all.events q in
         let behind = prefixed c parents whole (fails b start) (breaks a held ++ breaks b start) fs x (length k) from there (events ++ freed.events) (and_on l.3 p.leads) all.outcome all.state all.events wide in
-        let goes : and_then freed (meaning parents b) ≡ after_events freed.events done = ap (λ o. if is_on o then after_events freed.events done else freed) p.goes_on in
+        let goes : and_then freed (behaviour parents b) ≡ after_events freed.events done = ap (λ o. if is_on o then after_events freed.events done else freed) p.goes_on in
         let twice : after_events events (after_events freed.events done) ≡ after_events (events ++ freed.events) done =
         ap (λ es. let r : Done = record { outcome = done.outcome; state = done.state; events = es } in r) (sym (append_assoc events freed.events done.events)) in
-        let same : after_events (events ++ freed.events) all ≡ leaving whole (after_events events (and_then freed (meaning parents b))) =
+        let same : after_events (events ++ freed.events) all ≡ leaving whole (after_events events (and_then freed (behaviour parents b))) =
         sym (leaving_behind whole (events ++ freed.events) done) ∙ ap (leaving whole) (sym twice ∙ ap (after_events events) (sym goes)) in
         subst (StatementLeads whole (fails b start) (breaks a held ++ breaks b start) c parents fs x (length k) from) same behind
 
-    pub try_runs : (s u : State) → Agrees x.values held s u → Tail c (statement_code a held inner rest) → IsSound a x.values x.nodes held (is_some x.exit) → IsSound b x.values x.nodes start (is_some x.exit)
+    pub try_runs : (s u : State) → Mirrors x.values held s u → Tail c (statement_code a held inner rest) → IsWellFormed a x.values x.nodes held (is_some x.exit) → IsWellFormed b x.values x.nodes start (is_some x.exit)
         → StatementLeads whole (fails b start) (breaks a held ++ breaks b start) c parents fs x (length k) (from_label c parents fs (length (statement_code a held inner rest)) u)
-        (leaving whole (or_else (meaning parents a s) (λ t. and_then (leave start t) (meaning parents b))))
+        (leaving whole (or_else (behaviour parents a s) (λ t. and_then (leave start t) (behaviour parents b))))
     try_runs s u agrees tail sound_a sound_b =
-        let done = meaning parents a s in
+        let done = behaviour parents a s in
         try_by s u agrees (tail_further tail (tail_of_stretch (statement_stretch a held inner rest))) sound_b (from_label c parents fs (length (statement_code a held inner rest)) u) done.outcome done.state done.events
         (ones held inner rest fs s u tail inner_site sound_a agrees)

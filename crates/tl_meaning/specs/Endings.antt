@@ -8,11 +8,11 @@ use Rattle.tl_machine.specs.Left.{Frame}
 use Rattle.tl_lowering.specs.Sets.{Nodes, none_held, both}
 use Rattle.tl_compiler.specs.Among.{IsIn}
 use Rattle.tl_compiler.specs.Statements.{Site, Exit}
-use Rattle.tl_meaning.specs.Meaning.{Outcome, On, Breaks, Fails, Returns, Done, leave, held_at}
+use Rattle.tl_meaning.specs.Meaning.{Ending, On, Breaks, Fails, Returns, Done, leave, held_at}
 use Rattle.tl_meaning.specs.Leading.{Leads, Kept, from_label, IsInside}
 
 -- The text's state and the machine's: the first d values, nodes and records are the same, and these registers hold a node.
-pub record Agrees (d : ℕ) (registers : Nodes) (s u : State) : Type 0 where
+pub record Mirrors (d : ℕ) (registers : Nodes) (s u : State) : Type 0 where
   pub kept : Kept d s u
   pub values : length s.values ≡ VALUE_REGISTERS
   pub nodes : length s.nodes ≡ NODE_REGISTERS
@@ -27,18 +27,18 @@ pub record IsSite (code : List Instr) (frames : List Frame) (x : Site) (on : ℕ
 
 -- Where a run comes to by the time that a statement ends in this way and state, with these events told. What is held there is what
 -- the sets say that are known of the statement beforehand.
-abbrev pub LeadsBy : Option Nodes → List Nodes → List Nodes → List Instr → List ℕ → List Frame → Site → ℕ → Run → Outcome → State → List Action → Type 0
+abbrev pub LeadsBy : Option Nodes → List Nodes → List Nodes → List Instr → List ℕ → List Frame → Site → ℕ → Run → Ending → State → List Action → Type 0
 -- on behind it
 LeadsBy after fails breaks code parents frames x on from On s events =
-    (u : State) × (held : Nodes) × (after ≡ Some held) × Leads from events (from_label code parents frames on u) × Agrees x.values held s u
+    (u : State) × (held : Nodes) × (after ≡ Some held) × Leads from events (from_label code parents frames on u) × Mirrors x.values held s u
 -- to the pad of what is held
 LeadsBy after fails breaks code parents frames x on from Fails s events =
-    (u : State) × (held : Nodes) × IsIn held fails × Leads from events (from_label code parents frames (x.pad held) u) × Agrees x.values held s u
+    (u : State) × (held : Nodes) × IsIn held fails × Leads from events (from_label code parents frames (x.pad held) u) × Mirrors x.values held s u
 -- out of the loop, and all is freed on the way that isn't held there
 LeadsBy after fails breaks code parents frames x on from Breaks s events =
     (u : State) × (held : Nodes) × IsIn held breaks × (exit : Exit) × (x.exit ≡ Some exit)
     × Leads from (events ++ (leave exit.held s).events) (from_label code parents frames exit.label u)
-    × Agrees x.values (both held exit.held) (leave exit.held s).state u
+    × Mirrors x.values (both held exit.held) (leave exit.held s).state u
 -- to the end of the call, and all is freed on the way
 LeadsBy after fails breaks code parents frames x on from Returns s events =
     (u : State) × Leads from (events ++ (leave none_held s).events) (Ended u) × (u.records ≡ (leave none_held s).state.records)

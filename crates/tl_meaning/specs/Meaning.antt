@@ -70,19 +70,19 @@ truth parents (C.And' p c q d) s = both_true (truth parents c s) (truth parents 
 -- ---- what is done
 
 -- how a statement ends: control goes on, out of the loop, to where a failure is handled, or to the end of the call
-pub data Outcome : Type 0 where
-  On : Outcome
-  Breaks : Outcome
-  Fails : Outcome
-  Returns : Outcome
+pub data Ending : Type 0 where
+  On : Ending
+  Breaks : Ending
+  Fails : Ending
+  Returns : Ending
 
 -- what a statement comes to, and its locks, writes, frees and emitted values in order
 pub record Done : Type 0 where
-  pub outcome : Outcome
+  pub outcome : Ending
   pub state : State
   pub events : List Action
 
-abbrev pub plain : Outcome → State → Done
+abbrev pub plain : Ending → State → Done
 plain outcome s = record { outcome = outcome; state = s; events = [] }
 
 abbrev pub telling : Action → State → Done
@@ -91,11 +91,11 @@ telling event s = record { outcome = On; state = s; events = event ∷ [] }
 abbrev pub after_events : List Action → Done → Done
 after_events events d = record d { events = events ++ d.events }
 
-abbrev pub is_on : Outcome → Bool
+abbrev pub is_on : Ending → Bool
 is_on On = true
 is_on o = false
 
-abbrev pub is_failure : Outcome → Bool
+abbrev pub is_failure : Ending → Bool
 is_failure Fails = true
 is_failure o = false
 
@@ -217,44 +217,44 @@ abbrev pub counted : ℕ → ℤ → State → (ℕ → Done) → Done
 counted w (negsuc x) s go = go 0
 counted w (pos x) s go = if nat_le x w then go x else plain Fails s
 
-abbrev pub meaning : List ℕ → Statement → State → Done
-meaning parents S.Skip s = plain On s
-meaning parents (S.Sequence' p a q b) s = and_then (meaning parents a s) (meaning parents b)
-meaning parents (S.Assign v e) s = given (number parents e s) s (λ x. plain On (with_value s v x))
-meaning parents (S.Write n f e) s = given (number parents e s) s (λ x. write f x (node s n) s)
-meaning parents (S.Emit e) s = given (number parents e s) s (λ x. telling (did.Emit x) s)
-meaning parents (S.Free n) s = free n s
-meaning parents (S.Descend n e) s = given (number parents e s) s (λ x. descend_by parents n (node s n) x s)
-meaning parents (S.Take n m) s = and_then (free n s) (λ s. plain On (with_node (with_node s m None) n (node s m)))
-meaning parents S.Break s = plain Breaks s
-meaning parents S.Return s = plain Returns s
-meaning parents S.Fail s = plain Fails s
-meaning parents (S.If' c p a q b) s =
-    leaving (after (S.If' c p a q b) (held_at s)) (chosen (truth parents c s) s (meaning parents a) (meaning parents b))
-meaning parents (S.Let' v e p a) s =
-    leaving (after (S.Let' v e p a) (held_at s)) (given (number parents e s) s (λ x. meaning parents a (with_value s v x)))
-meaning parents (S.LetElse' v e p a q o) s =
+abbrev pub behaviour : List ℕ → Statement → State → Done
+behaviour parents S.Skip s = plain On s
+behaviour parents (S.Sequence' p a q b) s = and_then (behaviour parents a s) (behaviour parents b)
+behaviour parents (S.Assign v e) s = given (number parents e s) s (λ x. plain On (with_value s v x))
+behaviour parents (S.Write n f e) s = given (number parents e s) s (λ x. write f x (node s n) s)
+behaviour parents (S.Emit e) s = given (number parents e s) s (λ x. telling (did.Emit x) s)
+behaviour parents (S.Free n) s = free n s
+behaviour parents (S.Descend n e) s = given (number parents e s) s (λ x. descend_by parents n (node s n) x s)
+behaviour parents (S.Take n m) s = and_then (free n s) (λ s. plain On (with_node (with_node s m None) n (node s m)))
+behaviour parents S.Break s = plain Breaks s
+behaviour parents S.Return s = plain Returns s
+behaviour parents S.Fail s = plain Fails s
+behaviour parents (S.If' c p a q b) s =
+    leaving (after (S.If' c p a q b) (held_at s)) (chosen (truth parents c s) s (behaviour parents a) (behaviour parents b))
+behaviour parents (S.Let' v e p a) s =
+    leaving (after (S.Let' v e p a) (held_at s)) (given (number parents e s) s (λ x. behaviour parents a (with_value s v x)))
+behaviour parents (S.LetElse' v e p a q o) s =
     leaving (after (S.LetElse' v e p a q o) (held_at s))
-    (elim (number parents e s) [ Some x ↦ meaning parents a (with_value s v x) | None ↦ meaning parents o s ])
-meaning parents (S.Lock' place p a q o) s =
+    (elim (number parents e s) [ Some x ↦ behaviour parents a (with_value s v x) | None ↦ behaviour parents o s ])
+behaviour parents (S.Lock' place p a q o) s =
     let locking = lock_place parents place s in
     leaving (after (S.Lock' place p a q o) (held_at s))
-    (after_events locking.events (if is_on locking.outcome then meaning parents a locking.state else meaning parents o locking.state))
-meaning parents (S.Try' p a q b) s =
+    (after_events locking.events (if is_on locking.outcome then behaviour parents a locking.state else behaviour parents o locking.state))
+behaviour parents (S.Try' p a q b) s =
     leaving (after (S.Try' p a q b) (held_at s))
-    (or_else (meaning parents a s)
-    (λ t. and_then (leave (handled_by (held_at s) (all_of (fails a (held_at s)))) t) (meaning parents b)))
-meaning parents (S.Repeat' w p a) s =
-    leaving (after (S.Repeat' w p a) (held_at s)) (broken (turns w (meaning parents a) s))
-meaning parents (S.RepeatUpTo' e w p a) s =
+    (or_else (behaviour parents a s)
+    (λ t. and_then (leave (handled_by (held_at s) (all_of (fails a (held_at s)))) t) (behaviour parents b)))
+behaviour parents (S.Repeat' w p a) s =
+    leaving (after (S.Repeat' w p a) (held_at s)) (broken (turns w (behaviour parents a) s))
+behaviour parents (S.RepeatUpTo' e w p a) s =
     given (number parents e s) s (λ x. counted w x s (λ n.
-    leaving (after (S.RepeatUpTo' e w p a) (held_at s)) (broken (turns n (meaning parents a) s))))
-meaning parents (S.At' offset p a) s = meaning parents a s
+    leaving (after (S.RepeatUpTo' e w p a) (held_at s)) (broken (turns n (behaviour parents a) s))))
+behaviour parents (S.At' offset p a) s = behaviour parents a s
 
 -- ---- procedures
 
 -- a call of a procedure: where it doesn't come to its end by itself, every node is freed
 abbrev pub call : List ℕ → Statement → List ℤ → Records → Done
 call parents body args t =
-    let d = meaning parents body (start args t) in
+    let d = behaviour parents body (start args t) in
     if is_on d.outcome then d else after_events d.events (leave none_held d.state)

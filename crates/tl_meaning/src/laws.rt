@@ -17,18 +17,18 @@ ghost use Rattle.tl_lowering.specs.Outcomes.{after, fails, breaks};
 ghost use Rattle.tl_lowering.specs.Sets.{Nodes, none_held};
 ghost use Rattle.tl_compiler.specs.Statements.{Site, statement_code, procedure_code};
 ghost use Rattle.tl_meaning.specs.Calls.{DoesCall};
-ghost use Rattle.tl_meaning.specs.Endings.{Agrees, IsSite, StatementLeads};
+ghost use Rattle.tl_meaning.specs.Endings.{Mirrors, IsSite, StatementLeads};
 ghost use Rattle.tl_compiler.specs.Tails.{Tail};
 ghost use Rattle.tl_meaning.specs.Leading.{Runs, from_label, IsInside, NumberLeads, ConditionLeads};
 ghost use Rattle.tl_lowering.specs.Sound.{IsReadable, IsTestable};
-ghost use Rattle.tl_meaning.specs.Meaning.{is_on, meaning, call, number, truth, held_at};
-ghost use Rattle.tl_lowering.specs.Sound.{IsSound};
+ghost use Rattle.tl_meaning.specs.Meaning.{is_on, behaviour, call, number, truth, held_at};
+ghost use Rattle.tl_lowering.specs.Sound.{IsWellFormed};
 
 use tl_verify::Proc;
 
 /// A call that returns or fails holds no node afterwards, whatever it held.
 pub fn all_is_freed()
-    ensures { (parents : List ℕ) (body : Statement) (args : List ℤ) (t : Records) (n : ℕ) → n < NODE_REGISTERS → is_on (meaning parents body (start args t)).outcome ≡ false → node (call parents body args t).state n ≡ None }
+    ensures { (parents : List ℕ) (body : Statement) (args : List ℤ) (t : Records) (n : ℕ) → n < NODE_REGISTERS → is_on (behaviour parents body (start args t)).outcome ≡ false → node (call parents body args t).state n ≡ None }
 {}
 
 /// The code of a number, run from any state, puts the number that the text means into its register and goes on after
@@ -50,20 +50,20 @@ pub fn conditions()
 /// the loop around, or to the end of the call, as the statement ends, with the text's state; and what is held there is what
 /// was known of the statement before.
 pub fn statements()
-    ensures { (code : List Instr) (parents : List ℕ) (frames : List Frame) (a : Statement) (held : Nodes) (x : Site) (rest : List Instr) (s u : State) → Runs code → Tail code (statement_code a held x rest) → IsSite code frames x (length rest) → IsSound a x.values x.nodes held (is_some x.exit) → Agrees x.values held s u → StatementLeads (after a held) (fails a held) (breaks a held) code parents frames x (length rest) (from_label code parents frames (length (statement_code a held x rest)) u) (meaning parents a s) }
+    ensures { (code : List Instr) (parents : List ℕ) (frames : List Frame) (a : Statement) (held : Nodes) (x : Site) (rest : List Instr) (s u : State) → Runs code → Tail code (statement_code a held x rest) → IsSite code frames x (length rest) → IsWellFormed a x.values x.nodes held (is_some x.exit) → Mirrors x.values held s u → StatementLeads (after a held) (fails a held) (breaks a held) code parents frames x (length rest) (from_label code parents frames (length (statement_code a held x rest)) u) (behaviour parents a s) }
 {}
 
 /// The code of a procedure, run alone on a tree of any shape, does what a call of its text does: the same locks, writes,
 /// frees and emitted values in the same order, and the same final records. Its text handles each failure, as every text
 /// that was read does.
 pub fn calls()
-    ensures { (arity : ℕ) (parents : List ℕ) (body : Statement) (args : List ℤ) (t : Records) → Runs (procedure_code arity body) → IsSound body arity 0 none_held false → fails body none_held ≡ [] → length args ≤ VALUE_REGISTERS → DoesCall (at_positions (procedure_code arity body)) parents body args t }
+    ensures { (arity : ℕ) (parents : List ℕ) (body : Statement) (args : List ℤ) (t : Records) → Runs (procedure_code arity body) → IsWellFormed body arity 0 none_held false → fails body none_held ≡ [] → length args ≤ VALUE_REGISTERS → DoesCall (at_positions (procedure_code arity body)) parents body args t }
 {}
 
 /// A procedure that the verifier accepted, and that has the code of a text, does what a call of the text does: the same locks, writes,
 /// frees and emitted values in the same order, and the same records in the end, on a tree of any shape.
 pub fn procedures(procedure: &Proc)
-    ensures { (arity : ℕ) (parents : List ℕ) (body : Statement) (args : List ℤ) (t : Records) → procedure.now.instrs ≡ at_positions (procedure_code arity body) → IsSound body arity 0 none_held false → fails body none_held ≡ [] → length args ≤ VALUE_REGISTERS → DoesCall procedure.now.instrs parents body args t }
+    ensures { (arity : ℕ) (parents : List ℕ) (body : Statement) (args : List ℤ) (t : Records) → procedure.now.instrs ≡ at_positions (procedure_code arity body) → IsWellFormed body arity 0 none_held false → fails body none_held ≡ [] → length args ≤ VALUE_REGISTERS → DoesCall procedure.now.instrs parents body args t }
 {
     // Its code was accepted.
     let _fact = procedure.code();

@@ -21,8 +21,8 @@ use Rattle.tl_server.specs.declared.request.LineRequest.TheVariants.{Register, C
 use Rattle.tl_server.specs.Gaining.{later_all}
 use Rattle.tl_server.specs.declared.outcome.Done.{Done}
 use Rattle.tl_server.specs.Served.{Ways, CallOutcome, SealOutcome, IsSealable, IsBatchAnswer, IsGrowthAnswer, AnswersRequest}
-use Rattle.tl_server.specs.declared.outcome.Outcome.TheVariants.{Registered, Called, Batched, Grown, Unknown, Sealed}
-use Rattle.tl_server.specs.declared.outcome.Outcome.{Outcome}
+use Rattle.tl_server.specs.declared.outcome.RequestOutcome.TheVariants.{Registered, Called, Batched, Grown, Unknown, Sealed}
+use Rattle.tl_server.specs.declared.outcome.RequestOutcome.{RequestOutcome}
 use Rattle.tl_server.specs.Outcomes.{BatchOutcome, IsGrowth, CameOf, later, later_answer, later_seal, later_did, IsSealableAt, GoesOnFrom}
 
 map_both : {A B C : Type 0} (f : B → C) (g : A → B) (xs : List A) → map (λ a. f (g a)) xs ≡ map f (map g xs)
@@ -147,7 +147,7 @@ unknown ways Seals own base w = absurd w
 unknown ways Closes own base w = absurd w
 
 -- what an engine did where nodes can't be appended is the same where they can, for any other request
-pub grows_too : (seals grows : Bool) (r : LineValue) (own : List Did) (o : Outcome) → ((parents : List ℤ) → r ≡ Grows parents → grows ≡ false)
+pub grows_too : (seals grows : Bool) (r : LineValue) (own : List Did) (o : RequestOutcome) → ((parents : List ℤ) → r ≡ Grows parents → grows ≡ false)
     → CameOf (record { seals = seals; grows = false }) r own o → CameOf (record { seals = seals; grows = grows }) r own o
 grows_too seals grows (Registers name text) own o other w = w
 grows_too seals grows (Calls name args) own o other w = w

@@ -13,8 +13,8 @@ use Rattle.tl_workers.specs.Kept.{AnswersEach, asked_of, gots_of}
 use Rattle.tl_workers.specs.Refusals.{AreCallRefusals}
 use Rattle.tl_server.specs.Requests.{LineValue, Registers, Calls, Batches, Grows, Seals, Closes}
 use Rattle.tl_server.specs.Served.{Ways, RegisterOutcome, CallOutcome, GrowthOutcome, SealOutcome, IsSealable}
-use Rattle.tl_server.specs.declared.outcome.Outcome.{Outcome}
-use Rattle.tl_server.specs.declared.outcome.Outcome.TheVariants.{Registered, Called, Batched, Grown, Unknown, Sealed}
+use Rattle.tl_server.specs.declared.outcome.RequestOutcome.{RequestOutcome}
+use Rattle.tl_server.specs.declared.outcome.RequestOutcome.TheVariants.{Registered, Called, Batched, Grown, Unknown, Sealed}
 
 -- a request that an engine has to do
 abbrev pub IsAsked : LineValue → Type 0
@@ -27,11 +27,11 @@ IsAsked Closes = ⊥
 
 -- ---- what came of it, and what the session of an engine gained by it
 
-abbrev pub IsRegistered : List ℕ → List ℕ → List Did → Outcome → Type 0
+abbrev pub IsRegistered : List ℕ → List ℕ → List Did → RequestOutcome → Type 0
 IsRegistered name text gained (Registered answer) = (gained ≡ []) × RegisterOutcome (name, text) answer
 IsRegistered name text gained _ = ⊥
 
-abbrev pub IsCalled : Bool → List ℕ → List ℤ → List Did → Outcome → Type 0
+abbrev pub IsCalled : Bool → List ℕ → List ℤ → List Did → RequestOutcome → Type 0
 IsCalled seals name args gained (Called answer) = CallOutcome seals (name, args) gained answer
 IsCalled seals name args gained _ = ⊥
 
@@ -41,20 +41,20 @@ BatchOutcome seals requests gained (Ok v) =
     AnswersEach requests v.items × AreCallRefusals seals v.items × (gained ≡ asked_of requests v.items ++ gots_of v.items)
 BatchOutcome seals requests gained (Err e) = (gained ≡ []) × (e ≡ refusal.Memory)
 
-abbrev pub IsBatched : Bool → List (List ℕ × List ℤ) → List Did → Outcome → Type 0
+abbrev pub IsBatched : Bool → List (List ℕ × List ℤ) → List Did → RequestOutcome → Type 0
 IsBatched seals calls gained (Batched answer) = (requests : List Request) × (map request_form requests ≡ calls) × BatchOutcome seals requests gained answer
 IsBatched seals calls gained _ = ⊥
 
-abbrev pub IsGrowth : Bool → List ℤ → List Did → Outcome → Type 0
+abbrev pub IsGrowth : Bool → List ℤ → List Did → RequestOutcome → Type 0
 IsGrowth grows parents gained (Grown answer) = (grows ≡ true) × (gained ≡ []) × GrowthOutcome parents answer × (answer ≢ Err growth.Memory)
 IsGrowth grows parents gained Unknown = (grows ≡ false) × (gained ≡ [])
 IsGrowth grows parents gained _ = ⊥
 
-abbrev pub IsSealed : Bool → List Did → Outcome → Type 0
+abbrev pub IsSealed : Bool → List Did → RequestOutcome → Type 0
 IsSealed seals gained (Sealed answer) = (gained ≡ []) × SealOutcome seals IsSealable answer
 IsSealed seals gained _ = ⊥
 
-abbrev pub CameOf : Ways → LineValue → List Did → Outcome → Type 0
+abbrev pub CameOf : Ways → LineValue → List Did → RequestOutcome → Type 0
 CameOf ways (Registers name text) gained outcome = IsRegistered name text gained outcome
 CameOf ways (Calls name args) gained outcome = IsCalled ways.seals name args gained outcome
 CameOf ways (Batches calls workers) gained outcome = IsBatched ways.seals calls gained outcome

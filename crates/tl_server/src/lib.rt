@@ -37,7 +37,7 @@ pub use hall::{MAX_CONNECTIONS, MAX_PLACES};
 pub use journal::{Journal, NoJournal, Unstored};
 pub use lasting::LastingServer;
 pub use listening::{Server, listen};
-pub use outcome::{Done, Outcome};
+pub use outcome::{Done, RequestOutcome};
 pub use relay::{Keeper, Place, Relay};
 pub use request::{LineRequest, MAX_LINE, read_request};
 pub use service::Service;

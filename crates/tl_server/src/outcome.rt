@@ -4,7 +4,7 @@ ghost use Rattle.std.specs.Prelude.{◌≡◌, ℕ, List, map};
 ghost use Rattle.tl_workers.specs.declared.session.Did.{Did};
 ghost use Rattle.tl_server.specs.Requests.{LineValue};
 ghost use Rattle.tl_server.specs.Outcomes.{CameOf, later_did, IsSealableAt};
-ghost use Rattle.tl_server.specs.declared.outcome.Outcome.TheVariants.{Batched};
+ghost use Rattle.tl_server.specs.declared.outcome.RequestOutcome.TheVariants.{Batched};
 ghost use Rattle.tl_server.specs.Sending.{sending, Writes};
 ghost use Rattle.tl_server.specs.Served.{Ways, AnswersRequest};
 
@@ -20,7 +20,7 @@ use tl_workers::Refusal;
 
 /// What came of a request, before it is written.
 #[derive(Drop)]
-pub enum Outcome {
+pub enum RequestOutcome {
     /// Of a registration.
     Registered(Result<Bounds, RegisterFault>),
     /// Of a call.
@@ -39,7 +39,7 @@ pub enum Outcome {
 #[derive(Drop)]
 pub struct Done {
     /// The epochs in it are the engine's own.
-    pub outcome: Outcome,
+    pub outcome: RequestOutcome,
     /// The epochs of the engines before.
     pub base: u32,
 }
@@ -69,13 +69,13 @@ pub(crate) fn put_outcome<K: Sink>(outbox: &mut Outbox, sink: &mut K, done: &Don
 {
     let base = done.base;
     match &done.outcome {
-        Outcome::Registered(answer) => put_line(outbox, sink, base, answer),
-        Outcome::Called(answer) => put_line(outbox, sink, base, answer),
-        Outcome::Batched(answers) => put_batch(outbox, sink, base, answers),
-        Outcome::Grown(answer) => put_line(outbox, sink, base, answer),
-        Outcome::Unknown => {
+        RequestOutcome::Registered(answer) => put_line(outbox, sink, base, answer),
+        RequestOutcome::Called(answer) => put_line(outbox, sink, base, answer),
+        RequestOutcome::Batched(answers) => put_batch(outbox, sink, base, answers),
+        RequestOutcome::Grown(answer) => put_line(outbox, sink, base, answer),
+        RequestOutcome::Unknown => {
             put_error_line(outbox, sink, LineFault::NotRequest.numbers().as_slice())
         }
-        Outcome::Sealed(answer) => put_line(outbox, sink, base, answer),
+        RequestOutcome::Sealed(answer) => put_line(outbox, sink, base, answer),
     }
 }

@@ -10,7 +10,7 @@ ghost use Rattle.tl_server.specs.Outcomes.{IsAsked, CameOf};
 ghost use Rattle.tl_server.specs.Served.{GrowthOutcome};
 
 use crate::journal::{Journal, Unstored};
-use crate::outcome::{Done, Outcome};
+use crate::outcome::{Done, RequestOutcome};
 use crate::request::LineRequest;
 use crate::seats::Seats;
 use crate::service::{Service, act};
@@ -481,7 +481,7 @@ impl<K: Keeper, J: Journal> Service for Relay<K, J> {
             LineRequest::Grow(parents) => {
                 let grown = self.grow(rt, alloc, parents)?;
                 Some(Done {
-                    outcome: Outcome::Grown(grown),
+                    outcome: RequestOutcome::Grown(grown),
                     base: visitor.base,
                 })
             }

@@ -9,7 +9,7 @@ ghost use Rattle.tl_server.specs.Requests.{line_view};
 ghost use Rattle.tl_server.specs.Outcomes.{IsAsked, CameOf, later_did};
 ghost use Rattle.tl_server.specs.Served.{Ways, RegisterOutcome, IsSealable};
 
-use crate::outcome::{Done, Outcome};
+use crate::outcome::{Done, RequestOutcome};
 use crate::request::LineRequest;
 use std::alloc::Global;
 use std::sync::Wait;
@@ -76,24 +76,24 @@ pub(crate) fn act<R: Threads + Wait + Sync>(
     engine: &Engine,
     session: &mut Session,
     request: &LineRequest,
-) -> Outcome
+) -> RequestOutcome
     requires { IsAsked (line_view request.now) }
     ensures { (own : List Did) × Gains session.old session.new own × CameOf (record { seals = engine.now.seals; grows = false }) (line_view request.now) own result }
 {
     match request {
         LineRequest::Register(written) => {
-            Outcome::Registered(register(rt, alloc, engine, written))
+            RequestOutcome::Registered(register(rt, alloc, engine, written))
         }
         LineRequest::Call(request) => {
             let (name, args) = (&request.name, &request.args);
-            Outcome::Called(engine.call(rt, alloc, session, name, args, &NoGate))
+            RequestOutcome::Called(engine.call(rt, alloc, session, name, args, &NoGate))
         }
         LineRequest::Batch(batch) => {
             let (requests, workers) = (&batch.requests, batch.workers);
-            Outcome::Batched(engine.batch(rt, alloc, session, requests, workers, &NoGate))
+            RequestOutcome::Batched(engine.batch(rt, alloc, session, requests, workers, &NoGate))
         }
-        LineRequest::Grow(_) => Outcome::Unknown,
-        LineRequest::Seal => Outcome::Sealed(engine.seal(rt, alloc)),
+        LineRequest::Grow(_) => RequestOutcome::Unknown,
+        LineRequest::Seal => RequestOutcome::Sealed(engine.seal(rt, alloc)),
         LineRequest::Close => unreachable!(),
     }
 }

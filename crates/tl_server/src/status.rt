@@ -8,7 +8,7 @@ ghost use Rattle.tl_server.specs.Sending.{sending, Writes};
 use crate::answer::put_number;
 use crate::device::Sink;
 use crate::outbox::Outbox;
-use crate::outcome::Outcome;
+use crate::outcome::RequestOutcome;
 use std::sync::Wait;
 use std::sync::atomic::{AtomicU64, Ordering};
 use tl_workers::Engine;
@@ -44,33 +44,33 @@ impl Reporter for Engine {
 }
 
 // How many receipts are in an answer.
-fn receipts(outcome: &Outcome) -> u64
+fn receipts(outcome: &RequestOutcome) -> u64
     ensures { result ≡ receipts_of outcome.now }
 {
     match outcome {
-        Outcome::Called(answer) => u64::from(answer.is_ok()),
-        Outcome::Batched(Ok(answers)) => {
+        RequestOutcome::Called(answer) => u64::from(answer.is_ok()),
+        RequestOutcome::Batched(Ok(answers)) => {
             answers.iter().filter(|answer| answer.is_ok()).count() as u64
         }
-        Outcome::Batched(Err(_))
-        | Outcome::Registered(_)
-        | Outcome::Sealed(_)
-        | Outcome::Grown(_)
-        | Outcome::Unknown => 0,
+        RequestOutcome::Batched(Err(_))
+        | RequestOutcome::Registered(_)
+        | RequestOutcome::Sealed(_)
+        | RequestOutcome::Grown(_)
+        | RequestOutcome::Unknown => 0,
     }
 }
 
 // How many procedures were registered.
-fn registered(outcome: &Outcome) -> u64
+fn registered(outcome: &RequestOutcome) -> u64
     ensures { result ≡ registered_of outcome.now }
 {
     match outcome {
-        Outcome::Registered(answer) => u64::from(answer.is_ok()),
-        Outcome::Called(_)
-        | Outcome::Batched(_)
-        | Outcome::Sealed(_)
-        | Outcome::Grown(_)
-        | Outcome::Unknown => 0,
+        RequestOutcome::Registered(answer) => u64::from(answer.is_ok()),
+        RequestOutcome::Called(_)
+        | RequestOutcome::Batched(_)
+        | RequestOutcome::Sealed(_)
+        | RequestOutcome::Grown(_)
+        | RequestOutcome::Unknown => 0,
     }
 }
 
@@ -91,7 +91,7 @@ impl Tally {
     }
 
     /// Counts what came of a request.
-    pub(crate) fn count(&self, outcome: &Outcome) {
+    pub(crate) fn count(&self, outcome: &RequestOutcome) {
         self.calls.fetch_add(receipts(outcome), Ordering::SeqCst);
         self.procedures
             .fetch_add(registered(outcome), Ordering::SeqCst);

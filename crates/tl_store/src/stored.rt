@@ -2,7 +2,7 @@
 
 ghost use Rattle.std.specs.Prelude.{◌≡◌, ◌≤◌, IsTrue, IfOk, IfSome, OnOk};
 ghost use Rattle.sqlite_trees.specs.View.{IsClean, IsQuiet, KeepsSchema};
-ghost use Rattle.tl_ledger.specs.Contents.{Contents, Holds, AreTables};
+ghost use Rattle.tl_ledger.specs.Contents.{OnlyReads, Contents, Holds, AreTables};
 ghost use Rattle.tl_store.specs.Stored.{AreStored, AreBehind, IsLastSeal, counts};
 
 use crate::fault::StoreFault;
@@ -53,7 +53,7 @@ fn counts_of(seal: &SealRow) -> Option<Sealed>
 fn last_seal<S: Store>(alloc: Global, store: &mut S) -> Result<Sealed, StoreFault>
     requires { IsClean (S.Store.view store.old) → (S.Store.view store.old).shape SEAL ≡ Shape.Table }
     ensures sealed { IfOk result (λ s. IsClean (S.Store.view store.new) → (c : Contents) → Holds (S.Store.view store.old).trees c → IsLastSeal c s) }
-    ensures same { OnOk result (IsClean (S.Store.view store.new) → (S.Store.view store.new).trees ≡ (S.Store.view store.old).trees) }
+    ensures reads { OnOk result (IsClean (S.Store.view store.new) → OnlyReads (S.Store.view store.old) (S.Store.view store.new)) }
     ensures schema { KeepsSchema (S.Store.view store.old) (S.Store.view store.new) }
     ensures quiet { IsQuiet S.Store.view S.Store.faults S.Store.recovers S.Store.is_shielded store.old store.new }
 {
@@ -96,7 +96,7 @@ fn read_behind<S: Store>(
 ) -> Result<Behind, StoreFault>
     requires { IsClean (S.Store.view store.old) → AreTables (S.Store.view store.old) }
     ensures behind { IfOk result (λ b. IsClean (S.Store.view store.new) → (c : Contents) → Holds (S.Store.view store.old).trees c → AreBehind c sealed.now b) }
-    ensures same { OnOk result (IsClean (S.Store.view store.new) → (S.Store.view store.new).trees ≡ (S.Store.view store.old).trees) }
+    ensures reads { OnOk result (IsClean (S.Store.view store.new) → OnlyReads (S.Store.view store.old) (S.Store.view store.new)) }
     ensures schema { KeepsSchema (S.Store.view store.old) (S.Store.view store.new) }
     ensures quiet { IsQuiet S.Store.view S.Store.faults S.Store.recovers S.Store.is_shielded store.old store.new }
 {
@@ -112,7 +112,7 @@ fn read_behind<S: Store>(
 pub fn read_stored<S: Store>(alloc: Global, store: &mut S) -> Result<Stored, StoreFault>
     requires { IsClean (S.Store.view store.old) → AreTables (S.Store.view store.old) }
     ensures stored { IfOk result (λ s. IsClean (S.Store.view store.new) → (c : Contents) → Holds (S.Store.view store.old).trees c → AreStored c s) }
-    ensures same { OnOk result (IsClean (S.Store.view store.new) → (S.Store.view store.new).trees ≡ (S.Store.view store.old).trees) }
+    ensures reads { OnOk result (IsClean (S.Store.view store.new) → OnlyReads (S.Store.view store.old) (S.Store.view store.new)) }
     ensures schema { KeepsSchema (S.Store.view store.old) (S.Store.view store.new) }
     ensures quiet { IsQuiet S.Store.view S.Store.faults S.Store.recovers S.Store.is_shielded store.old store.new }
 {

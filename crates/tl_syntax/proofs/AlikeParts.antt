@@ -128,8 +128,9 @@ opened_if q xs ys = search the_lemmas
 opened_repeat : (e : Expression) (most : Option Expression) (xs : Vec Statement Global) → out-StatementForm (S.Repeat e most xs) ≡ Y.Repeat e most xs
 opened_repeat e most xs = search the_lemmas
 
-opened_for_each : (child parent : Name) (most : Expression) (xs : Vec Statement Global) → out-StatementForm (S.ForEach child parent most xs) ≡ Y.ForEach child parent most xs
-opened_for_each child parent most xs = search the_lemmas
+opened_for_each : (child : Name) (place : Option Name) (parent : Name) (most : Expression) (xs : Vec Statement Global) →
+    out-StatementForm (S.ForEach child place parent most xs) ≡ Y.ForEach child place parent most xs
+opened_for_each child place parent most xs = search the_lemmas
 
 same_act : {a b : Action} (o p : Option Otherwise) → S.Act a o ≡ S.Act b p → (a ≡ b) × (o ≡ p)
 same_act {a} {b} o p e = let same = sym (opened_act a o) ∙ ap out-StatementForm e ∙ opened_act b p in (cc, cc)
@@ -152,10 +153,11 @@ same_if {q} {r} {xs} {ys} {vs} {ws} e = let same = sym (opened_if q xs ys) ∙ a
 same_repeat : {e f : Expression} {most least : Option Expression} {xs vs : Vec Statement Global} → S.Repeat e most xs ≡ S.Repeat f least vs → (e ≡ f) × (most ≡ least) × (xs ≡ vs)
 same_repeat {e} {f} {most} {least} {xs} {vs} g = let same = sym (opened_repeat e most xs) ∙ ap out-StatementForm g ∙ opened_repeat f least vs in (cc, cc, cc)
 
-same_for_each : {child child' parent parent' : Name} {most most' : Expression} {xs vs : Vec Statement Global} → S.ForEach child parent most xs ≡ S.ForEach child' parent' most' vs →
-    (child ≡ child') × (parent ≡ parent') × (most ≡ most') × (xs ≡ vs)
-same_for_each {child} {child'} {parent} {parent'} {most} {most'} {xs} {vs} e =
-    let same = sym (opened_for_each child parent most xs) ∙ ap out-StatementForm e ∙ opened_for_each child' parent' most' vs in (cc, cc, cc, cc)
+same_for_each : {child child' parent parent' : Name} {place place' : Option Name} {most most' : Expression} {xs vs : Vec Statement Global} →
+    S.ForEach child place parent most xs ≡ S.ForEach child' place' parent' most' vs →
+    (child ≡ child') × (place ≡ place') × (parent ≡ parent') × (most ≡ most') × (xs ≡ vs)
+same_for_each {child} {child'} {parent} {parent'} {place} {place'} {most} {most'} {xs} {vs} e =
+    let same = sym (opened_for_each child place parent most xs) ∙ ap out-StatementForm e ∙ opened_for_each child' place' parent' most' vs in (cc, cc, cc, cc, cc)
 
 -- ---- statements
 
@@ -165,7 +167,7 @@ statement_rank (S.Act' a o) = 0
 statement_rank (S.Try' p xs q ys) = 1
 statement_rank (S.If' r p xs q ys) = 2
 statement_rank (S.Repeat' e most p xs) = 3
-statement_rank (S.ForEach' c d e p xs) = 4
+statement_rank (S.ForEach' c i d e p xs) = 4
 
 pub same_statement_rank : {f g : StatementForm} → AlikeStatementForm f g → statement_rank f ≡ statement_rank g
 same_statement_rank (A.act x) = refl
@@ -248,12 +250,12 @@ no_most_needed xs vs (A.repeat a b x y) e f = let no = (same_repeat f).1 in cc
 no_most_needed xs vs (A.repeat_at_most a b x m y) e f = let no = (same_repeat e).1 in cc
 no_most_needed xs vs x e f = cc
 
-pub for_each_of : {f g : StatementForm} {child child' parent parent' : Name} {most most' : Expression} (xs vs : Vec Statement Global) → AlikeStatementForm f g →
-    f ≡ S.ForEach child parent most xs → g ≡ S.ForEach child' parent' most' vs →
-    (child ≡ child') × (parent ≡ parent') × AlikeForm most.form most'.form × AlikeStatements xs.items vs.items
+pub for_each_of : {f g : StatementForm} {child child' parent parent' : Name} {place place' : Option Name} {most most' : Expression} (xs vs : Vec Statement Global) → AlikeStatementForm f g →
+    f ≡ S.ForEach child place parent most xs → g ≡ S.ForEach child' place' parent' most' vs →
+    (child ≡ child') × (place ≡ place') × (parent ≡ parent') × AlikeForm most.form most'.form × AlikeStatements xs.items vs.items
 for_each_of xs vs (A.for_each a b x y) e f =
     let first = same_for_each e in let second = same_for_each f in
-    (sym first.0 ∙ second.0, sym first.1 ∙ second.1, alike_by first.2 second.2 x, blocks_of first.3 second.3 y)
+    (sym first.0 ∙ second.0, sym first.1 ∙ second.1, sym first.2 ∙ second.2, alike_by first.3 second.3 x, blocks_of first.4 second.4 y)
 for_each_of xs vs x e f = cc
 
 -- ---- lists, from the first item on

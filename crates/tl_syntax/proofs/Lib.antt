@@ -2,6 +2,7 @@ pub mod AlikeForms
 pub mod AlikeParts
 pub mod DeclarationLemmas
 pub mod DeclarationsOnce
+pub mod DigitLemmas
 pub mod ExpressionsOnce
 pub mod KindLemmas
 pub mod ListsOnce

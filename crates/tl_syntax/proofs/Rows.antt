@@ -1,5 +1,5 @@
 -- Worked examples: the tokens of a text, and what a few tokens spell.
-use Rattle.std.proofs.Common.{ℕ, List, [], ◌∷◌, pos, refl, codes, inl, lit<, lit≤, rules}
+use Rattle.std.proofs.Common.{ℕ, List, [], ◌∷◌, pos, refl, codes, inl, lit<, lit≤}
 use Rattle.tl_syntax.specs.declared.token.Token.{Token}
 use Rattle.tl_syntax.specs.declared.token.TokenKind.{TokenKind}
 use Rattle.tl_syntax.specs.declared.token.TokenKind.TheVariants as K
@@ -49,7 +49,7 @@ read : AreTokens [] 0 (codes "emit 1>=3//x") (token K.Emit 0 ∷ token (K.Number
 read =
     T.token (T.word refl) (T.reserved (T.word_emit refl))
     (T.blank (T.blank refl)
-    (T.token (T.digits refl) (T.number (record { digits = search rules; no_zeros = inl refl; is = refl; fits = lit≤ tt }))
+    (T.token (T.digits refl) (T.number (record { digits = T.first_digit refl; no_zeros = inl refl; is = refl; fits = lit≤ tt }))
     (T.token (T.long refl (T.greater refl refl)) T.sign
-    (T.token (T.digits refl) (T.number (record { digits = search rules; no_zeros = inl refl; is = refl; fits = lit≤ tt }))
+    (T.token (T.digits refl) (T.number (record { digits = T.first_digit refl; no_zeros = inl refl; is = refl; fits = lit≤ tt }))
     (T.blank (T.comment refl refl) T.end)))))

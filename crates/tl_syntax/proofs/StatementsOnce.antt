@@ -1,9 +1,10 @@
 -- Tokens spell one statement.
-use Rattle.std.proofs.Common.{◌≡◌, ◌≢◌, ℕ, ◌<◌, ◌≤◌, List, [], ◌∷◌, refl, sym, ap, subst, ◌∙◌, arith}
+use Rattle.std.proofs.Common.{◌≡◌, ◌≢◌, ℕ, ◌<◌, ◌≤◌, List, [], ◌∷◌, Option, Some, refl, sym, ap, subst, ◌∙◌, arith}
 use Rattle.std.proofs.Math.Path.{subst₂}
 use Rattle.tl_syntax.specs.declared.token.Token.{Token}
 use Rattle.tl_syntax.specs.declared.token.TokenKind.{TokenKind}
 use Rattle.tl_syntax.specs.declared.token.TokenKind.TheVariants as K
+use Rattle.tl_syntax.specs.declared.parsed.Name.{Name}
 use Rattle.tl_syntax.specs.declared.parsed.Expression.{Expression}
 use Rattle.tl_syntax.specs.declared.parsed.Form.{Form}
 use Rattle.tl_syntax.specs.declared.parsed.Form.TheVariants as F
@@ -24,7 +25,7 @@ use Rattle.tl_syntax.specs.declared.parsed.StatementForm.TheVariants as S
 use Rattle.tl_syntax.specs.Grammar as G
 use Rattle.tl_syntax.specs.Grammar.{kind_at, offset_at, Stands, IsName, IsNumber, Disjunction, Rule, IsPlain, IsExpression, IsChain}
 use Rattle.tl_syntax.specs.Statements as R
-use Rattle.tl_syntax.specs.Statements.{word_at, word_most, word_each, word_of, word_to, IsLeave, IsChange, IsArgument, IsChild, IsPlace, AreExpressions, IsAction, IsQuestion, IsCount, IsLeaving, IsBlock, AreStatements, IsStatement, IsForm, IsOther, IsOtherwise}
+use Rattle.tl_syntax.specs.Statements.{word_at, word_most, word_each, word_of, word_to, IsLeave, IsChange, IsArgument, IsChild, IsPlace, AreExpressions, IsAction, IsQuestion, IsCount, IsIndex, IsLeaving, IsBlock, AreStatements, IsStatement, IsForm, IsOther, IsOtherwise}
 use Rattle.tl_syntax.specs.Alike as A
 use Rattle.tl_syntax.specs.Alike.{Alike, AlikeForm, AreAlike, AlikeChild, AlikePlace, AlikeAction, AlikeQuestion, AlikeStatements, AlikeStatement, AlikeStatementForm, AlikeOtherwise}
 use Rattle.tl_syntax.proofs.ListsOnce.{Rest, done, step, append, Compared, within, another_compared, list_end}
@@ -457,7 +458,7 @@ form_rank (R.if body other s q b e) = 3
 form_rank (R.if_else body other s q b t c) = 3
 form_rank (R.repeat body s e b) = 4
 form_rank (R.repeat_at_most body s e a m c b) = 4
-form_rank (R.for_each body s t c n u p v w m b) = 5
+form_rank (R.for_each body s t c n x u p v w m b) = 5
 
 leave_starting : (tokens : List Token) (l : Leave) (i j : ℕ) → IsLeave tokens i j l → starting (kind_at tokens i) ≡ 1
 leave_starting tokens L.Break i j s = ap starting s.kind_is
@@ -484,7 +485,7 @@ form_is (R.if body other s q b e) = ap starting s.kind_is
 form_is (R.if_else body other s q b t c) = ap starting s.kind_is
 form_is (R.repeat body s e b) = ap starting s.kind_is
 form_is (R.repeat_at_most body s e a m c b) = ap starting s.kind_is
-form_is (R.for_each body s t c n u p v w m b) = ap starting s.kind_is
+form_is (R.for_each body s t c n x u p v w m b) = ap starting s.kind_is
 
 some_rank : {tokens : List Token} {n i j : ℕ} {f : StatementForm} (x : IsForm tokens n i j f) → 1 ≤ form_rank x
 some_rank (R.act a s) = omega arith
@@ -494,7 +495,7 @@ some_rank (R.if body other s q b e) = omega arith
 some_rank (R.if_else body other s q b t c) = omega arith
 some_rank (R.repeat body s e b) = omega arith
 some_rank (R.repeat_at_most body s e a m c b) = omega arith
-some_rank (R.for_each body s t c n u p v w m b) = omega arith
+some_rank (R.for_each body s t c n x u p v w m b) = omega arith
 
 statement_starts : {tokens : List Token} {n i j : ℕ} {s : Statement} → IsStatement tokens n i j s → 1 ≤ starting (kind_at tokens i)
 statement_starts (R.statement x o) = omega (arith, form_is x, some_rank x)
@@ -546,6 +547,21 @@ ending K.Semicolon = 1
 ending K.RightBrace = 1
 ending K.End = 1
 ending kind = 0
+
+-- a parenthesis, or what else may stand behind the name of a loop's child
+abbrev parting : TokenKind → ℕ
+parting K.LeftParenthesis = 1
+parting kind = 0
+
+index_once : {tokens : List Token} {i j k l m : ℕ} {x y : Option Name} → IsIndex tokens i j x → Stands tokens word_of j l → IsIndex tokens i k y →
+    Stands tokens word_of k m → (j ≡ k) × (x ≡ y)
+index_once R.no_index s R.no_index t = (refl, refl)
+index_once R.no_index s (R.index a n b) t = differ parting s.kind_is a.kind_is (omega arith)
+index_once (R.index a n b) s R.no_index t = differ parting t.kind_is a.kind_is (omega arith)
+index_once {tokens} {k = end} (R.index {j = a1} {k = a2} a n b) s (R.index {k = b2} {n = y} c m d) t =
+    let m' : IsName tokens a1 b2 y = at (λ z. IsName tokens z b2 y) (same_end a c) m in
+    let d' : Stands tokens K.RightParenthesis a2 end = at (λ z. Stands tokens K.RightParenthesis z end) (same_end n.stands m'.stands) d in
+    (same_end b d', ap Some (same_name n m'))
 
 mutual
   pub block_once : {tokens : List Token} {n m i j k : ℕ} {ss ts : List Statement} → IsBlock tokens n i j ss → IsBlock tokens m i k ts → (j ≡ k) × AlikeStatements ss ts
@@ -647,23 +663,25 @@ mutual
       let d2 : IsBlock tokens m a5 end body2.items = at (λ z. IsBlock tokens m z end body2.items) most.0 b' in
       let first = block_once b d2 in
       (first.0, A.repeat_at_most body body2 turns.1 most.1 first.1)
-  form_once {tokens} {m = m} {k = end} (R.for_each {j = a1} {k = a2} {l = a3} {m = a4} {n = a5} {o = a6} {p = a7} {q = a8} {r = a9} {child = x} {parent = y} {most = most1} body s1 s2 s3 n1 s4 n2 s5 s6 c b) f
-      (R.for_each {k = b2} {l = b3} {m = b4} {n = b5} {o = b6} {p = b7} {q = b8} {r = b9} {child = x2} {parent = y2} {most = most2} body2 t1 t2 t3 m1 t4 m2 t5 t6 d b') g =
+  form_once {tokens} {m = m} {k = end} (R.for_each {j = a1} {k = a2} {l = a3} {m = a4} {n = a5} {o = a6} {p = a7} {q = a8} {r = a9} {s = a10} {child = x} {parent = y} {place = z1} {most = most1}
+      body s1 s2 s3 n1 i1 s4 n2 s5 s6 c b) f
+      (R.for_each {k = b2} {l = b3} {m = b4} {n = b5} {o = b6} {p = b7} {q = b8} {r = b9} {s = b10} {child = x2} {parent = y2} {place = z2} {most = most2} body2 t1 t2 t3 m1 i2 t4 m2 t5 t6 d b') g =
       let t2' : Stands tokens word_each a1 b2 = at (λ z. Stands tokens word_each z b2) (same_end s1 t1) t2 in
       let t3' : Stands tokens K.Child a2 b3 = at (λ z. Stands tokens K.Child z b3) (same_end s2 t2') t3 in
       let m1' : IsName tokens a3 b4 x2 = at (λ z. IsName tokens z b4 x2) (same_end s3 t3') m1 in
-      let t4' : Stands tokens word_of a4 b5 = at (λ z. Stands tokens word_of z b5) (same_end n1.stands m1'.stands) t4 in
-      let m2' : IsName tokens a5 b6 y2 = at (λ z. IsName tokens z b6 y2) (same_end s4 t4') m2 in
-      let t5' : Stands tokens word_at a6 b7 = at (λ z. Stands tokens word_at z b7) (same_end n2.stands m2'.stands) t5 in
-      let t6' : Stands tokens word_most a7 b8 = at (λ z. Stands tokens word_most z b8) (same_end s5 t5') t6 in
-      let d' : IsCount tokens a8 b9 most2 = at (λ z. IsCount tokens z b9 most2) (same_end s6 t6') d in
+      let i2' : IsIndex tokens a4 b5 z2 = at (λ z. IsIndex tokens z b5 z2) (same_end n1.stands m1'.stands) i2 in
+      let place = index_once i1 s4 i2' t4 in
+      let t4' : Stands tokens word_of a5 b6 = at (λ z. Stands tokens word_of z b6) place.0 t4 in
+      let m2' : IsName tokens a6 b7 y2 = at (λ z. IsName tokens z b7 y2) (same_end s4 t4') m2 in
+      let t5' : Stands tokens word_at a7 b8 = at (λ z. Stands tokens word_at z b8) (same_end n2.stands m2'.stands) t5 in
+      let t6' : Stands tokens word_most a8 b9 = at (λ z. Stands tokens word_most z b9) (same_end s5 t5') t6 in
+      let d' : IsCount tokens a9 b10 most2 = at (λ z. IsCount tokens z b10 most2) (same_end s6 t6') d in
       let most = count_once c d' in
-      let b2' : IsBlock tokens m a9 end body2.items = at (λ z. IsBlock tokens m z end body2.items) most.0 b' in
-      let first = block_once b b2' in (
-        first.0,
-        subst₂ (λ z w. AlikeStatementForm (S.ForEach x y most1 body) (S.ForEach z w most2 body2)) (same_name n1 m1') (same_name n2 m2')
-            (A.for_each body body2 most.1 first.1),
-      )
+      let b2' : IsBlock tokens m a10 end body2.items = at (λ z. IsBlock tokens m z end body2.items) most.0 b' in
+      let first = block_once b b2' in
+      let alike : AlikeStatementForm (S.ForEach x z1 y most1 body) (S.ForEach x z2 y most2 body2) =
+      subst (λ z. AlikeStatementForm (S.ForEach x z1 y most1 body) (S.ForEach x z y most2 body2)) place.1 (A.for_each body body2 most.1 first.1) in
+      (first.0, subst₂ (λ z w. AlikeStatementForm (S.ForEach x z1 y most1 body) (S.ForEach z z2 w most2 body2)) (same_name n1 m1') (same_name n2 m2') alike)
   form_once x f y g = absurd (omega (arith, form_is x, form_is y))
 
   other_once : {tokens : List Token} {n m i j k : ℕ} {ss ts : List Statement} → IsOther tokens n i j ss → NoElse tokens j → IsOther tokens m i k ts → NoElse tokens k →

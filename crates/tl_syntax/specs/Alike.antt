@@ -1,5 +1,5 @@
 -- When two declarations are the same but for where their parts are in memory: a box or a `Vec` of the one stands where the other has its own, with the same content.
-use Rattle.std.specs.Prelude.{◌≡◌, ℕ, List, [], ◌∷◌, ◌++◌, None, Some}
+use Rattle.std.specs.Prelude.{◌≡◌, ℕ, List, [], ◌∷◌, ◌++◌, Option, None, Some}
 use Rattle.std.specs.declared.boxed.Box.{Box}
 use Rattle.std.specs.declared.vec.Vec.{Vec}
 use Rattle.std.specs.declared.alloc.Global.{Global}
@@ -84,8 +84,8 @@ mutual
         AlikeStatementForm (S.Repeat e None body) (S.Repeat f None body')
     repeat_at_most : {e f most most' : Expression} (body body' : Vec Statement Global) → Alike e f → Alike most most' →
         AlikeStatements body.items body'.items → AlikeStatementForm (S.Repeat e (Some most) body) (S.Repeat f (Some most') body')
-    for_each : {child parent : Name} {most most' : Expression} (body body' : Vec Statement Global) → Alike most most' →
-        AlikeStatements body.items body'.items → AlikeStatementForm (S.ForEach child parent most body) (S.ForEach child parent most' body')
+    for_each : {child parent : Name} {place : Option Name} {most most' : Expression} (body body' : Vec Statement Global) → Alike most most' →
+        AlikeStatements body.items body'.items → AlikeStatementForm (S.ForEach child place parent most body) (S.ForEach child place parent most' body')
 
   pub data AlikeOtherwise : Otherwise → Otherwise → Type 0 where
     otherwise : {o p : Otherwise} → (out-Otherwise o).offset ≡ (out-Otherwise p).offset →

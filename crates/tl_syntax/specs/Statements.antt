@@ -109,6 +109,12 @@ pub data IsCount (tokens : List Token) : ℕ → ℕ → Expression → Type 0 w
   named : {i j : ℕ} {n : Name} {e : Expression} → IsName tokens i j n → e.form ≡ F.Named n → e.offset ≡ offset_at tokens i → IsCount tokens i j e
   number : {i j : ℕ} {n : _} {e : Expression} → IsNumber tokens i j n → e.form ≡ F.Number n → e.offset ≡ offset_at tokens i → IsCount tokens i j e
 
+-- the name of the place of a loop's child, in parentheses, if there is one
+pub data IsIndex (tokens : List Token) : ℕ → ℕ → Option Name → Type 0 where
+  no_index : {i : ℕ} → IsIndex tokens i i None
+  index : {i j k l : ℕ} {n : Name} → Stands tokens K.LeftParenthesis i j → IsName tokens j k n → Stands tokens K.RightParenthesis k l →
+      IsIndex tokens i l (Some n)
+
 -- `break;`, `return;` or `fail;` as the only statement of an `else`
 pub data IsLeaving (tokens : List Token) : ℕ → ℕ → List Statement → Type 0 where
   leaving : {i j k : ℕ} {l : Leave} {s : Statement} → IsLeave tokens i j l → Stands tokens K.Semicolon j k → s.form ≡ S.Act (A.Leave l) None →
@@ -144,10 +150,10 @@ mutual
     repeat_at_most : {levels i j k l m n o : ℕ} {turns most : Expression} (body : Vec Statement Global) → Stands tokens K.Repeat i j →
         IsExpression tokens levels Disjunction j k turns → Stands tokens word_at k l → Stands tokens word_most l m → IsCount tokens m n most →
         IsBlock tokens levels n o body.items → IsForm tokens levels i o (S.Repeat turns (Some most) body)
-    for_each : {levels i j k l m n o p q r s : ℕ} {child parent : Name} {most : Expression} (body : Vec Statement Global) → Stands tokens K.For i j →
-        Stands tokens word_each j k → Stands tokens K.Child k l → IsName tokens l m child → Stands tokens word_of m n → IsName tokens n o parent →
-        Stands tokens word_at o p → Stands tokens word_most p q → IsCount tokens q r most → IsBlock tokens levels r s body.items →
-        IsForm tokens levels i s (S.ForEach child parent most body)
+    for_each : {levels i j k l m n o p q r s t : ℕ} {child parent : Name} {place : Option Name} {most : Expression} (body : Vec Statement Global) → Stands tokens K.For i j →
+        Stands tokens word_each j k → Stands tokens K.Child k l → IsName tokens l m child → IsIndex tokens m n place → Stands tokens word_of n o →
+        IsName tokens o p parent → Stands tokens word_at p q → Stands tokens word_most q r → IsCount tokens r s most → IsBlock tokens levels s t body.items →
+        IsForm tokens levels i t (S.ForEach child place parent most body)
 
   -- what stands behind the `else` of an `if`
   pub data IsOther (tokens : List Token) : ℕ → ℕ → ℕ → List Statement → Type 0 where

@@ -1,6 +1,6 @@
 -- What the tokens of a text are. A text is a sequence of pieces: blanks, comments, words, numbers and signs.
 use denote.Bor.{Bor}
-use Rattle.std.specs.Prelude.{◌≡◌, ◌≢◌, ℕ, suc, ◌+◌, ◌<◌, ◌≤◌, Bool, true, not, ◌||◌, ◌==◌, List, [], ◌∷◌, ◌++◌, length, take, drop, Option, None, Some, slice_get, All, IsTrue, codes, map, ◌⊎◌}
+use Rattle.std.specs.Prelude.{◌≡◌, ◌≢◌, ℕ, suc, ◌+◌, ◌<◌, ◌≤◌, Bool, true, not, ◌||◌, ◌==◌, List, [], ◌∷◌, ◌++◌, length, take, drop, Option, None, Some, slice_get, codes, map, filter, ◌⊎◌}
 use Rattle.std.specs.List.{position_or_len}
 use Rattle.std.specs.Char.{is_ascii_alphabetic, is_ascii_alphanumeric, is_ascii_digit}
 use Rattle.std.specs.Str.Parse.{digits_value}
@@ -95,11 +95,17 @@ IsFree word = (kind : TokenKind) → IsReserved word kind → ⊥
 abbrev pub IsNoLongSign : ℕ → ℕ → Type 0
 IsNoLongSign first second = (kind : TokenKind) → IsLongSign first second kind → ⊥
 
+-- digits, of which two may have a _ between them
+pub data AreGrouped : List ℕ → Type 0 where
+  first_digit : {b : ℕ} → is_ascii_digit b ≡ true → AreGrouped (b ∷ [])
+  next_digit : {word : List ℕ} (b : ℕ) → AreGrouped word → is_ascii_digit b ≡ true → AreGrouped (word ++ b ∷ [])
+  digit_apart : {word : List ℕ} (b : ℕ) → AreGrouped word → is_ascii_digit b ≡ true → AreGrouped ((word ++ 95 ∷ []) ++ b ∷ [])
+
 -- digits without leading zeros, for a number that isn't too large
 pub record IsDecimal (word : List ℕ) (n : ℕ) : Type 0 where
-  pub digits : All (λ b. IsTrue (is_ascii_digit b)) word
+  pub digits : AreGrouped word
   pub no_zeros : (length word ≡ 1) ⊎ (slice_get word 0 ≢ Some 48)
-  pub is : n ≡ digits_value 10 word
+  pub is : n ≡ digits_value 10 (filter is_ascii_digit word)
   pub fits : n ≤ MAX_NUMBER
 
 -- ---- pieces

@@ -30,9 +30,21 @@ pub enum Wrong {
     /// 276: a name that is declared already.
     #[error("this name is declared already")]
     Twice,
-    /// 277: a node, a number or a condition where another one of these is needed.
-    #[error("something else is wanted here: a number, a condition, a value or a node")]
-    Kind,
+    /// 277: a node or a condition where a number is needed.
+    #[error("a number is wanted here")]
+    NoNumber,
+    /// 277: a number or a node where a condition is needed.
+    #[error("a condition is wanted here: compare it with something")]
+    NoCondition,
+    /// 277: what can't be assigned.
+    #[error("a value that can be assigned is wanted here: an argument, or one that `let` declares")]
+    NoValue,
+    /// 277: what is no node where one is needed.
+    #[error("a node is wanted here")]
+    NoNode,
+    /// 277: a node that descends to itself.
+    #[error("another node is wanted here")]
+    SameNode,
     /// 278: a field's number above 7.
     #[error("a field's number is above 7")]
     FieldNumber,
@@ -40,7 +52,7 @@ pub enum Wrong {
     #[error("a ninth argument")]
     Argument,
     /// 280: a number of turns that isn't a constant from 1 to 65,535.
-    #[error("how often a loop turns is not a constant from 1 to 65,535")]
+    #[error("how often a loop turns is a constant from 1 to 65,535 here: of any other number say the most, as in `repeat n at most 50`")]
     Turns,
     /// 281: a node that isn't held.
     #[error("the node is not held on every path to here")]
@@ -92,7 +104,11 @@ impl Wrong {
             Wrong::TooDeep => 274,
             Wrong::Unknown => 275,
             Wrong::Twice => 276,
-            Wrong::Kind => 277,
+            Wrong::NoNumber
+            | Wrong::NoCondition
+            | Wrong::NoValue
+            | Wrong::NoNode
+            | Wrong::SameNode => 277,
             Wrong::FieldNumber => 278,
             Wrong::Argument => 279,
             Wrong::Turns => 280,

@@ -150,8 +150,10 @@ pub enum StatementForm {
         at_most: Option<Expression>,
         body: Vec<Statement>,
     },
+    /// The index is the name of the child's place among all children.
     ForEach {
         child: Name,
+        index: Option<Name>,
         parent: Name,
         at_most: Expression,
         body: Vec<Statement>,

@@ -12,6 +12,7 @@ ghost use Rattle.tl_syntax.specs.Statements.{
   IsAction,
   IsQuestion,
   IsCount,
+  IsIndex,
   allows_else,
   IsBlock,
   IsStatement,
@@ -406,6 +407,18 @@ impl<'a> Parser<'a> {
         Ok((form, after))
     }
 
+    // The name of a child's place, in parentheses, if it has one.
+    fn index(&self, at: usize) -> Parsed<Option<Name>>
+        ensures { IfOk result (λ read. IsIndex self.now.tokens.now at read.1 read.0) }
+    {
+        let Some(next) = self.skip_if(at, TokenKind::LeftParenthesis) else {
+            return Ok((None, at));
+        };
+        let (name, at) = self.name(next)?;
+        let at = self.skip(at, TokenKind::RightParenthesis)?;
+        Ok((Some(name), at))
+    }
+
     #[cycle(statements)]
     fn visit(&self, at: usize, levels: u32) -> Parsed<StatementForm>
         ensures { IfOk result (λ read. IsForm self.now.tokens.now levels at read.1 read.0) }
@@ -414,6 +427,7 @@ impl<'a> Parser<'a> {
         let at = self.skip_word(at, Symbol::EACH)?;
         let at = self.skip(at, TokenKind::Child)?;
         let (child, at) = self.name(at)?;
+        let (index, at) = self.index(at)?;
         let at = self.skip_word(at, Symbol::OF)?;
         let (parent, at) = self.name(at)?;
         let at = self.skip_word(at, Symbol::AT)?;
@@ -422,6 +436,7 @@ impl<'a> Parser<'a> {
         let (body, at) = self.block(at, levels)?;
         let form = StatementForm::ForEach {
             child,
+            index,
             parent,
             at_most,
             body,

@@ -1,6 +1,8 @@
 // Words and signs.
 
-ghost use Rattle.std.specs.Prelude.{◌≡◌, IfSome, IfNone};
+ghost use Rattle.std.specs.Prelude.{◌≡◌, filter, IfSome, IfNone};
+ghost use Rattle.std.specs.Char.{is_ascii_digit as is_ascii_digit_lem};
+ghost use Rattle.std.specs.Str.Parse.{digits_value};
 ghost use Rattle.tl_syntax.specs.Tokens.{
   separates,
   starts_word,
@@ -10,6 +12,7 @@ ghost use Rattle.tl_syntax.specs.Tokens.{
   IsLongSign,
   IsNoLongSign,
   IsShortSign,
+  AreGrouped,
   IsDecimal,
 };
 
@@ -111,16 +114,37 @@ pub fn short_sign(byte: u8) -> Option<TokenKind>
     }
 }
 
-/// The number that these characters spell: decimal, without leading zeros, at most `MAX_NUMBER`.
+// The number that digits spell, of which two may have a `_` between them.
+fn grouped_digits(word: &[u8]) -> Option<u32>
+    ensures grouped { IfSome result (λ n. AreGrouped word.now) }
+    ensures value { IfSome result (λ n. n ≡ digits_value 10 (filter is_ascii_digit_lem word.now)) }
+{
+    let mut number: u32 = 0;
+    let mut follows_digit = false;
+    for byte in word {
+        if byte.is_ascii_digit() {
+            let digit = u32::from(*byte - b'0');
+            number = number.checked_mul(10)?.checked_add(digit)?;
+            follows_digit = true;
+        } else if *byte == b'_' && follows_digit {
+            follows_digit = false;
+        } else {
+            return None;
+        }
+    }
+    if follows_digit { Some(number) } else { None }
+}
+
+/// The number that these characters spell: decimal, without leading zeros, at most `MAX_NUMBER`. Two digits may have a `_` between
+/// them.
 pub fn number(word: &[u8]) -> Option<u32>
     ensures { IfSome result (λ n. IsDecimal word.now n) }
 {
-    let is_decimal = word.iter().all(|byte| byte.is_ascii_digit());
     let is_short = word.len() == 1 || word.first() != Some(&b'0');
-    if !is_decimal || !is_short {
+    if !is_short {
         return None;
     }
-    let number: u32 = std::str::from_utf8(word).ok()?.parse().ok()?;
+    let number = grouped_digits(word)?;
     if number <= MAX_NUMBER {
         Some(number)
     } else {

@@ -2,7 +2,7 @@
 //!
 //! It prints a line for each answer that depends on what earlier requests have left. So a run to which memory is refused once, at
 //! any place, prints the same as a run with ample memory, and its exit status is 0. The status is 4 if a request was refused twice,
-//! 3 if standard output can't be written, and 1 if a refusal has changed something. `tests/refusals` runs it.
+//! 3 if standard output can't be written, and 1 if a refusal has changed something. `tests/test_refusals.py` runs it.
 #![tactic(auto)]
 
 mod engines;

@@ -10,6 +10,7 @@ ghost use Rattle.tl_workers.specs.Kept.{Gains, Answers, AnswersEach, AsksFor, Ad
 use crate::asking::Asking;
 use crate::engine::Engine;
 use crate::gate::Gate;
+use crate::help::{Help, expected_pace};
 use crate::refusal::Refusal;
 use crate::session::Session;
 use crate::turnstile::Turnstile;
@@ -17,7 +18,7 @@ use std::alloc::Global;
 use std::sync::atomic::{AtomicBool, Ordering};
 use std::sync::{MutexGuard, Wait};
 use std::thread;
-use std::thread::Threads;
+use std::thread::{Scope, Threads};
 use tl_core::CoreFault;
 use tl_procedures::Request;
 use tl_ready::ReadyPass;
@@ -51,13 +52,15 @@ struct Batch<'a, R, G> {
     requests: &'a [Request],
     // Whether all requests are handed out. It changes under the table's lock only.
     is_handed_out: AtomicBool,
+    // When workers other than the caller's thread help.
+    help: Help,
 }
 
 impl Engine {
     /// Runs the requests on at most `workers` threads, one of which is the caller's, and answers each: its receipt, or why it was
     /// refused. They are admitted in their order. If 64 calls are open, a request waits until a call of the batch has
-    /// ended, and is refused with 604 only if none of the batch's calls is unfinished. If a thread can't be started, the batch runs
-    /// with fewer. 990 if there is no memory for the answers and for what the session keeps; then nothing was admitted.
+    /// ended, and is refused with 604 only if none of the batch's calls is unfinished. The other threads help only while that pays, or
+    /// while the caller's thread is held up. If a thread can't be started, the batch runs with fewer. 990 if there is no memory for the answers and for what the session keeps; then nothing was admitted.
     pub fn batch<R: Threads + Wait + Sync, G: Gate + Sync>(
         &self,
         rt: &R,
@@ -93,6 +96,7 @@ impl Engine {
             session: session.number(),
             requests,
             is_handed_out: AtomicBool::new(false),
+            help: Help::new(),
         };
         let admitted = batch.run(alloc, session.pass(), admitted, workers);
         let answers = batch.collect(admitted.as_slice(), answers);
@@ -123,16 +127,34 @@ impl<R: Threads + Wait + Sync, G: Gate + Sync> Batch<'_, R, G> {
                 ensures each { AdmittedEach self.entry.now.requests.now result.items }
                 ensures refused { AreCallRefusals self.entry.now.engine.now.seals result.items }
             {
-                for _ in 0..others {
+                if others > 0 {
                     // A worker that can't be started is left out.
-                    let _ = scope.spawn(move || self.join_in());
+                    let more = others - 1;
+                    let _ = scope.spawn(move || self.watch(scope, more));
                 }
                 let admitted = self.hand_out(alloc, pass, admitted);
                 self.end_handing_out();
                 self.work(pass);
+                self.help.end();
                 admitted
             },
         )
+    }
+
+    // Waits until help is wanted, then starts that many more workers, and helps with a pass of its own. A worker that gets none is
+    // left out.
+    fn watch<'s, E>(&'s self, scope: &'s Scope<'s, E>, more: usize) {
+        let engine = self.engine;
+        let Ok(mut pass) = engine.ready.join() else {
+            return;
+        };
+        if !self.help.is_wanted(self.rt) {
+            return;
+        }
+        for _ in 0..more {
+            let _ = scope.spawn(move || self.join_in());
+        }
+        self.assist(&mut pass);
     }
 }
 
@@ -162,12 +184,13 @@ impl<R: Wait, G: Gate> Batch<'_, R, G> {
         for _ in self.rt.forever() {
             let mut turnstile = engine.turnstile.lock(self.rt);
             let handed = self.admit_some(alloc, &mut turnstile, pass, &mut admitted);
+            self.look_ahead(&turnstile.table, admitted.as_slice());
             match handed {
                 Handed::Full => self.help(turnstile, pass),
                 Handed::NoPlace(call) => {
                     drop(turnstile);
                     engine.moved.notify_all();
-                    self.engine.run(self.rt, call, None, self.gate);
+                    self.run_taken(call);
                 }
                 Handed::All => {
                     drop(turnstile);
@@ -186,7 +209,7 @@ impl<R: Wait, G: Gate> Batch<'_, R, G> {
             Some(call) => {
                 drop(turnstile);
                 engine.moved.notify_all();
-                self.engine.run(self.rt, call, None, self.gate);
+                self.run_taken(call);
             }
             None => drop(engine.moved.wait(self.rt, turnstile)),
         }
@@ -252,11 +275,45 @@ impl<R: Wait, G: Gate> Batch<'_, R, G> {
         }
     }
 
-    // Works with a pass of its own. A worker that gets none is left out.
+    // Helps with a pass of its own. A worker that gets none is left out.
     fn join_in(&self) {
         let engine = self.engine;
         if let Ok(mut pass) = engine.ready.join() {
-            self.work(&mut pass);
+            self.assist(&mut pass);
+        }
+    }
+
+    // Runs a call that is ready whenever help is wanted, until none is and the batch is handed out, or the batch is over.
+    fn assist(&self, pass: &mut ReadyPass) {
+        for _ in self.rt.forever() {
+            if !self.help.is_wanted(self.rt) {
+                return;
+            }
+            match self.next_ready(pass) {
+                Some(call) => self.run_taken(call),
+                None => return,
+            }
+        }
+        unreachable!()
+    }
+
+    // Runs a call that was taken.
+    fn run_taken(&self, call: u32) {
+        self.help.take();
+        let pace = self.engine.run(self.rt, call, None, self.gate);
+        self.help.learn(pace);
+    }
+
+    // As long as no call was taken, the bounds of the first one say whether help is wanted.
+    fn look_ahead(&self, table: &Table, admitted: &[Result<Asking, Refusal>]) {
+        if self.help.has_begun() {
+            return;
+        }
+        for one in admitted {
+            if let Ok(asked) = one {
+                self.help.expect(expected_pace(table, asked.call));
+                return;
+            }
         }
     }
 
@@ -264,7 +321,7 @@ impl<R: Wait, G: Gate> Batch<'_, R, G> {
     fn work(&self, pass: &mut ReadyPass) {
         for _ in self.rt.forever() {
             match self.next_ready(pass) {
-                Some(call) => self.engine.run(self.rt, call, None, self.gate),
+                Some(call) => self.run_taken(call),
                 None => return,
             }
         }

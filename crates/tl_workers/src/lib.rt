@@ -9,6 +9,7 @@ mod asking;
 mod batch;
 mod engine;
 mod gate;
+mod help;
 pub mod laws;
 mod matching;
 mod notes;

@@ -44,7 +44,7 @@ impl Engine {
             Err(fault) => return Err(Refusal::Table(fault)),
         };
         let Begun { epoch, call, lent } = begun;
-        self.run(rt, call, lent, gate);
+        let _pace = self.run(rt, call, lent, gate);
         let asked = Asking::new(epoch, call, name, args);
         // The call was admitted and has ended, so its receipt is there at once.
         let (receipt, _turnstile) = self.take(rt, self.turnstile.lock(rt), &asked);
@@ -52,9 +52,16 @@ impl Engine {
         Ok(receipt)
     }
 
-    // Takes the turns of a call from where it was lent to its end; none if no call of that number was admitted. The table is asked
-    // where the call is if it wasn't lent, and again if a turn was stale.
-    pub(crate) fn run<G: Gate>(&self, rt: &impl Wait, call: u32, lent: Option<LentTurn>, gate: &G) {
+    // Takes the turns of a call from where it was lent to its end, and returns its pace: how many instructions it did a turn, in the
+    // mean. None is taken if no call of that number was admitted. The table is asked where the call is if it wasn't lent, and again if
+    // a turn was stale.
+    pub(crate) fn run<G: Gate>(
+        &self,
+        rt: &impl Wait,
+        call: u32,
+        lent: Option<LentTurn>,
+        gate: &G,
+    ) -> u64 {
         let mut lent = lent;
         let mut passed = 0;
         for _ in rt.forever() {
@@ -65,19 +72,20 @@ impl Engine {
             };
             match next {
                 Ok(Some(lent)) => {
-                    if self.run_from(rt, call, lent, &mut passed, gate) {
+                    if let Some(steps) = self.run_from(rt, call, lent, &mut passed, gate) {
                         gate.answered(call);
-                        return;
+                        return u64::from(steps) / passed.max(1);
                     }
                 }
-                Err(TableFault::Core(CoreFault::NoCall)) => return,
+                Err(TableFault::Core(CoreFault::NoCall)) => return 0,
                 _ => {}
             }
         }
         unreachable!()
     }
 
-    // Takes the turns of a call from there to its end, after one has passed the gate. False if the call is elsewhere.
+    // Takes the turns of a call from there to its end, after one has passed the gate, and returns how many instructions the call did
+    // in all. None if the call is elsewhere.
     fn run_from<G: Gate>(
         &self,
         rt: &impl Wait,
@@ -85,20 +93,20 @@ impl Engine {
         lent: LentTurn,
         passed: &mut u64,
         gate: &G,
-    ) -> bool {
+    ) -> Option<u32> {
         let mut lent = lent;
         lent.run_local();
         for _ in rt.forever() {
             gate.ready(call, *passed);
             match self.send(rt, call, &mut lent) {
-                Ok(TurnOutcome::Finished) => return true,
+                Ok(TurnOutcome::Finished) => return Some(lent.to().steps),
                 Ok(TurnOutcome::Advanced { .. }) => {
                     *passed = pass(gate, call, *passed);
                     lent.run_local();
                 }
                 // The instructions up to the lock are done: the lock is tried again.
                 Ok(TurnOutcome::Blocked { .. }) => *passed = pass(gate, call, *passed),
-                Err(_) => return false,
+                Err(_) => return None,
             }
         }
         unreachable!()

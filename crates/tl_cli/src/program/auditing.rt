@@ -3,7 +3,7 @@
 use crate::failure::Failure;
 use crate::program::Program;
 use crate::progress::Shown;
-use crate::{CliFault, audit_cmd, audit_next_cmd};
+use crate::{CliFault, audit_cmd, audit_next_cmd, explain_audit_fault};
 use std::fs;
 use std::rt::Files;
 use tl_trail::Trail;
@@ -20,19 +20,23 @@ fn number_of(name: &str) -> Option<u64> {
 
 impl<'a, R: Files + Print + Eprint + AllocGlobal + Clone + Drop> Program<'a, R> {
     /// What `audit` prints of these files and folders. One file alone is told as it always was; of several each has a line, which is printed
-    /// as it comes.
-    pub(crate) fn audit<'p>(&self, paths: &[&'p str]) -> Result<String, Failure<'p>> {
+    /// as it comes. Where something is wrong, and it is asked for, people are told what should stand there.
+    pub(crate) fn audit<'p>(
+        &self,
+        paths: &[&'p str],
+        explains: bool,
+    ) -> Result<String, Failure<'p>> {
         if let [path] = paths {
             if !self.is_folder(path) {
-                return self.audit_alone(path);
+                return self.audit_alone(path, explains);
             }
         }
         let mut before = None;
         for path in paths {
             before = if self.is_folder(path) {
-                self.audit_folder(path, before)?
+                self.audit_folder(path, before, explains)?
             } else {
-                Some(self.audit_next(path, before.as_ref())?)
+                Some(self.audit_next(path, before.as_ref(), explains)?)
             };
         }
         Ok(String::new(self.rt.alloc()))
@@ -42,17 +46,37 @@ impl<'a, R: Files + Print + Eprint + AllocGlobal + Clone + Drop> Program<'a, R> 
         fs::metadata(self.rt, path).is_ok_and(|metadata| metadata.is_dir())
     }
 
-    fn audit_alone<'p>(&self, path: &'p str) -> Result<String, Failure<'p>> {
+    fn audit_alone<'p>(&self, path: &'p str, explains: bool) -> Result<String, Failure<'p>> {
         let trail = self.read_file(path)?;
         let mut shown = Shown::new(self.rt, self.is_terminal);
         let answer = audit_cmd(self.rt.alloc(), &trail, &mut shown, self.nodes);
         shown.end();
+        if let Err(fault) = &answer {
+            self.show_why(&trail, None, *fault, explains);
+        }
         answer.map_err(|fault| self.misread(path, &trail, fault))
+    }
+
+    // Says to people what stands in the file where something is wrong, and what should, if that is asked for.
+    fn show_why(&self, file: &[u8], before: Option<&Trail>, fault: CliFault, explains: bool) {
+        if !explains {
+            return;
+        }
+        if let Ok(why) = explain_audit_fault(self.rt.alloc(), file, before, fault, self.nodes) {
+            if !why.is_empty() {
+                let _shown = eprintln!(self.rt; "treedb: {why}");
+            }
+        }
     }
 
     // Audits one file more, which has to go on where the trail before ends, and answers its last trail. Standard error names the file in
     // which something is wrong.
-    fn audit_next<'p>(&self, path: &str, before: Option<&Trail>) -> Result<Trail, Failure<'p>> {
+    fn audit_next<'p>(
+        &self,
+        path: &str,
+        before: Option<&Trail>,
+        explains: bool,
+    ) -> Result<Trail, Failure<'p>> {
         let file = match self.read_file(path) {
             Ok(file) => file,
             Err(failure) => return Err(self.told(&failure)),
@@ -67,6 +91,7 @@ impl<'a, R: Files + Print + Eprint + AllocGlobal + Clone + Drop> Program<'a, R> 
             },
             Err(fault) => {
                 let _shown = eprintln!(self.rt; "treedb: {path}");
+                self.show_why(&file, before, fault, explains);
                 Err(self.misread(path, &file, fault))
             }
         }
@@ -86,6 +111,7 @@ impl<'a, R: Files + Print + Eprint + AllocGlobal + Clone + Drop> Program<'a, R> 
         &self,
         folder: &'p str,
         before: Option<Trail>,
+        explains: bool,
     ) -> Result<Option<Trail>, Failure<'p>> {
         let Some((first, last)) = self.numbers_in(folder)? else {
             let _shown = eprintln!(self.rt; "treedb: {folder} has no file 0.json");
@@ -94,7 +120,7 @@ impl<'a, R: Files + Print + Eprint + AllocGlobal + Clone + Drop> Program<'a, R> 
         let mut before = before;
         for number in first..=last {
             let path = format!(in self.rt.alloc(); "{folder}/{number}.json")?;
-            before = Some(self.audit_next(path.as_str(), before.as_ref())?);
+            before = Some(self.audit_next(path.as_str(), before.as_ref(), explains)?);
         }
         Ok(before)
     }

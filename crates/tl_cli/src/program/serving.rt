@@ -1,7 +1,6 @@
 // The commands `serve`, `stop` and `status`.
 
 use crate::archive::{Finish, Trails};
-use crate::command_line::{LastingOptions, Outputs, Sealing, ServeOptions};
 use crate::failure::Failure;
 use crate::program::{Program, printed};
 use crate::trail_file::TrailFile;
@@ -11,6 +10,7 @@ use std::rt::Files;
 use std::sync::Wait;
 use std::thread::Threads;
 use std::time::{Clock, Duration};
+use tl_arguments::{LastingOptions, Outputs, Sealing, ServeOptions};
 use tl_generations::Succession;
 use tl_server::{
     Address, Control, Keeper, LastingServer, ListenFault, NoJournal, Relay, Server, ask_status,

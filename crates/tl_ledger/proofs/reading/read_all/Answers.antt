@@ -1,8 +1,9 @@
 use Rattle.std.proofs.Common.{◌∙◌, ap, Some, arith}
-use Rattle.std.proofs.lemmas.Result.{IfOk-weaker}
+use Rattle.std.proofs.lemmas.Result.{IfOk-weaker, on_ok_weaker}
 use Rattle.sqlite_trees.specs.Tree.{order_of}
 use Rattle.sqlite_trees.specs.View.{IsClean}
 use Rattle.tl_ledger.proofs.ReadLemmas.{all_sought}
+use Rattle.tl_ledger.proofs.OnlyReading.{moved_reads, then_reads}
 use Rattle.tl_ledger.proofs.reading.read_all.Goals as goal
 
 pub returns-clause-rows : goal.returns-clause-rows
@@ -15,3 +16,11 @@ returns-clause-rows g c =
     let sought = rw c.new-row.ensures at (c.in_ok-seek.ensures.ok before) in
     rest clean rows (ap (λ v. v.cursors 0) sought ∙ ap Some (all_sought order rows)))
     c.read_rest.ensures.rows
+
+pub returns-clause-reads : goal.returns-clause-reads
+returns-clause-reads g c =
+    on_ok_weaker c.read_rest.result
+    (λ reads clean.
+    let before : IsClean (g.S.Store.view c.seek.new.self) = omega (arith, clean, c.read_rest.ensures.quiet.clean) in
+    then_reads _ _ _ (moved_reads _ (g.S.Store.view c.seek.new.self) _ (c.in_ok-seek.ensures.ok before)) (reads clean))
+    c.read_rest.ensures.reads

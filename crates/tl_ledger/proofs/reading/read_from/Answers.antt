@@ -1,11 +1,12 @@
 use Rattle.std.proofs.Common.{rules, ◌≡◌, ◌∙◌, ◌∷◌, [], ap, sym, pos, drop, map, Some, arith}
-use Rattle.std.proofs.lemmas.Result.{IfOk-weaker}
+use Rattle.std.proofs.lemmas.Result.{IfOk-weaker, on_ok_weaker}
 use Rattle.sqlite_value.specs.declared.value.Value.TheVariants.{Int}
 use Rattle.sqlite_value.specs.Keys.{plain}
 use Rattle.sqlite_trees.specs.Tree.{order_of, from_key}
 use Rattle.sqlite_trees.specs.View.{IsClean}
 use Rattle.tl_ledger.specs.Rows.{rows_from}
 use Rattle.tl_ledger.proofs.ReadLemmas.{sought_from, same_columns}
+use Rattle.tl_ledger.proofs.OnlyReading.{moved_reads, then_reads}
 use Rattle.tl_ledger.proofs.reading.read_from.Goals as goal
 
 pub returns-clause-rows : goal.returns-clause-rows
@@ -25,3 +26,11 @@ returns-clause-rows g c =
     ∙ ap Some (ap (λ o. from_key o key rows) plainly ∙ ap (λ k. from_key plain k rows) key_is ∙ ap (from_key plain (Int (pos first) ∷ [])) is ∙ sought_from first columns few) in
     sym (same_columns first (drop first columns) (map g.T.Entry.columns items.items) (rest clean (rows_from first (drop first columns)) given)))
     c.read_rest.ensures.rows
+
+pub returns-clause-reads : goal.returns-clause-reads
+returns-clause-reads g c =
+    on_ok_weaker c.read_rest.result
+    (λ reads clean.
+    let before : IsClean (g.S.Store.view c.seek.new.self) = omega (arith, clean, c.read_rest.ensures.quiet.clean) in
+    then_reads _ _ _ (moved_reads _ (g.S.Store.view c.seek.new.self) _ (c.in_ok-seek.ensures.ok before)) (reads clean))
+    c.read_rest.ensures.reads

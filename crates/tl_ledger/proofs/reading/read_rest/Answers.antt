@@ -1,8 +1,9 @@
-use Rattle.std.proofs.Common.{rules, ◌≡◌, ◌+◌, ◌∷◌, [], map, length, pos, refl, ap, ◌∙◌, arith}
+use Rattle.std.proofs.Common.{rules, ◌≡◌, ◌+◌, ◌∷◌, [], map, length, pos, true, false, refl, ap, ◌∙◌, arith}
 use Rattle.std.proofs.lemmas.List.{map-append, length-map, length-append}
 use Rattle.sqlite_value.specs.declared.value.Value.TheVariants.{Int}
 use Rattle.sqlite_trees.specs.View.{IsClean}
 use Rattle.tl_ledger.proofs.ReadLemmas.{reads_none, reads_more, reads_all}
+use Rattle.tl_ledger.proofs.OnlyReading.{advanced_reads, then_reads}
 use Rattle.tl_ledger.proofs.reading.read_rest.Goals as goal
 
 pub loop-number-init : goal.loop-number-init
@@ -10,7 +11,7 @@ loop-number-init g c = (
   c.requires.live,
   (let none = ap length c.new-items.ensures.items in omega arith),
   λ clean given is. rw c.new-items.ensures.items (reads_none given _ _ is),
-  λ clean. refl,
+  λ clean. record { same = refl },
   search rules,
   search rules,
 )
@@ -30,7 +31,7 @@ loop-number-preserved g c =
       λ clean.
           let before : IsClean (g.S.Store.view c.loop-number.store) = omega (arith, clean, c.next_item.ensures.quiet.clean) in
           let moves = (rw c.in-Some.is at c.in_ok-item.ensures.some) clean in
-          ap (λ v. v.trees) moves.2 ∙ c.loop-number.invariant.3 before,
+          then_reads _ _ _ (c.loop-number.invariant.3 before) (advanced_reads _ (g.S.Store.view c.next_item.new.store) _ true moves),
       search rules,
       search rules,
     )
@@ -42,8 +43,8 @@ returns-in_default-clause-rows g c = λ clean given is.
     let moves = (rw c.in_default.is at c.in_ok-item.ensures.none) clean in
     (reads_all given _ _ _ _ (map g.T.Entry.columns c.loop-number.items.items) [] so_far moves).0
 
-pub returns-in_default-clause-same : goal.returns-in_default-clause-same
-returns-in_default-clause-same g c = λ clean.
+pub returns-in_default-clause-reads : goal.returns-in_default-clause-reads
+returns-in_default-clause-reads g c = λ clean.
     let before : IsClean (g.S.Store.view c.loop-number.store) = omega (arith, clean, c.next_item.ensures.quiet.clean) in
     let moves = (rw c.in_default.is at c.in_ok-item.ensures.none) clean in
-    ap (λ v. v.trees) moves.1 ∙ c.loop-number.invariant.3 before
+    then_reads _ _ _ (c.loop-number.invariant.3 before) (advanced_reads _ (g.S.Store.view c.next_item.new.store) [] false moves)

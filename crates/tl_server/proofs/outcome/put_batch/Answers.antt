@@ -5,7 +5,7 @@ use Rattle.tl_table.specs.declared.receipt.Receipt.{Receipt}
 use Rattle.tl_workers.specs.declared.refusal.Refusal.{Refusal}
 use Rattle.tl_server.specs.Answers.{line_text, error_text, batch_text}
 use Rattle.tl_server.specs.Outcomes.{CameOf, later_answer}
-use Rattle.tl_server.specs.declared.outcome.Outcome.TheVariants.{Batched}
+use Rattle.tl_server.specs.declared.outcome.RequestOutcome.TheVariants.{Batched}
 use Rattle.tl_server.proofs.Sending.{writes_same}
 use Rattle.tl_server.proofs.Later.{batched, unbatched}
 use Rattle.tl_server.proofs.outcome.put_batch.Goals as goal

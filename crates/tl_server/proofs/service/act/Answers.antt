@@ -3,7 +3,7 @@ use Rattle.tl_json.specs.Requests.{request_form}
 use Rattle.tl_workers.specs.declared.session.Did.{Did}
 use Rattle.tl_workers.specs.Kept.{Gains}
 use Rattle.tl_server.specs.declared.request.LineRequest.{LineRequest}
-use Rattle.tl_server.specs.declared.outcome.Outcome.TheVariants.{Batched, Sealed}
+use Rattle.tl_server.specs.declared.outcome.RequestOutcome.TheVariants.{Batched, Sealed}
 use Rattle.tl_server.specs.Requests.{line_view}
 use Rattle.tl_server.specs.Outcomes.{CameOf}
 use Rattle.tl_server.specs.Gaining.{gains_nothing}

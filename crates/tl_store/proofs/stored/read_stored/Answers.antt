@@ -1,4 +1,4 @@
-use Rattle.std.proofs.Common.{rules, ◌≡◌, ◌≤◌, ◌∙◌, arith, IsTrue}
+use Rattle.std.proofs.Common.{rules, ◌≡◌, ◌≤◌, ◌∙◌, ap, arith, IsTrue}
 use Rattle.sqlite_trees.specs.View.{IsClean}
 use Rattle.tl_ledger.specs.declared.schema.TheConstants.{NODE, RECORD, PROCEDURE}
 use Rattle.tl_store.proofs.StoredLemmas.{all_read, holds_again, as_many}
@@ -12,11 +12,11 @@ returns-clause-stored g c = λ clean contents holds.
     let clean3 : IsClean (g.S.Store.view c.read_behind.new.store) = omega (arith, clean4, c.read_all.ensures.quiet.clean) in
     let clean2 : IsClean (g.S.Store.view c.last_seal.new.store) = omega (arith, clean3, c.read_behind.ensures.quiet.clean) in
     let clean1 : IsClean (g.S.Store.view c.marks_of.new.store) = omega (arith, clean2, c.last_seal.ensures.quiet.clean) in
-    let same1 : (g.S.Store.view c.marks_of.new.store).trees ≡ old = c.in_ok-marks.ensures.same clean1 in
-    let same2 : (g.S.Store.view c.last_seal.new.store).trees ≡ old = c.in_ok-sealed.ensures.same clean2 ∙ same1 in
-    let same3 : (g.S.Store.view c.read_behind.new.store).trees ≡ old = c.in_ok-behind.ensures.same clean3 ∙ same2 in
-    let same4 : (g.S.Store.view c.read_all.new.store).trees ≡ old = c.in_ok-read_all.ensures.same clean4 ∙ same3 in
-    let same5 : (g.S.Store.view c.read_all-2.new.store).trees ≡ old = c.in_ok-read_all-2.ensures.same clean5 ∙ same4 in
+    let same1 : (g.S.Store.view c.marks_of.new.store).trees ≡ old = ap (λ v. v.trees) ((c.in_ok-marks.ensures.reads clean1).same) in
+    let same2 : (g.S.Store.view c.last_seal.new.store).trees ≡ old = ap (λ v. v.trees) ((c.in_ok-sealed.ensures.reads clean2).same) ∙ same1 in
+    let same3 : (g.S.Store.view c.read_behind.new.store).trees ≡ old = ap (λ v. v.trees) ((c.in_ok-behind.ensures.reads clean3).same) ∙ same2 in
+    let same4 : (g.S.Store.view c.read_all.new.store).trees ≡ old = ap (λ v. v.trees) ((c.in_ok-read_all.ensures.reads clean4).same) ∙ same3 in
+    let same5 : (g.S.Store.view c.read_all-2.new.store).trees ≡ old = ap (λ v. v.trees) ((c.in_ok-read_all-2.ensures.reads clean5).same) ∙ same4 in
     let marked = c.in_ok-marks.ensures.marks clean1 contents holds in
     let counted : IsTrue c.are_counted.result = search rules in
     let few_calls : c.in_ok-sealed.sealed.calls ≤ c.in_ok-marks.marks.calls = c.are_counted.ensures.calls counted in

@@ -3,12 +3,12 @@ use Rattle.std.specs.Prelude.{nat_lt, IfSome}
 use Rattle.tl_lowering.specs.declared.lowering.Draft.{Draft}
 use Rattle.tl_lowering.specs.declared.lowering.Opened.{Opened}
 use Rattle.tl_lowering.specs.declared.paths.Flow.{Flow}
-use Rattle.tl_lowering.specs.Blocks.{Reached, at_start}
+use Rattle.tl_lowering.specs.Blocks.{Standing, at_start}
 use Rattle.tl_lowering.specs.Lowering.{IsDraft, behind_draft}
 use Rattle.tl_lowering.specs.Paths.{Paths, nodes_of, known, paths_of}
 use Rattle.tl_lowering.specs.Repeating.{IsRepetition}
 use Rattle.tl_lowering.specs.Scopes.{View, view_of, IsAt, IsLowered}
-use Rattle.tl_lowering.specs.Sound.{IsSound}
+use Rattle.tl_lowering.specs.Sound.{IsWellFormed}
 use Rattle.tl_lowering.proofs.BeyondLemmas.{turns_begin, block_is_no_break, block_is_no_walk}
 use Rattle.tl_lowering.proofs.BodyLemmas.{on_ok, then_flow, same_draft, same_behind, back, loop_back, at_known}
 use Rattle.tl_lowering.proofs.DepthLemmas.{falls_in_try, falls_in_handler, falls_in_first, falls_in_second, falls_in_visit}
@@ -45,7 +45,7 @@ block-loop-statement-init t c =
 
 pub block-loop-statement-preserved : goal.block-loop-statement-preserved
 block-loop-statement-preserved t c =
-    let start : Reached = at_start c.args.self.now.scope.values c.args.self.now.scope.nodes (nodes_of c.args.held) in
+    let start : Standing = at_start c.args.self.now.scope.values c.args.self.now.scope.nodes (nodes_of c.args.held) in
     let so_far = c.loop-statement.invariant in
     let old : Draft = c.loop-statement.draft in
     let made : Draft = c.extend.new.draft in
@@ -80,11 +80,11 @@ pub block-returns-clause-lowered : goal.block-returns-clause-lowered
 block-returns-clause-lowered t c =
     let scope : View = view_of c.args.self.now.scope in
     let inner : View = view_of c.loop-statement.self.scope in
-    let start : Reached = at_start scope.values scope.nodes (nodes_of c.args.held) in
+    let start : Standing = at_start scope.values scope.nodes (nodes_of c.args.held) in
     let so_far = c.loop-statement.invariant in
     let whole = c.in_ok-finished.ensures.order start inner (nodes_of c.args.held) so_far.draft c.requires.nodes in
     block_lowered scope c.args.held c.in_ok-finished.field-0 c.loop-statement.draft.flow c.keeping-flow.result (behind_draft start c.loop-statement.draft)
-    whole.0 (subst (λ n. IsSound c.in_ok-finished.field-0 scope.values scope.nodes (nodes_of c.args.held) (nat_lt 0 n)) so_far.loops whole.1) so_far.flow c.keeping-flow.ensures.paths
+    whole.0 (subst (λ n. IsWellFormed c.in_ok-finished.field-0 scope.values scope.nodes (nodes_of c.args.held) (nat_lt 0 n)) so_far.loops whole.1) so_far.flow c.keeping-flow.ensures.paths
 
 pub block-returns-clause-entering : goal.block-returns-clause-entering
 block-returns-clause-entering t c = finished_entering c.loop-statement.invariant.entering c.in_ok-finished.ensures.named c.keeping-flow.ensures.entered
@@ -179,7 +179,7 @@ statement-block-requires-in-If t c = (
 pub statement-turns-requires-in-ForEach : goal.statement-turns-requires-in-ForEach
 statement-turns-requires-in-ForEach t c =
     let v = c.in-ForEach in (
-      falls_in_visit t 2 c.args.form.now v.child v.parent v.at_most v.body c.deref-in-ForEach.result.now c.decreases c.deref-in-ForEach.ensures.value (omega arith) v.is,
+      falls_in_visit t 2 c.args.form.now v.child v.index v.parent v.at_most v.body c.deref-in-ForEach.result.now c.decreases c.deref-in-ForEach.ensures.value (omega arith) v.is,
       (c.requires, (c.in_ok-repetition-in-ForEach.ensures.repetition, (c.in_ok-repetition-in-ForEach.ensures.depth, c.in_ok-repetition-in-ForEach.ensures.fresh))),
     )
 

@@ -11,7 +11,7 @@ returns c =
     record {
       named =
           ok_more c.sequence.result _ _ c.sequence.ensures.named
-          (λ s is. record { bound = c.in_ok-whole.whole; placed = c.in_ok-at.field-0; bound_is = c.in_ok-whole.ensures.named; placed_is = c.in_ok-at.ensures.named; joined = subst (IsHalved s) more is });
+          (λ s is. record { bound = c.in_ok-whole.whole; at_offset = c.in_ok-at.field-0; bound_is = c.in_ok-whole.ensures.named; placed_is = c.in_ok-at.ensures.named; joined = subst (IsHalved s) more is });
       closes =
           ok_more c.sequence.result _ _ c.sequence.ensures.sequence
           (λ s is. closes c.args.opened c.args.rest c.in_ok-whole.whole c.in_ok-at.field-0 s c.in_ok-whole.ensures.closing c.in_ok-at.ensures.same (subst (IsSequence s) more is));

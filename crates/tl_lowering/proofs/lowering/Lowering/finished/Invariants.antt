@@ -1,5 +1,5 @@
 use Rattle.std.proofs.Common.{vec_len}
-use Rattle.tl_lowering.specs.Blocks.{Reached, AreFree}
+use Rattle.tl_lowering.specs.Blocks.{Standing, AreFree}
 use Rattle.tl_lowering.specs.Lowering.{IsDraft, behind_draft}
 use Rattle.tl_lowering.specs.Scopes.{View, is_in_loop}
 use Rattle.tl_lowering.specs.Sets.{Nodes}
@@ -11,7 +11,7 @@ abbrev pub invariant-loop-last : goal.invariant-loop-last
 invariant-loop-last l = record {
   named : IsEnding l.fn.draft l.opened.items l.whole;
   order :
-      (start : Reached) (scope : View) (outer : Nodes) → IsDraft start l.fn.draft scope → AreFree start.nodes outer
+      (start : Standing) (scope : View) (outer : Nodes) → IsDraft start l.fn.draft scope → AreFree start.nodes outer
       → IsClosed start outer (is_in_loop scope) (behind_draft start l.fn.draft) l.opened.items l.whole;
 }
 

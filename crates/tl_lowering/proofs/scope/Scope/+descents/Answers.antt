@@ -62,7 +62,7 @@ pub descended_in-returns-in-ForEach : goal.descended_in-returns-in-ForEach
 descended_in-returns-in-ForEach t c = record {
   beyond = λ known n le. c.descended-in-ForEach.ensures.beyond known n le;
   nodes = λ names n b k lt is.
-      each_descending n lt k c.in-ForEach.child c.in-ForEach.parent c.in-ForEach.at_most c.in-ForEach.body c.in-ForEach.is
+      each_descending n lt k c.in-ForEach.child c.in-ForEach.index c.in-ForEach.parent c.in-ForEach.at_most c.in-ForEach.body c.in-ForEach.is
       (says_block (bits c.descended-in-ForEach.result) n lt c.deref-in-ForEach.ensures.value (λ m parts i k lt are. c.descended-in-ForEach.ensures.nodes m parts i k lt are)) is;
 }
 

@@ -1,6 +1,6 @@
 use mir.Val.{to_z, of_z}
 use Rattle.std.proofs.Common.{◌≡◌, ◌∙◌, sym, w32, rules}
-use Rattle.tl_lowering.specs.Naming.{constant, value}
+use Rattle.tl_lowering.specs.Naming.{constant, value, index}
 use Rattle.tl_lowering.proofs.scope.Scope.named.Goals as goal
 
 pub returns-in-Constant-clause-named : goal.returns-in-Constant-clause-named
@@ -10,3 +10,6 @@ returns-in-Constant-clause-named c =
 
 pub returns-in-Value-clause-named : goal.returns-in-Value-clause-named
 returns-in-Value-clause-named c = value (sym c.in_ok-number.ensures ∙ c.in-Value.is)
+
+pub returns-in-Index-clause-named : goal.returns-in-Index-clause-named
+returns-in-Index-clause-named c = index (sym c.in_ok-number.ensures ∙ c.in-Index.is)

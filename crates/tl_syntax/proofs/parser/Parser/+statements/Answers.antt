@@ -26,7 +26,7 @@ pub repetition-returns : goal.repetition-returns
 repetition-returns t c = repeat_at_most c.in_ok-body-2.body c.in_ok-at.ensures c.in_ok-turns.ensures c.in-Some.ensures c.in_ok-next.ensures c.in_ok-count.ensures c.in_ok-body-2.ensures
 
 pub visit-returns : goal.visit-returns
-visit-returns t c = for_each c.in_ok-body.body c.in_ok-at.ensures c.in_ok-at-2.ensures c.in_ok-at-3.ensures c.in_ok-child.ensures c.in_ok-at-4.ensures c.in_ok-parent.ensures c.in_ok-at-5.ensures c.in_ok-at-6.ensures c.in_ok-at_most.ensures c.in_ok-body.ensures
+visit-returns t c = for_each c.in_ok-body.body c.in_ok-at.ensures c.in_ok-at-2.ensures c.in_ok-at-3.ensures c.in_ok-child.ensures c.in_ok-index.ensures c.in_ok-at-4.ensures c.in_ok-parent.ensures c.in_ok-at-5.ensures c.in_ok-at-6.ensures c.in_ok-at_most.ensures c.in_ok-body.ensures
 
 pub block-loop-init : goal.block-loop-init
 block-loop-init t c = record { room = c.in_ok-inside.ensures; begun = c.in_ok-next.ensures; read = no_statements (search rules) }

@@ -1,0 +1,518 @@
+// What the command line may have: commands, their options and files, and what help says of them.
+
+use crate::help::{
+    ALONE_HELP, ASM_HELP, AUDIT_HELP, CHECK_HELP, COMPILE_HELP, DIS_HELP, DRIVE_HELP, EXPLAIN_HELP,
+    HELP, MIGRATE_HELP, PROCS_HELP, RUN_HELP, SERVE_HELP, STATUS_HELP, STOP_HELP, VERIFY_HELP,
+    WIDEN_HELP,
+};
+use crate::rows::{Reading, Row};
+use clap::{Arg, ArgAction, Command, value_parser};
+use std::alloc::{AllocError, Global};
+
+/// The program's version, and the logic by which it was proved.
+pub const VERSION: &str = "0.1.0 (proved with Rattle, logic dac8208d650f15bf)";
+
+// ---- rows that several commands have
+
+fn tree() -> Row {
+    Row::option("tree", "T", "The file of the tree, as JSON").required()
+}
+
+fn nodes() -> Row {
+    Row::option(
+        "nodes",
+        "N",
+        "How many nodes a tree may have, 1 to 65535; 4096 if not given",
+    )
+    .as_a(Reading::Positive)
+}
+
+fn save() -> Row {
+    Row::option(
+        "save",
+        "F",
+        "The file that the tree is written to, as it is in the end",
+    )
+}
+
+fn trail() -> Row {
+    Row::option("trail", "F", "The file that the trail is written to")
+}
+
+fn script() -> Row {
+    Row::file("SCRIPT", "The file of the script, as JSON")
+}
+
+// Procedures, each option with all of a file or with one.
+fn procedures(help: &'static str) -> Row {
+    Row::option("proc", "[NAME=]FILE", help).as_a(Reading::Texts)
+}
+
+fn script_procedures() -> Row {
+    procedures(
+        "Procedures to add to the script: all of a `.tdb` file, or NAME of it, or NAME=assembler file",
+    )
+}
+
+fn port(help: &'static str) -> Row {
+    Row::option("port", "P", help)
+        .required_unless([Some("socket"), None, None])
+        .excluding("socket")
+        .as_a(Reading::Positive)
+}
+
+fn socket(help: &'static str) -> Row {
+    Row::option("socket", "PATH", help)
+}
+
+// ---- a command of its rows
+
+fn read_as<'a>(arg: Arg<'a>, reading: Reading) -> Arg<'a> {
+    match reading {
+        Reading::Text => arg,
+        Reading::Flag => arg.action(ArgAction::SetTrue),
+        Reading::Texts => arg.action(ArgAction::Append),
+        Reading::Files => arg.action(ArgAction::Append).num_args(1..),
+        Reading::Number => arg.value_parser(value_parser!(u16)),
+        Reading::Positive => arg.value_parser(value_parser!(u16).range(1..)),
+        Reading::Places => arg.value_parser(value_parser!(u16).range(1..=1024)),
+        Reading::Epochs => arg.value_parser(value_parser!(u16).range(1..=128)),
+        Reading::Workers => arg.value_parser(value_parser!(usize).range(1..=16)),
+    }
+}
+
+// The same, with what it depends on.
+fn depending<'a>(arg: Arg<'a>, row: &Row) -> Result<Arg<'a>, AllocError> {
+    let mut arg = arg;
+    for other in &row.unless {
+        if let Some(other) = *other {
+            arg = arg.required_unless_present(other)?;
+        }
+    }
+    if let Some(other) = row.excluded {
+        arg = arg.conflicts_with(other)?;
+    }
+    match row.with {
+        Some((option, value)) => arg.required_if_eq(option, value),
+        None => Ok(arg),
+    }
+}
+
+fn arg_of<'a>(alloc: Global, row: &Row) -> Result<Arg<'a>, AllocError> {
+    let arg = Arg::new(alloc, row.name)
+        .required(row.is_required)
+        .help(row.help);
+    let arg = if row.is_option {
+        arg.long(row.name)
+    } else {
+        arg
+    };
+    let arg = if row.shown.is_empty() {
+        arg
+    } else {
+        arg.value_name(row.shown)
+    };
+    let arg = match row.default {
+        Some(default) => arg.default_value(default),
+        None => arg,
+    };
+    depending(read_as(arg, row.reading), row)
+}
+
+// The command with these rows too.
+fn with_rows<'a>(
+    alloc: Global,
+    command: Command<'a>,
+    rows: &[Row],
+) -> Result<Command<'a>, AllocError> {
+    let mut command = command;
+    for row in rows {
+        command = command.arg(arg_of(alloc, row)?)?;
+    }
+    Ok(command)
+}
+
+fn command_of<'a>(
+    alloc: Global,
+    name: &'static str,
+    about: &'static str,
+    help: &'static str,
+    rows: &[Row],
+) -> Result<Command<'a>, AllocError> {
+    with_rows(
+        alloc,
+        Command::new(alloc, name).about(about).after_help(help),
+        rows,
+    )
+}
+
+// ---- the commands
+
+/// The commands, in the order in which help shows them.
+#[derive(Clone, Copy)]
+enum Name {
+    Alone,
+    Drive,
+    Run,
+    Serve,
+    Status,
+    Stop,
+    Audit,
+    Check,
+    Compile,
+    Procs,
+    Asm,
+    Dis,
+    Verify,
+    Migrate,
+    Widen,
+    Explain,
+}
+
+const NAMES: [Name; 16] = [
+    Name::Alone,
+    Name::Drive,
+    Name::Run,
+    Name::Serve,
+    Name::Status,
+    Name::Stop,
+    Name::Audit,
+    Name::Check,
+    Name::Compile,
+    Name::Procs,
+    Name::Asm,
+    Name::Dis,
+    Name::Verify,
+    Name::Migrate,
+    Name::Widen,
+    Name::Explain,
+];
+
+fn alone_command<'a>(alloc: Global) -> Result<Command<'a>, AllocError> {
+    command_of(
+        alloc,
+        "alone",
+        "Runs a procedure alone on a tree, and prints its reply and the tree as it is then",
+        ALONE_HELP,
+        &[
+            tree(),
+            nodes(),
+            Row::option("proc", "P", "The file of the procedure, a container").required(),
+            Row::option("args", "A", "The arguments, a JSON list of numbers").or("[]"),
+            save(),
+        ],
+    )
+}
+
+fn drive_command<'a>(alloc: Global) -> Result<Command<'a>, AllocError> {
+    command_of(
+        alloc,
+        "drive",
+        "Runs a scripted interleaving and prints the result of each step",
+        DRIVE_HELP,
+        &[
+            tree(),
+            nodes(),
+            script_procedures(),
+            trail(),
+            save(),
+            script(),
+        ],
+    )
+}
+
+fn run_command<'a>(alloc: Global) -> Result<Command<'a>, AllocError> {
+    command_of(
+        alloc,
+        "run",
+        "Runs the calls of a script on a tree, many at once, and prints what came of each",
+        RUN_HELP,
+        &[
+            tree(),
+            nodes(),
+            Row::option("workers", "N", "How many threads run the calls, 1 to 16")
+                .required()
+                .as_a(Reading::Workers),
+            script_procedures(),
+            trail(),
+            save(),
+            script(),
+        ],
+    )
+}
+
+// The tree of a server, and where it listens.
+fn address_rows() -> [Row; 5] {
+    [
+        tree(),
+        nodes(),
+        port("The port of this machine, 1 to 65535"),
+        socket("The file of a Unix socket in the place of the port"),
+        Row::option(
+            "mode",
+            "OCTAL",
+            "The permissions of the files of sockets, three octal digits; 600 if not given: the user of the server alone",
+        ),
+    ]
+}
+
+// Who is served: how many connections, how many at once, and for how long one may be silent.
+fn connection_rows() -> [Row; 5] {
+    [
+        Row::option(
+            "connections",
+            "C",
+            "How many connections are served in all, 1 to 65535; if not given, any number until the server is stopped",
+        )
+        .as_a(Reading::Positive)
+        .required_with("seal", "by-hand"),
+        Row::option(
+            "at-once",
+            "N",
+            "How many connections may be open at once, 1 to 1024",
+        )
+        .as_a(Reading::Places)
+        .or("8"),
+        Row::option(
+            "control",
+            "P",
+            "A second port of this machine, on which `treedb stop` asks the server to end",
+        )
+        .as_a(Reading::Positive)
+        .required_unless([Some("connections"), Some("control-socket"), None])
+        .excluding("control-socket"),
+        Row::option(
+            "control-socket",
+            "PATH",
+            "The file of a Unix socket in the place of that port",
+        ),
+        Row::option(
+            "idle",
+            "S",
+            "After how many seconds a connection is ended that sends nothing or takes no answer",
+        )
+        .as_a(Reading::Positive),
+    ]
+}
+
+// How a server goes on when an epoch is full, and what it writes.
+fn epoch_rows() -> [Row; 5] {
+    [
+        Row::option(
+            "seal",
+            "HOW",
+            "Who seals an epoch that is full: its clients, `by-hand`, or the server, `itself`, as it does if --connections isn't given",
+        ),
+        Row::option(
+            "generation",
+            "G",
+            "After how many epochs a server that seals itself begins a new generation, 1 to 128; 16 if not given",
+        )
+        .as_a(Reading::Epochs),
+        Row::option(
+            "trails",
+            "FOLDER",
+            "The folder that each generation's trails are written to, as 0.json, 1.json and so on",
+        )
+        .excluding("trail"),
+        trail(),
+        save(),
+    ]
+}
+
+fn serve_command<'a>(alloc: Global) -> Result<Command<'a>, AllocError> {
+    let about =
+        "Serves connections on a local port or a Unix socket, a request a line, and prints the tree in the end";
+    let command = command_of(alloc, "serve", about, SERVE_HELP, &address_rows())?;
+    let command = with_rows(alloc, command, &connection_rows())?;
+    with_rows(alloc, command, &epoch_rows())
+}
+
+// The command asks a server at its control port or socket.
+fn control_command<'a>(
+    alloc: Global,
+    name: &'static str,
+    about: &'static str,
+    help: &'static str,
+) -> Result<Command<'a>, AllocError> {
+    command_of(
+        alloc,
+        name,
+        about,
+        help,
+        &[
+            port("The server's control port"),
+            socket("The file of the server's control socket"),
+        ],
+    )
+}
+
+fn audit_command<'a>(alloc: Global) -> Result<Command<'a>, AllocError> {
+    command_of(
+        alloc,
+        "audit",
+        "Says whether the calls of a trail may have done what it tells, and prints their order",
+        AUDIT_HELP,
+        &[
+            nodes(),
+            Row::option(
+                "explain",
+                "",
+                "Says on standard error what stands where something is wrong, and what should",
+            )
+            .as_a(Reading::Flag),
+            Row::file(
+                "TRAIL",
+                "The file of the trail, as JSON; several that follow each other; or a folder of such files",
+            )
+            .as_a(Reading::Files),
+        ],
+    )
+}
+
+fn compile_command<'a>(alloc: Global) -> Result<Command<'a>, AllocError> {
+    command_of(
+        alloc,
+        "compile",
+        "Writes the container of a procedure of a text, and prints what it does at most",
+        COMPILE_HELP,
+        &[
+            Row::file("IN", "The file of the text"),
+            Row::file("OUT", "The file that the container is written to"),
+            Row::option(
+                "proc",
+                "NAME",
+                "The name of the procedure, where the text has several",
+            ),
+        ],
+    )
+}
+
+fn widen_command<'a>(alloc: Global) -> Result<Command<'a>, AllocError> {
+    command_of(
+        alloc,
+        "widen",
+        "Writes a tree with eight fields a record, and prints how many nodes it has",
+        WIDEN_HELP,
+        &[
+            nodes(),
+            Row::file("IN", "The file of the tree, as JSON"),
+            Row::file("OUT", "The file that the new tree is written to"),
+        ],
+    )
+}
+
+fn explain_command<'a>(alloc: Global) -> Result<Command<'a>, AllocError> {
+    let number = Row::file("NUMBER", "The first number of a refusal").as_a(Reading::Number);
+    let about = "Says what the number of a refusal means, and what to do";
+    command_of(alloc, "explain", about, EXPLAIN_HELP, &[number])
+}
+
+// The command that reads one file.
+fn reading_command<'a>(
+    alloc: Global,
+    name: &'static str,
+    about: &'static str,
+    help: &'static str,
+    file: Row,
+) -> Result<Command<'a>, AllocError> {
+    command_of(alloc, name, about, help, &[file])
+}
+
+// The command that reads one file and writes another.
+fn writing_command<'a>(
+    alloc: Global,
+    name: &'static str,
+    about: &'static str,
+    help: &'static str,
+    files: [Row; 2],
+) -> Result<Command<'a>, AllocError> {
+    command_of(alloc, name, about, help, &files)
+}
+
+fn command_named<'a>(alloc: Global, name: Name) -> Result<Command<'a>, AllocError> {
+    match name {
+        Name::Alone => alone_command(alloc),
+        Name::Drive => drive_command(alloc),
+        Name::Run => run_command(alloc),
+        Name::Serve => serve_command(alloc),
+        Name::Status => control_command(
+            alloc,
+            "status",
+            "Prints what a server of this machine that lasts says of itself",
+            STATUS_HELP,
+        ),
+        Name::Stop => control_command(
+            alloc,
+            "stop",
+            "Asks a server of this machine to answer what it has read, and to end",
+            STOP_HELP,
+        ),
+        Name::Audit => audit_command(alloc),
+        Name::Check => reading_command(
+            alloc,
+            "check",
+            "Says what a procedure does at most, or shows where its text is wrong",
+            CHECK_HELP,
+            Row::file("FILE", "The file of an assembler text or of a container"),
+        ),
+        Name::Compile => compile_command(alloc),
+        Name::Procs => reading_command(
+            alloc,
+            "procs",
+            "Prints the procedures of a text, each with its assembler text",
+            PROCS_HELP,
+            Row::file("IN", "The file of the text"),
+        ),
+        Name::Asm => writing_command(
+            alloc,
+            "asm",
+            "Writes the container of an assembler text, and prints how many instructions it has",
+            ASM_HELP,
+            [
+                Row::file("IN", "The file of the assembler text"),
+                Row::file("OUT", "The file that the container is written to"),
+            ],
+        ),
+        Name::Dis => reading_command(
+            alloc,
+            "dis",
+            "Prints the assembler text of a container",
+            DIS_HELP,
+            Row::file("IN", "The file of the container"),
+        ),
+        Name::Verify => reading_command(
+            alloc,
+            "verify",
+            "Prints what the procedure of a container does at most: steps, locks and emitted values",
+            VERIFY_HELP,
+            Row::file("IN", "The file of the container"),
+        ),
+        Name::Migrate => writing_command(
+            alloc,
+            "migrate",
+            "Writes the procedure of a container in version 2, and prints how many instructions it has",
+            MIGRATE_HELP,
+            [
+                Row::file("IN", "The file of the container"),
+                Row::file("OUT", "The file that the new container is written to"),
+            ],
+        ),
+        Name::Widen => widen_command(alloc),
+        Name::Explain => explain_command(alloc),
+    }
+}
+
+/// The program's command line.
+pub fn command<'a>(alloc: Global) -> Result<Command<'a>, AllocError> {
+    let mut command = Command::new(alloc, "treedb")
+        .about("A database of trees, whose procedures are verified before they run")
+        .version(VERSION)
+        .after_help(HELP)
+        .subcommand_required(true)
+        .arg_required_else_help(true);
+    for name in NAMES {
+        command = command.subcommand(command_named(alloc, name)?)?;
+    }
+    Ok(command)
+}

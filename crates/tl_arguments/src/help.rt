@@ -1,0 +1,128 @@
+// What `treedb COMMAND --help` says below the options.
+
+pub const HELP: &str = "\
+A refusal is one line on standard output, {\"error\":[number,..]}, and a message on standard error.
+Exit status: 0 done, 1 refused, 2 a mistake on the command line, 3 a file that can't be read or written, or a port
+or socket that can't be opened, 4 memory.
+Help on a command: treedb COMMAND --help. What a number means: treedb explain NUMBER";
+
+pub const ALONE_HELP: &str = "\
+Example: treedb alone --tree one-node.json --proc add.tlp --args '[0,3]'
+prints {\"reply\":[8],\"steps\":7}, and then the tree as JSON. The files are not changed.
+Exit status: 0 done, 1 refused, 2 a mistake on the command line, 3 a file that can't be read, 4 memory.";
+
+pub const ASM_HELP: &str = "\
+Example: treedb asm walk.asm walk.tlp
+prints {\"count\":10}. A text that is refused is told by its line, and nothing is written.
+Exit status: 0 done, 1 refused, 2 a mistake on the command line, 3 a file that can't be read or written, 4 memory.";
+
+pub const CHECK_HELP: &str = "\
+Example: treedb check walk.asm
+prints {\"bounds\":{\"emits\":1,\"locks\":13,\"steps\":54}} of a procedure's assembler text or container, whatever the arguments and the
+tree. Of a file whose name ends with .tdb, a text of the procedure language, it prints [[\"shift\",{\"bounds\":{..}}],..], each procedure.
+For a text that is refused the line is shown, with a caret under the place; so is the instruction that the verifier refuses.
+Exit status: 0 done, 1 refused, 2 a mistake on the command line, 3 a file that can't be read, 4 memory.";
+
+pub const AUDIT_HELP: &str = "\
+Example: treedb audit trail.json
+prints {\"order\":[..]}, the order in which the calls would do the same alone, where nothing is wrong with the trail.
+Else it prints what is wrong first: {\"error\":[711,event]}, a rule broken; 712, a lock of a node that another call holds;
+713, another record found than was left; {\"error\":[714,call]}, a call that does not do what its procedure does; 715, one
+that isn't done; 717, another reply; {\"error\":[716,node]}, another record in the end. On a terminal its progress is shown.
+A file that is a list is a chain, one trail an epoch: this prints {\"orders\":[..]}, or {\"error\":[718,trail]} where a trail
+doesn't take over where the one before it ends, or {\"error\":[719,trail,..]} with what is wrong with a trail.
+Of several files, each has to go on where the one before it ends: treedb audit 0.json 1.json prints {\"orders\":[..]} for each file,
+or what is wrong with it, and names it. So does treedb audit FOLDER with the files 0.json, 1.json and so on of a folder.
+With --explain a sentence on standard error says what stands where something is wrong, and what should stand there.
+Exit status: 0 done, 1 refused, 2 a mistake on the command line, 3 a file that can't be read, 4 memory.";
+
+pub const COMPILE_HELP: &str = "\
+Example: treedb compile stock.tdb shift.tlp --proc shift
+prints {\"bounds\":{\"emits\":1,\"locks\":3,\"steps\":33},\"count\":36}. A text that is refused is told by line and column, with a
+caret under the place, and nothing is written.
+Exit status: 0 done, 1 refused, 2 a mistake on the command line, 3 a file that can't be read or written, 4 memory.";
+
+pub const PROCS_HELP: &str = "\
+Example: treedb procs stock.tdb
+prints [[\"shift\",\"version 2\\narity 4\\n..\"],..], each procedure with its assembler text, as a script's procs takes them.
+Exit status: 0 done, 1 refused, 2 a mistake on the command line, 3 a file that can't be read, 4 memory.";
+
+pub const DIS_HELP: &str = "\
+Example: treedb dis walk.tlp
+prints a text that asm turns into the same container.
+Exit status: 0 done, 1 refused, 2 a mistake on the command line, 3 a file that can't be read, 4 memory.";
+
+pub const DRIVE_HELP: &str = "\
+Example: treedb drive --tree three.json moves.json
+prints {\"trace\":[..]}, what came of each move; {\"order\":[..]}, the order in which the calls would do the same alone,
+or {\"error\":[651,call]} where a call is unfinished; and then the tree as JSON. With --trail the calls, what they did and
+the records in the end are written to a file, which treedb audit checks. The other files are not changed.
+Exit status: 0 done, 1 refused, 2 a mistake on the command line, 3 a file that can't be read or written, 4 memory.";
+
+pub const EXPLAIN_HELP: &str = "\
+Example: treedb explain 407
+prints when the verifier refuses a procedure with [407,position,register], and what to do then.
+Exit status: 0 done, 2 a number that no fault has, or another mistake on the command line, 3 standard output can't be
+written, 4 memory.";
+
+pub const MIGRATE_HELP: &str = "\
+Example: treedb migrate add.tlp add2.tlp
+prints {\"count\":7}, and writes the same procedure as one of version 2. A container that is of version 2 already is refused.
+Exit status: 0 done, 1 refused, 2 a mistake on the command line, 3 a file that can't be read or written, 4 memory.";
+
+pub const RUN_HELP: &str = "\
+Example: treedb run --tree fork.json --workers 2 calls.json
+prints {\"batch\":[..]}, what came of each call, {\"call\":0,\"reply\":[8]} or {\"error\":[601]}; {\"order\":[..]}, the order in
+which the calls would do the same alone; and then the tree as JSON. Two runs may take the calls in another order. With
+--trail the calls, what they did and the records in the end are written to a file, which treedb audit checks. The other
+files are not changed. A script {\"epochs\":[[call,..],..],\"procs\":[..]} runs one list of calls after another, and seals
+the epoch between two: then there is a {\"batch\":[..]} for each, {\"orders\":[..]} tells the order in each epoch, and the file
+is the list of the epochs' trails.
+Exit status: 0 done, 1 refused, 2 a mistake on the command line, 3 a file that can't be read or written, 4 memory.";
+
+pub const SERVE_HELP: &str = "\
+Example: treedb serve --tree one-node.json --port 7878 --control 7879
+says on standard error that it listens on 127.0.0.1:7878. Then, from another terminal,
+    nc -N 127.0.0.1 7878 < requests.txt
+sends the lines of a file, each a request: {\"op\":\"register\",\"name\":\"add\",\"asm\":\"arity 2\\n..\"},
+{\"op\":\"call\",\"proc\":\"add\",\"args\":[0,3]}, {\"op\":\"batch\",\"calls\":[[\"add\",[0,3]],..],\"workers\":2}, {\"op\":\"seal\"} or
+{\"op\":\"close\"}. Each is answered by a line, in order.
+treedb stop --port 7879 ends it: each line that was read is answered, the connections are ended, and this prints
+{\"generations\":n} and the tree as JSON. An epoch that is full, after 4,096 calls, is sealed, and the next goes on with the tree as
+it is. After G epochs a new generation begins. With --trails FOLDER a file there has what the calls of a generation did, 0.json,
+1.json and so on, which is written while lines are answered; treedb audit FOLDER checks them.
+With --connections C it ends by itself after so many connections, and clients seal full epochs: after 4,096 calls each call
+is refused until one does. Then this prints {\"order\":[..]}, the order in which the calls would do the same alone, or
+{\"orders\":[..]}, the order in each epoch, and the tree. With --trail what the calls did and the records in the end are
+written to a file, which treedb audit checks. --seal itself and --seal by-hand choose between the two.
+With --idle S a connection ends that sends nothing for S seconds, or takes no answer for so long.
+Every user of the machine reaches a port. With --socket PATH in the place of --port, and --control-socket PATH in the place of
+--control, the server listens on Unix sockets, and whoever may write their files reaches it: who started it alone, or as --mode says,
+660 for the group too. The file of a server that is no more is replaced, any other stays.
+Exit status: 0 done, 1 refused, 2 a mistake on the command line, 3 a file that can't be read or written, or a port
+or socket that can't be opened, 4 memory.";
+
+pub const STATUS_HELP: &str = "\
+Example: treedb status --port 7879
+asks the server that was started with --control 7879 and without --connections how far it is, and prints
+{\"epoch\":E,\"generation\":G,\"calls\":N,\"connections\":C,\"nodes\":M,\"procedures\":P}: the epoch that calls belong to now, as their
+answers name it; the number of the generation, from 0; the calls that were answered with a receipt since the start; the connections
+that are open; the tree's nodes; and the procedures. With --socket PATH it asks the server with --control-socket PATH.
+Exit status: 0 done, 2 a mistake on the command line, 3 nobody answers there, or a server that doesn't say, 4 memory.";
+
+pub const STOP_HELP: &str = "\
+Example: treedb stop --port 7879
+asks the server that was started with --control 7879 to end, and prints {\"stopping\":true}. The server takes up no more
+connections, answers each line that it has read whole, and prints the tree. With --socket PATH it asks the server that was started
+with --control-socket PATH.
+Exit status: 0 asked, 2 a mistake on the command line, 3 nobody answers there, 4 memory.";
+
+pub const VERIFY_HELP: &str = "\
+Example: treedb verify walk.tlp
+prints {\"bounds\":{\"emits\":1,\"locks\":13,\"steps\":54}}, whatever the arguments and the tree.
+Exit status: 0 done, 1 refused, 2 a mistake on the command line, 3 a file that can't be read, 4 memory.";
+
+pub const WIDEN_HELP: &str = "\
+Example: treedb widen old.json new.json
+prints {\"nodes\":1}, and writes the tree with eight fields a record. Where each record has four, the others are 0.
+Exit status: 0 done, 1 refused, 2 a mistake on the command line, 3 a file that can't be read or written, 4 memory.";

@@ -1,0 +1,6 @@
+//! What the numbers of faults mean, in words for people.
+#![tactic(auto)]
+
+mod meanings;
+
+pub use meanings::{Meaning, meaning_of};

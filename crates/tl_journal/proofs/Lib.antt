@@ -1,0 +1,4 @@
+pub mod AddedLemmas
+pub mod CallLemmas
+pub mod ChangeLemmas
+pub mod TurnLemmas

@@ -1,0 +1,4 @@
+pub mod Changes
+pub mod Desks
+pub mod Rows
+pub mod Pendings

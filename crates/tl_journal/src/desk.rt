@@ -1,0 +1,122 @@
+// Where the ledger lies while nobody stores anything.
+
+ghost use Rattle.std.specs.Prelude.{◌≡◌, ◌≤◌, ◌↔◌, ◌⊎◌, IsTrue, true, false, Some, None, IsSome, option_map};
+ghost use Rattle.std.specs.Option.{ForSome};
+ghost use Rattle.tl_journal.specs.Desks.{Covers};
+
+use sqlite_trees::error::StoreError;
+use sqlite_trees::store::Store;
+use tl_ledger::{Ledger, Marks};
+
+/// Whether the first has at least as many rows of each table as the second.
+fn covers(stored: &Marks, wanted: &Marks) -> bool
+    ensures { IsTrue result ↔ Covers stored.now wanted.now }
+{
+    stored.nodes >= wanted.nodes
+        && stored.procedures >= wanted.procedures
+        && stored.calls >= wanted.calls
+        && stored.turns >= wanted.turns
+        && stored.replies >= wanted.replies
+        && stored.seals >= wanted.seals
+}
+
+/// A ledger that stores nothing more, and why.
+#[derive(Drop)]
+pub(crate) struct Broken<S: Store> {
+    pub(crate) ledger: Ledger<S>,
+    pub(crate) fault: StoreError,
+}
+
+/// Where the ledger lies while nobody stores anything. One that isn't shut lies there for whoever comes next; one that is stays.
+#[derive(Drop)]
+pub(crate) struct Desk<S: Store> {
+    // `None` while somebody stores what came, and after a failure.
+    ledger: Option<Ledger<S>>,
+    // How many rows were stored when the ledger was put here last.
+    stored: Marks,
+    broken: Option<Broken<S>>,
+    ghost usable: { ForSome ledger (λ l. l.is_shut ≡ false) },
+    ghost counted: { ForSome ledger (λ l. Covers l.marks stored) },
+}
+
+impl<S: Store + Drop> Desk<S> {
+    /// A desk with that ledger.
+    pub(crate) fn new(ledger: Ledger<S>) -> Desk<S>
+        requires { ledger.is_shut ≡ false }
+        ensures ledger { result.ledger ≡ Some ledger }
+        ensures stored { result.stored ≡ ledger.marks }
+        ensures working { result.broken ≡ None }
+    {
+        let stored = ledger.marks;
+        Desk {
+            ledger: Some(ledger),
+            stored,
+            broken: None,
+        }
+    }
+
+    /// Whether so many rows are stored.
+    pub(crate) fn has_stored(&self, wanted: &Marks) -> bool
+        ensures { IsTrue result ↔ Covers self.now.stored wanted.now }
+    {
+        covers(&self.stored, wanted)
+    }
+
+    /// Why nothing more is stored, if that is so.
+    pub(crate) fn fault(&self) -> Option<StoreError>
+        ensures { result ≡ option_map (λ b. b.fault) self.now.broken }
+    {
+        match &self.broken {
+            Some(broken) => Some(broken.fault),
+            None => None,
+        }
+    }
+
+    /// Takes the ledger, if it lies here.
+    pub(crate) fn take(&mut self) -> Option<Ledger<S>>
+        ensures taken { result ≡ self.old.ledger }
+        ensures left { self.new.ledger ≡ None }
+        ensures stored { self.new.stored ≡ self.old.stored }
+    {
+        self.ledger.take()
+    }
+
+    /// Puts the ledger back after something was stored, or after a failure.
+    pub(crate) fn put(&mut self, ledger: Ledger<S>, failure: Option<StoreError>)
+        ensures back { failure ≡ None → ledger.is_shut ≡ false → (self.new.ledger ≡ Some ledger) × (self.new.stored ≡ ledger.marks) }
+        ensures working { failure ≡ None → ledger.is_shut ≡ false → self.new.broken ≡ self.old.broken }
+        ensures fault { IsSome failure → option_map (λ b. b.fault) self.new.broken ≡ failure }
+        ensures failed { (IsSome failure ⊎ (ledger.is_shut ≡ true)) → (self.new.ledger ≡ self.old.ledger) × (self.new.stored ≡ self.old.stored) }
+    {
+        if let Some(fault) = failure {
+            self.broken = Some(Broken { ledger, fault });
+            return;
+        }
+        if ledger.is_shut {
+            self.broken = Some(Broken {
+                ledger,
+                fault: StoreError::Broken,
+            });
+            return;
+        }
+        self.stored = ledger.marks;
+        self.ledger = Some(ledger);
+    }
+
+    /// The ledger, and why it stores nothing more, if that is so.
+    pub(crate) fn into_ledger(self) -> Option<(Ledger<S>, Option<StoreError>)> {
+        let Desk {
+            ledger,
+            stored: _,
+            broken,
+        } = self;
+        match (ledger, broken) {
+            (Some(ledger), _) => Some((ledger, None)),
+            (None, Some(broken)) => {
+                let Broken { ledger, fault } = broken;
+                Some((ledger, Some(fault)))
+            }
+            (None, None) => None,
+        }
+    }
+}

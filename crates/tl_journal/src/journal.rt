@@ -1,0 +1,185 @@
+// Who stores what engines do: leader and followers.
+
+ghost use Rattle.std.specs.Prelude.{◌≡◌, false};
+
+use crate::desk::Desk;
+use crate::pending::Pending;
+use sqlite_trees::error::StoreError;
+use sqlite_trees::store::Store;
+use std::alloc::Global;
+use std::sync::{Condvar, Mutex, Wait};
+use tl_ledger::{Ledger, Marks, News};
+use tl_news::news_since;
+use tl_server::{Journal, Unstored};
+use tl_tree::Record;
+use tl_workers::Engine;
+
+/// A journal that stores what engines do by a ledger.
+///
+/// It has no thread of its own: whoever has to wait until something is stored, and finds the ledger on its desk, takes it, stores all that
+/// came up to then, puts it back and wakes the others. Nothing is locked while the disk works, so engines go on, and whoever comes next
+/// stores all that came meanwhile.
+#[derive(Drop)]
+pub struct LedgerJournal<S: Store> {
+    // Before an engine's table, where both are locked.
+    pending: Mutex<Pending>,
+    // Alone.
+    desk: Mutex<Desk<S>>,
+    // Notified after the ledger was put back.
+    moved: Condvar,
+}
+
+/// What a journal leaves.
+#[derive(Drop)]
+pub struct JournalParts<S: Store> {
+    /// The ledger, unless somebody still stores something.
+    pub ledger: Option<Ledger<S>>,
+    /// Why it stores nothing more, if that is so.
+    pub fault: Option<StoreError>,
+    /// What came and wasn't stored.
+    pub pending: News,
+}
+
+impl<S: Store + Drop> LedgerJournal<S> {
+    /// A journal over a ledger that isn't shut, before an engine that has no calls yet and so many procedures; all of those are stored. These
+    /// are the records of its tree, which are stored too.
+    pub fn new(
+        alloc: Global,
+        ledger: Ledger<S>,
+        records: Vec<Record>,
+        procedures: usize,
+    ) -> LedgerJournal<S>
+        requires { ledger.is_shut ≡ false }
+    {
+        LedgerJournal {
+            pending: Mutex::new(Pending::new(alloc, ledger.marks, records, procedures)),
+            desk: Mutex::new(Desk::new(ledger)),
+            moved: Condvar::new(),
+        }
+    }
+
+    /// Why nothing more is stored, if that is so.
+    pub fn fault(&self, rt: &impl Wait) -> Option<StoreError> {
+        if self.wanted(rt).is_none() {
+            return Some(StoreError::OutOfMemory);
+        }
+        self.desk.lock(rt).fault()
+    }
+
+    /// What it leaves.
+    pub fn into_parts(self) -> JournalParts<S> {
+        let LedgerJournal {
+            pending,
+            desk,
+            moved: _,
+        } = self;
+        let pending = pending.into_inner().into_news();
+        match desk.into_inner().into_ledger() {
+            Some((ledger, fault)) => JournalParts {
+                ledger: Some(ledger),
+                fault,
+                pending,
+            },
+            None => JournalParts {
+                ledger: None,
+                fault: None,
+                pending,
+            },
+        }
+    }
+
+    // Takes over what came of the engine's table.
+    fn read(&self, rt: &impl Wait, alloc: Global, engine: &Engine, is_over: bool) {
+        let mut pending = self.pending.lock(rt);
+        let mark = pending.mark();
+        let read = engine.look(rt, |table| news_since(alloc, table, &mark, is_over));
+        let taken = match read {
+            Ok(came) => pending.add(alloc, came),
+            Err(refused) => Err(refused),
+        };
+        if taken.is_err() {
+            pending.lose();
+        }
+    }
+
+    // How many rows there are once all that came up to now is stored. `None` if some of it was lost.
+    fn wanted(&self, rt: &impl Wait) -> Option<Marks> {
+        self.pending.lock(rt).wanted()
+    }
+
+    // Stores all that came up to now.
+    fn store(&self, rt: &impl Wait, alloc: Global, ledger: &mut Ledger<S>) -> Option<StoreError> {
+        let Some(news) = self.pending.lock(rt).take(alloc) else {
+            return Some(StoreError::OutOfMemory);
+        };
+        ledger.commit(&news).err()
+    }
+
+    // Stores all that came up to now with the ledger from the desk, puts it back and wakes those that wait for it.
+    fn lead(
+        &self,
+        rt: &impl Wait,
+        alloc: Global,
+        ledger: Ledger<S>,
+        wanted: &Marks,
+    ) -> Result<(), Unstored> {
+        let mut ledger = ledger;
+        // Nothing is locked meanwhile.
+        let failure = self.store(rt, alloc, &mut ledger);
+        let mut desk = self.desk.lock(rt);
+        desk.put(ledger, failure);
+        self.moved.notify_all();
+        if desk.has_stored(wanted) {
+            Ok(())
+        } else {
+            Err(Unstored)
+        }
+    }
+}
+
+impl<S: Store + Drop> Journal for LedgerJournal<S> {
+    ghost use Rattle.std.specs.Prelude.{true};
+
+    ghost is_storing = { λ _. true };
+
+    fn stores(&self) -> bool {
+        true
+    }
+
+    fn gather(&self, rt: &impl Wait, alloc: Global, engine: &Engine, _base: u32) {
+        self.read(rt, alloc, engine, false);
+    }
+
+    fn close(&self, rt: &impl Wait, alloc: Global, engine: &Engine, _base: u32) {
+        self.read(rt, alloc, engine, true);
+    }
+
+    fn grow(&self, rt: &impl Wait, _alloc: Global, parents: &[i64], _epoch: u32) {
+        let mut pending = self.pending.lock(rt);
+        if pending.grow(parents).is_err() {
+            pending.lose();
+        }
+    }
+
+    fn settle(&self, rt: &impl Wait, alloc: Global) -> Result<(), Unstored> {
+        let Some(wanted) = self.wanted(rt) else {
+            return Err(Unstored);
+        };
+        let mut desk = self.desk.lock(rt);
+        for _ in rt.forever() {
+            if desk.has_stored(&wanted) {
+                return Ok(());
+            }
+            if desk.fault().is_some() {
+                return Err(Unstored);
+            }
+            let Some(ledger) = desk.take() else {
+                desk = self.moved.wait(rt, desk);
+                continue;
+            };
+            drop(desk);
+            return self.lead(rt, alloc, ledger, &wanted);
+        }
+        unreachable!()
+    }
+}

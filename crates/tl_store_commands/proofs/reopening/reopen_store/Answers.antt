@@ -1,0 +1,35 @@
+use Rattle.std.proofs.Common.{◌≡◌, ap, subst, sym, arith}
+use Rattle.sqlite_trees.specs.Tree.{Trees}
+use Rattle.sqlite_trees.specs.View.{IsClean}
+use Rattle.tl_ledger.specs.Contents.{Holds, IsAtRest, OnlyReads}
+use Rattle.tl_ledger.specs.News.{IsMarked}
+use Rattle.tl_store.specs.Stored.{AreStored}
+use Rattle.tl_store_commands.proofs.reopening.reopen_store.Goals as goal
+
+pub returns : goal.returns
+returns g c = λ clean contents held.
+    let before = g.S.Store.view c.args.store in
+    let after = g.S.Store.view c.read_stored.new.store in
+    let same_store = c.new-ledger.ensures.0 in
+    let given_clean : IsClean (g.S.Store.view c.new-ledger.result.store) = omega (arith, clean, c.in_ok-ledger.ensures.clean) in
+    let was_clean : IsClean after = rw same_store at given_clean in
+    let first_clean : IsClean before = omega (arith, was_clean, c.read_stored.ensures.quiet.clean) in
+    let rest : IsAtRest before = c.requires first_clean in
+    let reads : OnlyReads before after = c.in_ok-stored.ensures.reads was_clean in
+    let shown : Holds before.trees contents = subst (λ (db : Trees). Holds db contents) (sym rest.settled) held in
+    let stored : AreStored contents c.in_ok-stored.stored = c.in_ok-stored.ensures.stored was_clean contents shown in
+    let kept : Holds after.committed contents = subst (λ (db : Trees). Holds db contents) (sym (ap (λ v. v.committed) reads.same)) held in
+    let kept_there : Holds (g.S.Store.view c.new-ledger.result.store).committed contents = rw same_store kept in
+    let marked : IsMarked contents c.new-ledger.result.marks = rw c.new-ledger.ensures.1 stored.marked in
+    let closed = c.in_ok-ledger.ensures.stored clean contents marked kept_there in
+    record {
+      rows = c.in_ok-stored.stored;
+      stored = stored;
+      last = c.in_ok-core.field-0.core.seen;
+      rebuilt = c.in_ok-core.ensures;
+      next = c.in-Ok.ensures.next;
+      now = closed.0;
+      closed = closed.1;
+      holds = closed.2;
+      marked = closed.3;
+    }

@@ -1,0 +1,40 @@
+-- What a server with a store begins with.
+use Rattle.std.specs.Prelude.{◌≡◌, ◌⊎◌, pos, [], All, map}
+use Rattle.sqlite_trees.specs.Tree.{Trees}
+use Rattle.tl_tree.specs.Trees.{TreeValue}
+use Rattle.tl_core.specs.Cores.{CoreValue, CoreState, opened_after}
+use Rattle.tl_ledger.specs.declared.committing.Marks.{Marks}
+use Rattle.tl_ledger.specs.declared.founding.Founding.{Founding}
+use Rattle.tl_ledger.specs.declared.news.News.{News}
+use Rattle.tl_ledger.specs.Contents.{Contents, Holds}
+use Rattle.tl_ledger.specs.News.{IsMarked, after_news}
+use Rattle.tl_store.specs.declared.stored.Stored.{Stored}
+use Rattle.tl_store.specs.Rows.{parent_in, fields_in}
+use Rattle.tl_store.specs.Stored.{AreStored}
+use Rattle.tl_store.specs.Recovered.{IsRebuilt}
+use Rattle.tl_store.specs.Closing.{IsClosing}
+
+-- the first contents are those of the tree, whose nodes were there before any call, and no procedures
+pub record IsFirst (t : TreeValue) (first : Founding) : Type 0 where
+  pub parents : map parent_in first.nodes.items ≡ map pos t.parents
+  pub epoch : All (λ r. r.epoch ≡ pos 0) first.nodes.items
+  pub records : map fields_in first.records.items ≡ t.records
+  pub procedures : first.procedures.items ≡ []
+
+-- the contents with what came when calls were taken again, and the seal of their epoch; where none was, they are as before
+abbrev pub IsClosed : Stored → CoreValue → Contents → Contents → Type 0
+IsClosed rows last before now =
+    ((rows.calls.items ≡ []) × (now ≡ before))
+    ⊎ ((news : News) × IsClosing rows last news × (now ≡ after_news before news))
+
+-- the core takes over from the one that the rows behind the last seal make again, and what came then is stored
+pub record TakesUp (before : Contents) (core : CoreState) (committed : Trees) (marks : Marks) : Type 0 where
+  pub rows : Stored
+  pub stored : AreStored before rows
+  pub last : CoreValue
+  pub rebuilt : IsRebuilt rows last
+  pub next : core ≡ opened_after last
+  pub now : Contents
+  pub closed : IsClosed rows last before now
+  pub holds : Holds committed now
+  pub marked : IsMarked now marks

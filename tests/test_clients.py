@@ -1,0 +1,324 @@
+"""Tests the clients: their own tests, both on servers, and their packages, which install without an index.
+
+What needs Node.js, npm or a venv with pip is skipped where there is none.
+"""
+
+import asyncio
+import json
+import os
+import pathlib
+import re
+import shutil
+import subprocess
+import sys
+import tempfile
+import unittest
+
+import treedb
+from running import TOP, fixture, raises, skip
+
+PYTHON, JAVASCRIPT = TOP / "clients/python", TOP / "clients/javascript"
+ADD = (TOP / "examples/add.asm").read_text()
+THREE = "examples/three-nodes.json"
+TABLE = "path,pieces,visits\nnorth,0,2\nnorth/aisle 1/shelf 1,7\nnorth/aisle 1/shelf 2,3,-1\n\nsouth,,5\n"
+
+
+def left(run):
+    """The records that a server left."""
+    return json.loads(run.out.splitlines()[1])["records"]
+
+
+def test_the_words_for_each_number_are_those_of_the_page():
+    assert subprocess.run([TOP / "tools/faults", "--check"], check=False).returncode == 0
+
+
+def test_the_versions():
+    version = re.search(r"^## (\S+)", (TOP / "CHANGELOG.md").read_text(), re.MULTILINE)[1]
+    assert (treedb.__version__, json.loads((JAVASCRIPT / "package.json").read_text())["version"]) == (version, version)
+
+
+def test_the_tests_of_the_client_in_python(tests):
+    """`python3 -m unittest` in clients/python, each test a check of its own."""
+    suite = unittest.defaultTestLoader.discover(str(PYTHON / "tests"), top_level_dir=str(PYTHON))
+    with open(os.devnull, "w") as nowhere:
+        result = unittest.TextTestRunner(stream=nowhere, verbosity=0, warnings="default").run(suite)
+    failures = result.failures + result.errors
+    for test, trace in failures:
+        tests.check(str(test), False, trace)
+    for test, reason in result.skipped:
+        print(f"skipped: {test}: {reason}")
+    tests.passed += result.testsRun - len(failures) - len(result.skipped)
+    tests.skipped += len(result.skipped)
+
+
+# ---- the client in Python, on servers
+
+
+def test_procedures_calls_and_batches(tests, server):
+    it = server(tree=THREE, connections=2)
+    with treedb.Client("127.0.0.1", it.port, timeout=60) as db:
+        tests.same("the bounds", db.register("add", ADD), treedb.Bounds(steps=7, locks=1, emits=1))
+        tests.same("a call", db.call("add", 2, 3), treedb.Answer(0, [10], 0))
+        batch = db.batch([("add", 0, 1), ("none",), ("add", 1, 4)], workers=2)
+        tests.same("a batch", [batch[0].reply, batch[1].number, batch[2].reply], [[1], 601, [4]])
+        tests.same("replies", db.batch([("add", 0, 0), ("add", 2, 0)]).replies(), [[1], [10]])
+        tests.same("a seal", db.seal(), 0)
+        tests.same("a call behind it", db.call("add", 0, 1), treedb.Answer(0, [2], 1))
+    with raises(treedb.Disconnected):
+        db.call("add", 0, 1)
+    with treedb.Client(port=it.port) as db:
+        tests.same("a record", db.read(0)[0], 2)
+    tests.same("the tree", left(it.end())[0][0], 2)
+
+
+def test_refusals(tests, server):
+    with treedb.Client(port=server(tree=THREE, connections=1).port, timeout=60) as db:
+        db.register("add", ADD)
+        with raises(treedb.Refused, r"\[611\].*registered before") as refused:
+            db.register("add", ADD)
+        tests.same("what to do", refused[0].advice, "choose another name")
+        with raises(treedb.Refused, r"\[408, 2\].*\(line 7\)"):
+            db.register("bad", "arity 0\n; a comment\n\nset v0 0\nfirst n0 v0 else out\nout:\nret\n")
+        with raises(treedb.Refused, r"\[251, 2\].*\(line 2\)"):
+            db.register("bad", "arity 0\nfoo\n")
+        with raises(treedb.Refused, r"\[501\]"):
+            db.call("add", 1)
+        with raises(treedb.Refused, r"\[901\]"):
+            db.grow(treedb.Names([0], [""]), ["north"])
+
+
+def test_reading(tests, server):
+    with treedb.Client(port=server(tree=THREE, connections=1).port, timeout=60) as db:
+        tests.same("a record", db.read(2), [7, 0, 0, 0, 0, 0, 0, 0])
+        tests.same("records", [record[0] for record in db.read_all([0, 1, 2] * 100)], [0, 0, 7] * 100)
+        with raises(IndexError, "no node 3"):
+            db.read(3)
+
+
+def test_texts_of_the_language(tests, server):
+    with treedb.Client(port=server(tree="examples/stock/tree.json", connections=1).port, timeout=60) as db:
+        bounds = db.register_all(tests.path("examples/stock/stock.tdb"), str(tests.program))
+        tests.same("the locks", {name: each.locks for name, each in bounds.items()}, {"shift": 5, "transfer": 9, "visit": 4, "stock": 2113})
+        tests.same("a reply", db.call("shift", 10, 5, 0, 1).reply, [10])
+
+
+def test_a_client_that_seals_on_a_server_that_lasts(tests, server):
+    it = server(connections=None)
+    with treedb.Client(port=it.port, timeout=60, seals=True) as db:
+        db.register("add", ADD)
+        replies = [reply for _ in range(20) for reply in db.batch([("add", 0, 1)] * 241).replies()]
+        tests.same("the replies", replies, [[6 + call] for call in range(4_820)])
+        tests.same("one more", db.call("add", 0, 1).reply, [6 + 4_820])
+    treedb.stop(port=it.control)
+    tests.same("the tree", left(it.end())[0][0], 5 + 4_821)
+
+
+def test_unix_sockets(tests, server):
+    async def run(path):
+        async with await treedb.AsyncClient.connect(path=path, timeout=60) as db:
+            return await db.call("add", 0, 1)
+
+    it, path, control = server(connections=None, port="socket", control="control", tree=THREE), tests.path("socket"), tests.path("control")
+    with treedb.Client(path=path, timeout=60) as db:
+        db.register("add", ADD)
+        tests.same("a call", db.call("add", 0, 1).reply, [1])
+        tests.same("the status", treedb.status(path=control), treedb.Status(epoch=0, generation=0, calls=1, connections=1, nodes=3, procedures=1))
+    tests.same("a call of asyncio's", asyncio.run(run(path)).reply, [2])
+    treedb.stop(path=control)
+    tests.same("the tree", left(it.end())[0][0], 2)
+
+
+def test_status(tests, server):
+    it = server(connections=None)
+    with treedb.Client(port=it.port, timeout=60) as db:
+        db.register("add", ADD)
+        db.batch([("add", 0, 1)] * 3)
+        tests.same("the status", treedb.status(port=it.control), treedb.Status(0, 0, 3, 1, 1, 1))
+    with raises(treedb.Refused, "901"):
+        treedb.status(port=server(connections=1).control)
+
+
+def test_asyncio(tests, server):
+    async def run(port):
+        async with await treedb.AsyncClient.connect(port=port, timeout=300) as db:
+            await db.register("add", ADD)
+            answers = await asyncio.gather(*(db.call("add", 0, 1) for _ in range(5_000)))
+            batches = await asyncio.gather(*(db.batch([("add", 0, 1)] * 100) for _ in range(20)))
+            return [answer.reply[0] for answer in answers], [reply for batch in batches for reply, in batch.replies()], await db.read(0)
+
+    calls, batched, record = asyncio.run(run(server(connections=None).port))
+    tests.same("calls and batches", (calls, batched, record[0]), ([*range(6, 5_006)], [*range(5_006, 7_006)], 7_005))
+
+
+def test_growth(tests, server):
+    with treedb.Client(port=server(tree=THREE, connections=None).port, timeout=60) as db:
+        names = treedb.Names([0, 0, 1], ["", "north", "aisle 1"])
+        tests.same("nodes on two levels", db.grow(names, ["north/aisle 2/shelf 1", "south"]), [5, 3])
+        tests.same("more nodes", db.grow(names, ["west", "north/aisle 3"]), [6, 7])
+        db.register("add", ADD)
+        tests.same("calls", db.batch([("add", names["west"], 1), ("add", 8, 1)]).replies(), [[1], []])
+        tests.same("records", [record[0] for record in db.read_all(range(8))], [0, 0, 7, 0, 0, 0, 1, 0])
+        with raises(treedb.Refused, r"\[102\]"):
+            db.grow(names, [f"place {number}" for number in range(4_096)])
+        tests.same("the names", len(names), 8)
+
+
+def test_trees_and_tables(tests):
+    def run(*words):
+        done = subprocess.run([sys.executable, "-m", "treedb", *words], cwd=tests.folder, env={"PYTHONPATH": str(PYTHON)}, capture_output=True, text=True, check=False)
+        return done.returncode, done.stdout, done.stderr
+
+    tests.path("goods.csv").write_text(TABLE)
+    tests.same("a tree of a table", run("tree", "goods.csv", "tree.json", "names.json"), (0, "6 nodes\n", ""))
+    alone = tests.run("alone", "--tree", "tree.json", "--proc", "examples/add.tlp", "--args", "[3,1]")
+    tests.same("a call on it", alone.out.split("\n")[0], '{"reply":[8],"steps":7}')
+    tests.same("a node of it", run("show", "tree.json", "2", "--names", "names.json")[1].split("\n")[0], "2 aisle 1  [0, 0, 0, 0, 0, 0, 0, 0]")
+    tests.same("a table of it", run("table", "tree.json", "names.json", "again.csv", "--fields", "pieces,visits")[0], 0)
+    tests.same("a row of that", tests.path("again.csv").read_text().split("\n")[4], "north/aisle 1/shelf 1,7,0")
+    tests.same("a node that isn't there", run("show", "tree.json", "9"), (1, "", "treedb-tables: no node 9\n"))
+    tests.same("a table that isn't there", run("tree", "none.csv", "t", "n")[0], 1)
+
+
+# ---- the client for Node.js
+
+# Runs where the package is: it is imported by its name.
+ON_A_SERVER = """
+import { Client, Refused, Disconnected } from "treedb-client";
+import { readFileSync } from "node:fs";
+const db = await Client.connect({ port: Number(process.argv[2]), timeout: 60_000 });
+const said = [];
+said.push(await db.register("add", readFileSync(process.argv[3], "utf8")));
+said.push((await db.call("add", 0, 9007199254740993n)).reply.map(String));
+const many = await Promise.all([db.call("add", 0, 1), db.call("add", 0, 1n)]);
+said.push(many.map((it) => [it.call, String(it.reply[0]), it.epoch]));
+const batch = await db.batch([["add", 0, 1], ["none"]], 2);
+said.push([String(batch[0].reply[0]), batch[1] instanceof Refused, batch[1].number]);
+try { await db.call("add", 1); } catch (refused) { said.push(refused.numbers); }
+said.push((await db.read(0)).map(String));
+said.push(await db.seal());
+said.push((await db.call("add", 0, 0)).epoch);
+await db.close();
+try { await db.call("add", 0, 0); } catch (end) { said.push(end instanceof Disconnected); }
+console.log(JSON.stringify(said));
+"""
+FIRST = 5 + 9_007_199_254_740_993
+SAID = [{"emits": 1, "locks": 1, "steps": 7}, [str(FIRST)], [[1, str(FIRST + 1), 0], [2, str(FIRST + 2), 0]], [str(FIRST + 3), True, 601], [501],
+        [str(FIRST + 3)] + ["0"] * 7, 0, 1, True]
+
+
+def needed(program):
+    if shutil.which(program) is None:
+        skip(f"there is no {program}")
+
+
+def said_on_a_server(server, folder):
+    """What the script says, run by Node.js in this folder."""
+    script = pathlib.Path(folder, "script.mjs")
+    script.write_text(ON_A_SERVER)
+    done = subprocess.run(["node", script, str(server(connections=1).port), TOP / "examples/add.asm"], capture_output=True, text=True, timeout=120, check=False)
+    return json.loads(done.stdout) if done.returncode == 0 else done.stderr
+
+
+def test_the_tests_of_the_client_for_node():
+    needed("node")
+    done = subprocess.run(["node", "--test"], cwd=JAVASCRIPT, capture_output=True, text=True, timeout=120, check=False)
+    assert done.returncode == 0, done.stdout + done.stderr
+
+
+def test_the_client_for_node_on_a_server(tests, server):
+    needed("node")
+    tests.path("node_modules").mkdir()
+    tests.path("node_modules/treedb-client").symlink_to(JAVASCRIPT)
+    tests.same("what it says", said_on_a_server(server, tests.folder), SAID)
+
+
+# ---- packages: they install into an empty environment and an empty folder, without an index and without a registry
+
+# An index and a registry that nobody serves.
+NO_INDEX = {"PIP_INDEX_URL": "http://127.0.0.1:9/", "npm_config_registry": "http://127.0.0.1:9/"}
+
+
+class Packages:
+    """The packages that tools/package makes, and a folder to install them in."""
+
+    def __init__(self, folder):
+        self.folder = pathlib.Path(folder)
+        made = subprocess.run([TOP / "tools/package", folder], capture_output=True, text=True, check=True).stdout.split()
+        self.wheel, self.archive = made[:2]
+
+    def done(self, *words, folder=None):
+        """What a command prints, which has to succeed."""
+        done = subprocess.run(words, cwd=folder or self.folder, env=NO_INDEX | {"HOME": str(self.folder), "PATH": os.environ["PATH"]}, capture_output=True, text=True, timeout=300, check=False)
+        assert done.returncode == 0, done.stdout + done.stderr
+        return done.stdout
+
+    def environment(self, name):
+        """An empty environment: the folder of its programs."""
+        made = subprocess.run([sys.executable, "-m", "venv", self.folder / name], capture_output=True, text=True, check=False)
+        if made.returncode != 0:
+            skip("there is no venv with pip")
+        return self.folder / name / "bin"
+
+
+@fixture(scope="module")
+def packages():
+    with tempfile.TemporaryDirectory() as folder:
+        yield Packages(folder)
+
+
+def test_the_same_sources_give_the_same_bytes(packages):
+    again = packages.folder / "again"
+    packages.done(TOP / "tools/package", again)
+    for path in (packages.wheel, packages.archive):
+        assert (again / pathlib.Path(path).name).read_bytes() == pathlib.Path(path).read_bytes()
+
+
+def test_the_wheel(tests, server, packages):
+    programs = packages.environment("wheel")
+    packages.done(programs / "pip", "install", "--no-index", packages.wheel)
+    tests.same("the version", packages.done(programs / "treedb-tables", "--version"), f"{treedb.__version__}\n")
+    tests.check("it has no program treedb", not (programs / "treedb").exists(), "it is there")
+    called = f"import treedb; db = treedb.Client(port={server(connections=None).port}); print(db.read(0), treedb.__file__.startswith({str(packages.folder)!r})); db.close()"
+    tests.same("a record", packages.done(programs / "python", "-c", called), "[5, 0, 0, 0, 0, 0, 0, 0] True\n")
+
+
+def test_the_folder(packages):
+    if sys.version_info < (3, 11):
+        skip("a build before Python 3.11 needs tomli")
+    programs, copy = packages.environment("sources"), packages.folder / "copy"
+    shutil.copytree(PYTHON, copy, ignore=shutil.ignore_patterns("__pycache__"))
+    packages.done(programs / "pip", "install", "--no-index", copy)
+    packages.done(programs / "python", "-c", "import treedb")
+    made = "import sys; sys.path.insert(0, 'build_backend'); import treedb_build; print(treedb_build.build_sdist(sys.argv[1]))"
+    archive = packages.done(programs / "python", "-c", made, packages.folder, folder=copy).strip()
+    for source in ([packages.folder / archive], ["--editable", copy]):
+        packages.done(programs / "pip", "uninstall", "--yes", "treedb-client")
+        packages.done(programs / "pip", "install", "--no-index", *source)
+        packages.done(programs / "python", "-c", "import treedb")
+
+
+def test_the_archive(tests, server, packages):
+    needed("npm")
+    folder = packages.folder / "node"
+    folder.mkdir()
+    packages.done("npm", "install", "--offline", "--no-audit", "--no-fund", packages.archive, folder=folder)
+    tests.same("its files", sorted(it.name for it in (folder / "node_modules/treedb-client").iterdir()),
+               ["LICENSE-APACHE", "LICENSE-MIT", "README.md", "faults.mjs", "package.json", "treedb.d.mts", "treedb.mjs"])
+    tests.same("what it says", said_on_a_server(server, folder), SAID)
+
+
+def test_the_archive_of_the_program(tests, packages):
+    """It has all that somebody without the kit needs."""
+    archive = pathlib.Path(packages.done(TOP / "tools/package", packages.folder, "--program", tests.program).split()[2])
+    first = archive.read_bytes()
+    tests.same("its name", archive.name, f"treedb-{treedb.__version__}-linux-x86_64.tar.gz")
+    packages.done(TOP / "tools/package", packages.folder, "--program", tests.program)
+    tests.check("the same files give the same bytes", archive.read_bytes() == first, archive)
+    prefix = packages.folder / "prefix"
+    prefix.mkdir()
+    packages.done("tar", "-xzf", archive, "--strip-components=1", "-C", prefix)
+    tests.check("the program runs", packages.done(prefix / "bin/treedb", "--version").startswith(f"treedb {treedb.__version__} "), prefix)
+    found = {str(path.relative_to(prefix / "share")) for path in (prefix / "share").rglob("*")}
+    wanted = {"treedb/viewer/index.html", "doc/treedb/README.md", "doc/treedb/docs/use/guide.md", "doc/treedb/LICENSE-MIT", "treedb/clients/python/treedb/client.py",
+              f"treedb/packages/{pathlib.Path(packages.wheel).name}", f"treedb/packages/{pathlib.Path(packages.archive).name}"}
+    tests.same("what it lacks", wanted - found, set())

@@ -1,0 +1,199 @@
+"""Runs each command of the pages that show some, and compares what it prints with what the page says. Each block of definitions on a page has to stand in the file that the page names above
+it, and each link of each page has to lead somewhere.
+
+A command is an indented line that begins with `$ `; the indented lines below it are what it prints on standard output, where
+`..` stands for any text. The commands of a page go to one shell, in order. One that ends with `&` is begun in the background,
+and the next waits until the server's port is listening. A block that is fenced and says `file=NAME` is written to that file before the commands below it. The ports 7878 and 7879
+of the page are other ones here, which are free. A link is one of Markdown's, or the name of a page in backticks.
+"""
+
+import pathlib
+import re
+import shutil
+import subprocess
+import time
+from typing import NamedTuple
+
+from running import TOP, Found, free_port
+
+PORT, CONTROL = "7878", "7879"
+END = "the command has ended"
+
+
+class Command(NamedTuple):
+    """A command of a page, and the lines below it."""
+
+    text: str
+    wanted: list
+
+
+class File(NamedTuple):
+    """A file that a page shows."""
+
+    name: str
+    text: str
+
+
+def steps(page):
+    """The commands and files of a page, in order."""
+    found, file = [], None
+    for line in page.split("\n"):
+        if file is not None:
+            if line == "```":
+                found.append(File(file[0], "".join(f"{line}\n" for line in file[1:])))
+                file = None
+            else:
+                file.append(line)
+        elif fence := re.fullmatch(r"```\w+ file=(\S+)", line):
+            file = [fence[1]]
+        elif line.startswith("    $ "):
+            found.append(Command(line[6:], []))
+        elif line.startswith("    ") and found and isinstance(found[-1], Command):
+            found[-1].wanted.append(line[4:])
+        elif found and found[-1] is not None:
+            # A line that isn't indented ends what a command prints.
+            found.append(None)
+    return [step for step in found if step is not None]
+
+
+def is_listening(port):
+    """Whether somebody listens on the port. A connection would be one of the server's."""
+    number = f":{int(port):04X}"
+    lines = pathlib.Path("/proc/net/tcp").read_text().split("\n")[1:]
+    return any(words[1].endswith(number) and words[3] == "0A" for words in map(str.split, lines) if len(words) > 3)
+
+
+def wait_for(port):
+    end = time.monotonic() + 30
+    while not is_listening(port) and time.monotonic() < end:
+        time.sleep(0.01)
+
+
+def is_as_said(printed, wanted):
+    """Whether a line is the page's, in which `..` stands for any text."""
+    return re.fullmatch(".*".join(map(re.escape, wanted.split(".."))), printed) is not None
+
+
+class Shell:
+    """One shell, to which commands go one after another."""
+
+    def __init__(self, folder):
+        self.process = subprocess.Popen(
+            ["bash", "--norc"], cwd=folder, text=True, stdin=subprocess.PIPE, stdout=subprocess.PIPE, stderr=subprocess.DEVNULL
+        )
+
+    def run(self, command):
+        """The lines that the command prints."""
+        self.process.stdin.write(f"{command}\nprintf '%s\\n' '{END}'\n")
+        self.process.stdin.flush()
+        lines = []
+        for line in self.process.stdout:
+            if line == END + "\n":
+                return lines
+            lines.append(line.removesuffix("\n"))
+        return lines + ["the shell has ended"]
+
+    def end(self):
+        self.process.stdin.close()
+        self.process.wait(timeout=60)
+
+
+def tried(tests, page):
+    """Each command of the page prints what the page says."""
+    for part in ("clients", "viewer"):
+        shutil.copytree(TOP / part, tests.path(part), ignore=shutil.ignore_patterns("__pycache__"))
+    # The word `--unproved` is left out: the program that is tested was built before.
+    tests.path("treedb").write_text(f'#!/usr/bin/env bash\n[[ "${{1:-}}" == --unproved ]] && shift\nexec -a treedb {tests.program} "$@"\n')
+    tests.path("treedb").chmod(0o755)
+    shell, port, control = Shell(tests.folder), str(free_port()), str(free_port())
+    try:
+        for step in steps((TOP / page).read_text().replace(PORT, port).replace(CONTROL, control)):
+            if isinstance(step, File):
+                tests.path(step.name).write_text(step.text)
+                continue
+            command, wanted = step
+            printed = shell.run(command)
+            if command.endswith("&"):
+                wait_for(port)
+            is_same = len(printed) == len(wanted) and all(map(is_as_said, printed, wanted))
+            tests.check(f"{page}: $ {command}", is_same, Found(printed, wanted))
+    finally:
+        shell.end()
+    assert tests.passed, f"{page} has no command that prints what it says"
+
+
+def test_readme(tests):
+    tried(tests, "README.md")
+
+
+def test_guide(tests):
+    tried(tests, "docs/use/guide.md")
+
+
+def test_own_tree(tests):
+    tried(tests, "docs/use/own-tree.md")
+
+
+def test_cookbook(tests):
+    tried(tests, "docs/use/cookbook.md")
+
+
+def test_definitions(tests):
+    tried(tests, "docs/trust/definitions.md")
+
+
+def test_ledger(tests):
+    tried(tests, "examples/ledger/README.md")
+
+
+def test_quota(tests):
+    tried(tests, "examples/quota/README.md")
+
+
+def test_definitions_stand_in_the_sources(tests):
+    """Each definition of a page's blocks stands in the file that the page names above the block."""
+    page = "docs/trust/definitions.md"
+    for file, block in re.findall(r"`(crates/[^`]+)`\n\n```antt\n(.*?)```", (TOP / page).read_text(), re.DOTALL):
+        source = (TOP / file).read_text()
+        for definition in block.strip("\n").split("\n\n"):
+            tests.check(f"{page}: it is in {file}", definition in source, definition)
+    assert tests.passed, f"{page} has no definitions"
+
+
+def pages():
+    """The pages of the repository, without what is built."""
+    listed = subprocess.run(["git", "ls-files", "--cached", "--others", "--exclude-standard", "*.md"], cwd=TOP, capture_output=True, text=True, check=False).stdout.split()
+    return [TOP / page for page in listed if (TOP / page).is_file()] or [page for page in TOP.rglob("*.md") if "out" not in page.parts]
+
+
+def anchors(page):
+    """The anchors of a page's headings, as GitHub makes them."""
+    headings = re.findall(r"^#+ (.+)$", page.read_text(), re.MULTILINE)
+    return {re.sub(r"[^\w\- ]", "", heading.lower()).replace(" ", "-") for heading in headings}
+
+
+def leads(page, target):
+    """Whether a link of a page leads to a file of the repository, and to a heading of it where it names one."""
+    if "://" in target:
+        return True
+    path, _, anchor = target.partition("#")
+    file = page.parent / path if path else page
+    return file.exists() and (not anchor or anchor in anchors(file))
+
+
+def is_there(page, name):
+    """Whether a page that is named in backticks is there: from the top, or beside the page that names it."""
+    return (TOP / name).is_file() or (page.parent / name).is_file()
+
+
+def test_the_promises_by_crate_are_those_of_the_sources():
+    assert subprocess.run([TOP / "tools/promises", "--check"], check=False).returncode == 0, "tools/promises writes the page anew"
+
+
+def test_links(tests):
+    """Each link of each page leads somewhere."""
+    for page in pages():
+        text = re.sub(r"^(```.*?^```|    .*?)$", "", page.read_text(), flags=re.MULTILINE | re.DOTALL)
+        targets = [target for target in re.findall(r"\]\(([^)\s]+)\)", re.sub(r"`[^`\n]*`", "", text)) if not leads(page, target)]
+        names = [name for name in re.findall(r"`([\w./-]+\.md)`", text) if not is_there(page, name)]
+        tests.same(f"{page.relative_to(TOP)}: what leads nowhere", [*targets, *names], [])
