@@ -9,7 +9,7 @@ use Rattle.sqlite_value.proofs.OrderLemmas.{value_cmp-Int}
 use Rattle.sqlite_trees.specs.Tree.{Trees, from_key, up_to_key}
 use Rattle.sqlite_trees.specs.View.{View, Advances}
 use Rattle.sqlite_trees.proofs.TreeLemmas.{prefix_cmp-one}
-use Rattle.tl_ledger.specs.Rows.{rows_from, IsLast, IsLastRow}
+use Rattle.tl_ledger.specs.Rows.{rows_from, IsLastRow}
 use Rattle.tl_ledger.proofs.RowLemmas.{less_numbers, same_numbers}
 
 pub all_sought : (o : Order) (rows : List Row) → from_key o [] rows ≡ rows
@@ -129,19 +129,3 @@ last_given old mid new rows columns row false is sought moves =
 pub trees_given : (mid new : View) (row : Row) (found : Rattle.std.proofs.Common.Bool) → Advances mid new 0 row found → new.trees ≡ mid.trees
 trees_given mid new row true moves = ap (λ v. v.trees) moves.2
 trees_given mid new row false moves = ap (λ v. v.trees) moves.1
-
-pub last_is : (columns : List Row) (row c : Row) (n : ℕ) → IsLastRow columns row true → row ≡ Int (pos n) ∷ c → IsLast columns n c
-last_is columns row c n at is =
-    let both : Int (pos at.0) ∷ at.1 ≡ Int (pos n) ∷ c = sym at.3 ∙ is in
-    let number : at.0 ≡ n = cc in
-    let last : at.1 ≡ c = cc in
-    subst (λ k. IsLast columns k c) number (subst (λ l. IsLast columns at.0 l) last at.2)
-
-pub count_is : (columns : List Row) (row : Row) (v : Rattle.sqlite_value.specs.declared.value.Value.Value) (n : ℕ) → IsLastRow columns row true → Rattle.sqlite_value.specs.Order.column row 0 ≡ Int (pos n) → length columns ≡ n + 1
-count_is columns row v n at is =
-    let first : Rattle.sqlite_value.specs.Order.column row 0 ≡ Int (pos at.0) = ap (λ r. Rattle.sqlite_value.specs.Order.column r 0) at.3 in
-    let both : Int (pos at.0) ≡ Int (pos n) = sym first ∙ is in
-    let number : at.0 ≡ n = cc in
-    let long = ap length at.2.columns_are ∙ length-append at.2.front (at.1 ∷ []) in
-    let front = at.2.number_is in
-    omega arith
