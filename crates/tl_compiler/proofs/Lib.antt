@@ -31,4 +31,5 @@ pub mod Stretches
 pub mod TailLemmas
 pub mod Targets
 pub mod WayLemmas
+pub mod WayMarks
 mod Rows
