@@ -1,4 +1,4 @@
--- What a search for a byte finds, or the length where it finds none; and what it says of words.
+-- The result of a search for a byte, which is the length if the byte doesn't occur, and how it splits words.
 use Rattle.std.proofs.Common.{◌≡◌, ◌≢◌, ◌+◌, ℕ, suc, List, [], ◌∷◌, length, take, drop, refl, sym, ◌∙◌, ap, Option, Some, None, Bool, true, cond, not, ◌==◌, arith, inl, inr, nat_lt}
 use Rattle.std.specs.Prelude.{unwrap_or}
 use Rattle.std.specs.List.{position_or_len, slice_split, filter}
@@ -22,7 +22,7 @@ one_more n = omega arith
 abbrev is_word : Word → Bool
 is_word word = not (length word == 0)
 
--- the parts begin with what stands before the first blank, and the words of the rest come after it
+-- the first part is what precedes the first blank, and the words of the other parts are those of the rest of the line
 record FirstPart (line : List ℕ) : Type 0 where
   others : List (List ℕ)
   parts : slice_split is_blank line ≡ take (position_or_len is_blank line) line ∷ others
@@ -40,7 +40,7 @@ first_part (b ∷ line) =
 abbrev indent : List ℕ → ℕ
 indent line = position_or_len (λ b. not (is_blank b)) line
 
--- the words are those after the blanks that the line begins with
+-- the blanks at the start of a line don't change its words
 unindented : (line : List ℕ) → words_of (drop (indent line) line) ≡ words_of line
 unfolding words_of
 unindented [] = refl
@@ -50,7 +50,7 @@ unindented (b ∷ line) =
       | inr not_here ↦ rw (not_here, not_here) refl
     ]
 
--- where no word stands after these blanks, nothing does
+-- if no word follows these blanks, nothing does
 nothing_left : (line : List ℕ) → position_or_len is_blank (drop (indent line) line) ≡ 0 → drop (indent line) line ≡ []
 nothing_left [] e = refl
 nothing_left (b ∷ line) e =

@@ -1,4 +1,4 @@
--- The canonical text is that of its code.
+-- The canonical text denotes its code.
 use Rattle.std.proofs.Common.{◌≡◌, ◌≢◌, ℕ, ◌+◌, ◌<◌, ◌≤◌, ◌^◌, List, [], ◌∷◌, ◌++◌, length, map, refl, sym, ◌∙◌, ap, subst, arith, append_assoc, Bool, true, false, ◌==◌, ◌||◌, Option, Some, None, option_map, inl, inr}
 use Rattle.std.specs.Prelude.{IfSome}
 use Rattle.std.specs.Option.{option_map_or}
@@ -78,7 +78,7 @@ module _ (f : ℕ → Bool) where
   distinct pc [] le = distinct_marked (f pc) pc (Some Blank ∷ []) tt tt
   distinct pc (i ∷ is) le = distinct_marked (f pc) pc (Some (Does (drafted i)) ∷ said_from f (pc + 1) is) (fresh pc (pc + 1) is (omega arith) (omega arith)) (distinct (pc + 1) is (omega arith))
 
-  -- each target's label names it
+  -- the label of each target is defined at that target
   found : (t pc : ℕ) (is : List Instr) → pc ≤ t → t ≤ pc + length is → pc + length is ≤ 1024 → f t ≡ true → position_of (labels_in pc (said_from f pc is)) (label_word t) ≡ Some t
   unfolding said_from
   found t pc [] low high le e =
@@ -92,7 +92,7 @@ module _ (f : ℕ → Bool) where
             ∙ found t (pc + 1) is (omega (arith, other)) (omega arith) (omega arith) e
       ]
 
-  -- instructions whose labels are known come back
+  -- instructions whose labels are defined are resolved to themselves
   aims : (labels : List (Word × ℕ)) (n pc : ℕ) (is : List Instr) → AllByRecursion (λ i. aimed labels (with_target 0 i) (option_map label_word (target i)) ≡ Some i) is → map (λ d. aimed labels d.1.instr d.1.label) (drafts_in n (said_from f pc is)) ≡ map Some is
   unfolding said_from
   aims labels n pc [] h = drafts_marked (λ d. aimed labels d.1.instr d.1.label) (f pc) n pc (Some Blank ∷ []) [] (λ m. refl)
@@ -126,7 +126,7 @@ aimed_again labels Return h = refl
 goes_to : ℕ → Instr → Bool
 goes_to t i = option_map_or (λ u. u == t) (target i) false
 
--- the target of an instruction is one of the code's targets
+-- an instruction's target is one of the code's targets
 here_is : (o : Option ℕ) (others : ℕ → Bool) → IfSome o (λ t. (option_map_or (λ u. u == t) o false || others t) ≡ true)
 here_is None others = tt
 here_is (Some t) others = rw (eq-eqb t t refl) refl
@@ -161,7 +161,7 @@ all_fit v n (i ∷ is) le h = ((h.0.in_range, at_most (target i) n le h.0.goes_w
 
 -- ---- the header
 
--- what the header's lines say, and those behind it
+-- the statements of the header's lines, followed by further ones
 abbrev headed : Version → ℕ → List (Option Said) → List (Option Said)
 headed One arity ss = Some (Takes arity) ∷ ss
 headed Two arity ss = Some Version2 ∷ Some (Takes arity) ∷ ss
@@ -202,7 +202,7 @@ module _ (arity : ℕ) (ss : List (Option Said)) where
   headed_drafts g xs One h = h 2
   headed_drafts g xs Two h = h 3
 
--- the canonical text is that of its code
+-- the canonical text denotes its code
 pub canonical : (c : CodeValue) → IsCode c → Written (listing c) c
 canonical c code =
     let is = c.instrs in

@@ -1,4 +1,4 @@
--- Numbers in decimal.
+-- Decimal numbers.
 use Rattle.std.proofs.Common.{◌≡◌, ℕ, ◌<◌, ◌^◌, List, [], ◌∷◌, length, refl, ap, true, false, Bool, ◌&&◌, ◌||◌, not, ◌==◌, None, Result, Ok, Err, arith, nat_lt, slice_index, inl, inr}
 use Rattle.std.specs.Prelude.{MatchResult}
 use Rattle.std.specs.Result.{result_ok}
@@ -34,7 +34,7 @@ is_digits word e =
 pub is_text : (word : List ℕ) → is_number word ≡ true → IsUtf8 word
 is_text word e = IsUtf8-from_ascii word (IsAscii-from_digits word (own.to word (is_digits word e).1))
 
--- what doesn't parse isn't below the limit
+-- a number that doesn't parse isn't below the limit
 pub too_large : {E : Type 0} (limit : ℕ) (word : List ℕ) (r : Result ℕ E) → is_number word ≡ true → limit < 2 ^ 32 → ParsesUnsigned 32 10 word r → result_ok r ≡ None → number_in limit word ≡ None
 unfolding number_in
 too_large limit word (Ok n) e lt h none = absurd (cc none)
@@ -46,7 +46,7 @@ too_large limit word (Err err) e lt h none =
       | inr above ↦ let no : nat_lt (digits_value 10 word) limit ≡ false = grind (arith, nat_tests, above) in rw (e, no) refl
     ]
 
--- what isn't read as a text is none
+-- UTF-8 bytes are always read as a text
 pub no_text : {T E : Type 0} (P : T → Type 0) (Q : E → Type 0) (word : List ℕ) (r : Result T E) → MatchResult r P (λ e. ¬ IsUtf8 word × Q e) → result_ok r ≡ None → IsUtf8 word → ⊥
 no_text P Q word (Ok x) h none text = cc none
 no_text P Q word (Err e) h none text = h.0 text

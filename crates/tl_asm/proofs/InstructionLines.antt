@@ -1,4 +1,4 @@
--- The lines of a text's instructions are those that its sketch keeps.
+-- The line numbers that a sketch stores are those of the text's instructions.
 use Rattle.std.proofs.Common.{◌≡◌, ◌∙◌, ℕ, List, [], ◌∷◌, map, Option, refl, sym, ap, subst}
 use Rattle.tl_asm.specs.declared.sketch.Origin.{Origin}
 use Rattle.tl_asm.specs.Statements.{DraftValue, Said}

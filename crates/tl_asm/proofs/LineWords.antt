@@ -1,4 +1,4 @@
--- A name and words are read as an instruction exactly where they are its words.
+-- A name and words are read as an instruction exactly if they are the words of that instruction.
 use Rattle.std.proofs.Common.{◌≡◌, ℕ, zero, suc, ◌<◌, ◌≤◌, ◌^◌, List, [], ◌∷◌, length, get_or, Option, Some, None, Bool, true, false, cond, refl, sym, ◌∙◌, ap, subst, arith, ◌==◌, ◌||◌, ◌&&◌, not, slice_index}
 use Rattle.std.specs.Prelude.{◌↔◌, ℤ, pos, negsuc, neg_ℤ, nat_lt, option_and_then, option_map}
 use Rattle.std.specs.Int.{w32}
@@ -25,7 +25,7 @@ use Rattle.tl_asm.proofs.TokenSpelling.{both_true, number_again, value_again, no
 
 -- ---- tokens: each number, register and label has one spelling
 
--- what a test found
+-- the result of a test
 tested : {A : Type 0} (b : Bool) (x y : A) → (if_true : cond b (Some x) None ≡ Some y) → (b ≡ true) × (x ≡ y)
 tested true x y e = (refl, cc e)
 tested false x y e = absurd (cc e)

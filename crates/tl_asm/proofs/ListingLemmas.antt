@@ -1,4 +1,4 @@
--- The canonical text is that of its code.
+-- The canonical text denotes its code.
 use Rattle.std.proofs.Common.{◌≡◌, ℕ, suc, ◌+◌, ◌<◌, ◌≤◌, ◌^◌, List, [], ◌∷◌, ◌++◌, length, refl, sym, ◌∙◌, ap, arith, Bool, true, false, ◌==◌, not, ◌||◌, ◌&&◌, Option, Some, append-nil, cond}
 use Rattle.std.specs.Prelude.{ℤ, pos, negsuc}
 use Rattle.std.specs.List.{AllByRecursion, list_all}
@@ -80,7 +80,7 @@ words_clean Return h t = (clean_if (codes "ret") refl, tt)
 
 -- ---- what the lines say
 
--- a label, where the position is a target
+-- a label, if the position is a target
 abbrev pub marked : Bool → ℕ → List (Option Said)
 marked true pc = Some (Names (label_word pc)) ∷ []
 marked false pc = []
@@ -97,7 +97,7 @@ mark_says true pc rest le = line_says ((label_word pc ++ 58 ∷ []) ∷ []) rest
 mark_says false pc rest le = refl
 
 module _ (f : ℕ → Bool) where
-  -- what the lines from a position on say, where the positions that pass the test are targets
+  -- the statements of the lines from a position on, where the positions that pass the test are targets
   unfoldable pub said_from : ℕ → List Instr → List (Option Said)
   said_from pc [] = marked (f pc) pc ++ Some Blank ∷ []
   said_from pc (i ∷ is) = marked (f pc) pc ++ Some (Does (drafted i)) ∷ said_from (pc + 1) is

@@ -1,4 +1,4 @@
--- The listing, line after line.
+-- The listing, line by line.
 use Rattle.std.proofs.Common.{◌≡◌, ℕ, suc, ◌+◌, ◌<◌, List, ◌∷◌, ◌++◌, length, drop, get_or, sym, ◌∙◌, ap, arith, append_assoc, add-one}
 use Rattle.std.proofs.lemmas.List.{drop_all}
 use Rattle.std.proofs.Math.Seq.{drop-cons}
@@ -10,7 +10,7 @@ rest_at instrs pc i lt e =
     let cut : drop pc instrs ≡ i ∷ drop (pc + 1) instrs = rw (add-one) (drop-cons instrs pc i lt ∙ ap (λ (x : Instr). x ∷ drop (suc pc) instrs) (sym e)) in
     ap (lines_from instrs pc) cut
 
--- a position more
+-- one more position
 pub one_listed : (instrs : List Instr) (pc : ℕ) (i : Instr) (text middle new whole : List ℕ) → pc < length instrs → i ≡ get_or instrs pc i → text ++ lines_from instrs pc (drop pc instrs) ≡ whole → middle ≡ text ++ label_line instrs pc → new ≡ middle ++ instr_line i → new ++ lines_from instrs (pc + 1) (drop (pc + 1) instrs) ≡ whole
 one_listed instrs pc i text middle new whole lt e before label line =
     let rest = lines_from instrs (pc + 1) (drop (pc + 1) instrs) in

@@ -1,4 +1,4 @@
--- A text has one code or one fault.
+-- A text denotes at most one code or has at most one first fault.
 use Rattle.std.proofs.Common.{◌≡◌, ◌≢◌, ℕ, ◌+◌, List, [], ◌∷◌, ◌++◌, length, take, drop, map, Option, Some, None, Result, Ok, Err, refl, sym, ◌∙◌, ap, subst, arith, inl, inr, length-append}
 use Rattle.std.specs.Prelude.{IsSome, slice_get, IfOk, IfErr, MatchResult}
 use Rattle.std.specs.List.{All}
@@ -14,7 +14,7 @@ use Rattle.tl_asm.specs.Faults.{Begin, IsWhole, IsFirstFaultIn, IsFirstFault}
 use Rattle.tl_asm.proofs.StatementLists.{in_place_parts, distinct_front, labels_append, drafts_append}
 use Rattle.tl_asm.proofs.ResolvingLemmas.{all_aimed}
 
--- lines that begin a text do so from the first on
+-- the front part of a valid beginning of a text is a valid beginning
 begin_front : (xs ys : List (Option Said)) → Begin (xs ++ ys) → Begin xs
 begin_front xs ys h =
     let more : length (drafts_in 1 (xs ++ ys)) ≡ length (drafts_in 1 xs) + length (drafts_in (1 + length xs) ys) = ap length (drafts_append 1 xs ys) ∙ length-append (drafts_in 1 xs) (drafts_in (1 + length xs) ys) in
@@ -32,7 +32,7 @@ pub none_some : {A : Type 0} (o : Option A) → o ≡ None → IsSome o → ⊥
 none_some None e h = absurd (cc)
 none_some (Some x) e h = absurd (cc)
 
--- lines that begin a text, of which each label is known, have no first fault
+-- a complete text whose labels are all defined has no fault
 no_fault : (ss : List (Option Said)) (is : List Instr) (f : AsmFault) → IsWhole ss → map (λ d. aimed (labels_in 0 ss) d.1.instr d.1.label) (drafts_in 1 ss) ≡ map Some is → ¬ IsFirstFaultIn ss f
 no_fault ss is (BadLine n) whole aims (inl bad) = bad.3 (front_of ss (bad.0 + 1) whole.lines).in_place
 no_fault ss is (BadLine n) whole aims (inr bad) = bad.2 whole
@@ -73,7 +73,7 @@ same_list (x ∷ xs) (y ∷ ys) e =
     let tail : map Some xs ≡ map Some ys = cc in
     (λ j. head j ∷ same_list xs ys tail j)
 
--- a text is that of one code
+-- a text denotes at most one code
 pub same_code : (text : List ℕ) (c d : CodeValue) → Written text c → Written text d → c ≡ d
 same_code text c d v w =
     let arity : Some c.arity ≡ Some d.arity = sym v.arity ∙ w.arity in
@@ -82,7 +82,7 @@ same_code text c d v w =
     let instrs = same_list c.instrs d.instrs (sym v.instrs ∙ w.instrs) in
     (λ j. record { version = version j; arity = one j; instrs = instrs j })
 
--- what is read is the text's code; where it isn't read for another cause than memory, the text has none
+-- if a text denotes a code, reading it returns that code or a lack of memory
 pub only_one : (text : List ℕ) (r : Result CodeValue AsmFault) (c : CodeValue) → IfOk r (λ code. Written text code) → IfErr r (λ f. f ≢ Memory → IsFirstFault text f) → Written text c → MatchResult r (λ code. code ≡ c) (λ f. f ≡ Memory)
 only_one text (Ok code) c found fault w = same_code text code c found w
 only_one text (Err Memory) c found fault w = refl

@@ -12,7 +12,7 @@ use Rattle.tl_asm.specs.Faults.{Begin, IsReached, IsWhole, IsFirstAstray, IsFirs
 use Rattle.tl_asm.proofs.OneCode.{front_of, none_some}
 
 module _ (ss : List (Option Said)) where
-  -- what is wrong at line k + 1, in the order of the faults
+  -- the fault at line k + 1, by the kind of the fault
   Kind : ℕ → AsmFault → Type 0
   Kind k f =
       ((f ≡ BadLine (k + 1)) × ¬ InPlace (take (k + 1) ss))
@@ -38,7 +38,7 @@ module _ (ss : List (Option Said)) where
   sorted (NoLabel n) h = inr (record { begin = h.whole.lines; kind = inr (n, refl, h) })
   sorted Memory h = absurd h
 
-  -- no line before a line that is reached fails
+  -- all lines before a line that is reached are a valid beginning
   never_before : (j k : ℕ) → IsReached ss j → ¬ Begin (take (k + 1) ss) → k < j → ⊥
   never_before j k reached fails lt =
       let shorter : take (k + 1) (take j ss) ≡ take (k + 1) ss = take-take (k + 1) j ss (omega arith) in

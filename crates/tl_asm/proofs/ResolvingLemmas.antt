@@ -44,7 +44,7 @@ module _ (is : List Instr) (os : List Origin) (k : ℕ) (i : Instr) (o : Origin)
   inside : k < length (drafts_of is (traced os))
   inside = let long = length_drafts is (traced os) (length_traced os is e) in omega arith
 
-  -- one draft more
+  -- one more draft
   pub next_draft : take (k + 1) (drafts_of is (traced os)) ≡ take k (drafts_of is (traced os)) ++ here ∷ []
   next_draft = take_more (drafts_of is (traced os)) k here inside ∙ ap (λ (d : ℕ × DraftValue). take k (drafts_of is (traced os)) ++ d ∷ []) at
 
@@ -55,14 +55,14 @@ module _ (is : List Instr) (os : List Origin) (k : ℕ) (i : Instr) (o : Origin)
   pub plain : (labels : List (Word × ℕ)) (x : Instr) → (get_or os k o).label ≡ None → x ≡ get_or is k i → aimed labels here.1.instr here.1.label ≡ Some x
   plain labels x none same = ap (λ l. aimed labels (get_or is k i) (option_map (λ label. label.now) l)) none ∙ ap Some (sym same)
 
-  -- one whose label is known
+  -- an instruction whose label is defined
   pub targeted : (entries : List (Bor (List ℕ) × ℕ)) (x : Instr) (label : Bor (List ℕ)) (t : ℕ) → (get_or os k o).label ≡ Some label → Some t ≡ lookup (λ key. bytes_eq label.now key.now) entries → x ≡ with_target t (get_or is k i) → aimed (known entries) here.1.instr here.1.label ≡ Some x
   targeted entries x label t some found same =
       ap (λ l. aimed (known entries) (get_or is k i) (option_map (λ label. label.now) l)) some
       ∙ ap (option_map (λ pc. with_target pc (get_or is k i))) (known_at entries label.now ∙ sym found)
       ∙ ap Some (sym same)
 
-  -- one whose label isn't known
+  -- an instruction whose label isn't defined
   pub astray : (entries : List (Bor (List ℕ) × ℕ)) (label : Bor (List ℕ)) → (get_or os k o).label ≡ Some label → None ≡ lookup (λ key. bytes_eq label.now key.now) entries → aimed (known entries) here.1.instr here.1.label ≡ None
   astray entries label some none =
       ap (λ l. aimed (known entries) (get_or is k i) (option_map (λ label. label.now) l)) some
@@ -75,7 +75,7 @@ module _ (is : List Instr) (os : List Origin) (k : ℕ) (i : Instr) (o : Origin)
       ∙ (λ j. before j ++ now j ∷ [])
       ∙ sym (map-append Some xs (x ∷ []))
 
--- what is aimed so far has targets
+-- drafts that resolve to instructions have defined labels
 aimed_each : (labels : List (Word × ℕ)) (ds : List (ℕ × DraftValue)) (is : List Instr) → map (λ d. aimed labels d.1.instr d.1.label) ds ≡ map Some is → AllByRecursion (λ d. IsSome (aimed labels d.1.instr d.1.label)) ds
 aimed_each labels [] is e = tt
 aimed_each labels (d ∷ ds) [] e = absurd (cc)

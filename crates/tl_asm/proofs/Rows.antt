@@ -1,4 +1,4 @@
--- Worked rows for the definitions.
+-- Worked examples for the definitions.
 use Rattle.std.proofs.Common.{◌≡◌, [], ◌∷◌, Some, None, refl}
 use Rattle.std.specs.Prelude.{negsuc}
 use Rattle.std.specs.Fmt.{digits}

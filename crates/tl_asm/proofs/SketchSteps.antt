@@ -1,4 +1,4 @@
--- A line more.
+-- One more line of a text.
 use Rattle.std.proofs.Common.{◌≡◌, ◌≢◌, ◌⊎◌, ℕ, ◌+◌, ◌<◌, ◌≤◌, List, [], ◌∷◌, ◌++◌, length, take, map, Option, Some, None, refl, sym, ◌∙◌, ap, subst, arith, inl, inr, append-nil, length-append, is_some, not, Bool, true, false, get_or, Bor}
 use Rattle.std.specs.Prelude.{IfSome}
 use Rattle.std.specs.List.{All}
@@ -20,7 +20,7 @@ use Rattle.tl_asm.specs.Faults.{Begin, IsFirstFaultIn}
 use Rattle.tl_asm.specs.Sketches.{Sketched, IsWrongLast, said_by}
 use Rattle.tl_asm.proofs.StatementLists.{Rest, in_place_append, in_place_parts, arity_append_some, arity_append_none, drafts_append, labels_append, distinct_append, unknown, known_twice, version_stays, version_named}
 
--- a line that has no place after the lines before it
+-- a line that isn't allowed after the lines before it
 pub misplaced : (ss : List (Option Said)) (s : Option Said) → ¬ Rest (arity_in ss) (version_in ss) (s ∷ []) → ¬ InPlace (ss ++ s ∷ [])
 misplaced ss s bad h = bad (in_place_parts ss (s ∷ []) h).1
 
@@ -78,11 +78,11 @@ instr_follows : (o : Option ℕ) (v : Version) (d : DraftValue) → o ≢ None �
 instr_follows None v d e has = absurd (e refl)
 instr_follows (Some m) v d e has = (has, tt)
 
--- the second version has what the first has
+-- the second version has all instructions of the first
 wider : (n : ℕ) (i : Instr) → IsInstr One n i → IsInstr Two n i
 wider n i h = record { in_range = h.in_range; goes_within = h.goes_within; of_version = tt }
 
--- the arity stays, where the line gives none
+-- the arity doesn't change if the line has none
 same_arity : (xs : List (Option Said)) (s : Option Said) (o : Option ℕ) → o ≡ arity_in xs → arity_in (s ∷ []) ≡ None → o ≡ arity_in (xs ++ s ∷ [])
 same_arity xs s None e f = sym (arity_append_none xs (s ∷ []) (sym e) ∙ f)
 same_arity xs s (Some n) e f = sym (arity_append_some xs (s ∷ []) n (sym e))
@@ -91,7 +91,7 @@ module _ (xs : List (Option Said)) (v : Version) (given : Option ℕ) (entries :
   pub count : length (drafts_in 1 xs) ≡ length is
   count = sym (ap length sk.instrs ∙ length-map (drafts_in 1 xs) (λ d. d.1.instr))
 
-  -- a line more
+  -- a sketch after one more line
   grown : (s : Option Said) (version : Version) (new : Option ℕ) (labels : List (Word × ℕ)) (instrs : List Instr) (origins : List (ℕ × Option Word)) → Rest (arity_in xs) (version_in xs) (s ∷ []) → version ≡ version_in (xs ++ s ∷ []) → new ≡ arity_in (xs ++ s ∷ []) → IfSome new IsArity → labels ≡ labels_in 0 (xs ++ s ∷ []) → Distinct labels → instrs ≡ map (λ d. d.1.instr) (drafts_in 1 (xs ++ s ∷ [])) → length instrs ≤ 1024 → origins ≡ map (λ d. (d.0, d.1.label)) (drafts_in 1 (xs ++ s ∷ [])) → All (IsInstr version 0) instrs → Sketched (xs ++ s ∷ []) version new labels instrs origins
   grown s version new labels instrs origins rest ver a ar l distinct i short o r =
       let many : length instrs ≡ length (drafts_in 1 (xs ++ s ∷ [])) = ap length i ∙ length-map (drafts_in 1 (xs ++ s ∷ [])) (λ d. d.1.instr) in
@@ -170,7 +170,7 @@ module _ (xs : List (Option Said)) (v : Version) (given : Option ℕ) (entries :
         rw (drafts, longer, count, full) (omega arith),
       )
 
--- what is wrong with a line, where those before it begin a text, is the lines' first fault
+-- a fault of line k + 1, where the lines before it are a valid beginning, is the first fault
 first_wrong : (ss : List (Option Said)) (k : ℕ) (f : AsmFault) → k < length ss → Begin (take k ss) → IsWrongLast (take (k + 1) ss) f → IsFirstFaultIn ss f
 first_wrong ss k (BadLine n) lt begin (e, bad) = inl (k, e ∙ length-take-le (k + 1) ss (omega arith), record { inside = lt; before = begin }, bad)
 first_wrong ss k (LabelTwice n) lt begin (e, place, bad) = (k, e ∙ length-take-le (k + 1) ss (omega arith), record { inside = lt; before = begin }, place, bad)
@@ -181,7 +181,7 @@ first_wrong ss k Memory lt begin bad = bad
 pub first_fault : (ss : List (Option Said)) (k : ℕ) (s : Option Said) (f : AsmFault) → k < length ss → Begin (take k ss) → take (k + 1) ss ≡ take k ss ++ s ∷ [] → IsWrongLast (take k ss ++ s ∷ []) f → IsFirstFaultIn ss f
 first_fault ss k s f lt begin here wrong = first_wrong ss k f lt begin (subst (λ (xs : List (Option Said)). IsWrongLast xs f) (sym here) wrong)
 
--- what the lines up to this one say
+-- the statements of the lines up to this one
 pub next_says : (lines : List (Bor (List ℕ))) (k : ℕ) (d : Bor (List ℕ)) (s : Option Said) → k < length lines → says (get_or lines k d).now ≡ s → take (k + 1) (said_by lines) ≡ take k (said_by lines) ++ s ∷ []
 next_says lines k d s lt e =
     let more : k < length (said_by lines) = omega (arith, length-map lines (λ line. says line.now)) in
@@ -198,6 +198,6 @@ pub none_from : {A : Type 0} (o : Option A) (r : Bool) → r ≡ is_some o → r
 none_from None r e f = refl
 none_from (Some n) r e f = absurd (false≢true (sym f ∙ e))
 
--- the same sketch in other words
+-- the same sketch with equal parts
 pub moved : (xs ys : List (Option Said)) (v : Version) (g h : Option ℕ) (e f : List (Word × ℕ)) (i j : List Instr) (l m : List (ℕ × Option Word)) → Sketched xs v g e i l → ys ≡ xs → h ≡ g → f ≡ e → j ≡ i → m ≡ l → Sketched ys v h f j m
 moved xs ys v g h e f i j l m sk a b c d x = rw (a, b, c, d, x) sk

@@ -1,4 +1,4 @@
--- From a sketch to the code, or to the fault of the text as a whole.
+-- From a sketch to the code, or to the fault of the whole text.
 use Rattle.std.proofs.Common.{◌≡◌, ℕ, ◌+◌, ◌<◌, ◌≤◌, List, [], ◌∷◌, length, map, Option, Some, None, Bor, refl, sym, ◌∙◌, ap, subst, arith, option_map, inl, inr}
 use Rattle.std.specs.Prelude.{IfSome, IsSome}
 use Rattle.std.specs.List.{All, AllByRecursion}
@@ -68,7 +68,7 @@ goes_within n pc (Kids to node) h = tt
 goes_within n pc (Emit from) h = tt
 goes_within n pc Return h = tt
 
--- a target doesn't change the version
+-- changing the target doesn't affect the version
 pub of_version : (v : Version) (pc : ℕ) (i : Instr) → HasInstr v i → HasInstr v (with_target pc i)
 of_version Two pc i h = tt
 of_version One pc (Set to number) h = h
@@ -93,7 +93,7 @@ of_version One pc (Kids to node) h = h
 of_version One pc (Emit from) h = h
 of_version One pc Return h = h
 
--- a label names a position up to the number of instructions
+-- a label's position is at most the number of instructions
 pub position_within : (pc m k : ℕ) (ss : List (Option Said)) (label : Word) (t : ℕ) → pc + length (drafts_in m ss) ≤ k → position_of (labels_in pc ss) label ≡ Some t → t ≤ k
 position_within pc m k [] label t le e = absurd (cc)
 position_within pc m k (None ∷ ss) label t le e = position_within pc (m + 1) k ss label t le e
@@ -134,7 +134,7 @@ module _ (ss : List (Option Said)) (v : Version) where
       let tail : map (λ d. aimed (labels_in 0 ss) d.1.instr d.1.label) ds ≡ map Some xs = cc in
       (is_instr d.1.instr x d.1.label head h.0, all_instrs ds xs tail h.1)
 
--- drafts are their instructions with their origins
+-- drafts consist of their instructions and origins
 drafts_again : (ds : List (ℕ × DraftValue)) → drafts_of (map (λ d. d.1.instr) ds) (map (λ d. (d.0, d.1.label)) ds) ≡ ds
 drafts_again [] = refl
 drafts_again (d ∷ ds) = ap (λ (rest : List (ℕ × DraftValue)). d ∷ rest) (drafts_again ds)
@@ -184,7 +184,7 @@ module _ (ss : List (Option Said)) (v : Version) (given : Option ℕ) (entries :
       let here : IsAstray (labels_in 0 ss) (drafts_in 1 ss) n = subst (λ (l : List (Word × ℕ)). IsAstray l (drafts_in 1 ss) n) sk.labels (subst (λ (ds : List (ℕ × DraftValue)). IsAstray entries ds n) drafts astray) in
       record { whole = is_whole arity e some; place = here.place; draft = here.draft; here = here.here; astray = here.astray; before = here.before }
 
--- what the lines in memory say is what the text's lines say
+-- the statements of the lines in memory are those of the text's lines
 pub same_statements : (text : List ℕ) (lines : List (Bor (List ℕ))) → map (λ line. line.now) lines ≡ lines_of text → said_by lines ≡ statements text
 same_statements text lines e = again lines ∙ ap (map says) e
   where

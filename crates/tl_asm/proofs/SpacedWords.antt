@@ -1,4 +1,4 @@
--- Words that are written with spaces are read again.
+-- Words that are written with spaces are read back.
 use Rattle.std.proofs.Common.{◌≡◌, ℕ, ◌<◌, ◌≤◌, ◌^◌, List, [], ◌∷◌, ◌++◌, length, refl, sym, ◌∙◌, ap, arith, false, ◌==◌, append_assoc, map}
 use Rattle.std.specs.List.{slice_split, AllByRecursion}
 use Rattle.std.specs.Fmt.{decimal}
@@ -13,12 +13,12 @@ use Rattle.tl_asm.specs.Listing.{line_of}
 use Rattle.tl_asm.proofs.ByteSearch.{one_more}
 use Rattle.tl_asm.proofs.DecimalNumbers.{own}
 
--- no `;` and no LF
+-- no `;` and no line feed
 abbrev pub Plain : List ℕ → Type 0
 Plain [] = Unit {0}
 Plain (b ∷ bs) = ((b == 59) ≡ false) × ((b == 10) ≡ false) × Plain bs
 
--- nor a blank
+-- no blank either
 abbrev pub Clean : List ℕ → Type 0
 Clean [] = Unit {0}
 Clean (b ∷ bs) = (is_blank b ≡ false) × ((b == 59) ≡ false) × ((b == 10) ≡ false) × Clean bs
@@ -53,7 +53,7 @@ split_front : (w : Word) (rest : List ℕ) → Clean w → slice_split is_blank 
 split_front [] rest h = refl
 split_front (b ∷ w) rest h = rw (h.0, split_front w rest h.3) refl
 
--- words, parted by one space
+-- words separated by one space
 abbrev pub spaced : List Word → List ℕ
 spaced [] = []
 spaced (word ∷ []) = word
@@ -95,7 +95,7 @@ line_is [] = refl
 line_is (w ∷ []) = refl
 line_is (w ∷ next ∷ ws) = ap (λ (rest : List ℕ). w ++ 32 ∷ rest) (line_is (next ∷ ws)) ∙ sym (append_assoc w (32 ∷ spaced (next ∷ ws)) (10 ∷ []))
 
--- a line of words, and the lines after it
+-- the statements of a line of words followed by other lines
 pub line_says : (ws : List Word) (rest : List ℕ) → AllByRecursion IsCleanWord ws → statements (line_of ws ++ rest) ≡ said_in ws ∷ statements rest
 line_says ws rest h =
     ap (λ (line : List ℕ). statements (line ++ rest)) (line_is ws)

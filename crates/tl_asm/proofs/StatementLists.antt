@@ -1,4 +1,4 @@
--- What lines say, one part after another.
+-- The statements of lines, in two parts.
 use Rattle.std.proofs.Common.{◌≡◌, ◌≢◌, ℕ, ◌+◌, List, [], ◌∷◌, ◌++◌, length, Option, Some, None, true, refl, sym, ◌∙◌, ap, arith, inl, inr, is_some, bytes_eq, cond, Bor}
 use Rattle.std.specs.Map.{lookup}
 use Rattle.std.proofs.lemmas.Bool.{cases_Bool, false≢true}
@@ -17,7 +17,7 @@ same_bytes xs ys e = (bytes_eq-Decides xs ys).1 e
 pub bytes_same : (xs ys : List ℕ) → bytes_eq xs ys ≡ true → xs ≡ ys
 bytes_same xs ys e = (bytes_eq-Decides xs ys).0 e
 
--- what may follow, by whether the arity was given, and the version
+-- what may follow, depending on whether the arity was given, and on the version
 abbrev pub Rest : Option ℕ → Version → List (Option Said) → Type 0
 Rest None One ss = InPlace ss
 Rest None Two ss = Starts Two ss
@@ -77,7 +77,7 @@ in_place_parts (Some (Takes arity) ∷ xs) ys h = follow_parts One xs ys h
 in_place_parts (Some (Names label) ∷ xs) ys h = absurd h
 in_place_parts (Some (Does d) ∷ xs) ys h = absurd h
 
--- only the line that names the version changes it
+-- only the line that gives the version changes it
 pub version_stays : (xs : List (Option Said)) (s : Option Said) (v : Version) → v ≡ version_in xs → version_in (s ∷ []) ≡ One → v ≡ version_in (xs ++ s ∷ [])
 version_stays [] s v e f = e ∙ sym f
 version_stays (None ∷ xs) s v e f = e
@@ -87,7 +87,7 @@ version_stays (Some (Takes arity) ∷ xs) s v e f = e
 version_stays (Some (Names label) ∷ xs) s v e f = e
 version_stays (Some (Does d) ∷ xs) s v e f = e
 
--- and it does so where nothing but blank lines stands before it
+-- that line does so if only blank lines precede it
 pub version_named : (xs : List (Option Said)) → InPlace xs → version_in xs ≡ One → arity_in xs ≡ None → version_in (xs ++ Some Version2 ∷ []) ≡ Two
 version_named [] h e f = refl
 version_named (None ∷ xs) h e f = absurd h
@@ -115,7 +115,7 @@ arity_append_none (Some (Takes given) ∷ xs) ys e = absurd (cc e)
 arity_append_none (Some (Names label) ∷ xs) ys e = arity_append_none xs ys e
 arity_append_none (Some (Does d) ∷ xs) ys e = arity_append_none xs ys e
 
--- the number of instructions doesn't depend on the first line's number
+-- the number of instructions doesn't depend on the number of the first line
 pub same_count : (m n : ℕ) (xs : List (Option Said)) → length (drafts_in m xs) ≡ length (drafts_in n xs)
 same_count m n [] = refl
 same_count m n (None ∷ xs) = same_count (m + 1) (n + 1) xs
@@ -143,7 +143,7 @@ labels_append pc n (Some (Takes given) ∷ xs) ys = labels_append pc (n + 1) xs 
 labels_append pc n (Some (Names label) ∷ xs) ys = ap (λ (rest : List (Word × ℕ)). (label, pc) ∷ rest) (labels_append pc (n + 1) xs ys)
 labels_append pc n (Some (Does d) ∷ xs) ys = labels_append (pc + 1) (n + 1) xs ys ∙ ap (λ (k : ℕ). labels_in (pc + 1) xs ++ labels_in k ys) (omega arith)
 
--- a label that isn't among them may come next
+-- distinct labels stay distinct with one more that isn't among them
 pub distinct_append : (labels : List (Word × ℕ)) (entry : Word × ℕ) → Distinct labels → AllByRecursion (λ other. other.0 ≢ entry.0) labels → Distinct (labels ++ entry ∷ [])
 distinct_append [] entry h k = (tt, tt)
 distinct_append (first ∷ labels) entry h k = (all_push labels (h.0) (λ e. k.0 (sym e)), distinct_append labels entry h.1 k.1)
@@ -152,7 +152,7 @@ distinct_append (first ∷ labels) entry h k = (all_push labels (h.0) (λ e. k.0
     all_push [] a b = (b, tt)
     all_push (other ∷ others) a b = (a.0, all_push others a.1 b)
 
--- labels that come first are distinct alone
+-- a front part of distinct labels is distinct
 pub distinct_front : (labels others : List (Word × ℕ)) → Distinct (labels ++ others) → Distinct labels
 distinct_front [] others h = tt
 distinct_front (first ∷ labels) others h = (all_front labels h.0, distinct_front labels others h.1)
@@ -161,7 +161,7 @@ distinct_front (first ∷ labels) others h = (all_front labels h.0, distinct_fro
     all_front [] a = tt
     all_front (x ∷ xs) a = (a.0, all_front xs a.1)
 
--- a label that is looked up in vain differs from each
+-- a label that isn't found differs from each
 pub unknown : (labels : List (Word × ℕ)) (label : Word) → position_of labels label ≡ None → AllByRecursion (λ other. other.0 ≢ label) labels
 unknown [] label none = tt
 unknown (first ∷ labels) label none =
@@ -172,7 +172,7 @@ unknown (first ∷ labels) label none =
           ((λ same. false≢true (sym other ∙ same_bytes label first.0 (sym same))), unknown labels label rest)
     ]
 
--- a label that is found isn't distinct from those before it
+-- with a label that is found the labels aren't distinct any more
 pub known_twice : (labels : List (Word × ℕ)) (label : Word) (pc : ℕ) → is_some (position_of labels label) ≡ true → ¬ Distinct (labels ++ (label, pc) ∷ [])
 known_twice [] label pc found h = false≢true found
 known_twice (first ∷ labels) label pc found h =
@@ -185,7 +185,7 @@ known_twice (first ∷ labels) label pc found h =
     stands [] a e = a.0 e
     stands (x ∷ xs) a e = stands xs a.1 e
 
--- a label is looked up by its bytes, wherever they lie
+-- a label is looked up by its bytes
 pub known_at : (entries : List (Bor (List ℕ) × ℕ)) (label : Word) → position_of (known entries) label ≡ lookup (λ k. bytes_eq label k.now) entries
 known_at [] label = refl
 known_at (entry ∷ entries) label = ap (cond (bytes_eq label entry.0.now) (Some entry.1)) (known_at entries label)

@@ -1,4 +1,4 @@
--- Tokens and instructions are read as they are written.
+-- Tokens and instructions are read back as they are written.
 use Rattle.std.proofs.Common.{◌≡◌, ◌≢◌, ℕ, zero, suc, ◌<◌, ◌≤◌, ◌^◌, List, [], ◌∷◌, ◌++◌, length, get_or, refl, ◌∙◌, ap, arith, Bool, true, false, ◌==◌, not, ◌||◌, ◌&&◌, Some, option_map, slice_index, ◌-◌, length-append}
 use Rattle.std.proofs.Math.Seq.{get_or-append_seam, take-append_seam}
 use Rattle.std.specs.Prelude.{ℤ, pos, negsuc}
@@ -85,7 +85,7 @@ label_again pc le =
     let short : length (decimal pc) < 32 = omega (arith, length-decimal-le 4 pc (omega arith) (omega arith) small) in
     rw (lt-ltb (length (decimal pc)) 32 short, all_continue (decimal pc) (digits_decimal own pc small)) refl
 
--- an instruction before its target is known
+-- an instruction whose target isn't resolved
 abbrev pub drafted : Instr → DraftValue
 drafted i = record { instr = with_target 0 i; label = option_map label_word (target i) }
 

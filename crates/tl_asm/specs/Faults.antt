@@ -1,4 +1,4 @@
--- The faults: their numbers, and which one comes first.
+-- The faults of assembly texts: their numbers, and which fault comes first.
 use Rattle.std.specs.Prelude.{◌≡◌, ◌⊎◌, ℕ, ◌+◌, ◌<◌, ◌≤◌, List, [], ◌∷◌, length, take, Option, Some, None, slice_get, IsSome}
 use Rattle.std.specs.List.{All}
 use Rattle.tl_instr.specs.declared.code.TheConstants.{MAX_COUNT}
@@ -7,7 +7,7 @@ use Rattle.tl_asm.specs.declared.fault.AsmFault.TheVariants.{BadLine, NoLabel, L
 use Rattle.tl_asm.specs.Statements.{DraftValue, Said}
 use Rattle.tl_asm.specs.Texts.{statements, InPlace, Distinct, arity_in, labels_in, drafts_in, aimed}
 
--- a fault's number, and then its line
+-- the fault's number, followed by its line
 abbrev pub numbers_of : AsmFault → List ℕ
 numbers_of (BadLine n) = 251 ∷ n ∷ []
 numbers_of (NoLabel n) = 252 ∷ n ∷ []
@@ -15,24 +15,24 @@ numbers_of (LabelTwice n) = 253 ∷ n ∷ []
 numbers_of TooLong = 254 ∷ []
 numbers_of Memory = 290 ∷ []
 
--- These lines begin a text, whatever targets they use.
+-- These lines are a valid beginning of a text. Whether the labels that they use are defined isn't checked.
 pub record Begin (ss : List (Option Said)) : Type 0 where
   pub in_place : InPlace ss
   pub distinct : Distinct (labels_in 0 ss)
   pub short : length (drafts_in 1 ss) ≤ MAX_COUNT
 
--- The lines before line k + 1 begin a text.
+-- Line k + 1 exists, and the lines before it are a valid beginning of a text.
 pub record IsReached (ss : List (Option Said)) (k : ℕ) : Type 0 where
   pub inside : k < length ss
   pub before : Begin (take k ss)
 
--- All lines begin a text, and it has an arity and an instruction.
+-- All lines are a valid beginning of a text, and there is an arity and at least one instruction.
 pub record IsWhole (ss : List (Option Said)) : Type 0 where
   pub lines : Begin ss
   pub arity : IsSome (arity_in ss)
   pub some : 0 < length (drafts_in 1 ss)
 
--- Line n uses a label that no line defines, and no earlier line does.
+-- Line n is the first that uses an undefined label.
 pub record IsFirstAstray (ss : List (Option Said)) (n : ℕ) : Type 0 where
   pub whole : IsWhole ss
   pub place : ℕ
@@ -41,7 +41,7 @@ pub record IsFirstAstray (ss : List (Option Said)) (n : ℕ) : Type 0 where
   pub astray : aimed (labels_in 0 ss) draft.instr draft.label ≡ None
   pub before : All (λ d. IsSome (aimed (labels_in 0 ss) d.1.instr d.1.label)) (take place (drafts_in 1 ss))
 
--- the first fault of what the lines say
+-- the first fault of these statements
 abbrev pub IsFirstFaultIn : List (Option Said) → AsmFault → Type 0
 IsFirstFaultIn ss (BadLine n) =
     ((k : ℕ) × (n ≡ k + 1) × IsReached ss k × ¬ InPlace (take (k + 1) ss))
@@ -53,6 +53,6 @@ IsFirstFaultIn ss TooLong =
 IsFirstFaultIn ss (NoLabel n) = IsFirstAstray ss n
 IsFirstFaultIn ss Memory = ⊥
 
--- the first fault of a text that is no code's
+-- the first fault of the text
 abbrev pub IsFirstFault : List ℕ → AsmFault → Type 0
 IsFirstFault text f = IsFirstFaultIn (statements text) f

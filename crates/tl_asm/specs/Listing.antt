@@ -18,11 +18,11 @@ value_word n = 118 ∷ decimal n
 abbrev pub node_word : ℕ → Word
 node_word n = 110 ∷ decimal n
 
--- L, and the position
+-- `L` followed by the position
 abbrev pub label_word : ℕ → Word
 label_word pc = 76 ∷ decimal pc
 
--- the words of an instruction, with this label in the place of its target
+-- the words of an instruction, with this label in place of its target
 abbrev pub words_to : Word → Instr → List Word
 words_to label (Set to number) = codes "set" ∷ value_word to ∷ signed_decimal number ∷ []
 words_to label (Copy to from) = codes "copy" ∷ value_word to ∷ value_word from ∷ []
@@ -46,11 +46,11 @@ words_to label (Kids to node) = codes "kids" ∷ value_word to ∷ node_word nod
 words_to label (Emit from) = codes "emit" ∷ value_word from ∷ []
 words_to label Return = codes "ret" ∷ []
 
--- the words of an instruction whose target is labelled by its position
+-- the words of an instruction, with its target's position as the label
 abbrev pub instr_words : Instr → List Word
 instr_words i = words_to (option_map_or label_word (target i) []) i
 
--- the words, parted by one space, and an LF
+-- the words, separated by one space, and a line feed
 abbrev pub line_of : List Word → List ℕ
 line_of [] = 10 ∷ []
 line_of (word ∷ []) = word ++ 10 ∷ []
@@ -59,20 +59,20 @@ line_of (word ∷ next ∷ words) = word ++ 32 ∷ line_of (next ∷ words)
 abbrev pub instr_line : Instr → List ℕ
 instr_line i = line_of (instr_words i)
 
--- control may go to this position
+-- whether an instruction has this position as its target
 abbrev pub is_target : List Instr → ℕ → Bool
 is_target instrs pc = list_any (λ i. option_map_or (λ t. t == pc) (target i) false) instrs
 
--- the line of a position that is a target
+-- the label's line if the position is a target, otherwise nothing
 abbrev pub label_line : List Instr → ℕ → List ℕ
 label_line instrs pc = if is_target instrs pc then line_of ((label_word pc ++ 58 ∷ []) ∷ []) else []
 
--- the lines from a position on
+-- the lines from position pc on
 abbrev pub lines_from : List Instr → ℕ → List Instr → List ℕ
 lines_from instrs pc [] = label_line instrs pc
 lines_from instrs pc (i ∷ is) = label_line instrs pc ++ (instr_line i ++ lines_from instrs (pc + 1) is)
 
--- the version, if it isn't the first, and the arity
+-- the version's line, if it isn't the first version, and the arity's line
 abbrev pub header_lines : Version → ℕ → List ℕ
 header_lines One arity = line_of (codes "arity" ∷ decimal arity ∷ [])
 header_lines Two arity = line_of (codes "version" ∷ codes "2" ∷ []) ++ line_of (codes "arity" ∷ decimal arity ∷ [])

@@ -1,4 +1,4 @@
--- What a line says.
+-- The statement that a line contains.
 use Rattle.std.specs.Prelude.{ℕ, ◌-◌, List, [], ◌∷◌, length, take, slice_index, Option, Some, None, option_map, ◌==◌, if◌then◌else◌}
 use Rattle.std.specs.Str.{bytes_eq}
 use lib.Chars.{codes}
@@ -14,12 +14,12 @@ use Rattle.tl_asm.specs.declared.statement.Statement.TheVariants as statements
 use Rattle.tl_asm.specs.Words.{Word, first_of, words_of, without_comment}
 use Rattle.tl_asm.specs.Tokens.{◌>>=◌, number_in, value_register, node_register, signed_in, is_label}
 
--- An instruction before its target is known: 0 in the target's place, and the label that is written there.
+-- An instruction whose target isn't resolved: the target is 0, and the label is kept beside it.
 pub record DraftValue : Type 0 where
   pub instr : Instr
   pub label : Option Word
 
--- a draft without where its label lies in memory
+-- the draft with its label by value
 abbrev pub view : Draft → DraftValue
 view d = record { instr = d.instr; label = option_map (λ l. l.now) d.label }
 
@@ -29,11 +29,11 @@ plain i = record { instr = i; label = None }
 abbrev pub going : Word → Instr → DraftValue
 going label i = record { instr = i; label = Some label }
 
--- the first word, where it is such a token, and the words after it
+-- reads the first word, and returns the result with the remaining words
 abbrev pub token : {A : Type 0} → (Word → Option A) → List Word → Option (A × List Word)
 token read words = first_of words >>= λ first. read first.0 >>= λ x. Some (x, first.1)
 
--- the one word
+-- the word, if there is exactly one
 abbrev pub only_of : List Word → Option Word
 only_of [] = None
 only_of (word ∷ []) = Some word
@@ -48,13 +48,13 @@ label_in word = if is_label word then Some word else None
 abbrev pub else_in : Word → Option Word
 else_in word = if bytes_eq word (codes "else") then Some word else None
 
--- `else`, and a label
+-- `else` and a label
 unfoldable pub otherwise_in : List Word → Option Word
 otherwise_in words = do
   literal ← token else_in words
   last label_in literal.1
 
--- no word
+-- the instruction, if no words follow its name
 unfoldable pub bare_in : Instr → List Word → Option DraftValue
 bare_in i [] = Some (plain i)
 bare_in i (word ∷ words) = None
@@ -71,7 +71,7 @@ copy_in words = do
   from ← last value_register to.1
   Some (plain (Copy to.0 from))
 
--- three value registers, and a label for what doesn't fit
+-- three value registers, and the label that is used if the result doesn't exist
 unfoldable pub arithmetic_in : List Word → Option (ℕ × ℕ × ℕ × Word)
 arithmetic_in words = do
   to ← token value_register words
@@ -105,7 +105,7 @@ jump_in words = do
   label ← last label_in words
   Some (going label (Jump 0))
 
--- two value registers, and a label
+-- two value registers and a label
 unfoldable pub comparison_in : List Word → Option (ℕ × ℕ × Word)
 comparison_in words = do
   left ← token value_register words
@@ -185,7 +185,7 @@ emit_in words = do
   from ← last value_register words
   Some (plain (Emit from))
 
--- the instruction of that name, where the words after it are its operands
+-- the instruction with this name, if the words are valid operands of it
 unfoldable pub draft_in : Word → List Word → Option DraftValue
 draft_in name words =
     if bytes_eq name (codes "set") then set_in words
@@ -222,11 +222,11 @@ abbrev pub names_in : Word → List Word → Option Said
 names_in label [] = option_map Names (label_in label)
 names_in label (word ∷ words) = None
 
--- the number of a version that is named: there is no other than the second
+-- the statement of the version's number: only 2 may be given
 abbrev pub version_named : Word → Option Said
 version_named word = if bytes_eq word (codes "2") then Some Version2 else None
 
--- the version, the arity, a label, or an instruction
+-- the statement of the words: a version, an arity, a label or an instruction
 unfoldable pub said_in : List Word → Option Said
 said_in [] = Some Blank
 said_in (name ∷ words) =
@@ -235,11 +235,11 @@ said_in (name ∷ words) =
     else (if slice_index name (length name - 1) == 58 then names_in (take (length name - 1) name) words
     else option_map Does (draft_in name words)))
 
--- what a line says, where it is of one of these forms
+-- the statement of a line, if the line has one of these forms
 abbrev pub says : List ℕ → Option Said
 says line = said_in (words_of (without_comment line))
 
--- a statement without where its label lies in memory
+-- the statement with its label by value
 abbrev pub shown : Statement → Said
 shown statements.Blank = Blank
 shown statements.Version2 = Version2
@@ -247,7 +247,7 @@ shown (statements.Takes arity) = Takes arity
 shown (statements.Names label) = Names label.now
 shown (statements.Does draft) = Does (view draft)
 
--- an arity and operands are in range, and a target is 0
+-- an arity is valid; the operands of an instruction are in range, and its target is 0
 abbrev pub IsSaid : Said → Type 0
 IsSaid Blank = Unit {0}
 IsSaid Version2 = Unit {0}

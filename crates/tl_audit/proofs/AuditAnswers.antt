@@ -1,4 +1,4 @@
--- What the auditor's answer says of a trail.
+-- What the auditor's answer says about a trail.
 use Rattle.std.proofs.Common.{◌≡◌, ◌≢◌, ℕ, ◌<◌, List, length, map, Some, Result, Ok, Err, IfOk, IfErr, refl, sym, subst}
 use Rattle.std.proofs.lemmas.Result.{IfOk-weaker}
 use Rattle.std.specs.Prelude.{MatchResult}
@@ -19,7 +19,7 @@ pub both_ok : {X E : Type 0} (r : Result X E) (P Q R : X → Type 0) → ((x : X
 both_ok (Ok x) P Q R f p q = f x p q
 both_ok (Err e) P Q R f p q = tt
 
--- of a clean trail nothing but want of memory is told
+-- the only fault that is answered for a clean trail is a lack of memory
 only_memory : (t : TrailValue) (f : AuditFault) → Clean t → (f ≢ Memory → IsFirstFault t f) → f ≡ Memory
 only_memory t (RuleBroken n) clean h = absurd (clean_faultless t (RuleBroken n) clean (h (λ e. cc)))
 only_memory t (Overlap n) clean h = absurd (clean_faultless t (Overlap n) clean (h (λ e. cc)))
@@ -35,7 +35,7 @@ pub only_order : {X : Type 0} (t : TrailValue) (r : Result X AuditFault) (P : X 
 only_order t (Ok x) P ok err clean = ok
 only_order t (Err f) P ok err clean = only_memory t f clean err
 
--- an answer of a trail that is right says all that a verdict says
+-- an answer that is right is a verdict
 pub verdict : (t : TrailValue) → IsTrail t → (r : Result OrderValue AuditFault) → IfOk r (λ _. Clean t) → IfOk r (λ o. o.calls ≡ placed t.parents t.past)
     → IfErr r (λ f. f ≢ Memory → IsFirstFault t f) → IsVerdict t r
 verdict t trail r clean order fault = record {

@@ -1,4 +1,4 @@
--- A chain of clean trails, and how far its audit is.
+-- A chain of clean trails, and the progress of its audit.
 use Rattle.std.proofs.Common.{◌≡◌, ◌≢◌, ⊎_elim, inl, inr, ℕ, zero, suc, ◌+◌, ◌≤◌, List, [], ◌∷◌, ◌++◌, length, map, drop, Option, Some, None, refl, sym, ap, ◌∙◌, subst, arith, append_assoc}
 use Rattle.std.specs.Prelude.{slice_get}
 use Rattle.std.proofs.lemmas.Option.{none-some, same_Some}
@@ -69,15 +69,15 @@ only_memory before ts (Broken n) clean h = absurd (faultless 0 before ts (Broken
 only_memory before ts (InEpoch n g) clean h = absurd (faultless 0 before ts (InEpoch n g) clean (h (λ e. cc)))
 only_memory before ts Memory clean h = refl
 
--- what takes over from a trail is clean also by itself
+-- trails that are clean after another trail are clean by themselves
 pub by_itself : (before : Before) (ts : List TrailValue) → CleanAfter before ts → IsCleanChain ts
 by_itself before [] clean = tt
 by_itself before (t ∷ ts) clean = (tt, clean.1, clean.2)
 
 -- ---- how far the audit is
 
--- Where the trails from number n on are clean, all are; what is wrong first with them is so of all; and these are the orders of
--- those before.
+-- If the trails from number n on are clean, all are. The first fault of the trails from n on is the first fault of all.
+-- The orders found are those of the trails before n.
 pub record IsAuditedTo (before : Before) (ts : List TrailValue) (n : ℕ) (found : List OrderValue) : Type 0 where
   pub clean : CleanAfter (before_at before ts n) (drop n ts) → CleanAfter before ts
   pub fault : (f : ChainFault) → IsFirstAfter n (before_at before ts n) (drop n ts) f → IsFirstAfter 0 before ts f

@@ -1,4 +1,4 @@
--- What follows of a clean trail.
+-- What follows from a clean trail.
 use Rattle.std.proofs.Common.{◌≡◌, ℕ, ◌<◌, ◌≤◌, ◌==◌, true, false, List, [], ◌∷◌, ◌++◌, length, map, refl, sym, ap, ◌∙◌, subst, inl, inr, arith, Some}
 use Rattle.std.specs.Prelude.{All}
 use Rattle.std.proofs.lemmas.Bool.{cases_Bool, cases_eq, both_ways, false_from_ne_true, eqb-true, eq-eqb}
@@ -46,7 +46,7 @@ one_more parents past c d a mine is_open may each =
       each,
     )
 
--- what each call did was permitted
+-- the actions of each call are permitted
 right_obeys : (parents : List ℕ) (opening : Records) (past : List Event) → AreRight parents opening past → (c : ℕ) → EachPermitted parents (part_of c past)
 right_obeys parents opening [] h c = tt
 right_obeys parents opening (Admit d ∷ past) h c = right_obeys parents opening past h.1 c
@@ -63,7 +63,7 @@ right_obeys parents opening (Done d ∷ past) h c = elim (cases_Bool (d == c)) [
   | inr other ↦ rw other (right_obeys parents opening past h.1 c)
 ]
 
--- a call that locks a node hasn't locked it, so it doesn't hold it either
+-- a call that locks a node hasn't locked it before, so it doesn't hold it either
 right_apart : (parents : List ℕ) (opening : Records) (past : List Event) → AreRight parents opening past → Apart past
 right_apart parents opening [] h = tt
 right_apart parents opening (Admit c ∷ past) h = right_apart parents opening past h.1
@@ -84,7 +84,7 @@ right_follows parents opening (Lock x c found ∷ past) h = (h.0.finds, right_fo
 right_follows parents opening (Free x c left ∷ past) h = right_follows parents opening past h.1
 right_follows parents opening (Done c ∷ past) h = right_follows parents opening past h.1
 
--- where nothing is wrong with any event, the history is legal
+-- right events form a legal history
 pub right_history : (parents : List ℕ) (opening : Records) (past : List Event) → AreRight parents opening past → IsLegalHistory parents past
 right_history parents opening past h = record {
   obeys = right_obeys parents opening past h;
@@ -92,12 +92,12 @@ right_history parents opening past h = record {
   in_turn = right_turn parents opening past h;
 }
 
--- an event is right where all are
+-- if all events are right, so is each of them
 pub right_within : (parents : List ℕ) (opening : Records) (later : List Event) (e : Event) (past : List Event) → AreRight parents opening (later ++ e ∷ past) → IsRight parents opening past e
 right_within parents opening [] e past h = h.0
 right_within parents opening (d ∷ later) e past h = right_within parents opening later e past h.1
 
--- in turn, as many calls are admitted at most as the events are of
+-- there are at most as many admissions as calls
 pub admits_within : (calls : ℕ) (past : List Event) → InTurn past → All (λ e. caller e < calls) past → admits past ≤ calls
 admits_within calls [] turn callers = omega arith
 admits_within calls (Admit c ∷ past) turn callers =
@@ -116,7 +116,7 @@ right_admits t trail right =
 
 -- ---- the actions of a call that has ended
 
--- what a history stores of a call is shared
+-- all actions of a call in a history are shared ones
 shared-part_of : (c : ℕ) (past : List Event) → shared_actions (part_of c past) ≡ part_of c past
 shared-part_of c [] = refl
 shared-part_of c (Admit d ∷ past) = shared-part_of c past
@@ -124,7 +124,7 @@ shared-part_of c (Lock x d found ∷ past) = elim (cases_Bool (d == c)) [ inl mi
 shared-part_of c (Free x d left ∷ past) = elim (cases_Bool (d == c)) [ inl mine ↦ rw mine (ap (λ z. A.Free x left ∷ z) (shared-part_of c past)) | inr other ↦ rw other (shared-part_of c past) ]
 shared-part_of c (Done d ∷ past) = elim (cases_Bool (d == c)) [ inl mine ↦ rw mine (ap (λ z. A.End ∷ z) (shared-part_of c past)) | inr other ↦ rw other (shared-part_of c past) ]
 
--- before the end all that is shared is locks and frees
+-- before the end, the shared actions are locks and frees
 shared_open : (done : List Action) → has_ended done ≡ false → shared_actions done ≡ locks_and_frees done
 shared_open [] h = refl
 shared_open (A.Lock x found ∷ done) h = ap (λ z. A.Lock x found ∷ z) (shared_open done h)
@@ -135,7 +135,7 @@ shared_open (A.Emit n ∷ done) h = shared_open done h
 shared_open (A.End ∷ done) h = absurd (both_ways true h refl)
 shared_open (A.Plain ∷ done) h = shared_open done h
 
--- and then the end comes before them, as the latest
+-- after the end, they are the end and then the locks and frees, the latest first
 shared_ended : (parents : List ℕ) (done : List Action) → EachPermitted parents done → has_ended done ≡ true → shared_actions done ≡ A.End ∷ locks_and_frees done
 shared_ended parents [] each h = absurd (both_ways false refl h)
 shared_ended parents (A.Lock x found ∷ done) each h = absurd (both_ways (has_ended done) each.1 h)
@@ -150,7 +150,7 @@ ended_still : (actions done : List Action) → has_ended done ≡ true → has_e
 ended_still [] done h = h
 ended_still (a ∷ actions) done h = ended_still actions (a ∷ done) (grind (arith, h))
 
--- a call alone has ended
+-- all actions of a call alone include its end
 ended_taken : (actions done : List Action) → EndsOnce actions → has_ended (taken (length actions) actions done) ≡ true
 ended_taken [] done h = absurd h
 ended_taken (A.Lock x found ∷ actions) done h = ended_taken actions (A.Lock x found ∷ done) h
@@ -164,17 +164,17 @@ ended_taken (A.Plain ∷ actions) done h = ended_taken actions (A.Plain ∷ done
 -- ---- trails
 
 module _ (t : TrailValue) (is : IsTrail t) where
-  -- each call's meaning is one of a call alone
+  -- each call has a meaning alone
   pub call_alone : (c : ℕ) → c < length t.calls → IsAlone t.parents (meaning_of t c)
   call_alone c lt =
       let k = All-get_or (IsCallOf t.procedures) t.calls c no_call lt is.calls in
       is_alone _ t.parents (call_at t c).args k.valid k.accepted is.tree
 
-  -- the records that a call found make a tree of the shape
+  -- the opening tree with the records that a call found has the size of the shape
   pub found_size : (c : ℕ) → length (with_found (part_of c t.past) t.opening) ≡ length t.parents
   found_size c = length-with_found (part_of c t.past) t.opening ∙ is.size
 
-  -- what a genuine call that is done did is what it does alone
+  -- a genuine call that is done has done what it does alone
   pub genuine_part : (c : ℕ) → c < length t.calls → EachPermitted t.parents (part_of c t.past) → is_done c t.past ≡ true
       → locks_and_frees (part_of c t.past) ≡ locks_and_frees (all_taken (found_alone t c).actions) → part_of c t.past ≡ shared_actions (all_taken (found_alone t c).actions)
   genuine_part c lt each over genuine =
@@ -189,7 +189,7 @@ module _ (t : TrailValue) (is : IsTrail t) where
     in_turn : InTurn t.past
     in_turn = right_turn t.parents t.opening t.past clean.right
 
-    -- each call was admitted, and no other
+    -- each admitted call is one of the trail
     admitted_known : (c : ℕ) → c < admits t.past → c < length t.calls
     admitted_known c lt = let few = admits_within (length t.calls) t.past in_turn is.callers in omega arith
 
@@ -225,7 +225,7 @@ module _ (t : TrailValue) (is : IsTrail t) where
     pub clean_agrees : Agrees (placed t.parents t.past) t.past
     clean_agrees = placed-agrees t.parents is.tree t.past (right_history t.parents t.opening t.past clean.right)
 
-    -- the records in the end are those now
+    -- the end records are the current ones
     pub ends_now : records_now t.past t.opening ≡ t.ends
     ends_now =
         let long = length-records_now t.past t.opening in

@@ -9,7 +9,7 @@ use Rattle.tl_trail.specs.Clean.{Clean}
 use Rattle.tl_audit.specs.Chains.{TakesOverGrown, after_file, CleanAfter, AreTrails, AreCleanFiles, AreSerialFiles, TellTheReplies, run_files, trails_of, opening_of, ends_of, last_trail, order_of, zero_record}
 use Rattle.tl_audit.proofs.ChainLemmas.{chain_serial, by_itself}
 
--- these records, and behind them zeros up to that many
+-- these records, filled up with zero records to n
 abbrev filled : ℕ → Records → Records
 filled n records = records ++ replicate (n - length records) zero_record
 
@@ -42,7 +42,7 @@ told_both : (ts us : List TrailValue) → TellTheReplies ts → TellTheReplies u
 told_both [] us h k = k
 told_both (t ∷ ts) us h k = (h.0, told_both ts us h.1 k)
 
--- the records in the end of these trails, which come after this one
+-- the end records of the last trail, where these trails follow t
 abbrev ends_after : TrailValue → List TrailValue → Records
 ends_after t [] = t.ends
 ends_after t (u ∷ us) = ends_of (u ∷ us)
@@ -63,7 +63,7 @@ record IsSerialAfter (records ends : Records) (files : List (List TrailValue)) :
   replies : (run_files files records).replies ≡ replies_of (trails_of files)
   told : TellTheReplies (trails_of files)
 
--- one file more, whose calls are run from its opening tree
+-- one more file, whose calls are run from its opening tree
 file_more : (records : Records) (u : TrailValue) (us : List TrailValue) (files : List (List TrailValue)) (v : TrailValue)
     → CleanAfter (after_file None) (u ∷ us) → AreTrails (u ∷ us) → filled (length u.opening) records ≡ u.opening
     → ends_of (u ∷ us) ≡ v.ends → IsSerialAfter v.ends (ends_after v (trails_of files)) files

@@ -1,4 +1,4 @@
--- A call's locks and frees so far against what it does alone.
+-- A call's locks and frees so far, compared with what it does alone.
 use Rattle.std.proofs.Common.{◌≡◌, ◌≢◌, ℕ, zero, suc, ◌<◌, ◌≤◌, ◌==◌, replicate, true, false, List, [], ◌∷◌, ◌++◌, length, get_or, Option, Some, None, refl, sym, ap, ◌∙◌, subst, inl, inr, arith}
 use Rattle.std.specs.Prelude.{Box, slice_set, ℤ}
 use Rattle.std.specs.declared.alloc.Global.{Global}
@@ -79,7 +79,7 @@ ends_once t trail c known =
 pub found_size : (t : TrailValue) → IsTrail t → (c : ℕ) → length (found_tree t c) ≡ length t.parents
 found_size t trail c = length-with_found (part_of c t.past) t.opening ∙ trail.size
 
--- where all is right, the tree with what the call found fits what it did
+-- if all events are right, the tree with the records that the call found fits what it did
 pub found_fit : (t : TrailValue) → IsTrail t → (c : ℕ) → AllRight t → AreFit (found_tree t c) (locks_and_frees (part_of c t.past))
 found_fit t trail c right =
     let part = part_of c t.past in
@@ -109,7 +109,7 @@ part_of-append c (Lock x d r ∷ later) past = elim (cases_Bool (d == c)) [ inl 
 part_of-append c (Free x d r ∷ later) past = elim (cases_Bool (d == c)) [ inl h ↦ rw h (ap (λ l. did.Free x r ∷ l) (part_of-append c later past)) | inr h ↦ rw h (part_of-append c later past) ]
 part_of-append c (Done d ∷ later) past = elim (cases_Bool (d == c)) [ inl h ↦ rw h (ap (λ l. did.End ∷ l) (part_of-append c later past)) | inr h ↦ rw h (part_of-append c later past) ]
 
--- the locks and frees of the whole trail are those later and those so far
+-- the locks and frees of the whole trail are the later ones and those so far
 pub all_and_later : (t : TrailValue) (c : ℕ) (later past : List Event) → t.past ≡ later ++ past
     → locks_and_frees (part_of c t.past) ≡ locks_and_frees (part_of c later) ++ locks_and_frees (part_of c past)
 all_and_later t c later past split =
@@ -152,7 +152,7 @@ all_at_end t c later past split right =
 right_turn : (parents : List ℕ) (opening : Records) (past : List Event) → AreRight parents opening past → InTurn past
 right_turn parents opening past right = (right_legal parents opening past right).in_turn
 
--- another call that was admitted was so before
+-- any other admitted call was admitted before the event
 admitted_before : (parents : List ℕ) (opening : Records) (e : Event) (past : List Event) (d : ℕ) → AreRight parents opening (e ∷ past) → caller e ≢ d → d < admits (e ∷ past) → d < admits past
 admitted_before parents opening (Admit c) past d right ne lt =
     let next : c ≡ admits past = right.0.rules.may_happen in
@@ -168,7 +168,7 @@ is_done-other (Lock x c r) past d ne h = h
 is_done-other (Free x c r) past d ne h = h
 is_done-other (Done c) past d ne h = let q = ne_eqb c d ne in rw q at h
 
--- the place of call c has this now, and the others are as they were
+-- the entry of call c is `now`, and the others haven't changed
 pub record IsPut (old new : List (Option (Box TurnValue Global))) (c : ℕ) (now : Option (Box TurnValue Global)) : Type 0 where
   pub size : length new ≡ length old
   pub here : get_or new c None ≡ now
@@ -212,7 +212,7 @@ module _ (t : TrailValue) (later past : List Event) (e : Event) (at : IsAt t lat
       (λ d most. subst (λ l. IsAtMost l d) (sym least) most)
       (λ w w_is. f.least w (sym least ∙ w_is))
 
-  -- it did what it does alone, or it differed before
+  -- the call did what it does alone, or a wrong call is known that is at most c
   pub is_over : now ≡ None → new.least ≡ old.least → IsSettled t old.least c → IsFollowed t (e ∷ past) new
   is_over is least settled =
       more (λ v v_is. let no : None ≡ Some v = sym is ∙ v_is in absurd cc)
@@ -221,7 +221,7 @@ module _ (t : TrailValue) (later past : List Event) (e : Event) (at : IsAt t lat
       (λ d most. subst (λ l. IsAtMost l d) (sym least) most)
       (λ w w_is. f.least w (sym least ∙ w_is))
 
-  -- it differs
+  -- the call differs
   pub differs : now ≡ None → (w : WrongCall) → w.call ≡ c → IsTaken old.least new.least w → IsOther t w → IsFollowed t (e ∷ past) new
   differs is w who taken other =
       more (λ v v_is. let no : None ≡ Some v = sym is ∙ v_is in absurd cc)
@@ -230,7 +230,7 @@ module _ (t : TrailValue) (later past : List Event) (e : Event) (at : IsAt t lat
       taken.kept
       (λ v v_is. elim (taken.one v v_is) [ inl before ↦ f.least v before | inr now' ↦ subst (IsOther t) (sym now') other ])
 
--- an open call without a turn differed before
+-- an admitted call without a turn is settled
 pub settled_before : (t : TrailValue) (past : List Event) (r : Replays) (c : ℕ) → IsFollowed t past r → c < length t.calls → c < admits past → get_or r.turns.items c None ≡ None → IsSettled t r.least c
 settled_before t past r c f inside lt none = f.settled c inside lt none
 
@@ -252,7 +252,7 @@ open_start t c past right =
 
 -- ---- all calls done
 
--- where all is right and each call is done, each is so of which no lesser one differs
+-- if all events are right and each call is done, each call below the lowest wrong one is genuine and has its reply
 pub so_far_least : (t : TrailValue) (r : Replays) → IsFollowed t t.past r → AllRight t → AreDone t → (c : ℕ) → c < length t.calls → ((w : WrongCall) → r.least ≡ Some w → c < w.call)
     → IsGenuine t c × RepliesSo t c
 so_far_least t r f right done c inside less = elim (cases_lt c (admits t.past)) [

@@ -1,4 +1,4 @@
--- A call run alone along the locks and frees that are told of it.
+-- Replaying a call alone along its recorded locks and frees.
 use Rattle.std.proofs.Common.{◌≡◌, ℕ, ◌==◌, false, ◌||◌, List, [], ◌∷◌, ◌++◌, length, drop, reverse, refl, sym, ap, ◌∙◌, subst, arith}
 use Rattle.std.proofs.lemmas.Bool.{or_parts}
 use Rattle.std.proofs.lemmas.List.{reverse-append, reverse-reverse, append-nil, append_assoc, take_all}
@@ -154,7 +154,7 @@ module _ (t : Records) (whole : Run) (so_far : List Action) (turn : TurnValue) (
   size_left : length (with_left h.done t) ≡ length turn.parents
   size_left = length-with_left h.done t ∙ h.size
 
-  -- one action more
+  -- one more action
   module _ (new : TurnValue) (same : new ≡ with_call turn new.call) where
     with_it : (l : List Action) → IsOn t whole l (with_call turn new.call) → IsOn t whole l new
     with_it l on = subst (IsOn t whole l) (sym same) on
@@ -216,7 +216,7 @@ module _ (t : Records) (whole : Run) (so_far : List Action) (turn : TurnValue) (
   rest_ends : EndsOnce (actions rest)
   rest_ends = ends-onto h.done (actions rest) h.goes_on (subst EndsOnce acts h.ends)
 
-  -- all locks and frees of the run: those so far, and those of what is left
+  -- all locks and frees of the run: those so far, and those of the rest
   all_of : locks_and_frees (all_taken (actions whole)) ≡ reverse (locks_and_frees (actions rest)) ++ so_far
   all_of =
       ap locks_and_frees (all_taken-reverse (actions whole)) ∙ locks_and_frees-reverse (actions whole)
@@ -224,7 +224,7 @@ module _ (t : Records) (whole : Run) (so_far : List Action) (turn : TurnValue) (
       ∙ reverse-append (reverse (locks_and_frees h.done)) (locks_and_frees (actions rest))
       ∙ ap (λ l. reverse (locks_and_frees (actions rest)) ++ l) (reverse-reverse (locks_and_frees h.done) ∙ h.told)
 
-  -- where one more stands before them, what is left begins with it
+  -- if one more precedes them, the rest begins with it
   next_is : (later : List Action) (a : Action) → later ++ a ∷ so_far ≡ locks_and_frees (all_taken (actions whole)) → locks_and_frees (actions rest) ≡ a ∷ reverse later
   next_is later a is =
       let left = locks_and_frees (actions rest) in
@@ -235,7 +235,7 @@ module _ (t : Records) (whole : Run) (so_far : List Action) (turn : TurnValue) (
       let both : reverse so_far ++ left ≡ reverse so_far ++ a ∷ reverse later = sym other ∙ ap reverse (sym all_of ∙ sym is) ∙ one in
       sym (drop-append_seam (reverse so_far) left) ∙ ap (drop (length (reverse so_far))) both ∙ drop-append_seam (reverse so_far) (a ∷ reverse later)
 
-  -- where these are all, none is left
+  -- if these are all, the rest has none
   none_is : so_far ≡ locks_and_frees (all_taken (actions whole)) → locks_and_frees (actions rest) ≡ []
   none_is is =
       let left = locks_and_frees (actions rest) in
@@ -277,6 +277,6 @@ module _ (t : Records) (whole : Run) (so_far : List Action) (turn : TurnValue) (
 pub on_start : (t : Records) (turn : TurnValue) → length t ≡ length turn.parents → EndsOnce (actions (left_of turn t)) → reply_so_far turn.call ≡ [] → IsOn t (left_of turn t) [] turn
 on_start t turn size ends reply = record { size = size; ends = ends; done = []; runs = refl; reply = reply; told = refl; goes_on = refl }
 
--- a turn stops at one place
+-- a turn stops at only one node
 pub one_free : (turn : TurnValue) (t : Records) → length t ≡ length turn.parents → (x y : ℕ) → Stops turn (stop.Free x) → Stops turn (stop.Free y) → x ≡ y
 one_free turn t size x y wx wy = let e : want.Stop (stop.Free x) ≡ want.Stop (stop.Free y) = sym (wx t size) ∙ wy t size in cc

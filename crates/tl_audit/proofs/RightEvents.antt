@@ -1,4 +1,4 @@
--- Right events are a legal history.
+-- Right events form a legal history.
 use Rattle.std.proofs.Common.{ℕ, List, [], ◌∷◌}
 use Rattle.tl_tree.specs.Records.{Records}
 use Rattle.tl_tree_locking.specs.declared.event.Event.{Event}

@@ -1,4 +1,4 @@
--- Worked examples of trails: a clean one, and what is wrong first with others, by computation.
+-- Worked examples of trails: a clean one, and the first faults of others, by computation.
 use Rattle.std.proofs.Common.{◌≡◌, ℕ, zero, suc, ◌<◌, ℤ, pos, List, [], ◌∷◌, Bool, true, false, Option, Some, None, not, ◌&&◌, ◌||◌, ◌==◌, refl, arith}
 use Rattle.tl_instr.specs.declared.instr.Instr.{Instr}
 use Rattle.tl_instr.specs.declared.instr.Instr.TheVariants as instr
@@ -25,7 +25,7 @@ five = pos 5 ∷ pos 0 ∷ pos 0 ∷ pos 0 ∷ []
 abbrev six : Record
 six = pos 6 ∷ pos 0 ∷ pos 0 ∷ pos 0 ∷ []
 
--- one call that looks at the root, with these events, the latest first, this reply and this record in the end
+-- one call that looks at the root, with these events, the latest first, this reply and this end record
 abbrev looked : List Event → Option (List ℤ) → Record → TrailValue
 looked past reply end = record {
   parents = 0 ∷ [];
@@ -68,7 +68,7 @@ right : AreRight (0 ∷ []) (five ∷ []) whole
 right =
     (record { rules = record { may_happen = (omega arith, refl); permitted = held_no_more }; apart = tt; finds = tt }, freed)
 
--- what is so of 0 is so of each number below 1
+-- a property of 0 is a property of each number below 1
 only : (P : ℕ → Type 0) → P 0 → (c : ℕ) → c < 1 → P c
 only P p zero lt = p
 only P p (suc c) lt = absurd (omega (arith, lt))
@@ -119,7 +119,7 @@ another_record_found = record {
 still_open : IsFirstFault (looked (Lock 0 0 five ∷ Admit 0 ∷ []) None five) (Unfinished 0)
 still_open = record { right = locked; inside = omega arith; not_done = refl; least = none (λ d. is_done d (Lock 0 0 five ∷ Admit 0 ∷ []) ≡ true) }
 
--- a call that locks nothing isn't one of look
+-- a call that locks nothing isn't one of `look`
 abbrev idle : TrailValue
 idle = looked (Done 0 ∷ Admit 0 ∷ []) (Some []) five
 

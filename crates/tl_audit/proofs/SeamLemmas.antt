@@ -1,4 +1,4 @@
--- The seam between two files: what comes first, and zeros behind it.
+-- Where two files meet: the first tree comes first, and zeros follow it.
 use Rattle.std.proofs.Common.{◌≡◌, ℕ, ◌+◌, ◌-◌, ◌<◌, ◌≤◌, List, [], ◌∷◌, ◌++◌, length, get_or, take, drop, replicate, refl, sym, ap, ◌∙◌, arith}
 use Rattle.std.proofs.lemmas.List.{take-append-drop, take_rest, take_all, drop_at, get_or_append_left, length-append, length-replicate, get_or-replicate, take_more, replicate_more}
 use Rattle.tl_tree.specs.Records.{Record, Records}
@@ -39,7 +39,7 @@ pub zero_there : (records : Records) (n : ℕ) (r : Record) → n < length recor
 zero_there records n r inside at all =
     at ∙ ap (λ l. get_or l n r) all ∙ get_or-replicate (length records) n zero_record r inside
 
--- what stands behind as many records as the first ones
+-- the records after the first ones
 abbrev pub behind : Records → Records → Records
 behind first records = take (length records - length first) (drop (length first) records)
 

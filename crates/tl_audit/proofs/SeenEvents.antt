@@ -13,7 +13,7 @@ use Rattle.tl_trail.specs.Clean.{AreRight}
 use Rattle.tl_audit.specs.Findings.{IsWrong, IsFirstEventFault}
 use Rattle.tl_audit.specs.declared.fault.AuditFault.{AuditFault}
 
--- each is of a call of the trail and of a node
+-- each event is of a call and a node of the trail
 pub event_at : (t : TrailValue) → IsTrail t → (events : List Event) → past_of events ≡ t.past → (i : ℕ) → i < length events
     → IsEventOf (length t.parents) (length t.calls) (get_or events i (Admit 0))
 event_at t trail events whole i inside =
@@ -21,7 +21,7 @@ event_at t trail events whole i inside =
     let nodes = All-unreverse (IsOfNodes (length t.parents)) events (subst (λ p. All (IsOfNodes (length t.parents)) p) (sym whole) trail.nodes) in
     record { call = callers i (Admit 0) inside; node = nodes i (Admit 0) inside }
 
--- the history is what comes later, the event, and what was before
+-- the history consists of the later events, the event, and the earlier ones
 pub past_split : (events : List Event) (i : ℕ) → i < length events
     → past_of events ≡ reverse (drop (i + 1) events) ++ get_or events i (Admit 0) ∷ reverse (take i events)
 past_split events i inside =

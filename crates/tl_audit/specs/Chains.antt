@@ -1,4 +1,4 @@
--- A chain of trails, one an epoch: what is wrong with it first, and what an auditor's answer says of it.
+-- A chain of trails, one for each epoch: its first fault, and what an auditor's answer says about it.
 use Rattle.std.specs.Prelude.{◌≡◌, ◌⊎◌, ℕ, zero, suc, ◌+◌, ◌-◌, ◌<◌, pos, List, [], ◌∷◌, ◌++◌, length, map, replicate, Option, Some, None, slice_get}
 use Rattle.tl_width.specs.Fields.{field_count}
 use Rattle.tl_tree.specs.Records.{Record, Records}
@@ -15,7 +15,7 @@ use Rattle.tl_audit.specs.declared.fault.AuditFault.{AuditFault}
 use Rattle.tl_audit.specs.declared.chain.ChainFault.{ChainFault}
 use Rattle.tl_audit.specs.declared.chain.ChainFault.TheVariants.{Broken, InEpoch, Memory}
 
--- the second trail opens with the tree that the first ends with, and its procedures begin with those of the first
+-- the second trail opens with the tree that the first one ends with, and its procedures begin with those of the first
 pub record TakesOver (t u : TrailValue) : Type 0 where
   pub parents : u.parents ≡ t.parents
   pub opening : u.opening ≡ t.ends
@@ -25,15 +25,15 @@ pub record TakesOver (t u : TrailValue) : Type 0 where
 abbrev pub zero_record : Record
 zero_record = replicate field_count (pos 0)
 
--- The second trail opens with the tree that the first ends with, to which nodes may have been appended, with zeros as their records;
--- and its procedures begin with those of the first.
+-- The second trail opens with the tree that the first one ends with, possibly with nodes appended whose records are
+-- zeros. Its procedures begin with those of the first.
 pub record TakesOverGrown (t u : TrailValue) : Type 0 where
   pub added : List ℕ
   pub parents : u.parents ≡ t.parents ++ added
   pub opening : u.opening ≡ t.ends ++ replicate (length added) zero_record
   pub procedures : BeginsWith t.procedures u.procedures
 
--- what comes before a trail: nothing; another file, which ends with this trail; or this trail of its own chain
+-- what precedes a trail: nothing, another file that ends with this trail, or this trail of its own chain
 pub data Before : Type 0 where
   Nothing : Before
   AfterFile : TrailValue → Before
@@ -47,13 +47,13 @@ abbrev pub after_trail : Option TrailValue → Before
 after_trail None = Nothing
 after_trail (Some t) = AfterTrail t
 
--- the trail takes over from what comes before it; nodes are appended between files only
+-- the trail continues what precedes it; nodes are appended only between files
 abbrev pub TakesOverFrom : Before → TrailValue → Type 0
 TakesOverFrom Nothing u = Unit {0}
 TakesOverFrom (AfterFile t) u = TakesOverGrown t u
 TakesOverFrom (AfterTrail t) u = TakesOver t u
 
--- each trail takes over from what comes before it, and is clean
+-- each trail continues what precedes it, and is clean
 abbrev pub CleanAfter : Before → List TrailValue → Type 0
 CleanAfter before [] = Unit {0}
 CleanAfter before (t ∷ ts) = TakesOverFrom before t × Clean t × CleanAfter (AfterTrail t) ts
@@ -61,8 +61,7 @@ CleanAfter before (t ∷ ts) = TakesOverFrom before t × Clean t × CleanAfter (
 abbrev pub IsCleanChain : List TrailValue → Type 0
 IsCleanChain ts = CleanAfter Nothing ts
 
--- What is wrong first, where these trails have the numbers from n on: a trail doesn't take over, or else this is wrong with it
--- first.
+-- The first fault of these trails, which are numbered from n on: a trail doesn't continue what precedes it, or otherwise its own first fault.
 abbrev pub IsFirstAfter : ℕ → Before → List TrailValue → ChainFault → Type 0
 IsFirstAfter n before [] f = ⊥
 IsFirstAfter n before (t ∷ ts) f =
@@ -75,12 +74,12 @@ IsFirstChainFault ts f = IsFirstAfter 0 Nothing ts f
 
 -- ---- chains one after another
 
--- what comes behind these trails, after what came before them
+-- what precedes a trail that follows these, where `before` precedes the first of them
 abbrev pub last_after : Before → List TrailValue → Before
 last_after before [] = before
 last_after before (t ∷ ts) = last_after (AfterTrail t) ts
 
--- each chain takes over from the last trail before it, and is clean
+-- each chain continues the last trail before it, and is clean
 abbrev pub AreCleanAfter : Before → List (List TrailValue) → Type 0
 AreCleanAfter before [] = Unit {0}
 AreCleanAfter before (ts ∷ chains) = CleanAfter before ts × AreCleanAfter (last_after before ts) chains
@@ -90,7 +89,7 @@ abbrev pub trails_of : List (List TrailValue) → List TrailValue
 trails_of [] = []
 trails_of (ts ∷ chains) = ts ++ trails_of chains
 
--- the same fault where the trails have numbers from n on
+-- the same fault, with n added to the trail's number
 abbrev pub numbered_from : ℕ → ChainFault → ChainFault
 numbered_from n (Broken m) = Broken (n + m)
 numbered_from n (InEpoch m f) = InEpoch (n + m) f
@@ -98,7 +97,7 @@ numbered_from n Memory = Memory
 
 -- ---- what follows
 
--- the order that a trail's events give
+-- the order that the trail's events determine
 abbrev pub order_of : TrailValue → List ℕ
 order_of t = placed t.parents t.past
 
@@ -106,13 +105,13 @@ abbrev pub opening_of : List TrailValue → Records
 opening_of [] = []
 opening_of (t ∷ ts) = t.opening
 
--- the records in the end of the last trail
+-- the end records of the last trail
 abbrev pub ends_of : List TrailValue → Records
 ends_of [] = []
 ends_of (t ∷ []) = t.ends
 ends_of (t ∷ u ∷ ts) = ends_of (u ∷ ts)
 
--- each call has the reply that it gives in that order
+-- the reply of each call is the one that it gives in its world
 abbrev pub TellTheReplies : List TrailValue → Type 0
 TellTheReplies [] = Unit {0}
 TellTheReplies (t ∷ ts) = ((c : ℕ) → c < length t.calls → (call_at t c).reply ≡ Some (reply_of (world_of t) c)) × TellTheReplies ts
@@ -121,32 +120,30 @@ abbrev pub AreTrails : List TrailValue → Type 0
 AreTrails [] = Unit {0}
 AreTrails (t ∷ ts) = IsTrail t × AreTrails ts
 
--- all calls run alone along these orders joined, from the first opening tree, leave the last records in the end and give their
--- replies
+-- run alone in these orders joined, from the first opening tree, all calls leave the last end records and give their replies
 pub record AreSerial (ts : List TrailValue) (orders : List (List ℕ)) : Type 0 where
   pub tree : (run_each (joined (map world_of ts) orders) (opening_of ts)).tree ≡ ends_of ts
   pub replies : (run_each (joined (map world_of ts) orders) (opening_of ts)).replies ≡ joined_replies (map world_of ts) orders
   pub told : TellTheReplies ts
 
--- what comes before the trail of that number
+-- what precedes the trail with this number
 abbrev pub before_at : Before → List TrailValue → ℕ → Before
 before_at before ts zero = before
 before_at before ts (suc n) = after_trail (slice_get ts n)
 
 -- ---- files one after another
 
--- the trail that these end with, after the one before
+-- the last of these trails; `before` if there are none
 abbrev pub last_trail : Option TrailValue → List TrailValue → Option TrailValue
 last_trail before [] = before
 last_trail before (t ∷ ts) = last_trail (Some t) ts
 
--- each file takes over from the last trail of the file before it, and is clean
+-- each file continues the last trail of the file before it, and is clean
 abbrev pub AreCleanFiles : Option TrailValue → List (List TrailValue) → Type 0
 AreCleanFiles before [] = Unit {0}
 AreCleanFiles before (ts ∷ files) = CleanAfter (after_file before) ts × AreCleanFiles (last_trail before ts) files
 
--- before each file the zero records of the nodes that were appended come behind the others; then its calls are run alone along its
--- orders joined
+-- runs the calls of all files alone, in the joined orders of each; before a file, zero records are appended for the new nodes
 abbrev pub run_files : List (List TrailValue) → Records → SerialOutcome
 run_files [] records = record { tree = records; replies = [] }
 run_files (ts ∷ files) records =
@@ -154,13 +151,13 @@ run_files (ts ∷ files) records =
     let later = run_files files own.tree in
     record { tree = later.tree; replies = own.replies ++ later.replies }
 
--- from the first opening tree that leaves the last records in the end, and each call gives its reply
+-- from the first opening tree this leaves the last end records, and each call gives its reply
 pub record AreSerialFiles (files : List (List TrailValue)) : Type 0 where
   pub tree : (run_files files (opening_of (trails_of files))).tree ≡ ends_of (trails_of files)
   pub replies : (run_files files (opening_of (trails_of files))).replies ≡ joined_replies (map world_of (trails_of files)) (map order_of (trails_of files))
   pub told : TellTheReplies (trails_of files)
 
--- why the trail of that number ends the audit of a chain whose trails before it are clean
+-- the fault of the trail with this number, where the trails before it are clean
 abbrev pub IsFaultAt : ℕ → Before → TrailValue → ChainFault → Type 0
 IsFaultAt n before t f =
     ((f ≡ Broken n) × ¬ TakesOverFrom before t)

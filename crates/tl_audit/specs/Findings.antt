@@ -1,4 +1,4 @@
--- What is wrong with a trail, first.
+-- The first fault of a trail.
 use Rattle.std.specs.Prelude.{◌≡◌, ℕ, ◌<◌, true, false, List, ◌∷◌, ◌++◌, length}
 use Rattle.tl_tree.specs.Records.{Records}
 use Rattle.tl_tree_locking.specs.declared.event.Event.{Event}
@@ -9,7 +9,7 @@ use Rattle.tl_trail.specs.Clean.{FindsNow, AreRight, AreDone, IsGenuine, Replies
 use Rattle.tl_audit.specs.declared.fault.AuditFault.{AuditFault}
 use Rattle.tl_audit.specs.declared.fault.AuditFault.TheVariants.{RuleBroken, Overlap, WrongFound, NotGenuine, Unfinished, WrongEnd, WrongReply, Memory}
 
--- what is wrong with the event first; it has the number of events before it
+-- the first fault of an event, which is numbered by the events before it
 abbrev pub IsWrong : List ℕ → Records → List Event → Event → AuditFault → Type 0
 IsWrong parents opening past e (RuleBroken n) = (n ≡ length past) × ¬ KeepsRules parents past e
 IsWrong parents opening past e (Overlap n) = (n ≡ length past) × KeepsRules parents past e × ¬ IsApart past e
@@ -17,7 +17,7 @@ IsWrong parents opening past e (WrongFound n) =
     (n ≡ length past) × KeepsRules parents past e × IsApart past e × ¬ FindsNow opening past e
 IsWrong parents opening past e _ = ⊥
 
--- the first event with which something is wrong
+-- the fault of the first event that has one
 pub record IsFirstEventFault (t : TrailValue) (f : AuditFault) : Type 0 where
   pub later : List Event
   pub event : Event
@@ -26,21 +26,21 @@ pub record IsFirstEventFault (t : TrailValue) (f : AuditFault) : Type 0 where
   pub right : AreRight t.parents t.opening before
   pub wrong : IsWrong t.parents t.opening before event f
 
--- the events are right, and call c is the least that isn't done
+-- the events are right, and c is the lowest call that isn't done
 pub record IsUnfinished (t : TrailValue) (c : ℕ) : Type 0 where
   pub right : AreRight t.parents t.opening t.past
   pub inside : c < length t.calls
   pub not_done : is_done c t.past ≡ false
   pub least : (d : ℕ) → d < c → is_done d t.past ≡ true
 
--- the events are right, each call is done, and so far each is genuine and has its reply
+-- the events are right, each call is done, and each call below `count` is genuine and has its reply
 pub record AreSo (t : TrailValue) (count : ℕ) : Type 0 where
   pub right : AreRight t.parents t.opening t.past
   pub done : AreDone t
   pub genuine : (c : ℕ) → c < count → IsGenuine t c
   pub replies : (c : ℕ) → c < count → RepliesSo t c
 
--- the first thing that is wrong: of the events, else of their ends, else of the calls, else of the records in the end
+-- the first fault: of the events, then an unfinished call, then a call's actions or reply, then an end record
 abbrev pub IsFirstFault : TrailValue → AuditFault → Type 0
 IsFirstFault t (RuleBroken n) = IsFirstEventFault t (RuleBroken n)
 IsFirstFault t (Overlap n) = IsFirstEventFault t (Overlap n)

@@ -1,4 +1,4 @@
--- A call's run alone, led along its own locks and frees.
+-- A call's run alone, replayed along its own locks and frees.
 use Rattle.std.specs.Prelude.{◌≡◌, ◌<◌, false, List, [], ◌∷◌, length}
 use Rattle.tl_tree.specs.Records.{Records, record_at}
 use Rattle.tl_tree_locking.specs.declared.action.Action.{Action}
@@ -11,14 +11,13 @@ use Rattle.tl_machine.specs.BetweenSteps.{run_left}
 use Rattle.tl_machine.specs.Along.{after_done, with_left}
 use Rattle.tl_machine.specs.Turns.{TurnValue}
 
--- The tree has the record that each lock found, and no node is locked once it was freed; the latest action comes first.
+-- Each lock finds the tree's record, and no node is locked after it was freed. The latest action comes first.
 abbrev pub AreFit : Records → List Action → Type 0
 AreFit t [] = Unit {0}
 AreFit t (Lock x found ∷ done) = (x < length t) × (found ≡ record_at t x) × (freed done x ≡ false) × AreFit t done
 AreFit t (_ ∷ done) = AreFit t done
 
--- The turn is where some actions lead from the start of the whole run on this tree, and these are their locks and frees,
--- the latest first. The run ends.
+-- Some actions lead from the start of the whole run on this tree to the turn, and `so_far` are their locks and frees, the latest first. The run ends.
 pub record IsOn (t : Records) (whole : Run) (so_far : List Action) (turn : TurnValue) : Type 0 where
   pub size : length t ≡ length turn.parents
   pub ends : EndsOnce (actions whole)

@@ -1,4 +1,4 @@
--- What an auditor's answer says of a trail.
+-- What an auditor's answer says about a trail.
 use Rattle.std.specs.Prelude.{◌≡◌, ◌≢◌, ℕ, ◌<◌, length, map, Some, Result, IfOk, IfErr, MatchResult}
 use Rattle.tl_tree_locking.specs.Alone.{serial}
 use Rattle.tl_tree_locking.specs.Obeys.{Obeys}
@@ -11,8 +11,9 @@ use Rattle.tl_audit.specs.Findings.{IsFirstFault}
 use Rattle.tl_audit.specs.declared.fault.AuditFault.{AuditFault}
 use Rattle.tl_audit.specs.declared.fault.AuditFault.TheVariants.{Memory}
 
--- The answer is the order that the events give, exactly where the trail is clean, and else the first thing that is wrong;
--- want of memory may stand in the place of any answer. The last six say what a yes implies, whoever wrote the trail.
+-- If the trail is clean, the answer is the order that its events determine; otherwise it is the first fault. In both
+-- cases it may be a fault of memory instead. The last six fields say what an order as the answer implies, whoever wrote
+-- the trail.
 pub record IsVerdict (t : TrailValue) (answer : Result OrderValue AuditFault) : Type 0 where
   pub clean : IfOk answer (λ _. Clean t)
   pub order : IfOk answer (λ o. o.calls ≡ placed t.parents t.past)

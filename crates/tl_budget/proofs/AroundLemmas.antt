@@ -1,4 +1,4 @@
--- Where loops match, the loops around a position are those that are open there.
+-- If openings and ends match, the loops around a position are those that are open there.
 use Rattle.std.proofs.Common.{◌≡◌, ℕ, zero, suc, ◌+◌, ◌≤◌, List, ◌∷◌, length, map, drop, Option, Some, None, refl, sym, ◌∙◌, ap, subst, arith}
 use Rattle.std.specs.Prelude.{option_map, slice_get}
 use Rattle.std.proofs.lemmas.List.{length-map}
@@ -12,7 +12,7 @@ use Rattle.tl_budget.proofs.OpenLoops.{next, opened, open_count}
 abbrev pub openings : List Loop → List ℕ
 openings ls = map (λ (l : Loop). l.opening) ls
 
--- the instruction of that kind
+-- there is an instruction of this kind at p
 abbrev pub Has : List Instr → ℕ → Kind → Type 0
 Has code p k = (i : Instr) × (slice_get code p ≡ Some i) × (kind i ≡ k)
 
@@ -47,7 +47,7 @@ around_opened code m (suc p) =
 pub depth_is : (code : List Instr) → Matched code → (p : ℕ) → length (around code p) ≡ length (opened code p)
 depth_is code m p = sym (length-map (around code p) (λ (l : Loop). l.opening)) ∙ ap length (around_opened code m p)
 
--- where loops nest, nothing is found
+-- a nested code has no faults of loops
 pub nothing_found : (code : List Instr) → IsNested code → (f : Finding) → Arises code f → ⊥
 nothing_found code nested (Alone p) a =
     let i = has code p Closes a.0 in

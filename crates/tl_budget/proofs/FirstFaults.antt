@@ -1,4 +1,4 @@
--- Of each code the loops nest, or it has one first fault.
+-- The loops of a code either nest or have a first fault.
 use Rattle.std.proofs.Common.{◌≡◌, ◌⊎◌, inl, inr, ℕ, zero, suc, ◌+◌, ◌<◌, ◌≤◌, List, [], ◌∷◌, ◌++◌, length, Option, Some, None, refl, sym, ◌∙◌, ap, subst, arith}
 use Rattle.std.proofs.lemmas.Bool.{cases_lt, cases_order}
 use Rattle.tl_instr.specs.declared.instr.Instr.{Instr}
@@ -14,7 +14,7 @@ use Rattle.tl_budget.proofs.AroundLemmas.{nothing_found}
 pub none_where_nested : (code : List Instr) (f : NestFault) → IsNested code → IsFirstFault code f → ⊥
 none_where_nested code f nested h = nothing_found code nested h.finding h.arises
 
--- the finding of that position and rank
+-- the finding with this position and rank
 pub ranked : ℕ → ℕ → Finding
 ranked p zero = Alone p
 ranked p (suc zero) = Zero p
@@ -28,7 +28,7 @@ is_ranked (Zero p) = refl
 is_ranked (Deep p) = refl
 is_ranked (Unclosed p) = refl
 
--- of two findings one comes before the other
+-- of two different findings one precedes the other
 same_finding : (f g : Finding) → (Precedes f g → ⊥) → (Precedes g f → ⊥) → f ≡ g
 same_finding f g not_before not_after = passes (cases_order (pass f) (pass g))
   where
@@ -56,7 +56,7 @@ one_first code f g a b =
 abbrev HasFirst : List Instr → Type 0
 HasFirst code = (f : NestFault) × IsFirstFault code f
 
--- at p nothing is found, or the first fault
+-- there is no fault at p, or the code has a first fault
 clear_or_first : (code : List Instr) (p : ℕ) → Clear code p → ClearAt code p ⊎ HasFirst code
 clear_or_first code p clear = by (kind_at code p) refl
   where
@@ -88,7 +88,7 @@ clear_up_to code (suc p) = by (clear_up_to code p)
     by (inl clear) = on clear (clear_or_first code p clear)
     by (inr first) = inr first
 
--- a list has a last element, or none
+-- a nonempty list has a last element
 last : (o : ℕ) (s : List ℕ) → (front : List ℕ) × (l : ℕ) × (o ∷ s ≡ front ++ l ∷ [])
 last o [] = ([], o, refl)
 last o (q ∷ s) = let h = last q s in (o ∷ h.0, h.1, ap (λ (t : List ℕ). o ∷ t) h.2)

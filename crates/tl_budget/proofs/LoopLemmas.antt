@@ -1,4 +1,4 @@
--- Loops nest.
+-- The laws of nested loops.
 use Rattle.std.proofs.Common.{◌≡◌, ℕ, zero, suc, ◌+◌, ◌-◌, ◌<◌, ◌≤◌, List, [], ◌∷◌, Option, Some, None, Bool, true, false, refl, sym, ap, ◌∙◌, subst, arith}
 use Rattle.std.specs.Prelude.{slice_get, nat_lt, nat_le, option_map, drop, ◌≢◌, cond, if◌then◌else◌}
 use Rattle.std.proofs.lemmas.Bool.Decides.{nat_tests}
@@ -7,7 +7,7 @@ use Rattle.tl_instr.specs.declared.instr.Instr.{Instr}
 use Rattle.std.proofs.lemmas.Bool.{le-ltb, lt-ltb, leb-false}
 use Rattle.tl_budget.specs.Loops.{Kind, Opens, Closes, Returns, Acts, kind, kind_at, closing, closing_by, Loop, loop_at, loop_by, with_loop, around_from, around, Matched, IsAround}
 
--- one more than a number
+-- if `option_map suc o` is Some k, o is Some of the number before k
 from_suc : (o : Option ℕ) (k : ℕ) → option_map suc o ≡ Some k → (m : ℕ) × (o ≡ Some m) × (suc m ≡ k)
 from_suc None k e = cc
 from_suc (Some m) k e = let h : suc m ≡ k = cc in (m, refl, h)
@@ -50,7 +50,7 @@ soonest is (suc d) k e =
     let b = soonest is d a.0 a.1 in
     (b.0, b.1, let x = a.2 in let y = b.2 in omega arith)
 
--- what closes is an end
+-- the instruction that closes is an end
 is_end : (is : List Instr) (d k : ℕ) → closing is d ≡ Some k → kind_at is k ≡ Some Closes
 is_end [] d k e = cc
 is_end (i ∷ is) d k e = by (kind i) refl d k e (λ d k e. is_end is d k e)
@@ -104,7 +104,7 @@ drop_drop m zero code = let e : m ≡ 0 + m = omega arith in ap (λ k. drop k co
 drop_drop m (suc n) [] = drop-nil m ∙ sym (drop-nil (suc n + m))
 drop_drop m (suc n) (i ∷ is) = let e : suc (n + m) ≡ suc n + m = omega arith in drop_drop m n is ∙ ap (λ k. drop k (i ∷ is)) e
 
--- what a loop is made of
+-- the parts of a loop
 Made : List Instr → ℕ → Loop → Type 0
 Made code o l = (w k : ℕ) × (kind_at code o ≡ Some (Opens w)) × (closing (drop (o + 1) code) 0 ≡ Some k) × (l.opening ≡ o) × (l.close ≡ o + 1 + k) × (l.count ≡ w)
 
@@ -126,12 +126,12 @@ made : (code : List Instr) (o : ℕ) (l : Loop) → loop_at code o ≡ Some l �
 unfolding Made loop_at
 made code o l e = made_by code o (kind_at code o) l e
 
--- a loop opens where it is found
+-- a loop's opening is the position where it is found
 pub opening_is : (code : List Instr) (o : ℕ) (l : Loop) → loop_at code o ≡ Some l → l.opening ≡ o
 unfolding Made
 opening_is code o l e = (made code o l e).4
 
--- it closes further on
+-- a loop closes after its opening
 pub closes_after : (code : List Instr) (o : ℕ) (l : Loop) → loop_at code o ≡ Some l → o < l.close
 unfolding Made
 closes_after code o l e = let m = made code o l e in let x = m.5 in omega arith
@@ -180,12 +180,12 @@ same_test a b c f g = go (nat_le a c) (nat_le b c) refl refl
     go true false e h = let z = le-leb b c (f (leb-le a c e)) in cc
     go false true e h = let z = le-leb a c (g (leb-le b c h)) in cc
 
--- the loops that still reach to r, where control goes forward to r and into no loop
+-- the loops that still contain r, if control goes forward to r and enters no loop
 abbrev pub reaching : ℕ → List Loop → List Loop
 reaching r [] = []
 reaching r (l ∷ ls) = if nat_lt l.close r then reaching r ls else l ∷ ls
 
--- Loops nest: what is around a position, by what is around the one before it.
+-- Loops nest: the loops around a position are determined by those around the previous one.
 pub record Nests (code : List Instr) : Type 0 where
   pub acts : (p : ℕ) (i : Instr) → slice_get code p ≡ Some i → kind i ≡ Acts → around code (p + 1) ≡ reaching (p + 1) (around code p)
   pub opens : (p w : ℕ) (i : Instr) → slice_get code p ≡ Some i → kind i ≡ Opens w → (l : Loop) × (loop_at code p ≡ Some l) × (l.count ≡ w) × (0 < w) × (around code (p + 1) ≡ l ∷ around code p)
@@ -215,7 +215,7 @@ module _ (code : List Instr) where
           let lt : l.close < q = h (n + o) l (omega arith) (omega arith) f in
           ap (λ b. cond b (l ∷ around_from code (n + o) q) (around_from code (n + o) q)) (lt-leb l.close q lt)
 
-  -- the loop that ends at p is the innermost around it, and outside of it are the loops around the next position
+  -- the loop that ends at p is the innermost around it, and the loops outside it are those around the next position
   module _ (o p : ℕ) (l : Loop) (at : loop_at code o ≡ Some l) (close : l.close ≡ p) (behind : o < p) where
     skipped : (q : ℕ) → p ≤ q → around_from code p q ≡ with_loop q (Some l) (around_from code o q)
     skipped q le =
@@ -247,7 +247,7 @@ module _ (code : List Instr) where
         ∙ ap (λ b. cond b (l ∷ around_from code o (suc o)) (around_from code o (suc o))) (le-leb (suc o) l.close (omega arith))
         ∙ ap (λ ls. l ∷ ls) (around_agree o (suc o) p (λ n k lt f. same_test (suc o) p k.close (λ h. let inside = nested code n o k l f at lt (omega arith) in omega arith) (λ h. omega arith)))
 
-  -- each loop around a position reaches to it, and is one of the code's
+  -- each loop around a position is one of the code and ends at or after that position
   Reaches : ℕ → List Loop → Type 0
   Reaches p [] = Unit {0}
   Reaches p (l ∷ ls) = ((o : ℕ) × (loop_at code o ≡ Some l) × (p ≤ l.close)) × Reaches p ls
@@ -265,7 +265,7 @@ module _ (code : List Instr) where
           test true f = ((o, e, leb-le p l.close f), h)
           test false f = h
 
-  -- where no end stands at p, each loop around it reaches further
+  -- if there is no end at p, each loop around p ends after p
   not_there : (p : ℕ) (k : Kind) → kind_at code p ≡ Some k → (k ≡ Closes → ⊥) → (o : ℕ) (l : Loop) → loop_at code o ≡ Some l → l.close ≢ p
   not_there p k at other o l e f =
       let h : Some Closes ≡ Some k = sym (closes_at_end code o l e) ∙ ap (kind_at code) f ∙ at in
@@ -296,7 +296,7 @@ module _ (code : List Instr) where
       by (Some Acts) e = refl
       by None e = refl
 
-  -- where no loop opens or ends, the loops around stay
+  -- if no loop opens or ends at p, the loops around the next position are the same
   pub stays : (p : ℕ) → ((w : ℕ) → kind_at code p ≢ Some (Opens w)) → kind_at code p ≢ Some Closes → around code (p + 1) ≡ around code p
   stays p not_open not_end =
       let s : p + 1 ≡ suc p = omega arith in
@@ -346,7 +346,7 @@ module _ (code : List Instr) where
         omega arith;
   }
 
--- A jump ahead and into no loop leaves the loops that it leads out of.
+-- After a jump forward that enters no loop, the loops around the target are those around the jump that contain the target.
 module _ (code : List Instr) (p t : ℕ) (ahead : p < t) (into_none : (o : ℕ) (l : Loop) → IsAround code o l t → IsAround code o l p) where
   below_jump : (o : ℕ) → o ≤ p → around_from code o t ≡ reaching t (around_from code o p)
   below_jump zero le = refl

@@ -1,4 +1,4 @@
--- The ways in which the definitions speak of loops agree.
+-- The different definitions of a code's loops agree.
 use Rattle.std.proofs.Common.{◌≡◌, ◌⊎◌, inl, inr, ℕ, zero, suc, ◌+◌, ◌<◌, ◌≤◌, List, [], ◌∷◌, length, Option, Some, None, Bool, true, false, cond, refl, sym, ◌∙◌, ap, subst, arith}
 use Rattle.std.specs.Prelude.{◌↔◌, nat_le, slice_index_or}
 use Rattle.std.specs.List.{Contains}
@@ -10,7 +10,7 @@ use Rattle.tl_budget.proofs.LoopLemmas.{opening_is, closes_after, closes_at_end,
 pub closes_further_on : (code : List Instr) (o : ℕ) (l : Loop) → loop_at code o ≡ Some l → (l.opening ≡ o) × (o < l.close) × (kind_at code l.close ≡ Some Closes)
 closes_further_on code o l e = (opening_is code o l e, closes_after code o l e, closes_at_end code o l e)
 
--- a loop opens at an opening
+-- there is no end at a loop's opening
 opens_at : (code : List Instr) (p : ℕ) (k : Loop) → loop_at code p ≡ Some k → kind_at code p ≡ Some Closes → ⊥
 unfolding loop_at
 opens_at code p k e closes = let none : loop_by code p (kind_at code p) ≡ None = ap (loop_by code p) closes in cc

@@ -1,4 +1,4 @@
--- The places of the positions that were walked over.
+-- The stored places of the positions that have been visited.
 use Rattle.std.proofs.Common.{◌≡◌, ◌≢◌, ◌⊎◌, inl, inr, ℕ, ◌+◌, ◌<◌, ◌≤◌, List, [], ◌∷◌, ◌++◌, length, get_or, Option, Some, None, refl, sym, ◌∙◌, ap, subst, arith}
 use Rattle.std.proofs.Math.ListN.{set}
 use Rattle.std.proofs.lemmas.Bool.{cases_lt, cases_eq}
@@ -12,8 +12,8 @@ use Rattle.tl_budget.proofs.OpenLoops.{opened, ClosesAt}
 use Rattle.tl_budget.proofs.AroundLemmas.{openings, around_opened, depth_is}
 use Rattle.tl_budget.proofs.NothingFound.{Clear, is_nested, inside}
 
--- Of the positions before n the depth and the innermost opening are known, and that no end is kept where no loop opens;
--- and of the loops that close before p the end.
+-- For the positions before n, the depth and the innermost opening are stored, and no end is stored where no loop opens.
+-- For the loops that close before p, the end is stored.
 pub record Placed (code : List Instr) (n p : ℕ) (places : List Place) : Type 0 where
   pub long : length places ≡ n
   pub depth : (q : ℕ) → q < n → (place_at places q).depth ≡ length (opened code q)
@@ -50,7 +50,7 @@ placed_push code p places new depth opening close h = record {
             let at : length places ≡ q = h.long ∙ same in
             subst (P q) (sym (get_or_push places new no_place q at)) (subst (λ n. P n new) same here)
 
--- where no loop ends
+-- a position where no loop ends
 pub placed_on : (code : List Instr) (n p : ℕ) (places : List Place) → kind_at code p ≢ Some Closes → Placed code n p places → Placed code n (p + 1) places
 placed_on code n p places not_end h = record {
   long = h.long;
@@ -62,7 +62,7 @@ placed_on code n p places not_end h = record {
   endless = h.endless;
 }
 
--- no two loops have one end
+-- no two loops have the same end
 one_opening : (code : List Instr) (o q : ℕ) (l k : Loop) → loop_at code o ≡ Some l → loop_at code q ≡ Some k → l.close ≡ k.close → o ≡ q
 one_opening code o q l k e f same = by (cases_lt o q) (cases_lt q o)
   where
@@ -71,7 +71,7 @@ one_opening code o q l k e f same = by (cases_lt o q) (cases_lt q o)
     by (inr le) (inl lt) = let after = closes_after code o l e in let within = nested code q o k l f e lt (omega arith) in absurd (omega arith)
     by (inr le) (inr ge) = omega arith
 
--- the end of a loop
+-- the places after the end of the loop that opens at o
 abbrev pub marked : List Place → ℕ → ℕ → List Place
 marked places o p = set places o (record (place_at places o) { close = p })
 

@@ -1,4 +1,4 @@
--- The walk that matches loops.
+-- The traversal that matches loops.
 use Rattle.std.proofs.Common.{◌≡◌, ◌≢◌, ◌⊎◌, inl, inr, ℕ, suc, ◌+◌, ◌-◌, ◌<◌, ◌≤◌, List, [], ◌∷◌, ◌++◌, length, reverse, drop, get_or, Option, Some, None, refl, sym, ◌∙◌, ap, subst, arith}
 use Rattle.std.specs.Prelude.{slice_get, option_map}
 use Rattle.std.proofs.lemmas.List.{length-reverse, length_push, get_or_push, reverse-append, reverse-reverse}
@@ -15,7 +15,7 @@ use Rattle.tl_budget.proofs.AroundLemmas.{nothing_found}
 use Rattle.tl_budget.proofs.NothingFound.{Clear, clear_start, clear_next, clear_opens, clear_closes, clear_else, first_zero, first_deep, first_alone, first_unclosed}
 use Rattle.tl_budget.proofs.NestLemmas.{Placed, placed_start, placed_push, placed_on, placed_close, marked, is_nest}
 
--- The walk came to p: these loops are open, the outermost first, and nothing was found.
+-- The traversal has reached p without a fault, and these loops are open, the outermost first.
 pub record Walked (code : List Instr) (p : ℕ) (openings : List ℕ) (places : List Place) : Type 0 where
   pub clear : Clear code p
   pub outermost_first : openings ≡ reverse (opened code p)
@@ -64,17 +64,17 @@ module _ (code : List Instr) (p w : ℕ) (openings : List ℕ) (places : List Pl
       let deep : 4 ≤ length (opened code p) = let le = e.1 in omega arith in
       subst (IsFirstFault code) (sym e.2) (first_deep code p w h.clear at e.0 deep)
 
--- the innermost is the last
+-- the innermost open loop is the last one of the list
 innermost : (s outer : List ℕ) (o : ℕ) → reverse s ≡ outer ++ o ∷ [] → s ≡ o ∷ reverse outer
 innermost s outer o e = sym (reverse-reverse s) ∙ ap reverse e ∙ reverse-append outer (o ∷ [])
 
--- it opened before
+-- that loop opened before
 pub opens_before : (code : List Instr) (p o : ℕ) (openings outer : List ℕ) (places : List Place) → Walked code p openings places → openings ≡ outer ++ o ∷ [] → o < p
 opens_before code p o openings outer places h e =
     let top : opened code p ≡ o ∷ reverse outer = innermost (opened code p) outer o (sym h.outermost_first ∙ e) in
     (subst (Falling p) top (falling code p)).0
 
--- the innermost ends
+-- the innermost loop ends
 module _ (code : List Instr) (p : ℕ) (openings : List ℕ) (places : List Place) (h : Walked code p openings places) (at : kind_at code p ≡ Some Closes) where
   pub walked_out : (o : ℕ) (outer : List ℕ) (more left : List Place) → Placed code (p + 1) p more → openings ≡ outer ++ o ∷ [] → left ≡ marked more o p → Walked code (p + 1) outer left
   walked_out o outer more left placed e marks =
@@ -93,7 +93,7 @@ module _ (code : List Instr) (p : ℕ) (openings : List ℕ) (places : List Plac
       let none : length (opened code p) ≡ 0 = let empty = ap length e.0 in omega arith in
       subst (IsFirstFault code) (sym e.1) (first_alone code p h.clear at none)
 
--- neither
+-- an instruction other than an end closes no loop
 no_end : (i : Instr) → i ≢ End → kind i ≢ Closes
 no_end End not_end = absurd (not_end refl)
 no_end i not_end = λ e. cc
@@ -118,7 +118,7 @@ walked_on code p openings places more h placed not_open not_end =
     by (Some Acts) e = refl
     by None e = refl
 
--- at the end
+-- at the end of the code
 pub walked_through : (code : List Instr) (p : ℕ) (openings : List ℕ) (places : List Place) → p ≡ length code → slice_get openings 0 ≡ None → Walked code p openings places → IsNest code places
 walked_through code p (o ∷ openings) places e empty h = cc
 walked_through code p [] places e empty h =
@@ -136,7 +136,7 @@ left_open code p o (q ∷ rest) places e h first =
     ∙ ap (λ n. reverse rest ++ n ∷ []) same in
     first_unclosed code o (reverse rest) (subst (Clear code) e h.clear) (subst (λ n. opened code n ≡ reverse rest ++ o ∷ []) e outermost)
 
--- where loops nest, only memory can be missing
+-- a nested code has no fault but lack of memory
 pub only_memory : (code : List Instr) (f : NestFault) → (f ≢ Memory → IsFirstFault code f) → IsNested code → f ≡ Memory
 only_memory code Memory first nested = refl
 only_memory code (LoopOpen p) first nested = let h = first (λ e. cc) in absurd (nothing_found code nested h.finding h.arises)

@@ -1,4 +1,4 @@
--- Where nothing is found before a position.
+-- Codes without faults before a position.
 use Rattle.std.proofs.Common.{◌≡◌, ◌≢◌, ◌⊎◌, inl, inr, ℕ, zero, suc, ◌+◌, ◌-◌, ◌<◌, ◌≤◌, List, [], ◌∷◌, ◌++◌, length, Option, Some, None, refl, sym, ◌∙◌, ap, subst, arith}
 use Rattle.std.specs.Prelude.{option_map}
 use Rattle.std.proofs.lemmas.Bool.{cases_lt}
@@ -12,11 +12,11 @@ use Rattle.tl_budget.specs.Nested.{IsNested}
 use Rattle.tl_budget.proofs.OpenLoops.{next, opened, open_count, open_or_closed, OpenOrClosed, closes_innermost, In, Falling, falling, opens_there, unclosed}
 use Rattle.tl_budget.proofs.AroundLemmas.{has, depth_is}
 
--- nothing is found before p, but for loops without an end
+-- there are no faults before p, apart from loops without an end
 abbrev pub Clear : List Instr → ℕ → Type 0
 Clear code p = (f : Finding) → pass f ≡ 0 → position f < p → Arises code f → ⊥
 
--- nor at p
+-- there are no such faults at p either
 abbrev pub ClearAt : List Instr → ℕ → Type 0
 ClearAt code p = (f : Finding) → pass f ≡ 0 → position f ≡ p → Arises code f → ⊥
 
@@ -51,7 +51,7 @@ clear_else code p not_open not_end (Zero q) e here a = not_open 0 (kind_here cod
 clear_else code p not_open not_end (Deep q) e here a = not_open a.0 (kind_here code p q (Opens a.0) here a.1)
 clear_else code p not_open not_end (Unclosed q) e here a = absurd (omega arith)
 
--- four at most are open
+-- at most four loops are open
 pub few : (code : List Instr) (p : ℕ) → Clear code p → length (opened code p) ≤ 4
 few code zero clear = omega arith
 few code (suc p) clear = by (kind_at code p) refl (opened code p) refl (few code p (λ f e lt a. clear f e (omega arith) a))
@@ -71,7 +71,7 @@ few code (suc p) clear = by (kind_at code p) refl (opened code p) refl (few code
     by (Some Acts) at s is le = le
     by None at s is le = le
 
--- past the end nothing opens
+-- no loop opens after the end of the code
 past : (code : List Instr) (n : ℕ) → opened code (n + length code) ≡ opened code (length code)
 past code zero = let e : 0 + length code ≡ length code = omega arith in ap (opened code) e
 past code (suc n) =
@@ -82,7 +82,7 @@ past code (suc n) =
 pub inside : (code : List Instr) (p : ℕ) (k : Kind) → kind_at code p ≡ Some k → p < length code
 inside code p k at = let i = has code p k at in slice_get_within code p i.0 i.1
 
--- where nothing is found and no loop is open at the end, loops nest
+-- a code without faults, in which no loop is open at its end, is nested
 module _ (code : List Instr) (clear : Clear code (length code)) (none : opened code (length code) ≡ []) where
   each_opens : (p w : ℕ) → kind_at code p ≡ Some (Opens w) → (l : Loop) × (loop_at code p ≡ Some l) × (0 < w)
   each_opens p zero at = absurd (clear (Zero p) refl (inside code p (Opens 0) at) at)
@@ -118,7 +118,7 @@ module _ (code : List Instr) (clear : Clear code (length code)) (none : opened c
       let m : Matched code = record { opens = each_opens; closes = each_closes } in
       record { matched = m; shallow = λ p. let d = depth_is code m p in let le = few_open p in omega arith }
 
--- A fault at the first position that has one, and of those there the first, is the first.
+-- The first fault at the first position that has one is the code's first fault.
 first_at : (code : List Instr) (p : ℕ) (f : NestFault) (found : Finding) → Clear code p → position found ≡ p → pass found ≡ 0 → Arises code found → ((g : Finding) → pass g ≡ 0 → position g ≡ p → rank g < rank found → Arises code g → ⊥) → f ≡ fault_of found → IsFirstFault code f
 first_at code p f found clear here early arises alone is =
     record { finding = found; arises = arises; first = λ g a before. by g a before; fault = is }
@@ -153,7 +153,7 @@ pub first_alone : (code : List Instr) (p : ℕ) → Clear code p → kind_at cod
 first_alone code p clear at none =
     first_at code p (EndAlone p) (Alone p) clear refl refl (at, open_count code p ∙ none) (λ g early here lt a. absurd (omega arith)) refl
 
--- the outermost of the loops that are still open at the end is the first without one
+-- the last element of a falling list is the lowest one
 least_last : (p o : ℕ) (s : List ℕ) → Falling p (s ++ o ∷ []) → (o < p) × ((q : ℕ) → In q (s ++ o ∷ []) → o ≤ q)
 least_last p o [] h = (h.0, λ q i. by q i)
   where
@@ -179,7 +179,7 @@ found_inside code (Zero p) a = inside code p (Opens 0) a
 found_inside code (Deep p) a = inside code p (Opens a.0) a.1
 found_inside code (Unclosed p) a = inside code p (Opens a.0) a.1
 
--- Where only loops without an end are found, the first of these is the first finding.
+-- If all faults are loops without an end, the first of these is the code's first fault.
 pub first_unclosed : (code : List Instr) (o : ℕ) (s : List ℕ) → Clear code (length code) → opened code (length code) ≡ s ++ o ∷ [] → IsFirstFault code (LoopOpen o)
 first_unclosed code o s clear is =
     record { finding = Unclosed o; arises = (opens.0, opens.1, unclosed code (length code) o (omega arith) there); first = λ g a before. by g a before; fault = refl }

@@ -7,7 +7,7 @@ use Rattle.tl_instr.specs.declared.instr.Instr.{Instr}
 use Rattle.tl_budget.specs.Loops.{Kind, Opens, Closes, Returns, Acts, kind, kind_at, closing, closing_by, Loop, loop_at, loop_by}
 use Rattle.tl_budget.specs.Findings.{open_after, open_behind, open_at}
 
--- behind p, where these openings are those of the open loops at p, the innermost first
+-- the openings of the loops that are open after p, given those at p, the innermost first
 abbrev pub next : Option Kind → ℕ → List ℕ → List ℕ
 next (Some (Opens w)) p s = p ∷ s
 next (Some Closes) p s = drop 1 s
@@ -15,7 +15,7 @@ next (Some Returns) p s = s
 next (Some Acts) p s = s
 next None p s = s
 
--- where the loops open that are open at p, the innermost first
+-- the openings of the loops that are open at p, the innermost first
 abbrev pub opened : List Instr → ℕ → List ℕ
 opened code zero = []
 opened code (suc p) = next (kind_at code p) p (opened code p)
@@ -23,7 +23,7 @@ opened code (suc p) = next (kind_at code p) p (opened code p)
 pub opened_next : (code : List Instr) (p : ℕ) → opened code (p + 1) ≡ next (kind_at code p) p (opened code p)
 opened_next code p = let e : p + 1 ≡ suc p = omega arith in ap (opened code) e
 
--- there are as many as are open
+-- the number of open loops after an instruction
 abbrev count_next : Option Kind → ℕ → ℕ
 count_next (Some k) d = open_after k d
 count_next None d = d
@@ -49,7 +49,7 @@ open_count code (suc p) =
     ∙ ap (count_next (kind_at code p)) (open_count code p)
     ∙ sym (length-next (kind_at code p) p (opened code p))
 
--- from the inside out they stand further ahead
+-- the openings are below p, each lower than the one before it
 abbrev pub Falling : ℕ → List ℕ → Type 0
 Falling p [] = Unit {0}
 Falling p (o ∷ s) = (o < p) × Falling o s
@@ -70,7 +70,7 @@ falling code (suc p) = by (kind_at code p) (opened code p) (falling code p)
     by (Some Acts) s h = falling_le p (suc p) s (omega arith) h
     by None s h = falling_le p (suc p) s (omega arith) h
 
--- the end of a loop, at the position that it was looked for from and further on
+-- searching a loop's end from p, by the instruction at p
 closing_at : (code : List Instr) (p : ℕ) (k : Kind) → kind_at code p ≡ Some k → (d : ℕ) → closing (drop p code) d ≡ closing_by k (closing (drop (suc p) code)) d
 closing_at [] p k e d = cc
 closing_at (i ∷ is) zero k e d = let same : kind i ≡ k = cc in ap (λ c. closing_by c (closing is) d) same
@@ -82,7 +82,7 @@ closing_past [] (suc p) e d = refl
 closing_past (i ∷ is) zero e d = cc
 closing_past (i ∷ is) (suc p) e d = closing_past is p e d
 
--- The loop that opens at o is open at p, with d others in it: what closes it is what closes this one.
+-- The loop that opens at o is open at p, with d other open loops inside it: the same end closes it from either position.
 Stands : List Instr → ℕ → ℕ → ℕ → Type 0
 Stands code p d o = (w n : ℕ) × (kind_at code o ≡ Some (Opens w)) × (o + 1 + n ≡ p) × (closing (drop (o + 1) code) 0 ≡ option_map (λ k. n + k) (closing (drop p code) d))
 
@@ -104,7 +104,7 @@ stands_next code p d e o c h =
     let there : o + 1 + suc h.1 ≡ suc p = let x = h.3 in omega arith in
     (h.0, suc h.1, h.2, there, h.4 ∙ ap (option_map (λ k. h.1 + k)) c ∙ shift h.1 (closing (drop (suc p) code) e))
 
--- one instruction on, where as many more or fewer are in each of them
+-- the same one instruction further, where the number of loops inside each changes in the same way
 all_next : (code : List Instr) (p : ℕ) (Becomes : ℕ → ℕ → Type 0) → ((d e : ℕ) → Becomes d e → Becomes (suc d) (suc e)) → ((d e : ℕ) → Becomes d e → closing (drop p code) d ≡ option_map suc (closing (drop (suc p) code) e)) → (s : List ℕ) (d e : ℕ) → Becomes d e → AllStand code p d s → AllStand code (suc p) e s
 unfolding AllStand
 all_next code p Becomes up c [] d e b h = tt
@@ -142,7 +142,7 @@ stand code (suc p) = by (kind_at code p) refl (opened code p) (stand code p)
 abbrev pub ClosesAt : List Instr → ℕ → ℕ → Type 0
 ClosesAt code o p = (l : Loop) × (loop_at code o ≡ Some l) × (l.close ≡ p)
 
--- an end closes the innermost loop that is open there
+-- an end closes the innermost open loop
 pub closes_innermost : (code : List Instr) (p o : ℕ) (s : List ℕ) → kind_at code p ≡ Some Closes → opened code p ≡ o ∷ s → ClosesAt code o p
 unfolding Stands AllStand loop_at
 closes_innermost code p o s e is =
@@ -153,7 +153,7 @@ closes_innermost code p o s e is =
     let there : m.close ≡ p = let x = h.3 in omega arith in
     (m, at, there)
 
--- it is one of these
+-- o is an element of the list
 abbrev pub In : ℕ → List ℕ → Type 0
 In o [] = ⊥
 In o (q ∷ s) = (o ≡ q) ⊎ In o s
@@ -164,11 +164,11 @@ standing_opens code p d o [] h i = absurd i
 standing_opens code p d o (q ∷ s) h (inl e) = (h.0.0, ap (kind_at code) e ∙ h.0.2)
 standing_opens code p d o (q ∷ s) h (inr i) = standing_opens code p (suc d) o s h.1 i
 
--- each of them opens
+-- each open loop has an opening instruction
 pub opens_there : (code : List Instr) (p o : ℕ) → In o (opened code p) → (w : ℕ) × (kind_at code o ≡ Some (Opens w))
 opens_there code p o i = standing_opens code p 0 o (opened code p) (stand code p) i
 
--- a loop that opens before p is open there, or closes before
+-- a loop that opens before p is open at p, or closes before p
 abbrev pub OpenOrClosed : List Instr → ℕ → ℕ → Type 0
 OpenOrClosed code p o = In o (opened code p) ⊎ ((l : Loop) × (loop_at code o ≡ Some l) × (l.close < p))
 
@@ -198,7 +198,7 @@ open_or_closed code (suc p) o w lt at = by (cases_lt o p) (λ below. open_or_clo
         let here : kind_at code p ≡ Some (Opens w) = ap (kind_at code) (sym same) ∙ at in
         inl (subst (λ k. In o (next k p (opened code p))) (sym here) (inl same))
 
--- past the end a loop that is still open has no end
+-- a loop that is open after the end of the code has no end
 never_closed : (code : List Instr) (p d : ℕ) → length code ≤ p → (o : ℕ) (s : List ℕ) → AllStand code p d s → In o s → loop_at code o ≡ None
 unfolding Stands AllStand loop_at
 never_closed code p d le o [] h i = absurd i

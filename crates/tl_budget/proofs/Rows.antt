@@ -18,7 +18,7 @@ walk_loop : loop_at walk 1 ≡ Some (turning 1 5 12)
 unfolding loop_at
 walk_loop = refl
 
--- the opening isn't in its own body, and the end is
+-- a loop's opening isn't in its body, but its end is
 walk_around_rep : around walk 1 ≡ []
 unfolding loop_at
 walk_around_rep = refl
@@ -51,7 +51,7 @@ walk_emits = refl
 abbrev twofold : ℕ → ℕ → List Instr
 twofold a b = Repeat a ∷ Repeat b ∷ Set 0 (pos 0) ∷ End ∷ End ∷ Return ∷ []
 
--- the innermost loop first
+-- the innermost loop comes first
 inner_around : around (twofold 2 3) 2 ≡ turning 1 3 3 ∷ turning 0 4 2 ∷ []
 unfolding loop_at
 inner_around = refl
@@ -68,7 +68,7 @@ outer_end_around : around (twofold 2 3) 4 ≡ turning 0 4 2 ∷ []
 unfolding loop_at
 outer_end_around = refl
 
--- counts multiply
+-- the counts of nested loops are multiplied
 inner_weight : weight (twofold 2 3) 2 ≡ 6
 unfolding loop_at
 inner_weight = refl
@@ -86,12 +86,12 @@ twofold_more_steps : budget (twofold 5 7) ≡ 82
 unfolding loop_at
 twofold_more_steps = refl
 
--- side by side they don't
+-- the counts of loops one after another are not multiplied
 beside : budget (Repeat 2 ∷ Set 0 (pos 0) ∷ End ∷ Repeat 3 ∷ Set 0 (pos 0) ∷ End ∷ Return ∷ []) ≡ 13
 unfolding loop_at
 beside = refl
 
--- a loop without an end is no loop, and an end without one closes none
+-- a loop without an end is no loop, and an end without a loop closes none
 endless : loop_at (Repeat 2 ∷ Set 0 (pos 0) ∷ []) 0 ≡ None
 unfolding loop_at
 endless = refl
@@ -114,6 +114,6 @@ alone = refl
 alone_closes : kind_at (End ∷ Return ∷ []) 0 ≡ Some Closes
 alone_closes = refl
 
--- so many are open, whether they have an end or not
+-- the number of open loops, whether they have an end or not
 open_in_two : open_at (twofold 2 3) 2 ≡ 2
 open_in_two = refl

@@ -1,4 +1,4 @@
--- What sections of a code cost, one against the other.
+-- Comparing the costs of sections of a code.
 use Rattle.std.proofs.Common.{◌≡◌, ℕ, zero, suc, ◌+◌, ◌-◌, ◌*◌, ◌<◌, ◌≤◌, List, [], ◌∷◌, ◌++◌, length, Option, Some, None, Bool, true, false, refl, sym, ap, ◌∙◌, subst, arith}
 use Rattle.std.specs.Prelude.{slice_get, option_map, nat_le, drop, cond}
 use Rattle.std.proofs.Math.Nat.{mul-le-mul_left, mul-le-mul_right, one-le-mul, mul-one, mul_assoc, mul_comm}
@@ -14,7 +14,7 @@ leb-le a b h = grind (arith, nat_tests)
 leb-lt : (a b : ℕ) → nat_le a b ≡ false → b < a
 leb-lt a b h = grind (arith, nat_tests)
 
--- each loop turns at least once
+-- each loop has a count of at least 1
 abbrev pub Turns : List Instr → Type 0
 Turns code = (o : ℕ) (l : Loop) → loop_at code o ≡ Some l → 0 < l.count
 
@@ -80,7 +80,7 @@ module _ (code : List Instr) where
   -- ---- sums
 
   module _ (test : Instr → Bool) where
-    -- one where the instruction passes
+    -- 1 if the instruction passes the test, otherwise 0
     abbrev pub one_at : ℕ → ℕ
     one_at p = cond (passes test (slice_get code p)) 1 0
 
@@ -102,7 +102,7 @@ module _ (code : List Instr) where
         let g = ap (cost_from test code o m) e in
         omega arith
 
-    -- from one position further on, each loop that opens between counts no more
+    -- if the loop that opens at o multiplies all these positions by w, so does it their cost
     from_times : (w o n x : ℕ) → o < x → ((y : ℕ) → x ≤ y → y < x + n → factor code o y ≡ w) → cost_from test code o n x ≡ w * cost_from test code (suc o) n x
     from_times w o zero x lt same = omega arith
     from_times w o (suc n) x lt same =
@@ -124,7 +124,7 @@ module _ (code : List Instr) where
         ap (λ n. cost_from test code p n p) e
         ∙ ap (λ w. cond (passes test (slice_get code p)) w 0 + cost_from test code p (q - suc p) (suc p)) (weight_here p)
 
-    -- where no loop opens
+    -- a position where no loop opens
     pub cost_next : (p q : ℕ) → p < q → loop_at code p ≡ None → cost test code p q ≡ one_at p + cost test code (p + 1) q
     cost_next p q lt none =
         let e : suc p ≡ p + 1 = omega arith in
@@ -169,7 +169,7 @@ module _ (code : List Instr) where
               let h = from_later p (q - suc p) (suc p) (omega arith) in
               omega arith
 
-      -- a later start costs no more
+      -- a section that starts later costs no more
       pub cost_later : (p r q : ℕ) → p ≤ r → cost test code r q ≤ cost test code p q
       cost_later p r q le = let e : p + (r - p) ≡ r = omega arith in let h = ap (λ n. cost test code n q) e in let g = go (r - p) in omega arith
         where
@@ -182,7 +182,7 @@ module _ (code : List Instr) where
               let g = go d in
               omega arith
 
-      -- a loop's opening, its turns, and what comes behind it
+      -- the cost of a loop's opening, of its turns, and of what follows it
       pub cost_opens : (p q : ℕ) (l : Loop) → loop_at code p ≡ Some l → p < l.close → l.close < q
           → one_at p + l.count * cost test code (p + 1) (l.close + 1) + cost test code (l.close + 1) q ≤ cost test code p q
       cost_opens p q l e behind lt =
@@ -226,6 +226,6 @@ module _ (code : List Instr) where
         ∙ ap (λ n. cond (test i) (weight_from code 0 p) 0 + n) (rest ∙ ap (cost_from test code 0 (length is)) (sym x))
         ∙ ap (λ o. cond (passes test o) (weight_from code 0 p) 0 + cost_from test code 0 (length is) (suc p)) (sym parts.0)
 
-    -- the weights of the code are what it costs from its start
+    -- the sum of the code's weights is its cost from its start
     pub cost_whole : weights test code ≡ cost test code 0 (length code)
     cost_whole = let e : length code ≡ length code - 0 = omega arith in weights_cost code 0 refl ∙ ap (λ n. cost_from test code 0 n 0) e

@@ -12,7 +12,7 @@ use Rattle.tl_budget.specs.Nested.{IsNested, IsNest, place_at}
 use Rattle.tl_budget.specs.declared.nested.Place.{Place}
 use Rattle.tl_budget.proofs.LoopLemmas.{nests, stays}
 
--- at each depth stands the product of the counts of the loops out there
+-- the entry for each depth is the product of the counts of the loops down to that depth
 abbrev pub Keeps : List ℕ → List Loop → Type 0
 Keeps products [] = get_or products 0 0 ≡ 1
 Keeps products (l ∷ ls) = (get_or products (suc (length ls)) 0 ≡ product (l ∷ ls)) × Keeps products ls
@@ -42,7 +42,7 @@ product_small (a ∷ b ∷ c ∷ []) h le = let x = more_turns a.count _ _ h.0 (
 product_small (a ∷ b ∷ c ∷ d ∷ []) h le = let x = more_turns a.count _ _ h.0 (more_turns b.count _ _ h.1.0 (more_turns c.count _ _ h.1.1.0 (more_turns d.count 1 1 h.1.1.1.0 (omega arith)))) in omega arith
 product_small (a ∷ b ∷ c ∷ d ∷ e ∷ ls) h le = absurd (omega arith)
 
--- A sum is that of the weights before p, where it fits.
+-- The total is the sum of the weights before p, limited to 64 bits.
 pub record Summed (code : List Instr) (test : Instr → Bool) (p total : ℕ) : Type 0 where
   pub before : ℕ
   pub sum : before + weights_from test code (drop p code) p ≡ weights test code
@@ -54,7 +54,7 @@ pub record Around (code : List Instr) (p : ℕ) (products : List ℕ) : Type 0 w
   pub keeps : Keeps products (around code p)
   pub small : Small (around code p)
 
--- At p so many loops are open, and the product there is the weight.
+-- At p this many loops are open, and w is the weight of its instruction.
 pub record Weighs (code : List Instr) (p depth w : ℕ) : Type 0 where
   pub deep : depth ≡ length (around code p)
   pub weight : w ≡ weight code p
@@ -67,7 +67,7 @@ weighs code places p depth products nest lt e h =
     let small = product_small (around code p) h.small (nest.nested.shallow p) in
     record { deep = deep; weight = weigh; small = omega arith }
 
--- where a loop opens fewer than four are open
+-- where a loop opens, fewer than four are open
 pub room_for_one : (code : List Instr) (p w : ℕ) (i : Instr) (d : ℕ) → IsNested code → slice_get code p ≡ Some i → kind i ≡ Opens w → d ≡ length (around code p) → d < 4
 room_for_one code p w i d nested at is de =
     let o = (nests code nested.matched).opens p w i at is in
@@ -95,7 +95,7 @@ one_more code test p total i w new at is e h =
     let t = h.is in
     record { before = h.before + (if test i then w else 0); sum = omega arith; is = omega arith }
 
--- the product of one loop more
+-- the product with one more loop
 pub turned_small : (code : List Instr) (p w : ℕ) (i : Instr) (products : List ℕ) (d : ℕ) → IsNested code → slice_get code p ≡ Some i → kind i ≡ Opens w → w < 65536 → d ≡ length (around code p) → Around code p products
     → get_or products d 0 * w ≤ 18445618199572250625
 turned_small code p w i products d nested at is lt de h =
@@ -109,7 +109,7 @@ turned_small code p w i products d nested at is lt de h =
     let counted : get_or products d 0 * w ≡ l.count * product ls = ap (λ n. n * w) weigh ∙ mul_comm (product ls) w ∙ ap (λ n. n * product ls) (sym o.2) in
     subst (λ n. n ≤ 18445618199572250625) (sym counted) fits
 
--- into a loop
+-- the products after a loop opens
 pub opened : (code : List Instr) (p w : ℕ) (i : Instr) (products : List ℕ) (d v : ℕ) → IsNested code → slice_get code p ≡ Some i → kind i ≡ Opens w → w < 65536 → d ≡ length (around code p) → v ≡ get_or products d 0 * w → Around code p products → Around code (p + 1) (set products (d + 1) v)
 opened code p w i products d v nested at is lt de ve h =
     let o = (nests code nested.matched).opens p w i at is in
@@ -130,7 +130,7 @@ opened code p w i products d v nested at is lt de ve h =
       small = subst Small (sym o.4) (small, h.small);
     }
 
--- no loop opens
+-- the products after an instruction that opens no loop
 pub passed : (code : List Instr) (p : ℕ) (i : Instr) (products : List ℕ) → IsNested code → slice_get code p ≡ Some i → ((w : ℕ) → kind i ≢ Opens w) → Around code p products → Around code (p + 1) products
 passed code p i products nested at other h = by (kind i) refl
   where

@@ -1,6 +1,6 @@
--- Numbers of 64 bits.
+-- Numbers that are limited to 64 bits.
 use Rattle.std.specs.Prelude.{ℕ, min}
 
--- the number, or the greatest of 64 bits where it doesn't fit
+-- the number, or the largest unsigned 64-bit integer if the number is larger
 abbrev pub capped : ℕ → ℕ
 capped n = min n 18446744073709551615

@@ -1,4 +1,4 @@
--- The numbers of a fault, and when the costs are too high.
+-- The faults of loops and of costs, as numbers, and when the costs are above the limits.
 use Rattle.std.specs.Prelude.{ℕ, ◌<◌, ◌≤◌, List, [], ◌∷◌}
 use Rattle.tl_instr.specs.declared.instr.Instr.{Instr}
 use Rattle.tl_budget.specs.declared.fault.NestFault.{NestFault}
@@ -6,7 +6,7 @@ use Rattle.tl_budget.specs.declared.fault.NestFault.TheVariants.{EndAlone, ZeroC
 use Rattle.tl_budget.specs.declared.limits.TheConstants.{MAX_STEPS, MAX_LOCKS, MAX_EMITS}
 use Rattle.tl_budget.specs.Loops.{budget, lock_bound, emit_bound}
 
--- a fault's number, and then its parts
+-- the fault's number, followed by its operands
 abbrev pub numbers_of : NestFault → List ℕ
 numbers_of (LoopOpen p) = 301 ∷ p ∷ []
 numbers_of (EndAlone p) = 302 ∷ p ∷ []
@@ -17,13 +17,13 @@ numbers_of LocksOver = 306 ∷ []
 numbers_of EmitsOver = 307 ∷ []
 numbers_of Memory = 390 ∷ []
 
--- what a procedure may cost
+-- the bounds of a procedure's steps, locks and emitted values are within the limits
 pub record IsWithinLimits (code : List Instr) : Type 0 where
   pub steps : budget code ≤ MAX_STEPS
   pub locks : lock_bound code ≤ MAX_LOCKS
   pub emits : emit_bound code ≤ MAX_EMITS
 
--- the first limit that is broken: of the steps, then of the locks, then of the emitted values
+-- the first limit that is exceeded: steps come first, then locks, then emitted values
 abbrev pub IsOver : List Instr → NestFault → Type 0
 IsOver code StepsOver = MAX_STEPS < budget code
 IsOver code LocksOver = (budget code ≤ MAX_STEPS) × (MAX_LOCKS < lock_bound code)

@@ -1,4 +1,4 @@
--- The parts of a run of the command `drive`, together.
+-- The parts of a run of the command `drive` together.
 use Rattle.std.proofs.Common.{◌≡◌, ℕ, List, [], map, ap, ◌∙◌, subst, Ok}
 use Rattle.serde_json.specs.Data.{Data}
 use Rattle.tl_tree.specs.Trees.{TreeValue}

@@ -29,7 +29,7 @@ use Rattle.tl_commands.specs.Drive.{IsConclusion}
 use Rattle.tl_commands.specs.Run.{answer_data, batch_data}
 use Rattle.tl_commands.specs.Scripted.{lines_text, two_lines_text}
 
--- one more value is put last, behind those that were there
+-- one more value is appended to those that were there
 pub views_after : {A : Type 0} (before : List Data) (f : A → Data) (vs : List Value) (v : Value) (xs : List A) (i : ℕ) (d : A) → i < length xs → map view vs ≡ before ++ map f (take i xs) → view v ≡ f (get_or xs i d)
     → map view (vs ++ v ∷ []) ≡ before ++ map f (take (i + 1) xs)
 views_after before f vs v xs i d inside so_far is =
@@ -83,7 +83,7 @@ conclusion_whole v d (inr unfinished) = ap has_float unfinished.2
 error_whole : (numbers : List ℕ) → has_float (error_data numbers) ≡ false
 error_whole numbers = rw (whole_items natural natural_whole numbers) refl
 
--- a call's number, maybe its epoch's, and its reply
+-- a call's number, its epoch's number unless it is 0, and its reply
 parts_whole : (first : Bool) (c e : ℕ) (reply : Data) → has_float reply ≡ false
     → has_float (object (member (codes "call") (natural c) (if first then member (codes "reply") reply no_members else member (codes "epoch") (natural e) (member (codes "reply") reply no_members)))) ≡ false
 parts_whole true c e reply whole = rw whole refl
@@ -106,7 +106,7 @@ pub lines_written : (a b : Data) (tree : TreeValue) (first lines out : List ℕ)
     → out ≡ first ++ 10 ∷ lines → out ≡ lines_text a b tree
 lines_written a b tree first lines out first_is lines_are same = same ∙ ap₂ (λ x y. x ++ 10 ∷ y) first_is lines_are
 
--- of values that are known, and have no float
+-- the lines of equal values that have no float
 pub lines_of : (a a' b b' : Data) (tree tree' : TreeValue) (out : List ℕ) → a ≡ a' → b ≡ b' → tree ≡ tree' → has_float a' ≡ false → has_float b' ≡ false
     → (has_float a ≡ false → has_float b ≡ false → out ≡ lines_text a b tree) → out ≡ lines_text a' b' tree'
 lines_of a a' b b' tree tree' out a_is b_is tree_is a_whole b_whole told =

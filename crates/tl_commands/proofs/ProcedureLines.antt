@@ -1,4 +1,4 @@
--- The lines of a count, of nodes and of bounds.
+-- The lines with a count, with the number of nodes, and with bounds.
 use Rattle.std.proofs.Common.{◌≡◌, ℕ, pos, List, [], ◌∷◌, ◌++◌, false, codes, decimal, refl, sym, ap, ◌∙◌, append_assoc}
 use Rattle.serde_json.specs.Data.{Data, object, member, no_members}
 use Rattle.serde_json.specs.Written.{has_float, compact_text}

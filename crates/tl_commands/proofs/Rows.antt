@@ -1,4 +1,4 @@
--- What is printed of moves, on examples.
+-- The output for moves, on examples.
 use Rattle.std.proofs.Common.{◌≡◌, [], ◌∷◌, codes, pos, negsuc, refl}
 use Rattle.std.specs.Fmt.{digits}
 use Rattle.serde_json.specs.Written.{compact_text}

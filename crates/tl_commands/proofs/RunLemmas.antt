@@ -1,4 +1,4 @@
--- The parts of a run of the command `run`, together.
+-- The parts of a run of the command `run` together.
 use Rattle.std.proofs.Common.{◌≡◌, ◌≢◌, ◌+◌, ◌<◌, ◌⊎◌, inl, inr, ℕ, List, [], ◌∷◌, ◌++◌, length, get_or, take, map, refl, sym, ap, ◌∙◌, subst, Ok, arith}
 use Rattle.std.specs.Prelude.{Result, Vec}
 use Rattle.std.specs.declared.alloc.Global.{Global}
@@ -114,7 +114,7 @@ answered batches all old new each none gains = record {
   kept = gains.kept ∙ ap (λ dids. dids ++ kept_of batches all) none;
 }
 
--- the sessions that come back are the one that was handed in
+-- the sessions that are returned are the one that was given
 pub one_session : (back all before : List SessionValue) (session : SessionValue) → back ≡ all → all ≡ before ++ session ∷ [] → before ≡ [] → back ≡ session ∷ []
 one_session back all before session same last none = same ∙ last ∙ ap (λ ss. ss ++ session ∷ []) none
 
@@ -148,11 +148,11 @@ either : (limit : ℕ) (t s : List ℕ) (e : CliFault) → IsWrong limit script_
 either limit t s e (inl h) = wrong_file limit t s e h
 either limit t s e (inr h) = left_open h.0 e h.2
 
--- refused memory isn't that a file can't be written
+-- refused memory isn't `Unwritable`
 pub memory_fault : (e : CliFault) → status_of e ≡ 4 → e ≢ Unwritable
 memory_fault e four is = let h : 3 ≡ 4 = ap status_of (sym is) ∙ four in absurd (omega (arith, h))
 
--- nor is any fault of a run
+-- neither is any fault of a run
 pub run_fault : (limit : ℕ) (t s : List ℕ) (e : CliFault) → IsFirstRunFault limit t s e → e ≢ Unwritable
 run_fault limit t s e fault is =
     let other : status_of e ≢ 4 = λ four. memory_fault e four is in

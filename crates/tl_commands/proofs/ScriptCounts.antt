@@ -1,4 +1,4 @@
--- How many calls and batches a script of the command `run` has.
+-- The numbers of calls and batches in a script of the command `run`.
 use Rattle.std.proofs.Common.{◌≡◌, ◌≤◌, ℕ, ℤ, nat_le, ◌&&◌, Bool, true, false, List, [], ◌∷◌, length, get_or, map, codes, Option, Some, None, option_map, option_and_then, if◌then◌else◌, refl, sym, ap, ◌∙◌, subst, arith}
 use Rattle.std.specs.Prelude.{Vec}
 use Rattle.std.specs.Option.{option_or}
@@ -73,7 +73,7 @@ list_few d bs is = option_and_then_some (each_item batch_of) (as_array d) bs is 
 
 -- ---- the script
 
--- What is so of the batches of a script.
+-- What is true of the batches of a script.
 pub record AreFew (s : BatchesValue) : Type 0 where
   pub some : 1 ≤ length s.tasks
   pub few : length s.tasks ≤ 256
@@ -127,7 +127,7 @@ run_few d s is = by (script_of_calls d) refl is
     by (Some v) found same = calls_few d s (found ∙ same)
     by None found same = epochs_few d s same
 
--- the same of a script that was read
+-- the same for a script that was read
 pub record AreBatches (script : Script (Vec Request Global)) : Type 0 where
   pub some : 1 ≤ length script.tasks.items
   pub few : length script.tasks.items ≤ 256
@@ -149,7 +149,7 @@ are_batches d script is =
 
 -- ---- a script of epochs
 
--- where the batches are so many the script has them, else it is none
+-- the script has these batches if there are 1 to 256; otherwise it is no script
 module _ (script : Script (Vec Request Global)) (o : Option BatchesValue) (is : Some (script_view batch_form script) ≡ o) where
   pub epochs_read : 1 ≤ length script.tasks.items → length script.tasks.items ≤ 256 → Some (script_view batch_form script) ≡ option_and_then if_fit o
   epochs_read some few =

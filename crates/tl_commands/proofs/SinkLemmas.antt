@@ -1,4 +1,4 @@
--- What a sink has after pieces that were put there one after another.
+-- What a sink has after pieces were written to it one after another.
 use Rattle.std.proofs.Common.{◌≡◌, ◌≢◌, ◌+◌, ◌<◌, ℕ, zero, suc, nat_lt, List, [], ◌∷◌, ◌++◌, length, get_or, take, map, codes, false, Option, Some, None, refl, sym, ap, ◌∙◌, subst, arith, append_assoc, append-nil}
 use Rattle.std.proofs.lemmas.Bool.{lt-ltb, ne_eqb}
 use Rattle.std.proofs.lemmas.List.Elements.{All-nil, All-cons, All-head, All-tail}
@@ -40,7 +40,7 @@ unfolding serde_json_on_literals
 comma_same zero = refl
 comma_same (suc i) = rw (ne_eqb (suc i) 0 (λ e. absurd (omega (arith, e))), lt-ltb 0 (suc i) (omega arith)) refl
 
--- the list so far, with its bracket
+-- the list so far, with its opening bracket
 abbrev pub list_begun : List EpochValue → List ℕ
 list_begun es = 91 ∷ joined false (map epoch_data es)
 
@@ -75,7 +75,7 @@ clean_of_one [] e one first clean = absurd (omega (arith, one))
 clean_of_one (x ∷ []) e one first clean = All-cons IsCleanEpoch x [] (subst IsCleanEpoch (sym first) clean) (All-nil IsCleanEpoch)
 clean_of_one (x ∷ y ∷ es) e one first clean = absurd (omega (arith, one))
 
--- epochs in line are a chain of trails, where what comes before the first one leads to it
+-- the trails of epochs that follow one another are a clean chain, if the first one continues what precedes it
 clean_after : (n : ℕ) (parents : List ℕ) (opening : Records) (procedures : List Named) (before : Before) (es : List EpochValue)
     → InLine n parents opening procedures es → ((e : EpochValue) → IsNext n parents opening procedures e → TakesOverFrom before (epoch_trail e))
     → AreClean es → CleanAfter before (map epoch_trail es)

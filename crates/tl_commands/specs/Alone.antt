@@ -1,4 +1,4 @@
--- What the command `alone` prints, and when it answers which fault.
+-- The output of the command `alone`, and its faults.
 use Rattle.std.specs.Prelude.{◌≡◌, ◌≢◌, ◌⊎◌, ℕ, ℤ, List, [], ◌∷◌, ◌++◌, length, codes, decimal, Option, Some, None, option_and_then, Ok, Err, IsUtf8}
 use Rattle.std.specs.Fmt.{signed_decimal}
 use Rattle.serde_json.specs.Read.{read}
@@ -20,19 +20,19 @@ use Rattle.tl_machine.specs.Outcomes.{outcome_of}
 use Rattle.tl_commands.specs.declared.fault.CliFault.{CliFault}
 use Rattle.tl_commands.specs.declared.fault.CliFault.TheVariants.{Unreadable, Unwritable, NoPort, NotUtf8, Asm, Tree, Code, Verify, Register, Core, Trail, Audit, Chain, Engine, NotClosed, NotScript, NotArgs, WrongArgs, Memory}
 
--- the first line: the reply, and how many instructions were done
+-- the first line: the reply, and the number of instructions executed
 abbrev pub answer_text : List ℤ → ℕ → List ℕ
 answer_text reply steps = codes "{\"reply\":" ++ list_text signed_decimal reply ++ codes ",\"steps\":" ++ decimal steps ++ codes "}"
 
--- two lines: the answer, and the tree as it is then
+-- two lines: the answer, and the tree after the call
 abbrev pub printed : TreeValue → Outcome → List ℕ
 printed t o = answer_text o.reply (length o.actions) ++ 10 ∷ tree_text (record t { records = o.tree }) ++ 10 ∷ []
 
--- the arguments that a text stands for
+-- the arguments in a text
 abbrev pub args_of_text : List ℕ → Option (List ℤ)
 args_of_text text = option_and_then integers_of (read text)
 
--- The tree, the procedure and the arguments that the inputs stand for.
+-- The tree, the procedure and the arguments that the inputs denote.
 pub record Inputs (limit : ℕ) (tree_bytes code_bytes args_text : List ℕ) : Type 0 where
   pub tree : TreeValue
   pub code : CodeValue
@@ -42,22 +42,22 @@ pub record Inputs (limit : ℕ) (tree_bytes code_bytes args_text : List ℕ) : T
   pub accepted : Acceptable code.instrs
   pub args_are : args_of_text args_text ≡ Some args
 
--- What is printed is what the procedure does alone.
+-- The output is what the procedure does alone.
 pub record Prints (limit : ℕ) (tree_bytes code_bytes args_text out : List ℕ) : Type 0 where
   pub inputs : Inputs limit tree_bytes code_bytes args_text
   pub arity : length inputs.args ≡ inputs.code.arity
   pub same : out ≡ printed inputs.tree (outcome_of (alone inputs.code.instrs inputs.tree.parents inputs.args inputs.tree.records))
 
--- the tree that the bytes of a file stand for
+-- the bytes of a file denote a tree
 pub record IsTreeFile (limit : ℕ) (bytes : List ℕ) : Type 0 where
   pub tree : TreeValue
   pub same : tree_of_text limit bytes ≡ Ok tree
 
--- what is wrong with a file of a tree
+-- the fault of a file that should contain a tree
 abbrev pub IsTreeFault : ℕ → List ℕ → TreeFault → Type 0
 IsTreeFault limit t f = ((IsUtf8 t → ⊥) × (f ≡ tree.NotTree)) ⊎ (tree_of_text limit t ≡ Err f)
 
--- The fault of the first input that has one: the tree, the container, the verifier, the arguments, their number.
+-- The fault of the first input that has one: the tree, the container, the verifier, the arguments, or their number.
 abbrev pub IsFirstAloneFault : ℕ → List ℕ → List ℕ → List ℕ → CliFault → Type 0
 IsFirstAloneFault limit t c a (Tree f) = f ≢ tree.Memory → IsTreeFault limit t f
 IsFirstAloneFault limit t c a (Code f) = f ≢ code.Memory → IsTreeFile limit t × IsFirstCodeFault c f

@@ -1,4 +1,4 @@
--- What the command `audit` prints, and when it answers which fault.
+-- The output of the command `audit`, and its faults.
 use Rattle.std.specs.Prelude.{◌≡◌, ◌≢◌, ◌⊎◌, ℕ, ◌==◌, ◌||◌, Bool, true, false, List, [], ◌∷◌, ◌++◌, map, if◌then◌else◌, IsUtf8}
 use Rattle.serde_json.specs.Written.{compact_text}
 use Rattle.tl_tree_locking.specs.Order.{placed}
@@ -18,20 +18,20 @@ use Rattle.tl_commands.specs.declared.fault.CliFault.TheVariants.{Trail, Audit, 
 use Rattle.tl_commands.specs.Faults.{status_of}
 use Rattle.tl_json.specs.Lists.{order_data, orders_data}
 
--- a bracket comes first, but for white space
+-- the first byte that isn't white space is a bracket
 abbrev pub begins_with_list : List ℕ → Bool
 begins_with_list [] = false
 begins_with_list (b ∷ bs) = if (b == 32) || (b == 9) || (b == 10) || (b == 13) then begins_with_list bs else b == 91
 
--- The trail is clean, and what is printed is the order that its events give.
+-- The trail is clean, and the output is the order that its events determine.
 pub record AuditsTrail (limit : ℕ) (bytes out : List ℕ) : Type 0 where
   pub trail : TrailValue
   pub text : IsTrailText limit bytes trail
   pub clean : Clean trail
   pub same : out ≡ compact_text (order_data (placed trail.parents trail.past)) ++ 10 ∷ []
 
--- The chain is clean, and what is printed are the orders that its trails' events give. All calls, run alone one after another along
--- these orders joined, leave the records in the end, and give their replies.
+-- The chain is clean, and the output is the list of the orders that its trails' events determine. All calls, run alone
+-- one after another in these orders joined, leave the end records and give their replies.
 pub record AuditsChain (limit : ℕ) (bytes out : List ℕ) : Type 0 where
   pub trails : List TrailValue
   pub text : IsChainText limit bytes trails
@@ -39,34 +39,34 @@ pub record AuditsChain (limit : ℕ) (bytes out : List ℕ) : Type 0 where
   pub serial : AreSerial trails (map order_of trails)
   pub same : out ≡ compact_text (orders_data (map order_of trails)) ++ 10 ∷ []
 
--- of a list those of a chain, of any other text those of a trail
+-- the audit of a chain if the text is a list, otherwise of a trail
 abbrev pub AuditsText : ℕ → Bool → List ℕ → List ℕ → Type 0
 AuditsText limit true bytes out = AuditsChain limit bytes out
 AuditsText limit false bytes out = AuditsTrail limit bytes out
 
--- the bytes are UTF-8, and those of a chain where a bracket comes first, else of a trail
+-- the bytes are UTF-8; they are a chain if they begin with a bracket, otherwise a trail
 pub record Audits (limit : ℕ) (bytes out : List ℕ) : Type 0 where
   pub utf8 : IsUtf8 bytes
   pub answer : AuditsText limit (begins_with_list bytes) bytes out
 
--- the first fault of the text, else the first of the trail; or want of memory
+-- the first fault of the text, or otherwise of the trail; or lack of memory
 abbrev pub IsFirstTrailAuditFault : ℕ → List ℕ → CliFault → Type 0
 IsFirstTrailAuditFault limit bytes e = status_of e ≢ 4 →
     ((f : TrailFault) × (e ≡ Trail f) × IsFirstTrailFault limit bytes f)
     ⊎ ((t : TrailValue) × (f : AuditFault) × (e ≡ Audit f) × IsTrailText limit bytes t × IsFirstFault t f)
 
--- the first fault of the text, else the first of the chain; or want of memory
+-- the first fault of the text, or otherwise of the chain; or lack of memory
 abbrev pub IsFirstChainAuditFault : ℕ → List ℕ → CliFault → Type 0
 IsFirstChainAuditFault limit bytes e = status_of e ≢ 4 →
     ((f : TrailFault) × (e ≡ Trail f) × chains.IsFirstChainFault limit bytes f)
     ⊎ ((ts : List TrailValue) × (f : ChainFault) × (e ≡ Chain f) × IsChainText limit bytes ts × IsFirstChainFault ts f)
 
--- of a list what is wrong with a chain, of any other text what is wrong with a trail
+-- the fault of a chain if the text is a list, otherwise of a trail
 abbrev pub IsFirstTextFault : ℕ → Bool → List ℕ → CliFault → Type 0
 IsFirstTextFault limit true bytes e = IsFirstChainAuditFault limit bytes e
 IsFirstTextFault limit false bytes e = IsFirstTrailAuditFault limit bytes e
 
--- 701 where the bytes are no UTF-8
+-- NotTrail if the bytes aren't UTF-8, otherwise the first fault of the text
 abbrev pub IsFirstAuditFault : ℕ → List ℕ → CliFault → Type 0
 IsFirstAuditFault limit bytes e =
     ((e ≡ Trail NotTrail) × (IsUtf8 bytes → ⊥))

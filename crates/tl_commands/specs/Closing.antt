@@ -1,4 +1,4 @@
--- What is printed of calls that are all done.
+-- The output about calls that are all done.
 use Rattle.std.specs.Prelude.{◌≡◌, ℕ, Bool, false, List, [], ◌∷◌, map}
 use Rattle.serde_json.specs.Data.{Data}
 use Rattle.tl_tree.specs.Trees.{TreeValue}
@@ -8,8 +8,8 @@ use Rattle.tl_table.specs.Tables.{IsChain}
 use Rattle.tl_table.specs.Chains.{epoch_order, IsSerial}
 use Rattle.tl_commands.specs.Scripted.{tree_now, two_lines_text}
 
--- The epochs follow on one another, and are at rest. All their calls, run alone one after another along these orders joined, leave the
--- records that there are in the end, and give the replies that they gave.
+-- The epochs follow one another and are at rest. All their calls, run alone one after another in these orders joined,
+-- leave the last epoch's records and give the replies that they gave.
 pub record AreOrders (es : List EpochValue) (orders : List (List ℕ)) : Type 0 where
   pub chain : IsChain es
   pub same : orders ≡ map epoch_order es
@@ -20,13 +20,13 @@ abbrev pub orders_form : Bool → List (List ℕ) → Data
 orders_form false (order ∷ orders) = order_data order
 orders_form has_epochs orders = orders_data orders
 
--- the tree in the end
+-- the tree that the last epoch leaves
 abbrev pub tree_after : List EpochValue → TreeValue
 tree_after [] = record { parents = []; records = [] }
 tree_after (e ∷ []) = tree_now (seen e)
 tree_after (e ∷ f ∷ es) = tree_after (f ∷ es)
 
--- two lines: the orders, and the tree in the end
+-- two lines: the orders, and the final tree
 pub record IsClosing (has_epochs : Bool) (es : List EpochValue) (out : List ℕ) : Type 0 where
   pub orders : List (List ℕ)
   pub ordered : AreOrders es orders

@@ -1,4 +1,4 @@
--- What the command `drive` prints, and when it answers which fault.
+-- The output of the command `drive`, and its faults.
 use Rattle.std.specs.Prelude.{◌≡◌, ◌≢◌, ◌⊎◌, ℕ, List, [], ◌∷◌, ◌++◌, map, Ok}
 use Rattle.serde_json.specs.Data.{Data}
 use Rattle.tl_tree.specs.Trees.{TreeValue}
@@ -20,13 +20,13 @@ use Rattle.tl_commands.specs.Script.{MoveValue, ScriptValue, IsScript, move_view
 use Rattle.tl_commands.specs.Scripted.{core_with, tree_now, lines_text, IsWrong}
 use Rattle.tl_commands.specs.Trace.{trace_data, unfinished_data}
 
--- the order, once every call is done, else the least unfinished call
+-- the order if every call is done, otherwise the lowest unfinished call
 abbrev pub IsConclusion : CoreValue → Data → Type 0
 IsConclusion v d =
     (AllDone v.past × (d ≡ order_data (placed v.parents v.past)))
     ⊎ ((c : ℕ) × IsLeastUnfinished v.past c × (d ≡ unfinished_data c))
 
--- What comes of the script's moves, on that tree and with the script's procedures: the entries, and the core then.
+-- The result of the script's moves on this tree, with the script's procedures: the entries, and the core after them.
 pub record IsDriven (limit : ℕ) (tree_bytes script_bytes : List ℕ) (entries : List Entry) (v : CoreValue) : Type 0 where
   pub tree : TreeValue
   pub script : ScriptValue MoveValue
@@ -39,7 +39,7 @@ pub record IsDriven (limit : ℕ) (tree_bytes script_bytes : List ℕ) (entries 
   pub traced : Traced (core_with tree procedures) moves entries
   pub after : v ≡ after_moves (core_with tree procedures) moves entries
 
--- What is printed is what comes of them; the core is this one then.
+-- The output is this result; v is the core after the moves.
 pub record Prints (limit : ℕ) (tree_bytes script_bytes out : List ℕ) (v : CoreValue) : Type 0 where
   pub entries : List Entry
   pub conclusion : Data
@@ -50,10 +50,10 @@ pub record Prints (limit : ℕ) (tree_bytes script_bytes out : List ℕ) (v : Co
 abbrev pub Drives : ℕ → List ℕ → List ℕ → List ℕ → Type 0
 Drives limit t s out = (v : CoreValue) × Prints limit t s out v
 
--- The same, and the file has the trail of that core, and a line feed.
+-- The same, and the file has the trail of this core and a line feed.
 abbrev pub DrivesToTrail : ℕ → List ℕ → List ℕ → List ℕ → List ℕ → Type 0
 DrivesToTrail limit t s out file = (v : CoreValue) × Prints limit t s out v × (file ≡ trail_text (trail_value v) ++ 10 ∷ [])
 
--- the first fault, or want of memory
+-- the first fault, or lack of memory
 abbrev pub IsFirstDriveFault : ℕ → List ℕ → List ℕ → CliFault → Type 0
 IsFirstDriveFault limit t s e = status_of e ≢ 4 → IsWrong limit script_of_moves t s e

@@ -43,7 +43,7 @@ numbers_of NotArgs = 732 ∷ []
 numbers_of WrongArgs = 501 ∷ []
 numbers_of Memory = 990 ∷ []
 
--- 3 for a device, 4 for want of memory, 1 for all else
+-- 3 for a fault of a device, 4 for lack of memory, 1 for all other faults
 abbrev pub status_of : CliFault → ℕ
 status_of Unreadable = 3
 status_of Unwritable = 3

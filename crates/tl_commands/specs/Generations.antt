@@ -1,4 +1,4 @@
--- What the command `serve` does where engines take over from one another.
+-- What the command `serve` does when one engine follows another.
 use Rattle.std.specs.Prelude.{◌≡◌, ◌≢◌, ℕ, List, [], Ok}
 use Rattle.tl_tree.specs.Trees.{TreeValue}
 use Rattle.tl_tree.specs.Reading.{tree_of_text}
@@ -8,17 +8,17 @@ use Rattle.tl_commands.specs.declared.fault.CliFault.{CliFault}
 use Rattle.tl_commands.specs.declared.fault.CliFault.TheVariants.{NotClosed}
 use Rattle.tl_commands.specs.Faults.{status_of}
 
--- what the first engine begins with: a tree, and no procedure
+-- the legacy of the first engine: a tree, and no procedures
 abbrev pub first_legacy : TreeValue → LegacyValue
 first_legacy t = record { parents = t.parents; records = t.records; procedures = [] }
 
--- the file has a tree, and nothing came after it yet
+-- the file has a tree, and no engine has run on it yet
 pub record BeginsWithFile (limit : ℕ) (file : List ℕ) (s : SuccessionValue) : Type 0 where
   pub tree : TreeValue
   pub text : tree_of_text limit file ≡ Ok tree
   pub first : s.first ≡ first_legacy tree
   pub last : s.last ≡ first_legacy tree
 
--- the epochs didn't begin with what was left, or want of memory
+-- the epochs didn't start from the last legacy; or lack of memory
 abbrev pub IsTurnFault : SuccessionValue → List EpochValue → CliFault → Type 0
 IsTurnFault s es e = status_of e ≢ 4 → (e ≡ NotClosed) × ¬ TakesUpFirst s.last es

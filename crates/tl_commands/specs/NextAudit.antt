@@ -1,4 +1,4 @@
--- What the audit of one file more prints, where several files belong together, and when it answers which fault.
+-- The output of the audit of one more file, where several files belong together, and its faults.
 use Rattle.std.specs.Prelude.{◌≡◌, ◌≢◌, ◌⊎◌, ℕ, Bool, true, false, List, [], ◌∷◌, ◌++◌, map, Option, IsUtf8}
 use Rattle.serde_json.specs.Written.{compact_text}
 use Rattle.tl_json.specs.Lists.{orders_data}
@@ -15,25 +15,25 @@ use Rattle.tl_commands.specs.declared.fault.CliFault.TheVariants.{Trail, Audit, 
 use Rattle.tl_commands.specs.Audit.{begins_with_list}
 use Rattle.tl_commands.specs.Faults.{status_of}
 
--- the trails of a text: of a list those of a chain, of any other text the only one
+-- the trails of a text: those of a chain if the text is a list, otherwise the only one
 abbrev pub AreTrailsOf : ℕ → Bool → List ℕ → List TrailValue → Type 0
 AreTrailsOf limit true bytes ts = IsChainText limit bytes ts
 AreTrailsOf limit false bytes ts = (t : TrailValue) × (ts ≡ t ∷ []) × IsTrailText limit bytes t
 
--- what is wrong with such a text first
+-- the first fault of such a text
 abbrev pub IsTextFault : ℕ → Bool → List ℕ → TrailFault → Type 0
 IsTextFault limit true bytes f = IsFirstChainFault limit bytes f
 IsTextFault limit false bytes f = IsFirstTrailFault limit bytes f
 
--- of a list a fault is told with the number of its trail, of any other text as that of its only trail
+-- in a list, a fault has the number of its trail; in any other text it is the fault of the only trail
 abbrev pub fault_of_file : Bool → ChainFault → CliFault
 fault_of_file false (InEpoch n f) = Audit f
 fault_of_file is_list f = Chain f
 
--- The trails of the file take over from the trail before, if there is one, with nodes that may have been appended to the tree, and are
--- clean. What is printed are the orders that their events
--- give; all calls of the file, run alone one after another along them, leave the records in the end, and give their replies. The next file
--- has to take over from the last trail.
+-- The trails of the file are clean and continue the trail before, if there is one; nodes may have been appended to the
+-- tree in between. The output is the list of the orders that their events determine. All calls of the file, run alone one
+-- after another in these orders, leave the end records and give their replies. The next file must continue the last
+-- trail.
 pub record AuditsNext (limit : ℕ) (before : Option TrailValue) (bytes out : List ℕ) (last : TrailValue) : Type 0 where
   pub utf8 : IsUtf8 bytes
   pub trails : List TrailValue
@@ -43,16 +43,16 @@ pub record AuditsNext (limit : ℕ) (before : Option TrailValue) (bytes out : Li
   pub ends : last_after (after_file before) trails ≡ AfterTrail last
   pub same : out ≡ compact_text (orders_data (map order_of trails)) ++ 10 ∷ []
 
--- the text's first fault
+-- the first fault of the text
 abbrev pub IsUnread : ℕ → List ℕ → CliFault → Type 0
 IsUnread limit bytes e = (f : TrailFault) × (e ≡ Trail f) × IsTextFault limit (begins_with_list bytes) bytes f
 
--- the first fault of the text's trails, of which the first doesn't take over, or is wrong, or else a later one
+-- the first fault of the text's trails: one doesn't continue the trail before it, or has a fault of its own
 abbrev pub IsUnclean : ℕ → Option TrailValue → List ℕ → CliFault → Type 0
 IsUnclean limit before bytes e =
     (ts : List TrailValue) × (f : ChainFault) × (e ≡ fault_of_file (begins_with_list bytes) f) × AreTrailsOf limit (begins_with_list bytes) bytes ts × IsFirstAfter 0 (after_file before) ts f
 
--- 701 where the bytes are no UTF-8, else the first fault of the text, else of its trails; or want of memory
+-- NotTrail if the bytes aren't UTF-8, otherwise the first fault of the text or of its trails; or lack of memory
 abbrev pub IsFirstNextFault : ℕ → Option TrailValue → List ℕ → CliFault → Type 0
 IsFirstNextFault limit before bytes e = status_of e ≢ 4 →
     ((e ≡ Trail NotTrail) × (IsUtf8 bytes → ⊥)) ⊎ (IsUtf8 bytes × (IsUnread limit bytes e ⊎ IsUnclean limit before bytes e))

@@ -1,4 +1,4 @@
--- What the commands on one procedure print, `asm`, `dis`, `migrate` and `verify`, and when they answer which fault.
+-- The output of the commands on one procedure, `asm`, `dis`, `migrate` and `verify`, and their faults.
 use Rattle.std.specs.Prelude.{◌≡◌, ◌≢◌, ◌⊎◌, ℕ, Bool, nat_eq, List, ◌++◌, length, codes, decimal, IsUtf8}
 use Rattle.std.specs.List.{starts_with}
 use Rattle.tl_instr.specs.declared.version.Version.TheVariants.{One}
@@ -28,13 +28,13 @@ abbrev pub bounds_text : ℕ → ℕ → ℕ → List ℕ
 bounds_text emits locks steps =
     codes "{\"bounds\":{\"emits\":" ++ decimal emits ++ codes ",\"locks\":" ++ decimal locks ++ codes ",\"steps\":" ++ decimal steps ++ codes "}}\n"
 
--- a container begins so, and no assembler text does
+-- whether the file begins like a container, as no assembly text does
 abbrev pub is_container : List ℕ → Bool
 is_container file = starts_with nat_eq file (codes "TLP")
 
 -- ---- `asm`
 
--- The text is that of a code. What is printed tells its count, and the file has its container.
+-- The text denotes a code. The output has its number of instructions, and the file has its container.
 pub record Assembles (text out file : List ℕ) : Type 0 where
   pub code : CodeValue
   pub utf8 : IsUtf8 text
@@ -42,7 +42,7 @@ pub record Assembles (text out file : List ℕ) : Type 0 where
   pub spelled : Spelled file code
   pub same : out ≡ count_text (length code.instrs)
 
--- the text isn't UTF-8, else its first fault; or want of memory
+-- the text isn't UTF-8, or otherwise its first fault; or lack of memory
 abbrev pub IsFirstAssemblingFault : List ℕ → CliFault → Type 0
 IsFirstAssemblingFault text e = status_of e ≢ 4 →
     ((e ≡ NotUtf8) × (IsUtf8 text → ⊥))
@@ -50,20 +50,20 @@ IsFirstAssemblingFault text e = status_of e ≢ 4 →
 
 -- ---- `dis`
 
--- What is printed is the canonical text of the container's code.
+-- The output is the canonical text of the container's code.
 pub record Lists (container out : List ℕ) : Type 0 where
   pub code : CodeValue
   pub spelled : Spelled container code
   pub same : out ≡ listing code
 
--- the container's first fault, or want of memory
+-- the container's first fault, or lack of memory
 abbrev pub IsFirstContainerFault : List ℕ → CliFault → Type 0
 IsFirstContainerFault container e = status_of e ≢ 4 → (f : CodeFault) × (e ≡ Code f) × IsFirstCodeFault container f
 
 -- ---- `migrate`
 
--- The container's code is of the first version. What is printed tells its count, and the file has the container of the same
--- code in the second.
+-- The container's code is of the first version. The output has its number of instructions, and the file has the container
+-- of the same code in the second version.
 pub record Migrates (container out file : List ℕ) : Type 0 where
   pub code : CodeValue
   pub spelled : Spelled container code
@@ -71,7 +71,7 @@ pub record Migrates (container out file : List ℕ) : Type 0 where
   pub new : Spelled file (migrated code)
   pub same : out ≡ count_text (length code.instrs)
 
--- the container's first fault, else its code isn't of the first version; or want of memory
+-- the container's first fault, or otherwise that its code isn't of the first version; or lack of memory
 abbrev pub IsFirstMigratingFault : List ℕ → CliFault → Type 0
 IsFirstMigratingFault container e = status_of e ≢ 4 →
     ((f : CodeFault) × (e ≡ Code f) × IsFirstCodeFault container f)
@@ -79,14 +79,14 @@ IsFirstMigratingFault container e = status_of e ≢ 4 →
 
 -- ---- `verify`
 
--- The container's code is accepted, and what is printed tells its bounds.
+-- The container's code is accepted, and the output has its bounds.
 pub record Verifies (container out : List ℕ) : Type 0 where
   pub code : CodeValue
   pub spelled : Spelled container code
   pub accepted : Acceptable code.instrs
   pub same : out ≡ bounds_text (emit_bound code.instrs) (lock_bound code.instrs) (budget code.instrs)
 
--- the container's first fault, else the first of its code; or want of memory
+-- the first fault of the container, or otherwise of its code; or lack of memory
 abbrev pub IsFirstVerifyingFault : List ℕ → CliFault → Type 0
 IsFirstVerifyingFault container e = status_of e ≢ 4 →
     ((f : CodeFault) × (e ≡ Code f) × IsFirstCodeFault container f)
@@ -94,7 +94,7 @@ IsFirstVerifyingFault container e = status_of e ≢ 4 →
 
 -- ---- `check`, of a text
 
--- The text is that of a code that is accepted, and what is printed tells its bounds.
+-- The text denotes a code that is accepted, and the output has its bounds.
 pub record VerifiesText (text out : List ℕ) : Type 0 where
   pub code : CodeValue
   pub utf8 : IsUtf8 text
@@ -102,7 +102,7 @@ pub record VerifiesText (text out : List ℕ) : Type 0 where
   pub accepted : Acceptable code.instrs
   pub same : out ≡ bounds_text (emit_bound code.instrs) (lock_bound code.instrs) (budget code.instrs)
 
--- the text isn't UTF-8, else its first fault, else the first of its code; or want of memory
+-- the text isn't UTF-8, or otherwise the first fault of the text or of its code; or lack of memory
 abbrev pub IsFirstCheckingFault : List ℕ → CliFault → Type 0
 IsFirstCheckingFault text e = status_of e ≢ 4 →
     (((e ≡ NotUtf8) × (IsUtf8 text → ⊥)) ⊎ ((f : AsmFault) × (e ≡ Asm f) × IsFirstTextFault text f))

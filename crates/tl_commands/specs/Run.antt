@@ -1,4 +1,4 @@
--- What the command `run` prints, and when it answers which fault.
+-- The output of the command `run`, and its faults.
 use Rattle.std.specs.Prelude.{◌≡◌, ◌≢◌, ◌⊎◌, ◌<◌, ℕ, ◌==◌, Bool, List, [], ◌∷◌, ◌++◌, length, map, slice_get, codes, Result, Ok, Err, Vec, Option, Some, if◌then◌else◌}
 use Rattle.std.specs.List.{All}
 use Rattle.std.specs.declared.alloc.Global.{Global}
@@ -32,7 +32,7 @@ use Rattle.tl_commands.specs.Trace.{error_data}
 
 -- ---- the first lines
 
--- the number of an epoch; the first one's is left out
+-- adds the epoch's number; it is omitted for epoch 0
 abbrev pub with_epoch : ℕ → Members → Members
 with_epoch epoch more = if epoch == 0 then more else member (codes "epoch") (natural epoch) more
 
@@ -45,7 +45,7 @@ answer_data (Err f) = error_data (numbers_of f)
 abbrev pub batch_data : List (Result Receipt Refusal) → Data
 batch_data answers = object (member (codes "batch") (list_data (map answer_data answers)) no_members)
 
--- a line for each batch
+-- one line for each batch
 abbrev pub batch_lines : List (List (Result Receipt Refusal)) → List ℕ
 batch_lines [] = []
 batch_lines (answers ∷ rest) = compact_text (batch_data answers) ++ 10 ∷ batch_lines rest
@@ -58,7 +58,7 @@ batches_of batches = map (λ b. b.items) batches
 abbrev pub answers_of : List (Vec (Result Receipt Refusal) Global) → List (List (Result Receipt Refusal))
 answers_of answers = map (λ a. a.items) answers
 
--- The tree's file has a tree, the script's procedures are taken up, and these are its calls.
+-- The tree's file has a tree, the script's procedures can be registered, and `batches` are its calls.
 pub record IsReady (limit : ℕ) (tree_bytes script_bytes : List ℕ) (batches : List (List Request)) : Type 0 where
   pub tree : IsTreeFile limit tree_bytes
   pub script : BatchesValue
@@ -67,34 +67,33 @@ pub record IsReady (limit : ℕ) (tree_bytes script_bytes : List ℕ) (batches :
   pub taken_up : TakenUp [] script.procedures procedures
   pub batches_are : map (map request_form) batches ≡ script.tasks
 
--- these answer the requests of each batch
+-- the answers belong to the requests of each batch
 abbrev pub AnswersBatches : List (List Request) → List (List (Result Receipt Refusal)) → Type 0
 AnswersBatches [] [] = Unit {0}
 AnswersBatches [] (answers ∷ rest) = ⊥
 AnswersBatches (requests ∷ batches) [] = ⊥
 AnswersBatches (requests ∷ batches) (answers ∷ rest) = AnswersEach requests answers × AnswersBatches batches rest
 
--- an answer that is a receipt names that epoch
+-- an answer that is a receipt is of epoch n
 abbrev pub IsInEpoch : ℕ → Result Receipt Refusal → Type 0
 IsInEpoch n (Ok r) = r.epoch ≡ n
 IsInEpoch n (Err e) = Unit {0}
 
--- each receipt of batch n names epoch n
+-- each receipt of batch n is of epoch n
 abbrev pub AreInEpochs : List (List (Result Receipt Refusal)) → Type 0
 AreInEpochs all = (n : ℕ) (answers : List (Result Receipt Refusal)) → slice_get all n ≡ Some answers → All (IsInEpoch n) answers
 
--- what a session keeps of each batch, joined: what was asked for, and then each receipt
+-- the entries that a session stores for all batches: for each batch its requests and then its receipts
 abbrev pub kept_of : List (List Request) → List (List (Result Receipt Refusal)) → List Did
 kept_of (requests ∷ batches) (answers ∷ rest) = (asked_of requests answers ++ gots_of answers) ++ kept_of batches rest
 kept_of batches answers = []
 
--- The requests were made in the session, batch by batch, and these are the answers.
+-- The session made the requests, batch by batch, and had these answers.
 pub record AreAnswered (batches : List (List Request)) (answers : List (List (Result Receipt Refusal))) (session : SessionValue) : Type 0 where
   pub each : AnswersBatches batches answers
   pub kept : session.kept ≡ kept_of batches answers
 
--- The script's calls were asked for, those of one batch in each epoch, and the epochs of the closed table say the same of them as the
--- session.
+-- The script's calls were requested, one batch in each epoch, and the epochs of the closed table match the session's entries.
 pub record IsRun (limit : ℕ) (tree_bytes script_bytes : List ℕ) (answers : List (List (Result Receipt Refusal))) (es : List EpochValue) : Type 0 where
   pub batches : List (List Request)
   pub session : SessionValue
@@ -105,7 +104,7 @@ pub record IsRun (limit : ℕ) (tree_bytes script_bytes : List ℕ) (answers : L
   pub chain : IsChain es
   pub matches : Matches es session
 
--- What is printed are the answers to each batch, the orders of the epochs' calls, and the tree in the end.
+-- The output consists of the answers to each batch, the orders of the epochs' calls, and the final tree.
 pub record PrintsRun (with_epochs : Bool) (answers : List (List (Result Receipt Refusal))) (es : List EpochValue) (out : List ℕ) : Type 0 where
   pub closing : List ℕ
   pub closes : IsClosing with_epochs es closing
@@ -119,21 +118,21 @@ pub record Prints (limit : ℕ) (tree_bytes script_bytes out : List ℕ) (es : L
 abbrev pub Runs : ℕ → List ℕ → List ℕ → List ℕ → Type 0
 Runs limit t s out = (es : List EpochValue) × Prints limit t s out es
 
--- The same, and the file has the trails of those epochs, with which nothing is wrong.
+-- The same, and the file has the trails of these epochs, which are clean.
 abbrev pub RunsToTrail : ℕ → List ℕ → List ℕ → List ℕ → Option (List ℕ) → Option (List ℕ) → Type 0
 RunsToTrail limit t s out old new = (es : List EpochValue) × Prints limit t s out es × FilesTrails es old new
 
 -- ---- faults
 
--- The table isn't sealed between two batches, of which there are several, or a call isn't in the epoch of its batch.
+-- With several batches, the table wasn't sealed between two of them; or a call wasn't in the epoch of its batch.
 abbrev pub IsBrokenOff : List (List Request) → CliFault → Type 0
 IsBrokenOff batches e = ((1 < length batches) × (r : Refusal) × (e ≡ Engine r) × IsSealRefused r) ⊎ (e ≡ NotClosed)
 
--- The engine has no session left, or it is broken off, or it doesn't close. Of 831 nothing more is said: the table isn't shown.
+-- The engine has no session left, it wasn't sealed, or it doesn't close. NotClosed has no further condition, since the table isn't returned.
 abbrev pub IsLeftOpen : List (List Request) → CliFault → Type 0
 IsLeftOpen batches e = (e ≡ Engine (refusal.Table TooManySessions)) ⊎ IsBrokenOff batches e
 
--- what is wrong first, else why the engine doesn't close; or want of memory
+-- the first fault of the inputs, or otherwise why the engine doesn't close; or lack of memory
 abbrev pub IsFirstRunFault : ℕ → List ℕ → List ℕ → CliFault → Type 0
 IsFirstRunFault limit t s e = status_of e ≢ 4 →
     IsWrong limit script_of_run t s e

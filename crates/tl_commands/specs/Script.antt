@@ -1,4 +1,4 @@
--- What the scripts of the commands `drive` and `run` are.
+-- The scripts of the commands `drive` and `run`.
 use Rattle.std.specs.Prelude.{◌≡◌, ◌==◌, nat_lt, nat_le, ◌&&◌, ℕ, ℤ, Bool, true, false, map, length, List, [], ◌∷◌, Vec, codes, Option, Some, None, option_map, option_and_then, string_bytes, if◌then◌else◌, IsUtf8}
 use Rattle.std.specs.Option.{option_or, option_map_or}
 use Rattle.std.specs.declared.alloc.Global.{Global}
@@ -15,12 +15,12 @@ use Rattle.tl_core.specs.declared.moves.Move.{Move}
 use Rattle.tl_core.specs.declared.moves.Move.TheVariants as a_move
 use Rattle.tl_commands.specs.declared.script.Script.{Script}
 
--- the admission of a call of the procedure of that name with these arguments, or a step of a call
+-- the admission of a call, with the procedure's name and the arguments, or a step of a call
 pub data MoveValue : Type 0 where
   Admits : List ℕ → List ℤ → MoveValue
   Steps : ℕ → MoveValue
 
--- the procedures, each with its name and its assembler text, and what is then to be done
+-- the procedures, each with its name and its assembly text, and the tasks to carry out
 pub record ScriptValue (A : Type 0) : Type 0 where
   pub procedures : List (List ℕ × List ℕ)
   pub tasks : List A
@@ -34,7 +34,7 @@ script_view f s = record { procedures = map procedure_form s.procedures.items; t
 
 -- ---- reading
 
--- a number of 32 bits
+-- the number, if it is an unsigned 32-bit integer
 abbrev pub if_call : ℕ → Option ℕ
 if_call n = if nat_lt n 4294967296 then Some n else None
 
@@ -49,7 +49,7 @@ move_of d = option_or (option_map Steps (call_of d)) (option_map (λ x. Admits x
 abbrev pub parts_of : List ℕ → Data → Option (Data × Data)
 parts_of tasks d = option_and_then (λ ms. if members_len ms == 2 then both (get_member (codes "procs") ms) (get_member tasks ms) else None) (as_object d)
 
--- the script that a value stands for, whose tasks are the member of that name and are read so
+-- the script in a JSON value, where the tasks are the list in the member `tasks`, and f reads each of them
 abbrev pub script_of : {A : Type 0} → List ℕ → (Data → Option A) → Data → Option (ScriptValue A)
 script_of tasks f d =
     option_and_then (λ parts. option_map (λ x. record { procedures = x.0; tasks = x.1 }) (both (each_of procedure_of parts.0) (each_of f parts.1))) (parts_of tasks d)
@@ -64,7 +64,7 @@ script_of_moves = script_of (codes "moves") move_of
 abbrev pub batch_form : Vec Request Global → List (List ℕ × List ℤ)
 batch_form requests = map request_form requests.items
 
--- 1 to 256 of them
+-- the list, if it has 1 to 256 elements
 abbrev pub if_few : {A : Type 0} → List A → Option (List A)
 if_few xs = if nat_le 1 (length xs) && nat_le (length xs) 256 then Some xs else None
 
@@ -75,13 +75,13 @@ batch_of d = option_and_then if_few (each_of request_of d)
 abbrev pub BatchesValue : Type 0
 BatchesValue = ScriptValue (List (List ℕ × List ℤ))
 
--- one batch
+-- a script of one batch
 abbrev pub script_of_calls : Data → Option BatchesValue
 script_of_calls d =
     option_and_then (λ parts. option_map (λ x. record { procedures = x.0; tasks = x.1 ∷ [] }) (both (each_of procedure_of parts.0) (batch_of parts.1)))
     (parts_of (codes "calls") d)
 
--- 1 to 256 batches, one an epoch
+-- a script of 1 to 256 batches, one for each epoch
 abbrev pub script_of_epochs : Data → Option BatchesValue
 script_of_epochs d =
     option_and_then (λ s. option_map (λ tasks. record { procedures = s.procedures; tasks = tasks }) (if_few s.tasks)) (script_of (codes "epochs") batch_of d)
@@ -96,7 +96,7 @@ is_of_epochs d = option_map_or (λ s. false) (script_of_calls d) true
 abbrev pub has_epochs : List ℕ → Bool
 has_epochs bytes = option_map_or is_of_epochs (read bytes) false
 
--- The bytes are UTF-8, and a text of the script.
+-- The bytes are UTF-8 and contain the script.
 pub record IsScript {A : Type 0} (script_of : Data → Option (ScriptValue A)) (bytes : List ℕ) (s : ScriptValue A) : Type 0 where
   pub utf8 : IsUtf8 bytes
   pub same : option_and_then script_of (read bytes) ≡ Some s

@@ -1,4 +1,4 @@
--- What the commands have in common that carry out a script, `drive` and `run`.
+-- What the commands `drive` and `run`, which carry out a script, have in common.
 use Rattle.std.specs.Prelude.{◌≡◌, ◌⊎◌, ℕ, List, [], ◌∷◌, ◌++◌, Option}
 use Rattle.serde_json.specs.Data.{Data}
 use Rattle.serde_json.specs.Written.{compact_text}
@@ -16,7 +16,7 @@ use Rattle.tl_commands.specs.declared.fault.CliFault.TheVariants.{Tree, Register
 use Rattle.tl_commands.specs.Alone.{IsTreeFile, IsTreeFault}
 use Rattle.tl_commands.specs.Script.{ScriptValue, IsScript}
 
--- a core of the tree, with these procedures and no call
+-- a core for this tree with these procedures and without calls
 abbrev pub core_with : TreeValue → List Named → CoreValue
 core_with tree procedures = record {
   parents = tree.parents;
@@ -30,15 +30,15 @@ core_with tree procedures = record {
 abbrev pub tree_now : CoreValue → TreeValue
 tree_now v = record { parents = v.parents; records = records_now v.past v.opening }
 
--- two lines: a value, and a tree
+-- two lines: a value and a tree
 abbrev pub two_lines_text : Data → TreeValue → List ℕ
 two_lines_text value tree = compact_text value ++ 10 ∷ tree_text tree ++ 10 ∷ []
 
--- three lines: two values, and a tree
+-- three lines: two values and a tree
 abbrev pub lines_text : Data → Data → TreeValue → List ℕ
 lines_text first second tree = compact_text first ++ 10 ∷ two_lines_text second tree
 
--- what is wrong first: the tree, else the script, else the first procedure that isn't taken up
+-- the first fault of the inputs: of the tree, of the script, or of the first procedure that can't be registered
 abbrev pub IsWrong : {A : Type 0} → ℕ → (Data → Option (ScriptValue A)) → List ℕ → List ℕ → CliFault → Type 0
 IsWrong {A} limit script_of t s e =
     ((f : TreeFault) × (e ≡ Tree f) × IsTreeFault limit t f)

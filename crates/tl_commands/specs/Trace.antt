@@ -1,4 +1,4 @@
--- What is printed of the moves: a list for each, with a letter first.
+-- The output for moves: one list for each, which begins with a letter.
 use Rattle.std.specs.Prelude.{ℕ, List, [], ◌∷◌, map, codes}
 use Rattle.serde_json.specs.Data.{Data, array, object, member, no_members}
 use Rattle.serde_json.specs.View.{items_of}
@@ -14,7 +14,7 @@ use Rattle.tl_core.specs.declared.stepped.Stepped.TheVariants.{Moved, Blocked, O
 use Rattle.tl_core.specs.declared.moves.Entry.{Entry}
 use Rattle.tl_core.specs.declared.moves.Entry.TheVariants as entry
 
--- an instruction that call c did
+-- an instruction that call c executed
 abbrev pub action_data : ℕ → Action → Data
 action_data c Plain = lettered letter.Plain (natural c ∷ [])
 action_data c (Lock x found) = lettered letter.Locked (natural c ∷ natural x ∷ integers_data found ∷ [])
@@ -24,13 +24,13 @@ action_data c (Free x left) = lettered letter.Freed (natural c ∷ natural x ∷
 action_data c (Emit v) = lettered letter.Emitted (natural c ∷ integer_data v ∷ [])
 action_data c End = lettered letter.Done (natural c ∷ [])
 
--- what a step of call c came to
+-- the result of a step of call c
 abbrev pub stepped_data : ℕ → Stepped → Data
 stepped_data c (Moved a) = action_data c a
 stepped_data c (Blocked x holder) = lettered letter.Blocked (natural c ∷ natural x ∷ natural holder ∷ [])
 stepped_data c Over = lettered letter.Over (natural c ∷ [])
 
--- what came of a move
+-- the result of a move
 abbrev pub entry_data : Entry → Data
 entry_data (entry.Admitted c) = lettered letter.Admitted (natural c ∷ [])
 entry_data (entry.Stepped c stepped) = stepped_data c stepped
@@ -41,7 +41,7 @@ entry_data (entry.Refused fault) = lettered letter.Refused (map natural (numbers
 abbrev pub trace_data : List Entry → Data
 trace_data entries = object (member (codes "trace") (array (items_of (map entry_data entries))) no_members)
 
--- a fault by its numbers
+-- a fault as its numbers
 abbrev pub error_data : List ℕ → Data
 error_data numbers = object (member (codes "error") (array (items_of (map natural numbers))) no_members)
 

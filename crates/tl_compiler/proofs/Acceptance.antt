@@ -1,4 +1,4 @@
--- The verifier accepts what is compiled, but for its sums.
+-- The verifier accepts compiled code, apart from its sums.
 use Rattle.std.proofs.Common.{◌≡◌, ◌≢◌, ◌⊎◌, inl, inr, ℕ, suc, ◌<◌, ◌≤◌, List, [], ◌∷◌, length, Bool, true, false, ◌||◌, Option, Some, None, option_map, is_some, if◌then◌else◌, refl, sym, ◌∙◌, ap, subst, arith}
 use Rattle.std.specs.Prelude.{slice_set, get_or}
 use Rattle.std.proofs.lemmas.List.{length-replicate, get_or-replicate, length-set, get_or-set_same}
@@ -47,7 +47,7 @@ use Rattle.tl_compiler.proofs.TailLemmas.{tail_length}
 within_trans : (a b c : Nodes) → Within a b → Within b c → Within a c
 within_trans a b c x y i t = y i (x i t)
 
--- of two ways
+-- either of two ways
 either_within : (o p : Option Nodes) (held h : Nodes) → ((g : Nodes) → o ≡ Some g → Within g held) → ((g : Nodes) → p ≡ Some g → Within g held) → both_of o p ≡ Some h → Within h held
 either_within None p held h x y e = y h e
 either_within (Some a) None held h x y e = x h e
@@ -63,7 +63,7 @@ without_gone h n i t e = absurd (by (cases n (length h)))
     by (inl lt) = let f = get_or-set_same h n false false lt in let g = ap (holds (without_node h n)) e in cc
     by (inr le) = let s = length-set h n false in let f = holds_past (without_node h n) i (omega (arith, s, le, e)) in cc
 
--- what was locked is free again
+-- the locked nodes are released again
 free_within : (place : Place) (w held : Nodes) → Within w (locked place held) → Within (unlocked place w) held
 free_within (P.Node n v) w held x i t = let ne = without_gone w n i t in sym (with_other held n i ne) ∙ x i (without_within w n i t)
 free_within (P.Child n p v) w held x i t = let ne = without_gone w n i t in sym (with_other held n i ne) ∙ x i (without_within w n i t)
@@ -188,7 +188,7 @@ body_begins p f =
 first_is : (x : Option Marks) (ms : List (Option Marks)) → at_label (x ∷ ms) (suc (length ms)) ≡ Some x
 first_is x ms = ap (λ b. if b then Some x else at_label ms (suc (length ms))) (eq-eqb (suc (length ms)) (suc (length ms)) refl)
 
--- marks that are open serve where closed ones did
+-- marks with `first` open can be used where it is spent
 opener : (ms : List (Option Marks)) (l : ℕ) (m : Marks) → m.held ≡ entry.held → Brings ms l m → Brings ms l entry
 opener ms l m held b = record { there = b.there; at = b.at; held = b.held ∙ held; is_open = λ e. refl }
 
@@ -275,7 +275,7 @@ opened_first c ms (turn {i = i} {mb = mb} {mj = mj} {m = m} o nests body into pa
       first_is (Some entry) mb,
     )
 
--- the code of a procedure in order is safe
+-- the code of a well-formed procedure is safe
 pub procedure_safe : (p : Procedure) → IsInOrder p → length (procedure_code p.arity p.body) ≤ 65535 → IsSafe (at_positions (procedure_code p.arity p.body))
 procedure_safe p f short =
     let b = body_begins p f in
@@ -293,7 +293,7 @@ procedure_safe p f short =
     longer : {ms : List (Option Marks)} → Marked (procedure_code p.arity p.body) ms (I.Return ∷ []) (Some (marks none_held true) ∷ []) → 0 < length (procedure_code p.arity p.body)
     longer m = let t = marked_tail m in let le = tail_length t in omega (arith, le)
 
--- within the limits it is accepted
+-- safe code within the limits is accepted
 pub accepted : (code : List Instr) → IsSafe code → budget code ≤ MAX_STEPS → lock_bound code ≤ MAX_LOCKS → emit_bound code ≤ MAX_EMITS → Acceptable code
 accepted code s steps locks emits = record {
   matched = (s.nested).matched;
@@ -307,7 +307,7 @@ accepted code s steps locks emits = record {
   registers = s.registers;
 }
 
--- and what is refused is refused for its sums
+-- safe code is refused only for its sums
 pub only_sums : (code : List Instr) (f : VerifyFault) → IsSafe code → IsFirstFault code f → (f ≡ fault.Nest nest.StepsOver) ⊎ ((f ≡ fault.Nest nest.LocksOver) ⊎ (f ≡ fault.Nest nest.EmitsOver))
 only_sums code f s h = by h.finding h.arises h.fault
   where
@@ -330,7 +330,7 @@ only_sums code f s h = by h.finding h.arises h.fault
     by Locks a e = inr (inl e)
     by Emits a e = inr (inr e)
 
--- so want of memory is its only other fault
+-- so its only other fault is lack of memory
 pub for_sums : (code : List Instr) (f : VerifyFault) → IsSafe code → (f ≢ fault.Memory → IsFirstFault code f) → IsVerifierFault f compile.Memory
 for_sums code fault.Memory s h = refl
 for_sums code f s h = by (only_sums code f s (h (λ e. cc)))

@@ -1,4 +1,4 @@
--- Lists that are made element by element, and what they are of a text.
+-- Lists that are built element by element, and how they relate to a text.
 use Rattle.std.proofs.Common.{◌≡◌, ℕ, List, [], ◌∷◌, ◌++◌, map, refl, ap}
 use Rattle.std.specs.Prelude.{IsUtf8}
 use Rattle.std.specs.List.{All, AllZip}

@@ -1,4 +1,4 @@
--- Whether the tree may have been entered, alone: specs/Passing.antt of tl_lowering has that and the children that were passed.
+-- Only whether the tree may have been entered; tl_lowering's specs/Passing.antt has this together with the children that were passed.
 use Rattle.std.proofs.Common.{◌≡◌, Bool, true, false, ◌||◌, Option, Some, None, option_map, refl, sym, ◌∙◌, ap₂, subst}
 use Rattle.std.specs.Prelude.{IfSome}
 use Rattle.tl_lowering.specs.declared.program.Place.{Place}

@@ -1,4 +1,4 @@
--- What is wrong with a code, and so with its text.
+-- The fault of a code is a fault of its text.
 use Rattle.std.proofs.Common.{ℕ, List}
 use Rattle.std.specs.Prelude.{IsUtf8}
 use Rattle.std.specs.List.{Contains}

@@ -1,4 +1,4 @@
--- A code whose marks are put together from the end is one whose registers fit.
+-- The registers of a code fit if its marks are built from the end.
 use Rattle.std.proofs.Common.{◌≡◌, ◌⊎◌, inl, inr, ℕ, suc, ◌+◌, ◌-◌, ◌<◌, ◌≤◌, List, [], ◌∷◌, ◌++◌, length, get_or, Bool, true, false, Option, Some, None, if◌then◌else◌, refl, sym, ◌∙◌, ap, subst, arith, append_assoc}
 use Rattle.std.specs.Prelude.{slice_get, option_map, nat_eq}
 use Rattle.std.proofs.lemmas.List.{length-append, length-map}
@@ -23,7 +23,7 @@ use Rattle.tl_compiler.proofs.Markings.{at_label, Brings, brings_on, Passes, is_
 
 -- ---- marks by labels and by positions
 
--- the second list is the end of the first one
+-- the second list is an end of the first
 pub record Ends (whole end : List (Option Marks)) : Type 0 where
   pub front : List (Option Marks)
   pub joined : whole ≡ front ++ end
@@ -59,7 +59,7 @@ brings_all (x ∷ front) ns b = brings_on x (brings_all front ns b)
 brings_in : {ms ns : List (Option Marks)} {l : ℕ} {m : Marks} → Ends ms ns → Brings ns l m → Brings ms l m
 brings_in {ms} {ns} {l} {m} e b = subst (λ xs. Brings xs l m) (sym e.joined) (brings_all e.front ns b)
 
--- an element that a label has stands so far from the end
+-- the element at a label has that distance from the end
 label_at : {A : Type 0} (xs : List A) (l : ℕ) (x d : A) → at_label xs l ≡ Some x → (0 < l) × (l ≤ length xs) × (get_or xs (length xs - l) d ≡ x)
 label_at [] l x d e = cc
 label_at (y ∷ xs) l x d e = by (nat_eq l (suc (length xs))) refl e (λ f. label_at xs l x d f)
@@ -81,7 +81,7 @@ get_front : (front : List (Option Marks)) (x : Option Marks) (ns : List (Option 
 get_front [] x ns = refl
 get_front (y ∷ front) x ns = get_front front x ns
 
--- what stands at the place of an end
+-- the element at the start of an end
 get_end : {ms ns : List (Option Marks)} {x : Option Marks} → Ends ms (x ∷ ns) → get_or ms (length ms - suc (length ns)) None ≡ x
 get_end {ms} {ns} {x} e =
     let long : length ms ≡ length e.front + suc (length ns) = ap length e.joined ∙ length-append e.front (x ∷ ns) in
@@ -113,7 +113,7 @@ same_source n (I.Kids to node) = refl
 same_source n (I.Emit from) = refl
 same_source n I.Return = refl
 
--- all that the verifier asks of an instruction but for its target
+-- the instructions have the same requirements and effects, apart from their targets
 record Same (i j : Instr) : Type 0 where
   held : source j ≡ source i
   empty : destination j ≡ destination i
@@ -155,7 +155,7 @@ allows_aimed n i m a =
       returns = λ e. a.returns (sym s.last ∙ e);
     }
 
--- a loop's instructions ask nothing
+-- a loop's instructions require nothing
 opens_allows : (i : Instr) (w : ℕ) (m : Marks) → kind i ≡ Opens w → Allows i m
 opens_allows (I.Repeat count) w m e = record { held = λ k f. cc; empty = λ k f. cc; is_open = λ f. cc; returns = λ f. cc }
 opens_allows (I.RepeatBy turns count) w m e = record { held = λ k f. cc; empty = λ k f. cc; is_open = λ f. cc; returns = λ f. cc }
@@ -193,7 +193,7 @@ end_allows m = record { held = λ k e. cc; empty = λ k e. cc; is_open = λ e. c
 
 -- ---- the whole code
 
--- a loop that turns has a target only aside
+-- a loop's opening has only the position after the loop's end as its target
 opens_aside : (c : List Instr) (p to : ℕ) (n : ℕ) (i : Instr) (w : ℕ) → kind i ≡ Opens w → aside c p (aimed n i) ≡ Some to → (is_by i ≡ true) × (to ≡ end_of c p + 1)
 opens_aside c p to n (I.Repeat count) w e f = cc
 opens_aside c p to n (I.RepeatBy turns count) w e f = let h : end_of c p + 1 ≡ to = cc in (refl, sym h)
@@ -241,7 +241,7 @@ straight_aside c p to n (I.Kids t node) s e = e
 straight_aside c p to n (I.Emit from) s e = e
 straight_aside c p to n I.Return s e = e
 
--- a target behind positions is one before them
+-- a target among positions comes from one among labels
 from_target : (n to : ℕ) (i : Instr) → target (aimed n i) ≡ Some to → (t : ℕ) × (target i ≡ Some t) × (to ≡ n - t)
 from_target n to i e = by (target i) refl
   where
@@ -253,7 +253,7 @@ module _ (c : List Instr) (ms : List (Option Marks)) (long : length ms ≡ lengt
   abbrev code : List Instr
   code = at_positions c
 
-  -- where marks are brought to a label, control arrives at its position
+  -- if marks fit at a label, control arrives at its position with them
   arrives : (l to : ℕ) (m : Marks) → Brings ms l m → to ≡ length c - l → Arrives code ms to m
   arrives l to m b e =
       let h = label_at ms l (Some b.there) None b.at in
@@ -262,7 +262,7 @@ module _ (c : List Instr) (ms : List (Option Marks)) (long : length ms ≡ lengt
       let at : length ms - l ≡ to = omega (arith, e, long) in
       record { inside = omega (arith, e, some, le, long, size); marks = b.there; there = ap (λ p. get_or ms p None) (sym at) ∙ h.2; held = b.held; is_open = b.is_open }
 
-  -- what is asked at a position
+  -- what is required at a position
   abbrev IsGood : ℕ → Type 0
   IsGood p = (i : Instr) (m : Marks) → slice_get code p ≡ Some i → get_or ms p None ≡ Some m → Allows i m × ((to : ℕ) (k : Marks) → Leads code i p m to k → Arrives code ms to k)
 
@@ -278,7 +278,7 @@ module _ (c : List Instr) (ms : List (Option Marks)) (long : length ms ≡ lengt
   straight_not i (inl s) e = cc
   straight_not i (inr s) e = cc
 
-  -- an instruction that goes on as it is said to
+  -- an instruction that goes on as required
   live_good : (i : Instr) (c' : List Instr) (m : Marks) (ns : List (Option Marks)) → Tail c (i ∷ c') → Ends ms (Some m ∷ ns) → length ns ≡ length c' → IsStraight i → Passes i m ns → IsGood (length c - suc (length c'))
   live_good i c' m ns tail ends size s passes j n at is = subst (λ x. Allows x n × ((to : ℕ) (k : Marks) → Leads code x p n to k → Arrives code ms to k)) same
       (subst (λ y. Allows (aimed (length c) i) y × ((to : ℕ) (k : Marks) → Leads code (aimed (length c) i) p y to k → Arrives code ms to k)) same_marks (allows_aimed (length c) i m passes.allows, leads))
@@ -373,7 +373,7 @@ module _ (c : List Instr) (ms : List (Option Marks)) (long : length ms ≡ lengt
     tail_end : Tail c (I.End ∷ j)
     tail_end = tail_further (tail_further tail (tail_behind i body)) (tail_of_stretch (nests_stretch nests))
 
-    -- one end closes one loop
+    -- an end closes only one loop
     ours : (o : ℕ) (l : Loop) → loop_at code o ≡ Some l → l.close ≡ length c - suc (length j) → o ≡ length c - suc (length body)
     ours o l there closes = by (cases_order o (length c - suc (length body)))
       where
@@ -417,7 +417,7 @@ module _ (c : List Instr) (ms : List (Option Marks)) (long : length ms ≡ lengt
             let at_o = ours o l there closes in
             subst (Arrives code ms to) (sym got) (arrives (length mb) to n b (omega (arith, e, at_o, below, size)))
 
-  -- all of it
+  -- the whole code
   pub good : {c' k : List Instr} {ns ls : List (Option Marks)} → Marked c' ns k ls → Tail c c' → Ends ms ns → length ls ≡ length k → (p : ℕ) → length c - length c' ≤ p → p < length c - length k → IsGood p
   good none tail ends size p low high = absurd (omega arith)
   good {k = k} (dead {i = i} {c = c'} {ms = ns} n) tail ends size p low high = by (cases_order (length c - suc (length c')) p) (λ least. good n (tail_further tail (tail_behind i c')) (ends_on ends) size p least high)
@@ -465,7 +465,7 @@ module _ (c : List Instr) (ms : List (Option Marks)) (long : length ms ≡ lengt
       by (inr (inl behind)) inner rest = in_body (cases_order (length c - suc (length j)) p) behind inner rest
       by (inr (inr before)) inner rest = absurd (omega arith)
 
--- a code all of which has marks, and begins with those of a call, is one whose registers fit
+-- a code that has marks everywhere and begins with those of a call has registers that fit
 pub marked_fits : (c : List Instr) (ms : List (Option Marks)) → length c ≤ 65535 → Marked c ms [] [] → at_label ms (length ms) ≡ Some (Some entry) → HasFit (at_positions c)
 marked_fits c ms short marked first =
     let long : length ms ≡ length c = marked_long marked refl in

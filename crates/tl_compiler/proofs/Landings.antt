@@ -1,4 +1,4 @@
--- The jumps of a code go ahead, stay in it, and enter no loop.
+-- The jumps of a code go forward, stay within it, and enter no loop.
 use Rattle.std.proofs.Common.{◌≡◌, ◌≢◌, ◌⊎◌, inl, inr, ℕ, zero, suc, ◌-◌, ◌<◌, ◌≤◌, List, [], ◌∷◌, length, map, Some, None, refl, sym, ◌∙◌, ap, subst, arith}
 use Rattle.std.specs.Prelude.{slice_get, option_map}
 use Rattle.std.proofs.lemmas.List.{length-map}
@@ -84,12 +84,12 @@ opening_closes {whole = whole} {k = k} tail (turn {w = w} {i = i} {body = body} 
     by (inr (inl behind)) rest inner = in_body (cases_order (length whole - suc (length j)) o) rest inner behind
     by (inr (inr before)) rest inner = absurd (omega arith)
 
--- what may be jumped to stands behind
+-- a position to which a jump may go is after the jump
 pub left : {a b : List Instr} → Leaves a b → Tail a b
 left (stays m) = tail_of_stretch (nests_stretch m)
 left (out {j = q} m r) = tail_further (tail_of_stretch (nests_stretch m)) (tail_further (tail_behind I.End q) (left r))
 
--- so no loop that opens behind a place is around one that the place may jump to
+-- so no loop that opens after a jump contains the jump's target
 pub enters_none : {whole c k : List Instr} → Tail whole c → Leaves c k → (o : ℕ) (l : Loop) → loop_at (at_positions whole) o ≡ Some l → length whole - length c ≤ o → o < length whole - length k
     → length whole - length k ≤ l.close → ⊥
 enters_none tail (stays n) o l e low high around = let less = opening_closes tail n o l e low high in omega arith
@@ -144,7 +144,7 @@ acts_with_target I.End l e = cc
 acts_with_target I.Return l e = cc
 acts_with_target i l e = refl
 
--- what jumps, and where to: the code behind it, by its label
+-- an instruction with a target: the instruction, the code after it, and its label
 record Jumped (whole : List Instr) (n p l : ℕ) : Type 0 where
   instr : Instr
   rest : List Instr
@@ -155,7 +155,7 @@ record Jumped (whole : List Instr) (n p l : ℕ) : Type 0 where
   jumps : kind instr ≡ Acts
   reaches : Reaches rest label
 
--- the instruction at a position of the code, and what stands behind it
+-- the instruction at a position of the code, and the code after it
 jumped : {whole c j : List Instr} → Jumps c j → j ≡ [] → Tail whole c → (p l : ℕ) (i : Instr) → length whole - length c ≤ p → slice_get (map (aimed (length whole)) c) (p - (length whole - length c)) ≡ Some i → target i ≡ Some l
     → Jumped whole (length whole) p l
 jumped {whole = whole} none e tail p l i low at is = let none_there = ap (λ c. slice_get (map (aimed (length whole)) c) (p - (length whole - length c))) e in cc
@@ -185,7 +185,7 @@ jumped {whole = whole} (jump {i = j} {c = c} {l = label} e r js) nil tail p l i 
         let there : p - (length whole - length c) ≡ q = omega (arith, long, f) in
         more (tail_further tail (tail_behind j c)) (omega (arith, long, f)) (ap (slice_get (map (aimed (length whole)) c)) there ∙ g)
 
--- what `Acceptable` asks of targets
+-- what `Acceptable` requires of targets
 pub record AreTargets (code : List Instr) : Type 0 where
   pub ahead : (p l : ℕ) (i : Instr) → slice_get code p ≡ Some i → target i ≡ Some l → p < l
   pub inside : (p l : ℕ) (i : Instr) → slice_get code p ≡ Some i → target i ≡ Some l → l < length code

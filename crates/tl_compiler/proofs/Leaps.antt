@@ -1,4 +1,4 @@
--- The jumps of statements lead to where they may.
+-- The targets of statements' jumps are allowed.
 use Rattle.std.proofs.Common.{◌≡◌, inl, inr, ℕ, zero, suc, ◌+◌, ◌<◌, ◌≤◌, List, [], ◌∷◌, length, Bool, true, false, not, ◌&&◌, ◌||◌, Option, Some, None, is_some, if◌then◌else◌, refl, ap, ◌∙◌, subst, arith}
 use Rattle.std.specs.Prelude.{pos}
 use Rattle.std.proofs.lemmas.List.{length-append}
@@ -30,7 +30,7 @@ use Rattle.tl_compiler.proofs.TailLemmas.{tail_length}
 
 -- ---- sites
 
--- some code stands there
+-- the code begins there
 begins : {c k : List Instr} → Nests MAX_DEPTH c k → 0 < length k → Reaches c (length c)
 begins {c} {k} n some = record { end = c; long = refl; some = let s = nests_stretch n in let e = ap length s.joined ∙ length-append s.front k in omega (arith, e, some); leaves = stays here }
 
@@ -70,13 +70,13 @@ second_jumps (Some label) skips held kept code k n on j = none
 second_jumps None skips held kept code k n on j =
     jumps_further (j (joining_code held kept false 0 k) (joining_nests held kept false 0 k)) (joining_jumps held kept false 0 k (λ e. cc))
 
--- where the second of two ways begins
+-- the start of the second of two ways
 second_reaches : (to : Option ℕ) (skips : Bool) (held : Option Nodes) (kept : Nodes) (code : List Instr → List Instr) (k : List Instr) → ((k : List Instr) → Nests MAX_DEPTH (code k) k)
     → Reaches k (length k) → ((label : ℕ) → to ≡ Some label → Reaches k label) → Reaches (second_by to skips held kept code k).code (second_by to skips held kept code k).label
 second_reaches (Some label) skips held kept code k n on r = r label refl
 second_reaches None skips held kept code k n on r = begins_on (nests_further (n (joining_code held kept false 0 k)) (joining_nests held kept false 0 k)) on
 
--- a statement that needs no code leads to where its site does
+-- a statement without code leads where its site does
 direct_reaches : (b : Statement) (held : Nodes) (x : Site) (k : List Instr) → SiteReaches x k → (label : ℕ) → direct b held x ≡ Some label → Reaches k label
 direct_reaches S.Fail held x k s label e = let same : x.pad held ≡ label = cc in subst (Reaches k) same (s.pads held)
 direct_reaches S.Break held x k s label e = by x.exit refl e
@@ -209,7 +209,7 @@ choice_jumps branch (Some label) None first second kept k opens ones twos firsts
 choice_jumps branch (Some label) (Some l) first second kept k opens ones twos firsts seconds on to also = ways_jumps (branch false) first second kept k (opens false) ones twos firsts seconds on also
 choice_jumps branch None other first second kept k opens ones twos firsts seconds on to also = ways_jumps (branch false) first second kept k (opens false) ones twos firsts seconds on also
 
--- the site in a loop
+-- the site inside a loop
 inner_site : (x : Site) (kept : Nodes) (k rest : List Instr) → Nests MAX_DEPTH rest k → SiteReaches x k → SiteReaches (record x { exit = Some (record { label = length k; held = kept }) }) (I.End ∷ rest)
 inner_site x kept k rest n s =
     let some : 0 < length (I.End ∷ rest) = omega arith in
@@ -223,7 +223,7 @@ inner_site x kept k rest n s =
 loop_jumps : (i : Instr) (body rest k : List Instr) → target i ≡ None → Jumps body (I.End ∷ rest) → Jumps rest k → Jumps (i ∷ body) k
 loop_jumps i body rest k e inside behind = straight e (jumps_further inside (straight refl behind))
 
--- the loop of a counted repetition, from what opens it
+-- the loop of a counted repetition, from the instruction that opens it
 up_to_nests : (a : Statement) (held : Nodes) (inner : Site) (e : Expression) (w t : ℕ) (rest k : List Instr) → loops a < MAX_DEPTH → (0 < w) × AllTurn a
     → Nests MAX_DEPTH (I.RepeatBy (register_of e t) w ∷ statement_code a held inner (I.End ∷ rest)) rest
 up_to_nests a held inner e w t rest k le turns = turn refl turns.0 (statement_nests a 3 held inner (I.End ∷ rest) (omega (arith, le)) turns.1) here
@@ -358,7 +358,7 @@ pub record IsOrderly (code : List Instr) : Type 0 where
   pub nested : IsNested code
   pub targets : AreTargets code
 
--- what the verifier asks of loops and of targets
+-- what the verifier requires of loops and targets
 pub procedure_orderly : (arity : ℕ) (body : Statement) → loops body ≤ MAX_DEPTH → AllTurn body → length (procedure_code arity body) ≤ 65535 → IsOrderly (at_positions (procedure_code arity body))
 procedure_orderly arity body le turns short =
     let site : Site = record { values = arity; nodes = 0; pad = λ held. 1; exit = None } in

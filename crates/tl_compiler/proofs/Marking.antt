@@ -1,4 +1,4 @@
--- Marks of pieces of code: numbers, conditions, frees, places.
+-- The marks of pieces of code: numbers, conditions, frees, places.
 use Rattle.std.proofs.Common.{◌≡◌, ◌≢◌, ◌⊎◌, inl, inr, ℕ, zero, suc, ◌<◌, ◌≤◌, List, [], ◌∷◌, length, Bool, true, false, not, ◌&&◌, ◌||◌, Option, Some, None, if◌then◌else◌, refl, sym, ◌∙◌, ap, ap₂, subst, arith}
 use Rattle.std.proofs.lemmas.Bool.{cases_eq, cases_order}
 use Rattle.std.proofs.lemmas.List.{length-set, get_or-set_same, get_or-set_other}
@@ -31,7 +31,7 @@ use Rattle.tl_compiler.proofs.Markings.{marks, Brings, first_brings, Marked, non
 begun_here : (k : List Instr) (ns : List (Option Marks)) (m : Marks) → Brings ns (length ns) m → Begins k k ns m
 begun_here k ns m b = record { marks = ns; marked = none; begins = b }
 
--- where as many marks as instructions stand, a piece begins at the label before it
+-- if there are as many marks as instructions, a piece begins at the label in front of it
 pub begins_label : {c k : List Instr} {ns : List (Option Marks)} {m : Marks} → length ns ≡ length k → (b : Begins c k ns m) → Brings b.marks (length c) m
 begins_label {c} {k} {ns} {m} size b = subst (λ n. Brings b.marks n m) (marked_long b.marked size) b.begins
 
@@ -71,7 +71,7 @@ jump_marked l k ns m b =
       begins = first_brings m ns;
     }
 
--- an instruction that jumps to a label where a test of two registers holds
+-- an instruction that jumps to a label if a test of two registers is true
 record IsTest (i : ℕ → Instr) : Type 0 where
   is_target : (l : ℕ) → target (i l) ≡ Some l
   is_kind : (l : ℕ) → kind (i l) ≡ Acts
@@ -128,7 +128,7 @@ branch_marked (C.And' p c q e) sense label t f k ns m d size r to on fail =
 
 -- ---- frees
 
--- what is held once these are freed that are below n
+-- what is held after the registers of a set that are below n are freed
 abbrev pub cleared : ℕ → Nodes → Nodes → Nodes
 cleared zero set held = held
 cleared (suc n) set held = cleared n set (if holds set n then without_node held n else held)
@@ -163,7 +163,7 @@ holds_past (b ∷ h) (suc i) le = holds_past h i (omega arith)
 past_end : (h : Nodes) (m i : ℕ) → i ≡ m → length h ≤ m → holds (without_node h m) i ≡ false
 past_end h m i same le = let size = length-set h m false in holds_past (without_node h m) i (omega (arith, size, same, le))
 
--- what is held then, register by register
+-- the same, register by register
 pub holds_cleared : (n : ℕ) (set held : Nodes) (i : ℕ) → (i < n → holds set i ≡ false) → holds (cleared n set held) i ≡ holds held i
 holds_cleared zero set held i other = refl
 holds_cleared (suc n) set held i other = by (holds set n) refl (λ h. holds_cleared n set h i (λ lt. other (omega arith)))
@@ -216,7 +216,7 @@ cleared_size (suc n) set held = cleared_size n set (if holds set n then without_
     by true = length-set held n false
     by false = refl
 
--- all that isn't kept is freed
+-- everything that isn't kept is freed
 pub cleared_both : (held kept : Nodes) → length held ≡ NODE_REGISTERS → length kept ≡ NODE_REGISTERS → cleared NODE_REGISTERS (minus held kept) held ≡ both held kept
 cleared_both held kept size also =
     all_held (cleared NODE_REGISTERS (minus held kept) held) (both held kept) (cleared_size NODE_REGISTERS (minus held kept) held ∙ size ∙ sym (length_both held kept NODE_REGISTERS size also)) each
@@ -244,7 +244,7 @@ cleared_both held kept size also =
         by false e false f = let k = known false false e f in holds_cleared NODE_REGISTERS (minus held kept) held i (λ lt. k.0) ∙ e ∙ sym k.1
         by false e true f = let k = known false true e f in holds_cleared NODE_REGISTERS (minus held kept) held i (λ lt. k.0) ∙ e ∙ sym k.1
 
--- what is in the first alone is in it
+-- a register in the difference is in the first set
 minus_within : (held kept : Nodes) → length held ≡ length kept → (i : ℕ) → holds (minus held kept) i ≡ true → holds held i ≡ true
 minus_within held kept size i e = by (holds held i) refl
   where
@@ -252,7 +252,7 @@ minus_within held kept size i e = by (holds held i) refl
     by true f = f
     by false f = absurd (let h = holds_minus held kept i size in let g = ap (λ x. x && not (holds kept i)) f in cc)
 
--- from what is held to what is kept of it
+-- from what is held to the part of it that is kept
 pub free_marked : (held kept : Nodes) (e : Bool) (k : List Instr) (ns : List (Option Marks)) → length ns ≡ length k → length held ≡ NODE_REGISTERS → length kept ≡ NODE_REGISTERS → Brings ns (length k) (marks (both held kept) e)
     → Begins (release_code (minus held kept) k) k ns (marks held e)
 free_marked held kept e k ns size sized also on =
@@ -266,7 +266,7 @@ pub record Joined (c k : List Instr) (ns : List (Option Marks)) (o : Option Node
   pub marked : Marked c list k ns
   pub begins : (h : Nodes) (f : Bool) → o ≡ Some h → p ≡ Some f → Brings list (length list) (marks h f)
 
--- code to which nothing leads
+-- code that is never reached
 pub dead_marked : (n : ℕ) (set : Nodes) (j k : List Instr) (ls ns : List (Option Marks)) → Marked j ls k ns → (ms : List (Option Marks)) × Marked (release_below n set j) ms k ns
 dead_marked zero set j k ls ns m = (ls, m)
 dead_marked (suc n) set j k ls ns m = by (holds set n) (dead_marked n set j k ls ns m)
@@ -275,7 +275,7 @@ dead_marked (suc n) set j k ls ns m = by (holds set n) (dead_marked n set j k ls
     by true r = (None ∷ r.0, dead r.1)
     by false r = r
 
--- where a way that goes on leads
+-- where a way leads after which control goes on
 pub record Keeps (ns : List (Option Marks)) (h kept : Nodes) (f : Bool) (label : ℕ) : Type 0 where
   pub size : length h ≡ NODE_REGISTERS
   pub size_kept : length kept ≡ NODE_REGISTERS
@@ -337,7 +337,7 @@ first_allows n r l m empty opened = record {
   returns = λ x. cc;
 }
 
--- an instruction that takes a child
+-- an instruction that locks a child
 pub child_marked : (n p r f : ℕ) (held : Nodes) (e : Bool) (k : List Instr) (ns : List (Option Marks)) → holds held n ≡ false → holds held p ≡ true → Brings ns (length ns) (marks (with_node held n) e) → Brings ns f (marks held e)
     → Begins (I.Child n p r (target_of f) ∷ k) k ns (marks held e)
 child_marked n p r f held e k ns empty parent on fail =
@@ -376,7 +376,7 @@ with_other held n i ne = get_or-set_other held n i true false (λ e. ne (sym e))
 pub without_other : (held : Nodes) (n i : ℕ) → n ≢ i → holds (without_node held n) i ≡ holds held i
 without_other held n i ne = get_or-set_other held n i false false (λ e. ne (sym e))
 
--- what was taken and freed again
+-- a node that was locked and freed again
 pub without_with : (held : Nodes) (n : ℕ) → n < length held → holds held n ≡ false → without_node (with_node held n) n ≡ held
 without_with held n lt empty = all_held (without_node (with_node held n) n) held (length-set (with_node held n) n false ∙ length-set held n true) each
   where

@@ -1,4 +1,4 @@
--- What is held at each instruction of a code, as it is put together from the end.
+-- The nodes held at each instruction of a code that is built from its end.
 use Rattle.std.proofs.Common.{◌≡◌, inl, ℕ, suc, ◌≤◌, List, [], ◌∷◌, length, Bool, true, false, not, Option, Some, None, if◌then◌else◌, refl, sym, ◌∙◌, ap, subst, arith}
 use Rattle.std.specs.Prelude.{nat_eq}
 use Rattle.std.proofs.lemmas.Bool.{eq-eqb, ne_eqb, eqb-true}
@@ -28,23 +28,23 @@ use Rattle.tl_compiler.proofs.Entrances.{entered}
 
 -- ---- marks
 
--- the element with so many from it to the end
+-- the element at a distance from the end
 abbrev pub at_label : {A : Type 0} → List A → ℕ → Option A
 at_label [] l = None
 at_label (x ∷ xs) l = if nat_eq l (suc (length xs)) then Some x else at_label xs l
 
--- what is held, and whether the tree may have been entered
+-- the nodes held, and whether the tree may have been entered
 abbrev pub marks : Nodes → Bool → Marks
 marks held e = record { held = held; is_open = not e }
 
--- at the label stand marks that these may join
+-- there are marks at the label that fit these
 pub record Brings (ms : List (Option Marks)) (label : ℕ) (m : Marks) : Type 0 where
   pub there : Marks
   pub at : at_label ms label ≡ Some (Some there)
   pub held : there.held ≡ m.held
   pub is_open : there.is_open ≡ true → m.is_open ≡ true
 
--- control goes on from the instruction with what it finds there
+-- control may go on from the instruction with the marks it has there
 pub record Passes (i : Instr) (m : Marks) (ms : List (Option Marks)) : Type 0 where
   pub allows : Allows i m
   pub next : goes_on i ≡ true → Brings ms (length ms) (after i m)
@@ -68,7 +68,7 @@ marked_further (dead n) x = dead (marked_further n x)
 marked_further (live s p n) x = live s p (marked_further n x)
 marked_further (turn o nests body into past ends n) x = turn o nests body into past ends (marked_further n x)
 
--- as many marks as instructions
+-- there are as many marks as instructions
 pub marked_long : {c k : List Instr} {ms ns : List (Option Marks)} → Marked c ms k ns → length ns ≡ length k → length ms ≡ length c
 marked_long none e = e
 marked_long (dead n) e = ap suc (marked_long n e)
@@ -94,14 +94,14 @@ brings_on {ms} {l} x b = record { there = b.there; at = label_stays ms l (Some b
 pub first_brings : (m : Marks) (ms : List (Option Marks)) → Brings (Some m ∷ ms) (suc (length ms)) m
 first_brings m ms = record { there = m; at = ap (λ b. if b then Some (Some m) else at_label ms (suc (length ms))) (eq-eqb (suc (length ms)) (suc (length ms)) refl); held = refl; is_open = λ e. e }
 
--- what stands behind a statement has promised
+-- the code after a statement has fitting marks for each of the statement's paths
 pub record Promises (a : Statement) (held : Nodes) (e : Bool) (x : Site) (ns : List (Option Marks)) : Type 0 where
   pub after : (h : Nodes) (f : Bool) → held_after a held ≡ Some h → (entered a e).after ≡ Some f → Brings ns (length ns) (marks h f)
   pub fails : (h : Nodes) (f : Bool) → IsIn h (fails a held) → (entered a e).fails ≡ Some f → Brings ns (x.pad h) (marks h f)
   pub breaks : (h : Nodes) (f : Bool) (exit : Exit) → IsIn h (breaks a held) → (entered a e).breaks ≡ Some f → x.exit ≡ Some exit
       → Within exit.held h × Brings ns exit.label (marks exit.held f)
 
--- a piece of code that stands before k and begins with these marks
+-- a piece of code in front of k that begins with these marks
 pub record Begins (c k : List Instr) (ns : List (Option Marks)) (m : Marks) : Type 0 where
   pub marks : List (Option Marks)
   pub marked : Marked c marks k ns
@@ -112,7 +112,7 @@ pub record Begins (c k : List Instr) (ns : List (Option Marks)) (m : Marks) : Ty
 pub begins_further : {c k j : List Instr} {ls : List (Option Marks)} {m n : Marks} → (b : Begins k j ls n) → Begins c k b.marks m → Begins c j ls m
 begins_further b a = record { marks = a.marks; marked = marked_further a.marked b.marked; begins = a.begins }
 
--- an instruction that leaves the marks as they are
+-- an instruction that doesn't change the marks
 pub one_more : (i : Instr) (k : List Instr) (ns : List (Option Marks)) (m : Marks) → IsStraight i → Allows i m → after i m ≡ m → Brings ns (length ns) m
     → ((t : ℕ) → target i ≡ Some t → (l : ℕ) × (t ≡ target_of l) × Brings ns l m) → Begins (i ∷ k) k ns m
 one_more i k ns m s allows same on aside = record {
@@ -130,7 +130,7 @@ reads i m n s h d f r = record { held = λ k e. let same : n ≡ k = cc in subst
 pub straight_of : (i : Instr) → kind i ≡ Acts → IsStraight i
 straight_of i e = inl e
 
--- what a number asks of what stands behind it
+-- if a number may fail, the failure's label has fitting marks
 abbrev pub FailsTo : Bool → List (Option Marks) → ℕ → Marks → Type 0
 FailsTo may ns f m = may ≡ true → Brings ns f m
 
@@ -146,7 +146,7 @@ calculation_marked O.Subtract x y z f k ns m on fail = let i = I.Subtract x y z 
 calculation_marked O.Multiply x y z f k ns m on fail = let i = I.Multiply x y z (target_of f) in one_more i k ns m (straight_of i refl) (free_of_nodes i m refl refl refl refl) refl on (to_label i ns m f refl fail)
 calculation_marked O.Divide x y z f k ns m on fail = let i = I.Divide x y z (target_of f) in one_more i k ns m (straight_of i refl) (free_of_nodes i m refl refl refl refl) refl on (to_label i ns m f refl fail)
 
--- the code of a number leaves the marks as they are
+-- the code of a number doesn't change the marks
 abbrev pub IntoMarked : Expression → Type 0
 IntoMarked e = (x t f : ℕ) (k : List Instr) (ns : List (Option Marks)) (m : Marks) (d : ℕ) → IsReadable d m.held e → Brings ns (length ns) m → FailsTo (may_fail e) ns f m → Begins (into_code e x t f k) k ns m
 

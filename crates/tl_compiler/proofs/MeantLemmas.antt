@@ -1,4 +1,4 @@
--- The procedure of a text that is meant by a name, or as the only one.
+-- The procedure of a text that a name refers to, or the only one.
 use Rattle.std.proofs.Common.{◌≡◌, ◌∙◌, ℕ, zero, suc, List, [], ◌∷◌, Option, Some, None, refl, sym, subst, arith}
 use Rattle.std.specs.Prelude.{Result, MatchOption, MatchResult}
 use Rattle.std.specs.List.{AllZip, Contains}
@@ -27,7 +27,7 @@ contained_left R (a ∷ xs) (b ∷ ys) x h (suc k, inside, is) =
     let there = r.1.1 in
     (r.0, (suc r.1.0, omega (arith, there), r.1.2), r.2)
 
--- the source of what is meant
+-- the source of the procedure that is meant
 pub source_of : (sources : List Procedure) (made : List Compiled) (name : Option (List ℕ)) (one : Compiled) → AreCompiled sources made → IsMeant made_name name made one
     → (source : Procedure) × IsMeant source_name name sources source × IsCompiled source one
 source_of sources made (Some name) one each meant =
@@ -37,7 +37,7 @@ source_of [] made None one each meant = absurd (subst (AreCompiled []) meant eac
 source_of (s ∷ []) made None one each meant = (s, refl, (subst (AreCompiled (s ∷ [])) meant each).0)
 source_of (s ∷ t ∷ sources) made None one each meant = absurd (subst (AreCompiled (s ∷ t ∷ sources)) meant each).1
 
--- where none that was made is meant, no source is
+-- if no compiled procedure is meant, no source is
 pub no_source : (sources : List Procedure) (made : List Compiled) (name : Option (List ℕ)) → AreCompiled sources made → ((one : Compiled) → IsMeant made_name name made one → ⊥)
     → (source : Procedure) → IsMeant source_name name sources source → ⊥
 no_source sources made (Some name) each none source meant =
@@ -47,7 +47,7 @@ no_source sources [] None each none source meant = subst (λ x. AreCompiled x []
 no_source sources (one ∷ []) None each none source meant = none one refl
 no_source sources (one ∷ two ∷ made) None each none source meant = (subst (λ x. AreCompiled x (one ∷ two ∷ made)) meant each).1
 
--- what was found, or that nothing is meant
+-- the one that was found, or that none is meant
 pub answered : {A E : Type 0} (P : A → Type 0) (found : Option A) (e : E) (r : Result A E) → r ≡ ok_or found e → MatchOption found ((a : A) → P a → ⊥) P
     → MatchResult r P (λ x. (x ≡ e) × ((a : A) → P a → ⊥))
 answered {A} P None e r is none = subst (λ z. MatchResult z P (λ x. (x ≡ e) × ((a : A) → P a → ⊥))) (sym is) (refl, none)

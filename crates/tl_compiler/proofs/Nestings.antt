@@ -1,4 +1,4 @@
--- Codes whose loops match, turn and don't nest too deep, as they are put together from the end.
+-- Codes that are built from their end, and whose loops match, have positive counts and don't nest too deep.
 use Rattle.std.proofs.Common.{◌≡◌, ◌⊎◌, inl, inr, ℕ, zero, suc, ◌+◌, ◌<◌, ◌≤◌, List, [], ◌∷◌, ◌++◌, length, map, take, Option, Some, None, refl, sym, ◌∙◌, ap, subst, arith, append_assoc}
 use Rattle.std.specs.Prelude.{slice_get, option_map}
 use Rattle.tl_instr.specs.declared.instr.Instr.{Instr}
@@ -11,7 +11,7 @@ use Rattle.tl_budget.proofs.NothingFound.{Clear, is_nested}
 use Rattle.tl_compiler.specs.Aiming.{aimed}
 use Rattle.tl_compiler.proofs.Stretches.{Stretch, stretch_whole, stretch_further, stretch_acts, stretch_returns, stretch_loop, same_kind}
 
--- an instruction that neither opens a loop nor ends one
+-- an instruction that doesn't open or end a loop
 abbrev pub IsStraight : Instr → Type 0
 IsStraight i = (kind i ≡ Acts) ⊎ (kind i ≡ Returns)
 
@@ -54,7 +54,7 @@ nests_aimed n (turn {i = i} e w body m) = turn (same_kind n i ∙ e) w (nests_ai
 
 -- ---- how many loops are open
 
--- before k stand so many instructions of c
+-- the instructions of c in front of k
 pub record Fronts (c k : List Instr) : Type 0 where
   pub front : List Instr
   pub joined : c ≡ front ++ k
@@ -79,7 +79,7 @@ straight_open : (i : Instr) → IsStraight i → (e : ℕ) → open_after (kind 
 straight_open i (inl s) e = ap (λ k. open_after k e) s
 straight_open i (inr s) e = ap (λ k. open_after k e) s
 
--- as many are open behind it as before it
+-- as many loops are open after them as before
 pub as_many_open : {d : ℕ} {c k : List Instr} (n : Nests d c k) (e : ℕ) → open_behind (front_of n) e ≡ e
 as_many_open here e = refl
 as_many_open (one {i = i} s n) e = ap (open_behind (front_of n)) (straight_open i s e) ∙ as_many_open n e
@@ -89,7 +89,7 @@ as_many_open (turn {w = w} {i = i} o turns body n) e =
     ∙ ap (open_behind (I.End ∷ front_of n)) (as_many_open body (suc e))
     ∙ as_many_open n e
 
--- what holds at each instruction of a list that begins with so many loops open, of which so many more may open
+-- what is true of each instruction of a list that begins with e loops open, where d more may open
 pub record IsFine (d e o : ℕ) (i : Instr) : Type 0 where
   pub opens : (w : ℕ) → kind i ≡ Opens w → (0 < w) × (o < e + d)
   pub ends : kind i ≡ Closes → e < o
@@ -102,7 +102,7 @@ all_joined : (d e o : ℕ) (a b : List Instr) → AllFine d e o a → AllFine d 
 all_joined d e o [] b x y = y
 all_joined d e o (i ∷ a) b x y = (x.0, all_joined d e (open_after (kind i) o) a b x.1 y)
 
--- one loop further out
+-- with one more loop around
 outer_fine : (d e o : ℕ) (is : List Instr) → AllFine d (suc e) o is → AllFine (suc d) e o is
 outer_fine d e o [] x = tt
 outer_fine d e o (i ∷ is) x =

@@ -1,4 +1,4 @@
--- The code of numbers and conditions, and of frees, stands before the code behind it.
+-- The code of numbers, conditions and frees is put in front of the code after it.
 use Rattle.std.proofs.Common.{◌≡◌, ℕ, suc, List, ◌∷◌, length, refl, Bool, true, false, not, if◌then◌else◌, zero}
 use Rattle.tl_instr.specs.declared.instr.Instr.{Instr}
 use Rattle.tl_instr.specs.declared.instr.Instr.TheVariants as I

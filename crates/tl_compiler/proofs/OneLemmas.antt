@@ -1,4 +1,4 @@
--- What is made of one procedure.
+-- The result of compiling one procedure.
 use Rattle.std.proofs.Common.{◌≡◌, ◌≢◌, ℕ, ◌<◌, ◌≤◌, List, [], ◌∷◌, length, reverse, sym, ◌∙◌, ap, subst, arith}
 use Rattle.std.proofs.lemmas.List.{length-reverse}
 use Rattle.tl_instr.specs.declared.code.TheConstants.{MAX_COUNT}
@@ -26,7 +26,7 @@ use Rattle.tl_compiler.proofs.StatementStretches.{statement_stretch}
 use Rattle.tl_compiler.proofs.Stretches.{tail_of_stretch}
 use Rattle.tl_compiler.proofs.TailLemmas.{tail_length}
 
--- the code has its last `ret`
+-- the code ends with `ret`, so it isn't empty
 pub some_instrs : (arity : ℕ) (body : Statement) (instrs : List Instr) → reverse instrs ≡ procedure_code arity body → 0 < length instrs
 some_instrs arity body instrs is =
     let long = tail_length (tail_of_stretch (statement_stretch body none_held (site_of arity) (I.Return ∷ []))) in

@@ -1,4 +1,4 @@
--- Where failures lead.
+-- The pads to which failures lead.
 use Rattle.std.proofs.Common.{◌≡◌, ◌≢◌, ◌⊎◌, inl, inr, ℕ, suc, ◌+◌, ◌-◌, ◌<◌, List, ◌∷◌, length, Bool, true, false, refl, sym, ap, ap₂, subst, ◌∙◌, arith, get_or}
 use Rattle.std.proofs.Math.ListN.{replicate}
 use Rattle.std.specs.Prelude.{nat_eq, slice_set, if◌then◌else◌, map, not, ◌&&◌}
@@ -17,14 +17,14 @@ use Rattle.tl_compiler.specs.Statements as Code
 use Rattle.tl_compiler.specs.Statements.{release_code, pad_at, one_pad, pads_of}
 use Rattle.tl_compiler.proofs.SetNumbers.{same_number}
 
--- there is one pad for all
+-- one pad for all sets
 pub all_set : (new : Pads) (label : Label) → new.labels ≡ replicate 256 label → LeadsTo (λ held. label.0) new
 all_set new label is = record {
   at_each = λ n lt.
       sym (ap (λ (l : List Label). (get_or {A = Label} l n (record { 0 = 0 })).0) is ∙ ap (λ (l : Label). l.0) (get_or-replicate 256 n label (record { 0 = 0 }) lt));
 }
 
--- one pad is put in the place of another
+-- one pad is replaced
 pub one_set : (old new : Pads) (k : ℕ) (label : Label) (pad : Nodes → ℕ) → k < 256 → length old.labels ≡ 256 → new.labels ≡ slice_set old.labels k label
     → LeadsTo pad old → LeadsTo (pad_at (bits_of 8 k) label.0 pad) new
 one_set old new k label pad small all is leads = record { at_each = λ n lt. by n lt (eqb_tells k n) }
@@ -57,7 +57,7 @@ pads_step list handled f i first lt =
     ∙ ap (λ a. one_pad (is_among (bits_of 8 (255 - i)) list && not (same (bits_of 8 (255 - i)) handled)) (bits_of 8 (255 - i)) handled f (pads_of (map (bits_of 8) (range_with_len a i)) list handled f first)) behind
 
 module _ (list : List Nodes) (handled : Nodes) (f i : ℕ) (first : Code.Pads) (held : Nodes) (small : i < 256) (is : held ≡ bits_of 8 (255 - i)) where
-  -- the pads so far, and with the next set
+  -- the pads so far, and below with the next set
   abbrev pub so_far : Code.Pads
   so_far = pads_of (map (bits_of 8) (range_with_len (256 - i) i)) list handled f first
 

@@ -1,4 +1,4 @@
--- The code of statements: its loops match, and its jumps lead to where they may.
+-- The code of statements: its loops match, and the targets of its jumps are allowed.
 use Rattle.std.proofs.Common.{◌≡◌, inl, inr, ℕ, zero, suc, ◌+◌, ◌<◌, ◌≤◌, List, [], ◌∷◌, length, max, Bool, true, false, not, ◌&&◌, ◌||◌, Option, Some, None, is_some, if◌then◌else◌, refl, arith}
 use Rattle.std.specs.Prelude.{pos}
 use Rattle.tl_instr.specs.declared.operand.TheConstants.{NODE_REGISTERS}

@@ -8,7 +8,7 @@ use Rattle.tl_lowering.specs.declared.program.Statement.TheVariants as S
 use Rattle.tl_compiler.specs.Statements.{procedure_code}
 
 -- lock root = node(0); lock first = child(root, 0); first.value = amount; free first; lock second = child(root, 1); emit second.value;
--- and an empty else: what fails while the root is held leads to a pad that frees it
+-- with an empty `else`: a failure while the root is held leads to a pad that frees it
 both_children : (p : _) →
     procedure_code 1 (S.Try' p (S.Try' p
     (S.Lock' (P.Node 0 (E.Constant (pos 0))) p

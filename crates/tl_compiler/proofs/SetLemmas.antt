@@ -35,7 +35,7 @@ holds_minus (x ∷ xs) [] i e = absurd (omega (arith, e))
 holds_minus (x ∷ xs) (y ∷ ys) zero e = refl
 holds_minus (x ∷ xs) (y ∷ ys) (suc i) e = holds_minus xs ys i (omega (arith, e))
 
--- each of the first set is in the second one
+-- each register of the first set is in the second one
 abbrev pub Within : Nodes → Nodes → Type 0
 Within xs ys = (i : ℕ) → holds xs i ≡ true → holds ys i ≡ true
 
@@ -111,7 +111,7 @@ among h [] e = absurd e
 among h (x ∷ xs) (inl e) = or_left (same h x) (is_among h xs) (subst (λ y. same h y ≡ true) e (same_itself h))
 among h (x ∷ xs) (inr e) = or_right (same h x) (is_among h xs) (among h xs e)
 
--- all that is held at all of them is held at each
+-- the intersection of all sets is within each of them
 pub all_within : (h : Nodes) (xs : List Nodes) (g : Nodes) → IsIn h xs → all_of xs ≡ Some g → Within g h
 all_within h [] g e all = absurd e
 all_within h (x ∷ xs) g e all = by (λ m e f. all_within h xs m e f) (all_of xs) refl e all

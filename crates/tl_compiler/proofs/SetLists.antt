@@ -1,4 +1,4 @@
--- What is held at all of several places.
+-- The intersection of several sets of registers.
 use Rattle.std.proofs.Common.{◌≡◌, List, [], ◌∷◌, ◌++◌, Bool, true, false, ◌&&◌, Option, Some, None, refl, sym, ap, ap₂, ◌∙◌}
 use Rattle.tl_lowering.specs.Sets.{Nodes, both, both_of, all_of}
 

@@ -1,4 +1,4 @@
--- Sets of registers by their numbers, and sets of these.
+-- Sets of registers by their numbers, and sets of such sets.
 use Rattle.std.proofs.Common.{◌≡◌, ◌≢◌, ◌⊎◌, inl, inr, ℕ, zero, suc, ◌*◌, ◌/◌, ◌%◌, ◌^◌, ◌<◌, List, [], ◌∷◌, ◌++◌, length, Bool, true, false, refl, sym, ap, ap₂, ◌∙◌, subst, arith, w64, bit_or, max, get_or, Option, Some, None}
 use Rattle.std.specs.Prelude.{nat_eq, ◌||◌, ◌&&◌, slice_set, unwrap_or}
 use Rattle.std.specs.Bool.{beq}

@@ -1,4 +1,4 @@
--- Each set that is known of a statement is one of all node registers.
+-- Each set computed for a statement has an entry for every node register.
 use Rattle.std.proofs.Common.{◌≡◌, List, [], ◌∷◌, ◌++◌, length, Bool, true, false, ◌||◌, Option, Some, None, is_some, option_map, if◌then◌else◌, refl, sym, ap, ◌∙◌, ◌⊎◌, inl, inr}
 use Rattle.std.proofs.lemmas.List.{length-set}
 use Rattle.tl_instr.specs.declared.operand.TheConstants.{NODE_REGISTERS}

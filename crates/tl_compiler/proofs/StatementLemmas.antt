@@ -1,4 +1,4 @@
--- The code of statements, put together.
+-- The code of statements as it is put together.
 use Rattle.std.proofs.Common.{◌≡◌, ℕ, List, [], ◌∷◌, length, Bool, false, ◌||◌, None, option_map, Result, Ok, Err, OnOk, sym, ap, ap₂, ◌∙◌, subst}
 use Rattle.tl_instr.specs.declared.instr.Instr.{Instr}
 use Rattle.tl_instr.specs.declared.instr.Instr.TheVariants.{Return}
@@ -17,7 +17,7 @@ pub ok_more : {P Q : Type 0} {T E : Type 0} (r : Result T E) → (P → Q) → O
 ok_more (Ok v) f h = f h
 ok_more (Err e) f h = tt
 
--- the body of a procedure, before its return
+-- the body of a procedure, in front of its return
 pub procedure_written : (body : Statement) (arity here : ℕ) (c : Context) (first whole : Draft)
     → Writes (statement_code body (nodes_of c.held)) c first whole
     → c.values ≡ arity → c.nodes ≡ 0 → c.exit ≡ None → nodes_of c.held ≡ none_held → LeadsTo (λ held. here) c.pads.now
@@ -30,7 +30,7 @@ procedure_written body arity here c first whole writes values nodes exit held pa
     record { values = sym values; nodes = sym nodes; pads = subst (λ n. LeadsTo (λ held. n) c.pads.now) one pads; exit = sym (ap (option_map exit_of) exit) } in
     writes.written start agrees ∙ ap₂ (λ h k. statement_code body h start k) held is
 
--- the first way of a statement whose failures the second one handles: its site has the pads
+-- the first way of a statement whose failures the second way handles: its site has the pads
 pub guarded_written : {T E : Type 0} (body : Statement) (held handled : Nodes) (ways padded : Ways) (c inside : Context) (is_one : Bool) (old half new : Draft) (r : Result T E)
     → OnOk r (Writes (λ x k. statement_code body held x (joining_code (after body held) (nodes_of padded.kept) padded.jumps padded.done.0 k)) inside half new)
     → inside.values ≡ c.values → inside.nodes ≡ c.nodes → inside.exit ≡ c.exit → padded ≡ record ways { jumps = ways.jumps || is_one }

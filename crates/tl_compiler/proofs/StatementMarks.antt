@@ -1,4 +1,4 @@
--- Marks of statements: each has marks if what stands behind it has.
+-- The marks of statements: a statement has marks if the code after it has fitting ones.
 use Rattle.std.proofs.Common.{◌≡◌, ◌≢◌, ◌⊎◌, inl, inr, ℕ, suc, ◌+◌, ◌<◌, List, [], ◌∷◌, ◌++◌, length, Bool, true, false, ◌||◌, Option, Some, None, is_some, option_map, if◌then◌else◌, refl, sym, ◌∙◌, ap, subst, arith}
 use Rattle.std.specs.Prelude.{pos, IfSome}
 use Rattle.std.proofs.lemmas.Bool.{or_parts, cases_eq, cases_order}
@@ -47,7 +47,7 @@ none_some x e = cc
 skip_marked : StatementMarked S.Skip
 skip_marked held e x k ns size facts p = record { marks = ns; marked = none; begins = p.after held e refl refl }
 
--- code to which nothing leads
+-- code that is never reached
 all_dead : {c j : List Instr} → Tail c j → (ls : List (Option Marks)) → (ms : List (Option Marks)) × Marked c ms j ls
 all_dead {c} {j} t ls = let r = by_front t.front in subst (λ d. (ms : List (Option Marks)) × Marked d ms j ls) (sym t.joined) r
   where
@@ -63,7 +63,7 @@ then_breaks : (s : Option Bool) (y : Entered) (more : Bool → Entered) (f : Boo
 then_breaks None y more f g = one_itself y.breaks f g
 then_breaks (Some v) y more f g = or_first y.breaks (more v).breaks f g
 
--- what one statement promises serves as what another one does
+-- what one statement requires of failures' labels covers what another one requires
 fails_by : (b : Statement) (hb : Nodes) (eb : Bool) (y : Site) {a : Statement} {ha : Nodes} {ea : Bool} {x : Site} {ns : List (Option Marks)} → Outs a ha ea x ns → x.pad ≡ y.pad → ((h : Nodes) → IsIn h (fails b hb) → IsIn h (fails a ha)) → ((f : Bool) → (entered b eb).fails ≡ Some f → OneOf (entered a ea).fails f)
     → (h : Nodes) (f : Bool) → IsIn h (fails b hb) → (entered b eb).fails ≡ Some f → Brings ns (y.pad h) (marks h f)
 fails_by b hb eb y {ns = ns} outs alike is_in among_both h f i g =
@@ -92,7 +92,7 @@ sequence_marked p a q b one two held e x k ns size facts pr = by (after a held) 
       breaks = breaks_by a held e x outs refl (λ h i. in_left h (breaks a held) _ i) (λ f g. then_breaks (entered a e).after (entered a e) (entered b) f g);
     }
 
-    -- the first part, before code that has marks where it goes on
+    -- the first part, in front of code with fitting marks
     first : (ls : List (Option Marks)) (j : List Instr) → Marked j ls k ns → length ls ≡ length j → ((h : Nodes) (f : Bool) → after a held ≡ Some h → (entered a e).after ≡ Some f → Brings ls (length ls) (marks h f)) → Begins (statement_code a held x j) k ns (marks held e)
     first ls j m long on = let r = one held e x j ls long facts_a (promised on (outs_further m outs_a)) in record { marks = r.marks; marked = marked_further r.marked m; begins = r.begins }
 
@@ -172,7 +172,7 @@ free_marked_statement n held e x k ns size facts pr = free_one n held e k ns fac
 fail_marked : StatementMarked S.Fail
 fail_marked held e x k ns size facts pr = jump_marked (x.pad held) k ns (marks held e) (pr.fails held e (inl refl) refl)
 
--- what is moved
+-- a node that is moved
 move_allows : (n m : ℕ) (k : Marks) → is_held k n ≡ false → is_held k m ≡ true → Allows (I.Move n m) k
 move_allows n m k empty has = record {
   held = λ j x. let here : m ≡ j = cc in subst (λ q. is_held k q ≡ true) here has;
@@ -201,7 +201,7 @@ low held n has = by (cases_order n (length held))
 without_itself : (held : Nodes) (n : ℕ) → n < length held → holds (without_node held n) n ≡ false
 without_itself held n lt = get_or-set_same held n false false lt
 
--- the child is taken, the node is freed, and its register takes the child
+-- the child is locked, the node is freed, and the child moves to its register
 descended : (held : Nodes) (n m : ℕ) → holds held n ≡ true → holds held m ≡ false → m < length held → with_node (without_node (without_node (with_node held m) n) m) n ≡ held
 descended held n m has empty lt =
     all_held (with_node (without_node (without_node (with_node held m) n) m) n) held
@@ -610,7 +610,7 @@ is_mark None s held h f e g = absurd (none_some h e)
 is_mark (Some k) None held h f e g = absurd (none_some f g)
 is_mark (Some k) (Some t) held h f e g = let n : t ≡ f = cc in ap (λ z. Some (marks held z)) n
 
--- what stands behind the end of a loop
+-- the code after the end of a loop
 pub record Rest (leaves : Bool) (held : Nodes) (p : Option Bool) (c k : List Instr) (ns : List (Option Marks)) : Type 0 where
   pub list : List (Option Marks)
   pub marked : Marked c list k ns
@@ -685,7 +685,7 @@ module _ (a : Statement) (one : StatementMarked a) (held : Nodes) (e : Bool) (x 
           by None s = length-replicate NODE_REGISTERS false
           by (Some h) s = s h refl
 
-  -- from the instruction that opens it
+  -- from the instruction that opens the loop
   loop_begins : (i : Instr) (w : ℕ) → kind i ≡ Opens w → (is_by i ≡ true → (leaves ≡ true) × OneOf p e) → Begins (i ∷ statement_code a held site_inside (I.End ∷ code_behind)) k ns (marks held e)
   loop_begins i w opens past =
       let r = body_of_loop in

@@ -1,4 +1,4 @@
--- The code of a statement stands before the code behind it, and closes each loop that it opens.
+-- The code of a statement is put in front of the code after it, and closes each loop that it opens.
 use Rattle.std.proofs.Common.{ℕ, ◌+◌, List, [], ◌∷◌, length, Bool, true, false, not, ◌&&◌, ◌||◌, Option, Some, None, is_some, if◌then◌else◌, refl}
 use Rattle.std.specs.Prelude.{pos}
 use Rattle.tl_instr.specs.declared.operand.TheConstants.{NODE_REGISTERS}

@@ -1,4 +1,4 @@
--- Parts of a code in which each loop that opens has its end.
+-- Parts of a code in which each loop that opens also ends.
 use Rattle.std.proofs.Common.{◌≡◌, ℕ, zero, suc, ◌+◌, ◌-◌, List, [], ◌∷◌, ◌++◌, length, map, drop, Option, Some, None, option_map, refl, sym, ap, ◌∙◌, arith, append_assoc}
 use Rattle.std.specs.Prelude.{slice_get}
 use Rattle.std.proofs.lemmas.List.{length-append, length-map, drop_at, map-append}
@@ -9,7 +9,7 @@ use Rattle.tl_compiler.specs.Aiming.{aimed, at_positions}
 use Rattle.tl_compiler.specs.Tails.{Tail}
 use Rattle.tl_compiler.proofs.TailLemmas.{fetch, tail_length}
 
--- the second list is the end of the first one, and what stands before it opens no loop that it doesn't close
+-- the second list is an end of the first, and each loop that opens before it also closes before it
 pub record Stretch (whole end : List Instr) : Type 0 where
   pub front : List Instr
   pub joined : whole ≡ front ++ end
@@ -44,7 +44,7 @@ next_one : (o : Option ℕ) → option_map suc o ≡ option_map (λ n. suc zero 
 next_one None = refl
 next_one (Some n) = ap Some (omega arith)
 
--- an instruction that neither opens nor closes a loop
+-- an instruction that doesn't open or close a loop
 pub stretch_acts : (i : Instr) (k : List Instr) → kind i ≡ Acts → Stretch (i ∷ k) k
 stretch_acts i k e = record {
   front = i ∷ [];

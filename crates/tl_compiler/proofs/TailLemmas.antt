@@ -37,6 +37,6 @@ fetch {c} i k t =
     ∙ ap (λ l. slice_get (map (aimed (length c)) l) (length t.front)) t.joined
     ∙ fetched (aimed (length c)) t.front i k
 
--- a label that a target has
+-- the position of a label that is a target
 pub aimed_at : (n label : ℕ) → n ≤ 65535 → label ≤ n → n - target_of label ≡ n - label
 aimed_at n label short le = omega arith

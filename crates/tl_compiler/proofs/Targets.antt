@@ -1,4 +1,4 @@
--- Where the jumps of a code lead, as it is put together from the end.
+-- The targets of a code's jumps, where the code is built from its end.
 use Rattle.std.proofs.Common.{◌≡◌, inl, ℕ, ◌<◌, List, ◌∷◌, length, Bool, true, false, not, Some, None, if◌then◌else◌, refl, ◌∙◌, ap, arith}
 use Rattle.std.proofs.lemmas.List.{length-append}
 use Rattle.tl_instr.specs.declared.instr.Instr.{Instr}
@@ -19,19 +19,19 @@ use Rattle.tl_compiler.specs.Statements.{Exit, Site}
 use Rattle.tl_compiler.proofs.Stretches.{Stretch}
 use Rattle.tl_compiler.proofs.Nestings.{IsStraight, Nests, here, one, nests_further, nests_stretch}
 
--- between the two places no loop opens that doesn't close; loops around both may end
+-- each loop that opens between the two positions also closes between them; loops around both may end there
 pub data Leaves : List Instr → List Instr → Type 0 where
   stays : {c k : List Instr} → Nests MAX_DEPTH c k → Leaves c k
   out : {c j k : List Instr} → Nests MAX_DEPTH c (I.End ∷ j) → Leaves j k → Leaves c k
 
--- a jump from before c may lead to the label
+-- a jump from before c may go to the label
 pub record Reaches (c : List Instr) (label : ℕ) : Type 0 where
   pub end : List Instr
   pub long : length end ≡ label
   pub some : 0 < label
   pub leaves : Leaves c end
 
--- what stands before k jumps to where it may
+-- each jump before k has an allowed target
 pub data Jumps : List Instr → List Instr → Type 0 where
   none : {k : List Instr} → Jumps k k
   straight : {i : Instr} {c k : List Instr} → target i ≡ None → Jumps c k → Jumps (i ∷ c) k
@@ -124,7 +124,7 @@ operands_jumps a b t f k r =
 pub operands_nests : {d : ℕ} → (a b : Expression) (t f : ℕ) (k : List Instr) → Nests d (operands_code a b t f k) k
 operands_nests a b t f k = nests_further (operand_nests a t f (operand_code b (behind a t) f k)) (operand_nests b (behind a t) f k)
 
--- an instruction that jumps to a label where a test of two registers holds
+-- an instruction that jumps to a label if a test of two registers is true
 record IsTest (i : ℕ → Instr) : Type 0 where
   is_target : (l : ℕ) → target (i l) ≡ Some l
   is_kind : (l : ℕ) → kind (i l) ≡ Acts

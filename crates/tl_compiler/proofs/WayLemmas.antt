@@ -1,4 +1,4 @@
--- What is held where ways of a statement join, and ways without code.
+-- What is held where the ways of a statement join, and ways without code.
 use Rattle.std.proofs.Common.{◌≡◌, ℕ, zero, suc, ◌≤◌, List, [], ◌∷◌, length, true, false, not, Option, Some, None, if◌then◌else◌, refl, ap, ◌∙◌, subst, arith, option_map}
 use Rattle.std.proofs.lemmas.Bool.{or_parts, not-false}
 use Rattle.std.proofs.lemmas.List.{get_or-replicate}
@@ -32,7 +32,7 @@ joins_nothing None kept k e = refl
 joins_nothing (Some h) kept k e =
     ap (λ g. release_code g k) (same_is (minus h kept) none_held (not-false (same (minus h kept) none_held) e)) ∙ releases_none NODE_REGISTERS k (omega arith)
 
--- the way that a second way's end is the end of both, where the first one doesn't jump
+-- if the first way doesn't jump, the end of the second way is the end of both
 pub second_short : (to : Option ℕ) (b : Statement) (hb : Nodes) (x : Site) (kept : Nodes) (k : List Instr)
     → (second_by to (is_skip b) (after b hb) kept (statement_code b hb x) k).jumps ≡ false → length (second_by to (is_skip b) (after b hb) kept (statement_code b hb x) k).code ≡ length k
 second_short (Some label) b hb x kept k e = refl
@@ -40,13 +40,13 @@ second_short None b hb x kept k e =
     let h = or_parts (not (is_skip b)) (releases (after b hb) kept) e in
     ap length (skips_code b hb x (joining_code (after b hb) kept false 0 k) (not-false (is_skip b) h.0) ∙ joins_nothing (after b hb) kept k h.1)
 
--- what is kept behind a statement of several ways, of which this is one
+-- what is kept after a statement with several ways, of which this is one
 pub record Keeps (one whole : Option Nodes) (kept : Nodes) : Type 0 where
   pub is : (h : Nodes) → one ≡ Some h → whole ≡ Some kept
   pub within : (h : Nodes) → one ≡ Some h → Within kept h
   pub size : (h : Nodes) → one ≡ Some h → length h ≡ NODE_REGISTERS → length kept ≡ NODE_REGISTERS
 
--- what is kept behind one of two ways
+-- what is kept after one of two ways
 pub keeps_first : (a b : Option Nodes) → AnySized a → AnySized b → Keeps a (both_of a b) (held_behind (both_of a b))
 keeps_first None b x y = record { is = λ h e. cc; within = λ h e. absurd (let f : ◌≡◌ {A = Option Nodes} None (Some h) = e in cc); size = λ h e s. absurd (let f : ◌≡◌ {A = Option Nodes} None (Some h) = e in cc) }
 keeps_first (Some g) None x y = record {
@@ -86,7 +86,7 @@ within_unlocked (P.Node n e) h = without_within h n
 within_unlocked (P.Child n p e) h = without_within h n
 within_unlocked (P.Pair n k p a b) h = λ i e. without_within h n i (without_within (without_node h n) k i e)
 
--- behind the statement the place is free again
+-- after the statement the place is unlocked again
 pub keeps_unlocked : (place : Place) (one whole : Option Nodes) → Keeps one whole (held_behind whole) → Keeps one (option_map (unlocked place) whole) (held_behind (option_map (unlocked place) whole))
 keeps_unlocked place one None k = record {
   is = λ h e. let f = k.is h e in cc;
@@ -99,7 +99,7 @@ keeps_unlocked place one (Some w) k = record {
   size = λ h e s. unlocked_sized place w (k.size h e s);
 }
 
--- what is held behind a loop that may be left in two ways
+-- what is held after a loop that may end in two ways
 pub record Leaves (held : Nodes) (one whole : Option Nodes) : Type 0 where
   pub is : (h : Nodes) → one ≡ Some h → whole ≡ Some (held_behind whole)
   pub within : (h : Nodes) → one ≡ Some h → Within (held_behind whole) h

@@ -22,7 +22,7 @@ use Rattle.tl_compiler.proofs.Entrances.{or_of, some_if, entered, EntersOnce}
 use Rattle.tl_compiler.proofs.Markings.{marks, Brings, Marked, none, dead, marked_further, marked_long, Promises, Begins, begins_further, stays_there}
 use Rattle.tl_compiler.proofs.Marking.{begins_label, jump_marked, free_marked, dead_marked, Joined, Keeps, joining_marked}
 
--- the facts of a statement, but for what stands behind it
+-- the properties of a statement that don't depend on the code after it
 pub record Facts (a : Statement) (held : Nodes) (e : Bool) (x : Site) : Type 0 where
   pub sized : length held ≡ NODE_REGISTERS
   pub sound : IsWellFormed a x.values x.nodes held (is_some x.exit)
@@ -35,7 +35,7 @@ pub record Facts (a : Statement) (held : Nodes) (e : Bool) (x : Site) : Type 0 w
 abbrev pub StatementMarked : Statement → Type 0
 StatementMarked a = (held : Nodes) (e : Bool) (x : Site) (k : List Instr) (ns : List (Option Marks)) → length ns ≡ length k → Facts a held e x → Promises a held e x ns → Begins (statement_code a held x k) k ns (marks held e)
 
--- where its failures and breaks lead
+-- the labels for failures and breaks have fitting marks
 pub record Outs (a : Statement) (held : Nodes) (e : Bool) (x : Site) (ns : List (Option Marks)) : Type 0 where
   pub fails : (h : Nodes) (f : Bool) → IsIn h (fails a held) → (entered a e).fails ≡ Some f → Brings ns (x.pad h) (marks h f)
   pub breaks : (h : Nodes) (f : Bool) (exit : Exit) → IsIn h (breaks a held) → (entered a e).breaks ≡ Some f → x.exit ≡ Some exit → Within exit.held h × Brings ns exit.label (marks exit.held f)
@@ -61,7 +61,7 @@ not_true false g h e = refl
 pub brings_less : {ns : List (Option Marks)} {l : ℕ} {held : Nodes} {g : Bool} (f : Bool) → (f ≡ true → g ≡ true) → Brings ns l (marks held g) → Brings ns l (marks held f)
 brings_less {ns} {l} {held} {g} f h b = record { there = b.there; at = b.at; held = b.held; is_open = λ e. not_true f g h (b.is_open e) }
 
--- one of two ways is among both
+-- o has a value, which is true if f is
 pub record OneOf (o : Option Bool) (f : Bool) : Type 0 where
   pub value : Bool
   pub is : o ≡ Some value
@@ -85,7 +85,7 @@ or_second (Some x) (Some y) f e = record { value = x || y; is = refl; more = λ 
 pub one_itself : (o : Option Bool) (f : Bool) → o ≡ Some f → OneOf o f
 one_itself o f e = record { value = f; is = e; more = λ t. t }
 
--- what a failure of the statement itself may bring
+-- the nodes held at a failure of the statement itself are in the list
 pub itself_in : (may : Bool) (held : Nodes) (others : List Nodes) → may ≡ true → IsIn held (here_if may held ++ others)
 itself_in true held others e = inl refl
 itself_in false held others e = cc
@@ -96,7 +96,7 @@ itself_fails false e o t = cc
 
 -- ---- where one of two ways goes on
 
--- a way's end is among those of the whole
+-- the end of a way is one of the whole statement
 pub rests : {ns : List (Option Marks)} {one whole : Option Nodes} {p q : Option Bool} {label : ℕ} → Kept one whole (held_behind whole) → AnySized one → ((f : Bool) → p ≡ Some f → OneOf q f)
     → ((h : Nodes) (f : Bool) → whole ≡ Some h → q ≡ Some f → Brings ns label (marks h f)) → (h : Nodes) (f : Bool) → one ≡ Some h → p ≡ Some f → Keeps ns h (held_behind whole) f label
 rests {whole = whole} kept sized among_both on h f e g =
@@ -141,7 +141,7 @@ direct_brings (S.Try' p a q b) held e x ns o label is = cc
 direct_brings (S.Repeat' w p a) held e x ns o label is = cc
 direct_brings (S.RepeatUpTo' n w p a) held e x ns o label is = cc
 
--- and goes on nowhere
+-- a statement without code never goes on
 pub direct_none : (b : Statement) (held : Nodes) (e : Bool) (x : Site) (label : ℕ) → direct b held x ≡ Some label → (after b held ≡ None) × ((entered b e).after ≡ None)
 direct_none S.Fail held e x label is = (refl, refl)
 direct_none S.Break held e x label is = (refl, refl)
@@ -184,7 +184,7 @@ second_marked b ih hb e x kept k ns size facts outs keeps None is =
 
 -- ---- two ways
 
--- where the first way goes on, if it doesn't jump
+-- where control goes on after the first way, if it doesn't jump
 pub first_label : (j : Bool) (n m : ℕ) → (j ≡ false → m ≡ n) → n ≡ (if j then n else m)
 first_label true n m h = refl
 first_label false n m h = sym (h refl)
@@ -215,7 +215,7 @@ module _ (a b : Statement) (one : StatementMarked a) (two : StatementMarked b) (
   first_way : Begins (statement_code a ha y rest) rest joined.list (marks ha ea)
   first_way = one ha ea y rest joined.list size_joined facts_a (promised joined.begins (outs_further joined.marked (outs_further other.marked outs_a)))
 
-  -- both, with what comes before them
+  -- both ways, with the code in front of them
   pub ways_marked : (opening : ℕ → List Instr → List Instr) (m : Marks)
       → ((j : List Instr) (ls : List (Option Marks)) → length ls ≡ length j → Marked j ls k ns → Brings ls second.label (marks hb eb) → Brings ls (length j) (marks ha ea) → Begins (opening second.label j) j ls m)
       → Begins (opening second.label (statement_code a ha y rest)) k ns m

@@ -3,7 +3,7 @@ use Rattle.std.specs.Prelude.{ℕ, ◌-◌, List, length, map, Option, Some, Non
 use Rattle.tl_instr.specs.declared.instr.Instr.{Instr}
 use Rattle.tl_instr.specs.Instructions.{target, with_target}
 
--- an instruction of a code of so many, with a position in the place of its label
+-- an instruction of a code of `count` instructions, with its label replaced by a position
 abbrev pub at_label : ℕ → Instr → Option ℕ → Instr
 at_label count i None = i
 at_label count i (Some label) = with_target (count - label) i

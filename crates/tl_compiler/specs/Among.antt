@@ -1,4 +1,4 @@
--- Sets among others.
+-- Membership in a list of sets.
 use Rattle.std.specs.Prelude.{◌≡◌, List, [], ◌∷◌, ◌⊎◌}
 use Rattle.tl_lowering.specs.Sets.{Nodes}
 

@@ -1,4 +1,4 @@
--- What the procedures of a text become.
+-- The compiled procedures of a text.
 use Rattle.std.specs.Prelude.{◌≡◌, ℕ, List, [], ◌∷◌, Option, Some, None, IsUtf8, string_bytes}
 use Rattle.std.specs.List.{All, AllZip, Contains}
 use Rattle.tl_instr.specs.Codes.{CodeValue}
@@ -15,17 +15,17 @@ use Rattle.tl_compiler.specs.Statements.{procedure_code}
 abbrev pub code_of_procedure : Procedure → CodeValue
 code_of_procedure source = record { version = Two; arity = source.arity; instrs = at_positions (procedure_code source.arity source.body) }
 
--- it has the name and the code of that procedure, and the verifier accepts the code
+-- it has the name and the code of this procedure, and the verifier accepts the code
 pub record IsCompiled (source : Procedure) (made : Compiled) : Type 0 where
   pub name : string_bytes made.name ≡ source.name.items
   pub code : made.procedure ≡ code_of_procedure source
   pub accepted : Acceptable (code_of_procedure source).instrs
 
--- they are those of these procedures, one for one
+-- they are compiled from these procedures, one by one
 abbrev pub AreCompiled : List Procedure → List Compiled → Type 0
 AreCompiled sources made = AllZip IsCompiled sources made
 
--- the one of that name, or the only one
+-- the one with this name; without a name, the only one there is
 abbrev pub IsMeant : {A : Type 0} → (A → List ℕ) → Option (List ℕ) → List A → A → Type 0
 IsMeant name_of (Some name) all one = Contains all one × (name_of one ≡ name)
 IsMeant name_of None all one = all ≡ one ∷ []
@@ -36,7 +36,7 @@ made_name made = string_bytes made.name
 abbrev pub source_name : Procedure → List ℕ
 source_name source = source.name.items
 
--- The procedures of a text, each of them and in their order, compiled. Each is in order.
+-- The compiled procedures of a text, in order. Each procedure is well-formed.
 pub record Compiles (text : List ℕ) (made : List Compiled) : Type 0 where
   pub utf8 : IsUtf8 text
   pub sources : List Procedure

@@ -25,7 +25,7 @@ excess_number Steps = 295
 excess_number Locks = 296
 excess_number Emits = 297
 
--- a number, and then a line and a column
+-- a number followed by a line and a column
 abbrev pub numbers_at : ℕ → Position → List ℕ
 numbers_at number position = number ∷ position.line ∷ position.column ∷ []
 
@@ -36,30 +36,30 @@ numbers_of (Over excess sum position) = numbers_at (excess_number excess) positi
 numbers_of NotOne = 289 ∷ []
 numbers_of Memory = 290 ∷ []
 
--- what is wrong with a text
+-- the fault is one of the text
 abbrev pub IsTextFault : CompileFault → Type 0
 IsTextFault (Wrong wrong position) = Unit {0}
 IsTextFault Memory = Unit {0}
 IsTextFault _ = ⊥
 
--- the code of a procedure, with positions in the place of labels
+-- the code of a procedure, with positions in place of labels
 abbrev pub placed_code : Procedure → List Instr
 placed_code source = at_positions (procedure_code source.arity source.body)
 
--- the code of a procedure has too much of something
+-- the code of a procedure exceeds this limit
 abbrev pub IsOver : Procedure → Excess → Type 0
 IsOver source Instructions = MAX_COUNT < length (procedure_code source.arity source.body)
 IsOver source Steps = MAX_STEPS < budget (placed_code source)
 IsOver source Locks = MAX_LOCKS < lock_bound (placed_code source)
 IsOver source Emits = MAX_EMITS < emit_bound (placed_code source)
 
--- too much of that, or want of memory
+-- this limit is exceeded, or memory was refused
 abbrev pub IsExcess : Excess → CompileFault → Type 0
 IsExcess excess (Over other sum position) = other ≡ excess
 IsExcess excess Memory = Unit {0}
 IsExcess excess _ = ⊥
 
--- what the verifier's fault becomes: it is one of its sums, or want of memory
+-- the fault that a fault of the verifier becomes: an exceeded sum, or refused memory
 abbrev pub IsVerifierFault : VerifyFault → CompileFault → Type 0
 IsVerifierFault (verify.Nest StepsOver) e = IsExcess Steps e
 IsVerifierFault (verify.Nest LocksOver) e = IsExcess Locks e
@@ -67,26 +67,26 @@ IsVerifierFault (verify.Nest EmitsOver) e = IsExcess Emits e
 IsVerifierFault verify.Memory e = e ≡ Memory
 IsVerifierFault fault e = ⊥
 
--- what is wrong with the code of a procedure
+-- the fault of a procedure's code
 abbrev pub IsCodeFault : Procedure → CompileFault → Type 0
 IsCodeFault source (Over excess sum position) = IsOver source excess
 IsCodeFault source Memory = Unit {0}
 IsCodeFault source _ = ⊥
 
--- what is wrong with the code of one of these procedures
+-- the fault of the code of one of these procedures
 abbrev pub IsCodesFault : List Procedure → CompileFault → Type 0
 IsCodesFault sources (Over excess sum position) = (source : Procedure) × Contains sources source × IsOver source excess
 IsCodesFault sources Memory = Unit {0}
 IsCodesFault sources _ = ⊥
 
--- the text has procedures, and something is wrong with the code of one
+-- the text has procedures, and the code of one has this fault
 pub record HasCodeFault (text : List ℕ) (e : CompileFault) : Type 0 where
   pub utf8 : IsUtf8 text
   pub sources : List Procedure
   pub program : IsProgram text sources
   pub fault : IsCodesFault sources e
 
--- The text isn't UTF-8, and only then is that the answer. What is wrong with a code comes only where the text can be read.
+-- NotUtf8 means that the text isn't UTF-8. A fault of the code is returned only if the text has procedures.
 abbrev pub IsCompileFault : List ℕ → CompileFault → Type 0
 IsCompileFault text NotUtf8 = IsUtf8 text → ⊥
 IsCompileFault text (Wrong wrong position) = IsUtf8 text

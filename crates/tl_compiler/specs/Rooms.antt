@@ -1,4 +1,4 @@
--- Which registers there are where the code of a statement is written.
+-- Which registers the code of a statement needs.
 use Rattle.std.specs.Prelude.{◌≡◌, ℕ, ◌+◌, ◌<◌, ◌≤◌}
 use Rattle.tl_instr.specs.declared.operand.TheConstants.{VALUE_REGISTERS, NODE_REGISTERS}
 use Rattle.tl_lowering.specs.declared.program.Procedure.{Procedure}
@@ -8,7 +8,7 @@ use Rattle.tl_lowering.specs.Fit.{HasConditionRoom, HasPlaceRoom}
 use Rattle.tl_lowering.specs.Registers.{behind, HasTemporaries, HasRegisters}
 use Rattle.tl_lowering.specs.Sound.{IsInOrder, nodes_behind}
 
--- where the first d registers are those of values, each new value has the next one
+-- each new value has the next register, where the first d registers hold values
 abbrev pub IsNumbered : Statement → ℕ → Type 0
 IsNumbered S.Skip d = Unit {0}
 IsNumbered (S.Sequence' p a q b) d = IsNumbered a d × IsNumbered b d
@@ -35,8 +35,7 @@ pub record IsReady (source : Procedure) : Type 0 where
   pub in_order : IsInOrder source
   pub numbered : IsNumbered source.body source.arity
 
--- there are registers for all that the code of a statement needs, where the first d value registers are those of values and m is the
--- first free node register
+-- there are enough registers for the code of a statement, where the first d value registers hold values and m is the first free node register
 abbrev pub Fits : Statement → ℕ → ℕ → Type 0
 Fits S.Skip d m = Unit {0}
 Fits (S.Sequence' p a q b) d m = Fits a d m × Fits b d m

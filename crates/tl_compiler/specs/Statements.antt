@@ -1,5 +1,5 @@
--- The code of statements. Code is put before the code that follows it, k, and a label is how many instructions stand from there to
--- the end.
+-- The code of statements. Each function puts code in front of the code k that follows it. A label is the number of
+-- instructions from a position to the end.
 use Rattle.std.specs.Prelude.{ℕ, zero, suc, ◌+◌, List, [], ◌∷◌, Bool, true, false, not, ◌&&◌, ◌||◌, Option, Some, None, is_some, length, if◌then◌else◌, pos}
 use Rattle.tl_instr.specs.declared.operand.TheConstants.{NODE_REGISTERS}
 use Rattle.tl_instr.specs.declared.instr.Instr.{Instr}
@@ -16,13 +16,13 @@ use Rattle.tl_compiler.specs.NodeSets.{all_sets}
 use Rattle.tl_lowering.specs.Outcomes.{locked, handled_by, after, fails}
 use Rattle.tl_lowering.specs.Sound.{nodes_behind}
 
--- the way out of a loop, and what is held there
+-- the label after a loop, and what is held there
 pub record Exit : Type 0 where
   pub label : ℕ
   pub held : Nodes
 
--- where a statement stands: how many values and nodes have registers, where failures lead by what is held at them, and the way out
--- of the loop around, if there is one
+-- the position of a statement: the numbers of registers in use for values and nodes, the label to which a failure leads
+-- for each set of nodes held, and the exit of the loop around it, if there is one
 pub record Site : Type 0 where
   pub values : ℕ
   pub nodes : ℕ
@@ -37,12 +37,12 @@ release_below (suc n) held k = if holds held n then I.Release n ∷ release_belo
 abbrev pub release_code : Nodes → List Instr → List Instr
 release_code held k = release_below NODE_REGISTERS held k
 
--- where `break` leads without code of its own
+-- the label to which a `break` leads, if it needs no code
 abbrev pub way_out : Nodes → Option Exit → Option ℕ
 way_out held None = None
 way_out held (Some exit) = if same exit.held held then Some exit.label else None
 
--- where a statement leads that needs no code of its own
+-- the label to which a statement leads that needs no code
 abbrev pub direct : Statement → Nodes → Site → Option ℕ
 direct S.Fail held x = Some (x.pad held)
 direct S.Break held x = way_out held x.exit
@@ -54,7 +54,7 @@ is_skip S.Skip = true
 is_skip (S.At' offset p a) = is_skip a
 is_skip s = false
 
--- what stands behind a way, where control goes on from it: what isn't kept is freed, and then it may have to jump to the end
+-- follows a way after which control goes on: frees what isn't kept, and then jumps to the end if necessary
 abbrev pub joining_code : Option Nodes → Nodes → Bool → ℕ → List Instr → List Instr
 joining_code None kept jumps done k = k
 joining_code (Some held) kept jumps done k =
@@ -64,7 +64,7 @@ abbrev pub releases : Option Nodes → Nodes → Bool
 releases None kept = false
 releases (Some held) kept = not (same (minus held kept) none_held)
 
--- the second of two ways: the code from there on, where it begins, and whether the first way has to jump over it
+-- the second of two ways: the code from its start on, its label, and whether the first way must jump over it
 pub record Second : Type 0 where
   pub code : List Instr
   pub label : ℕ
@@ -76,7 +76,7 @@ second_by None skips held kept code k =
     let whole = code (joining_code held kept false 0 k) in
     record { code = whole; label = length whole; jumps = not skips || releases held kept }
 
--- the pads of the failures that leave more held than the handler begins with, and where each stands
+-- the pads of failures at which more is held than at the handler's start, and the label of each
 pub record Pads : Type 0 where
   pub code : List Instr
   pub pad : Nodes → ℕ
@@ -96,13 +96,13 @@ pads_of [] failing handled label pads = pads
 pads_of (held ∷ others) failing handled label pads =
     one_pad (is_among held failing && not (same held handled)) held handled label (pads_of others failing handled label pads)
 
--- two children in rising order: where the upper one can't be locked, the lower one is freed again
+-- locks two children in rising order; if the upper one can't be locked, the lower one is freed again
 abbrev pub in_order_code : ℕ → ℕ → ℕ → ℕ → ℕ → ℕ → ℕ → List Instr → List Instr
 in_order_code lower x upper y parent done f k =
     let undone = I.Release lower ∷ I.Jump (target_of f) ∷ k in
     I.Child lower parent x (target_of f) ∷ I.Child upper parent y (target_of (length undone)) ∷ I.Jump (target_of done) ∷ undone
 
--- two children of one node: n by the number in x, and m by that in y
+-- locks two children of one node: n by the number in x, and m by the number in y
 abbrev pub pair_code : ℕ → ℕ → ℕ → ℕ → ℕ → ℕ → List Instr → List Instr
 pair_code n x m y parent f k =
     let upward = in_order_code n x m y parent (length k) f k in
@@ -115,19 +115,19 @@ place_code (P.Child n p e) t f k = operand_code e t f (I.Child n p (register_of 
 place_code (P.Pair n m p a b) t f k =
     operands_code a b t f (pair_code n (register_of a t) m (register_of b (behind a t)) p f k)
 
--- what opens a loop of as many turns as a number says, but at most w
+-- opens a loop with as many turns as a number says, and fails if that is more than w
 abbrev pub counted_code : Expression → ℕ → ℕ → ℕ → List Instr → List Instr
 counted_code e w t f k =
     operand_code e t f
     (I.Set (behind e t) (pos w) ∷ I.JumpIfLess (behind e t) (register_of e t) (target_of f) ∷ I.RepeatBy (register_of e t) w ∷ k)
 
--- the body of a loop and what stands behind it, from behind what opens it
+-- the body of a loop and what follows it, without the instruction that opens it
 abbrev pub loop_code : (Site → List Instr → List Instr) → Bool → Nodes → Nodes → Site → List Instr → List Instr
 loop_code body leaves held kept x k =
     body (record x { exit = Some (record { label = length k; held = kept }) })
     (I.End ∷ (if leaves then release_code (minus held kept) k else k))
 
--- what is held behind a statement, or nothing where it never goes on
+-- what is held after a statement; nothing if control never goes on
 abbrev pub held_behind : Option Nodes → Nodes
 held_behind None = none_held
 held_behind (Some held) = held
@@ -136,7 +136,7 @@ abbrev pub leave_code : Nodes → Option Exit → List Instr → List Instr
 leave_code held None k = k
 leave_code held (Some exit) k = release_code (minus held exit.held) (I.Jump (target_of exit.label) ∷ k)
 
--- one of two ways of a statement: where it leads without code, whether it is a skip, what is held behind it, and its code
+-- one of two ways: the label to which it leads if it needs no code, whether it is empty, what is held after it, and its code
 pub record Way : Type 0 where
   pub to : Option ℕ
   pub skips : Bool
@@ -146,12 +146,12 @@ pub record Way : Type 0 where
 abbrev pub second_way : Way → Nodes → List Instr → Second
 second_way way kept k = second_by way.to way.skips way.held kept way.code k
 
--- the first way, the second one, and what comes before both, which knows where the second one begins
+-- the opening code, which is given the second way's label, then the first way and the second one
 abbrev pub ways_code : (ℕ → List Instr → List Instr) → Way → Second → Nodes → List Instr → List Instr
 ways_code opening first second kept k =
     opening second.label (first.code (joining_code first.held kept second.jumps (length k) second.code))
 
--- a choice: where one of the ways needs no code, the condition's jump leads there at once
+-- a choice: if only the first way needs no code, the condition jumps directly to where it leads
 abbrev pub choice_code : (Bool → ℕ → List Instr → List Instr) → Option ℕ → Option ℕ → Way → Way → Nodes → List Instr → List Instr
 choice_code branch (Some label) None first second kept k = branch true label (second.code k)
 choice_code branch (Some label) (Some other) first second kept k = ways_code (branch false) first (second_way second kept k) kept k
@@ -209,7 +209,7 @@ statement_code (S.RepeatUpTo' e w p a) held x k =
     (loop_code (statement_code a held) true held (held_behind (after (S.RepeatUpTo' e w p a) held)) x k)
 statement_code (S.At' offset p a) held x k = statement_code a held x k
 
--- the code of a procedure that takes so many arguments, with labels in the place of positions
+-- the code of a procedure with `arity` arguments, with labels in place of positions
 abbrev pub procedure_code : ℕ → Statement → List Instr
 procedure_code arity body =
     statement_code body none_held (record { values = arity; nodes = 0; pad = λ held. 1; exit = None }) (I.Return ∷ [])

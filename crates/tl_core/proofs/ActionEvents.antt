@@ -1,4 +1,4 @@
--- What an action adds to a history.
+-- The events that an action adds to a history.
 use Rattle.std.proofs.Common.{◌≡◌, ◌≢◌, ℕ, zero, suc, ◌+◌, ◌≤◌, ◌||◌, false, List, [], ◌∷◌, length, refl, ap, ◌∙◌, arith}
 use Rattle.std.proofs.lemmas.Bool.{ne_eqb, eq-eqb}
 use Rattle.tl_tree_locking.specs.declared.action.Action.{Action}
@@ -69,7 +69,7 @@ lock_count-shared (did.Free x left ∷ done) = lock_count-shared done
 lock_count-shared (did.Emit n ∷ done) = lock_count-shared done
 lock_count-shared (did.End ∷ done) = lock_count-shared done
 
--- later actions only add to the locks
+-- later actions don't reduce the number of locks
 pub lock_count-taken : (k : ℕ) (more done : List Action) → lock_count done ≤ lock_count (taken k more done)
 lock_count-taken zero more done = omega arith
 lock_count-taken (suc k) [] done = omega arith

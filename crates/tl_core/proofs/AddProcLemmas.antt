@@ -12,7 +12,7 @@ use Rattle.tl_core.specs.Cores.{CoreValue, CoreState}
 use Rattle.tl_core.specs.Kept.{IsKept, IsCore, IsWholeCore}
 use Rattle.tl_core.proofs.StoredCalls.{seen_are}
 
--- what is kept of a call names a procedure that was there before
+-- the procedure of a stored call is one that existed before
 keeps_call : (v : CoreValue) (more : List Named) (c : ℕ) (k : Kept) → IsKept v c k → IsKept (record v { procedures = v.procedures ++ more }) c k
 keeps_call v more c k h =
     record {
@@ -48,7 +48,7 @@ keeps_core v more now kept holders open_count reserved h =
       reserved_are = h.reserved_are;
     }
 
--- and stores them as they were
+-- the calls are stored as before
 module _ (v : CoreValue) (more : List Named) (now : TreeValue) (calls : List Call) (slots : List OpenCall) (holders : List (Option ℕ)) (reserved capacity : ℕ) (w : IsWholeCore v now calls slots holders reserved capacity) where
   still_stored : AreStored (v.procedures ++ more) calls slots w.kept
   still_stored = record {
@@ -80,13 +80,13 @@ module _ (v : CoreValue) (more : List Named) (now : TreeValue) (calls : List Cal
     room = w.room;
   }
 
--- a refusal adds none
+-- a refusal adds no procedure
 pub added : (result : Result ℕ NamingFault) (before after : List Named) (one : Named) → OnOk result (after ≡ before ++ one ∷ []) → OnErr result (after ≡ before)
     → (more : List Named) × (after ≡ before ++ more)
 added (Ok number) before after one last same = (one ∷ [], last)
 added (Err fault) before after one last same = ([], same ∙ sym (append-nil before))
 
--- what callers see then
+-- the core then as callers see it
 pub seen_added : (v : CoreValue) (now : TreeValue) (calls : List Call) (slots : List OpenCall) (holders : List (Option ℕ)) (reserved capacity : ℕ) → IsWholeCore v now calls slots holders reserved capacity
     → (result : Result ℕ NamingFault) (after : List Named) (one : Named) → OnOk result (after ≡ v.procedures ++ one ∷ [])
     → OnOk result (record v { procedures = after; calls = map (seen_call after slots) calls } ≡ record v { procedures = v.procedures ++ one ∷ [] })

@@ -54,7 +54,7 @@ get_or-last xs x d other = elim (cases_eq (length xs) d) [
   | inr ne ↦ let q = ne_eqb (length xs) d ne in rw q (others_of xs x d other ne)
 ]
 
--- what begins a call alone isn't over
+-- a call that begins isn't over
 not_over : (b : Bool) (r left : Run) (s : Run) → EndsOnce (actions r) → (if b then s else left) ≡ r → actions s ≡ [] → b ≡ false
 not_over true r left s ends same none = absurd (subst EndsOnce (ap actions (sym same) ∙ none) ends)
 not_over false r left s ends same none = refl
@@ -229,7 +229,7 @@ module _ (v : CoreValue) (now : TreeValue) (kept : List Kept) (holders : List (O
 abbrev one_used : ℕ → Stored → Stored
 one_used c history = record history { past = event.Admit c ∷ history.past; reserved = history.reserved - 1 }
 
--- the same, of a call that was begun
+-- the same for a call that was begun
 module _ (v : CoreValue) (now : TreeValue) (calls : List Call) (slots : List OpenCall) (holders : List (Option ℕ)) (reserved capacity : ℕ) (w : IsWholeCore v now calls slots holders reserved capacity)
     (code : CodeValue) (parents : List ℕ) (number : ℕ) (given args : List ℤ) (turn : TurnValue) (room : ℕ) (b : Begins code parents given args turn)
     (same_shape : parents ≡ v.parents) (same_code : code ≡ (procedure_at v number).code) (known : number < length v.procedures) (arity : length given ≡ (procedure_at v number).code.arity)
@@ -251,7 +251,7 @@ module _ (v : CoreValue) (now : TreeValue) (calls : List Call) (slots : List Ope
   begun_seen : map (seen_call v.procedures (slots ++ o ∷ [])) (calls ++ s ∷ []) ≡ map call_value (w.kept ++ new_call ∷ [])
   begun_seen = seen_are v.procedures (calls ++ s ∷ []) (slots ++ o ∷ []) (w.kept ++ new_call ∷ []) begun_stored
 
-  -- what callers see then
+  -- the core then as callers see it
   pub seen_begun : (calls2 : List Call) → calls2 ≡ calls ++ s ∷ [] → (slots2 : List OpenCall) → slots2 ≡ slots ++ o ∷ []
       → map (seen_call v.procedures slots2) calls2 ≡ v.calls ++ record { procedure = number; code = (procedure_at v number).code; args = given; count = 0 } ∷ []
   seen_begun calls2 calls_are slots2 slots_are =

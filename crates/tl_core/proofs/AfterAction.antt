@@ -22,11 +22,11 @@ use Rattle.tl_core.proofs.StoredCalls.{slice_get-set_same, slice_get-set_other, 
 use Rattle.tl_core.proofs.ActionEvents.{part_after, part_of_others, done_of_others}
 use Rattle.tl_core.proofs.CallInWorld.{keep, call_is, inside, after, sound_after, reached_after, same_code}
 
--- 1 for a call that is open_count
+-- 1 for an open call, 0 for one that is done
 abbrev pub open_in : List Event → ℕ → ℕ
 open_in past c = if is_done c past then 0 else 1
 
--- the holders with one changed
+-- the holders after one was changed
 pub set_holder : (holders : List (Option ℕ)) (x : ℕ) (o : Option ℕ) (n y : ℕ) → x < length holders → (was : Option ℕ) → slice_get holders y ≡ Some was
     → slice_get (set holders x o) y ≡ Some (if x == y then o else was)
 set_holder holders x o n y lt was at = elim (cases_eq x y) [
@@ -38,7 +38,7 @@ module _ (v : CoreValue) (now : TreeValue) (kept : List Kept) (holders : List (O
   abbrev pub then_ : CoreValue
   then_ = after v now kept holders open_count reserved h c k at a
 
-  -- what it did, with the record found
+  -- the action, where a lock has the record found
   abbrev pub did_ : Action
   did_ = as_found (world_of v) a
 

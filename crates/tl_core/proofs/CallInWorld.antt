@@ -1,4 +1,4 @@
--- Where a call stands in its core's world.
+-- A call in its core's world.
 use Rattle.std.proofs.Common.{◌≡◌, ◌≢◌, ℕ, suc, ◌+◌, ◌<◌, ◌==◌, true, List, length, map, refl, sym, ap, ap₂, ◌∙◌, subst, arith, Option, Some, None, option_map, slice_get, get_or, Ok}
 use Rattle.std.proofs.lemmas.Bool.{ne_eqb, eq-eqb, lt-ltb}
 use Rattle.std.proofs.lemmas.List.{length-map}
@@ -50,14 +50,14 @@ module _ (v : CoreValue) (now : TreeValue) (kept : List Kept) (holders : List (O
   pub admitted : c < admits v.past
   admitted = let e = h.counted in let lt = inside in omega arith
 
-  -- the opening tree with what the call found, and the same with what it left
+  -- the opening tree with the records that the call found, and below the same with those that it left
   abbrev pub found_tree : Records
   found_tree = with_found (part_of c v.past) v.opening
 
   abbrev pub left_tree : Records
   left_tree = with_left keep.done found_tree
 
-  -- what is left of the call
+  -- the rest of the call's run
   abbrev pub rest : Run
   rest = run_left k.turn.code.instrs v.parents k.turn.call left_tree
 
@@ -84,7 +84,7 @@ module _ (v : CoreValue) (now : TreeValue) (kept : List Kept) (holders : List (O
       let g = h.sound.legal.genuine c admitted in
       g.ended ∙ ap₂ (λ a b. a == b) count_is (ap length whole ∙ length-onto keep.done (actions rest))
 
-  -- what the turn wants is the kind of the first action left
+  -- the kind of the turn's next action is that of the first action of the rest
   pub wants_here : (w : Want) → Wants k.turn w → want_of rest ≡ w
   wants_here w wants =
       subst (λ ps. (t : Records) → length t ≡ length ps → want_of (run_left k.turn.code.instrs ps k.turn.call t) ≡ w) keep.shape wants left_tree left_size

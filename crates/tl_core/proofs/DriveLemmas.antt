@@ -1,4 +1,4 @@
--- Move after move.
+-- Moves of a core, one after another.
 use Rattle.std.proofs.Common.{◌≡◌, ℕ, zero, suc, ◌+◌, ◌<◌, ◌≤◌, Bool, true, false, List, [], ◌∷◌, ◌++◌, length, take, refl, sym, ap, ◌∙◌, arith, Option, Some, None, Ok, Err, get_or, set, if◌then◌else◌, nat_lt, ℤ, string_bytes}
 use Rattle.std.specs.Prelude.{Result}
 use Rattle.std.specs.Option.{option_map_or}
@@ -56,11 +56,11 @@ take_more xs i x lt is = let e : i + 1 ≡ suc i = omega arith in ap (λ n. take
 
 -- ---- how much was done
 
--- how many instructions the calls have done
+-- the number of instructions that the calls have executed
 abbrev pub spent : CoreValue → ℕ
 spent v = total (λ c. (call_of v c).count) (length v.calls)
 
--- as many calls as were admitted
+-- there are as many calls as admissions
 abbrev pub IsCounted : CoreValue → Type 0
 IsCounted v = length v.calls ≡ admits v.past
 
@@ -92,7 +92,7 @@ counted_answer v c (Ok (Blocked x d)) counted = counted
 counted_answer v c (Ok Over) counted = counted
 counted_answer v c (Err e) counted = counted
 
--- only a call that was admitted moves
+-- only an admitted call moves
 moves_admitted : (v : CoreValue) (c : ℕ) → IsCounted v → is_some_move (step_answer (world_of v) c) ≡ true → c < length v.calls
 moves_admitted v c counted h = go (nat_lt c (admits v.past)) refl h
   where

@@ -37,13 +37,13 @@ first_of (Then a more) w h goes = (a, more, refl)
 first_of (At p s) w h goes = absurd (goes (sym h))
 first_of (Ended s) w h goes = absurd (goes (sym h))
 
--- a free or the return is no lock, and the call isn't over
+-- a free and the return are no lock, and aren't `Over`
 pub unlocking : (s : Stop) → ((x : ℕ) × (s ≡ stop.Free x)) ⊎ (s ≡ stop.Return) → (want.Stop s ≢ want.Stop stop.Over) × ((x : ℕ) → want.Stop s ≢ want.Stop (stop.Lock x))
 unlocking s (inl (x, free)) = ((λ e. absurd cc), (λ y e. absurd cc))
 unlocking s (inr end) = ((λ e. absurd cc), (λ x e. absurd cc))
 
 module _ (v : CoreValue) (now : TreeValue) (kept : List Kept) (holders : List (Option ℕ)) (open_count reserved : ℕ) (h : IsCore v now kept holders open_count reserved) (c : ℕ) (k : Kept) (at : slice_get kept c ≡ Some k) where
-  -- a call that wants no lock
+  -- a call whose next action is no lock is enabled
   pub goes_on_enabled : (w : Want) → Wants k.turn w → w ≢ want.Stop stop.Over → ((x : ℕ) → w ≢ want.Stop (stop.Lock x)) → IsEnabled (world_of v) c
   goes_on_enabled w wants goes no_lock =
       let here = wants_here v now kept holders open_count reserved h c k at w wants in
@@ -70,12 +70,12 @@ module _ (v : CoreValue) (now : TreeValue) (kept : List Kept) (holders : List (O
       let open' = open_first v now kept holders open_count reserved h c k at (did.Lock x first.0) first.1 first.2 in
       ((λ t. absurd cc), (λ e. absurd (e.not_stuck (holder_stuck (world_of v) h.sound c x first.0 d open' next held))))
 
--- a call that was found not to be enabled
+-- a call was found not to be enabled
 pub not_enabled : {E : Type 0} → (r : Result Bool CoreFault) → IsOk r → IfOk r (λ b. IsTrue b ↔ E) → result_unwrap_or r false ≡ false → E → ⊥
 not_enabled (Ok b) ok told none e = let t = told.1 e in absurd cc
 not_enabled (Err f) ok told none e = absurd cc
 
--- with no call enabled, each that was admitted is done
+-- if no call is enabled, each admitted call is done
 pub none_open : (v : CoreValue) (now : TreeValue) (kept : List Kept) (holders : List (Option ℕ)) (open_count reserved : ℕ) → IsCore v now kept holders open_count reserved → (n : ℕ) → admits v.past ≡ n → ((d : ℕ) → d < n → IsEnabled (world_of v) d → ⊥) → AllDone v.past
 none_open v now kept holders open_count reserved h n all none c lt = elim (cases_Bool (is_done c v.past)) [
   | inl done ↦ done
@@ -85,14 +85,14 @@ none_open v now kept holders open_count reserved h n all none c lt = elim (cases
       absurd (none some.0 (omega arith) some.1)
 ]
 
--- and one that was found to be
+-- a call was found to be enabled
 pub is_enabled : {E : Type 0} → (r : Result Bool CoreFault) → IfOk r (λ b. IsTrue b ↔ E) → result_unwrap_or r false ≡ true → E
 is_enabled (Ok b) told found = told.0 found
 is_enabled (Err f) told found = absurd cc
 
 -- ---- the least enabled call
 
--- the least of the enabled calls in the first n slots
+-- the lowest of the enabled calls in the first n slots
 pub record IsLeast (w : World) (slots : List OpenCall) (n : ℕ) (least : Option ℕ) : Type 0 where
   pub found : IfSome least (λ e. IsEnabled w e)
   pub below : (i : ℕ) (o : OpenCall) → i < n → slice_get slots i ≡ Some o → IsEnabled w o.call → (e : ℕ) × (least ≡ Some e) × (e ≤ o.call)
@@ -100,7 +100,7 @@ pub record IsLeast (w : World) (slots : List OpenCall) (n : ℕ) (least : Option
 pub least_none : (w : World) (slots : List OpenCall) → IsLeast w slots 0 None
 least_none w slots = record { found = tt; below = λ i o lt at e. absurd (omega arith) }
 
--- a slot more, whose call isn't less or isn't enabled
+-- one more slot, whose call is higher or isn't enabled
 pub least_stays : (w : World) (slots : List OpenCall) (n : ℕ) (least : Option ℕ) (o : OpenCall) → slice_get slots n ≡ Some o → IsLeast w slots n least
     → (IsEnabled w o.call → (e : ℕ) × (least ≡ Some e) × (e ≤ o.call)) → IsLeast w slots (n + 1) least
 least_stays w slots n least o at h here = record {
@@ -114,7 +114,7 @@ least_stays w slots n least o at h here = record {
     before : (i n : ℕ) → i < n + 1 → i ≢ n → i < n
     before i n lt ne = omega (arith, ne)
 
--- a slot more, whose call is enabled and less
+-- one more slot, whose call is enabled and lower
 pub least_moves : (w : World) (slots : List OpenCall) (n : ℕ) (least : Option ℕ) (o : OpenCall) → slice_get slots n ≡ Some o → IsLeast w slots n least
     → IsEnabled w o.call → ((e : ℕ) → least ≡ Some e → o.call ≤ e) → IsLeast w slots (n + 1) (Some o.call)
 least_moves w slots n least o at h enabled less = record {
@@ -128,7 +128,7 @@ least_moves w slots n least o at h enabled less = record {
     before : (i n : ℕ) → i < n + 1 → i ≢ n → i < n
     before i n lt ne = omega (arith, ne)
 
--- of all slots, where the loop has gone through them
+-- the lowest of all slots, when the loop has gone through them
 pub whole_least : (w : World) (slots items : List OpenCall) (n : ℕ) (least : Option ℕ) → items ≡ slots → n ≡ length items → IsLeast w items n least → IsLeast w slots (length slots) least
 whole_least w slots items n least same full h = subst (λ l. IsLeast w l (length l) least) same (subst (λ k. IsLeast w items k least) full h)
 

@@ -1,4 +1,4 @@
--- What came of a segment.
+-- The result of following a segment.
 use Rattle.std.proofs.Common.{◌≡◌, ◌≢◌, ℕ, List, [], ◌∷◌, ◌++◌, Bool, true, false, refl, sym, ap, ◌∙◌, subst, Option, Some, None, Ok, if◌then◌else◌}
 use Rattle.std.specs.Prelude.{Result}
 use Rattle.std.proofs.lemmas.Bool.{lt-ltb, both_ways, eq-eqb}
@@ -20,7 +20,7 @@ use Rattle.tl_core.specs.Followed.{Goes, EndsStop, NextEndsStop, IsInTheWay, IsL
 use Rattle.tl_core.proofs.FollowLemmas.{goes_more}
 use Rattle.tl_core.proofs.StoredCalls.{same_item}
 
--- a call in nobody's way does the action of its stop
+-- if no other call holds the stop's node, the call does the action at its stop
 by_action : (v : CoreValue) (s : Stop) (a : Action) → EndsStop s a → ((x d : ℕ) → IsInTheWay v s x d → ⊥)
     → (b : Action) × (stepped_by (world_of v) a (holder_of v.past (node_of a)) ≡ Moved b) × EndsStop s b
 by_action v s (did.Lock x found) ends free = by_holder (holder_of v.past x) refl
@@ -35,7 +35,7 @@ by_action v s (did.Read x f n) ends free = absurd ends
 by_action v s (did.Write x f n) ends free = absurd ends
 by_action v s (did.Emit n) ends free = absurd ends
 
--- the step that does it
+-- the step that does this action
 pub stop_step : (v : CoreValue) (c : ℕ) (s : Stop) → NextEndsStop v c s → ((x d : ℕ) → IsInTheWay v s x d → ⊥) → (b : Action) × (step_answer (world_of v) c ≡ Ok (Moved b)) × EndsStop s b
 stop_step v c s next free =
     let known = lt-ltb c (admits v.past) next.is_open.0 in
@@ -44,7 +44,7 @@ stop_step v c s next free =
     let b = by_action v s next.next next.ends free in
     (b.0, rw (known, goes_on, is_next) (ap Ok b.1), b.2)
 
--- and what was done is the action of the stop
+-- the action that was done is the one at the stop
 pub ends_by : (v : CoreValue) (c : ℕ) (s : Stop) → NextEndsStop v c s → ((x d : ℕ) → IsInTheWay v s x d → ⊥) → (a : Action) → Ok (Moved a) ≡ step_answer (world_of v) c → EndsStop s a
 ends_by v c s next free a answer =
     let b = stop_step v c s next free in
@@ -52,11 +52,11 @@ ends_by v c s next free a answer =
     let same : b.0 ≡ a = cc in
     subst (EndsStop s) same b.2
 
--- who is in nobody's way stays so while nothing happens
+-- the stop isn't held while nothing happens
 pub still_free : (v w : CoreValue) (s : Stop) → w.past ≡ v.past → ((x d : ℕ) → IsInTheWay v s x d → ⊥) → (x d : ℕ) → IsInTheWay w s x d → ⊥
 still_free v w s same free x d way = free x d (record { locks = way.locks; holder = ap (λ past. holder_of past x) (sym same) ∙ way.holder })
 
--- so the segment's local actions and that of its stop were done
+-- so the segment's local actions and the action at its stop were done
 pub has_gone : (v w u : CoreState) (c : ℕ) (segment : SegmentValue) → IsLed v c w → NextEndsStop w.seen c segment.stop → ((x d : ℕ) → IsInTheWay v.seen segment.stop x d → ⊥)
     → ((x d : ℕ) → IsInTheWay w.seen segment.stop x d → ⊥)
     → (r : Result Stepped CoreFault) → r ≡ step_answer (world_of w.seen) c → u.seen ≡ after_step w.seen c r → HasGone v c segment u
@@ -71,7 +71,7 @@ has_gone v w u c segment led next none free r answer after =
       free = none;
     }
 
--- what a call does at a stop isn't local, and at none is it over
+-- the action at a stop isn't local
 pub no_local_ends : (s : Stop) (a : Action) → EndsStop s a → IsLocal a → ⊥
 no_local_ends s (did.Lock x found) ends is = is
 no_local_ends s (did.Free x left) ends is = is
@@ -90,7 +90,7 @@ none_ends_over (did.Read x f n) ends = ends
 none_ends_over (did.Write x f n) ends = ends
 none_ends_over (did.Emit n) ends = ends
 
--- a reply that was read is that of a call that is done, and none is that of an open one
+-- a reply is returned for a call that is done, and none for an open one
 pub some_reply : {X : Type 0} → (b : Bool) (x y : X) → Some y ≡ (if b then Some x else None) → (b ≡ true) × (y ≡ x)
 some_reply true x y is = (refl, same_item is)
 some_reply false x y is = absurd cc
@@ -99,13 +99,13 @@ pub none_reply : {X : Type 0} → (b : Bool) (x : X) → None ≡ (if b then Som
 none_reply true x is = absurd cc
 none_reply false x is = refl
 
--- a call that isn't done behind what it did hasn't ended
+-- a call that isn't done after its action hasn't ended by it
 pub is_no_end : (v w : CoreValue) (c : ℕ) (a : Action) → w ≡ after_step v c (Ok (Moved a)) → is_done c w.past ≡ false → a ≢ did.End
 is_no_end v w c a after goes_on ends =
     let ended : is_done c (after_step v c (Ok (Moved did.End))).past ≡ true = rw (eq-eqb c c refl) refl in
     both_ways (is_done c w.past) goes_on (ap (λ u. is_done c u.past) (after ∙ ap (λ b. after_step v c (Ok (Moved b))) ends) ∙ ended)
 
--- and one that is done behind what it did has ended by that
+-- a call that is done after its action, and wasn't before, has ended by it
 pub is_end : (v : CoreValue) (c : ℕ) (a : Action) → is_done c v.past ≡ false → is_done c (after_step v c (Ok (Moved a))).past ≡ true → a ≡ did.End
 is_end v c did.End goes_on done = refl
 is_end v c (did.Lock x found) goes_on done = absurd (both_ways (is_done c v.past) goes_on done)
@@ -115,7 +115,7 @@ is_end v c (did.Read x f n) goes_on done = absurd (both_ways (is_done c v.past) 
 is_end v c (did.Write x f n) goes_on done = absurd (both_ways (is_done c v.past) goes_on done)
 is_end v c (did.Emit n) goes_on done = absurd (both_ways (is_done c v.past) goes_on done)
 
--- so a call that is done behind its stop has returned there
+-- so a call that is done after its stop has returned there
 pub returned : (v w : CoreValue) (c : ℕ) (s : Stop) → NextEndsStop v c s → ((x d : ℕ) → IsInTheWay v s x d → ⊥) → (r : Result Stepped CoreFault) → r ≡ step_answer (world_of v) c → w ≡ after_step v c r
     → is_done c w.past ≡ true → s ≡ stop.Return
 returned v w c s next free r answer after done =
@@ -123,7 +123,7 @@ returned v w c s next free r answer after done =
     let behind : w ≡ after_step v c (Ok (Moved b.0)) = after ∙ ap (after_step v c) (answer ∙ b.1) in
     subst (EndsStop s) (is_end v c b.0 next.is_open.1 (ap (λ u. is_done c u.past) (sym behind) ∙ done)) b.2
 
--- steps leave the shape as it is
+-- steps don't change the shape
 goes_parents : (v w : CoreValue) (c : ℕ) (actions : List Action) → Goes v c actions w → w.parents ≡ v.parents
 goes_parents v w c [] goes = ap (λ u. u.parents) (sym goes)
 goes_parents v w c (a ∷ actions) goes = goes_parents (after_step v c (Ok (Moved a))) w c actions goes.1

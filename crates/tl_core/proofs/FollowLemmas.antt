@@ -111,7 +111,7 @@ module _ (v : CoreValue) (now : TreeValue) (kept : List Kept) (holders : List (O
     unfolding led_local
     led_goes = (there d follows).goes
 
-    -- a node that is locked there is one of the tree
+    -- a node that is locked at the stop is one of the tree's nodes
     pub led_inside : (x : ℕ) → Stops (with_call k.turn d) (stop.Lock x) → x < length v.parents
     led_inside x stops =
         inside_tree (core_led d) now (kept_led d) holders open_count reserved led_core c (kept_on d) (slice_get-set_same kept c (kept_on d) (slice_get_within kept c k at)) x stops

@@ -26,7 +26,7 @@ use Rattle.tl_machine.specs.BetweenSteps.{run_left}
 use Rattle.tl_core.proofs.FollowLemmas.{next_at_stop}
 use Rattle.tl_core.proofs.FollowAnswers.{none_reply}
 
--- call c is kept so, with this turn, and isn't done
+-- call c is stored with this turn, and isn't done
 pub record IsKeptWith (kept : List Kept) (c : ℕ) (t : TurnValue) : Type 0 where
   pub call : Kept
   pub there : slice_get kept c ≡ Some call
@@ -82,7 +82,7 @@ module _ (v : CoreValue) (now : TreeValue) (calls : List Call) (slots : List Ope
       let none : k.0.reply ≡ None = let e = (w.core.each c k.0 k.1).reply in rw goes_on at e in
       (k.0.turn, turn_at c k.0 k.1 ∙ ap (λ r. unless_done r k.0.turn) none)
 
-  -- where it stops, the call's next action is that of the stop
+  -- if the turn stops at s, the call's next action is the one at s
   pub at_stop : (c : ℕ) (t : TurnValue) (s : Stop) → get_or (map (seen_turn slots) calls) c None ≡ Some t → Stops t s → NextEndsStop v c s
   at_stop c t s is stops =
       let k = kept_with c t is in
@@ -91,7 +91,7 @@ module _ (v : CoreValue) (now : TreeValue) (calls : List Call) (slots : List Ope
 
 -- ---- a turn behind what its call did
 
--- the action done is a lock or a free, and so is the change to the turn
+-- the action was a lock or a free, and the turn was changed accordingly
 pub turned_by : (before t after : TurnValue) (b a : Action) → before ≡ t → after ≡ with_call before after.call → after.call ≡ after_action before.code.instrs before.parents before.call b → b ≡ a
     → after ≡ with_call t (after_action t.code.instrs t.parents t.call a)
 turned_by before t after b a same_turn same exact is =

@@ -1,4 +1,4 @@
--- A core one of whose calls is led to the end of a segment.
+-- A core with a call that is led to the end of a segment.
 use Rattle.std.proofs.Common.{◌≡◌, ℕ, ◌<◌, List, length, map, sym, ap, ◌∙◌, subst, arith, Option, Some, None, slice_get, get_or, set}
 use Rattle.tl_tree.specs.Trees.{TreeValue}
 use Rattle.tl_tree_locking.specs.declared.action.Action.{Action}
@@ -18,7 +18,7 @@ use Rattle.tl_core.proofs.FollowLemmas.{led_core, led_local, led_each, led_goes,
 
 module _ (v : CoreValue) (now : TreeValue) (calls : List Call) (slots : List OpenCall) (holders : List (Option ℕ)) (reserved capacity : ℕ) (w : IsWholeCore v now calls slots holders reserved capacity)
     (c : ℕ) (seg : SegmentValue) (kept : get_or (map (seen_turn slots) calls) c None ≡ Some seg.from) (is : IsSegment seg) where
-  -- the node that it locks is one of the tree
+  -- the node that the stop locks is one of the tree's nodes
   pub segment_inside : (x : ℕ) → seg.stop ≡ stop.Lock x → x < length v.parents
   segment_inside x locks =
       let k = kept_with v now calls slots holders reserved capacity w c seg.from kept in
@@ -39,7 +39,7 @@ module _ (v : CoreValue) (now : TreeValue) (calls : List Call) (slots : List Ope
       let held = subst (λ z. holder_of v.past z ≡ Some d) (sym same) way.holder in
       absurd cc
 
-  -- a turn that was put at the segment's last state is at its end
+  -- a turn that was set to the segment's last state is at its end
   pub at_its_end : (j : ℕ) (s : Call) (o : OpenCall) → IsAt calls slots c j s o → (turn2 : TurnValue) → turn2 ≡ with_call o.turn seg.to → turn2 ≡ end_of seg
   at_its_end j s o p turn2 is = is ∙ ap (λ t. with_call t seg.to) (turn_same v now calls slots holders reserved capacity w c j s o p seg.from kept)
 
@@ -84,7 +84,7 @@ module _ (v : CoreValue) (now : TreeValue) (calls : List Call) (slots : List Ope
         seen_on v now calls slots holders reserved capacity w c j s o p turn2 o.places same_code v.past v.limit
         ∙ ap (λ t. record v { calls = map call_value (kept_at_end t) }) (sym led_turn)
 
-    -- its local actions were done as steps of the call
+    -- the segment's local actions were done as steps of the call
     pub local_led : List Action
     local_led = led_local v now w.kept holders (length slots) reserved w.core c here there seg.to comes
 

@@ -45,7 +45,7 @@ none_stored procedures = record {
   each_slot = λ j o at. absurd cc;
 }
 
--- the same of parts that are equal to these
+-- the same for parts that are equal to these
 pub opened_of : (tree : TreeValue) → IsWhole tree → (procedures : List Named) (limit : ℕ) (holders : List (Option ℕ)) → holders ≡ none_held (length tree.parents)
     → (now : TreeValue) → now ≡ tree → (calls : List Call) → calls ≡ [] → (slots : List OpenCall) → slots ≡ [] → (history : Stored) → history ≡ record { past = []; limit = limit; reserved = 0 }
     → (capacity : ℕ) → MAX_OPEN ≤ capacity

@@ -1,4 +1,4 @@
--- What a call's next action may be, and that there is a place for its event.
+-- The next action of a call, and the reserved place for its event.
 use Rattle.std.proofs.Common.{◌≡◌, ℕ, suc, ◌+◌, ◌-◌, ◌<◌, ◌≤◌, false, List, [], ◌∷◌, length, ap, ap₂, ◌∙◌, subst, inl, inr, arith, Option, Some, slice_get}
 use Rattle.std.specs.Prelude.{min}
 use Rattle.std.proofs.lemmas.Bool.{cases_Bool, both_ways}
@@ -26,7 +26,7 @@ use Rattle.tl_machine.proofs.Along.{onto, taken-onto, length-onto}
 use Rattle.tl_core.proofs.ActionEvents.{length-shared, lock_count-shared, lock_count-taken}
 use Rattle.tl_core.proofs.CallInWorld.{admitted, found_tree, found_size, rest, whole, count_is, next_first, open_first}
 
--- what was freed was held, so what wasn't locked wasn't freed
+-- a node that wasn't locked wasn't freed
 pub unlocked_unfreed : (parents : List ℕ) (done : List Action) (x : ℕ) → EachPermitted parents done → locked done x ≡ false → freed done x ≡ false
 unlocked_unfreed parents done x each fresh = elim (cases_Bool (freed done x)) [
   | inl is ↦ absurd (both_ways (locked done x) fresh (freed-locked parents done x each is))

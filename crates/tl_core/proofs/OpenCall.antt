@@ -1,4 +1,4 @@
--- A call of a core that is open: where it is stored, and the core after its turn.
+-- An open call of a core: where it is stored, and the core after its turn.
 use Rattle.std.proofs.Common.{◌≡◌, ℕ, ◌+◌, ◌-◌, ◌<◌, ◌≤◌, List, length, map, refl, sym, ap, ◌∙◌, subst, inl, inr, arith, Option, Some, None, option_map, ◌≢◌, slice_get, get_or, set, Ok, true, false, Bool, if◌then◌else◌, ℤ}
 use Rattle.std.proofs.lemmas.Bool.{lt-ltb, both_ways, cases_lt}
 use Rattle.std.proofs.lemmas.List.{length-map, length-set, get_or_past}
@@ -24,7 +24,7 @@ use Rattle.tl_core.specs.Stored.{Kept, slot_of, reply_in, turn_in, seen_call, se
 use Rattle.tl_core.specs.Kept.{IsCore, IsWholeCore, call_value}
 use Rattle.tl_core.proofs.StoredCalls.{IsWithout, same_item, slice_get-set_same, kept_of, stored_of, seen_are, turns_are, other_turn, no_reply, stored_turn, stored_last, stored_moved}
 
--- call c is stored so, and its turn stands in slot j
+-- call c is stored as s, and its turn is in slot j
 pub record IsAt (calls : List Call) (slots : List OpenCall) (c j : ℕ) (s : Call) (o : OpenCall) : Type 0 where
   pub stored : slice_get calls c ≡ Some s
   pub is_open : slot_of s.progress ≡ Some j
@@ -34,7 +34,7 @@ pub record IsAt (calls : List Call) (slots : List OpenCall) (c j : ℕ) (s : Cal
 abbrev pub in_place : Call → OpenCall → Kept
 in_place s o = record { procedure = s.procedure; args = s.args.items; turn = o.turn; reply = None; places = o.places }
 
--- what is stored as done has a reply
+-- a call that is stored as done has a reply
 some_done : (b : Bool) (p : Progress) (reply : Option (List ℤ)) (given : List ℤ) → slot_of p ≡ None → reply_in p ≡ reply → reply ≡ (if b then Some given else None) → b ≡ true
 some_done true p reply out none is given = refl
 some_done false (Open j) reply out none is given = absurd cc
@@ -47,7 +47,7 @@ module _ (v : CoreValue) (now : TreeValue) (calls : List Call) (slots : List Ope
       let k = kept_of v.procedures calls slots w.kept w.stored c s there in
       slice_get_within slots j (open_call c k.0) ((w.stored.each c k.0 s k.1 there).slot j is_open)
 
-  -- a call as it was read, with what was read in its slot
+  -- the call that was read, with the contents of its slot
   pub at_read : (c j : ℕ) (s : Call) (o : OpenCall) → c < length calls → s ≡ get_or calls c s → slot_of s.progress ≡ Some j → o ≡ get_or slots j o → IsAt calls slots c j s o
   at_read c j s o lt read is_open read_slot =
       let there : slice_get calls c ≡ Some s = slice_get_read calls (length calls) c s refl lt read in
@@ -57,7 +57,7 @@ module _ (v : CoreValue) (now : TreeValue) (calls : List Call) (slots : List Ope
         slot = slice_get_read slots (length slots) j o refl (slot_within c j s there is_open) read_slot;
       }
 
-  -- a call with no slot is done
+  -- a call without a slot is done
   pub done_read : (c : ℕ) (s : Call) → c < length calls → s ≡ get_or calls c s → slot_of s.progress ≡ None → is_done c v.past ≡ true
   done_read c s lt read none =
       let there = slice_get_read calls (length calls) c s refl lt read in
@@ -84,7 +84,7 @@ module _ (v : CoreValue) (now : TreeValue) (calls : List Call) (slots : List Ope
   calls_same : length calls ≡ length v.calls
   calls_same = w.stored.long ∙ sym (length-map w.kept call_value) ∙ ap length (sym w.core.calls)
 
-  -- what was asked of a call, and what it answered
+  -- the call's arguments and its reply
   module _ (c : ℕ) (s : Call) (lt : c < length v.calls) (read : s ≡ get_or calls c s) where
     read_there : slice_get calls c ≡ Some s
     read_there = let same = calls_same in slice_get_read calls (length calls) c s refl (omega arith) read
@@ -104,13 +104,13 @@ module _ (v : CoreValue) (now : TreeValue) (calls : List Call) (slots : List Ope
     pub reply_read : reply_in s.progress ≡ (if is_done c v.past then Some (reply_of (world_of v) c) else None)
     reply_read = as_stored.reply ∙ reply_is v now w.kept holders (length slots) reserved w.core c its_kept.0 its_kept.1
 
-  -- the turn that is kept of a call as it was read
+  -- the kept turn of a call that was read
   turn_read : (c : ℕ) (s : Call) → c < length calls → s ≡ get_or calls c s → get_or (map (seen_turn slots) calls) c None ≡ seen_turn slots s
   turn_read c s lt read =
       let there = slice_get_read calls (length calls) c s refl lt read in
       get_or_from_slice_get (map (seen_turn slots) calls) c (seen_turn slots s) None (slice_get-map (seen_turn slots) calls c ∙ ap (λ z. option_map (seen_turn slots) z) there)
 
-  -- none of a call without a slot
+  -- a call without a slot has no kept turn
   pub no_turn : (c : ℕ) (s : Call) → c < length calls → s ≡ get_or calls c s → slot_of s.progress ≡ None → get_or (map (seen_turn slots) calls) c None ≡ None
   no_turn c s lt read none = turn_read c s lt read ∙ by_progress s.progress none
     where
@@ -118,7 +118,7 @@ module _ (v : CoreValue) (now : TreeValue) (calls : List Call) (slots : List Ope
       by_progress (Open j) is = absurd cc
       by_progress (Done reply n) is = refl
 
-  -- a call of which a turn is kept
+  -- a call with a kept turn exists
   pub turned_inside : (c : ℕ) (t : TurnValue) → get_or (map (seen_turn slots) calls) c None ≡ Some t → c < length calls
   turned_inside c t kept = elim (cases_lt c (length calls)) [
     | inl lt ↦ lt
@@ -128,7 +128,7 @@ module _ (v : CoreValue) (now : TreeValue) (calls : List Call) (slots : List Ope
         absurd cc
   ]
 
-  -- has a slot
+  -- a call with a kept turn has a slot
   pub turned_open : (c : ℕ) (t : TurnValue) (s : Call) → get_or (map (seen_turn slots) calls) c None ≡ Some t → s ≡ get_or calls c s → slot_of s.progress ≡ None → ⊥
   turned_open c t s kept read none =
       let nothing : None ≡ Some t = sym (no_turn c s (turned_inside c t kept) read none) ∙ kept in
@@ -147,11 +147,11 @@ module _ (v : CoreValue) (now : TreeValue) (calls : List Call) (slots : List Ope
       find (Open j) k none slot = (j, open_call c k, slot j refl, refl)
       find (Done reply n) k none slot = absurd cc
 
-  -- the slot of a call as it was read
+  -- the slot of a call that was read
   pub slot_read : (c j : ℕ) (s : Call) → c < length calls → s ≡ get_or calls c s → slot_of s.progress ≡ Some j → j < length slots
   slot_read c j s lt read is_open = slot_within c j s (slice_get_read calls (length calls) c s refl lt read) is_open
 
-  -- the same where the call was read again
+  -- the same for a call that was read again
   pub at_read_again : (c j : ℕ) (s again : Call) (o : OpenCall) → c < length calls → s ≡ get_or calls c s → again ≡ get_or calls c again → slot_of s.progress ≡ Some j → o ≡ get_or slots j o
       → IsAt calls slots c j again o
   at_read_again c j s again o lt read read_again is_open read_slot =
@@ -182,7 +182,7 @@ module _ (v : CoreValue) (now : TreeValue) (calls : List Call) (slots : List Ope
         let args = sym here.args in
         the_kept.1 ∙ ap Some (λ i. record { procedure = procedure i; args = args i; turn = (slot i).turn; reply = none i; places = (slot i).places })
 
-    -- the turn that is kept of it
+    -- the kept turn of the call
     pub turn_here : get_or (map (seen_turn slots) calls) c None ≡ Some o.turn
     turn_here =
         let there : slice_get (map (seen_turn slots) calls) c ≡ Some (seen_turn slots s) = slice_get-map (seen_turn slots) calls c ∙ ap (λ z. option_map (seen_turn slots) z) p.stored in
@@ -192,11 +192,11 @@ module _ (v : CoreValue) (now : TreeValue) (calls : List Call) (slots : List Ope
         in_slot (Open i) is = ap (λ n. option_map (λ z. z.turn) (slice_get slots n)) (same_item is) ∙ ap (λ z. option_map (λ x. x.turn) z) p.slot
         in_slot (Done reply n) is = absurd cc
 
-    -- so it's the one that was asked for
+    -- so it is the requested one
     pub turn_same : (t : TurnValue) → get_or (map (seen_turn slots) calls) c None ≡ Some t → o.turn ≡ t
     turn_same t kept = same_item (sym turn_here ∙ kept)
 
-    -- its turn isn't over
+    -- the call's turn isn't over
     pub goes_on : Stops o.turn stop.Over → ⊥
     goes_on wants =
         let over = over_done v now w.kept holders (length slots) reserved w.core c (in_place s o) kept_here wants in
@@ -215,7 +215,7 @@ module _ (v : CoreValue) (now : TreeValue) (calls : List Call) (slots : List Ope
           subst (λ n. AreStored v.procedures calls (set slots j (record { call = n; places = places2; turn = turn2 })) kept_then) number_is
           (stored_turn v.procedures calls slots w.kept w.stored c (in_place s o) s kept_here p.stored j p.is_open turn2 places2 same_code)
 
-      -- the turn then
+      -- the turn afterwards
       pub turn_then : get_or (map (seen_turn slots_then) calls) c None ≡ Some turn2
       turn_then =
           let there = slice_get-map (seen_turn slots_then) calls c ∙ ap (λ z. option_map (seen_turn slots_then) z) p.stored in
@@ -256,7 +256,7 @@ module _ (v : CoreValue) (now : TreeValue) (calls : List Call) (slots : List Ope
             room = room;
           }
 
-    -- the call after its end: its turn is gone, and the last of the slots may have come to its place
+    -- the core after the call's end: its turn is removed, and the last slot may have moved to its place
     module _ (turn2 : TurnValue) (reply2 : List ℤ) (steps2 : ℕ) (same_code : turn2.code ≡ o.turn.code) (counted : steps2 ≡ turn2.call.steps) (slots2 : List OpenCall) (r : IsWithout slots j slots2) where
       abbrev pub kept_over : List Kept
       kept_over = set w.kept c (record { procedure = s.procedure; args = s.args.items; turn = turn2; reply = Some reply2; places = 0 })
@@ -273,7 +273,7 @@ module _ (v : CoreValue) (now : TreeValue) (calls : List Call) (slots : List Ope
       over_moved om at_om x at_x =
           stored_moved v.procedures calls slots w.kept w.stored c (in_place s o) s kept_here p.stored j p.is_open turn2 reply2 steps2 same_code counted slots2 r om at_om x at_x
 
-      -- the call that has moved is one of the core's
+      -- the call whose slot has moved is one of the core's
       pub moved_inside : (om : OpenCall) → slice_get slots2 j ≡ Some om → om.call < length calls
       moved_inside om at_om =
           let lt = slice_get_within slots2 j om at_om in

@@ -1,4 +1,4 @@
--- A call that was led on, and did what it stopped at.
+-- A call that was led on and then did the action at its stop.
 use Rattle.std.proofs.Common.{◌≡◌, ℕ, zero, suc, List, [], ◌∷◌, ◌++◌, length, refl, sym, ap, ◌∙◌, Some, Ok}
 use Rattle.std.specs.Prelude.{Result, slice_set}
 use Rattle.tl_tree_locking.specs.declared.action.Action.{Action}
@@ -17,13 +17,13 @@ length-slice_set [] i x = refl
 length-slice_set (y ∷ ys) zero x = refl
 length-slice_set (y ∷ ys) (suc i) x = ap suc (length-slice_set ys i x)
 
--- steps leave as many calls
+-- steps don't change the number of calls
 goes_counted : (v w : CoreValue) (c : ℕ) (actions : List Action) → Goes v c actions w → length w.calls ≡ length v.calls
 goes_counted v w c [] goes = ap (λ u. length u.calls) (sym goes)
 goes_counted v w c (a ∷ actions) goes = goes_counted (after_step v c (Ok (Moved a))) w c actions goes.1 ∙ length-slice_set v.calls c _
 
--- Before it the call's turn was t. There it stands where the lent call was led, and stops; nobody was in the way, so the action of the
--- stop was done.
+-- The call's turn was t before. In `there` it has the state to which the lent call was led, and stops. No call holds the
+-- stop's node, so the action at the stop was done.
 pub record PassesStop (before there after : CoreState) (c : ℕ) (lent : LentValue) (t : TurnValue) (s : Stop) : Type 0 where
   pub kept : kept_turn there c ≡ Some (with_call t lent.to)
   pub next : NextEndsStop there.seen c s

@@ -1,4 +1,4 @@
--- What a core's readers answer.
+-- The results of a core's read functions.
 use Rattle.std.proofs.Common.{◌≡◌, ℕ, zero, suc, ◌+◌, ◌<◌, ◌≤◌, ◌↔◌, Bool, true, false, List, [], ◌∷◌, length, take, refl, sym, ap, ◌∙◌, subst, arith, Option, Some, None, slice_get, if◌then◌else◌}
 use Rattle.std.proofs.lemmas.Bool.{eqb-true}
 use Rattle.std.proofs.lemmas.List.{length-map}
@@ -55,7 +55,7 @@ emits-take (suc k) (did.Free x left ∷ more) = emits-take k more
 emits-take (suc k) (did.Emit n ∷ more) = let e = emits-take k more in omega arith
 emits-take (suc k) (did.End ∷ more) = emits-take k more
 
--- all the locks, whatever the order
+-- the number of locks doesn't depend on their order
 locks-taken : (more done : List Action) → lock_count (taken (length more) more done) ≡ lock_count more + lock_count done
 locks-taken [] done = let e : lock_count done ≡ 0 + lock_count done = omega arith in e
 locks-taken (did.Plain ∷ more) done = locks-taken more (did.Plain ∷ done)
@@ -76,7 +76,7 @@ module _ (v : CoreValue) (now : TreeValue) (kept : List Kept) (holders : List (O
   pub record_is : (x : ℕ) → x < length v.parents → record_at now.records x ≡ record_now v.past v.opening x
   record_is x lt = let size = h.sound.size in ap (λ t. record_at t.records x) h.now_is ∙ record_at-records_now v.past v.opening x (omega arith)
 
-  -- the holder that is stored has a lock of the node and no free after it, and nobody else has
+  -- the stored holder is the one call that holds the node
   pub holder_holds : (x : ℕ) (o : Option ℕ) → x < length v.parents → slice_get holders x ≡ Some o → (c : ℕ) → (o ≡ Some c) ↔ (held (part_of c v.past) x ≡ true)
   holder_holds x o inside there c =
       let legal = sound_history (world_of v) h.sound in
@@ -121,7 +121,7 @@ module _ (v : CoreValue) (now : TreeValue) (kept : List Kept) (holders : List (O
       some_at kept c (omega arith)
 
   module _ (c : ℕ) (lt : c < admits v.past) where
-    -- what the call does alone on the tree with what it found
+    -- what the call does alone on the tree with the records that it found
     abbrev acts : List Action
     acts = (alone_of ((world_of v).meanings c) v.opening v.past c).actions
 

@@ -1,4 +1,4 @@
--- What the calls have done, and what was answered of it.
+-- What the calls have done, and the corresponding answers.
 use Rattle.std.proofs.Common.{◌≡◌, ℕ, ◌<◌, ◌==◌, ◌↔◌, Bool, true, false, List, [], ◌∷◌, ◌++◌, length, refl, sym, ap, ◌∙◌, subst, inl, inr, arith, Option, Some, None, Ok, Err, nat_lt, take, if◌then◌else◌, ℤ}
 use Rattle.std.specs.Prelude.{Result}
 use Rattle.std.proofs.lemmas.Bool.{cases_eq, ne_eqb, eq-eqb, ltb-true, lt-ltb, both_ways}
@@ -41,7 +41,7 @@ part_more c (entry.Stepped d (Moved a) ∷ entries) e = by_call (d == c) (part_m
     by_call true rest = ap (λ l. a ∷ l) rest
     by_call false rest = rest
 
--- so many entries and one more
+-- one more entry
 pub parts_more : (c : ℕ) (before so_far now : List Action) (entries : List Entry) (e : Entry) → so_far ≡ before ++ part_of_run c entries → now ≡ so_far ++ part_of_run c (e ∷ [])
     → now ≡ before ++ part_of_run c (entries ++ e ∷ [])
 parts_more c before so_far now entries e is more =
@@ -52,7 +52,7 @@ parts_more c before so_far now entries e is more =
 abbrev called : CoreValue → ℕ → List ℤ → CallValue
 called v p args = record { procedure = p; code = (procedure_at v p).code; args = args; count = 0 }
 
--- what a call d would have done in this core, were it this one
+-- what call d would have done in this core if it were z
 abbrev first_of : CoreValue → ℕ → CallValue → List Action
 first_of v d z = take z.count (alone_of (meaning z.code.instrs v.parents z.args) v.opening v.past d).actions
 
@@ -137,10 +137,10 @@ module _ (v : CoreValue) (c : ℕ) (sound : IsSound (world_of v)) (counted : len
   told : IsTold (step_answer (world_of v) c)
   told = by_known (nat_lt c (admits v.past)) refl
 
-  -- what the call does grows by the action answered, and nothing else does
+  -- the action that was answered is appended to what the call has done; nothing else changes
   pub step_done : (r : Result Stepped CoreFault) → r ≡ step_answer (world_of v) c → (d : ℕ) → done_by (after_step v c r) d ≡ done_by v d ++ part_of_run d (entry_of c r ∷ [])
   step_done r is = subst (λ x. (d : ℕ) → done_by (after_step v c x) d ≡ done_by v d ++ part_of_run d (entry_of c x ∷ [])) (sym is) told.0
 
-  -- it's blocked exactly where it's stuck
+  -- the call is blocked exactly if it is stuck
   pub step_blocked : (r : Result Stepped CoreFault) → r ≡ step_answer (world_of v) c → IsBlocked r ↔ IsStuck (world_of v) c
   step_blocked r is = subst (λ x. IsBlocked x ↔ IsStuck (world_of v) c) (sym is) told.1

@@ -1,4 +1,4 @@
--- What a step answers and leaves, by what the call wants.
+-- The answer and the result of a step, depending on the kind of the call's next action.
 use Rattle.std.proofs.Common.{◌≡◌, ℕ, ◌+◌, ◌-◌, ◌<◌, ◌≤◌, false, List, [], ◌∷◌, length, map, refl, sym, ap, ◌∙◌, subst, arith, Option, Some, None, slice_get, get_or, set, Ok, if◌then◌else◌, ℤ}
 use Rattle.std.proofs.lemmas.List.{length-set}
 use Rattle.std.proofs.lemmas.Option.{slice_get_read}
@@ -39,7 +39,7 @@ use Rattle.tl_core.proofs.StoredCalls.{same_item}
 use Rattle.tl_core.proofs.AfterAction.{set_holder}
 use Rattle.tl_core.proofs.StepLemmas.{moves, moved_on, seen, some_open, places_reserved}
 
--- a local action is not changed by the records, and stores nothing
+-- a local action doesn't depend on the records
 found_same : (w : World) (a : Action) → IsLocal a → as_found w a ≡ a
 found_same w did.Plain l = refl
 found_same w (did.Lock x found) l = absurd l
@@ -95,7 +95,7 @@ module _ (v : CoreValue) (now : TreeValue) (kept : List Kept) (holders : List (O
   size_here : length left_here ≡ length v.parents
   size_here = left_size v now kept holders open_count reserved h c k at
 
-  -- the bound on the locks of a call
+  -- the bound for the locks of a call
   pub bounded : lock_count (all_taken (alone_of ((world_of v).meanings c) v.opening v.past c).actions) ≤ lock_bound (code_of v c)
   bounded =
       let keep' = keep v now kept holders open_count reserved h c k at in

@@ -1,4 +1,4 @@
--- A step of a call, exit by exit.
+-- A step of a call, case by case.
 use Rattle.std.proofs.Common.{◌≡◌, ℕ, ◌+◌, ◌-◌, ◌<◌, ◌≤◌, ◌||◌, false, List, [], ◌∷◌, length, map, refl, sym, ap, ◌∙◌, subst, inl, inr, arith, Option, Some, None, slice_get, set, Ok, if◌then◌else◌, ℤ}
 use Rattle.std.proofs.Math.Bool.{or-false}
 use Rattle.std.proofs.lemmas.Bool.{cases_Bool}
@@ -59,7 +59,7 @@ module _ (v : CoreValue) (now : TreeValue) (kept : List Kept) (holders : List (O
   pub over_then : is_done c later.past ≡ is_end what
   over_then = done_after c what v.past ∙ ap (λ b. is_end what || b) goes_on ∙ or-false (is_end what)
 
-  -- an open call is one of the open_count
+  -- an open call is counted in open_count
   pub some_open : 1 ≤ open_count
   some_open =
       let one : open_in v.past c ≡ 1 = ap (λ b. if b then 0 else 1) goes_on in
@@ -122,7 +122,7 @@ module _ (v : CoreValue) (now : TreeValue) (kept : List Kept) (holders : List (O
         subst (λ l. IsCore (record v { calls = map call_value (set kept c k2); past = history2.past; limit = l }) now2 (set kept c k2) holders2 open_count2 history2.reserved) (sym limit_is)
         (core_after v now kept holders open_count reserved h c k at a may k2 value itself now2 now_is holders2 sized holds open_count2 history2.reserved one reserved_is history2.past past_is)
 
-    -- what callers see then
+    -- the core then as callers see it
     pub seen : (turn2 : TurnValue) → turn2 ≡ with_call k.turn turn2.call → turn2.call.steps ≡ k.turn.call.steps + 1 → (reply2 : Option (List ℤ)) (places2 : ℕ)
         → (history2 : Stored) → history2.past ≡ later.past → history2.limit ≡ v.limit
         → record v { calls = map call_value (set kept c (record { procedure = k.procedure; args = k.args; turn = turn2; reply = reply2; places = places2 })); past = history2.past; limit = history2.limit }

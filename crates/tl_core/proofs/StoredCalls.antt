@@ -1,4 +1,4 @@
--- How a core's calls are stored, and stay stored.
+-- How a core stores its calls, and that they stay stored.
 use Rattle.std.proofs.Common.{◌≡◌, ◌≢◌, ℕ, zero, suc, ◌+◌, ◌-◌, ◌<◌, ◌≤◌, List, [], ◌∷◌, ◌++◌, length, map, refl, sym, ap, ◌∙◌, subst, inl, inr, arith, Option, Some, None, option_map, slice_get, get_or, set, take, ℤ, ◌⊎◌}
 use Rattle.std.specs.List.{swap_remove}
 use Rattle.std.proofs.lemmas.Bool.{cases_eq}
@@ -35,14 +35,14 @@ slice_get-set_other (x ∷ xs) zero (suc j) y ne = refl
 slice_get-set_other (x ∷ xs) (suc i) zero y ne = refl
 slice_get-set_other (x ∷ xs) (suc i) (suc j) y ne = slice_get-set_other xs i j y (λ e. ne (ap suc e))
 
--- an item of a list with one changed
+-- an element of a list of which one was changed
 pub set_at : {X : Type 0} → (xs : List X) (i : ℕ) (y : X) (j : ℕ) (x : X) → i < length xs → slice_get (set xs i y) j ≡ Some x → ((i ≡ j) × (y ≡ x)) ⊎ ((i ≢ j) × (slice_get xs j ≡ Some x))
 set_at xs i y j x lt at = elim (cases_eq i j) [
   | inl same ↦ inl (same, same_item (sym (slice_get-set_same xs i y lt) ∙ ap (λ n. slice_get (set xs i y) n) same ∙ at))
   | inr other ↦ inr (other, sym (slice_get-set_other xs i j y other) ∙ at)
 ]
 
--- an item of a list with one more
+-- an element of a list with one more
 pub more_at : {X : Type 0} → (xs : List X) (x y : X) (d : ℕ) → slice_get (xs ++ x ∷ []) d ≡ Some y → ((d ≡ length xs) × (x ≡ y)) ⊎ (slice_get xs d ≡ Some y)
 more_at [] x y zero h = inl (refl, same_item h)
 more_at [] x y (suc d) h = absurd cc
@@ -108,7 +108,7 @@ pub turns_are : (procedures : List Named) (calls : List Call) (slots : List Open
 turns_are procedures calls slots kept h =
     same_maps (seen_turn slots) open_turn calls kept h.long (λ c s k at at2. let its = h.each c k s at2 at in turn_is slots s.progress k c its.reply its.slot)
 
--- with another call kept in one place, the turns of the others are the same
+-- if another call is replaced, the turns of the other calls are the same
 pub other_turn : (kept : List Kept) (c : ℕ) (k : Kept) (d : ℕ) → d ≢ c → get_or (map open_turn (set kept c k)) d None ≡ get_or (map open_turn kept) d None
 other_turn [] c k d ne = refl
 other_turn (x ∷ kept) zero k zero ne = absurd (ne refl)
@@ -121,7 +121,7 @@ earlier_turn [] k d lt = absurd (omega arith)
 earlier_turn (x ∷ kept) k zero lt = refl
 earlier_turn (x ∷ kept) k (suc d) lt = earlier_turn kept k d (omega arith)
 
--- the call that is stored there
+-- the call that is stored at this position
 pub kept_of : (procedures : List Named) (calls : List Call) (slots : List OpenCall) (kept : List Kept) → AreStored procedures calls slots kept
     → (c : ℕ) (s : Call) → slice_get calls c ≡ Some s → (k : Kept) × (slice_get kept c ≡ Some k)
 kept_of procedures calls slots kept h c s at =
@@ -129,7 +129,7 @@ kept_of procedures calls slots kept h c s at =
     let long = h.long in
     some_at kept c (omega arith)
 
--- what is stored of the call, where its place is known
+-- how a call with this number is stored
 pub stored_of : (procedures : List Named) (calls : List Call) (slots : List OpenCall) (kept : List Kept) → AreStored procedures calls slots kept
     → (c : ℕ) (k : Kept) → slice_get kept c ≡ Some k → (s : Call) × (slice_get calls c ≡ Some s) × IsStored procedures slots c k s
 stored_of procedures calls slots kept h c k at =
@@ -271,13 +271,13 @@ take_long xs zero le = refl
 take_long [] (suc n) le = absurd (omega arith)
 take_long (x ∷ xs) (suc n) le = let e = take_long xs n (omega arith) in omega arith
 
--- The item at j is gone, and the last one stands in its place, if it wasn't the last itself.
+-- The element at j was removed, and the last one was moved to its place, if it wasn't the last itself.
 pub record IsWithout {X : Type 0} (xs : List X) (j : ℕ) (ys : List X) : Type 0 where
   pub long : length ys + 1 ≡ length xs
   pub other : (i : ℕ) → i < length ys → j ≢ i → slice_get ys i ≡ slice_get xs i
   pub same : j < length ys → slice_get ys j ≡ slice_get xs (length ys)
 
--- an item is changed, and then removed
+-- an element is changed and then removed
 pub removed : {X : Type 0} → (xs : List X) (j : ℕ) (x d : X) → j < length xs → IsWithout xs j (swap_remove (set xs j x) j d)
 removed xs j x d lt =
     let xs1 : List _ = set xs j x in
@@ -374,7 +374,7 @@ module _ (procedures : List Named) (calls : List Call) (slots : List OpenCall) (
       below : (j i n m : ℕ) → i < n → j ≢ i → n ≡ j + 1 → m + 1 ≡ n → i < m
       below j i n m lt ne e gone = omega (arith, ne)
 
-  -- another call stood in the last slot, and stands in this one now
+  -- the last slot was another call's, and was moved to this place
   pub stored_moved : (om : OpenCall) → slice_get slots_left j ≡ Some om → (x : Call) → slice_get (set calls c call_done) om.call ≡ Some x
       → AreStored procedures (set (set calls c call_done) om.call (record x { progress = Open j })) slots_left (set kept c kept_done)
   stored_moved om at_om x at_x =

@@ -11,7 +11,7 @@ total-same f g (suc n) same =
     let all : total f n + f n ≡ total g n + g n = omega arith in
     all
 
--- where one summand alone is another
+-- only one summand is different
 pub total-other : (f g : ℕ → ℕ) (n c : ℕ) → c < n → ((d : ℕ) → d < n → c ≢ d → f d ≡ g d) → total f n + g c ≡ total g n + f c
 total-other f g zero c lt same = absurd (omega arith)
 total-other f g (suc n) c lt same = elim (cases_eq c n) [

@@ -1,4 +1,4 @@
--- A call that was begun.
+-- A call that was just begun.
 use Rattle.std.specs.Prelude.{◌≡◌, ℕ, List, [], ℤ}
 use Rattle.tl_tree.specs.Records.{Records}
 use Rattle.tl_instr.specs.Codes.{CodeValue, IsCode}
@@ -8,7 +8,7 @@ use Rattle.tl_machine.specs.Call.{reply_so_far}
 use Rattle.tl_machine.specs.BetweenSteps.{run_left}
 use Rattle.tl_machine.specs.Turns.{TurnValue, IsTurn}
 
--- the arguments are kept, and the turn is one of a call of an accepted code with them that has done nothing yet
+-- the arguments are kept, and the turn is that of a call of an accepted code with these arguments that has done nothing yet
 pub record Begins (c : CodeValue) (parents : List ℕ) (given kept : List ℤ) (turn : TurnValue) : Type 0 where
   pub code : turn.code ≡ c
   pub shape : turn.parents ≡ parents

@@ -1,4 +1,4 @@
--- What callers see of a core.
+-- The value of a core, as its callers see it.
 use Rattle.std.specs.Prelude.{◌≡◌, ℕ, zero, suc, ◌+◌, ◌-◌, ◌*◌, ◌<◌, true, List, [], length, get_or, if◌then◌else◌, min, drop, Option, None, ℤ}
 use Rattle.tl_tree.specs.Records.{Records}
 use Rattle.tl_instr.specs.declared.instr.Instr.{Instr}
@@ -18,15 +18,14 @@ use Rattle.tl_tree.specs.Trees.{TreeValue}
 use Rattle.tl_core.specs.declared.fault.CoreFault.{CoreFault}
 use Rattle.tl_core.specs.declared.fault.CoreFault.TheVariants.{NotAtRest, Memory}
 
--- a call: the number of its procedure, the code that it runs, its arguments, and how many instructions it has done
+-- a call: the number of its procedure, its code, its arguments, and the number of instructions it has executed
 pub record CallValue : Type 0 where
   pub procedure : ℕ
   pub code : CodeValue
   pub args : List ℤ
   pub count : ℕ
 
--- the shape and the opening records, the procedures and the calls by number, the events with the latest first, and how
--- many events there may be
+-- the shape, the opening records, the procedures and the calls by number, the events with the latest first, and the limit for the number of events
 pub record CoreValue : Type 0 where
   pub parents : List ℕ
   pub opening : Records
@@ -35,7 +34,7 @@ pub record CoreValue : Type 0 where
   pub past : List Event
   pub limit : ℕ
 
--- the same, with the turn that the core keeps of each call: none of a call that is done
+-- the same with the turn that the core keeps for each call; a call that is done has none
 pub record CoreState : Type 0 where
   pub seen : CoreValue
   pub turns : List (Option TurnValue)
@@ -43,14 +42,14 @@ pub record CoreState : Type 0 where
 abbrev pub kept_turn : CoreState → ℕ → Option TurnValue
 kept_turn s c = get_or s.turns c None
 
--- a core of the tree with these procedures, without calls
+-- a core for this tree with these procedures and without calls
 abbrev pub opened : TreeValue → List Named → ℕ → CoreState
 opened tree procedures limit = record {
   seen = record { parents = tree.parents; opening = tree.records; procedures = procedures; calls = []; past = []; limit = limit };
   turns = [];
 }
 
--- the core that takes over from one that is at rest: it opens with the records now, and has no calls yet
+-- the core that follows one at rest: it opens with the current records and has no calls
 abbrev pub opened_after : CoreValue → CoreState
 opened_after v =
     opened (record { parents = v.parents; records = records_now v.past v.opening }) v.procedures v.limit
@@ -64,7 +63,7 @@ call_of v c = get_or v.calls c no_call
 abbrev pub code_of : CoreValue → ℕ → List Instr
 code_of v c = (call_of v c).code.instrs
 
--- the same as a world of the protocol: each call means what its procedure does alone with its arguments
+-- the core as a world of the protocol: a call's meaning is what its code does alone with its arguments
 abbrev pub world_of : CoreValue → World
 world_of v = record {
   parents = v.parents;
@@ -74,8 +73,8 @@ world_of v = record {
   counts = λ c. (call_of v c).count;
 }
 
--- The turn is that of call c, which is open: what is left of it, on the opening tree with each record that the call found put in
--- its place, is the rest of what the call does alone.
+-- The turn is that of the open call c. On the opening tree with the records that the call found, the rest of the turn's
+-- run is the rest of what the call does alone.
 pub record IsTurnOf (v : CoreValue) (c : ℕ) (t : TurnValue) : Type 0 where
   pub is_open : IsOpen c v.past
   pub code : t.code ≡ (call_of v c).code
@@ -87,32 +86,32 @@ pub record IsTurnOf (v : CoreValue) (c : ℕ) (t : TurnValue) : Type 0 where
 abbrev pub done_by : CoreValue → ℕ → List Action
 done_by v c = done_of (world_of v) c
 
--- the sum over the numbers below n
+-- the sum of f over the numbers below n
 abbrev pub total : (ℕ → ℕ) → ℕ → ℕ
 total f zero = 0
 total f (suc n) = total f n + f n
 
--- c was admitted and isn't done, and each call before it is done
+-- c was admitted and isn't done, and all calls before it are done
 pub record IsLeastUnfinished (past : List Event) (c : ℕ) : Type 0 where
   pub is_open : IsOpen c past
   pub least : (d : ℕ) → d < c → is_done d past ≡ true
 
--- a call isn't done, and it is the least such one; or, where memory was refused, every call is done
+-- the fault of sealing: c is the lowest call that isn't done; if memory was refused, all calls are done
 abbrev pub IsSealFault : CoreValue → CoreFault → Type 0
 IsSealFault v (NotAtRest c) = IsLeastUnfinished v.past c
 IsSealFault v Memory = AllDone v.past
 IsSealFault v _ = ⊥
 
--- how many calls are open
+-- the number of open calls
 abbrev pub open_calls : CoreValue → ℕ
 open_calls v = total (λ c. if is_done c v.past then 0 else 1) (length v.calls)
 
--- how many events a call of the code may have at most: it locks no node twice, and is admitted and done once
+-- an upper bound for the events of a call: it locks and frees each node at most once, and is admitted and done once
 abbrev pub places : List Instr → ℕ → ℕ
 places code nodes = 2 * min (lock_bound code) nodes + 2
 
--- how many events the history still keeps a place for: of each open call as many as it may have, less those that
--- it has, its admission among them
+-- the number of places that the history still reserves for call c: 0 if it is done, otherwise the bound less the events
+-- that it has, including its admission
 abbrev pub owed_to : CoreValue → ℕ → ℕ
 owed_to v c = if is_done c v.past then 0 else places (code_of v c) (length v.parents) - (length (part_of c v.past) + 1)
 
@@ -123,6 +122,6 @@ owed v = total (owed_to v) (length v.calls)
 abbrev pub room : CoreValue → ℕ
 room v = v.limit - (length v.past + owed v)
 
--- how many instructions all calls may do at most
+-- an upper bound for the instructions of all calls
 abbrev pub all_budgets : CoreValue → ℕ
 all_budgets v = total (λ c. budget (code_of v c)) (length v.calls)

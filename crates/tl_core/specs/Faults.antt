@@ -1,9 +1,9 @@
--- The numbers of a core's faults.
+-- The faults of a core, as numbers.
 use Rattle.std.specs.Prelude.{ℕ, List, [], ◌∷◌}
 use Rattle.tl_core.specs.declared.fault.CoreFault.{CoreFault}
 use Rattle.tl_core.specs.declared.fault.CoreFault.TheVariants.{WrongArgs, NoProcedure, NoCall, TooManyCalls, TooManyOpen, HistoryFull, NotAtRest, NotFrom, Memory}
 
--- a fault as numbers
+-- the fault's number, followed by its operand
 abbrev pub numbers_of : CoreFault → List ℕ
 numbers_of WrongArgs = 501 ∷ []
 numbers_of NoProcedure = 601 ∷ []

@@ -1,4 +1,4 @@
--- How a core stores its calls: what it keeps for ever, and the slots of those that are open.
+-- How a core stores its calls: permanent values for every call, and a slot for each open call.
 use Rattle.std.specs.Prelude.{◌≡◌, ℕ, List, length, map, Option, Some, None, option_map, slice_get, get_or, ℤ}
 use Rattle.tl_machine.specs.Turns.{TurnValue}
 use Rattle.tl_procedures.specs.Names.{Named, no_procedure}
@@ -19,12 +19,12 @@ reply_in (Done reply steps) = Some reply
 abbrev pub steps_of : OpenCall → ℕ
 steps_of o = o.turn.call.steps
 
--- how many instructions the call has done: its turn counts them while it is open
+-- the number of instructions that the call has executed, which is counted in its turn while it is open
 abbrev pub count_of : List OpenCall → Progress → ℕ
 count_of slots (Open slot) = get_or (map steps_of slots) slot 0
 count_of slots (Done reply steps) = steps
 
--- what callers see of a stored call
+-- the stored call as callers see it
 abbrev pub seen_call : List Named → List OpenCall → Call → CallValue
 seen_call procedures slots s = record {
   procedure = s.procedure;
@@ -33,7 +33,7 @@ seen_call procedures slots s = record {
   count = count_of slots s.progress;
 }
 
--- the turn that is kept of a stored call
+-- the turn of a stored call; None if it is done
 abbrev pub turn_in : List OpenCall → Progress → Option TurnValue
 turn_in slots (Open slot) = option_map (λ o. o.turn) (slice_get slots slot)
 turn_in slots (Done reply steps) = None
@@ -41,7 +41,7 @@ turn_in slots (Done reply steps) = None
 abbrev pub seen_turn : List OpenCall → Call → Option TurnValue
 seen_turn slots s = turn_in slots s.progress
 
--- A call with its turn, which is the last one where the call is done. The core stores the turn only of an open call.
+-- A call with its turn, which is the last one if the call is done. The core stores the turn only while the call is open.
 pub record Kept : Type 0 where
   pub procedure : ℕ
   pub args : List ℤ
@@ -52,7 +52,7 @@ pub record Kept : Type 0 where
 abbrev pub open_call : ℕ → Kept → OpenCall
 open_call c k = record { call = c; places = k.places; turn = k.turn }
 
--- the stored call is that call, whose number is c
+-- the stored data represents this call, whose number is c
 pub record IsStored (procedures : List Named) (slots : List OpenCall) (c : ℕ) (k : Kept) (s : Call) : Type 0 where
   pub procedure : s.procedure ≡ k.procedure
   pub args : s.args.items ≡ k.args
@@ -61,7 +61,7 @@ pub record IsStored (procedures : List Named) (slots : List OpenCall) (c : ℕ) 
   pub slot : (j : ℕ) → slot_of s.progress ≡ Some j → slice_get slots j ≡ Some (open_call c k)
   pub steps : (reply : List ℤ) (n : ℕ) → s.progress ≡ Done reply n → n ≡ k.turn.call.steps
 
--- Each call is stored, and each slot is that of an open call. A slot names its call, so no two calls have the same slot.
+-- Each call is stored, and each slot is that of an open call. A slot gives the number of its call, so no two calls share a slot.
 pub record AreStored (procedures : List Named) (calls : List Call) (slots : List OpenCall) (kept : List Kept) : Type 0 where
   pub long : length calls ≡ length kept
   pub each : (c : ℕ) (k : Kept) (s : Call) → slice_get kept c ≡ Some k → slice_get calls c ≡ Some s → IsStored procedures slots c k s

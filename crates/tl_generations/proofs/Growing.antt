@@ -1,4 +1,4 @@
--- Nodes that are appended to a tree.
+-- Appending nodes to a tree.
 use Rattle.std.proofs.Common.{◌≡◌, ℕ, zero, suc, ◌+◌, ◌-◌, ◌<◌, ◌≤◌, ℤ, pos, negsuc, unsigned_abs, List, [], ◌∷◌, ◌++◌, length, get_or, map, Bool, true, false, ◌⊎◌, inl, inr, refl, sym, ap, ap₂, ◌∙◌, subst, arith}
 use Rattle.std.proofs.lemmas.Bool.{cases_lt}
 use Rattle.std.proofs.lemmas.Bool.Decides.{nat_tests}
@@ -18,7 +18,7 @@ no_negative first (z ∷ zs) h =
     λ i less. (let along : first + suc i ≡ (first + 1) + i = omega arith in rw along at (h (suc i) (omega arith))) in
     ap₂ ◌∷◌ (sym here) (no_negative (first + 1) zs later)
 
--- each node of the whole has a parent before it
+-- the parent of each node of the result has a lower number
 lower_in : (parents : List ℕ) (zs : List ℤ) → IsTree parents → AreLower (length parents) zs (length zs)
     → (x : ℕ) → 0 < x → x < length parents + length zs → (x < length parents) ⊎ (length parents ≤ x) → parent (parents ++ map unsigned_abs zs) x < x
 lower_in parents zs tree lower x above less (inl old) = rw (get_or_append_left parents (map unsigned_abs zs) 0 x old) (tree.lower x above old)
@@ -49,7 +49,7 @@ can_grow parents zs tree few lower =
 lower_test : (p x : ℕ) → p < x → is_lower (pos p) x ≡ true
 lower_test p x less = grind (arith, nat_tests)
 
--- where nodes can be appended nothing but memory is a fault
+-- if nodes can be appended, only memory can be refused
 pub only_memory : (limit : ℕ) (parents : List ℕ) (zs : List ℤ) (added : List ℕ) (e : GrowthFault) → 0 < length parents → CanGrow parents zs added
     → length parents + length zs ≤ limit → IsGrowthFault limit (length parents) zs e → e ≡ Memory
 only_memory limit parents zs added TooMany some can few h = absurd (omega (arith, h, few))

@@ -1,4 +1,4 @@
--- Generations joined to one line of calls.
+-- Generations joined to one sequence of calls.
 use Rattle.std.proofs.Common.{◌≡◌, ℕ, zero, suc, ◌+◌, ◌-◌, ℤ, List, [], ◌∷◌, ◌++◌, length, map, refl, sym, ap, ◌∙◌, subst, append_assoc, arith}
 use Rattle.std.specs.Prelude.{Some, slice_get, replicate, Result, Ok, Err, IfOk, OnErr}
 use Rattle.std.proofs.lemmas.List.{append-nil, length-append, replicate-append-replicate}
@@ -29,7 +29,7 @@ line_agrees n parents opening procedures [] line = tt
 line_agrees n parents opening procedures (e ∷ es) line =
     (order_agrees (seen e) line.1.sound (epoch_order e) refl, line_agrees (n + 1) parents (records_now (seen e).past (seen e).opening) (seen e).procedures es line.2)
 
--- a closed table that takes up a legacy, as a line from there on
+-- a closed table that starts from a legacy follows it
 taken_line : (l : LegacyValue) (e : EpochValue) (es : List EpochValue) → IsChain (e ∷ es) → TakesUp l e → InLine 0 l.parents l.records [] (e ∷ es)
 taken_line l e es chain takes =
     let same_parents : chain.parents ≡ l.parents = sym chain.line.0.parents ∙ takes.parents in
@@ -81,7 +81,7 @@ procedures_on procedures (e ∷ es) more = procedures_on (seen e).procedures es 
 abbrev pub legacy : List ℕ → Records → List Named → LegacyValue
 legacy parents records procedures = record { parents = parents; records = records; procedures = procedures }
 
--- what there is after one epoch at least doesn't hang on the records before
+-- what is left after at least one epoch doesn't depend on the records before
 records_forgotten : (l : LegacyValue) (a b : Records) (es : List EpochValue) → TakesUpFirst l es → records_after a es ≡ records_after b es
 records_forgotten l a b [] takes = absurd takes
 records_forgotten l a b (e ∷ es) takes = refl
@@ -105,7 +105,7 @@ grown_twice l ps qs =
     ∙ ap (λ n. with_zeros n l.records) (sym (length-append ps qs)) in
     (λ i. legacy (parents i) (zeros i) l.procedures)
 
--- the zeros are among the records that the first epoch afterwards opens with
+-- the zeros are among the records that the next epoch opens with
 zeros_dropped : (l : LegacyValue) (gs : List GenerationValue) → AreGenerations l gs → records_after (with_zeros (length (added_by gs)) l.records) (epochs_of gs) ≡ records_after l.records (epochs_of gs)
 zeros_dropped l [] h = no_zeros l.records
 zeros_dropped l (g ∷ gs) h =

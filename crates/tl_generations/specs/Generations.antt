@@ -1,4 +1,4 @@
--- Closed tables one after another: each takes up what the one before left, or that with nodes appended to its tree.
+-- A sequence of closed tables. Each starts from what its predecessor left, possibly with nodes appended to the tree.
 use Rattle.std.specs.Prelude.{◌≡◌, ℕ, ℤ, List, [], ◌∷◌, ◌++◌, length, map}
 use Rattle.tl_tree.specs.Records.{Records}
 use Rattle.tl_tree_locking.specs.Alone.{Outcome, SerialOutcome}
@@ -9,35 +9,35 @@ use Rattle.tl_table.specs.Tables.{epoch_world, records_after, procedures_after, 
 use Rattle.tl_table.specs.Chains.{epoch_order}
 use Rattle.tl_generations.specs.Growth.{CanGrow, with_zeros}
 
--- a tree, and procedures, which a closed table leaves to the next
+-- what a closed table leaves to the next one: a tree and procedures
 pub record LegacyValue : Type 0 where
   pub parents : List ℕ
   pub records : Records
   pub procedures : List Named
 
--- the same with nodes of these parents appended to the tree: their records are zeros
+-- the same with appended nodes, which have these parents and records of zeros
 abbrev pub grown : LegacyValue → List ℕ → LegacyValue
 grown l added = record { parents = l.parents ++ added; records = with_zeros (length added) l.records; procedures = l.procedures }
 
--- Nodes of these parents were appended, of which the first has that number.
+-- Nodes with these parents were appended; the first of them has the number `first`.
 pub record IsGrown (old : LegacyValue) (integers : List ℤ) (first : ℕ) (new : LegacyValue) : Type 0 where
   pub added : List ℕ
   pub tree : CanGrow old.parents integers added
   pub number : first ≡ length old.parents
   pub same : new ≡ grown old added
 
--- an epoch opens with that tree and has these procedures first
+-- the epoch opens with this tree and has these procedures first
 pub record TakesUp (l : LegacyValue) (e : EpochValue) : Type 0 where
   pub parents : (seen e).parents ≡ l.parents
   pub opening : (seen e).opening ≡ l.records
   pub procedures : BeginsWith l.procedures (seen e).procedures
 
--- the first epoch of a closed table does so
+-- the first epoch of a closed table starts from this legacy
 abbrev pub TakesUpFirst : LegacyValue → List EpochValue → Type 0
 TakesUpFirst l [] = ⊥
 TakesUpFirst l (e ∷ es) = TakesUp l e
 
--- what there is after these epochs
+-- the legacy that these epochs leave
 abbrev pub legacy_after : LegacyValue → List EpochValue → LegacyValue
 legacy_after l es =
     record { parents = l.parents; records = records_after l.records es; procedures = procedures_after l.procedures es }
@@ -47,34 +47,33 @@ pub record GenerationValue : Type 0 where
   pub added : List ℕ
   pub epochs : List EpochValue
 
--- what there is after that table
+-- the legacy that the table leaves
 abbrev pub left_by : LegacyValue → GenerationValue → LegacyValue
 left_by l g = legacy_after (grown l g.added) g.epochs
 
--- Each of these closed tables takes up what the one before it left, with the nodes that were appended then; the first one takes up
--- this.
+-- Each closed table starts from what its predecessor left with its own appended nodes; the first one starts from l with its appended nodes.
 abbrev pub AreGenerations : LegacyValue → List GenerationValue → Type 0
 AreGenerations l [] = Unit {0}
 AreGenerations l (g ∷ gs) = IsChain g.epochs × TakesUpFirst (grown l g.added) g.epochs × AreGenerations (left_by l g) gs
 
--- what they leave in the end
+-- the legacy that the last table leaves
 abbrev pub legacy_of : LegacyValue → List GenerationValue → LegacyValue
 legacy_of l [] = l
 legacy_of l (g ∷ gs) = legacy_of (left_by l g) gs
 
--- their epochs, one after another
+-- the epochs of all tables, one after another
 abbrev pub epochs_of : List GenerationValue → List EpochValue
 epochs_of [] = []
 epochs_of (g ∷ gs) = g.epochs ++ epochs_of gs
 
--- the parents of all nodes that were appended
+-- the parents of all appended nodes
 abbrev pub added_by : List GenerationValue → List ℕ
 added_by [] = []
 added_by (g ∷ gs) = g.added ++ added_by gs
 
 -- ---- all calls, run alone
 
--- the calls of these epochs along their orders joined, as what each does alone
+-- the meanings of these epochs' calls, in their joined orders
 abbrev pub calls_of : List EpochValue → List (Records → Outcome)
 calls_of es = joined (map epoch_world es) (map epoch_order es)
 
@@ -82,8 +81,7 @@ calls_of es = joined (map epoch_world es) (map epoch_order es)
 abbrev pub replies_of : List EpochValue → List (List ℤ)
 replies_of es = joined_replies (map epoch_world es) (map epoch_order es)
 
--- before each table the records of the nodes that were appended then come behind the others; then its calls are run alone, each on the
--- records that the one before left
+-- runs all calls alone, one after another; before the calls of each table, records of zeros are appended for that table's new nodes
 abbrev pub run_generations : List GenerationValue → Records → SerialOutcome
 run_generations [] records = record { tree = records; replies = [] }
 run_generations (g ∷ gs) records =
@@ -91,31 +89,31 @@ run_generations (g ∷ gs) records =
     let later = run_generations gs own.tree in
     record { tree = later.tree; replies = own.replies ++ later.replies }
 
--- That leaves the records that there are in the end, and each call gives the reply that it gave.
+-- This run leaves the last table's records, and each call gives the reply that it gave.
 pub record AreSerialFrom (l : LegacyValue) (gs : List GenerationValue) : Type 0 where
   pub tree : (run_generations gs l.records).tree ≡ (legacy_of l gs).records
   pub replies : (run_generations gs l.records).replies ≡ replies_of (epochs_of gs)
 
--- All calls of these epochs, run alone one after another along these orders joined, from those records, leave the records that there
--- are in the end, and each gives the reply that it gave.
+-- If all calls of these epochs run alone one after another in these orders, starting from `opening`, they leave the last
+-- epoch's records, and each call gives the reply that it gave.
 pub record IsSerialFrom (opening : Records) (es : List EpochValue) (orders : List (List ℕ)) : Type 0 where
   pub tree : (run_each (joined (map epoch_world es) orders) opening).tree ≡ records_after opening es
   pub replies : (run_each (joined (map epoch_world es) orders) opening).replies ≡ joined_replies (map epoch_world es) orders
 
 -- ---- a line of closed tables that goes on
 
--- the legacy before any call, and the one now
+-- the legacy before any call, and the current one
 pub record SuccessionValue : Type 0 where
   pub first : LegacyValue
   pub last : LegacyValue
 
--- generations lead from the first legacy to the last, before which nodes may have been appended once more
+-- closed tables lead from the first legacy to the last; at the end, nodes may have been appended once more
 pub record IsSuccession (first last : LegacyValue) : Type 0 where
   pub tables : List GenerationValue
   pub added : List ℕ
   pub generations : AreGenerations first tables
   pub left : grown (legacy_of first tables) added ≡ last
 
--- one generation more, if it took up what there was
+-- a table with these epochs started from the last legacy, and the new last legacy is what they leave
 abbrev pub TakesTurn : SuccessionValue → List EpochValue → SuccessionValue → Type 0
 TakesTurn old es new = TakesUpFirst old.last es × (new.first ≡ old.first) × (new.last ≡ legacy_after old.last es)

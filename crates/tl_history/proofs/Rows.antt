@@ -3,7 +3,7 @@ use Rattle.std.proofs.Common.{◌≡◌, ℕ, [], ◌∷◌, refl}
 use Rattle.tl_tree_locking.specs.declared.event.Event.TheVariants.{Admit}
 use Rattle.tl_history.specs.Stored.{Stored, room_of}
 
--- two events are stored
+-- a history with two events
 abbrev stored : ℕ → ℕ → Stored
 stored limit reserved = record { past = Admit 1 ∷ Admit 0 ∷ []; limit = limit; reserved = reserved }
 

@@ -1,4 +1,4 @@
--- A cell's bytes are no other cell's.
+-- Different cells have different bytes.
 use Rattle.std.proofs.Common.{◌≡◌, ◌≢◌, ℕ, ◌<◌, ◌^◌, List, drop, get_or, refl, sym, ◌∙◌, ap, arith}
 use Rattle.std.specs.Int.{w32, from_be_bytes}
 use Rattle.std.proofs.lemmas.Nat.{from_be_bytes-to_be_bytes_4}
@@ -13,7 +13,7 @@ use Rattle.tl_instr.specs.Spelling.{cell, cell_of, cell_bytes, instr_bytes}
 use Rattle.tl_instr.proofs.Cells.{instr_in-cell_of}
 use Rattle.tl_instr.specs.Reading.{instr_in}
 
--- what a cell's last operand says has 32 bits
+-- a cell's last operand fits 32 bits
 pub w_fits : (v : Version) (count : ℕ) (i : Instr) → count < 2 ^ 16 → IsInstr v count i → (cell_of i).w < 2 ^ 32
 w_fits v count (Set to number) lt h = (Fits-of_z h.in_range.1).fits
 w_fits v count (Copy to from) lt h = omega arith
@@ -47,7 +47,7 @@ same_cell a b la lb e =
     let parts : cell a.opcode a.x a.y a.z a.w ≡ cell b.opcode b.x b.y b.z b.w = rw (opcodes, xs, ys, zs, ws) refl in
     parts
 
--- two instructions of a code have not the same bytes
+-- two instructions of a code with the same bytes are the same
 pub same_instr : (v : Version) (count : ℕ) (i j : Instr) → count < 2 ^ 16 → IsInstr v count i → IsInstr v count j → instr_bytes i ≡ instr_bytes j → i ≡ j
 same_instr v count i j lt h k e =
     let cells : cell_of i ≡ cell_of j = same_cell (cell_of i) (cell_of j) (w_fits v count i lt h) (w_fits v count j lt k) e in
@@ -56,7 +56,7 @@ same_instr v count i j lt h k e =
     let right = instr_in-cell_of v count j lt k in
     cc
 
--- where no instruction has a cell, none has its bytes
+-- if no instruction has this cell, no instruction has its bytes
 pub no_cell : (v : Version) (count : ℕ) (c : Cell) (bytes : List ℕ) → count < 2 ^ 16 → c.w < 2 ^ 32 → cell_bytes c ≡ bytes → ((i : Instr) → IsInstr v count i → cell_of i ≢ c) → IsCell v count bytes → ⊥
 no_cell v count c bytes lt fits e none has =
     none has.0 has.1 (same_cell (cell_of has.0) c (w_fits v count has.0 lt has.1) fits (has.2 ∙ sym e))

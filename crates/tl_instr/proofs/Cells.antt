@@ -1,4 +1,4 @@
--- The instruction that a cell names is the one that has this cell, if any has.
+-- The instruction that is read from a cell is the one that has this cell, if there is one.
 use Rattle.std.proofs.Common.{◌≡◌, ◌≢◌, ℕ, ◌<◌, ◌≤◌, ◌^◌, Bool, true, eqb, ◌&&◌, not, Option, Some, None, refl, sym, ◌∙◌, ap, arith}
 use Rattle.std.specs.Prelude.{IfSome, IsSomeAnd}
 use Rattle.std.specs.Int.{w32}
@@ -17,7 +17,7 @@ use Rattle.tl_instr.specs.Reading.{below, set_in, copy_in, add_in, subtract_in, 
 below_is : (limit n : ℕ) → n < limit → below limit n ≡ Some n
 below_is limit n lt = rw (lt-ltb n limit lt) refl
 
--- an instruction's cell names the instruction
+-- from an instruction's cell that instruction is read
 pub instr_in-cell_of : (v : Version) (count : ℕ) (i : Instr) → count < 2 ^ 16 → IsInstr v count i → instr_in (cell_of i) ≡ Some i
 unfolding instr_in set_in copy_in add_in subtract_in multiply_in divide_in jump_in jump_if_less_in jump_if_equal_in repeat_in repeat_by_in first_in child_in move_in release_in get_in put_in kids_in emit_in
 instr_in-cell_of v count (Set to number) lt h =
@@ -43,13 +43,13 @@ instr_in-cell_of v count (Kids to node) lt h = rw (below_is VALUE_REGISTERS to h
 instr_in-cell_of v count (Emit from) lt h = rw (below_is VALUE_REGISTERS from h.in_range) refl
 instr_in-cell_of v count Return lt h = refl
 
--- where a cell names none, none has it
+-- if nothing is read from a cell, no instruction has it
 pub none_has : (v : Version) (count : ℕ) (c : Cell) → count < 2 ^ 16 → instr_in c ≡ None → (i : Instr) → IsInstr v count i → cell_of i ≢ c
 none_has v count c lt none i h e =
     let some : instr_in c ≡ Some i = ap instr_in (sym e) ∙ instr_in-cell_of v count i lt h in
     cc
 
--- where a cell names j, no other has it
+-- if j is read from a cell, no other instruction has it
 pub no_other_has : (v : Version) (count : ℕ) (c : Cell) (j : Instr) → count < 2 ^ 16 → instr_in c ≡ Some j → (i : Instr) → IsInstr v count i → cell_of i ≡ c → i ≡ j
 no_other_has v count c j lt named i h e =
     let some : instr_in c ≡ Some i = ap instr_in (sym e) ∙ instr_in-cell_of v count i lt h in
@@ -59,7 +59,7 @@ same_tests : (a b : Cell) → a ≡ b → (eqb a.opcode b.opcode && (eqb a.x b.x
 same_tests a b e =
     rw (eq-eqb a.opcode b.opcode (ap (λ (c : Cell). c.opcode) e), eq-eqb a.x b.x (ap (λ (c : Cell). c.x) e), eq-eqb a.y b.y (ap (λ (c : Cell). c.y) e), eq-eqb a.z b.z (ap (λ (c : Cell). c.z) e), eq-eqb a.w b.w (ap (λ (c : Cell). c.w) e)) refl
 
--- `!=` doesn't hold of equal cells
+-- `!=` is false for equal cells
 pub never_differ : (a b : Cell) (r : Bool) → r ≡ not (eqb a.opcode b.opcode && (eqb a.x b.x && (eqb a.y b.y && (eqb a.z b.z && eqb a.w b.w)))) → r ≡ true → a ≡ b → ⊥
 never_differ a b r is differs e = false≢true (sym (is ∙ ap not (same_tests a b e)) ∙ differs)
 

@@ -1,4 +1,4 @@
--- What makes a code.
+-- How a code is built from its instructions.
 use Rattle.std.proofs.Common.{◌≡◌, ℕ, ◌+◌, ◌<◌, ◌≤◌, List, length, take, get_or, Some, sym, ap, ◌∙◌, subst, arith}
 use Rattle.std.specs.List.{All}
 use Rattle.std.proofs.lemmas.List.{take_all}
@@ -16,14 +16,14 @@ one_more v count instrs pc i lt e before in_range goes_within of_version =
     let here : IsInstr v count i = record { in_range = in_range; goes_within = goes_within; of_version = of_version } in
     All-more (IsInstr v count) instrs pc i lt before (subst (IsInstr v count) e here)
 
--- the walk is at its end
+-- when all instructions are read, they are a code
 pub is_code : (v : Version) (arity count pc : ℕ) (instrs : List Instr) → IsArity arity → count ≡ length instrs → count ≤ pc → 0 < count → count ≤ 1024 → All (IsInstr v count) (take pc instrs) → IsCode (record { version = v; arity = arity; instrs = instrs })
 is_code v arity count pc instrs fits e le some limit valid =
     let whole : take pc instrs ≡ instrs = take_all pc instrs (omega arith) in
     let same : All (IsInstr v (length instrs)) instrs = subst (λ (n : ℕ). All (IsInstr v n) instrs) e (subst (All (IsInstr v count)) whole valid) in
     record { arity = fits; count = (omega arith, omega arith); instrs = same }
 
--- an instruction that is read at a position is the first that is refused there
+-- if the instruction read at a position isn't valid, it is the first one refused
 pub refused_here : (v : Version) (count : ℕ) (instrs : List Instr) (pc : ℕ) (i : Instr) → count ≡ length instrs → pc < count → i ≡ get_or instrs pc i → All (IsInstr v count) (take pc instrs)
     → (IsInstr v count i → ⊥) → IsFirstRefused v instrs pc i
 refused_here v count instrs pc i many lt e before refused = record {

@@ -1,4 +1,4 @@
--- No code has two spellings, no bytes spell two codes, and what is spelled has no fault.
+-- Each code has one encoding, an encoding is that of one code, and it has no fault.
 use Rattle.std.proofs.Common.{◌≡◌, ℕ, zero, suc, ◌+◌, ◌-◌, ◌*◌, ◌^◌, ◌<◌, List, [], ◌∷◌, ◌++◌, length, take, drop, get_or, refl, sym, ◌∙◌, ap, subst, arith, inl, inr, length-append}
 use Rattle.std.specs.List.{AllByRecursion, flat_map}
 use Rattle.std.proofs.lemmas.Nat.{from_be_bytes-to_be_bytes_2}
@@ -51,7 +51,7 @@ same_instrs v count (i ∷ is) (j ∷ js) lt h k e =
 
 -- ---- the parts of a spelling
 
--- by version: the magic is of four bytes, and its last names the version
+-- for each version: the magic has four bytes, and the last of them determines the version
 module _ (a n : ℕ) (rest : List ℕ) where
   count_by : (v : Version) → count_at (header v a n ++ rest) ≡ from_be_bytes w16 (to_be_bytes w16 n)
   count_by One = refl
@@ -120,7 +120,7 @@ same_code bytes c d p q =
     let parts : make c.version c.arity c.instrs ≡ make d.version d.arity d.instrs = rw (version, arity, instrs) refl in
     parts
 
--- each position of a spelling has an instruction's cell
+-- the cell at each position of an encoding is that of an instruction
 has_cell : (c : CodeValue) (k : ℕ) → IsCode c → k < length c.instrs → IsCell (version_at (spelling c)) (count_at (spelling c)) (cell_at (spelling c) k)
 has_cell c k valid lt =
     let there = cell_there c.version (length c.instrs) c.instrs k (recursion_from_All (IsInstr c.version (length c.instrs)) c.instrs valid.instrs) lt in
@@ -140,7 +140,7 @@ spelling_faultless c BadArity valid fault = fault.2 (subst IsArity (sym (arity_a
 spelling_faultless c NotVersion1 valid fault = fault
 spelling_faultless c Memory valid fault = fault
 
--- what is spelled has no fault
+-- an encoding of a code has no fault
 pub faultless : (bytes : List ℕ) (c : CodeValue) (f : CodeFault) → Spelled bytes c → IsFirstFault bytes f → ⊥
 faultless bytes c f spelled fault = spelling_faultless c f spelled.valid (subst (λ (b : List ℕ). IsFirstFault b f) spelled.same fault)
 
@@ -153,7 +153,7 @@ wider_instrs n (i ∷ is) h = (record { in_range = h.0.in_range; goes_within = h
     in_two : (i : Instr) → HasInstr Two i
     in_two i = tt
 
--- a code of the first version is one of the second too
+-- a code of the first version is also one of the second
 pub is_migrated : (c : CodeValue) → c.version ≡ One → IsCode c → IsCode (migrated c)
 is_migrated c one valid = record {
   arity = valid.arity;
@@ -161,7 +161,7 @@ is_migrated c one valid = record {
   instrs = All-from_recursion (IsInstr Two (length c.instrs)) c.instrs (wider_instrs (length c.instrs) c.instrs (subst (λ (v : Version). AllByRecursion (IsInstr v (length c.instrs)) c.instrs) one (recursion_from_All (IsInstr c.version (length c.instrs)) c.instrs valid.instrs)));
 }
 
--- the container of the same code in the second version has another fourth byte
+-- the container of the same code in the second version differs in the fourth byte only
 pub migrated_spelled : (bytes : List ℕ) (c : CodeValue) → c.version ≡ One → Spelled bytes c → Spelled (set bytes 3 0x32) (migrated c)
 migrated_spelled bytes c one h =
     record {

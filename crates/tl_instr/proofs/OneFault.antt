@@ -17,7 +17,7 @@ length_framed : (bytes : List ℕ) → IsFirstFault bytes BadLength → IsFramed
 length_framed bytes (magic, inl short) framed = omega (arith, framed.header)
 length_framed bytes (magic, inr long) framed = long.3 framed.size
 
--- the first position whose bytes are no instruction's is one
+-- there is at most one first position with a bad cell
 same_place : (bytes : List ℕ) (j k : ℕ) → IsFirstBad bytes j → IsFirstBad bytes k → j ≡ k
 same_place bytes j k p q =
     elim (cases_order j k) [

@@ -14,15 +14,15 @@ abbrev pub opcodes : List ℕ
 opcodes =
     1 ∷ 2 ∷ 3 ∷ 4 ∷ 5 ∷ 6 ∷ 7 ∷ 8 ∷ 9 ∷ 10 ∷ 11 ∷ 12 ∷ 13 ∷ 14 ∷ 15 ∷ 16 ∷ 17 ∷ 18 ∷ 19 ∷ 20 ∷ []
 
--- an instruction that each version has the opcode of
+-- n is the opcode of an instruction that both versions have
 abbrev Everywhere : ℕ → Type 0
 Everywhere n = (i : Instr) × HasOpcode One i × HasOpcode Two i × ((cell_of i).opcode ≡ n)
 
--- each is an instruction's
+-- each listed opcode is that of an instruction
 each_is : AllByRecursion Everywhere opcodes
 each_is = ((Set 0 (pos 0), tt, tt, refl), ((Copy 0 0, tt, tt, refl), ((Add 0 0 0 0, tt, tt, refl), ((Subtract 0 0 0 0, tt, tt, refl), ((Multiply 0 0 0 0, tt, tt, refl), ((Divide 0 0 0 0, tt, tt, refl), ((Jump 0, tt, tt, refl), ((JumpIfLess 0 0 0, tt, tt, refl), ((JumpIfEqual 0 0 0, tt, tt, refl), ((Repeat 0, tt, tt, refl), ((End, tt, tt, refl), ((First 0 0 0, tt, tt, refl), ((Child 0 0 0 0, tt, tt, refl), ((Move 0 0, tt, tt, refl), ((Release 0, tt, tt, refl), ((Get 0 0 0, tt, tt, refl), ((Put 0 0 0, tt, tt, refl), ((Kids 0 0, tt, tt, refl), ((Emit 0, tt, tt, refl), ((Return, tt, tt, refl), tt))))))))))))))))))))
 
--- each instruction of the first version has one of them, and each of the second has one or 21
+-- the opcode of each instruction of the first version is listed
 is_listed : (i : Instr) → HasOpcode One i → list_any (λ y. eqb y (cell_of i).opcode) opcodes ≡ true
 is_listed (RepeatBy turns count) h = absurd h
 is_listed i h = refl
@@ -31,7 +31,7 @@ or_by_register : (i : Instr) → (eqb (cell_of i).opcode 21 || list_any (λ y. e
 or_by_register (RepeatBy turns count) = refl
 or_by_register i = refl
 
--- what is listed has what holds of each of the list
+-- a property of all elements of the list is a property of each listed number
 found : (P : ℕ → Type 0) (ks : List ℕ) (n : ℕ) → AllByRecursion P ks → list_any (λ y. eqb y n) ks ≡ true → P n
 found P [] n all e = absurd cc
 found P (k ∷ ks) n all e =

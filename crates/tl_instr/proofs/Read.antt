@@ -1,4 +1,4 @@
--- What the walk over a container has read is what the container spells.
+-- What is read from a container is the code that it encodes.
 use Rattle.std.proofs.Common.{◌≡◌, ◌≢◌, ℕ, ◌+◌, ◌<◌, ◌≤◌, List, ◌∷◌, ◌++◌, length, take, drop, get_or, refl, sym, ◌∙◌, ap, subst, arith, inl, inr}
 use Rattle.std.specs.Prelude.{slice_index}
 use Rattle.std.specs.Int.{w16, to_be_bytes}
@@ -31,7 +31,7 @@ count_bytes bytes long fits =
           | inr le ↦ rw (get_or_past (take 2 (drop 6 bytes)) i 0 (omega (arith, length-take 2 (drop 6 bytes)))) (omega arith)
         ]
 
--- the bytes are the header's and those after it
+-- the bytes are a header and the bytes after it
 framed_bytes : (bytes : List ℕ) → IsFramed bytes → ((i : ℕ) → get_or bytes i 0 < 256) → bytes ≡ header (version_at bytes) (slice_index bytes 4) (count_at bytes) ++ drop 8 bytes
 framed_bytes bytes framed fits =
     let from_4 : drop 4 bytes ≡ get_or bytes 4 0 ∷ drop 5 bytes = drop-cons bytes 4 0 (omega (arith, framed.header)) in
@@ -62,7 +62,7 @@ is_spelled bytes v arity count instrs fits framed version_is arity_is count_is v
       same = framed_bytes bytes framed fits ∙ ap (λ (l : List ℕ). header (version_at bytes) (slice_index bytes 4) (count_at bytes) ++ l) rest ∙ ap (λ (k : ℕ). header (version_at bytes) (slice_index bytes 4) k ++ flat_map instr_bytes instrs) n ∙ ap (λ (a : ℕ). header (version_at bytes) a (length instrs) ++ flat_map instr_bytes instrs) (sym arity_is) ∙ ap (λ (w : Version). header w arity (length instrs) ++ flat_map instr_bytes instrs) (sym version_is);
     }
 
--- a fault that isn't memory's stands where nothing is spelled
+-- if the bytes encode a code, the only fault can be one of memory
 pub memory_alone : (bytes : List ℕ) (c : CodeValue) (f : CodeFault) → Spelled bytes c → (f ≢ Memory → IsFirstFault bytes f) → f ≡ Memory
 memory_alone bytes c Memory spelled first = refl
 memory_alone bytes c NotVersion1 spelled first = absurd (faultless bytes c NotVersion1 spelled (first (λ e. cc)))
@@ -73,7 +73,7 @@ memory_alone bytes c (BadOperand pc) spelled first = absurd (faultless bytes c (
 memory_alone bytes c BadCount spelled first = absurd (faultless bytes c BadCount spelled (first (λ e. cc)))
 memory_alone bytes c BadArity spelled first = absurd (faultless bytes c BadArity spelled (first (λ e. cc)))
 
--- the version of which the magic is there
+-- the version is the one whose magic is there
 pub version_is : (bytes : List ℕ) (v : Version) → take 4 bytes ≡ magic v → version_at bytes ≡ v
 version_is bytes v e =
     let byte : slice_index bytes 3 ≡ get_or (magic v) 3 0 = sym (get_or-take 4 bytes 3 0 (omega arith)) ∙ ap (λ (l : List ℕ). get_or l 3 0) e in

@@ -1,4 +1,4 @@
--- Walking over the instructions of a container.
+-- Reading the instructions of a container one after another.
 use Rattle.std.proofs.Common.{◌≡◌, ◌≢◌, ℕ, ◌+◌, ◌-◌, ◌*◌, ◌^◌, ◌<◌, ◌≤◌, List, [], ◌∷◌, ◌++◌, length, take, drop, refl, sym, ◌∙◌, ap, subst, arith, below_more, inl, inr, length-append}
 use Rattle.std.specs.Prelude.{slice_index}
 use Rattle.std.specs.List.{All, flat_map}
@@ -15,7 +15,7 @@ use Rattle.tl_instr.specs.Faults.{IsFramed, IsOpcode, IsCell, IsFirstBad, IsCell
 use Rattle.tl_instr.specs.Spelling.{cell_of, cell_bytes, instr_bytes}
 use Rattle.tl_instr.proofs.Bytes.{no_cell}
 
--- These instructions stand at the positions below pos.
+-- These are the instructions at the positions below pos.
 pub record Walked (bytes : List ℕ) (v : Version) (count pos : ℕ) (instrs : List Instr) : Type 0 where
   pub valid : All (IsInstr v count) instrs
   pub counted : length instrs ≡ pos
@@ -30,7 +30,7 @@ none_walked bytes v count = record {
   before = λ k lt. absurd (omega arith);
 }
 
--- the bytes at pos come after those before it
+-- the bytes up to pos + 1 are those up to pos and the cell at pos
 next_bytes : (bytes : List ℕ) (pos : ℕ) → take (8 * (pos + 1)) (drop 8 bytes) ≡ take (8 * pos) (drop 8 bytes) ++ cell_at bytes pos
 next_bytes bytes pos =
     let more : 8 * (pos + 1) ≡ 8 * pos + 8 = omega arith in
@@ -50,7 +50,7 @@ all_walked bytes v count pos instrs le size e walked =
     let long : length (drop 8 bytes) ≤ 8 * pos = omega (arith, length-drop 8 bytes, size, e) in
     sym (take_all (8 * pos) (drop 8 bytes) long) ∙ walked.spelled
 
--- the fault at the first position that has one is the first
+-- the fault of the first bad cell is the first fault of the bytes
 pub first_bad : (bytes : List ℕ) (v : Version) (count pos : ℕ) (f : CodeFault) → IsFramed bytes → v ≡ version_at bytes → count ≡ count_at bytes → pos < count → ((k : ℕ) → k < pos → IsCell v count (cell_at bytes k)) → IsCellFault bytes pos f → IsFirstFault bytes f
 first_bad bytes v count pos f framed ve e lt before fault =
     let bad : IsFirstBad bytes pos = record { framed = framed; inside = omega arith; before = λ k below. subst (λ (w : Version). IsCell w (count_at bytes) (cell_at bytes k)) ve (subst (λ (n : ℕ). IsCell v n (cell_at bytes k)) e (before k below)); here = fault.0 } in
@@ -62,12 +62,12 @@ first_bad bytes v count pos f framed ve e lt before fault =
 cell_opcode : (bytes : List ℕ) (pos : ℕ) (c : Cell) → cell_bytes c ≡ cell_at bytes pos → c.opcode ≡ opcode_at bytes pos
 cell_opcode bytes pos c e = ap (λ (l : List ℕ). slice_index l 0) e
 
--- no instruction has the cell at pos, and one has its opcode
+-- if no instruction has the cell at pos but one has its opcode, the operand is bad
 pub operand_fault : (bytes : List ℕ) (v : Version) (count pos : ℕ) (c : Cell) → v ≡ version_at bytes → count ≡ count_at bytes → count < 2 ^ 16 → c.w < 2 ^ 32 → cell_bytes c ≡ cell_at bytes pos → ((i : Instr) → IsInstr v count i → cell_of i ≢ c) → IsOpcode v c.opcode → IsCellFault bytes pos (BadOperand pos)
 operand_fault bytes v count pos c ve counted lt fits e none known =
     (λ has. no_cell v count c (cell_at bytes pos) lt fits e none (subst (λ (n : ℕ). IsCell v n (cell_at bytes pos)) (sym counted) (subst (λ (w : Version). IsCell w (count_at bytes) (cell_at bytes pos)) (sym ve) has)), inr (refl, subst (IsOpcode (version_at bytes)) (cell_opcode bytes pos c e) (subst (λ (w : Version). IsOpcode w c.opcode) ve known)))
 
--- no instruction has the cell at pos, nor its opcode
+-- if no instruction has the opcode of the cell at pos, the opcode is bad
 pub opcode_fault : (bytes : List ℕ) (v : Version) (count pos : ℕ) (c : Cell) → v ≡ version_at bytes → count ≡ count_at bytes → count < 2 ^ 16 → c.w < 2 ^ 32 → cell_bytes c ≡ cell_at bytes pos → ((i : Instr) → IsInstr v count i → cell_of i ≢ c) → ¬ IsOpcode v c.opcode → IsCellFault bytes pos (BadOpcode pos)
 opcode_fault bytes v count pos c ve counted lt fits e none unknown =
     (λ has. no_cell v count c (cell_at bytes pos) lt fits e none (subst (λ (n : ℕ). IsCell v n (cell_at bytes pos)) (sym counted) (subst (λ (w : Version). IsCell w (count_at bytes) (cell_at bytes pos)) (sym ve) has)), inl (refl, λ known. unknown (subst (λ (w : Version). IsOpcode w c.opcode) (sym ve) (subst (IsOpcode (version_at bytes)) (sym (cell_opcode bytes pos c e)) known))))

@@ -1,4 +1,4 @@
--- The instruction that a cell's opcode and the operands which that opcode uses name.
+-- The instruction that a cell encodes. Operands that its opcode doesn't use are ignored.
 use Rattle.std.specs.Prelude.{ℕ, ◌^◌, Option, Some, None, option_and_then, nat_lt, ◌==◌, if◌then◌else◌}
 use Rattle.std.specs.Int.{w32, cast_signed}
 use Rattle.tl_width.specs.Fields.{field_count}

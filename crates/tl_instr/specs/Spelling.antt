@@ -1,4 +1,4 @@
--- The container's bytes: the one spelling of each code.
+-- The bytes of a container. Each code has exactly one encoding.
 use Rattle.std.specs.Prelude.{◌≡◌, ℕ, List, [], ◌∷◌, ◌++◌, length}
 use Rattle.std.specs.List.{flat_map}
 use Rattle.std.specs.Int.{w16, w32, cast_unsigned, to_be_bytes}
@@ -12,7 +12,7 @@ use Rattle.tl_instr.specs.Codes.{CodeValue, IsCode}
 abbrev pub cell : ℕ → ℕ → ℕ → ℕ → ℕ → Cell
 cell opcode x y z w = record { opcode = opcode; x = x; y = y; z = z; w = w }
 
--- An instruction's opcode and operands: a register, a field or a target is its number, and what isn't used is 0.
+-- the cell of an instruction: a register, a field or a target is encoded as its number, and unused operands are 0
 abbrev pub cell_of : Instr → Cell
 cell_of (Set to number) = cell 1 to 0 0 (cast_unsigned w32 number)
 cell_of (Copy to from) = cell 2 to from 0 0
@@ -36,7 +36,7 @@ cell_of (Kids to node) = cell 18 to node 0 0
 cell_of (Emit from) = cell 19 from 0 0 0
 cell_of Return = cell 20 0 0 0 0
 
--- eight bytes, of which w has four
+-- eight bytes: one each for the opcode, x, y and z, and four for w, the most significant first
 abbrev pub cell_bytes : Cell → List ℕ
 cell_bytes c = (c.opcode ∷ c.x ∷ c.y ∷ c.z ∷ []) ++ to_be_bytes w32 c.w
 
@@ -49,7 +49,7 @@ header version arity count = magic version ++ (arity ∷ 0 ∷ []) ++ to_be_byte
 abbrev pub spelling : CodeValue → List ℕ
 spelling c = header c.version c.arity (length c.instrs) ++ flat_map instr_bytes c.instrs
 
--- the bytes are the container of that code
+-- the code is valid, and the bytes are its container
 pub record Spelled (bytes : List ℕ) (c : CodeValue) : Type 0 where
   pub valid : IsCode c
   pub same : bytes ≡ spelling c

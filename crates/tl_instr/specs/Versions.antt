@@ -1,4 +1,4 @@
--- What belongs to which version of the language.
+-- Which parts of the language belong to which version.
 use Rattle.std.specs.Prelude.{ℕ, ◌<◌, List, [], ◌∷◌, Bool, true, false}
 use Rattle.tl_width.specs.Fields.{narrow_field_count}
 use Rattle.tl_instr.specs.declared.version.Version.{Version}
@@ -6,7 +6,7 @@ use Rattle.tl_instr.specs.declared.version.Version.TheVariants.{One, Two}
 use Rattle.tl_instr.specs.declared.instr.Instr.{Instr}
 use Rattle.tl_instr.specs.declared.instr.Instr.TheVariants.{RepeatBy, Get, Put}
 
--- `TLP1`, `TLP2`
+-- the bytes of `TLP1` and of `TLP2`
 abbrev pub magic : Version → List ℕ
 magic One = 0x54 ∷ 0x4C ∷ 0x50 ∷ 0x31 ∷ []
 magic Two = 0x54 ∷ 0x4C ∷ 0x50 ∷ 0x32 ∷ []
@@ -16,7 +16,7 @@ abbrev pub HasOpcode : Version → Instr → Type 0
 HasOpcode One (RepeatBy turns count) = ⊥
 HasOpcode version i = Unit {0}
 
--- it has the instruction: the opcode, and the field, if the instruction names one
+-- the version has the instruction: its opcode, and its field if it uses one
 abbrev pub HasInstr : Version → Instr → Type 0
 HasInstr One (RepeatBy turns count) = ⊥
 HasInstr One (Get to node field) = field < narrow_field_count

@@ -6,7 +6,7 @@ use Rattle.tl_news.specs.News.{Asked, asked}
 use Rattle.tl_ledger.specs.declared.rows.CallRow.{CallRow}
 use Rattle.tl_journal.specs.Pendings.{column, more, admitted_in, admitted_at, admitted_from}
 
--- one call more
+-- one more call
 pub admitted_more : (epoch : ℤ) (first : ℕ) (calls : List Asked) (a : Asked)
     → admitted_from epoch first (calls ++ a ∷ []) ≡ admitted_from epoch first calls ++ admitted_at epoch (first + length calls) a ∷ []
 admitted_more epoch first [] a =
@@ -17,7 +17,7 @@ admitted_more epoch first (b ∷ calls) a =
     ap (λ l. admitted_at epoch first b ∷ l)
     (admitted_more epoch (first + 1) calls a ∙ ap (λ n. admitted_from epoch (first + 1) calls ++ admitted_at epoch n a ∷ []) next)
 
--- a column's greatest number is below that of rows
+-- the limit of a column is lower than that of a number of rows
 pub column_more : (rows count : ℕ) → column (more rows count) ≡ column (rows + count)
 column_more rows count =
     let same : min (min (rows + count) (2 ^ 64 - 1)) (2 ^ 63 - 1) ≡ min (rows + count) (2 ^ 63 - 1) = omega arith in

@@ -1,4 +1,4 @@
--- What is stored.
+-- How much is stored.
 use Rattle.std.specs.Prelude.{◌≤◌}
 use Rattle.tl_ledger.specs.declared.committing.Marks.{Marks}
 

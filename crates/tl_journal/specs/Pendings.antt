@@ -1,4 +1,4 @@
--- What is pending once what came of an epoch was added to it.
+-- The pending rows after the news of an epoch were added to them.
 use Rattle.std.specs.Prelude.{◌≡◌, ℕ, ◌+◌, ◌-◌, ◌^◌, min, ℤ, pos, List, [], ◌∷◌, ◌++◌, map, length, replicate, Option, Some, None, option_map}
 use Rattle.tl_width.specs.Fields.{field_count}
 use Rattle.tl_tree.specs.Records.{Records}
@@ -17,13 +17,13 @@ use Rattle.tl_journal.specs.declared.pending.Pending.{Pending}
 use Rattle.tl_journal.specs.Changes.{Leads}
 use Rattle.tl_journal.specs.Rows.{procedure_form, named_form, call_form, call_key, turn_bytes, turn_form, reply_form}
 
--- ---- numbers. No store has as many rows as there are numbers; if one had, the greatest would stand for all that are greater.
+-- ---- numbers, limited to the range of their type; no store has as many rows as that
 
--- a number as a column
+-- a number as the value of a column
 abbrev pub column : ℕ → ℤ
 column n = pos (min n (2 ^ 63 - 1))
 
--- so many rows more
+-- the number of rows after `count` more
 abbrev pub more : ℕ → ℕ → ℕ
 more rows count = min (rows + count) (2 ^ 64 - 1)
 
@@ -32,7 +32,7 @@ more rows count = min (rows + count) (2 ^ 64 - 1)
 abbrev pub new_form : NewProcedure → List ℕ × List ℕ
 new_form p = named_form (named p)
 
--- a call that was admitted: its epoch, its number there, what it asks for, and its client's key for it
+-- an admitted call: its epoch, its number there, its request, and the client's key for it
 pub record Admitted : Type 0 where
   pub epoch : ℤ
   pub number : ℤ
@@ -45,12 +45,12 @@ admitted_in row = record { epoch = row.epoch; number = row.number; asks = call_f
 abbrev pub admitted_at : ℤ → ℕ → Asked → Admitted
 admitted_at epoch number a = record { epoch = epoch; number = column number; asks = (a.name, Some a.args); key = None }
 
--- calls of an epoch, numbered from the first on
+-- the calls of an epoch, numbered from `first` on
 abbrev pub admitted_from : ℤ → ℕ → List Asked → List Admitted
 admitted_from epoch first [] = []
 admitted_from epoch first (a ∷ others) = admitted_at epoch first a ∷ admitted_from epoch (first + 1) others
 
--- the turns in one row, and no row where there are none
+-- the turns in one row; no row if there are no turns
 abbrev pub turn_forms : ℤ → List ℕ → List (ℤ × List ℕ)
 turn_forms epoch [] = []
 turn_forms epoch (t ∷ turns) = (epoch, turn_bytes (t ∷ turns)) ∷ []
@@ -58,13 +58,13 @@ turn_forms epoch (t ∷ turns) = (epoch, turn_bytes (t ∷ turns)) ∷ []
 abbrev pub answer_form : ℤ → Answer → (ℤ × ℤ) × Option (List ℤ)
 answer_form epoch a = ((epoch, pos a.call), Some a.reply)
 
--- a seal after so many rows
+-- the seal after this many rows
 abbrev pub seal_after : Marks → SealRow
 seal_after rows = record { procedures = column rows.procedures; calls = column rows.calls; turns = column rows.turns; replies = column rows.replies }
 
 -- ---- an epoch
 
--- how many rows there are once what came of an epoch is stored, but for its seal
+-- the number of rows after the news of an epoch is stored, without its seal
 abbrev pub counted : EpochNews → Marks → Marks
 counted came rows = record {
   nodes = rows.nodes;
@@ -75,8 +75,8 @@ counted came rows = record {
   seals = rows.seals;
 }
 
--- Those changes lead from the records at the last seal to those at this one, and its row says how many rows there are. Where an epoch isn't over
--- there is no seal.
+-- If the epoch is over, there are changes from the records at the last seal to those at this one, and the seal's row has
+-- the numbers of rows. If it isn't over, there is no seal.
 abbrev pub Seals : Option Records → Marks → Pending → Pending → Type 0
 Seals None rows old new =
     (new.news.seals.items ≡ old.news.seals.items) × (new.news.records.items ≡ old.news.records.items)
@@ -86,8 +86,9 @@ Seals (Some now) rows old new =
     × ((changes : List ChangedRecord) × Leads old.records.items now changes × (new.news.records.items ≡ old.news.records.items ++ changes))
     × (new.records.items ≡ now) × (new.rows ≡ record rows { seals = more rows.seals 1 })
 
--- What came of an epoch was added: its procedures, its calls from the first one on, its turns, its replies, and, if it is over, its seal with
--- the records that changed. Its number in the store is how many seals there are before its own.
+-- The news of an epoch was added: its procedures, its calls from the first one on, its turns and its replies; if it is
+-- over, also its seal and the records that changed. The epoch's number in the store is the number of seals before its
+-- own.
 pub record Adds (came : EpochNews) (old new : Pending) : Type 0 where
   pub nodes : new.news.nodes.items ≡ old.news.nodes.items
   pub procedures : map procedure_form new.news.procedures.items ≡ map procedure_form old.news.procedures.items ++ map new_form came.procedures.items
@@ -100,14 +101,14 @@ pub record Adds (came : EpochNews) (old new : Pending) : Type 0 where
   pub mark : new.mark ≡ old.mark
   pub lost : new.is_lost ≡ old.is_lost
 
--- what came of several epochs was added, one after another
+-- the news of several epochs was added, one after another
 abbrev pub AddsAll : List EpochNews → Pending → Pending → Type 0
 AddsAll [] old new = new ≡ old
 AddsAll (e ∷ others) old new = (mid : Pending) × Adds e old mid × AddsAll others mid new
 
 -- ---- the rest
 
--- before a table that begins with so many procedures
+-- the mark at the start of a table that begins with this many procedures
 abbrev pub start : ℕ → Mark
 start procedures = record { epochs = 0; place = record { procedures = procedures; calls = 0; events = 0 } }
 
@@ -121,11 +122,11 @@ pub record IsEmpty (news : News) : Type 0 where
   pub seals : news.seals.items ≡ []
   pub records : news.records.items ≡ []
 
--- a node of that parent, which is there first at the beginning of that epoch
+-- a node with this parent, which exists from the start of this epoch on
 abbrev pub node_of : ℤ → ℤ → NodeRow
 node_of epoch parent = record { parent = parent; epoch = epoch }
 
--- nodes of these parents were appended, with zeros as their records, at the beginning of the epoch that isn't over
+-- nodes with these parents were appended, with records of zeros, at the start of the epoch that isn't over
 pub record Grows (parents : List ℤ) (old new : Pending) : Type 0 where
   pub nodes : new.news.nodes.items ≡ old.news.nodes.items ++ map (node_of (column old.rows.seals)) parents
   pub news : new.news ≡ record old.news { nodes = new.news.nodes }

@@ -1,4 +1,4 @@
--- What rows mean.
+-- The meaning of rows.
 use Rattle.std.specs.Prelude.{ℕ, ◌/◌, ◌%◌, ℤ, List, [], ◌∷◌, string_bytes, Option, option_and_then, option_map}
 use Rattle.std.specs.List.{flat_map}
 use Rattle.serde_json.specs.Read.{read}
@@ -10,13 +10,13 @@ use Rattle.tl_ledger.specs.declared.rows.CallRow.{CallRow}
 use Rattle.tl_ledger.specs.declared.rows.TurnRow.{TurnRow}
 use Rattle.tl_ledger.specs.declared.rows.ReplyRow.{ReplyRow}
 
--- the numbers of a JSON text that is a list of them
+-- the numbers in a JSON text that is a list of integers
 abbrev pub numbers_in : List ℕ → Option (List ℤ)
 numbers_in text = option_and_then integers_of (read text)
 
 -- ---- procedures
 
--- a name, and the one container of a code
+-- a name, and the container of a code
 abbrev pub procedure_form : ProcedureRow → List ℕ × List ℕ
 procedure_form row = (string_bytes row.name, row.container.items)
 
@@ -29,7 +29,7 @@ named_form p = (p.name, spelling p.code)
 abbrev pub call_form : CallRow → List ℕ × Option (List ℤ)
 call_form row = (string_bytes row.procedure, numbers_in (string_bytes row.arguments))
 
--- a client's key for a call
+-- the client's key for a call
 abbrev pub call_key : CallRow → Option (List ℕ)
 call_key row = option_map string_bytes row.key
 

@@ -1,4 +1,4 @@
--- Items, one after another, and lists of another length.
+-- Reading items one after another, and lists of another length.
 use Rattle.std.proofs.Common.{◌≡◌, ◌≢◌, ◌<◌, ◌+◌, ℕ, List, [], ◌∷◌, ◌++◌, map, drop, get_or, length, Option, Some, None, option_map, option_and_then, refl, sym, ap}
 use Rattle.std.proofs.lemmas.List.{append_assoc, map_push, drop_more}
 use Rattle.std.specs.Prelude.{Vec}
@@ -22,7 +22,7 @@ pushed : {A : Type 0} (xs : List A) (o : Option A) (y : A) (rest : Option (List 
 pushed xs o y None e = rw e refl
 pushed xs o y (Some ys) e = rw e (some_pushed xs ys y)
 
--- one item more is read
+-- one more item is read
 pub item_read : {X A : Type 0} (f : X → A) (g : Data → Option A) (xs : List X) (x : X) (vs : List Value) (i : ℕ) (d : Value) → i < length vs → g (view (get_or vs i d)) ≡ Some (f x)
     → onto (map f (xs ++ x ∷ [])) (each_item g (items_view (drop (i + 1) vs))) ≡ onto (map f xs) (each_item g (items_view (drop i vs)))
 item_read f g xs x vs i d lt e =

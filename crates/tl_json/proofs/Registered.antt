@@ -1,4 +1,4 @@
--- Texts under names are taken up in one way, or have a fault.
+-- Named texts are registered with one result, or have a fault.
 use Rattle.std.proofs.Common.{◌≡◌, ℕ, List, [], ◌∷◌, sym, ◌∙◌, subst, inl, inr}
 use Rattle.tl_instr.specs.Codes.{CodeValue}
 use Rattle.tl_asm.proofs.OneCode.{same_code, faultless}

@@ -1,4 +1,4 @@
--- Texts, piece after piece.
+-- Texts that are written piece by piece.
 use Rattle.std.proofs.Common.{◌≡◌, ◌+◌, ◌<◌, ℕ, nat_lt, Bool, true, false, List, [], ◌∷◌, ◌++◌, length, get_or, take, map, codes, Result, Ok, Err, is_ok, if◌then◌else◌, refl, sym, ap, ◌∙◌, append_assoc, append-nil, arith}
 use Rattle.std.specs.Prelude.{OnOk}
 use Rattle.std.proofs.lemmas.Bool.{lt-ltb}
@@ -12,7 +12,7 @@ use Rattle.tl_json.specs.declared.letter.Letter.TheVariants.{Admitted, Plain, Lo
 use Rattle.tl_json.specs.Letters.{text_of}
 use Rattle.tl_json.specs.Lists.{list_data}
 
--- what stands in the text once one piece more was added
+-- the text after one more piece was appended
 pub pushed : {U E : Type 0} (r : Result U E) (new old piece all : List ℕ) → new ≡ (if is_ok r then old ++ piece else old) → old ++ piece ≡ all → OnOk r (new ≡ all)
 pushed (Ok u) new old piece all is same = is ∙ same
 pushed (Err e) new old piece all is same = tt
@@ -42,14 +42,14 @@ letter_pushed old letter =
     append_assoc (old ++ codes "[\"") (text_of letter) (codes "\",") ∙ append_assoc old (codes "[\"") (text_of letter ++ codes "\",")
     ∙ ap (λ l. old ++ 91 ∷ l) (ap (λ l. 34 ∷ l) (sym (append_assoc (text_of letter) (34 ∷ []) (44 ∷ []))) ∙ ap (λ l. l ++ 44 ∷ []) (letter_text letter))
 
--- the pieces of a lock or of a free, of which q is the letter
+-- the pieces of a lock or a free, where q is its letter
 pub node_whole : (old q call node fields : List ℕ)
     → (((((old ++ 91 ∷ (q ++ 44 ∷ [])) ++ call) ++ 44 ∷ []) ++ node) ++ 44 ∷ []) ++ fields ++ 93 ∷ [] ≡ old ++ 91 ∷ (q ++ 44 ∷ (call ++ 44 ∷ (node ++ 44 ∷ (fields ++ 93 ∷ []))))
 node_whole old q call node fields = simp append_assoc
 
 -- ---- lists
 
--- the items with their commas, and no bracket
+-- the items with their commas, without brackets
 abbrev pub joined : Bool → List Data → List ℕ
 joined later [] = []
 joined later (d ∷ ds) = comma_if later ++ (compact_text d ++ joined true ds)
@@ -74,7 +74,7 @@ joined_last (e ∷ ds) d i is =
     ap (λ l. compact_text e ++ l) (joined_next ds d) ∙ sym (append_assoc (compact_text e) (joined true ds) (44 ∷ (compact_text d ++ [])))
     ∙ ap (λ b. (compact_text e ++ joined true ds) ++ (comma_if b ++ (compact_text d ++ []))) (sym (lt-ltb 0 i later))
 
--- one item more
+-- one more item
 pub joined_more : {A : Type 0} (f : A → Data) (old : List ℕ) (xs : List A) (i : ℕ) (d : A) → i < length xs
     → ((old ++ 91 ∷ joined false (map f (take i xs))) ++ comma_if (nat_lt 0 i)) ++ compact_text (f (get_or xs i d)) ≡ old ++ 91 ∷ joined false (map f (take (i + 1) xs))
 joined_more f old xs i d inside =

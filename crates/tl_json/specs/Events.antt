@@ -1,4 +1,4 @@
--- Events.
+-- Events as JSON values.
 use Rattle.std.specs.Prelude.{ℤ, List, [], ◌∷◌, Option, Some, None, option_and_then}
 use Rattle.serde_json.specs.Data.{Data}
 use Rattle.serde_json.specs.Find.{as_str}
@@ -16,13 +16,13 @@ use Rattle.tl_json.specs.declared.letter.Letter.TheVariants as letter
 use Rattle.tl_json.specs.declared.event.RawEvent.{RawEvent}
 use Rattle.tl_json.specs.declared.event.RawEvent.TheVariants.{Admitted, Locked, Freed, Ended}
 
--- a letter and a call
+-- an event that has only a letter and a call
 abbrev pub short_event : Letter → ℤ → Option RawEvent
 short_event letter.Admitted c = Some (Admitted c)
 short_event letter.Done c = Some (Ended c)
 short_event _ c = None
 
--- a letter, a call, a node and its record
+-- an event that has a letter, a call, a node and the node's record
 abbrev pub long_event : Letter → ℤ → ℤ → Record → Option RawEvent
 long_event letter.Locked c x r = Some (Locked c x r)
 long_event letter.Freed c x r = Some (Freed c x r)
@@ -37,7 +37,7 @@ event_in width (s ∷ c ∷ x ∷ r ∷ []) =
     option_and_then (λ y. long_event y.0.0 y.0.1 y.1.0 y.1.1) (both (both (letter_in s) (integer_of c)) (both (integer_of x) (record_of width r)))
 event_in width _ = None
 
--- the event that a value is, whose record has that width
+-- the event of a JSON value, whose record has this width
 abbrev pub event_of : Width → Data → Option RawEvent
 event_of width d = option_and_then (event_in width) (list_of d)
 
@@ -49,7 +49,7 @@ event_data (Lock x c found) = lettered letter.Locked (natural c ∷ natural x �
 event_data (Free x c left) = lettered letter.Freed (natural c ∷ natural x ∷ integers_data left ∷ [])
 event_data (Done c) = lettered letter.Done (natural c ∷ [])
 
--- the record of a lock or of a free is one
+-- the record of a lock or of a free has `field_count` numbers of 64 bits
 abbrev pub HasRecord : Event → Type 0
 HasRecord (Admit c) = Unit {0}
 HasRecord (Lock x c found) = IsRecord found

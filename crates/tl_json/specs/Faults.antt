@@ -1,4 +1,4 @@
--- Why a procedure isn't registered: the numbers, and which faults are want of memory.
+-- The faults of registering a procedure: their numbers, and which of them mean a lack of memory.
 use Rattle.std.specs.Prelude.{ℕ, List, Bool, true, false}
 use Rattle.tl_asm.specs.Faults.{numbers_of as asm_numbers_of}
 use Rattle.tl_asm.specs.declared.fault.AsmFault.TheVariants as asm
@@ -11,19 +11,19 @@ use Rattle.tl_json.specs.declared.fault.ProcedureFault.TheVariants.{Asm, Verify}
 use Rattle.tl_json.specs.declared.fault.RegisterFault.{RegisterFault}
 use Rattle.tl_json.specs.declared.fault.RegisterFault.TheVariants.{Text, Name}
 
--- a fault of a text as numbers: its own, and then its parts
+-- the number of a text's fault, followed by its operands
 abbrev pub text_numbers_of : ProcedureFault → List ℕ
 text_numbers_of (Asm f) = asm_numbers_of f
 text_numbers_of (Verify f) = verify_numbers_of f
 
--- the fault is want of memory
+-- whether the fault means a lack of memory
 abbrev pub is_text_memory : ProcedureFault → Bool
 is_text_memory (Asm asm.Memory) = true
 is_text_memory (Asm f) = false
 is_text_memory (Verify verify.Memory) = true
 is_text_memory (Verify f) = false
 
--- a fault of a text or of a name as numbers
+-- the number of a text's or a name's fault, followed by its operands
 abbrev pub numbers_of : RegisterFault → List ℕ
 numbers_of (Text f) = text_numbers_of f
 numbers_of (Name f) = naming_numbers_of f

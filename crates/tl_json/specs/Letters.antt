@@ -1,4 +1,4 @@
--- The letters, as texts.
+-- The letters of events as texts.
 use Rattle.std.specs.Prelude.{ℕ, List, ◌∷◌, codes, Option, Some, None, if◌then◌else◌}
 use Rattle.std.specs.Str.{bytes_eq}
 use Rattle.serde_json.specs.Data.{Data, string}
@@ -19,16 +19,16 @@ text_of Blocked = codes "b"
 text_of Over = codes "o"
 text_of Refused = codes "x"
 
--- the letter where the text is its, else another
+-- this letter if the text is its text, otherwise `other`
 abbrev pub or_else : Letter → List ℕ → Option Letter → Option Letter
 or_else letter text other = if bytes_eq text (text_of letter) then Some letter else other
 
--- the letter that a text is
+-- the letter with this text
 abbrev pub letter_of : List ℕ → Option Letter
 letter_of s =
     or_else Admitted s (or_else Plain s (or_else Locked s (or_else Read s (or_else Written s (or_else Freed s (or_else Emitted s
     (or_else Done s (or_else Blocked s (or_else Over s (or_else Refused s None))))))))))
 
--- a list of a letter and of more
+-- a list of a letter and further values
 abbrev pub lettered : Letter → List Data → Data
 lettered letter rest = list_data (string (text_of letter) ∷ rest)

@@ -1,4 +1,4 @@
--- Lists of JSON values.
+-- Lists as JSON values.
 use Rattle.std.specs.Prelude.{ℕ, List, [], ◌∷◌, map, codes, Option, option_map, option_and_then}
 use Rattle.serde_json.specs.Data.{Data, Items, no_items, item, unsigned, number, array, object, member, no_members}
 use Rattle.serde_json.specs.Find.{as_array}
@@ -12,7 +12,7 @@ items_of_list (item d ds) = d ∷ items_of_list ds
 abbrev pub list_of : Data → Option (List Data)
 list_of d = option_map items_of_list (as_array d)
 
--- each item of a list under f, where f takes each
+-- the results of f on all items of the list, or None if f fails on one
 abbrev pub each_of : {A : Type 0} → (Data → Option A) → Data → Option (List A)
 each_of f d = option_and_then (each_item f) (as_array d)
 
@@ -31,6 +31,6 @@ calls_data calls = list_data (map natural calls)
 abbrev pub order_data : List ℕ → Data
 order_data calls = object (member (codes "order") (calls_data calls) no_members)
 
--- the calls of each epoch in their order
+-- for each epoch its calls in their order
 abbrev pub orders_data : List (List ℕ) → Data
 orders_data orders = object (member (codes "orders") (list_data (map calls_data orders)) no_members)

@@ -1,4 +1,4 @@
--- Procedures as texts under names.
+-- Named procedures, with their texts, as JSON values.
 use Rattle.std.specs.Prelude.{ℕ, List, [], ◌∷◌, Option, None, option_and_then, string_bytes, All}
 use Rattle.serde_json.specs.Data.{Data, string}
 use Rattle.serde_json.specs.Find.{as_str}
@@ -26,6 +26,6 @@ procedure_of d = option_and_then procedure_in (list_of d)
 abbrev pub procedure_data : Named → Data
 procedure_data p = list_data (string p.name ∷ string (listing p.code) ∷ [])
 
--- each code is accepted
+-- each code is valid and accepted
 abbrev pub AreAccepted : List Named → Type 0
 AreAccepted procedures = All (λ p. IsCode p.code × Acceptable p.code.instrs) procedures

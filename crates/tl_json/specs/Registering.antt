@@ -1,4 +1,4 @@
--- Procedures as texts under names: which are taken up, one after another, and why one isn't.
+-- Registering named procedures from their texts: which are registered, one after another, and why one isn't.
 use Rattle.std.specs.Prelude.{◌≡◌, ◌⊎◌, ℕ, List, [], ◌∷◌, ◌++◌, None, Some}
 use Rattle.tl_instr.specs.Codes.{CodeValue}
 use Rattle.tl_asm.specs.Texts.{Written}
@@ -11,17 +11,17 @@ use Rattle.tl_json.specs.declared.fault.ProcedureFault.TheVariants.{Asm, Verify}
 use Rattle.tl_json.specs.declared.fault.RegisterFault.{RegisterFault}
 use Rattle.tl_json.specs.declared.fault.RegisterFault.TheVariants.{Text, Name}
 
--- The text stands for an accepted code.
+-- The text denotes an accepted code.
 pub record IsCodeText (text : List ℕ) (code : CodeValue) : Type 0 where
   pub written : Written text code
   pub accepted : Acceptable code.instrs
 
--- why a text stands for none: the text, else its code
+-- why a text doesn't denote an accepted code: the text has a fault, or its code has one
 abbrev pub IsTextFault : List ℕ → ProcedureFault → Type 0
 IsTextFault text (Asm f) = IsFirstTextFault text f
 IsTextFault text (Verify f) = (code : CodeValue) × Written text code × IsFirstFault code.instrs f
 
--- The text stands for an accepted code, and the name is free.
+-- The text denotes an accepted code, and the name is allowed.
 pub record IsFit (before : List Named) (p : List ℕ × List ℕ) (code : CodeValue) : Type 0 where
   pub text : IsCodeText p.1 code
   pub free : naming_refusal before p.0 ≡ None
@@ -29,17 +29,17 @@ pub record IsFit (before : List Named) (p : List ℕ × List ℕ) (code : CodeVa
 abbrev pub and_named : List Named → List ℕ → CodeValue → List Named
 and_named before name code = before ++ record { name = name; code = code } ∷ []
 
--- what there is once they are taken up, one after another
+-- the procedures after these are added, one after another
 abbrev pub TakenUp : List Named → List (List ℕ × List ℕ) → List Named → Type 0
 TakenUp before [] after = after ≡ before
 TakenUp before (p ∷ ps) after = (code : CodeValue) × IsFit before p code × TakenUp (and_named before p.0 code) ps after
 
--- why one isn't taken up: its text, else its name
+-- why a procedure isn't added: its text has a fault, or its name is refused
 abbrev pub IsUnfit : List Named → List ℕ × List ℕ → RegisterFault → Type 0
 IsUnfit before p (Text f) = IsTextFault p.1 f
 IsUnfit before p (Name f) = (code : CodeValue) × IsCodeText p.1 code × (naming_refusal before p.0 ≡ Some f)
 
--- why they aren't taken up: of the first that isn't
+-- why not all are added: the fault of the first one that isn't
 abbrev pub IsFirstUnfit : List Named → List (List ℕ × List ℕ) → RegisterFault → Type 0
 IsFirstUnfit before [] e = ⊥
 IsFirstUnfit before (p ∷ ps) e =

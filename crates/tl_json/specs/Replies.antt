@@ -1,4 +1,4 @@
--- Replies.
+-- Replies as JSON values.
 use Rattle.std.specs.Prelude.{ℤ, List, length, nat_le, Option, Some, None, option_map, option_and_then, is_some, if◌then◌else◌}
 use Rattle.serde_json.specs.Data.{Data, null}
 use Rattle.serde_json.specs.Find.{as_null}

@@ -1,4 +1,4 @@
--- What the commands on texts of the procedure language print.
+-- The output of the commands on texts of the procedure language.
 use Rattle.std.proofs.Common.{◌≡◌, ◌<◌, ℕ, zero, suc, pos, arith, length, slice_index_or, List, [], ◌∷◌, ◌++◌, false, map, codes, decimal, Option, Some, None, All, refl, subst, append_assoc}
 use Rattle.std.proofs.lemmas.List.Elements.{All-nil, All-cons, All-head, All-tail}
 use Rattle.serde_json.specs.Data.{Data, object, member, no_members}
@@ -73,7 +73,7 @@ compiled_one sources cs name one each meant =
     let found = source_of sources cs name one each meant in
     (found.0, found.1, found.2.code)
 
--- what holds of all holds of the one that is meant
+-- a property of all procedures is one of the procedure that is meant
 pub of_meant : (P : Procedure → Type 0) (sources : List Procedure) (name : Option (List ℕ)) (source : Procedure) → All P sources → IsMeant source_name name sources source → P source
 of_meant P sources (Some name) source all meant = subst P meant.0.2 (all meant.0.0 source meant.0.1)
 of_meant P sources None source all meant = subst (All P) meant all 0 source (omega arith)

@@ -1,4 +1,4 @@
--- What the commands on texts of the procedure language print: `compile`, `procs`, and `check` of such a text.
+-- The output of the commands on texts of the procedure language: `compile`, `procs`, and `check` of such a text.
 use Rattle.std.specs.Prelude.{◌≡◌, ◌≢◌, ◌⊎◌, ℕ, ℤ, List, [], ◌∷◌, ◌++◌, Option, length, map, codes, decimal, All, IsUtf8, string_bytes}
 use Rattle.serde_json.specs.Data.{Data, string}
 use Rattle.serde_json.specs.Written.{compact_text}
@@ -28,7 +28,7 @@ abbrev pub compiled_text : ℕ → ℕ → ℕ → ℕ → List ℕ
 compiled_text emits locks steps count =
     codes "{\"bounds\":{\"emits\":" ++ decimal emits ++ codes ",\"locks\":" ++ decimal locks ++ codes ",\"steps\":" ++ decimal steps ++ codes "},\"count\":" ++ decimal count ++ codes "}\n"
 
--- a procedure of a text with its code, and one that was compiled
+-- a procedure of a text with its code, and below one that was compiled
 abbrev pub named : Procedure → Named
 named p = record { name = p.name.items; code = code_of_procedure p }
 
@@ -51,8 +51,8 @@ DoesItsCalls p =
 
 -- ---- `compile`
 
--- The procedure of that name, or the only one of the text, is in order and accepted. What is printed tells its bounds and its count, and
--- the file has the container of its code, which does what calls of the text do.
+-- The procedure with this name, or the only one of the text, is well-formed and accepted. The output has its bounds and
+-- its number of instructions. The file has the container of its code, which does what calls of the text do.
 pub record CompilesTo (text : List ℕ) (name : Option (List ℕ)) (out file : List ℕ) : Type 0 where
   pub utf8 : IsUtf8 text
   pub sources : List Procedure
@@ -65,20 +65,19 @@ pub record CompilesTo (text : List ℕ) (name : Option (List ℕ)) (out file : L
   pub does : DoesItsCalls source
   pub same : (let instrs = (code_of_procedure source).instrs in out ≡ compiled_text (emit_bound instrs) (lock_bound instrs) (budget instrs) (length instrs))
 
--- No procedure of the text has that name, or there isn't one alone.
+-- No procedure of the text has this name, or without a name, the text doesn't have exactly one.
 pub record NoneIsMeant (text : List ℕ) (name : Option (List ℕ)) : Type 0 where
   pub sources : List Procedure
   pub program : IsProgram text sources
   pub none : (source : Procedure) → IsMeant source_name name sources source → ⊥
 
--- what is wrong with the text, else that no procedure is meant; or want of memory
+-- the fault of the text, or that no procedure is meant; or lack of memory
 abbrev pub IsFirstCompilingFault : List ℕ → Option (List ℕ) → LanguageFault → Type 0
 IsFirstCompilingFault text name e = status_of e ≢ 4 → (f : CompileFault) × (e ≡ Compile f) × (IsCompileFault text f ⊎ ((f ≡ NotOne) × NoneIsMeant text name))
 
 -- ---- `procs`, and `check` of a text
 
--- Each procedure of the text is in order and accepted, and its code does what calls of the text do. What is printed tells that of each,
--- in their order.
+-- Each procedure of the text is well-formed and accepted, and its code does what calls of the text do. The output has one item for each, in order.
 pub record ListsText (line : Named → Data) (text out : List ℕ) : Type 0 where
   pub utf8 : IsUtf8 text
   pub sources : List Procedure

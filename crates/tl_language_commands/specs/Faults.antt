@@ -12,7 +12,7 @@ numbers_of (Compile f) = compile_numbers_of f
 numbers_of (Code f) = code_numbers_of f
 numbers_of Memory = 990 ∷ []
 
--- 4 for want of memory, 1 for all else
+-- 4 for lack of memory, 1 for all other faults
 abbrev pub status_of : LanguageFault → ℕ
 status_of (Compile compile.Memory) = 4
 status_of (Code code.Memory) = 4

@@ -16,7 +16,7 @@ use Rattle.tl_ledger.specs.Contents.{Contents, Holds, with_rows, with_more}
 use Rattle.tl_ledger.specs.News.{Changes, Founds, AreEmpty, after_founding, node_columns, record_columns, new_columns, procedure_columns, call_columns, turn_columns, reply_columns, seal_columns, with_changes, with_changed, IsMarked, Adds, after_news}
 use Rattle.tl_ledger.proofs.RowLemmas.{put_row-at, only_again}
 
--- one table was written, and the others stand as they did
+-- one table was written, and the others haven't changed
 holds_rows : (old new : Trees) (c : Contents) (table : ℕ) (rows : List Row) → Holds old c → new table ≡ rows_from 0 rows → ((t : ℕ) → t ≢ table → new t ≡ old t)
     → Holds new (with_rows c table rows)
 holds_rows old new c table rows holds is others t inside = by_cases (cases_eq t table)

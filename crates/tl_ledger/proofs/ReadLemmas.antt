@@ -1,4 +1,4 @@
--- Rows read one after another, from any row on, and the last of them.
+-- Reading rows one after another, from any row on, and the last row.
 use Rattle.std.proofs.Common.{◌≡◌, ℕ, zero, suc, ◌+◌, ◌<◌, ◌≤◌, pos, List, [], ◌∷◌, ◌++◌, length, map, drop, reverse, refl, sym, ap, ◌∙◌, subst, arith, Some, Less, Equal, true, false}
 use Rattle.std.proofs.lemmas.List.{append-nil, reverse-append, reverse-reverse, length-append, length-reverse}
 use Rattle.sqlite_value.specs.declared.value.Value.TheVariants.{Int}
@@ -53,7 +53,7 @@ same_columns n (x ∷ xs) (y ∷ ys) e =
 
 -- ---- one after another
 
--- of the rows that a cursor had to give these have been read, and it has the others to give
+-- of the rows `given`, those with the columns `done` have been read, and the cursor has the rest
 pub record Reads (given : List Row) (trees : Trees) (new : View) (first : ℕ) (done : List Row) : Type 0 where
   pub left : List Row
   pub cursor : new.cursors 0 ≡ Some left

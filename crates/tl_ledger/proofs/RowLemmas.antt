@@ -1,4 +1,4 @@
--- Rows put behind those of a table.
+-- Rows that are appended to a table.
 use Rattle.std.proofs.Common.{◌≡◌, ℕ, zero, suc, ◌+◌, ◌<◌, ◌≤◌, pos, List, [], ◌∷◌, ◌++◌, length, map, take, replicate, get_or, refl, sym, ap, ◌∙◌, arith, Less, Equal, slice_set, int_cmp}
 use Rattle.std.proofs.lemmas.Bool.{ne_eqb, eq-eqb}
 use Rattle.std.proofs.lemmas.Bool.Decides.{nat_tests}
@@ -42,7 +42,7 @@ only_again old mid new p q =
     let put : View → View = λ v. record v { trees = new.trees; cursors = new.cursors } in
     q ∙ ap put p
 
--- the items up to the next one
+-- the elements up to the next one
 pub map_more : {X : Type 0} (f : X → Row) (xs : List X) (i : ℕ) (x : X) → i < length xs → x ≡ get_or xs i x → map f (take (i + 1) xs) ≡ map f (take i xs) ++ f x ∷ []
 map_more f xs i x lt is = let e : i + 1 ≡ suc i = omega arith in ap (λ n. map f (take n xs)) e ∙ go xs i lt is
   where

@@ -1,4 +1,4 @@
--- What the tables of a store say: for each table its rows, without their numbers.
+-- The contents of a store's tables: for each table its rows, without their numbers.
 use Rattle.std.specs.Prelude.{◌≡◌, ℕ, ◌<◌, ◌==◌, false, if◌then◌else◌, List, [], ◌++◌, IsTrue}
 use Rattle.sqlite_value.specs.Order.{Row}
 use Rattle.sqlite_trees.specs.Tree.{Trees}
@@ -18,23 +18,23 @@ no_contents t = []
 abbrev pub Holds : Trees → Contents → Type 0
 Holds db c = (t : ℕ) → t < TABLES → db t ≡ rows_from 0 (c t)
 
--- one table has these rows instead
+-- the contents with the rows of one table replaced
 abbrev pub with_rows : Contents → ℕ → List Row → Contents
 with_rows c table rows t = if t == table then rows else c t
 
--- these rows stand behind those of a table
+-- the contents with rows appended to one table
 abbrev pub with_more : Contents → ℕ → List Row → Contents
 with_more c table more = with_rows c table (c table ++ more)
 
--- the tables are there
+-- all tables exist
 abbrev pub AreTables : View → Type 0
 AreTables v = (t : ℕ) → t < TABLES → v.shape t ≡ Table
 
--- only cursors may differ
+-- nothing but cursors differs
 pub record OnlyReads (old new : View) : Type 0 where
   pub same : new ≡ record old { cursors = new.cursors }
 
--- nothing is written that isn't committed, and what is committed is on the disk
+-- the database is open and not broken, has its tables, and has no uncommitted writes
 pub record IsAtRest (v : View) : Type 0 where
   pub is_open : IsTrue v.is_open
   pub sound : v.is_broken ≡ false

@@ -31,7 +31,7 @@ fields_columns fields = Null ∷ map Int fields
 abbrev pub record_columns : RecordRow → Row
 record_columns r = fields_columns r.fields
 
--- a node that is new has a record of zeros
+-- a new node has a record of zeros
 abbrev pub new_columns : NodeRow → Row
 new_columns r = fields_columns (replicate FIELDS (pos 0))
 
@@ -54,22 +54,22 @@ reply_columns r = Null ∷ Int r.epoch ∷ Int r.call ∷ Text (string_bytes r.r
 abbrev pub seal_columns : SealRow → Row
 seal_columns r = Null ∷ Int r.procedures ∷ Int r.calls ∷ Int r.turns ∷ Int r.replies ∷ []
 
--- the records with these in the place of those of their nodes, one after another
+-- the rows with these records in the rows of their nodes, one after another
 abbrev pub with_changes : List Row → List ChangedRecord → List Row
 with_changes rows [] = rows
 with_changes rows (x ∷ xs) = with_changes (slice_set rows x.node (record_columns x.row)) xs
 
--- these records were put in the place of those of their nodes, and nothing else was written
+-- the records of these nodes were replaced, and nothing else was written
 pub record Changes (old new : View) (nodes : ℕ) (changed : List ChangedRecord) : Type 0 where
   pub tree : (rows : List Row) → length rows ≡ nodes → old.trees RECORD ≡ rows_from 0 rows → new.trees RECORD ≡ rows_from 0 (with_changes rows changed)
   pub others : (t : ℕ) → t ≢ RECORD → new.trees t ≡ old.trees t
   pub only : OnlyWrites old new
 
--- the contents with these records
+-- the contents with these records replaced
 abbrev pub with_changed : Contents → List ChangedRecord → Contents
 with_changed c changed = with_rows c RECORD (with_changes (c RECORD) changed)
 
--- the contents with what came
+-- the contents with this news
 abbrev pub after_news : Contents → News → Contents
 after_news c n =
     with_changed (with_more (with_more (with_more (with_more (with_more (with_more (with_more c
@@ -82,7 +82,7 @@ after_news c n =
     SEAL (map seal_columns n.seals.items))
     n.records.items
 
--- the tables have as many rows as that
+-- the numbers of the tables' rows are these
 pub record IsMarked (c : Contents) (m : Marks) : Type 0 where
   pub nodes : length (c NODE) ≡ m.nodes
   pub records : length (c RECORD) ≡ m.nodes
@@ -92,7 +92,7 @@ pub record IsMarked (c : Contents) (m : Marks) : Type 0 where
   pub replies : length (c REPLY) ≡ m.replies
   pub seals : length (c SEAL) ≡ m.seals
 
--- there are numbers left for these rows, and the records are those of nodes, also of new ones
+-- the numbers of rows stay within 2 ^ 62, and each record is that of an existing node or of a new one
 pub record HasRoom (m : Marks) (n : News) : Type 0 where
   pub nodes : m.nodes + length n.nodes.items ≤ 2 ^ 62
   pub procedures : m.procedures + length n.procedures.items ≤ 2 ^ 62
@@ -102,7 +102,7 @@ pub record HasRoom (m : Marks) (n : News) : Type 0 where
   pub seals : m.seals + length n.seals.items ≤ 2 ^ 62
   pub records : All (λ r. r.node < m.nodes + length n.nodes.items) n.records.items
 
--- what came was written, and nothing else
+-- the news was written, and nothing else
 pub record Adds (old new : View) (m : Marks) (n : News) : Type 0 where
   pub holds : (c : Contents) → IsMarked c m → Holds old.trees c → Holds new.trees (after_news c n)
   pub only : OnlyWrites old new
@@ -113,7 +113,7 @@ pub record Adds (old new : View) (m : Marks) (n : News) : Type 0 where
 abbrev pub AreEmpty : Contents → Type 0
 AreEmpty c = (t : ℕ) → t < TABLES → c t ≡ []
 
--- the contents with the nodes, their records now and at the opening, and the procedures
+-- the contents with the nodes, their current and their opening records, and the procedures
 abbrev pub after_founding : Contents → Founding → Contents
 after_founding c f =
     with_more (with_more (with_more (with_more c

@@ -1,4 +1,4 @@
--- Texts whose declarations are alike have one program, but for where its parts are in memory.
+-- Texts with alike declarations have the same program, except for the memory that its parts occupy.
 use Rattle.std.proofs.Common.{◌≡◌, ◌∙◌, ℕ, ℤ, pos, List, [], ◌∷◌, length, get_or, true, refl, sym, ap, subst, arith}
 use Rattle.tl_syntax.specs.declared.parsed.Name.{Name}
 use Rattle.tl_syntax.specs.declared.parsed.Expression.{Expression as TextExpression}
@@ -110,7 +110,7 @@ same_opens (T.repeat a b x y) = refl
 same_opens (T.repeat_at_most a b x m y) = refl
 same_opens (T.for_each a b x y) = refl
 
--- what declares names for the rest of its block isn't like a statement that doesn't
+-- a statement that declares names for the rest of its block isn't like one that doesn't
 left_opens : {names : Names} {f g form : StatementForm} {a : Statement} → AlikeStatementForm f g → f ≡ form → opens form ≡ true → IsStatement names g a → ⊥
 left_opens x e o s = no_statement s (sym (same_opens x) ∙ ap opens e ∙ o)
 

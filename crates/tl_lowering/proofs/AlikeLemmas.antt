@@ -1,4 +1,4 @@
--- Numbers, conditions, places and actions that are alike in a text have one core form, but for where its parts are in memory.
+-- Alike numbers, conditions, places and actions of a text have the same core form, except for the memory that its parts occupy.
 use Rattle.std.proofs.Common.{◌≡◌, ◌∙◌, ℕ, zero, suc, ◌/◌, List, [], ◌∷◌, ◌++◌, length, take, drop, refl, sym, ap, subst, arith}
 use Rattle.std.proofs.lemmas.List.{same_from_push}
 use Rattle.tl_syntax.specs.declared.operator.Operator.{Operator}
@@ -99,7 +99,7 @@ alike_place {names} (T.child x) (child a b g n c) (child d e h m f) =
 alike_place {names} (T.pair x y) (pair a b c g i n d k e) (pair f j l h o m p q r) =
     let w = sym g ∙ ap (stands_for names) x.parent ∙ h in same_pair refl refl (cc) (alike_number (form_of x.number) n m) (alike_number (form_of y.number) k q)
 
--- and they declare the same names
+-- alike places declare the same names
 pub same_names : (names : Names) {text other : TextPlace} → AlikePlace text other → with_place names text ≡ with_place names other
 same_names names (T.node x) = refl
 same_names names (T.child x) = ap (with_node names) x.name

@@ -1,4 +1,4 @@
--- A block descends from no node above those that have names, and is no end of a `for each`.
+-- A block doesn't descend from node registers above those in use, and isn't a bare `break`.
 use Rattle.std.proofs.Common.{◌≡◌, ◌≢◌, ℕ, ◌+◌, ◌<◌, ◌≤◌, ◌/◌, List, [], length, get_or, Bool, true, false, ◌&&◌, ◌⊎◌, inl, inr, Option, None, Some, refl, sym, ap, ap₂, ◌∙◌, subst, arith}
 use Rattle.std.specs.Prelude.{◌||◌, not, nat_eq, slice_set, IfSome}
 use Rattle.std.specs.List.{All}
@@ -38,7 +38,7 @@ use Rattle.tl_lowering.proofs.NumberLemmas.{new_beside}
 record AreNamed (names : Names) : Type 0 where
   below : (i n : ℕ) → get_or names.meanings i M.Nothing ≡ M.Node n → n < names.nodes
 
--- the register that a name has is in use
+-- the register of a name is in use
 in_use : (t m : ℕ) (x : Meaning) (n : ℕ) → IsBelow t m x → x ≡ M.Node n → n < m
 in_use t m x n below e = subst (IsBelow t m) e below
 
@@ -109,7 +109,7 @@ own_or_above body register n le inside = by (cases_eq register n)
     by (inl e) = inr (at_register register n e)
     by (inr ne) = inl (inside (omega arith))
 
--- a node that is locked has its own register, and those behind it are above
+-- a locked node has its own register, and the nodes after it have higher ones
 locking_beyond : {names : Names} {text : TextPlace} {place : Place} (body : Statement) (n : ℕ) → names.nodes ≤ n → IsPlace names text place → ((with_place names text).nodes ≤ n → descends_from body n ≡ false)
     → (descends_from body n && not (locks_in place n)) ≡ false
 locking_beyond {names} body n le (node fresh room is fits) inside = not_both (descends_from body n) (nat_eq names.nodes n) (own_or_above body names.nodes n le inside)
@@ -175,7 +175,7 @@ mutual
 
 -- ---- where a loop begins
 
--- what is said of the nodes of a scope, and of those above them
+-- `nodes` are the nodes of the scope from which the statements descend, and none above those
 record SaysDescents (scope : View) (items : List TextStatement) (nodes : Nodes) : Type 0 where
   beyond : (n : ℕ) → scope.nodes ≤ n → holds nodes n ≡ false
   within : (names : Names) (parts : List Statement) (n : ℕ) → Knows scope names → n < scope.nodes → AreStatements names items parts → holds nodes n ≡ descend_from parts n
@@ -191,7 +191,7 @@ and_true : (x l : Bool) → l ≡ false → x ≡ (x && not l)
 and_true true l e = ap not (sym e)
 and_true false l e = refl
 
--- what a `for each` declares is free
+-- the names that a `for each` declares are new
 are_fresh : (scope : View) (name : Name) (index : Option Name) → meaning_of scope name.symbol ≡ M.Nothing
     → IfSome index (λ n. (meaning_of scope n.symbol ≡ M.Nothing) × (n.symbol.0 ≢ name.symbol.0)) → AreFresh (names_in scope) name index
 are_fresh scope name None e h = e
@@ -219,7 +219,7 @@ turns_descend scope held (R.Children v) items nodes body in_scope is says b n = 
     by (inl lt) = says_of n says (knows_child v.name v.index_name (knows_self scope) (are_fresh scope v.name v.index_name is.name is.index_name)) lt b ∙ and_true (descends_from body n) (nat_eq v.child n) (ne_eqb v.child n (λ e. absurd (omega (arith, is.child))))
     by (inr le) = says.beyond n le ∙ sym (not_both (descends_from body n) (nat_eq v.child n) (above le (cases_eq scope.nodes n)))
 
--- a loop begins without what its turns descend from
+-- a loop begins without the nodes from which its turns descend
 pub turns_begin : (scope : View) (held start : Held) (repetition : Repetition) (items : List TextStatement) (nodes : ℕ) (body : Statement) → IsInUse scope → IsRepetition scope held repetition
     → ((n : ℕ) → scope.nodes ≤ n → holds (bits nodes) n ≡ false)
     → ((names : Names) (parts : List Statement) (n : ℕ) → Knows scope names → n < scope.nodes → AreStatements names items parts → holds (bits nodes) n ≡ descend_from parts n)
@@ -232,7 +232,7 @@ turns_begin scope held start repetition items nodes body in_scope is beyond with
 
 -- ---- a block is no end of a `for each`
 
--- it is neither the end of a `for each` nor the first part or the whole of its turn: its own parts stand at offsets
+-- the lowering of a block is neither a bare `break` nor a part of a `for each`'s turn, since the block's statements have offsets
 abbrev is_put : Statement → Bool
 is_put S.Skip = true
 is_put (S.Sequence' p a q b) = is_put a

@@ -50,7 +50,7 @@ pub no_bits : bits 0 ≡ none_held
 unfolding bits
 no_bits = refl
 
--- bytes with the same bits but for one
+-- bytes whose bits are equal except for one
 other_bit : (m n k : ℕ) (b : Bool) → k < 8 → nat_eq (bit_at m k) 1 ≡ b → ((i : ℕ) → i < 8 → i ≢ k → bit_at m i ≡ bit_at n i)
     → bits m ≡ slice_set (bits n) k b
 other_bit m n k b lt is others =

@@ -1,4 +1,4 @@
--- A block whose declarations are closed one after another, the last first.
+-- Closing a block's declarations one after another, the last one first.
 use Rattle.std.proofs.Common.{◌≡◌, ℕ, ◌+◌, ◌≤◌, List, [], ◌∷◌, ◌++◌, Bool, true, false, Option, Some, None, refl, sym, ap, ◌∙◌, subst, arith}
 use Rattle.std.specs.Prelude.{option_map, IfSome}
 use Rattle.tl_lowering.specs.declared.lowering.Binding.{Binding}
@@ -40,7 +40,7 @@ alike_then h p f g s = by p.after p.fails p.breaks s
 
 -- ---- one declaration
 
--- the registers of a place that is next aren't among those of the block
+-- the registers of a place that uses the next ones aren't among those of the block
 pub keeping_unlocked : (place : Place) (m : ℕ) (h : Nodes) (a : Option Nodes) → IsNext place m → AreFree m h → keeping h (option_map (unlocked place) a) ≡ keeping h a
 keeping_unlocked place m h None e free = refl
 keeping_unlocked (P.Node n x) m h (Some a) e free = ap Some (both_without a h n (free n (omega arith)))
@@ -211,7 +211,7 @@ close_last o os r outer in_loop rest whole total c opened free alike =
     (alike_sym outer _ _ (c.paths (reached os r) outer in_loop (tt, opened.1, opened.2) (λ n le. free n (let e = nodes_rise os r in omega arith))))
     alike
 
--- a block all of whose declarations are closed
+-- a block whose declarations are all closed
 pub closed_paths : (h : Nodes) (whole : Statement) (total : Paths) → AreAlike h (outcomes whole h) total → record total { after = keeping h total.after } ≡ outcomes whole h
 closed_paths h whole total a =
     sym (by (after whole h) (keeping h total.after) (all_of (fails whole h)) total.fails (all_of (breaks whole h)) total.breaks (sym (keeping_after whole h) ∙ a.after) a.fails a.breaks)

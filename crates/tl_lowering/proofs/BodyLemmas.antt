@@ -1,4 +1,4 @@
--- What blocks, loops and procedures know of the blocks within them.
+-- Properties that blocks, loops and procedures get from the blocks within them.
 use Rattle.std.proofs.Common.{◌≡◌, ℕ, zero, suc, ◌+◌, ◌-◌, length, take, drop, true, false, Option, Some, None, replicate, refl, sym, ap, ◌∙◌, subst, arith}
 use Rattle.std.specs.Prelude.{IfSome, OnOk, Result, Ok, Err, nat_lt, get_or}
 use Rattle.std.proofs.lemmas.Bool.{lt-ltb}
@@ -29,7 +29,7 @@ on_ok (Err e) P p = tt
 
 -- ---- a block
 
--- where a block leads once a statement more is read
+-- the paths of a block after one more statement
 pub then_flow : (p : Paths) (h : Nodes) (flow next new : Flow) → paths_of flow ≡ p → known flow.after ≡ Some h
     → paths_of new ≡ record { after = known next.after; fails = both_of (known flow.fails) (known next.fails); breaks = both_of (known flow.breaks) (known next.breaks) }
     → paths_of new ≡ then_of p (λ k. paths_of next)
@@ -55,7 +55,7 @@ same_behind start draft new o s = rw (o, s) refl
 
 -- ---- the scope behind a block
 
--- what the block and what was declared before it in the same place named is forgotten
+-- the names declared since then lose their meanings
 pub back : (old begun inner new : View) (k : ℕ) → ((outer : View) → Extends outer old → Extends outer begun) → inner ≡ begun → k ≡ length old.local
     → new.meanings ≡ forget (drop k inner.local) inner.meanings → new.fields ≡ inner.fields → new.procedures ≡ inner.procedures → new.local ≡ take k inner.local → new.values ≡ old.values → new.nodes ≡ old.nodes
     → new.loops ≡ old.loops → new ≡ old
@@ -63,7 +63,7 @@ back old begun inner new k extends same is m f r l v n o =
     returned old inner new (subst (Extends old) (sym same) (extends old (extends_self old)))
     (m ∙ ap (λ i. forget (drop i inner.local) inner.meanings) is) f r (l ∙ ap (λ i. take i inner.local) is) v n o
 
--- and one loop less is around
+-- the same, and there is one loop less around
 pub loop_back : (old begun inner new : View) (k turns : ℕ) → ((outer : View) → Extends outer old → Extends outer begun) → inner ≡ begun → k ≡ length old.local
     → new.meanings ≡ forget (drop k inner.local) inner.meanings → new.fields ≡ inner.fields → new.procedures ≡ inner.procedures → new.local ≡ take k inner.local → new.values ≡ old.values → new.nodes ≡ old.nodes
     → new.loops ≡ inner.loops → begun.loops ≡ old.loops + 1 → turns ≡ new.loops - 1 → record new { loops = turns } ≡ old

@@ -1,4 +1,4 @@
--- The blocks of a statement are less deep than the statement.
+-- The blocks of a statement are smaller than the statement.
 use Rattle.std.proofs.Common.{◌≡◌, ℕ, ◌+◌, ◌*◌, ◌<◌, List, Option, Vec, Global, sym, subst, arith}
 use Rattle.tl_syntax.specs.declared.parsed.Name.{Name}
 use Rattle.tl_syntax.specs.declared.parsed.Expression.{Expression}
@@ -24,7 +24,7 @@ in_second f q body otherwise e = grind (arith, the_lemmas)
 in_visit : (f : StatementForm) (child : Name) (index : Option Name) (parent : Name) (at_most : Expression) (body : Vec Statement Global) → f ≡ ForEach child index parent at_most body → most statement.the_size body.items < form.the_size f
 in_visit f child index parent at_most body e = grind (arith, the_lemmas)
 
--- a step down takes less, whichever function does it
+-- a call for a smaller part has a smaller measure
 falls : (t k : ℕ) (f : StatementForm) (block items : List Statement) → 3 * form.the_size f + 0 ≡ t → block ≡ items → k < 3 → most statement.the_size items < form.the_size f → 3 * most statement.the_size block + k < t
 falls t k f block items e is few lt = let same : most statement.the_size block < form.the_size f = subst (λ x. most statement.the_size x < form.the_size f) (sym is) lt in omega arith
 

@@ -1,4 +1,4 @@
--- From which nodes statements descend, as their text says it.
+-- The nodes from which statements descend, computed from their text.
 use Rattle.std.proofs.Common.{◌≡◌, ◌≢◌, ℕ, zero, suc, ◌+◌, ◌<◌, ◌≤◌, ◌/◌, List, [], ◌∷◌, ◌++◌, length, take, drop, get_or, Bool, true, false, ◌&&◌, ◌⊎◌, inl, inr, Option, Some, None, refl, sym, ap, ap₂, ◌∙◌, subst, take-append-drop, arith}
 use Rattle.std.specs.Prelude.{◌||◌, not, nat_eq, slice_set}
 use Rattle.std.proofs.lemmas.Bool.{eq-eqb, ne_eqb, cases_eq, cases_lt}
@@ -54,7 +54,7 @@ and_true false = refl
 nothing_there : (m : Meaning) (n : ℕ) → m ≡ M.Nothing → m ≡ M.Node n → ⊥
 nothing_there m n e f = let g : M.Nothing ≡ M.Node n = sym e ∙ f in absurd cc
 
--- a new name that isn't one of the scope's nodes
+-- a new meaning that is no node of the scope
 knows_set : {outer : View} {names new : Names} (s : ℕ) (x : Meaning) → Knows outer names → get_or names.meanings s M.Nothing ≡ M.Nothing → ((n : ℕ) → n < outer.nodes → x ≢ M.Node n)
     → new.meanings ≡ slice_set names.meanings s x → names.nodes ≤ new.nodes → Knows outer new
 knows_set {outer} {names} {new} s x k fresh other is le =
@@ -86,7 +86,7 @@ knows_node {outer} {names} name k fresh =
 pub knows_loop : {outer : View} {names : Names} → Knows outer names → Knows outer (in_loop names)
 knows_loop k = record { more = k.more; still = k.still; only = k.only }
 
--- the place of a loop's child is no node; its name is a new one
+-- the index of a loop's child is no node, and its name is new
 knows_index : {outer : View} {names : Names} (name : Name) → Knows outer names → IsNew names name → Knows outer (with_index names (Some name))
 knows_index {outer} {names} name k fresh = knows_set name.symbol.0 (M.Index names.values) k fresh (λ n lt e. cc) refl (omega arith)
 
@@ -97,7 +97,7 @@ free_beside names called place e f = by (cases_eq place.symbol.0 called.symbol.0
     by (inl same) = ap (λ i. get_or names.meanings i M.Nothing) same ∙ e
     by (inr ne) = sym (get_or-set_other names.meanings called.symbol.0 place.symbol.0 (M.Node names.nodes) M.Nothing ne) ∙ f
 
--- the child's name is free where that of its place is declared
+-- the child's name is new after its index is declared
 child_beside : (names : Names) (called place : Name) → IsNew names called → IsNew (with_node names called) place → IsNew (with_index (in_loop names) (Some place)) called
 child_beside names called place e f = by (cases_eq called.symbol.0 place.symbol.0) (cases_lt place.symbol.0 (length names.meanings))
   where
@@ -124,7 +124,7 @@ knows_place k (pair {c = c} {d = d} fresh second room p q e f g h) = knows_node 
 pub other_register : (k n : ℕ) → n < k → nat_eq k n ≡ false
 other_register k n lt = ne_eqb k n (λ e. absurd (omega arith))
 
--- what is locked has none of its registers
+-- a lock uses none of the scope's node registers
 pub not_locked : {outer : View} {names : Names} {text : TextPlace} {place : Place} (n : ℕ) → Knows outer names → n < outer.nodes → IsPlace names text place → locks_in place n ≡ false
 not_locked {names = names} n k lt (node fresh room is fits) = let le = k.more in other_register names.nodes n (omega arith)
 not_locked {names = names} n k lt (child fresh room parent is fits) = let le = k.more in other_register names.nodes n (omega arith)
@@ -144,7 +144,7 @@ descend_halved n (more {a} {b} {xs = xs} long s t then) =
     let k = length xs / 2 in
     ap₂ (λ x y. x || y) (descend_halved n s) (descend_halved n t) ∙ sym (descend_append (take k xs) (drop k xs) n) ∙ ap (λ z. descend_from z n) (take-append-drop k xs)
 
--- of the statements that are left of a block, where so many have descended
+-- the statements left of a block, and whether those before descend from n
 pub record HasDescended (outer : View) (n : ℕ) (left : List TextStatement) (all so_far : Bool) : Type 0 where
   pub names : Names
   pub parts : List Statement
@@ -180,7 +180,7 @@ at_offset n at = refl
 locking : (x y l : Bool) → l ≡ false → ((x && not l) || y) ≡ (y || x)
 locking x y l e = ap (λ z. (x && not z) || y) e ∙ ap (λ z. z || y) (and_true x) ∙ or_comm x y
 
--- what a statement itself does, whatever its core form
+-- what a statement itself does, for each of its core forms
 abbrev pub Spoken : View → TextStatement → Bool → ℕ → Type 0
 Spoken outer s here_is n = (names : Names) (b : Bool) → Knows outer names → IsDescending names n s.form b → here_is ≡ b
 
@@ -240,7 +240,7 @@ one_descended {so_far = so_far} n lt says h = step so_far n lt says h.knows h.sa
 
 -- ---- actions
 
--- a name stands for the node of a register in the scope if it does here
+-- a name denotes a register's node here exactly if it does in the scope
 pub same_node : {outer : View} {names : Names} (i k n : ℕ) → Knows outer names → n < outer.nodes → get_or names.meanings i M.Nothing ≡ M.Node k
     → is_in (node_in (get_or outer.meanings i M.Nothing)) n ≡ nat_eq k n
 same_node {outer} {names} i k n h lt is = by (cases_eq k n)
@@ -325,7 +325,7 @@ first_block f = open_first (out-StatementForm f)
 abbrev second_block : StatementForm → List TextStatement
 second_block f = open_second (out-StatementForm f)
 
--- so it is with each core form of these statements
+-- the same for each core form of these statements
 abbrev pub Says : View → ℕ → List TextStatement → Bool → Type 0
 Says outer n statements x = (names : Names) (a : Statement) → Knows outer names → IsBlock names statements a → x ≡ descends_from a n
 

@@ -1,4 +1,4 @@
--- The part of a block that was read, and what becomes of it at the block's end.
+-- The part of a block that has been read, and what it becomes at the end of the block.
 use Rattle.std.proofs.Common.{◌≡◌, List, [], ◌∷◌, ◌++◌, reverse, Bool, Option, Some, None, sym, ap, ap₂, ◌∙◌, subst}
 use Rattle.std.specs.Prelude.{IfSome}
 use Rattle.std.proofs.lemmas.List.{reverse-append}
@@ -133,7 +133,7 @@ module _ (start : Standing) (draft new : Draft) (scope later : View) (held : Hel
 
 -- ---- the end of a block
 
--- what is closed so far
+-- the statement with the declarations that are closed so far
 pub record IsClosed (start : Standing) (outer : Nodes) (in_loop : Bool) (total : Paths) (os : List Opened) (whole : Statement) : Type 0 where
   pub opened : AreOpen (reverse os) start in_loop
   pub sound : IsWellFormedAt whole (reached (reverse os) start) in_loop

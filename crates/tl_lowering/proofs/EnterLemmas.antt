@@ -1,4 +1,4 @@
--- What was done before a place, along statements and blocks.
+-- What was done before a position, along statements and blocks.
 use Rattle.std.proofs.Common.{◌≡◌, ℕ, List, [], ◌∷◌, ◌++◌, length, take, drop, reverse, Bool, true, false, Option, Some, None, append_assoc, refl, sym, ap, ap₂, ◌∙◌, subst, take-append-drop}
 use Rattle.std.specs.Prelude.{◌||◌, ◌&&◌, not, ◌/◌, IfSome, nat_eq}
 use Rattle.std.proofs.lemmas.List.{reverse-append}
@@ -117,7 +117,7 @@ next_assoc x f g = by x.after x.fails x.breaks
     by None u v = refl
     by (Some h) u v = inner (f h).after u v (f h).fails (f h).breaks
 
--- a flow that goes on with another one
+-- a flow that is continued by another one
 pub then_entered : (x y z : Entered) (h : Before) → x.after ≡ Some h → y ≡ record { after = z.after; fails = or_of x.fails z.fails; breaks = or_of x.breaks z.breaks } → then_by x.after x (λ k. z) ≡ y
 then_entered x y z h e f = by x.after x.fails x.breaks e ∙ sym f
   where
@@ -183,7 +183,7 @@ none_entered e draft x o s is = subst (EntersSoFar e draft) (sym is) (record {
     same items all b =
         ends_none (subst (λ z. Ends [] (z ++ items) all) s (subst (λ z. Ends (reverse z) (draft.statements.items ++ items) all) o b))
 
--- what was read leads to these statements where what follows leads to those
+-- adding statements to the part that was read
 record IsStep (draft : Draft) (h : Before) (z : Entered) (items all : List Statement) : Type 0 where
   made : List Statement
   becomes : Becomes draft made all
@@ -206,7 +206,7 @@ step e h draft new x z a so_far next = record {
     by None u v e items made once k = tt
     by (Some f) u v e items made once k = let same : h ≡ f = cc in subst (AllEnterOnce made) same (once k)
 
--- a statement more
+-- one more statement
 pub plain_entered : (e h : Before) (draft new : Draft) (x : Entered) {offset : ℕ} {a b : Statement} {flow : Flow} → x.after ≡ Some h → EntersSoFar e draft x → IsEntering h a flow → IsAtOffset offset a b
     → new.opened.items ≡ draft.opened.items → new.statements.items ≡ draft.statements.items ++ b ∷ [] → EntersSoFar e new (then_by x.after x (λ k. entered_of flow))
 plain_entered e h draft new x {b = b} {flow = flow} a so_far is (at {p = p}) os ss = step e h draft new x (entered_of flow) a so_far (λ items all bec. record {
@@ -226,7 +226,7 @@ either_ends x y e =
     ∙ ap (λ z. record { after = z; fails = or_of x.fails y.fails; breaks = or_of x.breaks y.breaks }) (or_none x.after)
     ∙ ap₂ (λ u v. record { after = x.after; fails = u; breaks = v }) (or_comm x.fails y.fails) (or_comm x.breaks y.breaks)
 
--- behind a place that can't be locked nothing was done, but at the end of a `for each`
+-- where a lock failed nothing was done, except at the end of a `for each`
 no_end : (place : Place) (other : Statement) (b : Before) → is_break other ≡ false → missing place other b ≡ b
 no_end (P.Child n p e) S.Break b f = cc
 no_end place other b f = refl
@@ -276,12 +276,12 @@ opened_entered e h draft new x o flow a so_far is earlier os empty =
 
 -- ---- statements with blocks
 
--- where no path leads, none has entered the tree
+-- if there is no path, none has entered the tree
 pub no_way : (o : Option Held) → known o ≡ None → entered_at o ≡ None
 no_way None e = refl
 no_way (Some h) e = cc
 
--- what a `for each` with this turn leads to
+-- what was done after a `for each` with this turn
 walk_is : (e start left : Before) (o f b : Option Before) → join e start ≡ start
     → ◌≡◌ {A = Entered} (record { after = or_of (or_of o None) (or_of b (Some left)); fails = or_of (Some e) (or_of (Some start) (or_of f None)); breaks = None })
     (record { after = or_of (Some left) (or_of o b); fails = or_of (Some start) f; breaks = None })
@@ -322,11 +322,11 @@ tried_entering {e} {start} {a} {b} tried x begins y f =
           ∙ ap₂ (λ (u v : Entered). record { after = or_of u.after v.after; fails = v.fails; breaks = or_of u.breaks v.breaks }) x.paths (y.paths ∙ ap (entered b) here);
     }
 
--- a loop begins with what was done before it on all paths
+-- what was done at the start of a loop's turn holds on all paths before it
 begins_within : (e : Before) (passed : Nodes) → join e (record e { passed = minus e.passed passed }) ≡ record e { passed = minus e.passed passed }
 begins_within e passed = ap₂ before (or_self e.entered) (both_minus e.passed passed)
 
--- and enters the tree where that was
+-- a turn doesn't enter the tree, also in terms of what was done before the loop
 pub keeps_out : (flow : Flow) (start held : Held) → start.is_entered ≡ held.is_entered → KeepsOut (entered_of flow).after (before_of start) → KeepsOut (entered_of flow).after (before_of held)
 keeps_out flow start held same once = subst (λ e. IfSome (entered_of flow).after (λ c. c.entered ≡ true → e ≡ true)) same once
 
@@ -353,7 +353,7 @@ up_to_entering {e} {start} {body} {flow = flow} begins x once turning_up_to f =
       paths = f ∙ ap (λ (z : Entered). record { after = or_of (Some e) (or_of z.after z.breaks); fails = or_of (Some e) z.fails; breaks = None }) here.paths;
     }
 
--- the child's register is the loop's own
+-- the child's register belongs to the loop itself
 turn_is : (body : Statement) (child n : ℕ) → (descends_from body n && not (nat_eq child n)) ≡ ((descends_from body n && not (nat_eq child n)) || false)
 turn_is body child n = sym (or_false (descends_from body n && not (nat_eq child n)))
 
@@ -428,7 +428,7 @@ require_entering {p} {q} e c a b {flow} f g h =
     subst (λ z. IsEntering e (S.If' c p z q b) flow) (sym f) (subst (λ z. IsEntering e (S.If' c p S.Skip q z) flow) (sym g)
     (record { once = (tt, tt); paths = h ∙ ap (λ z. record { after = Some e; fails = z; breaks = None }) (sym (fails_once (condition_may_fail c) e)) }))
 
--- the numbers that were emitted so far
+-- the emit statements so far
 pub record HasEmitted (e : Before) (emits : List Statement) (flow : Flow) : Type 0 where
   pub once : AllEnterOnce emits e
   pub after : (entered_of flow).after ≡ Some e

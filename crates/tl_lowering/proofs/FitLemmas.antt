@@ -1,4 +1,4 @@
--- What is read takes registers that there are, and its loops turn and don't nest too deep.
+-- What is read uses only registers that exist, and its loops have positive counts and don't nest too deep.
 use Rattle.std.proofs.Common.{◌≡◌, ℕ, ◌+◌, ◌/◌, ◌<◌, ◌≤◌, List, [], length, Option, sym, subst, arith}
 use Rattle.std.specs.Prelude.{max, nat_lt, false}
 use Rattle.std.specs.List.{All}
@@ -32,7 +32,7 @@ use Rattle.tl_lowering.specs.Scopes.{View, is_in_loop}
 use Rattle.tl_lowering.specs.Sets.{none_held}
 use Rattle.tl_lowering.specs.Sound.{IsWellFormed, IsInOrder}
 
--- what is asked of a statement that stands where names are these
+-- what is required of a statement where names have these meanings
 pub record Fits (names : Names) (s : Statement) : Type 0 where
   pub turns : AllTurn s
   pub slots : AllSlots s names.nodes
@@ -59,12 +59,12 @@ halved {names} le (one {a}) h = All-head (Fits names) a [] h
 halved {names} le (more {xs = xs} long s t then) h =
     two (halved le s (All-take (Fits names) (length xs / 2) xs h)) (halved le t (All-drop (Fits names) (length xs / 2) xs h))
 
--- how often a loop turns isn't 0
+-- a loop's count isn't 0
 may_turn : {names : Names} {form : Form} {w : ℕ} → IsCount names form w → 0 < w
 may_turn (count lt le) = lt
 may_turn (constant_count lt le e) = lt
 
--- what is locked has registers, and what follows takes those above them
+-- the locked nodes have registers, and what follows uses those above them
 locking : {p q : _} {names : Names} {text : TextPlace} {place : Place} {a o : Statement} → IsPlace names text place → Fits (with_place names text) a → Fits names o
     → Fits names (S.Lock' place p a q o)
 locking (node new room n has) x y = record { turns = (x.turns, y.turns); slots = (room, x.slots, y.slots); depth = omega (arith, x.depth, y.depth); room = (has, x.room, y.room) }

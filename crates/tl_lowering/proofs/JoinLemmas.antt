@@ -1,4 +1,4 @@
--- One statement that does others one after another, and blocks whose declarations are closed.
+-- One statement for a sequence of others, and blocks whose declarations are closed.
 use Rattle.std.proofs.Common.{◌≡◌, ℕ, ◌+◌, ◌-◌, ◌/◌, ◌<◌, ◌≤◌, List, [], ◌∷◌, ◌++◌, length, take, drop, reverse, Option, Some, None, refl, sym, ap, ap₂, ◌∙◌, subst, arith, append-nil, length-take-le, take-take}
 use Rattle.std.specs.Prelude.{MatchOption}
 use Rattle.std.specs.Option.{unwrap_or}
@@ -69,7 +69,7 @@ joins_halves count half xs rest whole a b two fits e w s f t =
 
 -- ---- declarations are closed one after another, the last first
 
--- what is closed so far
+-- the statement with the declarations that are closed so far
 pub record IsEnding (draft : Draft) (os : List Opened) (whole : Statement) : Type 0 where
   pub parts : List Statement
   pub joined : IsHalved whole parts

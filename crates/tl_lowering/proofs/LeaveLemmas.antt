@@ -1,4 +1,4 @@
--- Whether control goes on behind a statement doesn't depend on what is held.
+-- Whether control goes on after a statement doesn't depend on the nodes held.
 use Rattle.std.proofs.Common.{◌≡◌, List, [], ◌∷◌, ◌++◌, true, false, Option, Some, None, refl, ap, ◌∙◌}
 use Rattle.std.specs.Prelude.{option_map}
 use Rattle.tl_lowering.specs.declared.program.Statement.{Statement}
@@ -7,7 +7,7 @@ use Rattle.tl_lowering.specs.Outcomes.{locked, unlocked, next, going_on, handled
 use Rattle.tl_lowering.specs.Reading.{Leaves}
 use Rattle.tl_lowering.specs.Sets.{Nodes, both, both_of, all_of}
 
--- of two places that paths may lead to, each where the other one is
+-- if no path leads to the first position, none leads to the second
 abbrev pub Follows : Option Nodes → Option Nodes → Type 0
 Follows o q = o ≡ None → q ≡ None
 
@@ -45,7 +45,7 @@ all_none : (xs : List Nodes) → all_of xs ≡ None → xs ≡ []
 all_none [] e = refl
 all_none (x ∷ xs) e = let w = both_none (Some x) (all_of xs) e in cc
 
--- behind a loop that has no way past its turns
+-- after a loop that ends only by its turns or a `break`
 loop_none : (o : Option Nodes) (xs : List Nodes) (h : Nodes) → behind_loop false o xs h ≡ None → (o ≡ None) × (xs ≡ [])
 loop_none None [] h e = (refl, refl)
 loop_none None (x ∷ xs) h e = let w = all_none (x ∷ xs) (unmapped (all_of (x ∷ xs)) e) in cc
@@ -125,6 +125,6 @@ mutual
   breaks_empty (S.RepeatUpTo' n w p a) h k e = refl
   breaks_empty (S.At' offset p a) h k e = breaks_empty a h k e
 
--- a statement that leaves its block where these are held leaves it
+-- a statement that leaves its block when these nodes are held always leaves it
 pub leaves_here : (s : Statement) (h : Nodes) → after s h ≡ None → Leaves s
 leaves_here s h e k = after_follows s h k e

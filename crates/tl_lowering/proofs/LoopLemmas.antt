@@ -1,4 +1,4 @@
--- Loops are in order, and lead where their flow says.
+-- Loops are well-formed and have the paths of their flow.
 use Rattle.std.proofs.Common.{◌≡◌, ℕ, ◌+◌, ◌<◌, [], ◌∷◌, ◌++◌, Bool, true, false, Option, Some, None, is_some, append-nil, refl, sym, ap, ap₂, ◌∙◌, subst, arith}
 use Rattle.std.specs.Prelude.{IfSome, option_map, if◌then◌else◌}
 use Rattle.tl_lowering.specs.declared.loops.Repetition.TheVariants as R
@@ -23,12 +23,12 @@ use Rattle.tl_lowering.proofs.PathLemmas.{keeping_after}
 
 -- ---- what is left of the ways behind a loop
 
--- a turn's end holds what the loop began with, if there is one
+-- the end of a turn, if it is reached, holds what the loop began with
 ended : (h : Nodes) (o : Option Nodes) → IfSome o (λ k. k ≡ h) → o ≡ (if is_some o then Some h else None)
 ended h None e = refl
 ended h (Some k) e = ap Some e
 
--- the loop may be left before the first turn, and then its end makes no difference
+-- if the loop may end before its first turn, the end of a turn makes no difference
 may_leave : (h : Nodes) (o b : Option Nodes) → IfSome o (λ k. k ≡ h) → both_of (Some h) (both_of o b) ≡ both_of (Some h) b
 may_leave h None b e = refl
 may_leave h (Some k) b e =
@@ -36,7 +36,7 @@ may_leave h (Some k) b e =
 
 module _ (scope : View) (held : Held) where
   module _ (body : Statement) (flow left : Flow) (turned : Option Nodes) where
-    -- turned: what is held behind the turns
+    -- `turned` is what is held after the turns
     pub lowered_repeat : {p : _} (w : ℕ) → IsTurn scope.values scope.nodes (nodes_of held) (R.Times w) body flow
         → turned ≡ both_of (known flow.after) (known flow.breaks)
         → paths_of left ≡ record { after = keeping (nodes_of held) turned; fails = known flow.fails; breaks = None }
@@ -90,7 +90,7 @@ module _ (scope : View) (held : Held) where
 
 -- ---- all children one after another
 
--- a child's register is empty again behind the body
+-- a child's register is empty again after the body
 given_up : (h : Nodes) (n : ℕ) (o : Option Nodes) → keeping (with_node h n) o ≡ o → holds h n ≡ false → IfSome (keeping h o) (λ k. k ≡ h)
     → KeepsHeld (option_map (λ a. without_node a n) (both_of o None)) h
 given_up h n None e f k = tt

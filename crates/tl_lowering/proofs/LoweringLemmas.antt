@@ -1,4 +1,4 @@
--- Statements with blocks are in order, and lead where their flow says.
+-- Statements with blocks are well-formed and have the paths of their flow.
 use Rattle.std.proofs.Common.{◌≡◌, ℕ, ◌+◌, List, ◌++◌, length, take, drop, Bool, true, false, Option, Some, None, refl, sym, ap, ap₂, ◌∙◌, subst, arith}
 use Rattle.std.specs.Prelude.{IfSome, option_map}
 use Rattle.std.proofs.Math.Seq.{take-length, drop-length}
@@ -32,18 +32,18 @@ pub at_fewer : (scope : View) (held : Held) (h : Nodes) (o : Option Held) → Is
 at_fewer scope held h None names free e = tt
 at_fewer scope held h (Some k) names free e = let w : both (nodes_of k) h ≡ nodes_of k = cc in record { names = names; nodes = λ n le. within_falls (nodes_of k) h n w (free n le) }
 
--- behind a statement
+-- after a statement
 pub at_behind : (scope : View) (held : Held) (s : Statement) (flow : Flow) → IsAt scope held → IsLowered scope held s flow → IfSome flow.after (IsAt scope)
 at_behind scope held s flow a l =
     let e : known flow.after ≡ after s (nodes_of held) = ap (λ (p : Paths). p.after) l.paths in
     at_fewer scope held (nodes_of held) flow.after a.names a.nodes (ap (keeping (nodes_of held)) e ∙ keeping_after s (nodes_of held) ∙ sym e)
 
--- where exactly this is held
+-- exactly these nodes are held
 pub at_exactly : (scope : View) (h : Nodes) (o : Option Held) → IsInUse scope → AreFree scope.nodes h → known o ≡ Some h → IfSome o (IsAt scope)
 at_exactly scope h None names free e = tt
 at_exactly scope h (Some k) names free e = let w : nodes_of k ≡ h = cc in record { names = names; nodes = λ n le. rw w (free n le) }
 
--- where a handler begins
+-- at the start of a handler
 pub at_handler : (scope : View) (held start : Held) (o : Option Nodes) → IsAt scope held → nodes_of start ≡ handled_by (nodes_of held) o → IsAt scope start
 at_handler scope held start o a e = record { names = a.names; nodes = λ n le. rw e (by o n (a.nodes n le)) }
   where
@@ -138,7 +138,7 @@ same_view : (a b : List Meaning) (f g : List (Option Field)) (r s : List Bool) (
     (record { meanings = b; fields = g; procedures = s; local = d; values = u; nodes = k; loops = y })
 same_view a b f g r s c d t u m k x y e i h j l o p = cc
 
--- what was declared since is forgotten
+-- the names declared since then lose their meanings
 pub returned : (old inner new : View) → Extends old inner → new.meanings ≡ forget (drop (length old.local) inner.local) inner.meanings → new.fields ≡ inner.fields
     → new.procedures ≡ inner.procedures → new.local ≡ take (length old.local) inner.local → new.values ≡ old.values → new.nodes ≡ old.nodes → new.loops ≡ old.loops → new ≡ old
 returned old inner new e m f r l v n o = same_view _ _ _ _ _ _ _ _ _ _ _ _ _ _ (m ∙ e.meanings) (f ∙ e.fields) (r ∙ e.procedures) (l ∙ e.local) v n o

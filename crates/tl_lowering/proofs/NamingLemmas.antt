@@ -1,4 +1,4 @@
--- Statements without blocks of their own are in order, and lead where their flow says.
+-- Statements without blocks are well-formed and have the paths of their flow.
 use Rattle.std.proofs.Common.{◌≡◌, ℕ, ◌<◌, List, [], ◌∷◌, ◌++◌, Bool, true, false, Option, Some, None, refl, sym, ap, ap₂, ◌∙◌, subst, arith}
 use Rattle.std.specs.Prelude.{IfSome}
 use Rattle.tl_lowering.specs.declared.paths.Flow.{Flow}
@@ -26,7 +26,7 @@ require_paths : (b : Bool) (h : Nodes) → failing (on h) h ≡ record { after =
 require_paths true h = ap (λ z. record { after = Some h; fails = Some z; breaks = None }) (sym (both_self h))
 require_paths false h = refl
 
--- how a flow that goes on and may fail is made
+-- how a flow that goes on and may fail is computed
 same_failing : (b : Bool) (e : Expression) (p : Paths) (h : Nodes) (start flow : Flow) → b ≡ may_fail e → paths_of start ≡ on h → paths_of flow ≡ failing_if b (paths_of start) h
     → paths_of flow ≡ record { after = Some h; fails = all_of (here_if (may_fail e) h); breaks = None }
 same_failing b e p h start flow f s t = t ∙ ap₂ (λ x y. failing_if x y h) f s ∙ failing_paths (may_fail e) h
@@ -61,7 +61,7 @@ emit_more p h e a = by p.after p.fails p.breaks (may_fail e) a
     by (Some k) f b true e = let g : h ≡ k = cc in ap₂ (λ x y. record { after = Some k; fails = both_of f (Some x); breaks = y }) g (sym (none b))
     by (Some k) f b false e = ap₂ (λ x y. record { after = Some k; fails = x; breaks = y }) (sym (none f)) (sym (none b))
 
--- the values so far, and where they lead
+-- the emit statements so far, and their paths
 pub record AreEmitted (scope : View) (held : Held) (emits : List Statement) (flow : Flow) : Type 0 where
   pub sound : AreWellFormed emits scope.values scope.nodes (nodes_of held) (is_in_loop scope)
   pub after : (paths_of flow).after ≡ Some (nodes_of held)

@@ -1,4 +1,4 @@
--- Core forms of numbers and conditions, of what lies in boxes.
+-- Core forms of numbers and conditions, for parts in boxes.
 use Rattle.std.proofs.Common.{◌≡◌, ◌≢◌, ◌∙◌, ℕ, ◌<◌, ◌≤◌, ◌+◌, ℤ, pos, negsuc, List, [], ◌∷◌, ◌++◌, take, length, get_or, Some, None, refl, sym, ap, subst, arith}
 use Rattle.std.specs.Prelude.{nat_abs}
 use Rattle.std.specs.Int.{FitsUnsignedBits}
@@ -99,7 +99,7 @@ pair_locks {names} {c} {d} {r} {s} {n} {e} {f} new other room x y p q i has j mo
   names_are = refl;
 }
 
--- two names that are free and differ
+-- two names that are new and differ
 pub new_beside : (names : Names) (c d : Name) → d.symbol.0 ≢ c.symbol.0 → IsNew names d → IsNew (with_node names c) d
 new_beside names c d ne new = get_or-set_other names.meanings c.symbol.0 d.symbol.0 (M.Node names.nodes) M.Nothing ne ∙ new
 

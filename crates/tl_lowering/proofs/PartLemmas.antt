@@ -1,4 +1,4 @@
--- The part of a block that was read, and statements with blocks: their core forms are those of the text.
+-- The core forms of the part of a block that was read, and of statements with blocks, are those of the text.
 use Rattle.std.proofs.Common.{◌≡◌, ◌∙◌, ℕ, ◌+◌, ◌<◌, ◌≤◌, List, [], ◌∷◌, ◌++◌, length, take, get_or, reverse, Option, None, Some, refl, sym, ap, subst, append-nil, append_assoc}
 use Rattle.std.specs.Prelude.{option_map}
 use Rattle.std.specs.Borrow.{Bor}
@@ -38,7 +38,7 @@ use Rattle.tl_lowering.proofs.OpeningLemmas.{opens_rest}
 
 -- ---- a block
 
--- with whatever follows, what was read becomes what the block becomes
+-- for any statements that follow, the part that was read becomes what the block becomes
 abbrev pub IsPart : Names → List TextStatement → Draft → Names → Type 0
 IsPart names before draft now =
     (rest : List TextStatement) (items all : List Statement) → MayFollow draft.flow rest → AreStatements now rest items → Becomes draft items all → AreStatements names (before ++ rest) all

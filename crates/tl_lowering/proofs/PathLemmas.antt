@@ -1,4 +1,4 @@
--- Paths one after another, and what is held behind a statement.
+-- Sequences of paths, and what is held after a statement.
 use Rattle.std.proofs.Common.{◌≡◌, ℕ, List, [], ◌∷◌, ◌++◌, ◌+◌, ◌<◌, ◌≤◌, take, drop, Bool, Option, Some, None, append-nil, refl, sym, ap, ap₂, ◌∙◌, subst, arith}
 use Rattle.std.specs.Prelude.{option_map, IfSome, IfOk, MatchOption, Result, Ok, Err}
 use Rattle.std.specs.Option.{unwrap_or}

@@ -1,4 +1,4 @@
--- Names that are declared for a while, and then forgotten.
+-- Names that are declared and later lose their meanings.
 use Rattle.std.proofs.Common.{◌≡◌, ◌≢◌, ℕ, zero, suc, ◌+◌, ◌<◌, ◌≤◌, List, [], ◌∷◌, ◌++◌, length, length-append, take, drop, ◌⊎◌, inl, inr, refl, sym, ap, ap₂, ◌∙◌, arith, subst}
 use Rattle.std.specs.Prelude.{slice_set, get_or}
 use Rattle.std.proofs.lemmas.List.{drop-append-le, take-append-le, length-take, length-set, get_or-set_same, get_or-set_other, get_or_past}
@@ -41,7 +41,7 @@ declares outer old new s m fresh e local meanings fields procedures =
 below : (k : ℕ) (new : List Symbol) (s : Symbol) → k < length (new ++ s ∷ []) → k ≤ length new
 below k new s lt = omega (arith, length-append new (s ∷ []))
 
--- one name less, while there are more than k
+-- the last of more than k names loses its meaning
 pub pops_meanings : (k : ℕ) (old new : List Symbol) (s : Symbol) (ms after : List Meaning) → old ≡ new ++ s ∷ [] → k < length old → after ≡ slice_set ms s.0 M.Nothing
     → forget (drop k new) after ≡ forget (drop k old) ms
 pops_meanings k old new s ms after e lt is =
@@ -60,7 +60,7 @@ more_below t u m k (M.Value x) a b h = omega arith
 more_below t u m k (M.Index x) a b h = omega arith
 more_below t u m k (M.Node n) a b h = omega arith
 
--- a name gets a meaning, which is no node that another name has
+-- a name gets a meaning that isn't another name's node
 set_in_use : (t u m k : ℕ) (ms : List Meaning) (s : ℕ) (x : Meaning) → t ≤ u → m ≤ k → IsBelow u k x → ((n : ℕ) → x ≡ M.Node n → m ≤ n) → AreInUse t m ms → AreInUse u k (slice_set ms s x)
 set_in_use t u m k ms s x a b below new h = record {
   below = λ i. at i (cases_eq i s) (cases_lt s (length ms));

@@ -1,4 +1,4 @@
--- Sets of node registers: what is in both, and what is left of one.
+-- Sets of node registers: intersection and difference.
 use Rattle.std.proofs.Common.{◌≡◌, ◌≢◌, ℕ, zero, suc, List, [], ◌∷◌, ◌++◌, length, Bool, true, false, ◌&&◌, Option, Some, None, refl, sym, ap, ap₂, ◌∙◌, arith}
 use Rattle.std.specs.Prelude.{not}
 use Rattle.tl_lowering.specs.Sets.{Nodes, holds, with_node, without_node, both, minus, both_of, all_of}
@@ -98,7 +98,7 @@ within_with (true ∷ a) zero = ap (λ b. true ∷ b) (both_self a)
 within_with (false ∷ a) zero = ap (λ b. false ∷ b) (both_self a)
 within_with (x ∷ a) (suc n) = ap₂ (λ y b. y ∷ b) (and_self x) (within_with a n)
 
--- what was within a set and a node is within the set without the node
+-- if a set is within another with a node added, then without that node it is within the other
 pub without_with : (a h : Nodes) (n : ℕ) → both a (with_node h n) ≡ a → both (without_node a n) h ≡ without_node a n
 without_with [] h n e = refl
 without_with (x ∷ a) [] n e = cc
@@ -120,7 +120,7 @@ with_held [] n e = refl
 with_held (x ∷ h) zero e = ap (λ y. y ∷ h) (sym e)
 with_held (x ∷ h) (suc n) e = ap (λ b. x ∷ b) (with_held h n e)
 
--- a node that isn't in the second set makes no difference to what is in both
+-- removing a node that isn't in the second set doesn't change the intersection
 pub both_without : (a h : Nodes) (n : ℕ) → holds h n ≡ false → both (without_node a n) h ≡ both a h
 both_without [] h n e = refl
 both_without (x ∷ a) [] zero e = refl
@@ -142,7 +142,7 @@ without_falls (x ∷ h) zero (suc k) e = e
 without_falls (x ∷ h) (suc n) zero e = e
 without_falls (x ∷ h) (suc n) (suc k) e = without_falls h n k e
 
--- what isn't held is held nowhere within
+-- a node that isn't in a set isn't in its subsets
 pub within_falls : (a h : Nodes) (k : ℕ) → both a h ≡ a → holds h k ≡ false → holds a k ≡ false
 within_falls [] h k e f = refl
 within_falls (x ∷ a) [] k e f = cc

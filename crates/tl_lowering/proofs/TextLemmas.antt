@@ -23,7 +23,7 @@ pub argument_more : (names : Names) {old new : Names} (xs : List Name) (i : ℕ)
 argument_more names xs i d lt e g =
     g ∙ ap (λ n. with_value n (get_or xs i d)) e ∙ sym (with_values_append names (take i xs) (get_or xs i d ∷ [])) ∙ ap (with_values names) (sym (take_more xs i d lt))
 
--- names that are free one after another
+-- names that are new one after another
 pub more_new : (names : Names) {old : Names} (xs : List Name) (i : ℕ) (d : Name) → i < length xs → old ≡ with_values names (take i xs) → IsNew old (get_or xs i d) → AreNew names (take i xs)
     → AreNew names (take (i + 1) xs)
 more_new names xs i d lt e fresh so_far =
@@ -39,7 +39,7 @@ count_values names (x ∷ xs) = let h = count_values (with_value names x) xs in 
 
 -- ---- declarations
 
--- with whatever follows, what was read declares these procedures
+-- for any declarations that follow, those that were read declare these procedures
 abbrev pub AreSoFar : List (List ℕ) → Names → List Declaration → List Procedure → Names → Type 0
 AreSoFar spellings names before ps now =
     (rest : List Declaration) (more : List Procedure) → AreDeclared spellings now rest more → AreDeclared spellings names (before ++ rest) (ps ++ more)

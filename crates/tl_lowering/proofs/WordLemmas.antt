@@ -38,7 +38,7 @@ stays after k lt =
     subst (λ b. IsTrue (stays_word b)) (sym (get_or-take (word_left after) after k 0 few))
     (yes (stays_word (get_or after k 0)) (fails_before_first (λ b. not (stays_word b)) after k 0 few))
 
--- a word is spelled by letters, digits and _
+-- a word consists of letters, digits and `_`
 letters : (first : ℕ) (after : List ℕ) → starts_word first ≡ true → IsWord (first ∷ take (word_left after) after)
 letters first after s =
     All-cons (λ b. IsTrue (stays_word b)) first (take (word_left after) after) (starts_stays first s)

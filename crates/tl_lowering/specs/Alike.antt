@@ -1,4 +1,4 @@
--- When two core forms are the same but for where their parts are in memory: a box of the one stands where the other has its own, with the same content.
+-- When two core forms are the same except for the memory that their parts occupy: each box may be a different one with the same content.
 use Rattle.std.specs.Prelude.{◌≡◌, ℕ, ℤ, List, [], ◌∷◌}
 use Rattle.tl_syntax.specs.declared.operator.Operator.{Operator}
 use Rattle.tl_lowering.specs.declared.program.Expression.{Expression}
@@ -55,7 +55,7 @@ pub data SameStatement : Statement → Statement → Type 0 where
       SameStatement (S.RepeatUpTo' e w p a) (S.RepeatUpTo' f v q b)
   same_at : {p q : _} {i j : ℕ} {a b : Statement} → i ≡ j → SameStatement a b → SameStatement (S.At' i p a) (S.At' j q b)
 
--- one by one
+-- the statements are the same, one by one
 pub data AllSame : List Statement → List Statement → Type 0 where
   none_same : AllSame [] []
   more_same : {a b : Statement} {xs ys : List Statement} → SameStatement a b → AllSame xs ys → AllSame (a ∷ xs) (b ∷ ys)
@@ -66,7 +66,7 @@ pub record SameProcedure (p q : Procedure) : Type 0 where
   pub arity : p.arity ≡ q.arity
   pub body : SameStatement p.body q.body
 
--- one by one
+-- the procedures are the same, one by one
 pub data SameProcedures : List Procedure → List Procedure → Type 0 where
   no_procedures : SameProcedures [] []
   more_procedures : {p q : Procedure} {ps qs : List Procedure} → SameProcedure p q → SameProcedures ps qs → SameProcedures (p ∷ ps) (q ∷ qs)

@@ -1,4 +1,4 @@
--- Statements one after another, and the declarations of a block whose rest isn't read yet.
+-- Sequences of statements, and the declarations of a block whose remaining statements aren't read yet.
 use Rattle.std.specs.Prelude.{◌≡◌, ℕ, ◌+◌, ◌≤◌, List, [], ◌∷◌, Bool, false, Option, Some, None, IfSome}
 use Rattle.tl_lowering.specs.declared.lowering.Binding.{Binding}
 use Rattle.tl_lowering.specs.declared.lowering.Binding.TheVariants as B
@@ -11,7 +11,7 @@ use Rattle.tl_lowering.specs.Outcomes.{may_fail, locked, handled_by, after, fail
 use Rattle.tl_lowering.specs.Paths.{Paths, outcomes, on, failing_if, with_handler, keeping}
 use Rattle.tl_lowering.specs.Sound.{IsReadable, IsLockable, IsWellFormed}
 
--- the paths of what is done first, and then of what follows where control goes on
+-- the paths of a statement, and then of what follows, if control goes on
 abbrev pub followed : Option Nodes → Paths → (Nodes → Paths) → Paths
 followed None p more = p
 followed (Some held) p more =
@@ -24,22 +24,22 @@ abbrev pub outcomes_all : List Statement → Nodes → Paths
 outcomes_all [] held = on held
 outcomes_all (s ∷ ss) held = then_of (outcomes s held) (outcomes_all ss)
 
--- each is in order where the one before it leads
+-- each statement is well-formed in the state that the one before it leaves
 abbrev pub AreWellFormed : List Statement → ℕ → ℕ → Nodes → Bool → Type 0
 AreWellFormed [] d m held in_loop = Unit {0}
 AreWellFormed (s ∷ ss) d m held in_loop = IsWellFormed s d m held in_loop × IfSome (after s held) (λ h. AreWellFormed ss d m h in_loop)
 
--- one statement that does these one after another
+-- one statement with the same paths as this sequence, and well-formed if the sequence is
 pub record IsSequence (whole : Statement) (parts : List Statement) : Type 0 where
   pub paths : (held : Nodes) → outcomes whole held ≡ outcomes_all parts held
   pub sound : (d m : ℕ) (held : Nodes) (in_loop : Bool) → AreWellFormed parts d m held in_loop → IsWellFormed whole d m held in_loop
 
--- the same statement, elsewhere in the text
+-- a statement with the same paths, and well-formed if b is
 pub record IsSame (a b : Statement) : Type 0 where
   pub paths : (held : Nodes) → outcomes a held ≡ outcomes b held
   pub sound : (d m : ℕ) (held : Nodes) (in_loop : Bool) → IsWellFormed b d m held in_loop → IsWellFormed a d m held in_loop
 
--- the first statement and then the second
+-- the first statement followed by the second
 pub record IsPair (whole first second : Statement) : Type 0 where
   pub paths : (held : Nodes) → outcomes whole held ≡ then_of (outcomes first held) (outcomes second)
   pub sound : (d m : ℕ) (held : Nodes) (in_loop : Bool) → IsWellFormed first d m held in_loop → IfSome (after first held) (λ h. IsWellFormed second d m h in_loop)
@@ -51,19 +51,19 @@ pub record IsAttempt (whole body handler : Statement) : Type 0 where
   pub sound : (d m : ℕ) (held : Nodes) (in_loop : Bool) → IsWellFormed body d m held in_loop → IsWellFormed handler d m (handled_by held (all_of (fails body held))) in_loop
       → IsWellFormed whole d m held in_loop
 
--- what a `let` or a `lock` leads to
+-- the paths of a `let` or a `lock`
 abbrev pub binding_paths : Binding → Nodes → Paths
 binding_paths (B.Value x e) held = failing_if (may_fail e) (on held) held
 binding_paths (B.ValueElse x e o) held = record (outcomes o held) { after = Some held }
 binding_paths (B.Nodes place o) held = record (outcomes o held) { after = Some (locked place held) }
 
--- its registers are the next ones
+-- the place uses the next node registers
 abbrev pub IsNext : Place → ℕ → Type 0
 IsNext (P.Node n e) m = n ≡ m
 IsNext (P.Child n p e) m = n ≡ m
 IsNext (P.Pair n k p a b) m = (n ≡ m) × (k ≡ m + 1)
 
--- a `let` or a `lock` is in order, and its `else` leaves the block
+-- a `let` or a `lock` is well-formed, and its `else` leaves the block
 abbrev pub IsBinding : Binding → ℕ → ℕ → Nodes → Bool → Type 0
 IsBinding (B.Value x e) d m held in_loop = (x ≡ d) × IsReadable d held e
 IsBinding (B.ValueElse x e o) d m held in_loop = (x ≡ d) × IsReadable d held e × IsWellFormed o d m held in_loop × (after o held ≡ None)
@@ -75,7 +75,7 @@ values_with (B.Value x e) d = d + 1
 values_with (B.ValueElse x e o) d = d + 1
 values_with (B.Nodes place o) d = d
 
--- how many nodes have registers once so many more are locked
+-- the number of node registers in use after the lock
 abbrev pub nodes_more : Place → ℕ → ℕ
 nodes_more (P.Node n e) m = m + 1
 nodes_more (P.Child n p e) m = m + 1
@@ -86,17 +86,17 @@ nodes_with (B.Value x e) m = m
 nodes_with (B.ValueElse x e o) m = m
 nodes_with (B.Nodes place o) m = nodes_more place m
 
--- how many registers are in use at a place, and the paths that lead there
+-- the numbers of registers in use at a position, and the paths that lead there
 pub record Standing : Type 0 where
   pub values : ℕ
   pub nodes : ℕ
   pub paths : Paths
 
--- where a block begins
+-- the start of a block
 abbrev pub at_start : ℕ → ℕ → Nodes → Standing
 at_start d m held = record { values = d; nodes = m; paths = on held }
 
--- behind the open declarations, of which the last comes first
+-- the position after the open declarations, which are listed with the last first
 abbrev pub reached : List Opened → Standing → Standing
 reached [] r = r
 reached (o ∷ outer) r =
@@ -107,7 +107,7 @@ reached (o ∷ outer) r =
       paths = then_of (then_of u.paths (outcomes_all o.earlier.items)) (binding_paths o.binding);
     }
 
--- statements are in order where paths lead, if any leads there
+-- the statements are well-formed at this position, if control can reach it
 abbrev pub AreWellFormedAt : List Statement → Standing → Bool → Type 0
 AreWellFormedAt ss r in_loop = IfSome r.paths.after (λ h. AreWellFormed ss r.values r.nodes h in_loop)
 
@@ -117,31 +117,31 @@ IsWellFormedAt s r in_loop = IfSome r.paths.after (λ h. IsWellFormed s r.values
 abbrev pub IsBindingAt : Binding → Standing → Paths → Bool → Type 0
 IsBindingAt b r p in_loop = IfSome p.after (λ h. IsBinding b r.values r.nodes h in_loop)
 
--- the open declarations are in order, with what the block does before each
+-- the open declarations and the block's statements before each of them are well-formed
 abbrev pub AreOpen : List Opened → Standing → Bool → Type 0
 AreOpen [] r in_loop = Unit {0}
 AreOpen (o ∷ outer) r in_loop =
     let u = reached outer r in
     AreOpen outer r in_loop × AreWellFormedAt o.earlier.items u in_loop × IsBindingAt o.binding u (then_of u.paths (outcomes_all o.earlier.items)) in_loop
 
--- the same paths, but for nodes that these don't contain
+-- the same paths, where of the nodes held after them only those in `held` are compared
 pub record AreAlike (held : Nodes) (p q : Paths) : Type 0 where
   pub after : keeping held p.after ≡ keeping held q.after
   pub fails : p.fails ≡ q.fails
   pub breaks : p.breaks ≡ q.breaks
 
--- registers that aren't in use hold nothing
+-- the registers from m on hold no nodes
 abbrev pub AreFree : ℕ → Nodes → Type 0
 AreFree m held = (n : ℕ) → m ≤ n → holds held n ≡ false
 
--- the declaration with the rest of its block is in order if the rest is, and leads where that leads, without its own nodes
+-- the declaration with the rest of its block is well-formed if the rest is, and has the same paths apart from the declared nodes
 pub record IsClosing (b : Binding) (rest whole : Statement) : Type 0 where
   pub paths : (d m : ℕ) (outer here : Nodes) (in_loop : Bool) → IsBinding b d m here in_loop → AreFree m outer
       → AreAlike outer (then_of (binding_paths b here) (outcomes rest)) (outcomes whole here)
   pub sound : (d m : ℕ) (here : Nodes) (in_loop : Bool) → IsBinding b d m here in_loop
       → IfSome (binding_paths b here).after (λ h. IsWellFormed rest (values_with b d) (nodes_with b m) h in_loop) → IsWellFormed whole d m here in_loop
 
--- and so it is with what the block does before the declaration
+-- the same for the declaration together with the block's statements before it
 pub record Closes (o : Opened) (rest whole : Statement) : Type 0 where
   pub paths : (r : Standing) (outer : Nodes) (in_loop : Bool) → AreOpen (o ∷ []) r in_loop → AreFree r.nodes outer
       → AreAlike outer (then_of (reached (o ∷ []) r).paths (outcomes rest)) (then_of r.paths (outcomes whole))

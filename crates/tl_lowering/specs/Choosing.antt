@@ -31,7 +31,7 @@ pub data IsEntered (names : Names) : Question → Entrance → Type 0 where
       IsEntered names (Q.Condition question) (E.Condition c)
   enters_lock : {text : TextPlace} {locking : Locking} → Locks names text locking → IsEntered names (Q.Lock text) (E.Lock locking)
 
--- what names stand for in the first block
+-- the meanings of names in the first block
 abbrev pub names_behind : Names → Entrance → Names
 names_behind names (E.Condition c) = names
 names_behind names (E.Lock locking) = with_locking names locking
@@ -43,20 +43,20 @@ pub data IsChosen (first second : Statement) : Entrance → Statement → Type 0
 
 -- ---- a loop
 
--- how often a `repeat` turns
+-- the number of turns of a `repeat`
 pub data IsRepeated (names : Names) (count : Form) : Option Form → Repetition → Type 0 where
   repeated_times : {w : ℕ} → HasLoop names → IsCount names count w → IsRepeated names count None (R.Times w)
   repeated_up_to : {most : Form} {e : Expression} {w : ℕ} → HasLoop names → IsNumber names count e →
       HasRegisters e names.values → behind e names.values + 1 ≤ VALUE_REGISTERS → IsCount names most w →
       IsRepeated names count (Some most) (R.UpTo e w)
 
--- the loop over the children of a node takes the next registers for a child and for its index
+-- the loop over a node's children, which uses the next node register for the child and the next value register for its index
 pub data IsVisited (names : Names) (child : Name) (index : Option Name) (parent : Name) (most : Form) : Repetition → Type 0 where
   visited : {v : Visit} → HasLoop names → AreFresh names child index → HasNode names → names.values + 2 ≤ VALUE_REGISTERS → v.name ≡ child →
       v.index_name ≡ index → v.child ≡ names.nodes → v.index ≡ names.values → stands_for names parent ≡ M.Node v.parent → IsCount names most v.turns →
       IsVisited names child index parent most (R.Children v)
 
--- what names stand for in the body
+-- the meanings of names in the body
 abbrev pub names_within : Names → Repetition → Names
 names_within names (R.Times w) = in_loop names
 names_within names (R.UpTo e w) = in_loop names

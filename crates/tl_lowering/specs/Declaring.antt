@@ -13,7 +13,7 @@ use Rattle.tl_lowering.specs.Scopes.{View, meaning_of}
 use Rattle.tl_lowering.specs.Sound.{IsReadable, IsLockable}
 use Rattle.tl_syntax.specs.declared.parsed.Name.{Name}
 
--- a value's name stands for nothing yet, its register is the next one, and its number can be read
+-- the value's name is new, its register is the next one, and its number can be computed
 pub record IsNewValue (scope : View) (held : Held) (name : Name) (register : ℕ) (number : Expression) : Type 0 where
   pub is_new : meaning_of scope name.symbol ≡ M.Nothing
   pub next : register ≡ scope.values
@@ -21,14 +21,14 @@ pub record IsNewValue (scope : View) (held : Held) (name : Name) (register : ℕ
   pub temporaries : HasTemporaries number scope.values
   pub readable : IsReadable scope.values (nodes_of held) number
 
--- the names of one node or of two stand for nothing yet and differ, and their registers are the next ones
+-- the names of the one or two nodes are new and differ, and their registers are the next ones
 pub record IsDeclarable (scope : View) (l : Locking) : Type 0 where
   pub first : meaning_of scope l.first.0.symbol ≡ M.Nothing
   pub register : l.first.1 ≡ scope.nodes
   pub second : IfSome l.second (λ s. (meaning_of scope s.0.symbol ≡ M.Nothing) × (s.0.symbol.0 ≢ l.first.0.symbol.0) × (s.1 ≡ scope.nodes + 1))
   pub nodes : nodes_more l.place scope.nodes ≡ scope.nodes + (if is_some l.second then 2 else 1)
 
--- what is locked can be locked, and what is held then
+-- the nodes can be locked, and `held` is what is held after the lock
 pub record IsLocking (scope : View) (held : Held) (l : Locking) : Type 0 where
   pub names : IsDeclarable scope l
   pub lockable : IsLockable l.place scope.values (nodes_of held)

@@ -1,4 +1,4 @@
--- The part of a block that was read, and what the whole block becomes.
+-- The part of a block that has been read, and what the whole block is lowered to.
 use Rattle.std.specs.Prelude.{◌≡◌, ℕ, List, [], ◌∷◌, ◌++◌, Bool, false, Option, None, Some, reverse}
 use Rattle.tl_syntax.specs.declared.parsed.Name.{Name}
 use Rattle.tl_syntax.specs.declared.parsed.Expression.{Expression as TextExpression}
@@ -42,7 +42,7 @@ pub data IsOpening (names : Names) (form : StatementForm) : Head → Type 0 wher
   opening_nodes : (other : Option Otherwise) {text : TextPlace} {locking : Locking} → form ≡ T.Act (A.Lock text) other →
       Locks names text locking → IsOpening names form (H.Nodes locking)
 
--- it declares this; a statement that declares nothing has no head
+-- the head of the statement's declaration; None if it declares nothing
 abbrev pub IsHeadOf : Names → StatementForm → Option Head → Type 0
 IsHeadOf names form None = opens form ≡ false
 IsHeadOf names form (Some head) = IsOpening names form head
@@ -61,7 +61,7 @@ abbrev pub other_of : Option (Statement × Flow) → Statement
 other_of None = S.Fail
 other_of (Some other) = other.0
 
--- a declaration with its `else`, and what names stand for behind it
+-- a declaration with its `else`, and the meanings of names after it
 pub data Opens (names : Names) (form : StatementForm) : Binding → Names → Type 0 where
   opens_value : {name : Name} {number : TextExpression} {x : ℕ} {e : Expression} → form ≡ T.Act (A.Let name number) None →
       x ≡ names.values → IsNew names name → HasValue names → IsNumber names number.form e → HasTemporaries e names.values → Opens names form (B.Value x e) (with_value names name)
@@ -81,7 +81,7 @@ pub data Binds : Binding → Statement → Statement → Type 0 where
       Binds (B.ValueElse x e other) rest (S.LetElse' x e p rest q other)
   binds_nodes : {place : Place} {p q : _} {rest other : Statement} → Binds (B.Nodes place other) rest (S.Lock' place p rest q other)
 
--- behind what the block does before it
+-- the same after the block's statements before the declaration
 pub record Encloses (o : Opened) (rest whole : Statement) : Type 0 where
   pub bound : Statement
   pub at_offset : Statement
@@ -91,14 +91,14 @@ pub record Encloses (o : Opened) (rest whole : Statement) : Type 0 where
 
 -- ---- a block
 
--- what a block becomes whose declarations are open, the last one first
+-- what a block with open declarations is lowered to; the declarations are listed with the last first
 pub data Ends : List Opened → List Statement → List Statement → Type 0 where
   none_open : {items : List Statement} → Ends [] items items
   last_open : {o : Opened} {outer : List Opened} {items all : List Statement} {rest bound at_offset : Statement} → IsHalved rest items →
       Binds o.binding rest bound → IsAtOffset o.offset bound at_offset → Ends outer (o.earlier.items ++ at_offset ∷ []) all →
       Ends (o ∷ outer) items all
 
--- what the whole block becomes if these follow what was read
+-- what the whole block is lowered to if these statements follow the part that was read
 abbrev pub Becomes : Draft → List Statement → List Statement → Type 0
 Becomes draft items all = Ends (reverse draft.opened.items) (draft.statements.items ++ items) all
 
@@ -108,11 +108,11 @@ pub record IsFinished (draft : Draft) (whole : Statement) : Type 0 where
   pub becomes : Becomes draft [] parts
   pub joined : IsHalved whole parts
 
--- where control doesn't go on nothing follows
+-- if control doesn't go on, nothing follows
 abbrev pub MayFollow : Flow → List TextStatement → Type 0
 MayFollow flow rest = known flow.after ≡ None → rest ≡ []
 
--- before what follows stands this statement, and what the block becomes is the same
+-- the block is still lowered to `all` if s and then the rest follow the part that was read
 pub record IsExtended (names : Names) (s : TextStatement) (rest : List TextStatement) (draft : Draft) (all : List Statement) : Type 0 where
   pub items : List Statement
   pub are : AreStatements names (s ∷ rest) items

@@ -1,4 +1,4 @@
--- What was done before a place where the paths through a block lead: whether the tree was entered, and whose children were passed.
+-- What was done before the positions to which a block's paths lead: whether the tree was entered, and which nodes' children were passed.
 use Rattle.std.specs.Prelude.{◌≡◌, ℕ, List, [], ◌∷◌, Bool, true, false, not, ◌&&◌, Option, Some, None, IfSome, option_map, nat_eq}
 use Rattle.tl_lowering.specs.declared.loops.Repetition.{Repetition}
 use Rattle.tl_lowering.specs.declared.loops.Repetition.TheVariants as R
@@ -24,14 +24,15 @@ use Rattle.tl_lowering.specs.Sets.{minus}
 abbrev pub before_of : Held → Before
 before_of held = record { entered = held.is_entered; passed = passed_of held }
 
--- where paths lead, if any leads there
+-- what was done on the paths, if there are any
 abbrev pub entered_at : Option Held → Option Before
 entered_at held = option_map before_of held
 
 abbrev pub entered_of : Flow → Entered
 entered_of flow = record { after = entered_at flow.after; fails = entered_at flow.fails; breaks = entered_at flow.breaks }
 
--- a statement that enters the tree once on each path and goes through no children that were passed, and what was done where its paths lead
+-- The statement enters the tree at most once on each path and never goes through children that were passed. The flow says
+-- what was done at the ends of its paths.
 pub record IsEntering (e : Before) (s : Statement) (flow : Flow) : Type 0 where
   pub once : EntersOnce s e
   pub paths : entered_of flow ≡ entered s e
@@ -48,18 +49,18 @@ AllEnterOnce (s ∷ ss) e = EntersOnce s e × IfSome (entered s e).after (AllEnt
 
 -- ---- declarations
 
--- what is about to be locked is entered once, and is held then
+-- the lock enters the tree only if it wasn't entered before, and `held` says what was done after it
 pub record IsEnteringPlace (e : Before) (l : Locking) : Type 0 where
   pub once : enters l.place ≡ true → e.entered ≡ false
   pub held : before_of l.held ≡ behind_lock l.place e
 
--- what a `let` or a `lock` leads to
+-- what was done after a `let` or a `lock`
 abbrev pub binding_entered : Binding → Before → Entered
 binding_entered (B.Value x n) e = failing_entered (may_fail n) e (on_entered e)
 binding_entered (B.ValueElse x n o) e = record (entered o e) { after = Some e }
 binding_entered (B.Nodes place o) e = record (entered o e) { after = Some (behind_lock place e) }
 
--- what no block is: the end of a `for each`
+-- whether the statement is a bare `break`, which only the lowering of `for each` contains
 abbrev pub is_break : Statement → Bool
 is_break S.Break = true
 is_break other = false
@@ -77,7 +78,7 @@ abbrev pub IsEnteringHead : Before → Head → Type 0
 IsEnteringHead e (H.Value name register number) = Unit {0}
 IsEnteringHead e (H.Nodes locking) = IsEnteringPlace e locking
 
--- where the first block of an `if` begins
+-- what was done when the first block of an `if` begins
 abbrev pub entrance_entered : Entrance → Before → Before
 entrance_entered (E.Condition c) e = e
 entrance_entered (E.Lock locking) e = behind_lock locking.place e
@@ -88,23 +89,23 @@ IsEnteringEntrance e (E.Lock locking) = IsEnteringPlace e locking
 
 -- ---- loops
 
--- where the body of a loop begins
+-- what was done when the body of a loop begins
 abbrev pub before_body : Repetition → Before → Before
 before_body repetition b = record b { passed = passed_within repetition b.passed }
 
--- whether a turn descends from the node that register n has where the loop begins: a child's register is the loop's own
+-- whether a turn descends from the node that register n holds when the loop begins; a child's register belongs to the loop itself
 abbrev pub turn_descends : Repetition → Statement → ℕ → Bool
 turn_descends (R.Times w) body n = descends_from body n
 turn_descends (R.UpTo e w) body n = descends_from body n
 turn_descends (R.Children v) body n = descends_from body n && not (nat_eq v.child n)
 
--- where its turns begin
+-- what was done when each turn begins
 abbrev pub before_turns : Repetition → Statement → Before → Before
 before_turns repetition body b = record b { passed = minus b.passed (registers (turn_descends repetition body)) }
 
 -- ---- a block
 
--- with whatever follows, a block does what was read of it, and then what follows
+-- for any statements that follow, the block does what has been read so far and then these statements
 pub record EntersSoFar (e : Before) (draft : Draft) (x : Entered) : Type 0 where
   pub once : (items all : List Statement) → Becomes draft items all → IfSome x.after (AllEnterOnce items) → AllEnterOnce all e
   pub paths : (items all : List Statement) → Becomes draft items all → entered_all all e ≡ then_by x.after x (entered_all items)

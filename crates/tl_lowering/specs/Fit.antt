@@ -1,4 +1,4 @@
--- What the code of a statement needs: registers, loops that turn and don't nest too deep.
+-- What the code of a statement needs: enough registers, and loops with a positive count that don't nest too deep.
 use Rattle.std.specs.Prelude.{ℕ, suc, ◌+◌, ◌<◌, ◌≤◌, List, All, IsTrue, max}
 use Rattle.tl_instr.specs.declared.operand.TheConstants.{VALUE_REGISTERS, NODE_REGISTERS}
 use Rattle.tl_lowering.specs.declared.program.Condition.{Condition}
@@ -12,11 +12,11 @@ use Rattle.tl_syntax.specs.Tokens.{stays_word}
 use Rattle.tl_lowering.specs.Outcomes.{nodes_behind}
 use Rattle.tl_lowering.specs.Registers.{behind, HasTemporaries, HasRegisters}
 
--- letters, digits and _ alone
+-- only letters, digits and `_`
 abbrev pub IsWord : List ℕ → Type 0
 IsWord bytes = All (λ b. IsTrue (stays_word b)) bytes
 
--- how deep loops stand in one another
+-- the nesting depth of the loops
 abbrev pub loops : Statement → ℕ
 loops (S.Sequence' p a q b) = max (loops a) (loops b)
 loops (S.If' c p a q b) = max (loops a) (loops b)
@@ -29,7 +29,7 @@ loops (S.RepeatUpTo' e w p a) = suc (loops a)
 loops (S.At' offset p a) = loops a
 loops s = 0
 
--- each loop may turn
+-- each loop has a positive count
 abbrev pub AllTurn : Statement → Type 0
 AllTurn (S.Sequence' p a q b) = AllTurn a × AllTurn b
 AllTurn (S.If' c p a q b) = AllTurn a × AllTurn b
@@ -51,13 +51,13 @@ AllTurn S.Break = Unit {0}
 AllTurn S.Return = Unit {0}
 AllTurn S.Fail = Unit {0}
 
--- the registers of what is locked are ones that there are
+-- the registers of the locked nodes exist
 abbrev pub HasSlots : Place → Type 0
 HasSlots (P.Node n e) = n < NODE_REGISTERS
 HasSlots (P.Child n p e) = n < NODE_REGISTERS
 HasSlots (P.Pair n k p a b) = (n < NODE_REGISTERS) × (k < NODE_REGISTERS)
 
--- so are all node registers of a statement that takes register m and those above it
+-- all node registers of the statement exist, where it may use register m and those above it
 abbrev pub AllSlots : Statement → ℕ → Type 0
 AllSlots (S.Sequence' p a q b) m = AllSlots a m × AllSlots b m
 AllSlots (S.Descend n e) m = m < NODE_REGISTERS
@@ -79,7 +79,7 @@ AllSlots S.Break m = Unit {0}
 AllSlots S.Return m = Unit {0}
 AllSlots S.Fail m = Unit {0}
 
--- there are registers for both operands, the second one behind the first
+-- there are registers for both operands, the second one after those of the first
 abbrev pub HasBoth : Expression → Expression → ℕ → Type 0
 HasBoth a b d = HasRegisters a d × HasRegisters b (behind a d)
 
@@ -95,7 +95,7 @@ HasPlaceRoom (P.Node n e) d = HasRegisters e d
 HasPlaceRoom (P.Child n p e) d = HasRegisters e d
 HasPlaceRoom (P.Pair n k p a b) d = HasBoth a b d
 
--- there are registers for all numbers of a statement where the first d are those of values
+-- there are registers for all numbers of the statement, where the first d registers hold values
 abbrev pub HasRoom : Statement → ℕ → Type 0
 HasRoom S.Skip d = Unit {0}
 HasRoom (S.Sequence' p a q b) d = HasRoom a d × HasRoom b d
@@ -114,6 +114,6 @@ HasRoom (S.LetElse' v e p a q o) d = HasTemporaries e v × HasRoom a (d + 1) × 
 HasRoom (S.Lock' place p a q o) d = HasPlaceRoom place d × HasRoom a d × HasRoom o d
 HasRoom (S.Try' p a q b) d = HasRoom a d × HasRoom b d
 HasRoom (S.Repeat' w p a) d = HasRoom a d
--- the number of turns has a register behind the number
+-- the count has a register after those of the number
 HasRoom (S.RepeatUpTo' e w p a) d = HasRegisters e d × (behind e d + 1 ≤ VALUE_REGISTERS) × HasRoom a d
 HasRoom (S.At' offset p a) d = HasRoom a d

@@ -1,4 +1,4 @@
--- What the names of a text stand for at a place.
+-- The meanings of a text's names at a position.
 use Rattle.std.specs.Prelude.{◌≡◌, ℕ, ◌+◌, ◌<◌, List, [], ◌∷◌, Bool, true, false, Option, Some, None, slice_set, get_or, replicate, ℤ}
 use Rattle.tl_budget.specs.declared.limits.TheConstants.{MAX_DEPTH}
 use Rattle.tl_instr.specs.declared.operand.Field.{Field}
@@ -11,7 +11,8 @@ use Rattle.tl_syntax.specs.declared.parsed.Name.{Name}
 use Rattle.tl_syntax.specs.declared.parsed.Place.{Place}
 use Rattle.tl_syntax.specs.declared.parsed.Place.TheVariants as P
 
--- at the index of a symbol stand its meaning, its field and whether it names a procedure; so many values and nodes have registers, and so many loops are around
+-- the lists have, at the index of a symbol, its meaning, its field and whether it names a procedure; the numbers count
+-- value registers in use, node registers in use, and loops around the position
 pub record Names : Type 0 where
   pub meanings : List Meaning
   pub fields : List (Option Field)
@@ -26,25 +27,25 @@ names_in scope = record { meanings = scope.meanings; fields = scope.fields; proc
 abbrev pub names_of : Scope → Names
 names_of scope = names_in (view_of scope)
 
--- so many names, which stand for nothing
+-- `count` names without a meaning
 abbrev pub without_meaning : ℕ → Names
 without_meaning count = record { meanings = replicate count M.Nothing; fields = replicate count None; procedures = replicate count false; values = 0; nodes = 0; loops = 0 }
 
 abbrev pub stands_for : Names → Name → Meaning
 stands_for names name = get_or names.meanings name.symbol.0 M.Nothing
 
--- the name is free
+-- the name has no meaning yet
 abbrev pub IsNew : Names → Name → Type 0
 IsNew names name = stands_for names name ≡ M.Nothing
 
--- there is a register for one node more, or for one value more
+-- there is a free node register, and below a free value register
 abbrev pub HasNode : Names → Type 0
 HasNode names = names.nodes < NODE_REGISTERS
 
 abbrev pub HasValue : Names → Type 0
 HasValue names = names.values < VALUE_REGISTERS
 
--- one loop more may stand here
+-- there may be one more loop here
 abbrev pub HasLoop : Names → Type 0
 HasLoop names = names.loops < MAX_DEPTH
 
@@ -54,7 +55,7 @@ field_named names name = get_or names.fields name.symbol.0 None
 abbrev pub is_procedure : Names → Name → Bool
 is_procedure names name = get_or names.procedures name.symbol.0 false
 
--- from here on the name stands for that
+-- from here on the name has this meaning
 abbrev pub with_meaning : Names → Name → Meaning → Names
 with_meaning names name m = record names { meanings = slice_set names.meanings name.symbol.0 m }
 
@@ -64,11 +65,11 @@ with_constant names name number = with_meaning names name (M.Constant number)
 abbrev pub with_field : Names → Name → Field → Names
 with_field names name field = record names { fields = slice_set names.fields name.symbol.0 (Some field) }
 
--- and it names a procedure
+-- the name is also the name of a procedure
 abbrev pub with_procedure : Names → Name → Names
 with_procedure names name = record names { procedures = slice_set names.procedures name.symbol.0 true }
 
--- the name, if there is one, stands for the place of a loop's child: a value that can't be assigned, in the next register
+-- the name, if it is given, denotes the index of a loop's child: a value that can't be assigned, in the next register
 abbrev pub meanings_with : Names → Option Name → List Meaning
 meanings_with names None = names.meanings
 meanings_with names (Some name) = slice_set names.meanings name.symbol.0 (M.Index names.values)
@@ -76,11 +77,11 @@ meanings_with names (Some name) = slice_set names.meanings name.symbol.0 (M.Inde
 abbrev pub with_index : Names → Option Name → Names
 with_index names index = record names { meanings = meanings_with names index; values = names.values + 1 }
 
--- a value without a name takes the next register
+-- a value without a name uses the next register
 abbrev pub with_unnamed : Names → Names
 with_unnamed names = record names { values = names.values + 1 }
 
--- the name stands for a value in the next register
+-- the name denotes a value in the next register
 abbrev pub with_value : Names → Name → Names
 with_value names name = record (with_meaning names name (M.Value names.values)) { values = names.values + 1 }
 
@@ -92,22 +93,22 @@ with_values names (name ∷ others) = with_values (with_value names name) others
 abbrev pub in_loop : Names → Names
 in_loop names = record names { loops = names.loops + 1 }
 
--- each name is free where those before it are declared
+-- each name is new when those before it are declared
 abbrev pub AreNew : Names → List Name → Type 0
 AreNew names [] = Unit {0}
 AreNew names (name ∷ others) = IsNew names name × AreNew (with_value names name) others
 
--- the name owns a node in the next register
+-- the name denotes a node in the next register
 abbrev pub with_node : Names → Name → Names
 with_node names name = record (with_meaning names name (M.Node names.nodes)) { nodes = names.nodes + 1 }
 
--- the names of what is locked
+-- the names of the locked nodes are declared
 abbrev pub with_place : Names → Place → Names
 with_place names (P.Node name offset number) = with_node names name
 with_place names (P.Child child) = with_node names child.name
 with_place names (P.Pair first second) = with_node (with_node names first.name) second.name
 
--- the names of a loop's child and of its place are free, and differ
+-- the names of a loop's child and of its index are new and differ
 abbrev pub AreFresh : Names → Name → Option Name → Type 0
 AreFresh names child None = IsNew names child
 AreFresh names child (Some index) = IsNew names child × IsNew (with_node names child) index

@@ -1,4 +1,4 @@
--- Numbers, conditions, places and actions of a text, and their core forms, where names stand for registers and fields.
+-- The core forms of a text's numbers, conditions, places and actions, in which names are replaced by registers and fields.
 use Rattle.std.specs.Prelude.{◌≡◌, ◌<◌, ◌≤◌, ℕ, ◌+◌, ◌/◌, List, [], ◌∷◌, ◌++◌, length, take, drop, Bool, true, false, Option, None, Some, ℤ, pos}
 use Rattle.std.specs.declared.vec.Vec.{Vec}
 use Rattle.std.specs.declared.boxed.Box.{Box}
@@ -53,18 +53,18 @@ pub data IsNumber (names : Names) : Form → Expression → Type 0 where
   operation : {operator : Operator} {a b : Box TextExpression Global} {c d e : Expression} → IsNumber names a.value.form c →
       IsNumber names b.value.form d → IsCalculated operator c d e → IsNumber names (F.Calculated operator a b) e
 
--- how often a loop may turn: from 1 to 65,535 times
+-- the largest number of turns of a loop, from 1 to 65,535
 pub data IsCount (names : Names) : Form → ℕ → Type 0 where
   count : {w : ℕ} → 0 < w → w ≤ 65535 → IsCount names (F.Number (pos w)) w
   constant_count : {name : Name} {w : ℕ} → 0 < w → w ≤ 65535 → stands_for names name ≡ M.Constant (pos w) → IsCount names (F.Named name) w
 
 -- ---- conditions
 
--- true where the other is false
+-- the negation of a condition
 pub data IsNot (a : Condition) : Condition → Type 0 where
   opposite : {p : _} → IsNot a (C.Not' p a)
 
--- true where both are true
+-- the conjunction of two conditions
 pub data IsBoth (a b : Condition) : Condition → Type 0 where
   together : {p q : _} → IsBoth a b (C.And' p a q b)
 
@@ -93,14 +93,14 @@ pub data IsCondition (names : Names) : Form → Condition → Type 0 where
       IsCondition names (F.Not a) d
   conjunction : {a b : Box TextExpression Global} {c d e : Condition} → IsCondition names a.value.form c →
       IsCondition names b.value.form d → IsBoth c d e → IsCondition names (F.And a b) e
-  -- it isn't so that neither is true
+  -- either is true: it is not the case that both are false
   disjunction : {a b : Box TextExpression Global} {c d not_c not_d neither either : Condition} → IsCondition names a.value.form c →
       IsCondition names b.value.form d → IsNot c not_c → IsNot d not_d → IsBoth not_c not_d neither → IsNot neither either →
       IsCondition names (F.Or a b) either
 
 -- ---- places
 
--- what is locked takes the next registers
+-- the place's nodes get the next registers
 pub data IsPlace (names : Names) : TextPlace → Place → Type 0 where
   node : {name : Name} {offset : ℕ} {a : TextExpression} {e : Expression} → IsNew names name → HasNode names → IsNumber names a.form e →
       HasRegisters e names.values → IsPlace names (T.Node name offset a) (P.Node names.nodes e)
@@ -111,7 +111,7 @@ pub data IsPlace (names : Names) : TextPlace → Place → Type 0 where
       IsNumber names c.number.form e → HasRegisters e names.values → IsNumber names d.number.form f →
       HasRegisters f (behind e names.values) → IsPlace names (T.Pair c d) (P.Pair names.nodes (names.nodes + 1) n e f)
 
--- the names of what is about to be locked
+-- the names, with those of the nodes about to be locked
 abbrev pub with_second : Names → Option (Name × NodeRegister) → Names
 with_second names None = names
 with_second names (Some second) = with_node names second.0
@@ -119,7 +119,7 @@ with_second names (Some second) = with_node names second.0
 abbrev pub with_locking : Names → Locking → Names
 with_locking names locking = with_second (with_node names locking.first.0) locking.second
 
--- what is about to be locked is the place, by its names
+-- the locking is that of the place, and declares the place's names
 pub record Locks (names : Names) (text : TextPlace) (locking : Locking) : Type 0 where
   pub place_is : IsPlace names text locking.place
   pub names_are : with_locking names locking ≡ with_place names text
@@ -129,7 +129,7 @@ pub record Locks (names : Names) (text : TextPlace) (locking : Locking) : Type 0
 pub data IsThen (first second : Statement) : Statement → Type 0 where
   then : {p q : _} → IsThen first second (S.Sequence' p first q second)
 
--- one statement that does these one after another: first those of the first half, then the others
+-- one statement that does these one after another, grouped by halves
 pub data IsHalved : Statement → List Statement → Type 0 where
   none : IsHalved S.Skip []
   one : {a : Statement} → IsHalved a (a ∷ [])
@@ -150,19 +150,19 @@ pub data AreEmits (names : Names) : List TextExpression → List Statement → T
   next_emit : {xs : List TextExpression} {emits : List Statement} {e : Expression} (a : TextExpression) → AreEmits names xs emits →
       IsNumber names a.form e → HasRegisters e names.values → AreEmits names (xs ++ a ∷ []) (emits ++ S.Emit e ∷ [])
 
--- the numbers one after another
+-- a statement that emits these numbers one after another
 pub record Emits (names : Names) (xs : List TextExpression) (whole : Statement) : Type 0 where
   pub parts : List Statement
   pub each : AreEmits names xs parts
   pub joined : IsHalved whole parts
 
--- whether it declares names for the rest of its block
+-- whether the action declares names for the rest of its block
 abbrev pub declares : Action → Bool
 declares (A.Let name e) = true
 declares (A.Lock p) = true
 declares action = false
 
--- a statement that declares nothing and has no blocks
+-- an action that declares nothing
 pub data IsAction (names : Names) : Action → Statement → Type 0 where
   assigns : {name : Name} {change : Change} {a : TextExpression} {x : ℕ} {e f : Expression} → stands_for names name ≡ M.Value x →
       IsNumber names a.form e → IsChanged (E.Value x) change e f → HasTemporaries f names.values →
@@ -173,7 +173,7 @@ pub data IsAction (names : Names) : Action → Statement → Type 0 where
   emits : {xs : Vec TextExpression Global} {whole : Statement} → Emits names xs.items whole → IsAction names (A.Emit xs) whole
   requires : {p q : _} {a : TextExpression} {c : Condition} → IsCondition names a.form c →
       IsAction names (A.Require a) (S.If' c p S.Skip q S.Fail)
-  -- the child is locked in the next register for a moment
+  -- the child is first locked in the next node register
   descends : {node : Name} {a : TextExpression} {n : ℕ} {e : Expression} → HasNode names → stands_for names node ≡ M.Node n →
       IsNumber names a.form e → HasRegisters e names.values → IsAction names (A.Descend node a) (S.Descend n e)
   takes : {node from : Name} {n k : ℕ} → stands_for names node ≡ M.Node n → stands_for names from ≡ M.Node k →

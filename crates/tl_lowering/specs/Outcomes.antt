@@ -1,4 +1,4 @@
--- What is held where the paths through a statement lead: behind it, where it fails, and where it breaks out of a loop.
+-- The nodes held at the ends of a statement's paths: after it, where it fails, and where it breaks out of a loop.
 use Rattle.std.specs.Prelude.{ℕ, ◌+◌, max, List, [], ◌∷◌, ◌++◌, Bool, true, false, ◌||◌, Option, Some, None, is_some, option_map, if◌then◌else◌}
 use Rattle.tl_lowering.specs.declared.program.Expression.{Expression}
 use Rattle.tl_lowering.specs.declared.program.Expression.TheVariants as E
@@ -10,7 +10,7 @@ use Rattle.tl_lowering.specs.declared.program.Statement.{Statement}
 use Rattle.tl_lowering.specs.declared.program.Statement.TheVariants as S
 use Rattle.tl_lowering.specs.Sets.{Nodes, with_node, without_node, both, both_of, all_of}
 
--- whether an operation stands in a number, which may fail
+-- whether computing the number may fail: it may if it contains an operation
 abbrev pub may_fail : Expression → Bool
 may_fail (E.Calculated' o p a q b) = true
 may_fail e = false
@@ -27,7 +27,7 @@ locked (P.Node n e) held = with_node held n
 locked (P.Child n p e) held = with_node held n
 locked (P.Pair n k p a b) held = with_node (with_node held n) k
 
--- how many nodes have registers once a place is locked
+-- the number of node registers in use after the place is locked
 abbrev pub nodes_behind : Place → ℕ
 nodes_behind (P.Node n e) = n + 1
 nodes_behind (P.Child n p e) = n + 1
@@ -50,12 +50,12 @@ abbrev pub going_on : Option Nodes → (Nodes → List Nodes) → List Nodes
 going_on None more = []
 going_on (Some held) more = more held
 
--- what is held where failures are handled of what began with these
+-- what is held when the handler begins, where the body began with `held` and fails with `others`
 abbrev pub handled_by : Nodes → Option Nodes → Nodes
 handled_by held None = held
 handled_by held (Some others) = both others held
 
--- what is held behind a loop: it may be left behind a turn, if a turn comes to its end, or before the first where `may_end` says so
+-- what is held after a loop; the loop ends after a turn that reaches its end, at a `break`, and before the first turn if `may_end` is true
 abbrev pub behind_loop : Bool → Option Nodes → List Nodes → Nodes → Option Nodes
 behind_loop may_end turned broken held =
     option_map (λ h. both h held) (both_of (if may_end || is_some turned then Some held else None) (all_of broken))

@@ -1,4 +1,4 @@
--- What was done on the paths that lead to a place: whether one of them entered the tree, and whose children all of them passed.
+-- What was done on the paths to a position: whether one of them entered the tree, and which nodes' children were passed on all of them.
 use Rattle.std.specs.Prelude.{ℕ, ◌≡◌, List, [], ◌∷◌, Bool, true, false, not, ◌&&◌, ◌||◌, Option, Some, None, IfSome, map, nat_eq, slice_set}
 use Rattle.std.specs.List.{range_with_len}
 use Rattle.tl_instr.specs.declared.operand.TheConstants.{NODE_REGISTERS}
@@ -11,13 +11,13 @@ use Rattle.tl_lowering.specs.Sets.{Nodes, none_held, holds, with_node, without_n
 
 -- ---- going down
 
--- whether a node is locked in register n
+-- whether the lock puts a node into register n
 abbrev pub locks_in : Place → ℕ → Bool
 locks_in (P.Node k e) n = nat_eq k n
 locks_in (P.Child k p e) n = nat_eq k n
 locks_in (P.Pair k l p a b) n = nat_eq k n || nat_eq l n
 
--- whether a statement descends from the node that register n has where the statement begins, or takes another one in its place
+-- whether the statement descends from the node that register n holds at its start, or takes another node in its place
 abbrev pub descends_from : Statement → ℕ → Bool
 descends_from S.Skip n = false
 descends_from (S.Sequence' p a q b) n = descends_from a n || descends_from b n
@@ -45,32 +45,32 @@ descend_from (s ∷ ss) n = descends_from s n || descend_from ss n
 
 -- ---- what was done before a place
 
--- Whether the tree was entered by `lock n = node(e)` on one of the paths. The registers of whose node the children were passed on each of them: one was
--- locked, or they were gone through.
+-- Whether some path has entered the tree by `lock n = node(e)`, and the registers of nodes whose children were passed on
+-- every path: a child was locked, or the children were gone through.
 pub record Before : Type 0 where
   pub entered : Bool
   pub passed : Nodes
 
--- where a procedure begins
+-- at the start of a procedure
 abbrev pub nothing_before : Before
 nothing_before = record { entered = false; passed = none_held }
 
--- where paths join
+-- where two paths join
 abbrev pub join : Before → Before → Before
 join b c = record { entered = b.entered || c.entered; passed = both b.passed c.passed }
 
--- once a place is locked: no child was locked yet of a node that comes into a register
+-- after a lock: no child of a newly locked node was passed yet
 abbrev pub behind_lock : Place → Before → Before
 behind_lock (P.Node n e) b = record { entered = true; passed = without_node b.passed n }
 behind_lock (P.Child n p e) b = record b { passed = without_node (with_node b.passed p) n }
 behind_lock (P.Pair n k p a c) b = record b { passed = without_node (without_node (with_node b.passed p) n) k }
 
--- where a place can't be locked: a `break` that no text has stands at the end of a `for each`, where no child is left
+-- where a lock failed: the bare `break` is at the end of a `for each`, when no child is left
 abbrev pub missing : Place → Statement → Before → Before
 missing (P.Child n p e) S.Break b = record b { passed = with_node b.passed p }
 missing place other b = b
 
--- the node through whose children a loop goes with this turn, if it is a `for each`
+-- the node through whose children a loop with this turn goes, if it is a `for each`
 abbrev pub walks : Statement → Option ℕ
 walks (S.Sequence' p (S.Assign x e) q (S.Lock' (P.Child n m i) r a s S.Break)) = Some m
 walks other = None
@@ -78,13 +78,13 @@ walks other = None
 abbrev pub registers : (ℕ → Bool) → Nodes
 registers among = map among (range_with_len 0 NODE_REGISTERS)
 
--- where a loop with this turn begins: it isn't known of a later turn whether children were passed of a node from which the turn descends
+-- at the start of a turn: nodes from which a turn descends don't count as passed, since an earlier turn may have descended
 abbrev pub before_turn : Statement → Before → Before
 before_turn turn b = record b { passed = minus b.passed (registers (descends_from turn)) }
 
 -- ---- along the paths of a statement
 
--- behind a statement, where its failure is handled, and behind the loop that it breaks out of, if a path leads there
+-- what was done after a statement, where its failure is handled, and after the loop that it leaves by `break`; None if no path leads there
 pub record Entered : Type 0 where
   pub after : Option Before
   pub fails : Option Before
@@ -124,7 +124,7 @@ on_entered e = record { after = Some e; fails = None; breaks = None }
 abbrev pub nowhere_entered : Entered
 nowhere_entered = record { after = None; fails = None; breaks = None }
 
--- of a statement before which that was done
+-- the same for a statement before which e was done
 abbrev pub entered : Statement → Before → Entered
 entered S.Skip e = on_entered e
 entered (S.Sequence' p a q b) e = let x = entered a e in then_by x.after x (entered b)
@@ -151,11 +151,12 @@ entered (S.RepeatUpTo' n w p a) e =
     record { after = or_of (Some e) (or_of x.after x.breaks); fails = or_of (Some e) x.fails; breaks = None }
 entered (S.At' offset p a) e = entered a e
 
--- if it comes to its end, a turn doesn't enter the tree
+-- a turn that reaches its end hasn't entered the tree
 abbrev pub KeepsOut : Option Before → Before → Type 0
 KeepsOut end b = IfSome end (λ c. c.entered ≡ true → b.entered ≡ true)
 
--- The tree is entered once on each path, and no turn of a loop enters it. A `for each` stands only where a path leads on which the children weren't passed.
+-- The tree is entered at most once on each path, and not in a turn of a loop that reaches its end. A `for each` begins
+-- only where the children weren't passed on some path.
 abbrev pub EntersOnce : Statement → Before → Type 0
 EntersOnce S.Skip e = Unit {0}
 EntersOnce (S.Sequence' p a q b) e = EntersOnce a e × IfSome (entered a e).after (λ f. EntersOnce b f)

@@ -1,4 +1,4 @@
--- Blocks, procedures and texts, and their core forms.
+-- The core forms of blocks, procedures and texts.
 use Rattle.std.specs.Prelude.{◌≡◌, ◌≤◌, ◌+◌, ℕ, List, [], ◌∷◌, false, Option, Some, None, length, get_or, ℤ, pos, neg_ℤ}
 use Rattle.std.specs.declared.vec.Vec.{Vec}
 use Rattle.std.specs.declared.alloc.Global.{Global}
@@ -35,19 +35,19 @@ use Rattle.tl_lowering.specs.Registers.{behind, HasTemporaries, HasRegisters}
 use Rattle.tl_lowering.specs.Names.{Names, without_meaning, stands_for, IsNew, HasNode, HasValue, HasLoop, in_loop, with_constant, with_field, is_procedure, with_procedure, with_index, with_value, with_values, AreNew, AreFresh, field_named, with_node, with_place}
 use Rattle.tl_lowering.specs.Naming.{IsCalculated, IsNumber, IsCount, IsNot, IsCondition, IsPlace, IsAction, IsThen, IsHalved}
 
--- a statement that stands in the text at that offset
+-- a statement with its offset in the text
 pub data IsAtOffset (offset : ℕ) (a : Statement) : Statement → Type 0 where
   at : {p : _} → IsAtOffset offset a (S.At' offset p a)
 
--- a statement, and what is done if it fails
+-- a statement with the handler of its failure
 pub data IsTried (body handler : Statement) : Statement → Type 0 where
   tried : {p q : _} → IsTried body handler (S.Try' p body q handler)
 
--- control never goes on behind the statement
+-- control never goes on after the statement
 abbrev pub Leaves : Statement → Type 0
 Leaves s = (held : Nodes) → after s held ≡ None
 
--- unless there are too many children, they are locked one after another until none is left
+-- fails if there are more children than turns; otherwise locks the children one after another until none is left
 pub data IsVisiting (index child parent turns : ℕ) (body : Statement) : Statement → Type 0 where
   visiting : {p q r s t u : _} {fits : Condition} {next : Expression} {turn whole : Statement} →
       IsNot (C.Greater (E.Children parent) (E.Constant (pos turns))) fits →
@@ -61,10 +61,10 @@ mutual
     block : {names : Names} {statements : List TextStatement} {parts : List Statement} {whole : Statement} →
         AreStatements names statements parts → IsHalved whole parts → IsBlock names statements whole
 
-  -- behind a `let` or a `lock` the rest of its block becomes its body; its `else` leaves the block
+  -- the rest of the block after a `let` or a `lock` is the body of that declaration; its `else` leaves the block
   pub data AreStatements : Names → List TextStatement → List Statement → Type 0 where
     no_more : {names : Names} → AreStatements names [] []
-    -- nothing stands behind a statement that leaves the block
+    -- no statement follows one that leaves the block
     next : {names : Names} {s : TextStatement} {rest : List TextStatement} {a b : Statement} {parts : List Statement} →
         IsStatement names s.form a → IsAtOffset s.offset a b → AreStatements names rest parts → (Leaves a → rest ≡ []) →
         AreStatements names (s ∷ rest) (b ∷ parts)
@@ -106,13 +106,13 @@ mutual
         {a : Statement} → HasLoop names → IsNumber names number.form e → HasRegisters e names.values →
         behind e names.values + 1 ≤ VALUE_REGISTERS → IsCount names most.form turns → IsBlock (in_loop names) xs.items a →
         IsStatement names (T.Repeat number (Some most) xs) (S.RepeatUpTo' e turns p a)
-    -- the child's place is in the next value register, whether it has a name or not
+    -- the child's index is in the next value register, whether it has a name or not
     for_each : {names : Names} {child parent : Name} {index : Option Name} {most : TextExpression} (xs : Vec TextStatement Global) {n turns : ℕ}
         {a whole : Statement} → HasLoop names → AreFresh names child index → HasNode names → names.values + 2 ≤ VALUE_REGISTERS → stands_for names parent ≡ M.Node n →
         IsCount names most.form turns → IsBlock (with_node (with_index (in_loop names) index) child) xs.items a → IsVisiting names.values names.nodes n turns a whole →
         IsStatement names (T.ForEach child index parent most xs) whole
 
--- what isn't handled by its `else` ends a procedure
+-- a failure that the procedure's `else` doesn't handle ends the procedure
 pub record IsBody (names : Names) (text : TextProcedure) (whole : Statement) : Type 0 where
   pub body : Statement
   pub handler : Statement
@@ -130,7 +130,7 @@ pub record IsProcedure (spellings : List (List ℕ)) (names : Names) (text : Tex
   pub arguments : AreNew names text.arguments.items
   pub body : IsBody (with_values names text.arguments.items) text procedure.body
 
--- the name gets the field of that number
+-- the name, which isn't yet that of a field, becomes the name of the field with this number, from 0 to 7
 pub record IsWithField (names : Names) (name : Name) (number : ℤ) (later : Names) : Type 0 where
   pub fresh : field_named names name ≡ None
   pub field : Field

@@ -14,7 +14,7 @@ use Rattle.tl_lowering.specs.Scopes.{View, meaning_of}
 use Rattle.tl_lowering.specs.Sets.{Nodes, holds, with_node, without_node, both_of, all_of}
 use Rattle.tl_lowering.specs.Sound.{IsReadable, IsWellFormed}
 
--- the names of the child and of its place stand for nothing yet and differ, their registers are the next ones, and the child's parent is held
+-- the names of the child and of its index are new and differ, their registers are the next ones, and the parent is held
 pub record IsVisit (scope : View) (held : Held) (v : Visit) : Type 0 where
   pub name : meaning_of scope v.name.symbol ≡ M.Nothing
   pub index_name : IfSome v.index_name (λ n. (meaning_of scope n.symbol ≡ M.Nothing) × (n.symbol.0 ≢ v.name.symbol.0))
@@ -28,19 +28,19 @@ IsRepetition scope held (R.Times w) = Unit {0}
 IsRepetition scope held (R.UpTo e w) = IsReadable scope.values (nodes_of held) e
 IsRepetition scope held (R.Children v) = IsVisit scope held v
 
--- what is held as a body begins, and how many values and nodes have registers there
+-- what is held when a body begins
 abbrev pub begun : Repetition → Nodes → Nodes
 begun (R.Times w) held = held
 begun (R.UpTo e w) held = held
 begun (R.Children v) held = with_node held v.child
 
--- whose children were passed as a body begins: its node's were, and the child's weren't
+-- the nodes whose children were passed when a body begins: of a `for each`, the parent but not the child
 abbrev pub passed_within : Repetition → Nodes → Nodes
 passed_within (R.Times w) passed = passed
 passed_within (R.UpTo e w) passed = passed
 passed_within (R.Children v) passed = without_node (with_node passed v.parent) v.child
 
--- a loop over the children of a node stands where a path leads on which they weren't passed
+-- a loop over a node's children begins where they weren't passed on some path
 abbrev pub IsUnpassed : Nodes → Repetition → Type 0
 IsUnpassed passed (R.Times w) = Unit {0}
 IsUnpassed passed (R.UpTo e w) = Unit {0}
@@ -51,17 +51,17 @@ more_in (R.Times w) n = n
 more_in (R.UpTo e w) n = n
 more_in (R.Children v) n = n + 1
 
--- a body that is in order, and that holds at its end what was held before it
+-- a body that is well-formed, and at whose end everything that was held before it is held
 pub record IsBody (d m : ℕ) (held : Nodes) (repetition : Repetition) (body : Statement) : Type 0 where
   pub sound : IsWellFormed body (more_in repetition d) (more_in repetition m) (begun repetition held) true
   pub kept : IfSome (keeping held (after body (begun repetition held))) (λ h. h ≡ held)
 
--- and where the paths through it lead
+-- the same, and the flow has its paths
 pub record IsTurn (d m : ℕ) (held : Nodes) (repetition : Repetition) (body : Statement) (flow : Flow) : Type 0 where
   pub turn : IsBody d m held repetition body
   pub paths : paths_of flow ≡ record (outcomes body (begun repetition held)) { after = keeping held (after body (begun repetition held)) }
 
--- a loop over all children: it may be left at each of them and behind the last, and it fails if there are too many
+-- a loop over all children: it may end at a `break` or after the last child, and it fails if there are too many
 pub record IsWalk (d m : ℕ) (held : Nodes) (in_loop : Bool) (child : ℕ) (body whole : Statement) : Type 0 where
   pub sound : IsWellFormed whole d m held in_loop
   pub paths : outcomes whole held ≡ record {

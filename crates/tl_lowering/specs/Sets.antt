@@ -1,4 +1,4 @@
--- Which node registers hold a node: at n of the list, whether register n does.
+-- Sets of node registers: entry n says whether register n holds a node.
 use Rattle.std.specs.Prelude.{ℕ, List, [], ◌∷◌, Bool, true, false, not, ◌&&◌, ◌||◌, Option, Some, None, slice_set, get_or, replicate}
 use Rattle.std.specs.Bool.{beq}
 use Rattle.tl_instr.specs.declared.operand.TheConstants.{NODE_REGISTERS}
@@ -18,25 +18,25 @@ with_node held n = slice_set held n true
 abbrev pub without_node : Nodes → ℕ → Nodes
 without_node held n = slice_set held n false
 
--- what is held in both
+-- the registers that are in both sets
 abbrev pub both : Nodes → Nodes → Nodes
 both [] more = []
 both (x ∷ xs) [] = []
 both (x ∷ xs) (y ∷ ys) = (x && y) ∷ both xs ys
 
--- what is held in the first alone
+-- the registers that are in the first set only
 abbrev pub minus : Nodes → Nodes → Nodes
 minus [] more = []
 minus (x ∷ xs) [] = []
 minus (x ∷ xs) (y ∷ ys) = (x && not y) ∷ minus xs ys
 
--- what is held at two places of which there may be one or none
+-- the intersection of those of the two sets that are given
 abbrev pub both_of : Option Nodes → Option Nodes → Option Nodes
 both_of None other = other
 both_of (Some held) None = Some held
 both_of (Some held) (Some more) = Some (both held more)
 
--- what is held at all of these places, if there is one
+-- the intersection of all these sets, if there are any
 abbrev pub all_of : List Nodes → Option Nodes
 all_of [] = None
 all_of (held ∷ others) = both_of (Some held) (all_of others)

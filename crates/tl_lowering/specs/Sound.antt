@@ -1,4 +1,4 @@
--- Which statements are in order where so many values and nodes have registers and these nodes are held: what they name is there.
+-- When a statement is well-formed for given registers in use and nodes held: everything that it refers to exists.
 use Rattle.std.specs.Prelude.{◌≡◌, ◌≢◌, ℕ, ◌+◌, ◌<◌, ◌≤◌, Bool, true, false, [], Option, IfSome}
 use Rattle.tl_lowering.specs.declared.program.Expression.{Expression}
 use Rattle.tl_lowering.specs.declared.program.Expression.TheVariants as E
@@ -17,7 +17,7 @@ pub use Rattle.tl_lowering.specs.Outcomes.{nodes_behind}
 use Rattle.tl_lowering.specs.Fit.{loops, AllTurn, AllSlots, IsWord, HasRoom}
 use Rattle.tl_lowering.specs.Passing.{nothing_before, EntersOnce}
 
--- each value that is named has one of the first t registers, and each node that is read is held
+-- each value has one of the first t registers, and each node that is read is held
 abbrev pub IsReadable : ℕ → Nodes → Expression → Type 0
 IsReadable t held (E.Constant w) = Unit {0}
 IsReadable t held (E.Value x) = x < t
@@ -32,18 +32,18 @@ IsTestable t held (C.Equal a b) = IsReadable t held a × IsReadable t held b
 IsTestable t held (C.Not' p c) = IsTestable t held c
 IsTestable t held (C.And' p c q d) = IsTestable t held c × IsTestable t held d
 
--- the registers of what is locked are empty, and a child's parent is held
+-- the registers of the nodes to lock are empty, and a child's parent is held
 abbrev pub IsLockable : Place → ℕ → Nodes → Type 0
 IsLockable (P.Node n e) d held = (holds held n ≡ false) × IsReadable d held e
 IsLockable (P.Child n p e) d held = (holds held n ≡ false) × (holds held p ≡ true) × IsReadable d held e
 IsLockable (P.Pair n k p a b) d held =
     (n ≢ k) × (holds held n ≡ false) × (holds held k ≡ false) × (holds held p ≡ true) × IsReadable d held a × IsReadable d held b
 
--- a turn that comes to its end holds what it began with
+-- a turn that reaches its end holds the same nodes as at its start
 abbrev pub KeepsHeld : Option Nodes → Nodes → Type 0
 KeepsHeld end held = IfSome end (λ h. h ≡ held)
 
--- The first d value registers are those of values, and m is a free node register. `in_loop` says whether a loop is around.
+-- The first d value registers hold values, and m is a free node register. `in_loop` says whether there is a loop around.
 abbrev pub IsWellFormed : Statement → ℕ → ℕ → Nodes → Bool → Type 0
 IsWellFormed S.Skip d m held in_loop = Unit {0}
 IsWellFormed (S.Sequence' p a q b) d m held in_loop = IsWellFormed a d m held in_loop × IfSome (after a held) (λ h. IsWellFormed b d m h in_loop)
@@ -69,8 +69,8 @@ IsWellFormed (S.RepeatUpTo' e w p a) d m held in_loop =
     IsReadable d held e × KeepsHeld (after a held) held × IsWellFormed a d m held true
 IsWellFormed (S.At' offset p a) d m held in_loop = IsWellFormed a d m held in_loop
 
--- A procedure's body is in order where its arguments alone are known and nothing is held, and handles each failure. It takes
--- registers that there are, and its loops turn and don't nest too deep.
+-- A procedure's body is well-formed when only the arguments have registers and no node is held. It handles each failure
+-- and enters the tree at most once. Its registers exist, and its loops have a positive count and don't nest too deep.
 pub record IsInOrder (p : Procedure) : Type 0 where
   pub sound : IsWellFormed p.body p.arity 0 none_held false
   pub handled : fails p.body none_held ≡ []

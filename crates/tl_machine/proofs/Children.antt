@@ -1,4 +1,4 @@
--- Children of one node: their numbers, and what is below them.
+-- The children of a node: their numbers, and what is below them.
 use Rattle.std.proofs.Common.{◌≡◌, ◌≢◌, ℕ, zero, suc, ◌+◌, ◌<◌, ◌≤◌, List, [], ◌∷◌, length, get_or, Bool, true, false, refl, sym, subst, arith, ◌⊎◌, inl, inr}
 use Rattle.std.specs.Prelude.{slice_index, nat_eq, cond, drop}
 use Rattle.std.proofs.lemmas.Bool.{cases_lt, eqb-true, eqb-false}
@@ -35,7 +35,7 @@ module _ (parents : List ℕ) (tree : IsTree parents) where
   pub is_kid : (x n : ℕ) → n < length (kids parents x) → IsKid parents x (kid x n)
   is_kid x n lt = IsKid-kids parents x n lt
 
-  -- a child's number says which
+  -- different children have different numbers
   pub same_number : (x m n : ℕ) → m < length (kids parents x) → n < length (kids parents x) → kid x m ≡ kid x n → m ≡ n
   same_number x m n a b e =
       elim (cases_lt m n) [
@@ -57,7 +57,7 @@ module _ (parents : List ℕ) (tree : IsTree parents) where
   pub above_kid : (a x n : ℕ) → n < length (kids parents x) → Above parents a x → Above parents a (kid x n)
   above_kid a x n lt above = below (subst (Above parents a) (sym (is_kid x n lt).parent_is) above)
 
-  -- what is strictly above a child is above its parent
+  -- a node strictly above a child is above its parent
   pub above_parent : (a x n : ℕ) → n < length (kids parents x) → Above parents a (kid x n) → a ≢ kid x n → Above parents a x
   above_parent a x n lt above ne = subst (Above parents a) (is_kid x n lt).parent_is (Above-parent parents a (kid x n) (λ e. ne (sym e)) above)
 
@@ -65,13 +65,13 @@ module _ (parents : List ℕ) (tree : IsTree parents) where
   above_trans a b c f itself = f
   above_trans a b c f (below g) = below (above_trans a b (parent parents c) f g)
 
-  -- of two nodes above one, one is above the other
+  -- of two nodes above the same node, one is above the other
   pub chain : (a b c : ℕ) → Above parents a c → Above parents b c → Above parents a b ⊎ Above parents b a
   chain a b c itself g = inr g
   chain a b c (below f) itself = inl (below f)
   chain a b c (below f) (below g) = chain a b (parent parents c) f g
 
-  -- no child is above another
+  -- no child is above another child of the same node
   pub siblings : (x m n : ℕ) → m < length (kids parents x) → n < length (kids parents x) → Above parents (kid x m) (kid x n) → m ≡ n
   siblings x m n a b above = same_number x m n a b (by (nat_eq (kid x m) (kid x n)) refl)
     where
@@ -83,7 +83,7 @@ module _ (parents : List ℕ) (tree : IsTree parents) where
           let lt = kid_after x m a in
           absurd (omega arith)
 
-  -- below two children of one node is nothing
+  -- no node is below two children of the same node
   pub one_family : (x m n c : ℕ) → m < length (kids parents x) → n < length (kids parents x) → Above parents (kid x m) c → Above parents (kid x n) c → m ≡ n
   one_family x m n c a b f g =
       elim (chain (kid x m) (kid x n) c f g) [

@@ -1,4 +1,4 @@
--- One call does on records with zeros behind them what it does without.
+-- A call does the same on records with zeros after them.
 use Rattle.std.proofs.Common.{◌≡◌, ℕ, zero, suc, ◌+◌, ◌<◌, List, [], ◌∷◌, length, get_or, map, replicate, Option, Some, None, Bool, true, false, refl, sym, ap, ◌∙◌, subst, arith, inl, inr}
 use Rattle.std.specs.Prelude.{slice_get, slice_set, slice_index, nat_eq, nat_lt, ℤ, pos}
 use Rattle.std.proofs.lemmas.Bool.{cases_eq}
@@ -27,7 +27,7 @@ use Rattle.tl_machine.proofs.Children.{is_kid}
 use Rattle.tl_machine.proofs.LockFreeEnd.{numbered_in, open_kid_in}
 
 module _ (width n : ℕ) (parents : List ℕ) where
-  -- as many records as nodes, each of that width, and each held node is one of them
+  -- there is one record of this width for each node, and each held node is in the tree
   record Wide (nodes : List (Option Held)) (t : Records) : Type 0 where
     pub size : length t ≡ length parents
     pub wide : (x : ℕ) → x < length t → length (record_at t x) ≡ width
@@ -36,7 +36,7 @@ module _ (width n : ℕ) (parents : List ℕ) where
   abbrev wider : State → State
   wider s = record s { records = map (with_zeros n) s.records }
 
-  -- the same run, with zeros behind each record
+  -- the runs are the same, with zeros after each record
   data Widens : Run → Run → Type 0 where
     both_at : (p : ℕ) (s : State) → Wide s.nodes s.records → Widens (At p s) (At p (wider s))
     both_ended : (s : State) → Wide s.nodes s.records → Widens (Ended s) (Ended (wider s))
@@ -54,7 +54,7 @@ module _ (width n : ℕ) (parents : List ℕ) where
   in_tree : (nodes : List (Option Held)) (t : Records) (j : ℕ) (h : Held) → Wide nodes t → get_or nodes j None ≡ Some h → h.node < length t
   in_tree nodes t j h w at = let a = w.are_in j h at in let b = w.size in omega arith
 
-  -- other registers, each with a node of the tree
+  -- other registers that hold nodes of the tree
   with_nodes : (nodes new : List (Option Held)) (t : Records) → Wide nodes t → ((j : ℕ) (h : Held) → get_or new j None ≡ Some h → h.node < length parents) → Wide new t
   with_nodes nodes new t w are_in = record { size = w.size; wide = w.wide; are_in = are_in }
 
@@ -116,7 +116,7 @@ module _ (width n : ℕ) (parents : List ℕ) where
       by (Some x) e = lock_widens p m x s (let lt = numbered_in count z x e in omega arith) w
       by None e = both did.Plain l s tt w
 
-  -- what is done with a held node
+  -- an action on a held node
   holding_widens : (p m : ℕ) (s : State) (go : Held → Step) (go' : Held → Step) → Wide s.nodes s.records
       → ((h : Held) → get_or s.nodes m None ≡ Some h → WidensStep (go h) (go' h)) → WidensStep (holding p s (node s m) go) (holding p (wider s) (node s m) go')
   holding_widens p m s go go' w with_held = by (node s m) refl
@@ -320,7 +320,7 @@ module _ (width n : ℕ) (parents : List ℕ) (tree : IsTree parents) (code : Li
 
 -- ---- codes of the first version
 
--- they name narrow fields alone
+-- codes of the first version use only narrow fields
 pub names_narrow : (c : CodeValue) → IsCode c → c.version ≡ One → NamesBelow narrow_field_count c.instrs
 names_narrow c valid first p i f at named =
     let is : IsInstr c.version (length c.instrs) (get_or c.instrs p i) = valid.instrs p i (slice_get_within c.instrs p i at) in

@@ -52,11 +52,11 @@ start_values args t few =
     ∙ ap (λ n. length args + n) (length-replicate (VALUE_REGISTERS - length args) (pos 0))
     ∙ omega arith
 
--- what a call comes to from what its statement comes to
+-- the result of a call, given the result of its statement
 abbrev call_of : Done → Done
 call_of d = if is_on d.outcome then d else after_events d.events (leave none_held d.state)
 
--- an accepted procedure's code, with labels in the place of positions, is one that runs
+-- the code of an accepted procedure, with labels in place of positions, satisfies `Runs`
 pub accepted_runs : (code : List Instr) (c : CodeValue) → IsCode c → Acceptable c.instrs → c.instrs ≡ at_positions code → Runs code
 accepted_runs code c valid accepted is =
     let long : length c.instrs ≡ length code = ap length is ∙ length-map code (aimed (length code)) in record {

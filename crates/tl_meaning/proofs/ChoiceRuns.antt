@@ -39,7 +39,7 @@ use Rattle.tl_meaning.proofs.WayRuns.{joined, second_runs, first_runs}
 pub testable_there : (d : Condition) {t : ℕ} {h : Nodes} {s u : State} → Mirrors t h s u → IsTestable t h d → IsTestable t (held_at u) d
 testable_there d {t} {h} {s} {u} a r = subst (λ g. IsTestable t g d) (sym (ap (map is_some) a.kept.nodes ∙ a.held)) r
 
--- a condition of which no operation is part doesn't fail
+-- a condition whose numbers have no operations doesn't fail
 fails_either : (parents : List ℕ) (f : ℤ → ℤ → Option Bool) (a b : Expression) (d : ℕ) (s : State) → IsReadable d (held_at s) a → IsReadable d (held_at s) b → ((x y : ℤ) → f x y ≡ None → ⊥)
     → with_both f (number parents a s) (number parents b s) ≡ None → may_fail a || may_fail b ≡ true
 fails_either parents f a b d s ra rb total e = by (number parents a s) refl (number parents b s) refl e
@@ -67,7 +67,7 @@ condition_may_fail_at parents (C.And' p a q b) d s r e =
     by f g (Some true) i y j e = or_right (condition_may_fail a) (condition_may_fail b) (g (j ∙ e))
     by f g (Some false) i y j e = cc
 
--- where a statement leads that needs no code stands no farther than the labels of its site
+-- the label of a statement without code is at most the labels of its site
 pub direct_bound : {c : List Instr} {fs : List Frame} (b : Statement) (held : Nodes) (x : Site) (on label : ℕ) → IsSite c fs x on → direct b held x ≡ Some label → label ≤ on
 direct_bound S.Fail held x on label site e = let same : x.pad held ≡ label = cc in subst (λ l. l ≤ on) same (site.pads held)
 direct_bound S.Break held x on label site e = by x.exit refl e
@@ -82,7 +82,7 @@ direct_bound S.Break held x on label site e = by x.exit refl e
 direct_bound (S.At' offset p a) held x on label site e = direct_bound a held x on label site e
 direct_bound b held x on label site e = cc
 
--- a second way's code and start, from the end
+-- bounds for the code and the label of a second way
 pub second_bounds : {c : List Instr} {fs : List Frame} (b : Statement) (held : Nodes) (x : Site) (kept : Nodes) (k : List Instr) → IsSite c fs x (length k) → (to : Option ℕ) → direct b held x ≡ to
     → (length k ≤ length (second_by to (is_skip b) (after b held) kept (statement_code b held x) k).code)
     × ((second_by to (is_skip b) (after b held) kept (statement_code b held x) k).label ≤ length (second_by to (is_skip b) (after b held) kept (statement_code b held x) k).code)
@@ -92,7 +92,7 @@ second_bounds b held x kept k site None e = (tail_length (tail_of_stretch (secon
 pub agrees_fewer : {d e : ℕ} {h : Nodes} {s u : State} → d ≤ e → Mirrors e h s u → Mirrors d h s u
 agrees_fewer le a = record { kept = kept_below le a.kept; values = a.values; nodes = a.nodes; held = a.held }
 
--- the site with so many values
+-- the site with n values
 abbrev pub with_values : Site → ℕ → Site
 with_values x n = record x { values = n }
 
@@ -100,7 +100,7 @@ pub site_of_values : {c : List Instr} {fs : List Frame} {x : Site} {on : ℕ} (n
 site_of_values n site = record { inside = site.inside; pads = site.pads; exits = site.exits; sizes = site.sizes }
 
 module _ (c : List Instr) (parents : List ℕ) where
-  -- behind a statement in which more values have registers
+  -- after a statement in which more values have registers
   pub fewer_values : (A : Option Nodes) (F B : List Nodes) (fs : List Frame) (x : Site) (n on : ℕ) → x.values ≤ n → (from : Run) (o : Ending) (s : State) (events : List Action)
       → LeadsBy A F B c parents fs (with_values x n) on from o s events → LeadsBy A F B c parents fs x on from o s events
   fewer_values A F B fs x n on le from On s events l = (l.0, l.1, l.2, l.3, agrees_fewer le l.4)
@@ -109,7 +109,7 @@ module _ (c : List Instr) (parents : List ℕ) where
   fewer_values A F B fs x n on le from Returns s events l = l
 
 module _ {c : List Instr} (parents : List ℕ) (ready : Runs c) where
-  -- where a value's number is made
+  -- computing the number of a value
   valued : (v : ℕ) (e : Expression) (held : Nodes) (x : Site) (f : ℕ) (k : List Instr) (fs : List Frame) (s u : State) → Tail c (into_code e v v f k) → f ≤ length k → IsInside c fs (length k)
       → v ≡ x.values → IsReadable x.values held e → Mirrors x.values held s u
       → NumberLeads c parents fs v x.values f (length k) (from_label c parents fs (length (into_code e v v f k)) u) u (number parents e s)
@@ -125,7 +125,7 @@ module _ {c : List Instr} (parents : List ℕ) (ready : Runs c) where
       by (inl e) = absurd (ne e)
       by (inr less) = omega (arith, same)
 
-  -- the code behind a value's number
+  -- the code after a value's number
   abbrev pub let_rest : Statement → Nodes → List Instr → List Instr
   let_rest a held k = joining_code (after a held) (held_behind (after a held)) false (length k) k
 
@@ -159,7 +159,7 @@ module _ {c : List Instr} (parents : List ℕ) (ready : Runs c) where
       let wide = widened c parents (after a held) (fails a held) (breaks a held) (here_if (may_fail e) held ++ fails a held) (breaks a held) fs x (length k) there (λ h m. in_right h (here_if (may_fail e) held) (fails a held) m) (λ h m. m) all.outcome all.state all.events fewer in
       prefixed c parents (after a held) (here_if (may_fail e) held ++ fails a held) (breaks a held) fs x (length k) from there [] l.1 all.outcome all.state all.events wide
 
-  -- a value, in the statement behind it
+  -- a value, and the statement in which it is declared
   pub let_runs : (v : ℕ) (e : Expression) (a : Statement) → StatementRuns parents ready a → (held : Nodes) (x : Site) (k : List Instr) (fs : List Frame) (s u : State)
       → Tail c (into_code e v v (x.pad held) (let_body a v held x k)) → IsSite c fs x (length k)
       → v ≡ x.values → IsReadable x.values held e → IsWellFormed a (x.values + 1) x.nodes held (is_some x.exit) → Mirrors x.values held s u
@@ -187,7 +187,7 @@ module _ {c : List Instr} (parents : List ℕ) (ready : Runs c) where
       let rest = joining_code (after a held) kept second.jumps (length k) second.code in
       tail_further (tail_of_stretch (statement_stretch a held y rest)) (tail_of_stretch (joining_stretch (after a held) kept second.jumps (length k) second.code))
 
-  -- one of two ways, by a choice that was made at a place
+  -- one of two ways, after a choice between them
   pub way_runs : (a b : Statement) → StatementRuns parents ready a → StatementRuns parents ready b → (held hb : Nodes) (y x : Site) (whole : Option Nodes) → (kept : Nodes) → Keeps (after a held) whole kept → Keeps (after b hb) whole kept
       → (k : List Instr) (fs : List Frame) → Tail c (first_at a held y kept (second_at b hb x kept k) k) → IsSite c fs x (length k) → IsSite c fs y (length k)
       → IsWellFormed a y.values y.nodes held (is_some y.exit) → IsWellFormed b x.values x.nodes hb (is_some x.exit)

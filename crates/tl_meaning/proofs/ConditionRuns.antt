@@ -1,4 +1,4 @@
--- The code of a condition leads to its label where the condition is as wanted, and on where it isn't.
+-- The code of a condition goes to its label if the condition has the wanted value, and otherwise on.
 use Rattle.std.proofs.Common.{◌≡◌, ℕ, suc, ◌-◌, ◌<◌, ◌≤◌, List, [], ◌∷◌, length, map, Option, Some, None, Bool, true, false, not, is_some, if◌then◌else◌, refl, sym, ap, ap₂, ◌∙◌, subst, arith}
 use Rattle.std.specs.Prelude.{ℤ}
 use Rattle.std.specs.Int.Signed.{lt_z}
@@ -35,14 +35,14 @@ same_truth parents (C.Equal a b) t held s u r k = ap₂ (with_both (λ x y. Some
 same_truth parents (C.Not' p d) t held s u r k = ap opposite (same_truth parents d t held s u r k)
 same_truth parents (C.And' p d q e) t held s u r k = ap₂ both_true (same_truth parents d t held s u r.0 k) (same_truth parents e t held s u r.1 k)
 
--- an instruction that jumps where a test of two registers holds
+-- an instruction that jumps if a test of two registers is true
 record Jumps (parents : List ℕ) (jump : ℕ → ℕ → ℕ → Instr) (test : ℤ → ℤ → Bool) : Type 0 where
   kinds : (x y l : ℕ) → kind (jump x y l) ≡ Acts
   acts : (n x y l : ℕ) → kind (aimed n (jump x y l)) ≡ Acts
   does : (n x y l p : ℕ) (s : State) → effect parents (aimed n (jump x y l)) p s ≡ jump_if (test (value s x) (value s y)) p (n - l) s
 
 module _ {c : List Instr} (parents : List ℕ) (ready : Runs c) (fs : List Frame) where
-  -- where the code of a condition comes to that stands before k, from this run and state
+  -- where the code of a condition in front of k leads, from this run and state
   abbrev pub BranchEnds : Bool → ℕ → ℕ → ℕ → ℕ → Run → State → Option Bool → Type 0
   BranchEnds sense label t f k from s b = ConditionLeads c parents fs sense label t f k from s b
 
@@ -78,7 +78,7 @@ module _ {c : List Instr} (parents : List ℕ) (ready : Runs c) (fs : List Frame
       (goes_to_label parents ready fs (I.Jump (target_of label)) k s s did.Plain label (tail_further tail (tail_behind _ j)) inside refl le refl)
 
   module _ (jump : ℕ → ℕ → ℕ → Instr) (test : ℤ → ℤ → Bool) (jumps : Jumps parents jump test) (sense : Bool) (label t f : ℕ) (k : List Instr) (le : f ≤ length k) (le_label : label ≤ length k) (inside : IsInside c fs (length k)) where
-    -- once both operands are made
+    -- after both operands are computed
     then_jump : (x v : ℕ) (b : Expression) (s : State) (m : ℤ) → Tail c (jump_code (jump x (register_of b v)) sense label k) → t ≤ v → x < v → value s x ≡ m
         → (from : Run) (n : Option ℤ) → OperandEnds parents ready fs b v f (jump_code (jump x (register_of b v)) sense label k) from s n
         → BranchEnds sense label t f (length k) from s (with_both (λ x y. Some (test x y)) (Some m) n)
@@ -130,7 +130,7 @@ module _ {c : List Instr} (parents : List ℕ) (ready : Runs c) (fs : List Frame
   equal : Jumps parents (λ x y l. I.JumpIfEqual x y l) int_eq
   equal = record { kinds = λ x y l. refl; acts = λ n x y l. refl; does = λ n x y l p s. refl }
 
-  -- the opposite condition leads to the same places by the other sense
+  -- the negated condition leads to the same labels with `sense` negated
   turned : (sense : Bool) (label t f k : ℕ) (from : Run) (s : State) (b : Option Bool) → BranchEnds (not sense) label t f k from s b → BranchEnds sense label t f k from s (opposite b)
   turned sense label t f k from s None ends = ends
   turned true label t f k from s (Some true) ends = ends
@@ -138,7 +138,7 @@ module _ {c : List Instr} (parents : List ℕ) (ready : Runs c) (fs : List Frame
   turned false label t f k from s (Some true) ends = ends
   turned false label t f k from s (Some false) ends = ends
 
-  -- behind the first of two parts
+  -- after the first of two parts
   then_part : (sense : Bool) (label t f : ℕ) (k : List Instr) (d : Condition) (s : State) → BranchRuns d → Tail c (branch_code d sense label t f k) → f ≤ length k → label ≤ length k → IsInside c fs (length k)
       → IsTestable t (held_at s) d
       → (from : Run) (b : Option Bool) → BranchEnds false (if sense then length k else label) t f (length (branch_code d sense label t f k)) from s b

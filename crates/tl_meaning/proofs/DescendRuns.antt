@@ -1,4 +1,4 @@
--- A register goes down to a child.
+-- A register that moves to a child.
 use Rattle.std.proofs.Common.{◌≡◌, ◌≢◌, ℕ, zero, suc, ◌+◌, ◌<◌, ◌≤◌, List, [], ◌∷◌, length, get_or, true, false, Option, Some, None, refl, sym, ap, ◌∙◌, subst, arith, inl}
 use Rattle.std.specs.Prelude.{slice_set, slice_index, ℤ}
 use Rattle.std.proofs.lemmas.List.{length-set, get_or-set_same, get_or-set_other, set-set}
@@ -29,7 +29,7 @@ use Rattle.tl_meaning.proofs.StatementRuns.{agrees_kept, readable_there, number_
 use Rattle.tl_meaning.proofs.SimpleRuns.{moves}
 use Rattle.tl_meaning.proofs.PlaceRuns.{held_again, KidLeads, child_runs}
 
--- what a register held for a moment is gone
+-- setting an empty register and clearing it again changes nothing
 moment : (l : List (Option Held)) (m : ℕ) (b : Option Held) → get_or l m None ≡ None → slice_set (slice_set l m b) m None ≡ l
 moment [] m b e = refl
 moment (y ∷ l) zero b e = ap (λ x. x ∷ l) (sym e)

@@ -1,4 +1,4 @@
--- The code of every statement does what it means.
+-- The code of every statement does what the statement means.
 use Rattle.std.proofs.Common.{ℕ, List, [], ◌∷◌, length, true, false, Some, None, option_map, if◌then◌else◌, refl, sym, subst}
 use Rattle.tl_instr.specs.declared.instr.Instr.{Instr}
 use Rattle.tl_machine.specs.Alone.{with_value}

@@ -38,7 +38,7 @@ direct_after (S.At' offset p a) held x label e = direct_after a held x label e
 direct_after b held x label e = cc
 
 module _ (c : List Instr) (parents : List ℕ) where
-  -- where nothing is to be freed behind a way
+  -- nothing is freed after a way
   unjoined : (A : Option Nodes) (F B : List Nodes) (fs : List Frame) (x : Site) (on : ℕ) (from : Run) (o : Ending) (s : State) (events : List Action) → LeadsBy A F B c parents fs x on from o s events
       → StatementLeads A F B c parents fs x on from (leaving A (record { outcome = o; state = s; events = events }))
   unjoined A F B fs x on from Fails s events l = l

@@ -1,4 +1,4 @@
--- What is left held.
+-- Freeing what isn't kept.
 use Rattle.std.proofs.Common.{◌≡◌, ◌≢◌, ℕ, zero, suc, ◌<◌, ◌≤◌, List, [], ◌∷◌, Option, Some, None, false, refl, ap, ◌∙◌, arith, inl, inr, ◌⊎◌}
 use Rattle.std.specs.Prelude.{ℤ, get_or, slice_set}
 use Rattle.std.proofs.lemmas.List.{get_or-replicate, get_or-set_other}

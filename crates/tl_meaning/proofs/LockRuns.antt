@@ -1,4 +1,4 @@
--- A statement in which a place is locked.
+-- A statement that locks a place.
 use Rattle.std.proofs.Common.{ℕ, ◌≤◌, List, ◌++◌, length, Option, is_some, option_map, if◌then◌else◌, refl, sym, subst, arith}
 use Rattle.tl_instr.specs.declared.instr.Instr.{Instr}
 use Rattle.tl_tree_locking.specs.declared.action.Action.{Action}
@@ -104,7 +104,7 @@ module _ {c : List Instr} (parents : List ℕ) (ready : Runs c) (place : Place) 
         let long = tail_length (first_tail parents ready a then_held inner (held_behind whole) second k) in
         omega (arith, le, long)
 
--- the code of a place leads on where the place is locked, and else to the label
+-- the code of a place goes on if the place is locked, and otherwise to the label
 place_runs : {c : List Instr} (parents : List ℕ) (ready : Runs c) (fs : List Frame) (place : Place) (t f : ℕ) (held : Nodes) (rest : List Instr) (s u : State)
     → Tail c (place_code place t f rest) → f ≤ length rest → IsInside c fs (length rest) → IsLockable place t held → Mirrors t held s u
     → PlaceLeads parents ready fs t held (locked place held) f (length rest) (from_label c parents fs (length (place_code place t f rest)) u) (lock_place parents place s).outcome (lock_place parents place s).state (lock_place parents place s).events

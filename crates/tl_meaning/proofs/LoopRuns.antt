@@ -54,7 +54,7 @@ module _ {c : List Instr} (parents : List ℕ) (ready : Runs c) (a : Statement) 
     same_held : (h : Nodes) → after a held ≡ Some h → h ≡ held
     same_held h e = subst (λ o. KeepsHeld o held) e keeps
 
-    -- behind a turn
+    -- after a turn
     behind_turn : (more : ℕ)
         → ((s u : State) → Mirrors inner.values held s u → (m : ℕ) → suc m ≡ more → StatementLeads (after a held) (fails a held) (breaks a held) c parents fs inner (length rest) (from_label c parents (frame c body rest m ∷ fs) (length body) u) (turns more (behaviour parents a) s))
         → (from : Run) (o : Ending) (s : State) (events : List Action) → LeadsBy (after a held) (fails a held) (breaks a held) c parents (frame c body rest more ∷ fs) inner (suc (length rest)) from o s events
@@ -75,7 +75,7 @@ module _ {c : List Instr} (parents : List ℕ) (ready : Runs c) (a : Statement) 
         (subst (λ es. Leads from es there) (append-nil events) (and_on l.3 (closes_again parents ready fs body rest ends m l.0 long))) d.outcome d.state d.events
         (again s l.0 agrees m refl)
 
-    -- all turns from the start of one on
+    -- all turns, from the start of one on
     pub turns_run : (more : ℕ) (s u : State) → Mirrors inner.values held s u
         → StatementLeads (after a held) (fails a held) (breaks a held) c parents fs inner (length rest) (from_label c parents (frame c body rest more ∷ fs) (length body) u) (turns (suc more) (behaviour parents a) s)
     turns_run zero s u agrees =
@@ -120,7 +120,7 @@ module _ {c : List Instr} (parents : List ℕ) (ready : Runs c) (a : Statement) 
   on_by true e keeps site from s u events tail leads agrees =
       joined parents ready (Some held) whole (held_behind whole) keeps (fails a held) [] x false 0 k fs tail site.inside (omega arith) from On s events (u, held, refl, leads, agrees)
 
-  -- behind the turns
+  -- after the turns
   finish : Tail c behind_end → IsSite c fs x (length k) → length held ≡ NODE_REGISTERS → KeepsHeld (after a held) held → AnySized whole
       → (from : Run) (o : Ending) (s : State) (events : List Action) → LeadsBy (after a held) (fails a held) (breaks a held) c parents fs inside (length behind_end) from o s events
       → StatementLeads whole (fails a held) [] c parents fs x (length k) from (leaving whole (broken (record { outcome = o; state = s; events = events })))
@@ -171,7 +171,7 @@ module _ {c : List Instr} (parents : List ℕ) (ready : Runs c) (a : Statement) 
         sizes = λ e is. let same : out ≡ e = cc in subst (λ (q : Exit). length q.held ≡ NODE_REGISTERS) same (kept_size sized);
       }
 
-  -- a loop that makes so many turns, from the instruction that opens it
+  -- a loop with more + 1 turns, from the instruction that opens it
   pub loop_runs : StatementRuns parents ready a → IsSite c fs x (length k) → KeepsHeld (after a held) held → IsWellFormed a x.values x.nodes held true → AnySized whole
       → (i : Instr) (w more : ℕ) (s u : State) → Tail c (i ∷ loop_code (statement_code a held) leaves held (held_behind whole) x k) → kind i ≡ Opens w → kind (aimed (length c) i) ≡ Opens w → turn_count (aimed (length c) i) w u.values ≡ suc more → Mirrors x.values held s u
       → StatementLeads whole (fails a held) [] c parents fs x (length k) (from_label c parents fs (suc (length (loop_code (statement_code a held) leaves held (held_behind whole) x k))) u) (leaving whole (broken (turns (suc more) (behaviour parents a) s)))

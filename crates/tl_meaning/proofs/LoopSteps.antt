@@ -1,4 +1,4 @@
--- Into a loop, from turn to turn, and out of it.
+-- Entering a loop, going from turn to turn, and leaving it.
 use Rattle.std.proofs.Common.{◌≡◌, ℕ, suc, ◌-◌, ◌<◌, ◌≤◌, List, [], ◌∷◌, length, refl, ap, ◌∙◌, arith}
 use Rattle.tl_instr.specs.declared.instr.Instr.{Instr}
 use Rattle.tl_instr.specs.declared.instr.Instr.TheVariants as I
@@ -15,7 +15,7 @@ use Rattle.tl_compiler.proofs.TailLemmas.{tail_length, fetch}
 use Rattle.tl_meaning.proofs.Steps.{onward, before, goes}
 use Rattle.tl_compiler.proofs.Stretches.{Stretch, tail_of_stretch, loop_here}
 
--- the loop whose body is as long as this, with what stands behind its end and the turns left
+-- the frame of a loop with this body, the code after its end, and the turns left
 abbrev pub frame : List Instr → List Instr → List Instr → ℕ → Frame
 frame c body k more = record { opening = length c - suc (length body); close = length c - suc (length k); more = more }
 
@@ -26,7 +26,7 @@ behind_end : (n k l : ℕ) → suc k ≤ n → l ≤ k → n - suc k < n - l
 behind_end n k l long le = omega arith
 
 module _ {c : List Instr} (parents : List ℕ) (ready : Runs c) (fs : List Frame) (body k : List Instr) (ends : Stretch body (I.End ∷ k)) where
-  -- a loop of at least one turn
+  -- a loop with at least one turn
   pub opens : (i : Instr) (w more : ℕ) (s : State) → Tail c (i ∷ body) → kind i ≡ Opens w → kind (aimed (length c) i) ≡ Opens w → IsInside c fs (length body) → turn_count (aimed (length c) i) w s.values ≡ suc more
       → Leads (from_label c parents fs (suc (length body)) s) [] (from_label c parents (frame c body k more ∷ fs) (length body) s)
   opens i w more s tail is is_aimed inside turns =
@@ -36,7 +36,7 @@ module _ {c : List Instr} (parents : List ℕ) (ready : Runs c) (fs : List Frame
       (fetch i body tail) is_aimed (loop_here i w body k tail is ends) fs more (before c fs (length body) (tail_length tail) inside) turns
       ∙ ap (λ p. Then did.Plain (left (at_positions c) parents (f ∷ fs) p s)) (onward (length c) (length body) (tail_length tail)))
 
-  -- a loop of no turn
+  -- a loop without turns
   pub skips : (i : Instr) (w : ℕ) (s : State) → Tail c (i ∷ body) → kind i ≡ Opens w → kind (aimed (length c) i) ≡ Opens w → IsInside c fs (length body) → turn_count (aimed (length c) i) w s.values ≡ 0
       → Leads (from_label c parents fs (suc (length body)) s) [] (from_label c parents fs (length k) s)
   skips i w s tail is is_aimed inside turns =
@@ -60,6 +60,6 @@ module _ {c : List Instr} (parents : List ℕ) (ready : Runs c) (fs : List Frame
       (left_closes_again (at_positions c) parents (goes parents ready) (length c - suc (length body)) (length c - suc (length k)) more fs s
       ∙ ap (λ p. Then did.Plain (left (at_positions c) parents (frame c body k more ∷ fs) p s)) (onward (length c) (length body) long))
 
-  -- a label behind the loop is out of it
+  -- a label after the loop is outside it
   pub out_of : (more label : ℕ) (s : State) → suc (length k) ≤ length c → label ≤ length k → from_label c parents (frame c body k more ∷ fs) label s ≡ from_label c parents fs label s
   out_of more label s long le = left_out (at_positions c) parents (goes parents ready) (frame c body k more) fs (length c - label) s (behind_end (length c) (length k) label long le)

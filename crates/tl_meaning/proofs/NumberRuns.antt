@@ -1,4 +1,4 @@
--- The code of a number leaves the number in its register, or leads to where a failure leads.
+-- The code of a number puts the number into its register, or goes to the label of a failure.
 use Rattle.std.proofs.Common.{◌≡◌, ℕ, suc, ◌+◌, ◌-◌, ◌<◌, ◌≤◌, List, [], ◌∷◌, length, map, get_or, Option, Some, None, is_some, refl, sym, ap, ap₂, ◌∙◌, subst, arith}
 use Rattle.std.specs.Prelude.{ℤ, pos}
 use Rattle.std.proofs.lemmas.List.{get_or-set_same, get_or-set_other, length-set}
@@ -63,7 +63,7 @@ kept_on le k m = record {
 pub kept_below : {t u : ℕ} {a b : State} → t ≤ u → Kept u a b → Kept t a b
 kept_below le k = record { values = λ v lt. k.values v (omega arith); nodes = k.nodes; records = k.records; size = k.size }
 
--- a register that isn't among them was given a number
+-- setting another register keeps the first t values
 pub kept_given : {x : ℕ} {n : ℤ} {t : ℕ} {a b : State} → t ≤ x → Given x n t a b → Kept t a b
 kept_given le g = record { values = λ v lt. g.values v lt (λ e. absurd (omega (arith, e))); nodes = g.nodes; records = g.records; size = g.size }
 
@@ -85,7 +85,7 @@ given_on le k g = record {
   size = g.size;
 }
 
--- the register of an operand has its number, and the first t values are as they were
+-- the register of an operand has its number, and the first t values haven't changed
 pub record Operand (e : Expression) (t : ℕ) (n : ℤ) (s u : State) : Type 0 where
   pub here : value u (register_of e t) ≡ n
   pub kept : Kept t s u
@@ -137,7 +137,7 @@ into_range {c} parents ready (E.Calculated' o p a q b) x t f k tail =
     (in_range parents ready i k (tail_further (tail_further tail (operand_tail a t f rest)) (operand_tail b (behind a t) f (i ∷ k))))
 
 module _ {c : List Instr} (parents : List ℕ) (ready : Runs c) (fs : List Frame) where
-  -- where the code of a number comes to that stands before k, from this run and state
+  -- where the code of a number in front of k leads, from this run and state
   abbrev pub IntoEnds : ℕ → ℕ → ℕ → List Instr → Run → State → Option ℤ → Type 0
   IntoEnds x t f k from s n = NumberLeads c parents fs x t f (length k) from s n
 
@@ -184,13 +184,13 @@ module _ {c : List Instr} (parents : List ℕ) (ready : Runs c) (fs : List Frame
     given x n t s (calculation_range (length c) o x y z f (in_range parents ready (calculation o x y z f) k tail)) size,
   )
 
-  -- where the code goes on from a place that others led to
+  -- the code goes on from a position that other code has reached
   from_there : (x t f : ℕ) (k : List Instr) (from : Run) (label : ℕ) (s u : State) → Leads from [] (from_label c parents fs label u) → Kept t s u
       → (n : Option ℤ) → IntoEnds x t f k (from_label c parents fs label u) u n → IntoEnds x t f k from s n
   from_there x t f k from label s u leads kept None ends = (ends.0, and_on leads ends.1, kept_on (omega arith) kept ends.2)
   from_there x t f k from label s u leads kept (Some n) ends = (ends.0, and_on leads ends.1, given_on (omega arith) kept ends.2)
 
-  -- once the second operand is made
+  -- after the second operand is computed
   then_last : (o : Operator) (x y t v f : ℕ) (b : Expression) (k : List Instr) (s : State) (m : ℤ) → Tail c (calculation o x y (register_of b v) f ∷ k) → f ≤ length k → IsInside c fs (length k)
       → t ≤ v → y < v → value s y ≡ m
       → (from : Run) (n : Option ℤ) → OperandEnds b v f (calculation o x y (register_of b v) f ∷ k) from s n
@@ -204,7 +204,7 @@ module _ {c : List Instr} (parents : List ℕ) (ready : Runs c) (fs : List Frame
       from_there x t f k from (suc (length k)) s w ends.1 (kept_below above made.kept) (result o m n)
       (last_by o x y z t f k w tail le inside made.kept.size (result o m n) both)
 
-  -- once the first operand is made
+  -- after the first operand is computed
   then_second : (o : Operator) (x t f : ℕ) (a b : Expression) (k : List Instr) (s : State) → OperandRuns b
       → Tail c (operand_code b (behind a t) f (calculation o x (register_of a t) (register_of b (behind a t)) f ∷ k)) → f ≤ length k → IsInside c fs (length k)
       → IsReadable t (held_at s) a → IsReadable t (held_at s) b

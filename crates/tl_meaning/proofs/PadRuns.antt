@@ -1,4 +1,4 @@
--- Where a failure is handled: its pad frees what the handler doesn't begin with.
+-- Handling a failure: its pad frees what isn't held at the handler's start.
 use Rattle.std.proofs.Common.{◌≡◌, ℕ, suc, ◌≤◌, List, [], ◌∷◌, length, Bool, true, false, not, ◌&&◌, if◌then◌else◌, refl, sym, ap, ◌∙◌, subst, arith, append-nil, ◌⊎◌, inl, inr}
 use Rattle.std.proofs.lemmas.Bool.{not-false, false≢true}
 use Rattle.tl_instr.specs.declared.operand.TheConstants.{NODE_REGISTERS}
@@ -45,7 +45,7 @@ pads_bound (g ∷ others) failing handled label base le h = by (is_among g faili
         at true le = omega arith
         at false le = le
 
--- the failure has come to where it is handled
+-- the failure has reached its handler
 pub record Handled (c : List Instr) (parents : List ℕ) (fs : List Frame) (d label : ℕ) (start : Nodes) (from : Run) (s : State) : Type 0 where
   pub state : State
   pub leads : Leads from (leave start s).events (from_label c parents fs label state)
@@ -54,7 +54,7 @@ pub record Handled (c : List Instr) (parents : List ℕ) (fs : List Frame) (d la
 
 module _ {c : List Instr} (parents : List ℕ) (ready : Runs c) (fs : List Frame) (d : ℕ) (failing : List Nodes) (start : Nodes) (size : length start ≡ NODE_REGISTERS) (label : ℕ) (base : Pads) (pad : Nodes → ℕ)
     (is_base : (h : Nodes) → base.pad h ≡ pad_at start label pad h) (inside : IsInside c fs (length base.code)) (le : label ≤ length base.code) where
-  -- where the handler begins with all that is held
+  -- the handler begins with everything that is held
   handled_at_once : (s w : State) → Mirrors d start s w → Handled c parents fs d label start (from_label c parents fs label w) s
   handled_at_once s w agrees =
       let none : leave start s ≡ plain On s = leaves_all NODE_REGISTERS start s (λ i h. holds_there agrees i ∙ h) in
@@ -71,7 +71,7 @@ module _ {c : List Instr} (parents : List ℕ) (ready : Runs c) (fs : List Frame
       subst (λ l. Handled c parents fs d label start (from_label c parents fs l w) s) (sym at)
       (handled_at_once s w (subst (λ g. Mirrors d g s w) e agrees))
 
-  -- the pad frees what the handler doesn't begin with
+  -- the pad frees what isn't held at the handler's start
   by_pad : (g h : Nodes) (more : List Instr) (s w : State) → g ≡ h → Within start h → Mirrors d h s w → Tail c (release_code (minus g start) (I.Jump (target_of label) ∷ more)) → length base.code ≤ length more
       → Handled c parents fs d label start (from_label c parents fs (length (release_code (minus g start) (I.Jump (target_of label) ∷ more))) w) s
   by_pad g h more s w e within agrees tail long =
@@ -89,7 +89,7 @@ module _ {c : List Instr} (parents : List ℕ) (ready : Runs c) (fs : List Frame
         goes_on = r.goes_on;
       }
 
-  -- a failure comes to the handler
+  -- a failure reaches its handler
   pub pad_runs : (sets : List Nodes) (h : Nodes) (s w : State) → IsIn h sets ⊎ (h ≡ start) → IsIn h failing → Within start h → Mirrors d h s w → Tail c (pads_of sets failing start label base).code
       → Handled c parents fs d label start (from_label c parents fs ((pads_of sets failing start label base).pad h) w) s
   pad_runs [] h s w (inl e) m within agrees tail = absurd e

@@ -1,4 +1,4 @@
--- The code that locks two children at once, in rising order.
+-- The code that locks two children in rising order.
 use Rattle.std.proofs.Common.{◌≡◌, ◌≢◌, ℕ, zero, suc, ◌-◌, ◌<◌, ◌≤◌, List, [], ◌∷◌, ◌++◌, length, get_or, Bool, true, false, Option, Some, None, if◌then◌else◌, refl, sym, ap, ap₂, ◌∙◌, subst, arith, append-nil}
 use Rattle.std.specs.Prelude.{slice_set, ℤ, pos, negsuc}
 use Rattle.std.specs.Int.Signed.{lt_z}
@@ -67,7 +67,7 @@ module _ {c : List Instr} (parents : List ℕ) (ready : Runs c) (fs : List Frame
   far : (n : ℕ) → length k ≤ n → IsInside c fs n
   far n more = further_in c fs (length k) n more inside
 
-  -- where the second child can't be locked
+  -- the second child can't be locked
   undo : (s u : State) → lower < NODE_REGISTERS → Tail c undone → Mirrors d (also held lower) s u
       → PlaceLeads parents ready fs d held (also (also held lower) upper) f done (from_label c parents fs (length undone) u) (and_then (free lower s) (plain Fails)).outcome (and_then (free lower s) (plain Fails)).state (and_then (free lower s) (plain Fails)).events
   undo s u lt tail agrees =
@@ -84,7 +84,7 @@ module _ {c : List Instr} (parents : List ℕ) (ready : Runs c) (fs : List Frame
       length_before : {s u : State} → Mirrors d (also held lower) s u → length held ≡ NODE_REGISTERS
       length_before a = sym (length-set held lower true) ∙ held_size a
 
-  -- behind the lock of the second child
+  -- after the lock of the second child
   behind_upper : (s : State) (vs : List ℤ) → lower < NODE_REGISTERS → Tail c second → (from : Run) (o : Ending) (t : State) (events : List Action)
       → KidLeads parents ready fs vs d (also held lower) (also (also held lower) upper) (length undone) (length second) from o t events
       → let r = or_else (record { outcome = o; state = t; events = events }) (λ s. and_then (free lower s) (plain Fails)) in PlaceLeads parents ready fs d held (also (also held lower) upper) f done from r.outcome r.state r.events
@@ -104,7 +104,7 @@ module _ {c : List Instr} (parents : List ℕ) (ready : Runs c) (fs : List Frame
   abbrev upper_code : List Instr
   upper_code = I.Child upper q y (target_of (length undone)) ∷ second
 
-  -- behind the lock of the first child
+  -- after the lock of the first child
   behind_lower : (vs : List ℤ) (vy : ℤ) → lower < NODE_REGISTERS → get_or vs y (pos 0) ≡ vy → Tail c upper_code → (from : Run) (o : Ending) (t : State) (events : List Action)
       → KidLeads parents ready fs vs d held (also held lower) f (length upper_code) from o t events
       → let r = and_then (record { outcome = o; state = t; events = events }) (λ s. or_else (lock_child parents upper q vy s) (λ s. and_then (free lower s) (plain Fails))) in
@@ -121,7 +121,7 @@ module _ {c : List Instr} (parents : List ℕ) (ready : Runs c) (fs : List Frame
       (behind_upper t (l.0).values lt (tail_further tail (tail_behind (I.Child upper q y (target_of (length undone))) second)) there locking.outcome locking.state locking.events
       (child_runs parents ready fs upper q y (length undone) d (also held lower) second t l.0 vy tail (omega arith) (far (length second) (omega arith)) (still_held held lower q is_held) l.2 there_is))
 
-  -- both, the lower one first
+  -- both children, the lower one first
   pub in_order : (s u : State) (vx vy : ℤ) → Tail c (in_order_code lower x upper y q done f k) → Mirrors d held s u → value u x ≡ vx → value u y ≡ vy
       → let r = lock_in_order parents lower vx upper vy q s in
       PlaceLeads parents ready fs d held (also (also held lower) upper) f done (from_label c parents fs (length (in_order_code lower x upper y q done f k)) u) r.outcome r.state r.events
@@ -131,7 +131,7 @@ module _ {c : List Instr} (parents : List ℕ) (ready : Runs c) (fs : List Frame
       behind_lower u.values vy lt is_y (tail_further tail (tail_behind (I.Child lower q x (target_of f)) upper_code)) (from_label c parents fs (suc (length upper_code)) u) locking.outcome locking.state locking.events
       (child_runs parents ready fs lower q x f d held upper_code s u vx tail (omega arith) (far (length upper_code) (omega arith)) is_held agrees is_x)
 
--- a number isn't below itself
+-- a number isn't less than itself
 not_below : (x : ℤ) → lt_z x x ≡ true → ⊥
 not_below (pos a) e = let lt = ltb-true a a e in omega (arith, lt)
 not_below (negsuc a) e = let lt = ltb-true a a e in omega (arith, lt)
@@ -159,7 +159,7 @@ module _ {c : List Instr} (parents : List ℕ) (ready : Runs c) (fs : List Frame
   far_in : (l : ℕ) → length k ≤ l → IsInside c fs l
   far_in l more = further_in c fs (length k) l more inside
 
-  -- by how both numbers compare
+  -- depending on how the two numbers compare
   both_by : (is_less is_equal : Bool) (s u : State) (vx vy : ℤ) → lt_z vx vy ≡ is_less → int_eq vx vy ≡ is_equal → Tail c (less ∷ equal ∷ downward) → Mirrors d held s u → value u x ≡ vx → value u y ≡ vy
       → ends_at (from_label c parents fs (suc (suc (length downward))) u) (if is_equal then plain Fails s else (if is_less then lock_in_order parents n vx m vy q s else lock_in_order parents m vy n vx q s))
   both_by true true s u vx vy l e tail agrees is_x is_y = absurd (apart vx vy l e)

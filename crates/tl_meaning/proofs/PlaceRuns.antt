@@ -1,4 +1,4 @@
--- The code that locks a place locks it, or leads to where it can't be locked.
+-- The code of a place locks it, or goes to the label of its failure.
 use Rattle.std.proofs.Common.{◌≡◌, ℕ, zero, suc, ◌+◌, ◌-◌, ◌≤◌, List, [], ◌∷◌, length, get_or, true, Option, Some, None, refl, sym, ap, ◌∙◌, subst, arith}
 use Rattle.std.specs.Prelude.{slice_set, slice_index, ℤ}
 use Rattle.std.proofs.lemmas.List.{length-set}
@@ -56,14 +56,14 @@ agrees_cursor {d} {h} {s} {u} p g is a = record {
 }
 
 module _ {c : List Instr} (parents : List ℕ) (ready : Runs c) (fs : List Frame) where
-  -- where the code of a place leads, which stands before a label: there, or to the label of its failure
+  -- where the code of a place in front of a label leads: to that label, or to the label of its failure
   abbrev pub PlaceLeads : ℕ → Nodes → Nodes → ℕ → ℕ → Run → Ending → State → List Action → Type 0
   PlaceLeads d held locked f on from On s events = (u : State) × Leads from events (from_label c parents fs on u) × Mirrors d locked s u
   PlaceLeads d held locked f on from Fails s events = (u : State) × Leads from events (from_label c parents fs f u) × Mirrors d held s u
   PlaceLeads d held locked f on from Breaks s events = ⊥
   PlaceLeads d held locked f on from Returns s events = ⊥
 
-  -- the same, and the values are these
+  -- the same, and the registers have these values
   abbrev pub KidLeads : List ℤ → ℕ → Nodes → Nodes → ℕ → ℕ → Run → Ending → State → List Action → Type 0
   KidLeads vs d held locked f on from On s events = (u : State) × Leads from events (from_label c parents fs on u) × Mirrors d locked s u × (u.values ≡ vs)
   KidLeads vs d held locked f on from Fails s events = (u : State) × Leads from events (from_label c parents fs f u) × Mirrors d held s u × (u.values ≡ vs)
@@ -76,7 +76,7 @@ module _ {c : List Instr} (parents : List ℕ) (ready : Runs c) (fs : List Frame
   only_place vs d held locked f on from Breaks s events l = l
   only_place vs d held locked f on from Returns s events l = l
 
-  -- a node by its number
+  -- a node given by its number
   first_runs : (n r f d : ℕ) (held : Nodes) (k : List Instr) (s u : State) (v : ℤ) → Tail c (I.First n r (target_of f) ∷ k) → f ≤ length k → IsInside c fs (length k) → Mirrors d held s u → value u r ≡ v
       → let done = lock_node n (numbered (length parents) v) s in PlaceLeads d held (also held n) f (length k) (from_label c parents fs (suc (length k)) u) done.outcome done.state done.events
   first_runs n r f d held k s u v tail le inside agrees is = by (numbered (length parents) v) refl
@@ -97,7 +97,7 @@ module _ {c : List Instr} (parents : List ℕ) (ready : Runs c) (fs : List Frame
             agrees_lock n y agrees,
           )
 
-  -- a child by its number
+  -- a child given by its number
   pub child_runs : (n q r f d : ℕ) (held : Nodes) (k : List Instr) (s u : State) (v : ℤ) → Tail c (I.Child n q r (target_of f) ∷ k) → f ≤ length k → IsInside c fs (length k) → holds held q ≡ true → Mirrors d held s u → value u r ≡ v
       → KidLeads u.values d held (also held n) f (length k) (from_label c parents fs (suc (length k)) u) (lock_child parents n q v s).outcome (lock_child parents n q v s).state (lock_child parents n q v s).events
   child_runs n q r f d held k s u v tail le inside is_held agrees is =
@@ -138,7 +138,7 @@ module _ {c : List Instr} (parents : List ℕ) (ready : Runs c) (fs : List Frame
   prefixed_place d held locked f on from there leads Breaks s events l = l
   prefixed_place d held locked f on from there leads Returns s events l = l
 
-  -- a place that is found by one number
+  -- a place that is given by one number
   by_number : (e : Expression) (d f : ℕ) (held locked : Nodes) (i : Instr) (k : List Instr) (s u : State) → Tail c (operand_code e d f (i ∷ k)) → f ≤ length k → IsInside c fs (length k) → IsReadable d held e → Mirrors d held s u
       → (go : ℤ → Done)
       → ((v : ℤ) (w : State) → value w (register_of e d) ≡ v → Mirrors d held s w → PlaceLeads d held locked f (length k) (from_label c parents fs (suc (length k)) w) (go v).outcome (go v).state (go v).events)

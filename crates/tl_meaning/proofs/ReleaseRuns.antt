@@ -1,4 +1,4 @@
--- The code that frees registers frees those that the text says.
+-- The code that frees registers frees those that the text's meaning frees.
 use Rattle.std.proofs.Common.{◌≡◌, ◌≢◌, ℕ, zero, suc, ◌+◌, ◌-◌, ◌<◌, ◌≤◌, List, [], ◌∷◌, length, get_or, Bool, true, false, not, ◌&&◌, Option, Some, None, is_some, if◌then◌else◌, refl, sym, ap, ◌∙◌, subst, arith, ◌⊎◌, inl, inr}
 use Rattle.std.specs.Prelude.{slice_set}
 use Rattle.std.proofs.lemmas.List.{length-set, get_or-set_other}
@@ -25,7 +25,7 @@ use Rattle.tl_meaning.proofs.SetLemmas.{held_is, held_length}
 use Rattle.tl_meaning.proofs.Leaving.{freed, others, goes_on, then_on}
 use Rattle.tl_compiler.proofs.NumberStretches.{release_stretch}
 
--- control comes to a place where all of it is done
+-- control reaches a position at which all of this is done
 pub record Does (code : List Instr) (parents : List ℕ) (frames : List Frame) (d on : ℕ) (from : Run) (done : Done) : Type 0 where
   pub state : State
   pub leads : Leads from done.events (from_label code parents frames on state)

@@ -1,4 +1,4 @@
--- Loops of a fixed number of turns, and of as many as a number says.
+-- Loops with a fixed number of turns, and with a number of turns that is computed.
 use Rattle.std.proofs.Common.{◌≡◌, ℕ, zero, suc, ◌-◌, ◌<◌, ◌≤◌, List, [], ◌∷◌, length, Bool, true, false, Option, Some, None, is_some, if◌then◌else◌, refl, sym, ap, ap₂, ◌∙◌, subst, arith, inl, inr}
 use Rattle.std.specs.Prelude.{ℤ, pos, negsuc, nat_le}
 use Rattle.std.specs.Int.Signed.{lt_z}
@@ -37,7 +37,7 @@ use Rattle.tl_meaning.proofs.SimpleRuns.{held_size}
 use Rattle.tl_meaning.proofs.LoopRuns.{keeps_end, on_by, end_long, inside_site, loop_runs}
 
 module _ {c : List Instr} (parents : List ℕ) (ready : Runs c) where
-  -- a loop of a code that is accepted makes a turn
+  -- a loop of an accepted code has at least one turn
   some_turn : (w : ℕ) (k : List Instr) → Tail c (I.Repeat w ∷ k) → (more : ℕ) × (w ≡ suc more)
   some_turn w k tail = by w ((nests (at_positions c) ready.accepted.matched).opens (length c - suc (length k)) w (I.Repeat w) (fetch (I.Repeat w) k tail) refl).3
     where
@@ -152,7 +152,7 @@ module _ {c : List Instr} (parents : List ℕ) (ready : Runs c) where
               prefixed c parents whole (held ∷ fails a held) [] fs x (length k) (from_label c parents fs (length tested) u) (from_label c parents fs (suc (length body)) u) [] jump all.outcome all.state all.events
               (by_turns m u (tail_further tail (tail_behind (I.JumpIfLess bound_register turn_register (target_of (x.pad held))) (I.RepeatBy turn_register w ∷ body))) (ap (up_to w) is ∙ small le) agrees)
 
-      -- the bound goes into its register
+      -- the bound is put into its register
       bounded : (n : ℤ) (u : State) → Tail c (I.Set bound_register (pos w) ∷ tested) → value u turn_register ≡ n → Mirrors x.values held s u
           → ends_at (from_label c parents fs (suc (length tested)) u) (counted w n s (λ m. leaving whole (broken (turns m (behaviour parents a) s))))
       bounded n u tail is agrees =

@@ -17,7 +17,7 @@ use Rattle.tl_lowering.specs.Sound.{IsWellFormed}
 use Rattle.tl_meaning.specs.Told.{told}
 
 -- lock root = node(0); lock first = child(root, 0); first.value = amount; free first; lock second = child(root, 1); emit second.value;
--- It is in order, and handles each failure. What its text means is what the machine does with its code.
+-- It is well-formed and handles each failure. Its text means what the machine does with its code.
 both_children : (p : _) → (let body : Statement = S.Try' p (S.Try' p
     (S.Lock' (P.Node 0 (E.Constant (pos 0))) p
     (S.Lock' (P.Child 1 0 (E.Constant (pos 0))) p

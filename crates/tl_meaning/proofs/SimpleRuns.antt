@@ -55,7 +55,7 @@ further_site {c} {fs} l m le site = record {
   sizes = site.sizes;
 }
 
--- all is freed that isn't kept
+-- everything that isn't kept is freed
 pub record Released (c : List Instr) (parents : List ℕ) (fs : List Frame) (d on : ℕ) (held kept : Nodes) (from : Run) (s : State) : Type 0 where
   pub state : State
   pub leads : Leads from (leave kept s).events (from_label c parents fs on state)
@@ -89,7 +89,7 @@ module _ {c : List Instr} (parents : List ℕ) (ready : Runs c) where
       (with_node u n None, without_node held n, refl, release_step parents ready fs n k x.values s u h.0 h.1 tail site.inside agrees.kept, agrees_free n agrees) in
       subst (λ o. StatementLeads (Some (without_node held n)) [] [] c parents fs x (length k) (from_label c parents fs (suc (length k)) u) (free_by o n s)) (sym h.1) ends
 
-  -- a node register takes over what another one has
+  -- a node moves to another register
   pub moves : (fs : List Frame) (n m : ℕ) (k : List Instr) (s u : State) (d : ℕ) (g : Held) → Tail c (I.Move n m ∷ k) → IsInside c fs (length k) → node u m ≡ Some g
       → Leads (from_label c parents fs (suc (length k)) u) [] (from_label c parents fs (length k) (with_node (with_node u m None) n (Some g)))
   moves fs n m k s u d g tail inside is =
@@ -188,7 +188,7 @@ module _ {c : List Instr} (parents : List ℕ) (ready : Runs c) where
             r.agrees,
           )
 
-  -- one statement behind another
+  -- one statement after another
   then_runs : (b : Statement) → StatementRuns parents ready b → (A : Option Nodes) (F B : List Nodes) (x : Site) (k : List Instr) (fs : List Frame) → Tail c (statement_code b (held_behind A) x k) → IsSite c fs x (length k)
       → IfSome A (λ h. IsWellFormed b x.values x.nodes h (is_some x.exit))
       → (from : Run) (o : Ending) (s : State) (events : List Action) → LeadsBy A F B c parents fs x (length (statement_code b (held_behind A) x k)) from o s events

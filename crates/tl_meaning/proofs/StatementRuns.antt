@@ -64,7 +64,7 @@ readable_there e {d} {h} {s} {u} a r = subst (λ g. IsReadable d g e) (sym (ap (
 pub number_there : (parents : List ℕ) (e : Expression) {d : ℕ} {h : Nodes} {s u : State} → Mirrors d h s u → IsReadable d h e → number parents e u ≡ number parents e s
 number_there parents e {d} {h} {s} {u} a r = same_number parents e d h s u r a.kept
 
--- a number of which no operation is part doesn't fail
+-- a number without operations doesn't fail
 pub may_fail_at : (parents : List ℕ) (e : Expression) (d : ℕ) (s : State) → IsReadable d (held_at s) e → number parents e s ≡ None → may_fail e ≡ true
 may_fail_at parents (E.Constant w) d s r e = cc
 may_fail_at parents (E.Value x) d s r e = cc
@@ -87,7 +87,7 @@ here false h e = cc
 -- ---- runs
 
 module _ (c : List Instr) (parents : List ℕ) where
-  -- what was done before
+  -- events before it
   pub prefixed : (A : Option Nodes) (F B : List Nodes) (fs : List Frame) (x : Site) (on : ℕ) (from to : Run) (first : List Action) → Leads from first to
       → (o : Ending) (s : State) (events : List Action) → LeadsBy A F B c parents fs x on to o s events → LeadsBy A F B c parents fs x on from o s (first ++ events)
   prefixed A F B fs x on from to first leads On s events l = (l.0, l.1, l.2, and_on leads l.3, l.4)
@@ -105,7 +105,7 @@ module _ (c : List Instr) (parents : List ℕ) where
   prefixed A F B fs x on from to first leads Returns s events l =
       (l.0, subst (λ es. Leads from es (Ended l.0)) (sym (append_assoc first events (leave none_held s).events)) (and_on leads l.1), l.2)
 
-  -- of which less is known
+  -- with larger sets of failures and breaks
   pub widened : (A : Option Nodes) (F B G C : List Nodes) (fs : List Frame) (x : Site) (on : ℕ) (from : Run) → ((h : Nodes) → IsIn h F → IsIn h G) → ((h : Nodes) → IsIn h B → IsIn h C)
       → (o : Ending) (s : State) (events : List Action) → LeadsBy A F B c parents fs x on from o s events → LeadsBy A G C c parents fs x on from o s events
   widened A F B G C fs x on from f b On s events l = l
@@ -114,7 +114,7 @@ module _ (c : List Instr) (parents : List ℕ) where
   widened A F B G C fs x on from f b Returns s events l = l
 
 module _ {c : List Instr} (parents : List ℕ) (ready : Runs c) where
-  -- the code of the statement, wherever it stands, does what the statement means
+  -- the code of the statement, in any context, does what the statement means
   abbrev pub StatementRuns : Statement → Type 0
   StatementRuns S = (held : Nodes) (x : Site) (k : List Instr) (fs : List Frame) (s u : State) → Tail c (statement_code S held x k) → IsSite c fs x (length k)
       → IsWellFormed S x.values x.nodes held (is_some x.exit) → Mirrors x.values held s u

@@ -69,7 +69,7 @@ module _ {c : List Instr} (parents : List ℕ) (ready : Runs c) where
   pub in_range : (i : Instr) (k : List Instr) → Tail c (i ∷ k) → InRange (aimed (length c) i)
   in_range i k t = ready.ranges (length c - suc (length k)) (aimed (length c) i) (fetch i k t)
 
-  -- an instruction that neither opens nor closes a loop nor ends the call
+  -- an instruction that doesn't open or close a loop or end the call
   pub acts : (fs : List Frame) (i : Instr) (k : List Instr) (s : State) (e : Step) → Tail c (i ∷ k) → IsInside c fs (length k) → kind (aimed (length c) i) ≡ Acts
       → effect parents (aimed (length c) i) (length c - suc (length k)) s ≡ e
       → Leads (from_label c parents fs (suc (length k)) s) (told (e.act ∷ [])) (left (at_positions c) parents fs e.to e.state)
@@ -80,7 +80,7 @@ module _ {c : List Instr} (parents : List ℕ) (ready : Runs c) where
         ∙ ap (λ (e : Step). Then e.act (left (at_positions c) parents fs e.to e.state)) by;
   }
 
-  -- one that leads to the next
+  -- an instruction after which control goes to the next
   pub goes_to_next : (fs : List Frame) (i : Instr) (k : List Instr) (s u : State) (a : Action) → Tail c (i ∷ k) → IsInside c fs (length k) → kind (aimed (length c) i) ≡ Acts
       → effect parents (aimed (length c) i) (length c - suc (length k)) s ≡ record { act = a; to = length c - suc (length k) + 1; state = u }
       → Leads (from_label c parents fs (suc (length k)) s) (told (a ∷ [])) (from_label c parents fs (length k) u)
@@ -89,7 +89,7 @@ module _ {c : List Instr} (parents : List ℕ) (ready : Runs c) where
       subst (λ p. Leads (from_label c parents fs (suc (length k)) s) (told (a ∷ [])) (left (at_positions c) parents fs p u)) (onward (length c) (length k) (tail_length t))
       (acts fs i k s step t inside is by)
 
-  -- one that leads to a label
+  -- an instruction after which control goes to a label
   pub goes_to_label : (fs : List Frame) (i : Instr) (k : List Instr) (s u : State) (a : Action) (label : ℕ) → Tail c (i ∷ k) → IsInside c fs (length k) → kind (aimed (length c) i) ≡ Acts
       → label ≤ length k
       → effect parents (aimed (length c) i) (length c - suc (length k)) s ≡ record { act = a; to = length c - target_of label; state = u }

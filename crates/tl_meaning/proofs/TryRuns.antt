@@ -1,4 +1,4 @@
--- A statement, and what is done where it fails.
+-- A statement with the handler of its failure.
 use Rattle.std.proofs.Common.{◌≡◌, ℕ, ◌≤◌, List, [], ◌∷◌, ◌++◌, length, Bool, true, false, ◌||◌, Option, Some, None, is_some, if◌then◌else◌, refl, sym, ap, ◌∙◌, subst, arith, append_assoc, inl}
 use Rattle.std.proofs.lemmas.Bool.{or_parts}
 use Rattle.tl_instr.specs.declared.instr.Instr.{Instr}
@@ -30,7 +30,7 @@ use Rattle.tl_meaning.proofs.ChoiceRuns.{second_bounds, second_at}
 use Rattle.tl_compiler.proofs.PadSets.{one_of_all, pads_none}
 use Rattle.tl_meaning.proofs.PadRuns.{pads_bound, pad_runs}
 
--- what is done before stands before what is left
+-- events before a statement stay before its frees
 pub leaving_behind : (whole : Option Nodes) (first : List Action) (d : Done) → leaving whole (after_events first d) ≡ after_events first (leaving whole d)
 leaving_behind whole first d = by d.outcome whole
   where
@@ -41,7 +41,7 @@ leaving_behind whole first d = by d.outcome whole
     by Fails whole = refl
     by Returns whole = refl
 
--- what the handler begins with is held wherever the statement fails
+-- what is held at the handler's start is held at each failure
 start_within : (held h : Nodes) (failing : List Nodes) → IsIn h failing → Within (handled_by held (all_of failing)) h
 start_within held h failing m = by (all_of failing) refl
   where
@@ -105,7 +105,7 @@ module _ {c : List Instr} (parents : List ℕ) (ready : Runs c) (a b : Statement
           sizes = site.sizes;
         }
 
-    -- where the statement comes to its end without a jump, the end of both is right behind it
+    -- if the statement ends without a jump, the end of both ways is directly after it
     same_end : (second.jumps || pads.are_some) ≡ false → length pads.code ≡ length k
     same_end e =
         let h = or_parts second.jumps pads.are_some e in

@@ -29,7 +29,7 @@ use Rattle.tl_meaning.proofs.StatementRuns.{StatementRuns}
 use Rattle.tl_meaning.proofs.SimpleRuns.{held_size, holds_there, further_site, released}
 use Rattle.tl_compiler.proofs.WayLemmas.{second_short, Keeps}
 
--- where nothing that is held is to be freed
+-- nothing that is held has to be freed
 pub leaves_all : (n : ℕ) (kept : Nodes) (s : State) → ((i : ℕ) → is_some (node s i) ≡ true → holds kept i ≡ true) → leave_below n kept s ≡ plain On s
 leaves_all zero kept s h = refl
 leaves_all (suc n) kept s h = by (holds kept n) refl (node s n) refl (leaves_all n kept s h)
@@ -49,7 +49,7 @@ module _ {c : List Instr} (parents : List ℕ) (ready : Runs c) where
   jump_inside true done k fs inside = further_in c fs (length k) (suc (length k)) (omega arith) inside
   jump_inside false done k fs inside = inside
 
-  -- behind a way all is freed that isn't kept
+  -- after a way, everything that isn't kept is freed
   pub joined : (A whole : Option Nodes) (kept : Nodes) → Keeps A whole kept → (F B : List Nodes) (x : Site) (jumps : Bool) (done : ℕ) (k : List Instr) (fs : List Frame)
       → Tail c (joining_code A kept jumps done k) → IsInside c fs (length k) → done ≤ length k
       → (from : Run) (o : Ending) (s : State) (events : List Action) → LeadsBy A F B c parents fs x (length (joining_code A kept jumps done k)) from o s events
@@ -76,7 +76,7 @@ module _ {c : List Instr} (parents : List ℕ) (ready : Runs c) where
       subst (λ o. LeadsBy whole F B c parents fs x (if jumps then done else length k) from o (leave kept s).state (events ++ (leave kept s).events)) (sym r.goes_on) ends in
       subst (λ w. StatementLeads whole F B c parents fs x (if jumps then done else length k) from (leaving w (record { outcome = On; state = s; events = events }))) (sym (keeps.is h refl)) by_kept
 
-  -- a statement that needs no code leads where it is said to
+  -- a statement without code goes to its label
   pub direct_runs : (b : Statement) (held : Nodes) (x : Site) (fs : List Frame) (s u : State) (label : ℕ) (A : Option Nodes) (on : ℕ) → direct b held x ≡ Some label → Mirrors x.values held s u
       → StatementLeads A (fails b held) (breaks b held) c parents fs x on (from_label c parents fs label u) (behaviour parents b s)
   direct_runs S.Fail held x fs s u label A on e agrees =

@@ -8,7 +8,7 @@ use Rattle.tl_lowering.specs.declared.program.Statement.{Statement}
 use Rattle.tl_meaning.specs.Meaning.{call}
 use Rattle.tl_meaning.specs.Told.{told}
 
--- the code, run alone on a tree, tells the events of the text's call, and leaves the text's records
+-- the code, run alone on a tree, has the events of the text's call and leaves the same records
 abbrev pub DoesCall : List Instr → List ℕ → Statement → List ℤ → Records → Type 0
 DoesCall instrs parents body args t =
     let run = alone instrs parents args t in

@@ -1,4 +1,4 @@
--- What a text means: what each core form does to values, nodes and records, and what it tells on the way.
+-- The meaning of a text: the effect of each core form on values, nodes and records, and its events.
 use Rattle.std.specs.Prelude.{ℕ, zero, suc, ◌+◌, List, [], ◌∷◌, ◌++◌, Bool, true, false, not, Option, Some, None, is_some, length, map, slice_set, slice_index, get_or, nat_le, if◌then◌else◌, ℤ, pos, negsuc, ◌+ℤ◌, ◌-ℤ◌, ◌*ℤ◌}
 use Rattle.std.specs.Int.Signed.{lt_z}
 use Rattle.std.specs.Ordering.{int_eq}
@@ -30,18 +30,18 @@ result O.Subtract x y = fitting (x -ℤ y)
 result O.Multiply x y = fitting (x *ℤ y)
 result O.Divide x y = quotient x y
 
--- two numbers, or none where one of them fails
+-- applies f to two numbers; None if one of them can't be computed
 abbrev pub with_both : {A : Type 0} → (ℤ → ℤ → Option A) → Option ℤ → Option ℤ → Option A
 with_both f None y = None
 with_both f (Some x) None = None
 with_both f (Some x) (Some y) = f x y
 
--- what is read of the node that a register owns
+-- reads from the node that a register holds; None if it holds none
 abbrev pub of_node : Option Held → (Held → ℤ) → Option ℤ
 of_node None read = None
 of_node (Some h) read = Some (read h)
 
--- the number of an expression, or none where it fails
+-- the number of an expression; None if computing it fails
 abbrev pub number : List ℕ → Expression → State → Option ℤ
 number parents (E.Constant w) s = Some w
 number parents (E.Value x) s = Some (value s x)
@@ -53,13 +53,13 @@ abbrev pub opposite : Option Bool → Option Bool
 opposite None = None
 opposite (Some t) = Some (not t)
 
--- the second part is looked at only where the first is true
+-- the conjunction; the second condition counts only if the first is true
 abbrev pub both_true : Option Bool → Option Bool → Option Bool
 both_true None second = None
 both_true (Some true) second = second
 both_true (Some false) second = Some false
 
--- whether a condition holds, or none where it fails
+-- whether a condition is true; None if computing it fails
 abbrev pub truth : List ℕ → Condition → State → Option Bool
 truth parents (C.Less a b) s = with_both (λ x y. Some (lt_z x y)) (number parents a s) (number parents b s)
 truth parents (C.Greater a b) s = with_both (λ x y. Some (lt_z y x)) (number parents a s) (number parents b s)
@@ -69,14 +69,14 @@ truth parents (C.And' p c q d) s = both_true (truth parents c s) (truth parents 
 
 -- ---- what is done
 
--- how a statement ends: control goes on, out of the loop, to where a failure is handled, or to the end of the call
+-- how a statement ends: control goes on, leaves the loop, goes to the handler of a failure, or goes to the end of the call
 pub data Ending : Type 0 where
   On : Ending
   Breaks : Ending
   Fails : Ending
   Returns : Ending
 
--- what a statement comes to, and its locks, writes, frees and emitted values in order
+-- how a statement ends, the state then, and its locks, writes, frees and emitted values in order
 pub record Done : Type 0 where
   pub outcome : Ending
   pub state : State
@@ -99,15 +99,15 @@ abbrev pub is_failure : Ending → Bool
 is_failure Fails = true
 is_failure o = false
 
--- one thing, and where control goes on from it, the next
+-- the first part, followed by the second if control goes on
 abbrev pub and_then : Done → (State → Done) → Done
 and_then d more = if is_on d.outcome then after_events d.events (more d.state) else d
 
--- one thing, and where it fails, the other
+-- the first part, followed by the second if the first fails
 abbrev pub or_else : Done → (State → Done) → Done
 or_else d other = if is_failure d.outcome then after_events d.events (other d.state) else d
 
--- with a number, or failing at once
+-- applies `go` to the number; fails without one
 abbrev pub given : Option ℤ → State → (ℤ → Done) → Done
 given None s go = plain Fails s
 given (Some x) s go = go x
@@ -136,7 +136,7 @@ abbrev pub leave_to : Option Nodes → State → Done
 leave_to None s = plain On s
 leave_to (Some kept) s = leave kept s
 
--- the lock of a node under a register, with the cursor at its first child
+-- locks node x in register n, with the cursor at its first child
 abbrev pub lock : ℕ → ℕ → State → Done
 lock n x s = telling (did.Lock x (record_at s.records x)) (with_node s n (Some (record { node = x; cursor = 0 })))
 
@@ -144,7 +144,7 @@ abbrev pub lock_node : ℕ → Option ℕ → State → Done
 lock_node n None s = plain Fails s
 lock_node n (Some x) s = lock n x s
 
--- a child's lock moves the cursor past it
+-- locks the child, and moves the parent's cursor past it
 abbrev pub lock_kid : List ℕ → ℕ → ℕ → Held → Option ℕ → State → Done
 lock_kid parents n p h None s = plain Fails s
 lock_kid parents n p h (Some i) s =
@@ -157,7 +157,7 @@ lock_child_by parents n p (Some h) x s = lock_kid parents n p h (open_kid h.curs
 abbrev pub lock_child : List ℕ → ℕ → ℕ → ℤ → State → Done
 lock_child parents n p x s = lock_child_by parents n p (node s p) x s
 
--- two children, the lower one first; where the upper one can't be locked, the lower one is freed again
+-- locks two children, the lower one first; if the upper one can't be locked, the lower one is freed again
 abbrev pub lock_in_order : List ℕ → ℕ → ℤ → ℕ → ℤ → ℕ → State → Done
 lock_in_order parents lower x upper y p s =
     and_then (lock_child parents lower p x s) (λ s. or_else (lock_child parents upper p y s) (λ s. and_then (free lower s) (plain Fails)))
@@ -173,7 +173,7 @@ lock_place parents (P.Child n p e) s = given (number parents e s) s (λ x. lock_
 lock_place parents (P.Pair n m p a b) s =
     given (number parents a s) s (λ x. given (number parents b s) s (λ y. lock_pair parents n x m y p s))
 
--- the register goes down to a child: the child is locked, and then the node is freed
+-- moves the register to a child: locks the child and then frees the node
 abbrev pub go_down : ℕ → Held → Option ℕ → List ℕ → State → Done
 go_down n h None parents s = plain Fails s
 go_down n h (Some i) parents s =
@@ -195,7 +195,7 @@ write f x (Some h) s =
 
 -- ---- statements
 
--- behind a statement only what is held on each of its ways is kept
+-- after a statement, only the nodes are kept that are held after it on all its paths
 abbrev pub leaving : Option Nodes → Done → Done
 leaving kept d = and_then d (leave_to kept)
 
@@ -204,7 +204,7 @@ chosen None s first second = plain Fails s
 chosen (Some true) s first second = first s
 chosen (Some false) s first second = second s
 
--- a turn that breaks ends the loop
+-- n turns of a body; a turn in which control doesn't go on is the last
 abbrev pub turns : ℕ → (State → Done) → State → Done
 turns zero body s = plain On s
 turns (suc n) body s = and_then (body s) (turns n body)
@@ -212,7 +212,7 @@ turns (suc n) body s = and_then (body s) (turns n body)
 abbrev pub broken : Done → Done
 broken d = elim d.outcome [ Breaks ↦ record d { outcome = On } | On ↦ d | Fails ↦ d | Returns ↦ d ]
 
--- as many turns as the number says; failing where these are more than w
+-- applies `go` to the number of turns: 0 if the number is negative; fails if it is more than w
 abbrev pub counted : ℕ → ℤ → State → (ℕ → Done) → Done
 counted w (negsuc x) s go = go 0
 counted w (pos x) s go = if nat_le x w then go x else plain Fails s
@@ -253,7 +253,7 @@ behaviour parents (S.At' offset p a) s = behaviour parents a s
 
 -- ---- procedures
 
--- a call of a procedure: where it doesn't come to its end by itself, every node is freed
+-- a call of a procedure: frees all nodes if the body ends early
 abbrev pub call : List ℕ → Statement → List ℤ → Records → Done
 call parents body args t =
     let d = behaviour parents body (start args t) in

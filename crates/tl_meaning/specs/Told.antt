@@ -1,4 +1,4 @@
--- What a run tells: its locks, writes, frees and emitted values.
+-- The events of a run: its locks, writes, frees and emitted values.
 use Rattle.std.specs.Prelude.{List, [], ◌∷◌}
 use Rattle.tl_tree_locking.specs.declared.action.Action.{Action}
 use Rattle.tl_tree_locking.specs.declared.action.Action.TheVariants as did

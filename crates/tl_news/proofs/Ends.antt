@@ -22,7 +22,7 @@ known v c sound counted over = elim (cases_lt c (admits v.past)) [
 here : (c : ℕ) (past : List Event) → is_done c (Done c ∷ past) ≡ true
 here c past = let self : (c == c) ≡ true = eq-eqb c c refl in rw self refl
 
--- what is done stays done
+-- a call that is done stays done
 later : (e : Event) (c : ℕ) (past : List Event) → is_done c past ≡ true → is_done c (e ∷ past) ≡ true
 later (Admit d) c past h = h
 later (Lock x d found) c past h = h
@@ -44,7 +44,7 @@ ends v sound counted (Done c ∷ part) sub =
     let over = sub c (here c part) in
     All-cons (IsEnd v) (Done c) part (known v c sound counted over, over) (ends v sound counted part (λ d h. sub d (later (Done c) d part h)))
 
--- the calls whose ends are among the events were admitted, and are done
+-- the calls whose ends are among the events were admitted and are done
 pub ends_behind : (v : CoreValue) (first : ℕ) → IsSound (world_of v) → length v.calls ≡ admits v.past → All (IsEnd v) (events_from first v)
 ends_behind v first sound counted =
     All-drop (IsEnd v) first (reverse v.past) (All-reverse (IsEnd v) v.past (ends v sound counted v.past (λ c h. h)))

@@ -1,4 +1,4 @@
--- What a table's calls did since it was read last.
+-- What has happened in a table since it was last read.
 use Rattle.std.specs.Prelude.{ℕ, ◌<◌, ◌≡◌, Bool, true, false, List, [], ◌∷◌, map, drop, length, reverse, Option, Some, None, option_map, if◌then◌else◌, string_bytes, ℤ}
 use Rattle.std.specs.List.{filter_map}
 use Rattle.std.specs.Arc.{arc_value}
@@ -19,13 +19,13 @@ use Rattle.tl_news.specs.declared.news.Answer.{Answer}
 use Rattle.tl_news.specs.declared.news.NewProcedure.{NewProcedure}
 use Rattle.tl_news.specs.declared.news.EpochNews.{EpochNews}
 
--- a call that was asked for: the name of its procedure, and its arguments
+-- a request for a call: the name of its procedure, and its arguments
 pub record Asked : Type 0 where
   pub name : List ℕ
   pub args : List ℤ
 
--- what came of an epoch: its procedures, the number of the first call and the requests of the calls, which calls took turns, and the
--- replies; and the records at its end, if it is over
+-- The news of an epoch: new procedures, the number of the first new call, the new calls' requests, the caller of each new
+-- event, and the new replies. If the epoch is over, also the records at its end.
 pub record NewsValue : Type 0 where
   pub epoch : ℕ
   pub procedures : List Named
@@ -56,7 +56,7 @@ news_value n = record {
 
 -- ---- of an epoch
 
--- its events behind the first n, the earliest first
+-- its events after the first n, the earliest first
 abbrev pub events_from : ℕ → CoreValue → List Event
 events_from n v = drop n (reverse v.past)
 
@@ -70,14 +70,14 @@ answer_at v (Admit c) = None
 answer_at v (Lock x c found) = None
 answer_at v (Free x c left) = None
 
--- the call whose end this is was admitted, and is done
+-- if the event is an end, its call was admitted and is done
 abbrev pub IsEnd : CoreValue → Event → Type 0
 IsEnd v (Done c) = (c < length v.calls) × (is_done c v.past ≡ true)
 IsEnd v (Admit c) = Unit {0}
 IsEnd v (Lock x c found) = Unit {0}
 IsEnd v (Free x c left) = Unit {0}
 
--- what came of an epoch with that number and core behind the place, and whether it is over
+-- the news of an epoch with this number and core after the given place; `is_over` says whether the epoch is over
 abbrev pub news_behind : Place → ℕ → CoreValue → Bool → NewsValue
 news_behind place number v is_over = record {
   epoch = number;
@@ -89,27 +89,27 @@ news_behind place number v is_over = record {
   records = if is_over then Some (records_now v.past v.opening) else None;
 }
 
--- behind all of it
+-- the place after everything so far
 abbrev pub end_of : CoreValue → Place
 end_of v = record { procedures = length v.procedures; calls = length v.calls; events = length v.past }
 
--- before the epoch that comes after it, which has the same procedures
+-- the place at the start of the next epoch, which has the same procedures
 abbrev pub start_after : CoreValue → Place
 start_after v = record { procedures = length v.procedures; calls = 0; events = 0 }
 
 -- ---- of a table
 
--- what came of these epochs that are over, of the first behind the place, and then of the current one
+-- the news of these finished epochs, the first one from the given place on, and then of the current epoch
 abbrev pub news_through : Bool → Place → List EpochValue → EpochValue → List NewsValue
 news_through is_over place [] current = news_behind place current.number (seen current) is_over ∷ []
 news_through is_over place (e ∷ es) current =
     news_behind place e.number (seen e) true ∷ news_through is_over (start_after (seen e)) es current
 
--- what came of a table since the mark, and whether its current epoch is over too
+-- the news of a table since the mark; `is_over` says whether the current epoch is over too
 abbrev pub news_since : Bool → TableValue → Mark → List NewsValue
 news_since is_over t m = news_through is_over m.place (drop m.epochs t.sealed) t.current
 
--- the mark once all that is read: of this table, or, if its current epoch is over, of the next one, which has the same procedures
+-- the mark after everything is read; if the current epoch is over, it is in the next table, which has the same procedures
 abbrev pub mark_after : Bool → TableValue → Mark
 mark_after false t = record { epochs = length t.sealed; place = end_of (seen t.current) }
 mark_after true t = record { epochs = 0; place = start_after (seen t.current) }

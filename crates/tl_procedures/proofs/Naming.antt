@@ -1,4 +1,4 @@
--- Procedures under their names: their numbers, and one more of them.
+-- Named procedures: their numbers, and adding one.
 use Rattle.std.proofs.Common.{◌≡◌, ℕ, suc, ◌+◌, ◌<◌, ◌≤◌, List, [], ◌∷◌, ◌++◌, length, map, position, cond, not, bytes_eq, refl, sym, ◌∙◌, ap, subst, arith, nat_lt, Option, Some, None, Bool, true, false, inl, inr, if◌then◌else◌, Result, Ok, Err, OnOk, OnErr}
 use Rattle.std.proofs.lemmas.Bool.{cases_Bool, lt-ltb, ltb-true}
 use Rattle.std.proofs.lemmas.Option.{none-some}
@@ -13,7 +13,7 @@ module _ {K C : Type 0} (text : K → List ℕ) (code : C → CodeValue) where
   abbrev pub named : K × C → Named
   named e = record { name = text e.0; code = code e.1 }
 
-  -- the number of a name among the procedures is the place of its key among the keys
+  -- the number of a name among the procedures is the position of its key
   place : (name : List ℕ) (es : List (K × C)) → position_or_len (λ p. bytes_eq name p.name) (map named es) ≡ position_or_len (λ k. bytes_eq name (text k)) (keys_of es)
   place name [] = refl
   place name (e ∷ es) = ap (λ n. cond (not (bytes_eq name (text e.0))) (1 + n) 0) (place name es)
@@ -39,7 +39,7 @@ module _ {K C : Type 0} (text : K → List ℕ) (code : C → CodeValue) where
       let some = sym none ∙ number-named name es in
       none-some _ (some ∙ ap (λ b. cond b (Some (position_or_len (λ k. bytes_eq name (text k)) (keys_of es))) None) below))
 
--- a name that is free has no number, and there is a place for it
+-- an allowed name has no number yet, and the number of procedures is below the limit
 module _ (ps : List Named) (name : List ℕ) where
   by_count : (b : Bool) → nat_lt (length ps) 256 ≡ b → (if b then None else Some fault.TooManyProcedures) ≡ None → length ps < 256
   by_count true h free = ltb-true (length ps) 256 h
@@ -56,13 +56,13 @@ module _ (ps : List Named) (name : List ℕ) where
   pub free_number : naming_refusal ps name ≡ None → (number_of ps name ≡ None) × (length ps < 256)
   free_number free = by_name (is_name name) refl free
 
--- a procedure put last under a free name: each name was free when it came
+-- a procedure appended under an allowed name: each name was allowed when it was added
 pub free_more : (before ps : List Named) (p : Named) → AreFreeAfter before ps → naming_refusal (before ++ ps) p.name ≡ None → AreFreeAfter before (ps ++ p ∷ [])
 free_more before [] p h free = (ap (λ all. naming_refusal all p.name) (sym (append-nil before)) ∙ free, tt)
 free_more before (q ∷ ps) p h free =
     (h.0, free_more (before ++ q ∷ []) ps p h.1 (ap (λ all. naming_refusal all p.name) (append_assoc before (q ∷ []) ps) ∙ free))
 
--- the procedures after one was put last, or was refused
+-- the procedures after one was appended or refused
 pub kept_free : {A B E : Type 0} (result : Result A B) (old new : List E) (view : List E → List Named) (p : Named) → (length old ≤ 256) × AreFreeAfter [] (view old)
     → length (view old) ≡ length old → length (view new) ≡ length new → naming_refusal (view old) p.name ≡ None
     → OnOk result (view new ≡ view old ++ p ∷ []) → OnErr result (new ≡ old)

@@ -1,4 +1,4 @@
--- Procedures that begin with others.
+-- Lists of procedures that begin with others.
 use Rattle.std.proofs.Common.{◌≡◌, ℕ, zero, suc, ◌+◌, ◌<◌, ◌≤◌, List, [], ◌∷◌, ◌++◌, length, take, drop, get_or, refl, sym, ap, ◌∙◌, arith, add-one}
 use Rattle.std.proofs.Math.Seq.{take-suc, take-length}
 use Rattle.std.proofs.Math.ListN.{get_or-append}

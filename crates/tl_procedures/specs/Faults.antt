@@ -1,9 +1,9 @@
--- The numbers of a name's faults.
+-- The faults of naming a procedure, as numbers.
 use Rattle.std.specs.Prelude.{ℕ, List, [], ◌∷◌}
 use Rattle.tl_procedures.specs.declared.fault.NamingFault.{NamingFault}
 use Rattle.tl_procedures.specs.declared.fault.NamingFault.TheVariants.{NameTaken, BadName, TooManyProcedures, Memory}
 
--- a fault as numbers
+-- the number of a fault
 abbrev pub numbers_of : NamingFault → List ℕ
 numbers_of NameTaken = 611 ∷ []
 numbers_of BadName = 612 ∷ []

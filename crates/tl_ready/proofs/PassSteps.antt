@@ -1,4 +1,4 @@
--- Each push, each pop and each new pass keeps the rule.
+-- Each push, each pop and each new pass keeps the rule of the queue.
 use Rattle.std.proofs.Common.{◌≡◌, ℕ, zero, suc, ◌+◌, List, [], ◌∷◌, ◌++◌, set, sym, refl, ap, arith}
 use mathlib.Core.Option.{some, some-ne-none, some_inj}
 use lib.ListN.{get_elem?}

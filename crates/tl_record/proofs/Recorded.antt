@@ -25,7 +25,7 @@ use Rattle.tl_record.specs.Recording.{told_call, trail_value, IsCoreCall}
 
 -- ---- a legal history whose locks find the records left last
 
--- nothing is wrong with any of its events
+-- no event of a legal history whose locks find the current records has a fault
 legal_right : (parents : List ℕ) (opening : Records) (past : List Event) → IsLegalHistory parents past → Follows opening past → AreRight parents opening past
 legal_right parents opening [] legal follows = tt
 legal_right parents opening (Admit c ∷ past) legal follows = (
@@ -45,7 +45,7 @@ legal_right parents opening (Done c ∷ past) legal follows = (
   legal_right parents opening past (legal_before parents (Done c) past legal) follows,
 )
 
--- in turn, each event is of a call that was admitted
+-- in a history in turn, each event is of an admitted call
 callers_admitted : (past : List Event) → InTurn past → (n : ℕ) → admits past ≤ n → All (λ e. caller e < n) past
 callers_admitted [] turn n le = All-nil (λ e. caller e < n)
 callers_admitted (Admit c ∷ past) turn n le =
@@ -66,7 +66,7 @@ module _ (v : CoreValue) (sound : IsSound (world_of v)) (counted : length v.call
   call_told : (c : ℕ) → c < length v.calls → call_at (trail_value v) c ≡ told_call v c
   call_told c lt = get_or-map-range_with_len (told_call v) 0 (length v.calls) c c no_call lt (omega arith)
 
-  -- the trail of a core is one
+  -- the trail of a core is a trail
   pub recorded_trail : length v.calls ≤ 4096 → IsTrail (trail_value v)
   recorded_trail few =
       let long = calls_long in
@@ -83,7 +83,7 @@ module _ (v : CoreValue) (sound : IsSound (world_of v)) (counted : length v.call
         callers = callers_admitted v.past sound.legal.in_turn (length (trail_value v).calls) (omega arith);
       }
 
-  -- what a call does alone by the trail is what it does alone by the core
+  -- what a call does alone is the same for the trail and for the core
   alone_told : (c : ℕ) → c < length v.calls → found_alone (trail_value v) c ≡ alone_of ((world_of v).meanings c) v.opening v.past c
   alone_told c lt =
       let found = with_found (part_of c v.past) v.opening in
@@ -116,6 +116,6 @@ module _ (v : CoreValue) (sound : IsSound (world_of v)) (counted : length v.call
         ends = λ x lt. record_at-records_now v.past v.opening x (omega arith);
       }
 
-  -- it is clean once all calls are done, and not before
+  -- the trail is clean exactly if all calls are done
   pub recorded_clean : Clean (trail_value v) ↔ AllDone v.past
   recorded_clean = let long = calls_long in (λ clean c lt. clean.done c (omega arith), clean_done)

@@ -1,4 +1,4 @@
--- The trail of a core: what it tells of the calls so far.
+-- The trail of a core: a record of its calls so far.
 use Rattle.std.specs.Prelude.{◌≡◌, ℕ, length, map, Some, None, if◌then◌else◌}
 use Rattle.std.specs.List.{range_with_len}
 use Rattle.tl_tree_locking.specs.History.{is_done, records_now}
@@ -7,7 +7,7 @@ use Rattle.tl_core.specs.Cores.{CoreValue, call_of, world_of}
 use Rattle.tl_core.specs.Entries.{procedure_at}
 use Rattle.tl_trail.specs.Trails.{CallValue, TrailValue, IsCallOf}
 
--- what was asked of call c, and its reply once it is done
+-- the procedure and arguments of call c, and its reply if it is done
 abbrev pub told_call : CoreValue → ℕ → CallValue
 told_call v c = record {
   procedure = (call_of v c).procedure;
@@ -15,7 +15,7 @@ told_call v c = record {
   reply = if is_done c v.past then Some (reply_of (world_of v) c) else None;
 }
 
--- the opening tree, the procedures, the calls and the events of the core, and its records now
+-- the opening tree, the procedures, the calls and the events of the core, and its current records
 abbrev pub trail_value : CoreValue → TrailValue
 trail_value v = record {
   parents = v.parents;

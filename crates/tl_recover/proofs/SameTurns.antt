@@ -73,7 +73,7 @@ shared_of w c A.Plain e p is = absurd (longer e p is)
 -- ---- the world before the latest event
 
 module _ (parents : List ℕ) (opening : Records) where
-  -- a world with that history, in which this event was next
+  -- a world with this history in which this event was next
   record Behind (m : ℕ → Records → Outcome) (e : Event) (q : List Event) : Type 0 where
     pub was : World
     pub reached : Reached parents opening was
@@ -105,7 +105,7 @@ module _ (parents : List ℕ) (opening : Records) where
   -- ---- one event
 
   module _ (tree : IsTree parents) (size : length opening ≡ length parents) where
-    -- two worlds with one history, in which a call may take an action that is shared: it is the same action
+    -- if two worlds have the same history, and a call may take a shared action in both, it is the same action
     same_next : (v w : World) → Reached parents opening v → Reached parents opening w → v.past ≡ w.past → (c : ℕ) → v.meanings c ≡ w.meanings c
         → (a b : Action) → MayTake v c a → MayTake w c b → IsShared a → IsShared b → a ≡ b
     same_next v w rv rw' past c meaning a b may_a may_b shared_a shared_b =
@@ -147,7 +147,7 @@ module _ (parents : List ℕ) (opening : Records) where
     admits_more (Free x c left) p = omega arith
     admits_more (Done c) p = omega arith
 
-    -- the latest events of one call, after the same history, are the same
+    -- the latest events of one call after the same history are the same
     same_event : (mv mw : ℕ → Records → Outcome) (e f : Event) (p q : List Event) (bv : Behind mv e p) (bw : Behind mw f q) → p ≡ q
         → ((c : ℕ) → c < admits p → c < admits q → bv.was.meanings c ≡ bw.was.meanings c) → caller e ≡ caller f → e ∷ p ≡ f ∷ q
     same_event mv mw e f p q bv bw pq agree callers = go bv.how bw.how

@@ -1,4 +1,4 @@
--- What a turn of a call leaves.
+-- What a turn of a call changes.
 use Rattle.std.proofs.Common.{inl, inr, ◌≡◌, ◌<◌, ℕ, ℤ, List, [], ◌∷◌, ◌++◌, length, map, refl, sym, ap, ◌∙◌, subst, arith, Option, Some, None, slice_get, get_or, set, Ok, string_bytes}
 use Rattle.std.specs.Option.{option_map_or}
 use Rattle.std.proofs.Math.ListN.{get_or-map, get_or-append}
@@ -21,7 +21,7 @@ use Rattle.tl_core.specs.Entries.{after_step, one_more, procedure_at, with_call_
 use Rattle.tl_core.specs.Followed.{Goes, EachLocal, IsNoLocal, Proceeds}
 use Rattle.tl_recover.specs.Redriven.{IsAsked, Fits, GoesOn}
 
--- what was asked for
+-- the procedure, the code and the arguments of a call
 abbrev pub ask : CallValue → ℕ × CodeValue × List ℤ
 ask c = (c.procedure, c.code, c.args)
 
@@ -95,7 +95,7 @@ grows c (Moved a) v h = let e = event_of c a v.past h in (e.0 ∷ [], e.1)
 grows c (Blocked x d) v h = ([], refl)
 grows c Over v h = ([], refl)
 
--- what happened before stays
+-- earlier events don't change
 pub past_proceeds : (v w : CoreState) (c : ℕ) (s : Stepped) → Proceeds v c s w → (more : List Event) × (w.seen.past ≡ more ++ v.seen.past)
 past_proceeds v w c s p =
     let g = grows c s p.there p.is_last in

@@ -1,10 +1,10 @@
--- The numbers of the faults of a core that is driven again.
+-- The faults of replaying a core, as numbers.
 use Rattle.std.specs.Prelude.{ℕ, List, [], ◌∷◌}
 use Rattle.tl_core.specs.Faults.{numbers_of as core_numbers_of}
 use Rattle.tl_recover.specs.declared.fault.RecoverFault.{RecoverFault}
 use Rattle.tl_recover.specs.declared.fault.RecoverFault.TheVariants.{NoRequest, OutOfTurn, Core}
 
--- a fault as numbers
+-- the fault's number, followed by its operand
 abbrev pub numbers_of : RecoverFault → List ℕ
 numbers_of (NoRequest turn) = 1004 ∷ turn ∷ []
 numbers_of (OutOfTurn turn) = 1005 ∷ turn ∷ []

@@ -1,22 +1,22 @@
--- A core that is driven again.
+-- A core that is replayed.
 use Rattle.std.specs.Prelude.{◌≡◌, ℕ, ◌<◌, ◌≤◌, List, length, Some, slice_get, string_bytes}
 use Rattle.tl_procedures.specs.declared.request.Request.{Request}
 use Rattle.tl_procedures.specs.Names.{number_of}
 use Rattle.tl_core.specs.Cores.{CoreValue, call_of}
 use Rattle.tl_core.specs.Entries.{procedure_at}
 
--- the call is one of the request's procedure with its arguments
+-- the call is of the request's procedure with its arguments
 pub record IsAsked (v : CoreValue) (c : ℕ) (r : Request) : Type 0 where
   pub procedure : number_of v.procedures (string_bytes r.name) ≡ Some (call_of v c).procedure
   pub code : (call_of v c).code ≡ (procedure_at v (call_of v c).procedure).code
   pub args : (call_of v c).args ≡ r.args.items
 
--- the calls are the first of the requests, in their order
+-- the calls are the first of the requests, in order
 pub record Fits (v : CoreValue) (requests : List Request) : Type 0 where
   pub few : length v.calls ≤ length requests
   pub each : (c : ℕ) (r : Request) → c < length v.calls → slice_get requests c ≡ Some r → IsAsked v c r
 
--- the second core is of the same tree and procedures
+-- the second core has the same tree, procedures and limit
 pub record GoesOn (v w : CoreValue) : Type 0 where
   pub parents : w.parents ≡ v.parents
   pub opening : w.opening ≡ v.opening

@@ -1,4 +1,4 @@
--- What the order of a core's history promises.
+-- What the order of a core's history guarantees.
 use Rattle.std.proofs.Common.{◌≡◌, ℕ, ◌<◌, List, length, map, sym, subst, arith}
 use Rattle.std.specs.Prelude.{All}
 use Rattle.tl_tree_locking.specs.Alone.{serial}

@@ -26,7 +26,7 @@ use Rattle.tl_serial_order.proofs.LegalEvents.{caller_known}
 use Rattle.tl_serial_order.specs.Kept.{KeptValue, IsKept, IsOfSize}
 use Rattle.tl_serial.specs.Running.{IsOrderOf, IsStopInside, HasStopped}
 
--- a local action is no event
+-- a local action adds no event
 pub local_past : (c : ℕ) (a : Action) (past : List Event) → IsLocal a → past_after c a past ≡ past
 local_past c (did.Lock x found) past is = absurd is
 local_past c (did.Free x left) past is = absurd is
@@ -36,7 +36,7 @@ local_past c (did.Write x f n) past is = refl
 local_past c (did.Emit n) past is = refl
 local_past c did.Plain past is = refl
 
--- the call that did the action of its stop was admitted
+-- the call that did the action at its stop was admitted
 pub stopped_known : (parents : List ℕ) → IsTree parents → (c : ℕ) (s : Stop) (a : Action) (past : List Event) → EndsStop s a → IsLegalHistory parents (past_after c a past) → c < admits (past_after c a past)
 stopped_known parents tree c s (did.Lock x found) past ends legal = caller_known parents tree (Lock x c found) past legal
 stopped_known parents tree c s (did.Free x left) past ends legal = caller_known parents tree (Free x c left) past legal
@@ -46,7 +46,7 @@ stopped_known parents tree c s (did.Write x f n) past ends legal = absurd ends
 stopped_known parents tree c s (did.Emit n) past ends legal = absurd ends
 stopped_known parents tree c s did.Plain past ends legal = absurd ends
 
--- and it stopped at a node of the tree
+-- the node of the stop is one of the tree's nodes
 pub stop_inside : (count c : ℕ) (s : Stop) (a : Action) (past : List Event) → EndsStop s a → All (IsOfNodes count) (past_after c a past) → IsStopInside count s
 stop_inside count c s (did.Lock x found) past ends inside = let here : x < count = inside 0 (Admit 0) (omega arith) in subst (IsStopInside count) (sym ends) here
 stop_inside count c s (did.Free x left) past ends inside = let here : x < count = inside 0 (Admit 0) (omega arith) in subst (IsStopInside count) (sym ends) here
@@ -56,7 +56,7 @@ stop_inside count c s (did.Write x f n) past ends inside = absurd ends
 stop_inside count c s (did.Emit n) past ends inside = absurd ends
 stop_inside count c s did.Plain past ends inside = absurd ends
 
--- a call that does local actions and then one more adds the event of the last
+-- a call that does local actions and then one more adds only the event of the last
 pub goes_past : (v w : CoreValue) (c : ℕ) (local : List Action) (last : Action) → EachLocal local → Goes v c (local ++ last ∷ []) w → w.past ≡ past_after c last v.past
 goes_past v w c [] last each goes = sym (ap (λ u. u.past) goes.1)
 goes_past v w c (a ∷ local) last each goes =
@@ -70,14 +70,14 @@ local_goes_past : (v w : CoreValue) (c : ℕ) (local : List Action) → EachLoca
 local_goes_past v w c [] each goes = sym (ap (λ u. u.past) goes)
 local_goes_past v w c (a ∷ local) each goes = local_goes_past (after_step v c (Ok (Moved a))) w c local each.1 goes.1 ∙ local_past c a v.past each.0
 
--- a call that proceeds adds the event of its last step
+-- a call that proceeds adds only the event of its last step
 pub proceeds_past : (v w : CoreState) (c : ℕ) (a : Action) → Proceeds v c (Moved a) w → w.seen.past ≡ past_after c a v.seen.past
 proceeds_past v w c a p = ap (λ u. u.past) p.then ∙ ap (past_after c a) (local_goes_past v.seen p.there c p.local p.each_local p.goes)
 
 pub proceeds_parents : (v w : CoreState) (c : ℕ) (a : Action) → Proceeds v c (Moved a) w → w.seen.parents ≡ v.seen.parents
 proceeds_parents v w c a p = ap (λ u. u.parents) p.then ∙ goes_parents v.seen p.there c p.local p.goes
 
--- and none where that is no lock, free or end
+-- it adds none if that step isn't a lock, a free or an end
 pub proceeds_still : (v w : CoreState) (c : ℕ) (r : Result Stepped CoreFault) → IfOk r (λ s. Proceeds v c s w) → OnErr r (w ≡ v)
     → ((a : Action) → r ≡ Ok (Moved a) → IsLocal a) → (w.seen.past ≡ v.seen.past) × (w.seen.parents ≡ v.seen.parents)
 proceeds_still v w c (Ok (Moved a)) p same local = absurd (p.is_last (local a refl))
@@ -88,7 +88,7 @@ proceeds_still v w c (Err e) p same local = (ap (λ u. u.seen.past) same, ap (λ
 pub proceeds_stopped : (v w : CoreState) (c : ℕ) (s : Stop) (a : Action) → EndsStop s a → Proceeds v c (Moved a) w → HasStopped w.seen c s v.seen.past
 proceeds_stopped v w c s a ends p = record { last = a; ends = ends; past_is = proceeds_past v w c a p }
 
--- what is so of every lock of the node is so of what a call did that stopped there
+-- a property of every lock of the node is a property of what the call did at this stop
 pub at_lock : (P : List Event → Type 0) (c x : ℕ) (s : Stop) (last : Action) (past : List Event) → s ≡ stop.Lock x → EndsStop s last
     → ((found : Record) → P (Lock x c found ∷ past)) → P (past_after c last past)
 at_lock P c x s (did.Lock y found) past is ends each =
@@ -102,7 +102,7 @@ at_lock P c x s (did.Write y f n) past is ends each = absurd ends
 at_lock P c x s (did.Emit n) past is ends each = absurd ends
 at_lock P c x s did.Plain past is ends each = absurd ends
 
--- and of every free
+-- the same for every free
 pub at_free : (P : List Event → Type 0) (c x : ℕ) (s : Stop) (last : Action) (past : List Event) → s ≡ stop.Free x → EndsStop s last
     → ((left : Record) → P (Free x c left ∷ past)) → P (past_after c last past)
 at_free P c x s (did.Free y left) past is ends each =
@@ -116,7 +116,7 @@ at_free P c x s (did.Write y f n) past is ends each = absurd ends
 at_free P c x s (did.Emit n) past is ends each = absurd ends
 at_free P c x s did.Plain past is ends each = absurd ends
 
--- a call that has gone to the end of a segment did the action of its stop last
+-- the last action of a call that has gone to the end of a segment is the one at its stop
 pub gone_stopped : (v w : CoreState) (c : ℕ) (segment : SegmentValue) → HasGone v c segment w → HasStopped w.seen c segment.stop v.seen.past
 gone_stopped v w c segment gone = record {
   last = gone.last;
@@ -127,11 +127,11 @@ gone_stopped v w c segment gone = record {
 pub gone_parents : (v w : CoreState) (c : ℕ) (segment : SegmentValue) → HasGone v c segment w → w.seen.parents ≡ v.seen.parents
 gone_parents v w c segment gone = goes_parents v.seen w.seen c (gone.local ++ gone.last ∷ []) gone.goes
 
--- and the order of the history before is of as many nodes
+-- the order of the earlier history is for the same number of nodes
 pub same_size : (k : KeptValue) (parents more : List ℕ) → more ≡ parents → IsOfSize k (length parents) → IsOfSize k (length more)
 same_size k parents more same size = subst (λ shape. IsOfSize k (length shape)) (sym same) size
 
--- an admission leaves the order as it is
+-- an admission doesn't change the order
 after_order : (k : KeptValue) (v w : CoreValue) (args : List ℤ) (found : Option ℕ) → w ≡ option_map_or (λ p. with_call_of v p args) found v
     → ((parents : List ℕ) (past : List Event) (call : ℕ) → IsKept k parents past → IsKept k parents (Admit call ∷ past)) → IsOrderOf k v → IsOrderOf k w
 after_order k v w args (Some p) is more o = record {

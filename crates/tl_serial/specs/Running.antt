@@ -1,4 +1,4 @@
--- A core and the order of its history.
+-- A core together with the order of its history.
 use Rattle.std.specs.Prelude.{◌≡◌, ℕ, ◌<◌, List, length}
 use Rattle.tl_tree_locking.specs.declared.action.Action.{Action}
 use Rattle.tl_tree_locking.specs.declared.event.Event.{Event}
@@ -10,20 +10,20 @@ use Rattle.tl_core.specs.Cores.{CoreValue}
 use Rattle.tl_core.specs.Followed.{EndsStop}
 use Rattle.tl_serial_order.specs.Kept.{KeptValue, IsOfSize, IsKept}
 
--- what is kept is of the core's history, and there is memory for as many calls as a core may have
+-- the order is that of the core's history, and there is memory for MAX_CALLS calls
 pub record IsOrderOf (k : KeptValue) (v : CoreValue) : Type 0 where
   pub kept : IsKept k v.parents v.past
   pub size : IsOfSize k (length v.parents)
   pub calls : k.calls ≡ MAX_CALLS
 
--- the node of a lock or of a free is below the count
+-- the node of a lock or of a free is below `count`
 abbrev pub IsStopInside : ℕ → Stop → Type 0
 IsStopInside count (Lock x) = x < count
 IsStopInside count (Free x) = x < count
 IsStopInside count Return = Unit {0}
 IsStopInside count Over = Unit {0}
 
--- the call did the action of its stop last, after these events
+-- the call's last action was the one at its stop, and the history before it was `past`
 pub record HasStopped (v : CoreValue) (c : ℕ) (s : Stop) (past : List Event) : Type 0 where
   pub last : Action
   pub ends : EndsStop s last

@@ -1,4 +1,4 @@
--- The order of events that are checked as they come, after one more.
+-- The order of events that are checked one by one, after one more event.
 use Rattle.std.proofs.Common.{◌≡◌, ◌≢◌, ℕ, not, ◌+◌, ◌<◌, ◌≤◌, ◌==◌, Bool, true, false, List, ◌∷◌, length, Some, sym, ap, ◌∙◌, subst, inl, inr, arith}
 use Rattle.std.specs.Prelude.{All, IsTrue, nat_eq, get_or, slice_set, Option}
 use Rattle.std.specs.Option.{option_eq}
@@ -28,7 +28,7 @@ use Rattle.tl_tree_locking.proofs.RulesLemmas.{locked_inside}
 
 -- ---- what is kept, after one more event
 
--- no call holds more nodes than there are
+-- no call locks more nodes than there are
 holding_few : (parents : List ℕ) (past : List Event) → IsLegalHistory parents past → All (IsOfNodes (length parents)) past → (c : ℕ) → lock_count (part_of c past) ≤ length parents
 holding_few parents past legal inside c =
     locks_within parents (length parents) (part_of c past) (legal.obeys c) (λ x l. locked_inside (length parents) past inside c x l)
@@ -36,7 +36,7 @@ holding_few parents past legal inside c =
 abbrev Counted : ℕ → List ℕ → List Event → Type 0
 Counted calls holding past = (k : ℕ) → k < calls → lock_count (part_of k past) ≡ free_count (part_of k past) + get_or holding k 0
 
--- what a call holds after an event of its own is what was set there
+-- the number of nodes that a call holds after its own event is the one that was set
 counted-set : (calls : ℕ) (past : List Event) (e : Event) (holding : List ℕ) → caller e < length holding → Counted calls holding past → (n : ℕ)
     → (caller e < calls → lock_count (part_of (caller e) (e ∷ past)) ≡ free_count (part_of (caller e) (e ∷ past)) + n)
     → Counted calls (slice_set holding (caller e) n) (e ∷ past)
@@ -79,7 +79,7 @@ done-done calls past c done inside h k lt = elim (cases_eq c k) [
       rw q (get_or-set_other done c k true false (λ e. other (sym e)) ∙ h k lt)
 ]
 
--- a call that locks a node has locked fewer than there are
+-- a call that locks a node has locked fewer than MAX_NODES before
 pub lock_room : (parents : List ℕ) → IsTree parents → (past : List Event) (c x : ℕ) (found : Record) → IsLegalHistory parents (Lock x c found ∷ past)
     → All (IsOfNodes (length parents)) (Lock x c found ∷ past) → lock_count (part_of c past) + 1 ≤ MAX_NODES
 lock_room parents tree past c x found legal inside =
@@ -88,7 +88,7 @@ lock_room parents tree past c x found legal inside =
     let one : lock_count (part_of c (Lock x c found ∷ past)) ≡ lock_count (part_of c past) + 1 = ap lock_count (part_of-lock c x found past) in
     omega (arith, most, few, one)
 
--- a call that frees a node holds one
+-- a call that frees a node holds at least one
 pub holds_one : (parents : List ℕ) (past : List Event) (c x : ℕ) (left : Record) → IsLegalHistory parents past → KeepsRules parents past (Free x c left) → free_count (part_of c past) < lock_count (part_of c past)
 holds_one parents past c x left legal rules =
     let each = legal.obeys c in
@@ -98,13 +98,13 @@ holds_one parents past c x left legal rules =
       | inr not_so ↦ absurd (both_ways (held (part_of c past) x) (counts-none_held parents (part_of c past) each (omega (arith, few, not_so)) x) rules.permitted)
     ]
 
--- who stands in the order and is open has locked a node
+-- an open call is in the order exactly if it has locked a node
 pub stands_begun : (parents : List ℕ) → IsTree parents → (past : List Event) → IsLegalHistory parents past → (c : ℕ) → is_done c past ≡ false → stands c (placed parents past) ≡ locked_any (part_of c past)
 stands_begun parents tree past legal c open' =
     let m = (placed-agrees parents tree past legal).members c in
     grind (arith, m, open')
 
--- who holds a node is open
+-- a call that holds a node is open
 pub holder_open : (parents : List ℕ) (past : List Event) → IsLegalHistory parents past → (c x : ℕ) → holder_of past x ≡ Some c → IsOpen c past
 holder_open parents past legal c x holds =
     let own = holder-held parents past legal c x holds in

@@ -1,4 +1,4 @@
--- How many nodes are held, by a list of their holders and by the history.
+-- The number of nodes held, by a list of holders and by the history.
 use Rattle.std.proofs.Common.{◌≡◌, ℕ, zero, suc, ◌+◌, ◌≤◌, List, length, replicate, take, Option, None, refl, ap, ◌∙◌, inl, inr, arith}
 use Rattle.std.specs.Prelude.{is_some, cond}
 use Rattle.std.proofs.lemmas.Bool.{cases_Bool}
@@ -14,7 +14,7 @@ use Rattle.tl_serial_order.specs.Kept.{count_held}
 pub count_held-none : (n : ℕ) → count_held (replicate n None) ≡ 0
 count_held-none n = omega (arith, sum_by-replicate {X = Option ℕ} (λ holder. cond (is_some holder) 1 0) n None)
 
--- the history counts the same
+-- both count the same among the first n nodes
 held_below-take : (holders : List (Option ℕ)) (past : List Event) → AreHolders holders past → (n : ℕ) → n ≤ length holders
     → held_below n past ≡ count_held (take n holders)
 held_below-take holders past are zero within = refl
@@ -28,7 +28,7 @@ held_below-take holders past are (suc n) within =
       | inr free ↦ let more = count_by_more_no is_some holders n None (omega arith) (entry ∙ free) in rw free (omega (arith, ih, more, taken))
     ]
 
--- of the nodes below one in number no more are held than of all
+-- the nodes held below x are at most all nodes held
 pub held_below-all : (holders : List (Option ℕ)) (past : List Event) → AreHolders holders past → (x : ℕ) → x ≤ length holders
     → held_below x past ≤ count_held holders
 held_below-all holders past are x within =

@@ -1,4 +1,4 @@
--- An order that is kept up to date, after one more event.
+-- A stored order, after one more event.
 use Rattle.std.proofs.Common.{◌≡◌, ℕ, ◌<◌, true, false, List, ◌∷◌, length, get_or, set, Option, Some, None, refl, sym, ap, ◌∙◌, subst, inl, inr, arith}
 use Rattle.std.specs.Prelude.{insert, slice_get}
 use Rattle.std.proofs.lemmas.Bool.{cases_eq, eq-eqb, ne_eqb}
@@ -31,7 +31,7 @@ AreHolders-lock holders past c x found are y lt =
           get_or-set_other holders x y (Some c) None (λ w. other (sym w)) ∙ are y inside ∙ rw q refl
     ]
 
--- a call that locks a node stands in the order exactly if it locked one before
+-- a call that locks a node was in the order exactly if it had locked one before
 stands-locked : (parents : List ℕ) → IsTree parents → (past : List Event) (c x : ℕ) (found : Record) → IsLegalHistory parents (Lock x c found ∷ past)
     → stands c (placed parents past) ≡ locked_any (part_of c past)
 stands-locked parents tree past c x found legal =

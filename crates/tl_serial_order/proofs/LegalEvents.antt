@@ -1,4 +1,4 @@
--- The events so far of a history that keeps the rules.
+-- Properties of the first events of a legal history.
 use Rattle.std.proofs.Common.{◌≡◌, ℕ, zero, suc, ◌+◌, ◌<◌, ◌≤◌, List, [], ◌∷◌, length, get_or, take, reverse, subst, arith}
 use Rattle.std.specs.Prelude.{◌-◌}
 use Rattle.std.proofs.lemmas.List.{take_all}
@@ -16,7 +16,7 @@ admits_grow (Lock x c found) past = omega arith
 admits_grow (Free x c left) past = omega arith
 admits_grow (Done c) past = omega arith
 
--- no more calls are admitted than there are events
+-- there are at most as many admissions as events
 pub admits_few : (past : List Event) → admits past ≤ length past
 admits_few [] = omega arith
 admits_few (Admit c ∷ past) = omega (arith, admits_few past)
@@ -31,7 +31,7 @@ caller_known parents tree (Lock x c found) past legal = (keeps_rules parents tre
 caller_known parents tree (Free x c left) past legal = (keeps_rules parents tree past (legal_before parents (Free x c left) past legal) (Free x c left) legal).0.0
 caller_known parents tree (Done c) past legal = (keeps_rules parents tree past (legal_before parents (Done c) past legal) (Done c) legal).0.0
 
--- the first so many events keep the rules, and admit no more calls than all
+-- the first i events form a legal history, and admit at most as many calls as all
 pub legal_so_far : (parents : List ℕ) (events : List Event) → IsLegalHistory parents (reverse events) → (i : ℕ) → i ≤ length events
     → IsLegalHistory parents (reverse (take i events)) × (admits (reverse (take i events)) ≤ admits (reverse events))
 legal_so_far parents events legal i within = back (length events - i) i (omega (arith, within))

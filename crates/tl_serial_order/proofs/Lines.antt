@@ -1,4 +1,4 @@
--- Where a call that is put in stands.
+-- The position at which a call is inserted.
 use Rattle.std.proofs.Common.{◌≡◌, ◌≢◌, ℕ, zero, suc, sym, set, ◌<◌, ◌≤◌, ◌==◌, ◌||◌, Bool, true, false, List, [], ◌∷◌, ◌++◌, length, get_or, refl, inl, inr, ap, ◌∙◌, subst, arith}
 use Rattle.std.specs.Prelude.{insert, All}
 use Rattle.std.proofs.lemmas.Bool.{cases_lt, cases_eq, both_ways, eq-eqb, ne_eqb}
@@ -29,7 +29,7 @@ stands-at [] k d inside = absurd (omega arith)
 stands-at (e ∷ es) zero d inside = let q = eq-eqb e e refl in grind (arith, q)
 stands-at (e ∷ es) (suc k) d inside = let ih = stands-at es k d (omega arith) in grind (arith, ih)
 
--- whoever stands has a place in the column
+-- each call in the order has an entry in the column
 pub line_known : (order : List ℕ) (column : List Bool) → IsLine order column → All (λ c. c < length column) order
 line_known order column line k d inside =
     let c = get_or order k d in
@@ -42,7 +42,7 @@ line_known order column line k d inside =
           absurd (both_ways (stands c order) (grind (arith, same, none)) here)
     ]
 
--- at the first call that passes the test, or at the end
+-- the position is that of the first call that passes the test, or the end
 pub put_before-insert : (test : ℕ → Bool) (c : ℕ) (order : List ℕ) (place d : ℕ) → place ≤ length order
     → ((j : ℕ) → j < place → test (get_or order j d) ≡ false) → (place < length order → test (get_or order place d) ≡ true)
     → put_before test c order ≡ insert order place c
@@ -58,7 +58,7 @@ pub insert-end : (order : List ℕ) (c : ℕ) → insert order (length order) c 
 insert-end [] c = refl
 insert-end (e ∷ es) c = ap (λ ds. e ∷ ds) (insert-end es c)
 
--- a line in which one more call stands
+-- an order with one more call
 pub line_more : (order : List ℕ) (column : List Bool) (place c : ℕ) → c < length column → stands c order ≡ false
     → IsLine order column → IsLine (insert order place c) (set column c true)
 line_more order column place c inside out line = record {
@@ -78,7 +78,7 @@ line_more order column place c inside out line = record {
       ];
 }
 
--- the last place of a call is its first
+-- a call occurs at only one position
 IsDistinct-once : (order : List ℕ) → IsDistinct order → (j k d : ℕ) → j < k → k < length order → get_or order j d ≢ get_or order k d
 IsDistinct-once [] once j k d lt inside same = absurd (omega arith)
 IsDistinct-once (e ∷ es) once j zero d lt inside same = absurd (omega arith)
@@ -94,7 +94,7 @@ put_before-at c call order place once inside here =
     (λ j before. ne_eqb call (get_or order j 0) (λ same. IsDistinct-once order once j place 0 before inside (sym same ∙ sym here)))
     (λ _. eq-eqb call (get_or order place 0) (sym here))
 
--- a call that stands nowhere is put at the end
+-- before a call that doesn't occur, the position is the end
 pub put_before-nowhere : (c call : ℕ) (order : List ℕ) → All (λ d. d ≢ call) order → put_before (λ d. call == d) c order ≡ insert order (length order) c
 put_before-nowhere c call order none =
     put_before-insert (λ d. call == d) c order (length order) 0 (omega arith)

@@ -1,4 +1,4 @@
--- The marks of a call, and how many of a list are true.
+-- The marks of a call, and the number of true entries in a list.
 use Rattle.std.proofs.Common.{◌≡◌, ℕ, zero, suc, ◌+◌, ◌<◌, ◌≤◌, Bool, true, false, List, [], ◌∷◌, length, map, get_or, set, replicate, sym, refl, ap, ◌∙◌, inl, inr, arith}
 use Rattle.std.proofs.Math.Seq.{map-set_same}
 use Rattle.std.proofs.lemmas.Bool.{cases_eq, eq-eqb, ne_eqb}
@@ -15,11 +15,11 @@ use Rattle.tl_serial_order.specs.Part.{Marks, IsPart, was_locked, is_held, trues
 abbrev pub marks : List Bool → List Bool → Marks
 marks ls hs = record { locked = ls; held = hs }
 
--- what callers see of these marks
+-- the marks as callers see them
 abbrev pub shown : List Mark → Marks
 shown ms = marks (map was_locked ms) (map is_held ms)
 
--- what is read of the mark at a place
+-- reading the mark at a position
 pub read_at : (f : Mark → Bool) (ms : List Mark) (i j : ℕ) (m : Mark) (b : Bool) → j ≡ i → i < length ms → m ≡ get_or ms j m → b ≡ f m
     → b ≡ get_or (map f ms) i false
 read_at f ms i j m b same inside here is = is ∙ ap f (here ∙ ap (λ k. get_or ms k m) same) ∙ sym (get_or-map f ms i m false inside)
@@ -29,7 +29,7 @@ held_was_locked Untouched h = h
 held_was_locked Held h = refl
 held_was_locked Freed h = refl
 
--- a node that is held and then freed stays locked
+-- a node that is held and then freed is still marked as locked
 pub freed_stays_locked : (ms : List Mark) (x : ℕ) → x < length ms → get_or (map is_held ms) x false ≡ true → map was_locked (set ms x Freed) ≡ map was_locked ms
 freed_stays_locked ms x inside h =
     let held : is_held (get_or ms x Freed) ≡ true = sym (get_or-map is_held ms x Freed false inside) ∙ h in
@@ -39,7 +39,7 @@ pub all_untouched : (f : Mark → Bool) (n : ℕ) → f Untouched ≡ false → 
 all_untouched f zero none = refl
 all_untouched f (suc n) none = rw none (ap (λ bs. false ∷ bs) (all_untouched f n none))
 
--- what is known of a call that locks a node
+-- the marks after the call locks a node
 pub locked_next : (ls hs : List Bool) (x : ℕ) (done : List Action) (found : Record) → IsPart (marks ls hs) done
     → length hs ≡ length ls → IsPart (marks (set ls x true) (set hs x true)) (Lock x found ∷ done)
 locked_next ls hs x done found own even = record { locks = locks; holds = holds }
@@ -60,7 +60,7 @@ locked_next ls hs x done found own even = record { locks = locks; holds = holds 
           | inr other ↦ rw (ne_eqb x y (λ e. other (sym e))) (get_or-set_other hs x y true false other ∙ own.holds y (omega (arith, size, inside)))
         ]
 
--- of one that frees a node
+-- the marks after the call frees a node
 pub freed_next : (ls hs : List Bool) (x : ℕ) (done : List Action) (left : Record) → IsPart (marks ls hs) done
     → length hs ≡ length ls → IsPart (marks ls (set hs x false)) (Free x left ∷ done)
 freed_next ls hs x done left own even = record { locks = locks; holds = holds }
@@ -93,7 +93,7 @@ trues-le [] = omega arith
 trues-le (true ∷ bs) = omega (arith, trues-le bs)
 trues-le (false ∷ bs) = omega (arith, trues-le bs)
 
--- one that isn't true leaves room for one more
+-- a list with a false entry has fewer true entries than its length
 pub trues-room : (bs : List Bool) (i : ℕ) → i < length bs → get_or bs i false ≡ false → trues bs < length bs
 trues-room [] i inside h = absurd (omega arith)
 trues-room (true ∷ bs) zero inside h = grind arith
@@ -129,7 +129,7 @@ get_or-all_false zero y = refl
 get_or-all_false (suc n) zero = refl
 get_or-all_false (suc n) (suc y) = get_or-all_false n y
 
--- what is known of a call that did nothing
+-- the marks of a call that has done nothing
 pub shows_nothing : (n : ℕ) → IsPart (shown (replicate n Untouched)) []
 shows_nothing n = record {
   locks = λ y inside. rw (all_untouched was_locked n refl) (get_or-all_false n y);

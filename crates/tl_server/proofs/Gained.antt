@@ -1,4 +1,4 @@
--- What a session gains by lines that are answered.
+-- What a session gains from lines that are answered.
 use Rattle.std.proofs.Common.{◌≡◌, ◌<◌, ◌⊎◌, inl, inr, zero, suc, ℕ, List, [], ◌∷◌, ◌++◌, Bool, true, false, sym, ap, subst, refl, arith, ⊎_elim}
 use Rattle.std.specs.Prelude.{ℤ, Contains, Result, Ok, Err, string_bytes, slice_index_or}
 use Rattle.std.proofs.lemmas.List.Elements.{Contains-append_left, Contains-append_right, Contains-append_cases}

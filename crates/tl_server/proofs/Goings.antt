@@ -1,4 +1,4 @@
--- How a run goes on.
+-- How a run over the lines of an input proceeds.
 use Rattle.std.proofs.Common.{◌≡◌, ◌<◌, ◌+◌, ℕ, List, [], ◌∷◌, ◌++◌, Bool, true, false, take, ap, sym, ◌∙◌, subst, append_assoc, append-nil, refl, length, length-append, arith, inl, inr}
 use Rattle.tl_workers.specs.declared.refusal.Refusal.{Refusal}
 use Rattle.std.specs.Prelude.{Some, None, Option, IfSome, Result, Ok, Err, ◌==◌, if◌then◌else◌}
@@ -28,13 +28,13 @@ if_some None P f = tt
 not_lf : (b : ℕ) → (b ≡ 10 → ⊥) → (b == 10) ≡ false
 not_lf b h = grind (arith, nat_tests)
 
--- an LF ends the first line
+-- a line feed ends the first line
 lines_of-line : (l : List ℕ) (more : List ℕ) → HasNoLf l → lines_of (l ++ 10 ∷ more) ≡ l ∷ lines_of more
 lines_of-line [] more h = refl
 lines_of-line (b ∷ l) more h =
     ap (λ (t : Bool). if t then [] ∷ lines_of (l ++ 10 ∷ more) else onto_first b (lines_of (l ++ 10 ∷ more))) (not_lf b h.0) ∙ ap (onto_first b) (lines_of-line l more h.1)
 
--- a rest is a line
+-- remaining bytes without a line feed are a line
 lines_of-rest : (l : List ℕ) → HasNoLf l → 0 < length l → lines_of l ≡ l ∷ []
 lines_of-rest [] h some = absurd (omega arith)
 lines_of-rest (b ∷ []) h some = ap (λ (t : Bool). if t then [] ∷ [] else onto_first b []) (not_lf b h.0)
@@ -46,7 +46,7 @@ lines_of-whole [] more h = refl
 lines_of-whole (l ∷ ls) more h =
     ap lines_of (append_assoc l (10 ∷ with_lfs ls) more) ∙ lines_of-line l (with_lfs ls ++ more) h.0 ∙ ap (λ xs. l ∷ xs) (lines_of-whole ls more h.1)
 
--- one line more
+-- one more line
 with_lfs-snoc : (ls : List (List ℕ)) (l more : List ℕ) → with_lfs ls ++ (l ++ 10 ∷ more) ≡ with_lfs (ls ++ l ∷ []) ++ more
 with_lfs-snoc [] l more = sym (append_assoc l (10 ∷ []) more)
 with_lfs-snoc (k ∷ ls) l more =
@@ -58,7 +58,7 @@ NoLfs-snoc (x ∷ ls) l h k = (h.0, NoLfs-snoc ls l h.1 k)
 
 -- ---- a line of which only the beginning was kept
 
--- it is the whole line, or too long
+-- it is the whole line, or the line is too long
 kept_whole : (n : ℕ) (l : List ℕ) → length (take n l) < n → take n l ≡ l
 kept_whole n l short = take_all n l (omega (arith, length-take n l))
 
@@ -88,7 +88,7 @@ held_answer ways may_seal l g o (inl refused) = inl refused
 held_answer ways may_seal l g o (inr (inl f)) = inr (inl (f.0, held_fault l f.0 f.1, f.2, f.3))
 held_answer ways may_seal l g o (inr (inr r)) = inr (inr (r.0, held_request l r.0 r.1, r.2))
 
--- the answer to what was kept of a line is the line's
+-- the answer to the kept part of a line is the line's answer
 pub line_answer : (ways : Ways) (may_seal : ℕ → Type 0) (l kept : List ℕ) (closes : Bool) (g : List Did) (o : List ℕ) → kept ≡ held_of l → IsAnswer ways may_seal kept closes g o → IsAnswer ways may_seal l closes g o
 line_answer ways may_seal l kept false g o is a = let P : List ℕ → Type 0 = λ xs. AnswersLine ways may_seal xs g o in held_answer ways may_seal l g o (subst P is a)
 line_answer ways may_seal l kept true g o is a = let P : List ℕ → Type 0 = λ xs. ClosesLine xs g o in let c = subst P is a in (held_request l Closes c.0, c.1, c.2)
@@ -111,7 +111,7 @@ Answered-snoc ways may_seal (k ∷ ls) l gained out g o h a = (
 
 -- ---- who serves
 
--- what is gained one after another is gained, and what may be sealed later may be sealed
+-- what is gained in two steps is gained together, and what may be sealed later may be sealed before
 pub record Laws {V : Type 0} (Gains : V → V → List Did → Type 0) (May : V → ℕ → Type 0) : Type 0 where
   pub none : (a : V) → Gains a a []
   pub more : (a b c : V) (xs ys : List Did) → Gains a b xs → Gains b c ys → Gains a c (xs ++ ys)
@@ -138,7 +138,7 @@ may_answer ways may may' l false g o h (inr (inr a)) = inr (inr (a.0, a.1, may_l
 abbrev pub moment : {V : Type 0} → Option (List ℕ) → V → Option (List ℕ) → Moment V
 moment input visitor output = record { input = input; visitor = visitor; output = output }
 
--- one line's answer
+-- the answer to one line
 pub record AnswersOne {V : Type 0} (Gains : V → V → List Did → Type 0) (ways : Ways) (May : V → ℕ → Type 0) (old new : V) (s s' : Sending) (l : List ℕ) (closes : Bool) : Type 0 where
   pub gained : List Did
   pub out : List ℕ
@@ -146,22 +146,22 @@ pub record AnswersOne {V : Type 0} (Gains : V → V → List Did → Type 0) (wa
   pub writes : Writes s s' out
   pub answer : IsAnswer ways (May old) l closes gained out
 
--- nothing is kept and no write has failed, so the sink has got all
+-- if nothing is kept and no write has failed, the sink has received everything
 all_sent : (failed : Bool) (base : Option (List ℕ)) (total : List ℕ) (output : Option (List ℕ)) (kept : List ℕ) → failed ≡ false → kept ≡ [] → SentIf failed base total output kept → Adds base total output
 all_sent true base total output kept fresh none h = absurd cc
 all_sent false base total output kept fresh none h =
     let P : List ℕ → Type 0 = λ xs. Adds base xs output in
     subst P (sym (h.1 ∙ ap (λ xs. h.0 ++ xs) none ∙ append-nil h.0)) h.2
 
--- a write has failed, so it has got a beginning
+-- if a write has failed, the sink has received a prefix
 part_sent : (failed : Bool) (base : Option (List ℕ)) (total : List ℕ) (output : Option (List ℕ)) (kept : List ℕ) → failed ≡ true → SentIf failed base total output kept → AddsPart base total output
 part_sent true base total output kept fails h = h
 part_sent false base total output kept fails h = absurd cc
 
 -- ---- the run
 
--- So many lines were read whole and answered, and none closed the connection; after them come the bytes left in the piece,
--- and those still to be read.
+-- n lines were read completely and answered, and none of them closed the connection. After them come the bytes left in
+-- the piece, then those not yet read.
 pub record GoesOn {V : Type 0} (Gains : V → V → List Did → Type 0) (ways : Ways) (May : V → ℕ → Type 0) (m : Moment V) (input : Option (List ℕ)) (visitor : V) (s : Sending) (left : List ℕ) (n : ℕ) (bytes : List ℕ) : Type 0 where
   pub ls : List (List ℕ)
   pub unread : List ℕ
@@ -175,7 +175,7 @@ pub record GoesOn {V : Type 0} (Gains : V → V → List Did → Type 0) (ways :
   pub sent : Sent m.output out s
   pub answered : Answered ways (May m.visitor) ls gained out
 
--- nothing is read yet
+-- nothing has been read
 pub begins : {V : Type 0} {Gains : V → V → List Did → Type 0} {ways : Ways} {May : V → ℕ → Type 0} → Laws Gains May → (m : Moment V) (left bytes : List ℕ) (s : Sending) → m.input ≡ Some bytes → left ≡ [] → s.output ≡ m.output → s.kept ≡ [] → s.failed ≡ false → GoesOn Gains ways May m m.input m.visitor s left 0 bytes
 begins x m left bytes s is empty output_is none fresh =
     let P : Option (List ℕ) → Type 0 = λ o. Adds m.output [] o in
@@ -212,7 +212,7 @@ settles m input visitor s s' left n bytes g w =
       answered = g.answered;
     }
 
--- a line came whole, and was answered
+-- a line was read completely and answered
 pub goes_on : {V : Type 0} {Gains : V → V → List Did → Type 0} {ways : Ways} {May : V → ℕ → Type 0} → Laws Gains May → (m : Moment V) (input input' : Option (List ℕ)) (old new : V) (s s' : Sending) (left : List ℕ) (r : ReaderValue) (n : ℕ) (bytes : List ℕ) → (g : GoesOn Gains ways May m input old s left n bytes)
     → Comes (left ++ g.unread) Whole r input' → AnswersOne Gains ways May old new s s' r.held false → (more : ℕ) → more ≡ n + 1 → GoesOn Gains ways May m input' new s' r.left more bytes
 goes_on {V} {Gains} {ways} {May} x m input input' old new s s' left r n bytes g w one more is =
@@ -231,7 +231,7 @@ goes_on {V} {Gains} {ways} {May} x m input input' old new s s' left r n bytes g 
           (may_answer ways (May old) (May m.visitor) w.0 false one.gained one.out (λ k. x.on m.visitor old g.gained k g.gains) (line_answer ways (May old) w.0 r.held false one.gained one.out w.3 one.answer));
     }
 
--- the lines, where this one comes next
+-- the lines of the input, where this one is next
 lines_whole : {V : Type 0} {Gains : V → V → List Did → Type 0} {ways : Ways} {May : V → ℕ → Type 0} (m : Moment V) (input input' : Option (List ℕ)) (old : V) (s : Sending) (left : List ℕ) (r : ReaderValue) (n : ℕ) (bytes : List ℕ) → (g : GoesOn Gains ways May m input old s left n bytes) → (w : Comes (left ++ g.unread) Whole r input')
     → lines_of bytes ≡ g.ls ++ w.0 ∷ lines_of (r.left ++ w.1)
 lines_whole m input input' old s left r n bytes g w =
@@ -300,7 +300,7 @@ breaks_off m input input' visitor s left n bytes g b fresh none = (
   (g.gained, g.out, g.gains, all_sent s.failed m.output g.out s.output s.kept fresh none g.sent, g.answered),
 )
 
--- nothing more came
+-- the input has no more lines
 pub ends : {V : Type 0} {Gains : V → V → List Did → Type 0} {ways : Ways} {May : V → ℕ → Type 0} (m : Moment V) (input input' : Option (List ℕ)) (visitor : V) (s : Sending) (left : List ℕ) (r : ReaderValue) (n : ℕ) (bytes : List ℕ) → (g : GoesOn Gains ways May m input visitor s left n bytes) → Comes (left ++ g.unread) End r input'
     → s.failed ≡ false → s.kept ≡ []
     → (gained : List Did) × (out : List ℕ) × Gains m.visitor visitor gained × Adds m.output out s.output × AnsweredAll ways (May m.visitor) (lines_of bytes) n gained out
@@ -309,7 +309,7 @@ ends {V} {Gains} {ways} {May} m input input' visitor s left r n bytes g w fresh 
     let P : List (List ℕ) → Type 0 = λ xs. Answered ways (May m.visitor) xs g.gained g.out in
     (g.gained, g.out, g.gains, all_sent s.failed m.output g.out s.output s.kept fresh none g.sent, inl (g.count ∙ ap length (sym lines), subst P (sym lines) g.answered))
 
--- the last line was answered, and what was gathered was handed over
+-- the last line was answered, and the gathered output was handed over
 pub record Finishes {V : Type 0} (Gains : V → V → List Did → Type 0) (ways : Ways) (May : V → ℕ → Type 0) (m : Moment V) (visitor : V) (s : Sending) (more : ℕ) (bytes : List ℕ) : Type 0 where
   pub gained : List Did
   pub out : List ℕ
@@ -336,7 +336,7 @@ closes_at x m input input' old new s s' s'' left r n bytes g w one flushed more 
     let last : true ≡ false → lines_of (r.left ++ w.1) ≡ [] = λ e. absurd cc in
     finished x m input old new s s' s'' left n bytes r.held w.0 (lines_of (r.left ++ w.1)) true g (lines_whole m input input' old s left r n bytes g w) w.3 one last flushed more counts
 
--- the rest was the last line
+-- the remaining bytes were the last line
 pub rest_last : {V : Type 0} {Gains : V → V → List Did → Type 0} {ways : Ways} {May : V → ℕ → Type 0} → Laws Gains May → (m : Moment V) (input input' : Option (List ℕ)) (old new : V) (s s' s'' : Sending) (left : List ℕ) (r : ReaderValue) (n : ℕ) (bytes : List ℕ) (closes : Bool) → (g : GoesOn Gains ways May m input old s left n bytes)
     → Comes (left ++ g.unread) Rest r input' → AnswersOne Gains ways May old new s s' r.held closes → Writes s' s'' [] → (more : ℕ) → more ≡ n + 1 → Finishes Gains ways May m new s'' more bytes
 rest_last x m input input' old new s s' s'' left r n bytes closes g w one flushed more counts =
@@ -352,7 +352,7 @@ pub finished_part : {V : Type 0} {Gains : V → V → List Did → Type 0} {ways
 finished_part m visitor s more bytes f fails =
     (lines_of bytes, [], more, sym (append-nil (lines_of bytes)), (f.gained, f.out, f.gains, part_sent s.failed m.output f.out s.output s.kept fails f.sent, f.answered))
 
--- where nothing more came, the piece had no LF
+-- if no more bytes came, the piece had no line feed
 pub none_left : (left unread : List ℕ) → left ++ unread ≡ [] → HasNoLf left
 none_left [] unread e = tt
 none_left (x ∷ left) unread e = absurd cc

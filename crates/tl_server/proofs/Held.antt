@@ -1,4 +1,4 @@
--- One byte more.
+-- Adding bytes to a line of which only the first n are kept.
 use Rattle.std.proofs.Common.{◌≡◌, ◌≢◌, ℕ, ◌<◌, ◌≤◌, ◌+◌, List, [], ◌∷◌, ◌++◌, false, length, drop, take, get_or, drop-cons, add-one, ap, sym, ◌∙◌, subst, arith, length-append, append_assoc, refl, inl, inr}
 use Rattle.std.proofs.lemmas.Grind.{common_steps}
 use Rattle.std.proofs.lemmas.Bool.{cases_lt}
@@ -21,20 +21,20 @@ pub HasNoLf-front : (xs ys : List ℕ) → HasNoLf (xs ++ ys) → HasNoLf xs
 HasNoLf-front [] ys h = tt
 HasNoLf-front (x ∷ xs) ys h = (h.0, HasNoLf-front xs ys h.1)
 
--- one byte more, where there is room for it
+-- one more byte, if fewer than n are kept
 pub take_push : (n : ℕ) (held p : List ℕ) (b : ℕ) → held ≡ take n p → length held < n → held ++ b ∷ [] ≡ take n (p ++ b ∷ [])
 take_push n held p b is few =
     let short : length p < n = omega (arith, ap length is, length-take n p) in
     let all : held ≡ p = is ∙ take_all n p (omega arith) in
     ap (λ xs. xs ++ b ∷ []) all ∙ sym (take_all n (p ++ b ∷ []) (omega (arith, length-append p (b ∷ []))))
 
--- there is none
+-- one more byte, if n are kept already
 pub take_full : (n : ℕ) (held p : List ℕ) (b : ℕ) → held ≡ take n p → n ≤ length held → held ≡ take n (p ++ b ∷ [])
 take_full n held p b is many =
     let long : n ≤ length p = omega (arith, ap length is, length-take n p) in
     is ∙ sym (take-append-le n p (b ∷ []) long)
 
--- what is kept of a line whose beginning was cut is what is kept of the line
+-- cutting a line's beginning first doesn't change which bytes are kept
 pub take_again : (n : ℕ) (p q : List ℕ) → take n (take n p ++ q) ≡ take n (p ++ q)
 take_again n p q = elim (cases_lt n (length p)) [
   | inr short ↦ ap (λ xs. take n (xs ++ q)) (take_all n p short)

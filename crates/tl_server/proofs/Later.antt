@@ -1,4 +1,4 @@
--- What came of a request, and its answer, where so many epochs were before the engine's first.
+-- The result of a request and its answer, where `base` epochs precede the engine's first.
 use Rattle.std.proofs.Common.{◌≡◌, ◌∙◌, ℕ, ℤ, List, [], ◌∷◌, ◌++◌, map, refl, sym, ap, subst, inl, inr, Bool, true, false, ◌≤◌, arith}
 use Rattle.std.specs.Prelude.{Result, Ok, Err, Option, Some, None, IfSome, Vec, codes, string_bytes}
 use Rattle.std.proofs.lemmas.List.{map-append}
@@ -37,7 +37,7 @@ batch_same base answers =
 
 -- ---- calls
 
--- what was asked for doesn't depend on the numbers of epochs
+-- requests don't depend on the numbers of epochs
 answers_later : (base : ℕ) (qs : List Request) (xs : List (Result Receipt Refusal)) → AnswersEach qs xs → AnswersEach qs (map (later_answer base) xs)
 answers_later base [] [] h = tt
 answers_later base [] (a ∷ xs) h = absurd h
@@ -45,7 +45,7 @@ answers_later base (q ∷ qs) [] h = absurd h
 answers_later base (q ∷ qs) (Ok r ∷ xs) h = (h.0, answers_later base qs xs h.1)
 answers_later base (q ∷ qs) (Err e ∷ xs) h = answers_later base qs xs h
 
--- nor does what was refused
+-- refusals don't depend on them either
 refusals_later : (base : ℕ) (seals : Bool) (xs : List (Result Receipt Refusal)) → AreCallRefusals seals xs → AreCallRefusals seals (map (later_answer base) xs)
 refusals_later base seals [] h = tt
 refusals_later base seals (Ok r ∷ xs) h = refusals_later base seals xs h
@@ -146,7 +146,7 @@ unknown ways (Grows parents) own base w =
 unknown ways Seals own base w = absurd w
 unknown ways Closes own base w = absurd w
 
--- what an engine did where nodes can't be appended is the same where they can, for any other request
+-- what an engine does for a request other than growth doesn't depend on whether nodes can be appended
 pub grows_too : (seals grows : Bool) (r : LineValue) (own : List Did) (o : RequestOutcome) → ((parents : List ℤ) → r ≡ Grows parents → grows ≡ false)
     → CameOf (record { seals = seals; grows = false }) r own o → CameOf (record { seals = seals; grows = grows }) r own o
 grows_too seals grows (Registers name text) own o other w = w
@@ -156,7 +156,7 @@ grows_too seals grows (Grows parents) own o other w = subst (λ b. IsGrowth b pa
 grows_too seals grows Seals own o other w = w
 grows_too seals grows Closes own o other w = w
 
--- the same of what a relay did by one of its engines, where it can also append nodes
+-- the same for a relay that uses one of its engines
 pub performed : (grows : Bool) (r : LineValue) (old new : ℕ) (o : Option Done) → ((parents : List ℤ) → r ≡ Grows parents → grows ≡ false)
     → IfSome o (λ d. (own : List Did) × CameOf (record { seals = true; grows = false }) r own d.outcome) → IfSome o (λ d. (old ≤ d.base) × (new ≡ d.base))
     → IfSome o (λ d. (own : List Did) × CameOf (record { seals = true; grows = grows }) r own d.outcome × GoesOnFrom old new (map (later_did d.base) own))
@@ -166,7 +166,7 @@ performed grows r old new (Some d) other came later =
     let from = later.0 in
     (own, grows_too true grows r own d.outcome other done, (omega (arith, from, later.1), later_all old d.base own from))
 
--- a request of another kind isn't one for nodes
+-- a request of another kind doesn't append nodes
 pub no_growth : (q : LineRequest) → ((parents : Vec ℤ Global) → q ≡ Grow parents → ⊥) → (parents : List ℤ) → line_view q ≡ Grows parents → ⊥
 no_growth (Register p) other parents is = cc
 no_growth (Call q) other parents is = cc

@@ -1,4 +1,4 @@
--- A line's answer.
+-- The answer to a line.
 use Rattle.std.proofs.Common.{◌≡◌, ◌≢◌, ◌+◌, ◌<◌, ◌⊎◌, ◌++◌, List, ℕ, [], refl, inl, inr, Bool, true}
 use Rattle.std.specs.Prelude.{Result, Ok, Err, IfOk, IfErr, Vec}
 use Rattle.std.specs.declared.alloc.Global.{Global}
@@ -25,19 +25,19 @@ faulted ways may_seal line fault.TooLong h = inr (inl (fault.TooLong, h (λ e. c
 faulted ways may_seal line fault.NotUtf8 h = inr (inl (fault.NotUtf8, h (λ e. cc), refl, refl))
 faulted ways may_seal line fault.Memory h = inl (refl, refl)
 
--- what comes of a seal
+-- the result of a seal
 pub seal_outcome : (seals : Bool) (answer : Result ℕ Refusal) → IfOk answer (λ n. n + 1 < MAX_EPOCHS) → IfErr answer (λ e. IsSealRefused e) → (seals ≡ true → IfErr answer IsRestedSealRefused)
     → SealOutcome seals IsSealable answer
 seal_outcome seals (Ok epoch) few h rested = few
 seal_outcome seals (Err e) few h rested = (h, rested)
 
--- what answers a request answers a line that is one
+-- the answer to a request is the answer to a line that contains it
 pub asked_line : (ways : Ways) (may_seal : ℕ → Type 0) (line : List ℕ) (r : LineValue) (gained : List Did) (out : List ℕ) → IsRequest line r → (IsRefused gained out ⊎ AnswersRequest ways may_seal r gained out)
     → AnswersLine ways may_seal line gained out
 asked_line ways may_seal line r gained out is (inl refused) = inl refused
 asked_line ways may_seal line r gained out is (inr answer) = inr (inr (r, is, answer))
 
--- what comes of a batch
+-- the result of a batch
 pub batch_came : (requests : List Request) (s t : SessionValue) (seals : Bool) (answer : Result (Vec (Result Receipt Refusal) Global) Refusal) → IfOk answer (λ v. AnswersEach requests v.items)
     → IfOk answer (λ v. AreCallRefusals seals v.items) → IfOk answer (λ v. Gains s t (asked_of requests v.items ++ gots_of v.items)) → IfErr answer (λ e. (e ≡ refusal.Memory) × Gains s t [])
     → (x : List Did) × Gains s t x × BatchOutcome seals requests x answer

@@ -1,4 +1,4 @@
--- Texts that were handed over, one after another.
+-- Texts that are handed over one after another.
 use Rattle.std.proofs.Common.{◌≡◌, ◌+◌, ℕ, List, [], ◌++◌, Bool, true, false, ap, sym, ◌∙◌, subst, append_assoc, append-nil, refl}
 use Rattle.std.specs.Prelude.{Option, Some, None, if◌then◌else◌, Result, Ok, Err, OnOk, OnErr}
 use Rattle.std.specs.Result.{is_err}
@@ -21,14 +21,14 @@ AddsPart-more : (a b : Option (List ℕ)) (xs ys : List ℕ) → AddsPart a xs b
 AddsPart-more (Some x) b xs ys h = (h.0, h.1 ++ ys, ap (λ zs. zs ++ ys) h.2 ∙ append_assoc h.0 h.1 ys, h.3)
 AddsPart-more None b xs ys h = tt
 
--- nothing
+-- no text
 pub writes_nil : (s : Sending) → Writes s s []
 writes_nil s = record {
   sends = λ base total h. let P : List ℕ → Type 0 = λ xs. Sent base xs s in subst P (sym (append-nil total)) h;
   counts = λ n h. h;
 }
 
--- one text, and then another
+-- one text and then another
 pub writes_then : {a b c : Sending} {t u : List ℕ} → Writes a b t → Writes b c u → Writes a c (t ++ u)
 writes_then {a} {b} {c} {t} {u} v w = record {
   sends = λ base total h.
@@ -40,7 +40,7 @@ writes_then {a} {b} {c} {t} {u} v w = record {
 pub writes_same : {a b : Sending} {t u : List ℕ} → Writes a b t → t ≡ u → Writes a b u
 writes_same {a} {b} v e = let P : List ℕ → Type 0 = λ xs. Writes a b xs in subst P e v
 
--- it is gathered
+-- the text is gathered
 kept_by : (failed : Bool) (base : Option (List ℕ)) (total : List ℕ) (output : Option (List ℕ)) (kept text : List ℕ) → SentIf failed base total output kept → SentIf failed base (total ++ text) output (kept ++ text)
 kept_by false base total output kept text h = (h.0, ap (λ xs. xs ++ text) h.1 ∙ append_assoc h.0 kept text, h.2)
 kept_by true base total output kept text h = AddsPart-more base output total text h
@@ -63,7 +63,7 @@ writes_none output failures kept kept' text failed is = record {
   counts = λ n h. h;
 }
 
--- it is written with what was gathered
+-- the text is written together with what was gathered
 sent_by : (failed : Bool) (base : Option (List ℕ)) (total : List ℕ) (o o' : Option (List ℕ)) (kept kept' text written : List ℕ) → SentIf false base total o kept → written ≡ kept ++ text → kept' ≡ []
     → (failed ≡ false → Adds o written o') → (failed ≡ true → AddsPart o written o') → SentIf failed base (total ++ text) o' kept'
 sent_by false base total o o' kept kept' text written h is none ok err =

@@ -11,15 +11,15 @@ use Rattle.tl_generations.specs.Growth.{numbers_of as growth_numbers_of}
 use Rattle.tl_workers.specs.declared.refusal.Refusal.{Refusal}
 use Rattle.tl_workers.specs.Refusals.{numbers_of}
 
--- a text, and the LF
+-- the text and a line feed
 abbrev pub line_text : List ℕ → List ℕ
 line_text text = text ++ codes "\n"
 
--- a comma stands before each item of a list but the first
+-- a comma before each item of a list except the first
 abbrev pub comma_before : ℕ → List ℕ
 comma_before index = if index == 0 then [] else codes ","
 
--- the number of an epoch; the first one's is left out
+-- the member with the epoch's number; it is omitted for epoch 0
 abbrev pub epoch_text : ℕ → List ℕ
 epoch_text epoch = if epoch == 0 then [] else codes ",\"epoch\":" ++ decimal epoch
 
@@ -30,7 +30,7 @@ call_text r =
 abbrev pub error_text : List ℕ → List ℕ
 error_text numbers = codes "{\"error\":" ++ list_text decimal numbers ++ codes "}"
 
--- what came of one request of a batch
+-- the answer to one request of a batch
 abbrev pub one_text : Result Receipt Refusal → List ℕ
 one_text (Ok r) = call_text r
 one_text (Err e) = error_text (numbers_of e)
@@ -42,17 +42,17 @@ abbrev pub bounds_text : Bounds → List ℕ
 bounds_text b =
     codes "{\"bounds\":{\"emits\":" ++ decimal b.emits ++ codes ",\"locks\":" ++ decimal b.locks ++ codes ",\"steps\":" ++ decimal b.steps ++ codes "}}"
 
--- what came of a registration
+-- the answer to a registration
 abbrev pub register_text : Result Bounds RegisterFault → List ℕ
 register_text (Ok b) = bounds_text b
 register_text (Err e) = error_text (register_numbers_of e)
 
--- what came of a seal
+-- the answer to a seal
 abbrev pub seal_text : Result ℕ Refusal → List ℕ
 seal_text (Ok epoch) = codes "{\"sealed\":" ++ decimal epoch ++ codes "}"
 seal_text (Err e) = error_text (numbers_of e)
 
--- what came of a growth: the number of the first new node
+-- the answer to a growth: the number of the first new node
 abbrev pub growth_text : Result ℕ GrowthFault → List ℕ
 growth_text (Ok first) = codes "{\"grown\":" ++ decimal first ++ codes "}"
 growth_text (Err e) = error_text (growth_numbers_of e)

@@ -1,25 +1,25 @@
--- The next line of an input.
+-- How the next line of an input is read.
 use Rattle.std.specs.Prelude.{◌≡◌, ◌<◌, ℕ, List, [], ◌∷◌, ◌++◌, Option, Some, length, take, Bool, true, false}
 use Rattle.tl_server.specs.declared.reader.Came.{Came}
 use Rattle.tl_server.specs.declared.reader.Came.TheVariants.{Whole, Rest, End}
 use Rattle.tl_server.specs.declared.reader.TheConstants.{HELD}
 use Rattle.tl_server.specs.Lines.{HasNoLf}
 
--- what a reader has in hand: the bytes of the piece that are still to be looked at, and the line so far
+-- the state of a reader: the bytes of the current piece that aren't scanned yet, and the line so far
 pub record ReaderValue : Type 0 where
   pub left : List ℕ
   pub held : List ℕ
 
--- what is kept of a line: its first 65,537 bytes, which tell a line that is too long
+-- the part of a line that is kept: its first 65,537 bytes, enough to detect a line that is too long
 abbrev pub held_of : List ℕ → List ℕ
 held_of line = take HELD line
 
--- the bytes up to the next LF, if there was one, were looked at, and belong to the line so far
+-- scans the piece up to its next line feed, if there is one, and adds the bytes before it to the line
 abbrev pub Scans : ReaderValue → Bool → ReaderValue → Type 0
 Scans old true new = (q : List ℕ) × HasNoLf q × (old.left ≡ q ++ 10 ∷ new.left) × (new.held ≡ held_of (old.held ++ q))
 Scans old false new = HasNoLf old.left × (new.left ≡ []) × (new.held ≡ held_of (old.held ++ old.left))
 
--- what came next of these bytes, after which these are left in the piece and these in the source
+-- the next line of these bytes; afterwards r has the rest of the piece, and `input` the bytes not yet read
 abbrev pub Comes : List ℕ → Came → ReaderValue → Option (List ℕ) → Type 0
 Comes bytes Whole r input =
     (l : List ℕ) × (unread : List ℕ) × HasNoLf l × (r.held ≡ held_of l) × (input ≡ Some unread) × (bytes ≡ l ++ 10 ∷ (r.left ++ unread))

@@ -1,4 +1,4 @@
--- The numbers of a server's faults.
+-- The faults of a server, as numbers.
 use Rattle.std.specs.Prelude.{ℕ, List, [], ◌∷◌}
 use Rattle.tl_server.specs.declared.fault.ServeFault.{ServeFault}
 use Rattle.tl_server.specs.declared.fault.ServeFault.TheVariants as serve
@@ -7,20 +7,20 @@ use Rattle.tl_server.specs.declared.fault.ListenFault.TheVariants as listen
 use Rattle.tl_server.specs.declared.fault.LineFault.{LineFault}
 use Rattle.tl_server.specs.declared.fault.LineFault.TheVariants.{NotRequest, TooLong, NotUtf8, Memory}
 
--- a line's fault as numbers
+-- the number of a line's fault
 abbrev pub numbers_of : LineFault → List ℕ
 numbers_of NotRequest = 901 ∷ []
 numbers_of TooLong = 902 ∷ []
 numbers_of NotUtf8 = 903 ∷ []
 numbers_of Memory = 990 ∷ []
 
--- why a server stops, as numbers
+-- the number of the reason why a server stops
 abbrev pub serve_numbers_of : ServeFault → List ℕ
 serve_numbers_of serve.ReadFailed = 911 ∷ []
 serve_numbers_of serve.WriteFailed = 912 ∷ []
 serve_numbers_of serve.Memory = 990 ∷ []
 
--- why no connection is served, as numbers
+-- the number of the reason why no connection is served
 abbrev pub listen_numbers_of : ListenFault → List ℕ
 listen_numbers_of listen.NoPort = 33 ∷ []
 listen_numbers_of listen.Memory = 990 ∷ []

@@ -1,4 +1,4 @@
--- What is gained in one step, and in several.
+-- What a session or a visitor gains in one step, and in several.
 use Rattle.std.proofs.Common.{◌≡◌, ◌≤◌, ◌∙◌, ap, refl, sym, append_assoc, append-nil, arith}
 use Rattle.std.specs.Prelude.{ℕ, ◌+◌, List, All, map, [], ◌∷◌, ◌++◌, get_or}
 use Rattle.std.proofs.lemmas.List.Elements.{All-nil, All-append, All-map}
@@ -11,7 +11,7 @@ use Rattle.tl_server.specs.Outcomes.{epoch_of, later_did, GoesOnFrom}
 pub gains_nothing : (s : SessionValue) → Gains s s []
 gains_nothing s = record { number = refl; kept = sym (append-nil s.kept) }
 
--- a session that does this and then that does both
+-- the entries of two steps are added one after the other
 pub gains_both : (a b c : SessionValue) (xs ys : List Did) → Gains a b xs → Gains b c ys → Gains a c (xs ++ ys)
 gains_both a b c xs ys h k = record { number = k.number ∙ h.number; kept = k.kept ∙ ap (λ zs. zs ++ ys) h.kept ∙ append_assoc a.kept xs ys }
 
@@ -33,11 +33,11 @@ later_one : (a base : ℕ) (d : Did) → a ≤ base → a ≤ epoch_of (later_di
 later_one a base (Asked x) h = omega (arith, h)
 later_one a base (Got x) h = omega (arith, h)
 
--- what is done in an engine that has so many epochs before it isn't in an epoch before those
+-- what is done in an engine that has `base` epochs before it is in no epoch before those
 pub later_all : (a base : ℕ) (own : List Did) → a ≤ base → All (λ d. a ≤ epoch_of d) (map (later_did base) own)
 later_all a base own h = All-map (λ d. a ≤ epoch_of d) (later_did base) own (λ i d lt. later_one a base (get_or own i d) h)
 
--- no epochs are before a single engine
+-- with no epochs before the engine, the entries don't change
 none_before : (d : Did) → later_did 0 d ≡ d
 none_before (Asked x) = let same : 0 + x.epoch ≡ x.epoch = omega arith in ap (λ (e : ℕ). Asked (record x { epoch = e })) same
 none_before (Got x) = let same : 0 + x.epoch ≡ x.epoch = omega arith in ap (λ (e : ℕ). Got (record x { epoch = e })) same

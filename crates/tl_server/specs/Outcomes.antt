@@ -1,4 +1,4 @@
--- What came of a request before its answer is written, and the numbers of epochs that clients see.
+-- The result of a request before its answer is written, and the epoch numbers that clients see.
 use Rattle.std.specs.Prelude.{◌≡◌, ◌≢◌, ◌≤◌, ℕ, ◌+◌, ℤ, Bool, true, false, List, All, map, [], ◌++◌, Result, Ok, Err, Vec}
 use Rattle.std.specs.declared.alloc.Global.{Global}
 use Rattle.tl_procedures.specs.declared.request.Request.{Request}
@@ -16,7 +16,7 @@ use Rattle.tl_server.specs.Served.{Ways, RegisterOutcome, CallOutcome, GrowthOut
 use Rattle.tl_server.specs.declared.outcome.RequestOutcome.{RequestOutcome}
 use Rattle.tl_server.specs.declared.outcome.RequestOutcome.TheVariants.{Registered, Called, Batched, Grown, Unknown, Sealed}
 
--- a request that an engine has to do
+-- a request that an engine carries out
 abbrev pub IsAsked : LineValue → Type 0
 IsAsked (Registers name text) = Unit {0}
 IsAsked (Calls name args) = Unit {0}
@@ -25,7 +25,7 @@ IsAsked (Grows parents) = Unit {0}
 IsAsked Seals = Unit {0}
 IsAsked Closes = ⊥
 
--- ---- what came of it, and what the session of an engine gained by it
+-- ---- the result of a request, and what the session of an engine gained by it
 
 abbrev pub IsRegistered : List ℕ → List ℕ → List Did → RequestOutcome → Type 0
 IsRegistered name text gained (Registered answer) = (gained ≡ []) × RegisterOutcome (name, text) answer
@@ -35,7 +35,7 @@ abbrev pub IsCalled : Bool → List ℕ → List ℤ → List Did → RequestOut
 IsCalled seals name args gained (Called answer) = CallOutcome seals (name, args) gained answer
 IsCalled seals name args gained _ = ⊥
 
--- an answer to each request, or want of memory
+-- an answer to each request, or a refusal for lack of memory
 abbrev pub BatchOutcome : Bool → List Request → List Did → Result (Vec (Result Receipt Refusal) Global) Refusal → Type 0
 BatchOutcome seals requests gained (Ok v) =
     AnswersEach requests v.items × AreCallRefusals seals v.items × (gained ≡ asked_of requests v.items ++ gots_of v.items)
@@ -62,7 +62,7 @@ CameOf ways (Grows parents) gained outcome = IsGrowth ways.grows parents gained 
 CameOf ways Seals gained outcome = IsSealed ways.seals gained outcome
 CameOf ways Closes gained outcome = ⊥
 
--- ---- epochs among those of all engines, of which so many were before this engine's first
+-- ---- epochs counted over all engines, where `base` epochs precede this engine's first
 
 abbrev pub later : ℕ → Receipt → Receipt
 later base r = record r { epoch = base + r.epoch }
@@ -89,7 +89,7 @@ abbrev pub epoch_of : Did → ℕ
 epoch_of (Asked a) = a.epoch
 epoch_of (Got r) = r.epoch
 
--- The engine that served the visitor last has so many epochs before it, now and then. No call of the visitor stands in an epoch
--- before those of the engine that served it earlier: the numbers never start again.
+-- The number of epochs before the visitor's engine doesn't decrease, and the calls gained are in no epoch before the old
+-- number. Epoch numbers never start again.
 abbrev pub GoesOnFrom : ℕ → ℕ → List Did → Type 0
 GoesOnFrom old new gained = (old ≤ new) × All (λ d. old ≤ epoch_of d) gained

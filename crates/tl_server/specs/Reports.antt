@@ -1,4 +1,4 @@
--- What a server says of itself.
+-- What a server reports about itself.
 use Rattle.std.specs.Prelude.{ℕ, List, ◌++◌, codes, decimal, Ok, Err, is_ok, count_by, if◌then◌else◌}
 use Rattle.tl_table.specs.declared.receipt.Receipt.{Receipt}
 use Rattle.tl_workers.specs.declared.refusal.Refusal.{Refusal}
@@ -6,7 +6,7 @@ use Rattle.tl_server.specs.declared.outcome.RequestOutcome.{RequestOutcome}
 use Rattle.tl_server.specs.declared.outcome.RequestOutcome.TheVariants.{Registered, Called, Batched, Sealed, Grown, Unknown}
 use Rattle.tl_server.specs.declared.status.Status.{Status}
 
--- how many of the answers of an outcome are receipts
+-- the number of receipts among an outcome's answers
 abbrev pub receipts_of : RequestOutcome → ℕ
 receipts_of (Registered answer) = 0
 receipts_of (Called answer) = if is_ok answer then 1 else 0
@@ -16,7 +16,7 @@ receipts_of (Sealed answer) = 0
 receipts_of (Grown answer) = 0
 receipts_of Unknown = 0
 
--- how many procedures were registered
+-- the number of procedures that were registered
 abbrev pub registered_of : RequestOutcome → ℕ
 registered_of (Registered answer) = if is_ok answer then 1 else 0
 registered_of (Called answer) = 0

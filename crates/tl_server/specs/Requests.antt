@@ -1,4 +1,4 @@
--- What a line asks for.
+-- The request that a line contains.
 use Rattle.std.specs.Prelude.{◌≡◌, ◌≤◌, ◌<◌, ◌==◌, ◌&&◌, ℕ, ℤ, pos, negsuc, List, map, length, codes, Bool, false, nat_lt, nat_le, Option, Some, None, option_map, option_and_then, string_bytes, if◌then◌else◌, unwrap_or, IsUtf8}
 use Rattle.std.specs.Str.{bytes_eq}
 use Rattle.serde_json.specs.Data.{Data}
@@ -15,8 +15,8 @@ use Rattle.tl_server.specs.declared.request.LineRequest.TheVariants.{Register, C
 use Rattle.tl_server.specs.declared.fault.LineFault.{LineFault}
 use Rattle.tl_server.specs.declared.fault.LineFault.TheVariants as fault
 
--- the name and the text of a procedure; the name and the arguments of a call; many calls, and on how many threads; the parents of
--- nodes that are to be appended to the tree; the seal of an epoch; or the end
+-- the name and the text of a procedure; the name and the arguments of a call; several calls and their number of threads;
+-- the parents of nodes to append to the tree; the seal of an epoch; or the end of the connection
 pub data LineValue : Type 0 where
   Registers : List ℕ → List ℕ → LineValue
   Calls : List ℕ → List ℤ → LineValue
@@ -35,11 +35,11 @@ line_view Close = Closes
 
 -- ---- the six forms
 
--- the value is an object of so many members
+-- the value is an object with `count` members
 abbrev pub has_members : ℕ → Data → Bool
 has_members count d = unwrap_or (option_map (λ ms. members_len ms == count) (as_object d)) false
 
--- the text of the member of that name
+-- the string that is the member with this name
 abbrev pub text_at : List ℕ → Data → Option (List ℕ)
 text_at key d = option_and_then as_str (get key d)
 
@@ -53,7 +53,7 @@ call_of d = if has_members 3 d
     then option_map (λ x. Calls x.0 x.1) (both (text_at (codes "proc") d) (option_and_then integers_of (get (codes "args") d)))
     else None
 
--- a number of workers, 1 to 16
+-- a number of workers, from 1 to 16
 abbrev pub workers_of : ℤ → Option ℕ
 workers_of (pos n) = if nat_lt 0 n && nat_le n MAX_WORKERS then Some n else None
 workers_of (negsuc n) = None
@@ -68,7 +68,7 @@ batch_of d = if has_members 3 d
     (both (option_and_then calls_of (get (codes "calls") d)) (option_and_then workers_of (option_and_then integer_of (get (codes "workers") d))))
     else None
 
--- one parent at least
+-- at least one parent
 abbrev pub grow_of : Data → Option LineValue
 grow_of d = if has_members 2 d
     then option_and_then (λ ps. if nat_lt 0 (length ps) then Some (Grows ps) else None) (option_and_then integers_of (get (codes "parents") d))
@@ -80,7 +80,7 @@ seal_of d = if has_members 1 d then Some Seals else None
 abbrev pub close_of : Data → Option LineValue
 close_of d = if has_members 1 d then Some Closes else None
 
--- the request of an object whose member `op` is this
+-- the request in an object whose member `op` is this
 abbrev pub request_with : List ℕ → Data → Option LineValue
 request_with op d =
     if bytes_eq op (codes "register") then register_of d
@@ -91,19 +91,19 @@ request_with op d =
     else if bytes_eq op (codes "close") then close_of d
     else None
 
--- the request that a value stands for
+-- the request in a JSON value
 abbrev pub line_request_of : Data → Option LineValue
 line_request_of d = option_and_then (λ op. request_with op d) (text_at (codes "op") d)
 
 -- ---- a line
 
--- The line is short enough, is UTF-8, and is a text of the request.
+-- The line is short enough, is UTF-8, and contains this request.
 pub record IsRequest (line : List ℕ) (r : LineValue) : Type 0 where
   pub short : length line ≤ MAX_LINE
   pub utf8 : IsUtf8 line
   pub same : option_and_then line_request_of (read line) ≡ Some r
 
--- what is wrong with a line first
+-- the first fault of a line
 abbrev pub IsLineFault : List ℕ → LineFault → Type 0
 IsLineFault line fault.TooLong = MAX_LINE < length line
 IsLineFault line fault.NotUtf8 = (length line ≤ MAX_LINE) × ¬ IsUtf8 line

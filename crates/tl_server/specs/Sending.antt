@@ -1,13 +1,13 @@
--- What is on its way to a sink.
+-- Output on its way to a sink.
 use Rattle.std.specs.Prelude.{◌≡◌, ◌+◌, ℕ, List, ◌++◌, Option, Bool, true, false, if◌then◌else◌}
 use Rattle.tl_server.specs.Devices.{Adds, AddsPart}
 
--- what is gathered and not yet written, and whether a write has failed, after which nothing more is written
+-- the bytes gathered and not yet written, and whether a write has failed; after a failure nothing more is written
 pub record OutboxValue : Type 0 where
   pub kept : List ℕ
   pub failed : Bool
 
--- a sink, and what is gathered for it
+-- a sink, and the bytes gathered for it
 pub record Sending : Type 0 where
   pub output : Option (List ℕ)
   pub failures : ℕ
@@ -21,12 +21,12 @@ abbrev pub SentIf : Bool → Option (List ℕ) → List ℕ → Option (List ℕ
 SentIf false base total output kept = (done : List ℕ) × (total ≡ done ++ kept) × Adds base done output
 SentIf true base total output kept = AddsPart base total output
 
--- All of the text was handed over after the sink had the base. It has got all but what is kept; after a failed write, a
--- beginning.
+-- The whole text was handed over when the sink had `base`. The sink has received all of it except the bytes kept, or
+-- after a failed write a prefix of it.
 abbrev pub Sent : Option (List ℕ) → List ℕ → Sending → Type 0
 Sent base total s = SentIf s.failed base total s.output s.kept
 
--- a failed write is the one failure more
+-- a failed write counts as one failure
 abbrev pub IsCounted : ℕ → Sending → Type 0
 IsCounted n s = s.failures ≡ (if s.failed then n + 1 else n)
 

@@ -1,4 +1,4 @@
--- How lines are answered, and what a session gains by that.
+-- How lines are answered, and what a session gains by them.
 use Rattle.std.specs.Prelude.{◌≡◌, ◌≢◌, ◌↔◌, ◌⊎◌, ◌+◌, ◌<◌, ℕ, ℤ, List, map, [], ◌∷◌, ◌++◌, length, Bool, true, false, Result, Ok, Err}
 use Rattle.tl_instr.specs.Codes.{CodeValue}
 use Rattle.tl_budget.specs.declared.limits.Bounds.{Bounds}
@@ -29,20 +29,20 @@ use Rattle.tl_server.specs.Answers.{one_text, error_text, batch_text, register_t
 
 -- ---- a registration
 
--- why a procedure isn't registered: its text, else its name; 612 exactly where that is none
+-- why a procedure isn't registered: its text has a fault, or its name is refused; the fault is BadName exactly if it isn't a valid name
 abbrev pub IsRegisterFault : List ℕ × List ℕ → RegisterFault → Type 0
 IsRegisterFault p (Text f) = IsTextFault p.1 f
 IsRegisterFault p (Name f) = ((code : CodeValue) × IsCodeText p.1 code) × ((f ≡ BadName) ↔ (is_name p.0 ≡ false))
 
--- a procedure's name and text, and what came of its registration
+-- a procedure's name and text, and the result of its registration
 abbrev pub RegisterOutcome : List ℕ × List ℕ → Result Bounds RegisterFault → Type 0
 RegisterOutcome p (Ok bounds) = ((code : CodeValue) × IsCodeText p.1 code × AreBounds code.instrs bounds) × (is_name p.0 ≡ true)
 RegisterOutcome p (Err e) = is_memory e ≡ false → IsRegisterFault p e
 
 -- ---- calls
 
--- a call's name and arguments, what the session gained, and what came of it: if it was refused, then as an engine refuses calls that
--- seals its epochs by itself, or doesn't
+-- a call's name and arguments, what the session gained, and the call's result; the reasons of a refusal depend on whether
+-- the engine seals its epochs by itself
 abbrev pub CallOutcome : Bool → List ℕ × List ℤ → List Did → Result Receipt Refusal → Type 0
 CallOutcome seals q gained (Ok r) = (r.args.items ≡ q.1) × (gained ≡ call_of q.0 q.1 r)
 CallOutcome seals q gained (Err e) = (gained ≡ []) × IsCallRefusal seals e
@@ -50,11 +50,11 @@ CallOutcome seals q gained (Err e) = (gained ≡ []) × IsCallRefusal seals e
 abbrev pub IsCallAnswer : Bool → List ℕ × List ℤ → List Did → List ℕ → Type 0
 IsCallAnswer seals q gained out = (answer : Result Receipt Refusal) × CallOutcome seals q gained answer × (out ≡ line_text (one_text answer))
 
--- want of memory: nothing was done
+-- a refusal for lack of memory: nothing was done
 abbrev pub IsRefused : List Did → List ℕ → Type 0
 IsRefused gained out = (gained ≡ []) × (out ≡ line_text (error_text (990 ∷ [])))
 
--- an answer to each request, in order; what the session gained are the calls that were admitted and then their receipts
+-- a refusal, or an answer to each request in order; the session gains the admitted calls and then their receipts
 abbrev pub IsBatchAnswer : Bool → List Request → List Did → List ℕ → Type 0
 IsBatchAnswer seals requests gained out =
     IsRefused gained out
@@ -63,24 +63,24 @@ IsBatchAnswer seals requests gained out =
 
 -- ---- a seal
 
--- the number of an epoch that a table sealed, which isn't the last that it may have
+-- a table may have an epoch after this one
 abbrev pub IsSealable : ℕ → Type 0
 IsSealable epoch = epoch + 1 < MAX_EPOCHS
 
--- the number of the epoch that was sealed, which may be sealed; else 606, 808 or want of memory, and not 606 if the engine waits
--- until all calls are done
+-- the number of the sealed epoch, which must be one that may be sealed; or why nothing was sealed, where NotAtRest
+-- doesn't occur if the engine waits until all calls are done
 abbrev pub SealOutcome : Bool → (ℕ → Type 0) → Result ℕ Refusal → Type 0
 SealOutcome seals may_seal (Ok epoch) = may_seal epoch
 SealOutcome seals may_seal (Err e) = IsSealRefused e × (seals ≡ true → IsRestedSealRefused e)
 
 -- ---- growth
 
--- nodes of these parents were appended to a tree, the first under that number; or why they weren't, to a tree of some number of nodes
+-- nodes with these parents were appended to a tree, the first with this number; or why they weren't
 abbrev pub GrowthOutcome : List ℤ → Result ℕ GrowthFault → Type 0
 GrowthOutcome parents (Ok first) = (old : LegacyValue) × (new : LegacyValue) × IsGrown old parents first new
 GrowthOutcome parents (Err e) = (limit : ℕ) × (count : ℕ) × IsGrowthFault limit count parents e
 
--- the answer, if nodes can be appended to the tree of what serves; else that of any request which it doesn't know
+-- the result of the growth, if nodes can be appended to the tree; otherwise the answer to a line that is no request
 abbrev pub IsGrowthAnswer : Bool → List ℤ → List ℕ → Type 0
 IsGrowthAnswer true parents out =
     (answer : Result ℕ GrowthFault) × GrowthOutcome parents answer × (answer ≢ Err growth.Memory) × (out ≡ line_text (growth_text answer))
@@ -88,12 +88,12 @@ IsGrowthAnswer false parents out = out ≡ line_text (error_text (numbers_of Not
 
 -- ---- lines, where the epochs with such numbers may be sealed
 
--- what else serves lines can do: whether its engines seal their epochs by themselves, and whether nodes can be appended to its tree
+-- what the server can do: whether its engines seal their epochs by themselves, and whether nodes can be appended to its tree
 pub record Ways : Type 0 where
   pub seals : Bool
   pub grows : Bool
 
--- a request's answer, after which the next line is read, and what the session gained by it
+-- the answer to a request after which reading goes on, and what the session gained by it
 abbrev pub AnswersRequest : Ways → (ℕ → Type 0) → LineValue → List Did → List ℕ → Type 0
 AnswersRequest ways may_seal (Registers name text) gained out =
     (gained ≡ []) × ((answer : Result Bounds RegisterFault) × RegisterOutcome (name, text) answer × (out ≡ line_text (register_text answer)))
@@ -103,14 +103,14 @@ AnswersRequest ways may_seal (Grows parents) gained out = (gained ≡ []) × IsG
 AnswersRequest ways may_seal Seals gained out = (gained ≡ []) × ((answer : Result ℕ Refusal) × SealOutcome ways.seals may_seal answer × (out ≡ line_text (seal_text answer)))
 AnswersRequest ways may_seal Closes gained out = ⊥
 
--- a line's answer, after which the next line is read
+-- the answer to a line after which reading goes on
 abbrev pub AnswersLine : Ways → (ℕ → Type 0) → List ℕ → List Did → List ℕ → Type 0
 AnswersLine ways may_seal line gained out =
     IsRefused gained out
     ⊎ ((f : LineFault) × IsLineFault line f × (gained ≡ []) × (out ≡ line_text (error_text (numbers_of f))))
     ⊎ ((r : LineValue) × IsRequest line r × AnswersRequest ways may_seal r gained out)
 
--- a line closes the connection, and is answered so
+-- the line closes the connection and has the answer for that
 abbrev pub ClosesLine : List ℕ → List Did → List ℕ → Type 0
 ClosesLine line gained out = IsRequest line Closes × (gained ≡ []) × (out ≡ line_text closed_text)
 
@@ -124,7 +124,7 @@ Answered ways may_seal [] gained out = (gained ≡ []) × (out ≡ [])
 Answered ways may_seal (l ∷ ls) gained out =
     (g : List Did) × (gs : List Did) × (o : List ℕ) × (os : List ℕ) × (gained ≡ g ++ gs) × (out ≡ o ++ os) × AnswersLine ways may_seal l g o × Answered ways may_seal ls gs os
 
--- After these lines one came that closed the connection, and nothing more was read.
+-- The last of the n lines read closed the connection, and the lines before it were answered.
 pub record ClosedAt (ways : Ways) (may_seal : ℕ → Type 0) (lines : List (List ℕ)) (n : ℕ) (gained : List Did) (out : List ℕ) : Type 0 where
   pub before : List (List ℕ)
   pub last : List ℕ
@@ -136,6 +136,6 @@ pub record ClosedAt (ways : Ways) (may_seal : ℕ → Type 0) (lines : List (Lis
   pub closes : IsRequest last Closes
   pub out_is : out ≡ answers ++ line_text closed_text
 
--- the first n of these lines were answered: all of them, or those up to one that closed the connection
+-- the first n of these lines were answered: all of them, or those up to the one that closed the connection
 abbrev pub AnsweredAll : Ways → (ℕ → Type 0) → List (List ℕ) → ℕ → List Did → List ℕ → Type 0
 AnsweredAll ways may_seal lines n gained out = ((n ≡ length lines) × Answered ways may_seal lines gained out) ⊎ ClosedAt ways may_seal lines n gained out

@@ -9,7 +9,7 @@ use Rattle.tl_store.specs.Changes.{change_to, Stays, IsChange, LeadsBelow}
 pub leads_none : (before now : Records) → LeadsBelow 0 before now []
 leads_none before now = record { each = All-nil (IsChange now); others = λ x lt. absurd (omega arith) }
 
--- one change more
+-- one more change
 kept : (before now : Records) (changes : List ChangedRecord) (c : ChangedRecord) (x : ℕ) → Stays before now x ⊎ Contains changes (change_to now x) → Stays before now x ⊎ Contains (changes ++ c ∷ []) (change_to now x)
 kept before now changes c x (inl stays) = inl stays
 kept before now changes c x (inr found) = inr (Contains-append_left changes (c ∷ []) (change_to now x) found)
@@ -21,7 +21,7 @@ leads_push n before now changes so_far inside = record {
       (λ x lt. kept before now changes (change_to now n) x (so_far.others x lt)) (inr (Contains-push changes (change_to now n)));
 }
 
--- a node that stays
+-- a node whose record doesn't change
 pub leads_stay : (n : ℕ) (before now : Records) (changes : List ChangedRecord) → LeadsBelow n before now changes → Stays before now n → LeadsBelow (n + 1) before now changes
 leads_stay n before now changes so_far stays = record {
   each = so_far.each;

@@ -1,4 +1,4 @@
--- What came behind the stored rows.
+-- What is added after the stored rows.
 use Rattle.std.proofs.Common.{◌≡◌, ◌≢◌, ℕ, ◌+◌, ◌*◌, ◌/◌, ◌<◌, ℤ, pos, List, [], ◌∷◌, ◌++◌, length, map, drop, reverse, true, Some, string_bytes, refl, sym, ap, ◌∙◌, below_more, inl, inr, arith}
 use Rattle.std.specs.Prelude.{◌⊎◌, All, Any}
 use Rattle.std.specs.List.{drop-map}
@@ -20,7 +20,7 @@ pub two_bytes : (turns : List ℕ) → length (turn_bytes turns) ≡ 2 * length 
 two_bytes [] = refl
 two_bytes (t ∷ turns) = let rest = two_bytes turns in omega arith
 
--- the turns behind the first ones
+-- the turns after the first ones
 pub behind : (past : List Event) (turns later : List ℕ) (bytes late : List ℕ) (first : ℕ) → bytes ≡ turn_bytes turns → map caller past ≡ later ++ reverse turns
     → map caller (reverse past) ≡ reverse (map caller past) → first ≡ length bytes / 2 → late ≡ turn_bytes (map caller (drop first (reverse past)))
     → bytes ++ late ≡ turn_bytes (reverse (map caller past))

@@ -1,4 +1,4 @@
--- A core that was driven again has the calls of the rows.
+-- A core that was replayed has the calls of the rows.
 use Rattle.std.proofs.Common.{◌≡◌, ℕ, zero, suc, ◌<◌, ◌≤◌, pos, List, [], ◌∷◌, ◌++◌, length, map, reverse, refl, sym, ap, ◌∙◌, arith, Some, slice_get, string_bytes}
 use Rattle.std.proofs.lemmas.List.{length-map, append-nil, map-append}
 use Rattle.tl_tree_locking.specs.declared.event.Event.{Event}
@@ -13,7 +13,7 @@ use Rattle.tl_store.specs.declared.stored.Stored.{Stored}
 use Rattle.tl_store.specs.Rows.{call_form, request_form, named_form, AreNumbered, turn_bytes, all_turn_bytes}
 use Rattle.tl_store.specs.Recovered.{IsCallOf, IsReplyOf, IsOpened, IsRebuilt}
 
--- the request at the place of a row is the row's
+-- the request at the position of a row is the row's
 same_form : (rows : List CallRow) (requests : List Request) (n : ℕ) (row : CallRow) → map call_form rows ≡ map request_form requests → slice_get rows n ≡ Some row
     → (r : Request) × (slice_get requests n ≡ Some r) × (call_form row ≡ request_form r)
 same_form [] requests n row is at = absurd cc
@@ -43,7 +43,7 @@ calls_asked v rows requests is fits n row known at =
       args = ap (λ f. f.1) found.2 ∙ ap Some (sym asked.args);
     }
 
--- what came later stands behind the turns that were taken
+-- later events come after the turns that were replayed
 pub later_turns : (before past all more : List Event) (turns : List ℕ) → map caller past ≡ reverse turns ++ map caller before → all ≡ more ++ past
     → map caller all ≡ map caller more ++ (reverse turns ++ map caller before)
 later_turns before past all more turns taken ended = ap (map caller) ended ∙ map-append caller more past ∙ ap (λ l. map caller more ++ l) taken

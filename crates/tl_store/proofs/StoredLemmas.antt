@@ -1,4 +1,4 @@
--- What was read of a store is what it holds.
+-- What was read from a store is what it contains.
 use Rattle.std.proofs.Common.{◌≡◌, ℕ, ◌+◌, ◌<◌, ◌≤◌, List, [], ◌∷◌, length, drop, refl, sym, ap, ◌∙◌, arith}
 use Rattle.sqlite_value.specs.Order.{Row}
 use Rattle.sqlite_trees.specs.Tree.{Trees}
@@ -6,7 +6,7 @@ use Rattle.tl_ledger.specs.declared.schema.TheConstants.{TABLES}
 use Rattle.tl_ledger.specs.Rows.{rows_from}
 use Rattle.tl_ledger.specs.Contents.{Contents, Holds}
 
--- rows that are numbered alike have the same columns
+-- equal rows that are numbered from the same number have equal columns
 same_columns : (n : ℕ) (xs ys : List Row) → rows_from n xs ≡ rows_from n ys → xs ≡ ys
 same_columns n [] [] e = refl
 same_columns n [] (y ∷ ys) e = absurd (let l = ap length e in omega arith)
@@ -26,6 +26,6 @@ rest_read c db old table first items inside holds same few rest = rest (c table)
 pub holds_again : (c : Contents) (db old : Trees) → Holds old c → db ≡ old → Holds db c
 holds_again c db old holds same t inside = ap (λ f. f t) same ∙ holds t inside
 
--- as many as were sealed are there
+-- there are at least as many rows as were sealed
 pub as_many : (sealed counted rows : ℕ) → rows ≡ counted → sealed ≤ counted → sealed ≤ rows
 as_many sealed counted rows is few = omega arith

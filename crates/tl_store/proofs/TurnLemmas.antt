@@ -10,7 +10,7 @@ turns_more turns t = flat_map-append call_bytes turns (t ∷ []) ∙ ap (λ l. t
 pub turns_joined : (a b : List ℕ) → turn_bytes (a ++ b) ≡ turn_bytes a ++ turn_bytes b
 turns_joined a b = flat_map-append call_bytes a b
 
--- two bytes are those of the number that they make
+-- two bytes are those of the number that they form
 pub made_of : (high low : ℕ) → high < 256 → low < 256 → call_bytes (high * 256 + low) ≡ high ∷ low ∷ []
 made_of high low h l =
     let first : (high * 256 + low) / 256 % 256 ≡ high = omega arith in

@@ -1,4 +1,4 @@
--- What a store has still to get after a recovery.
+-- The rows that complete a store after a recovery.
 use Rattle.std.specs.Prelude.{◌≡◌, ◌+◌, ◌<◌, ◌⊎◌, ℕ, ℤ, pos, List, [], ◌∷◌, ◌++◌, All, Any, map, length, reverse, true}
 use Rattle.tl_tree_locking.specs.History.{caller, is_done, records_now}
 use Rattle.tl_core.specs.Cores.{CoreValue}
@@ -15,25 +15,25 @@ use Rattle.tl_store.specs.Changes.{Leads}
 abbrev pub HasReply : List ReplyRow → ℕ → Type 0
 HasReply rows c = Any (λ r. r.call ≡ pos c) rows
 
--- the row has the reply of a call that has none among those rows
+-- the row has the reply of a call that has none among the stored rows
 pub record IsLateReply (v : CoreValue) (epoch : ℤ) (stored : List ReplyRow) (row : ReplyRow) : Type 0 where
   pub right : IsReplyOf v epoch row
   pub late : HasReply stored right.call → ⊥
 
--- The rows have the replies that aren't stored, as far as the first n calls go: each such call that is done has a stored reply or one of these.
+-- Each of these rows has a reply that isn't stored. Each done call among the first n has a stored reply or one of these.
 pub record AreLateReplies (n : ℕ) (v : CoreValue) (epoch : ℤ) (stored late : List ReplyRow) : Type 0 where
   pub each : All (IsLateReply v epoch stored) late
   pub whole : (c : ℕ) → c < n → is_done c v.past ≡ true → HasReply stored c ⊎ HasReply late c
 
--- the seal has the counts of the marks, and of so many turns and replies more
+-- the seal has the counts of the marks, with this many more turns and replies
 pub record IsSealOf (m : Marks) (turns replies : ℕ) (seal : SealRow) : Type 0 where
   pub procedures : seal.procedures ≡ pos m.procedures
   pub calls : seal.calls ≡ pos m.calls
   pub all_turns : seal.turns ≡ pos (m.turns + turns)
   pub all_replies : seal.replies ≡ pos (m.replies + replies)
 
--- With these rows the store has all turns of the core, and all replies of its calls that are done. They lead from the core's opening to its records now,
--- and seal its epoch.
+-- With these rows the store has all turns of the core and all replies of its done calls. Their changed records lead from
+-- the core's opening to its current records, and they seal its epoch.
 pub record IsClosing (s : Stored) (v : CoreValue) (n : News) : Type 0 where
   pub nodes : n.nodes.items ≡ []
   pub procedures : n.procedures.items ≡ []

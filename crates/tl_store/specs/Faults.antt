@@ -1,4 +1,4 @@
--- The numbers of the faults of a store.
+-- The faults of a store, as numbers.
 use Rattle.std.specs.Prelude.{ℕ, List, [], ◌∷◌}
 use Rattle.sqlite_trees.specs.declared.error.StoreError.{StoreError}
 use Rattle.sqlite_trees.specs.declared.error.StoreError.TheVariants as name
@@ -6,7 +6,7 @@ use Rattle.tl_recover.specs.Faults.{numbers_of as turn_numbers_of}
 use Rattle.tl_store.specs.declared.fault.StoreFault.{StoreFault}
 use Rattle.tl_store.specs.declared.fault.StoreFault.TheVariants.{BadRow, Turn, WrongReply, DiskFailed, DiskFull, Damaged, Memory}
 
--- a fault as numbers
+-- the fault's number, followed by its operand
 abbrev pub numbers_of : StoreFault → List ℕ
 numbers_of (BadRow table) = 1003 ∷ table ∷ []
 numbers_of (Turn fault) = turn_numbers_of fault
@@ -16,7 +16,7 @@ numbers_of DiskFull = 1012 ∷ []
 numbers_of Damaged = 1013 ∷ []
 numbers_of Memory = 1090 ∷ []
 
--- the fault that a failure of the disk is
+-- the fault for a failure of the database
 abbrev pub fault_of_name : StoreError → StoreFault
 fault_of_name name.OutOfMemory = Memory
 fault_of_name name.Io = DiskFailed

@@ -1,4 +1,4 @@
--- A core that is made again of the rows of a store.
+-- A core that is rebuilt from the rows of a store.
 use Rattle.std.specs.Prelude.{◌≡◌, ℕ, ◌<◌, ◌≤◌, ℤ, pos, List, [], ◌++◌, All, map, length, reverse, true, Some, slice_get, string_bytes}
 use Rattle.tl_tree_locking.specs.History.{caller, is_done, AllDone}
 use Rattle.tl_tree_locking.specs.World.{reply_of}
@@ -12,13 +12,13 @@ use Rattle.tl_store.specs.declared.stored.Stored.{Stored}
 use Rattle.tl_store.specs.Rows.{numbers_in, parent_in, fields_in, procedure_form, named_form, AreNumbered, turn_bytes, all_turn_bytes}
 use Rattle.tl_store.specs.Stored.{AreStored}
 
--- call n is one of the row's procedure with its arguments
+-- call n is of the row's procedure with its arguments
 pub record IsCallOf (v : CoreValue) (n : ℕ) (row : CallRow) : Type 0 where
   pub procedure : number_of v.procedures (string_bytes row.procedure) ≡ Some (call_of v n).procedure
   pub code : (call_of v n).code ≡ (procedure_at v (call_of v n).procedure).code
   pub args : numbers_in (string_bytes row.arguments) ≡ Some (call_of v n).args
 
--- the row has the reply of a call of that epoch that is done
+-- the row has the reply of a done call of this epoch
 pub record IsReplyOf (v : CoreValue) (epoch : ℤ) (row : ReplyRow) : Type 0 where
   pub epoch_is : row.epoch ≡ epoch
   pub call : ℕ
@@ -27,7 +27,7 @@ pub record IsReplyOf (v : CoreValue) (epoch : ℤ) (row : ReplyRow) : Type 0 whe
   pub done : is_done call v.past ≡ true
   pub reply : numbers_in (string_bytes row.reply) ≡ Some (reply_of (world_of v) call)
 
--- the core is of the stored tree, records and procedures, before any call
+-- the core has the stored tree, records and procedures, and no calls yet
 pub record IsOpened (s : Stored) (v : CoreValue) : Type 0 where
   pub parents : map pos v.parents ≡ map parent_in s.nodes.items
   pub opening : v.opening ≡ map fields_in s.records.items
@@ -35,8 +35,8 @@ pub record IsOpened (s : Stored) (v : CoreValue) : Type 0 where
   pub calls : v.calls ≡ []
   pub past : v.past ≡ []
 
--- The core has the stored tree, records and procedures. Its calls are the first that are stored, its first turns are the stored ones, and each stored
--- reply is that of its call. All its calls are done.
+-- The core has the stored tree, records and procedures. Its calls are the first ones stored, its first turns are the
+-- stored ones, and each stored reply is that of its call. All its calls are done.
 pub record IsRebuilt (s : Stored) (v : CoreValue) : Type 0 where
   pub parents : map pos v.parents ≡ map parent_in s.nodes.items
   pub opening : v.opening ≡ map fields_in s.records.items
@@ -52,7 +52,7 @@ pub record IsRebuilt (s : Stored) (v : CoreValue) : Type 0 where
   pub replies : All (IsReplyOf v (pos s.marks.seals)) s.replies.items
   pub at_rest : AllDone v.past
 
--- the core is made of the rows that a store with these contents has behind its last seal
+-- the core is rebuilt from the rows that a store with these contents has after its last seal
 pub record IsRecovered (c : Contents) (v : CoreValue) : Type 0 where
   pub rows : Stored
   pub stored : AreStored c rows

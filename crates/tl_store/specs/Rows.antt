@@ -1,4 +1,4 @@
--- What the rows of a store mean.
+-- The meaning of a store's rows.
 use Rattle.std.specs.Prelude.{◌≡◌, ℕ, ◌<◌, ◌/◌, ◌%◌, ℤ, pos, List, [], ◌∷◌, map, length, get_or, string_bytes, Option, Some, option_and_then}
 use Rattle.std.specs.List.{flat_map}
 use Rattle.serde_json.specs.Read.{read}
@@ -12,7 +12,7 @@ use Rattle.tl_ledger.specs.declared.rows.ProcedureRow.{ProcedureRow}
 use Rattle.tl_ledger.specs.declared.rows.CallRow.{CallRow}
 use Rattle.tl_ledger.specs.declared.rows.TurnRow.{TurnRow}
 
--- the numbers of a JSON text that is a list of them
+-- the numbers in a JSON text that is a list of integers
 abbrev pub numbers_in : List ℕ → Option (List ℤ)
 numbers_in text = option_and_then integers_of (read text)
 
@@ -26,7 +26,7 @@ fields_in row = row.fields
 
 -- ---- procedures
 
--- a name, and the one container of a code
+-- a name, and the container of a code
 abbrev pub procedure_form : ProcedureRow → List ℕ × List ℕ
 procedure_form row = (string_bytes row.name, row.container.items)
 
@@ -42,7 +42,7 @@ call_form row = (string_bytes row.procedure, numbers_in (string_bytes row.argume
 abbrev pub request_form : Request → List ℕ × Option (List ℤ)
 request_form r = (string_bytes r.name, Some r.args.items)
 
--- the calls are numbered from 0 in their order
+-- the calls are numbered from 0 in order
 abbrev pub AreNumbered : List CallRow → Type 0
 AreNumbered calls = (n : ℕ) → n < length calls → get_or (map (λ r. r.number) calls) n (pos 0) ≡ pos n
 
@@ -55,6 +55,6 @@ call_bytes call = call / 256 % 256 ∷ call % 256 ∷ []
 abbrev pub turn_bytes : List ℕ → List ℕ
 turn_bytes turns = flat_map call_bytes turns
 
--- the turns of rows, one row after another
+-- the turns of all rows, one row after another
 abbrev pub all_turn_bytes : List TurnRow → List ℕ
 all_turn_bytes rows = flat_map (λ r. r.calls.items) rows

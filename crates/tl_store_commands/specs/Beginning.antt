@@ -1,4 +1,4 @@
--- What a server with a store begins with.
+-- The state with which a server with a store begins.
 use Rattle.std.specs.Prelude.{◌≡◌, ◌⊎◌, pos, [], All, map}
 use Rattle.sqlite_trees.specs.Tree.{Trees}
 use Rattle.tl_tree.specs.Trees.{TreeValue}
@@ -14,20 +14,20 @@ use Rattle.tl_store.specs.Stored.{AreStored}
 use Rattle.tl_store.specs.Recovered.{IsRebuilt}
 use Rattle.tl_store.specs.Closing.{IsClosing}
 
--- the first contents are those of the tree, whose nodes were there before any call, and no procedures
+-- the first contents have the tree, whose nodes exist from epoch 0 on, and no procedures
 pub record IsFirst (t : TreeValue) (first : Founding) : Type 0 where
   pub parents : map parent_in first.nodes.items ≡ map pos t.parents
   pub epoch : All (λ r. r.epoch ≡ pos 0) first.nodes.items
   pub records : map fields_in first.records.items ≡ t.records
   pub procedures : first.procedures.items ≡ []
 
--- the contents with what came when calls were taken again, and the seal of their epoch; where none was, they are as before
+-- the contents after the rows that close the epoch of replayed calls; unchanged if no calls were stored
 abbrev pub IsClosed : Stored → CoreValue → Contents → Contents → Type 0
 IsClosed rows last before now =
     ((rows.calls.items ≡ []) × (now ≡ before))
     ⊎ ((news : News) × IsClosing rows last news × (now ≡ after_news before news))
 
--- the core takes over from the one that the rows behind the last seal make again, and what came then is stored
+-- the core follows the one rebuilt from the rows after the last seal, and the rows that close that one's epoch are stored
 pub record TakesUp (before : Contents) (core : CoreState) (committed : Trees) (marks : Marks) : Type 0 where
   pub rows : Stored
   pub stored : AreStored before rows

@@ -1,4 +1,4 @@
--- A store that was opened or made is at rest.
+-- A store that was opened or created is at rest.
 use Rattle.std.proofs.Common.{◌≡◌, ℕ, zero, suc, ◌<◌, List, [], ◌∷◌, map, replicate, get_or, refl, ap, ◌∙◌, arith}
 use Rattle.sqlite_trees.specs.declared.schema.Object.{Object}
 use Rattle.sqlite_trees.specs.declared.store.Shape.TheVariants.{Table, Absent}

@@ -1,11 +1,11 @@
--- Why a store's file isn't opened.
+-- The faults of opening a store's file, as numbers.
 use Rattle.std.specs.Prelude.{ℕ, List, [], ◌∷◌}
 use Rattle.sqlite_trees.specs.declared.error.StoreError.{StoreError}
 use Rattle.sqlite_trees.specs.declared.error.StoreError.TheVariants as name
 use Rattle.tl_store_file.specs.declared.fault.FileFault.{FileFault}
 use Rattle.tl_store_file.specs.declared.fault.FileFault.TheVariants.{Unopened, Busy, NotStore, DiskFailed, DiskFull, Damaged, Memory}
 
--- a fault as numbers
+-- the fault's number, followed by its operand
 abbrev pub numbers_of : FileFault → List ℕ
 numbers_of Unopened = 1001 ∷ []
 numbers_of Busy = 1002 ∷ []
@@ -15,7 +15,7 @@ numbers_of DiskFull = 1012 ∷ []
 numbers_of Damaged = 1013 ∷ []
 numbers_of Memory = 1090 ∷ []
 
--- the fault that a failure of the disk is
+-- the fault for a failure of the database
 abbrev pub fault_of_name : StoreError → FileFault
 fault_of_name name.OutOfMemory = Memory
 fault_of_name name.Io = DiskFailed

@@ -1,4 +1,4 @@
--- What two expressions have in common that are alike.
+-- What two alike expressions have in common.
 use Rattle.std.proofs.Common.{◌≡◌, ℕ, ◌≤◌, refl, arith}
 use Rattle.std.specs.declared.boxed.Box.{Box}
 use Rattle.std.specs.declared.alloc.Global.{Global}
@@ -15,7 +15,7 @@ use Rattle.tl_syntax.specs.Grammar.{form_by}
 use Rattle.tl_syntax.specs.Alike as A
 use Rattle.tl_syntax.specs.Alike.{Alike, AlikeForm}
 
--- the number of its variant
+-- the number of the form's variant
 abbrev pub form_rank : Form → ℕ
 form_rank (F.Number w) = 0
 form_rank (F.Named n) = 1
@@ -28,7 +28,7 @@ form_rank (F.Not' p o a) = 7
 form_rank (F.And' p o a q r b) = 8
 form_rank (F.Or' p o a q r b) = 9
 
--- its parts; where there is none, the form itself
+-- the form's parts; the form itself if it has none
 abbrev pub first_part : Form → Form
 first_part (F.Negated' p o a) = a
 first_part (F.Calculated' k p o a q r b) = a
@@ -76,7 +76,7 @@ joined_apart J.And a b e = omega (arith, e)
 joined_apart (J.Compare k) a b e = omega (arith, e)
 joined_apart (J.Calculate o) a b e = omega (arith, e)
 
--- forms without parts are the same
+-- forms without parts are alike only if they are equal
 pub same_plain : {f g : Form} → form_rank f ≤ 3 → AlikeForm f g → f ≡ g
 same_plain e A.same_form = refl
 same_plain e (A.negated x) = absurd (omega (arith, e))

@@ -1,4 +1,4 @@
--- What two statements or declarations have in common that are alike.
+-- What two alike statements or declarations have in common.
 use Rattle.std.proofs.Common.{◌≡◌, ℕ, ℤ, List, [], ◌∷◌, ◌++◌, Option, None, Some, refl, sym, ap, subst, ◌∙◌}
 use Rattle.std.specs.declared.vec.Vec.{Vec}
 use Rattle.std.specs.declared.alloc.Global.{Global}
@@ -44,7 +44,7 @@ question_itself (Q.Lock p) = A.lock (place_itself p)
 
 -- ---- actions
 
--- the number of its variant
+-- the number of the action's variant
 abbrev pub action_rank : Action → ℕ
 action_rank (V.Let name e) = 0
 action_rank (V.Assign name change e) = 1
@@ -161,7 +161,7 @@ same_for_each {child} {child'} {parent} {parent'} {place} {place'} {most} {most'
 
 -- ---- statements
 
--- the number of its variant
+-- the number of the form's variant
 abbrev pub statement_rank : StatementForm → ℕ
 statement_rank (S.Act' a o) = 0
 statement_rank (S.Try' p xs q ys) = 1
@@ -182,7 +182,7 @@ blocks_of : {xs ys vs ws : Vec Statement Global} → xs ≡ ys → vs ≡ ws →
 blocks_of {ys = ys} {vs = vs} e f h =
     subst (λ (z : Vec Statement Global). AlikeStatements ys.items z.items) f (subst (λ (z : Vec Statement Global). AlikeStatements z.items vs.items) e h)
 
--- a statement is like only one of its variant, and their parts are alike
+-- alike statements are of the same variant, and their parts are alike
 pub act_of : {f g : StatementForm} {a b : Action} → AlikeStatementForm f g → f ≡ S.Act a None → g ≡ S.Act b None → AlikeAction a b
 act_of {a = a} (A.act {a = c} {b = d} x) e f = subst (AlikeAction a) (same_only f) (subst (λ z. AlikeAction z d) (same_only e) x)
 act_of (A.act_else x o) e f = absurd (only_or_with (sym e))
@@ -290,7 +290,7 @@ paired_declarations (A.next_declaration h x) = push_declaration x (paired_declar
 
 -- ---- declarations
 
--- the number of its variant
+-- the number of the declaration's variant
 abbrev pub declaration_rank : Declaration → ℕ
 declaration_rank (D.Field name number offset) = 0
 declaration_rank (D.Constant name number) = 1

@@ -1,4 +1,4 @@
--- Tokens spell one list of declarations.
+-- Tokens denote only one list of declarations.
 use Rattle.std.proofs.Common.{◌≡◌, ℕ, ◌≤◌, ℤ, List, [], ◌∷◌, ◌++◌, refl, sym, ap, subst, ◌∙◌, arith}
 use Rattle.std.proofs.Math.Path.{subst₂}
 use Rattle.tl_syntax.specs.declared.token.Token.{Token}
@@ -102,7 +102,7 @@ arguments_once {tokens} {k = end} (D.some {j = a1} a s) (D.some b t) =
 
 -- ---- procedures
 
--- a procedure up to its body, and what stands behind that
+-- a procedure up to its body, and the position of the body
 record IsHead (tokens : List Token) (i j : ℕ) (p : Procedure) : Type 0 where
   a : ℕ
   b : ℕ

@@ -1,4 +1,4 @@
--- The digits of a number are read one after another.
+-- Reading the digits of a number one by one.
 use Rattle.std.proofs.Common.{◌≡◌, ℕ, ◌+◌, ◌*◌, ◌-◌, Bool, true, false, List, [], ◌∷◌, ◌++◌, refl, sym, ap, ap₂, append-nil, subst, ◌∙◌, arith}
 use Rattle.std.specs.Prelude.{filter}
 use Rattle.std.specs.Char.{is_ascii_digit, digit_value}
@@ -8,7 +8,7 @@ use Rattle.std.proofs.lemmas.Int.Digits.{digits_value_push}
 use Rattle.std.proofs.lemmas.List.Elements.{filter-append}
 use Rattle.tl_syntax.specs.Tokens.{AreGrouped, first_digit, next_digit, digit_apart}
 
--- nothing was read yet, or all up to a digit, or up to a _
+-- nothing was read yet, or the bytes read end in a digit, or in a `_`
 pub data HasRead : Bool → List ℕ → Type 0 where
   nothing_read : HasRead false []
   digit_read : {word : List ℕ} → AreGrouped word → HasRead true word

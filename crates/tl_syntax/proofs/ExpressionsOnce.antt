@@ -1,4 +1,4 @@
--- Tokens spell one expression: by what may follow it, its end is known.
+-- Tokens denote only one expression: the token after it determines its end.
 use Rattle.std.proofs.Common.{◌≡◌, ℕ, suc, ◌<◌, ◌≤◌, ℤ, List, refl, sym, ap, subst, ◌∙◌, arith, pos, neg_ℤ}
 use Rattle.std.proofs.Math.Path.{subst₂}
 use Rattle.std.specs.declared.boxed.Box.{Box}
@@ -28,7 +28,7 @@ both_kinds s t = sym s.kind_is ∙ t.kind_is
 pub same_end : {tokens : List Token} {i j k : ℕ} {a b : TokenKind} → Stands tokens a i j → Stands tokens b i k → j ≡ k
 same_end s t = s.next_is ∙ sym t.next_is
 
--- which token stands there decides
+-- a token has only one kind
 pub differ : {A : Type 0} (f : TokenKind → ℕ) {x a b : TokenKind} → x ≡ a → x ≡ b → f a < f b → A
 differ f e g less = absurd (let same : f _ ≡ f _ = ap f (sym e ∙ g) in omega (arith, same, less))
 
@@ -57,7 +57,7 @@ same_negative x y = x.is ∙ ap (λ kind. neg_ℤ (pos (number_in kind))) (both_
 
 -- ---- what may follow, and what may begin
 
--- how tightly a token binds that may go on with an expression
+-- how tightly a token binds that may continue an expression; 0 for other tokens
 abbrev pub binding : TokenKind → ℕ
 binding K.Or = 1
 binding K.And = 2
@@ -74,7 +74,7 @@ binding K.Divide = 5
 binding K.Dot = 6
 binding kind = 0
 
--- what goes on with an expression of that rule binds as tightly or more tightly
+-- a token that continues an expression of this rule binds at least this tightly
 abbrev strength : Rule → ℕ
 strength Disjunction = 1
 strength Conjunction = 2
@@ -116,7 +116,7 @@ sign (J.Compare C.GreaterOrEqual) = K.GreaterOrEqual
 sign (J.Compare C.Equal) = K.Equal
 sign (J.Compare C.NotEqual) = K.NotEqual
 
--- and the operator of a token
+-- the operator of a token
 join_of : TokenKind → Join
 join_of K.Or = J.Or
 join_of K.And = J.And
@@ -147,7 +147,7 @@ join_of_sign (J.Compare C.GreaterOrEqual) = refl
 join_of_sign (J.Compare C.Equal) = refl
 join_of_sign (J.Compare C.NotEqual) = refl
 
--- the rules with chains
+-- the rules that have chains
 abbrev Chains : Rule → Type 0
 Chains Disjunction = Unit {0}
 Chains Conjunction = Unit {0}
@@ -155,7 +155,7 @@ Chains Sum = Unit {0}
 Chains Term = Unit {0}
 Chains rule = ⊥
 
--- an operator is its token, which binds as the rule says
+-- the operator is its token, which binds as tightly as the rule
 record IsSign (tokens : List Token) (rule : Rule) (i j : ℕ) (join : Join) : Type 0 where
   chains : Chains rule
   stands : Stands tokens (sign join) i j
@@ -196,11 +196,11 @@ operator_binds s = ap binding s.stands.kind_is ∙ s.binds
 operator_follows : {tokens : List Token} {rule : Rule} {join : Join} {i j : ℕ} → IsSign tokens rule i j join → CanFollow (tighter rule) (kind_at tokens i)
 operator_follows s = record { binds = omega (arith, operator_binds s, s.follows) }
 
--- an operator of a rule cannot follow an expression of it
+-- an operator of a rule can't follow an expression of that rule
 no_operator : {tokens : List Token} {rule : Rule} {join : Join} {i j : ℕ} → IsSign tokens rule i j join → CanFollow rule (kind_at tokens i) → ⊥
 no_operator s f = omega (arith, operator_binds s, f.binds)
 
--- which tokens begin an expression
+-- the tokens that begin an expression
 abbrev opening : TokenKind → ℕ
 opening K.Not = 1
 opening K.Minus = 2
@@ -249,7 +249,7 @@ mutual
   chain_starts (G.one h) = starts h
   chain_starts (G.more c o h x) = chain_starts c
 
--- what begins with that token isn't of a rule that binds too tightly
+-- an expression that begins with this token isn't of a rule that binds too tightly
 starts_otherwise : {A : Type 0} {tokens : List Token} {kind : TokenKind} {i j n : ℕ} → Stands tokens kind i j → n ≤ opening (kind_at tokens i) → opening kind < n → A
 starts_otherwise {n = n} s h less = absurd (let h' : n ≤ opening _ = subst (λ kind. n ≤ opening kind) s.kind_is h in omega (arith, h', less))
 
@@ -267,14 +267,14 @@ alike_joined {join} {e = e} {f = f} x y ac bd =
     let right : Alike x.right.value y.right.value = subst₂ Alike (sym x.right_is) (sym y.right_is) bd in
     A.alike (x.offset_is ∙ offset_same ac ∙ sym y.offset_is) (subst₂ AlikeForm (sym x.form_is) (sym y.form_is) (A.joined join x.left x.right y.left y.right left right))
 
--- where an expression may end, no other one ends elsewhere
+-- all expressions of this rule that begin at i and may end where they do are alike and end at the same token
 abbrev pub Once : List Token → Rule → ℕ → ℕ → Expression → Type 0
 Once tokens rule i j e = CanFollow rule (kind_at tokens j) → (levels k : ℕ) (f : Expression) → IsExpression tokens levels rule i k f →
     CanFollow rule (kind_at tokens k) → (j ≡ k) × Alike e f
 
 -- ---- chains
 
--- what goes on behind the operand a
+-- what follows the operand a in a chain
 data Rest (tokens : List Token) (rule : Rule) : ℕ → Expression → ℕ → Expression → Type 0 where
   done : {j : ℕ} {a : Expression} → Rest tokens rule j a j a
   step : {spare j k l m : ℕ} {join : Join} {a b c f : Expression} → IsSign tokens rule j k join → IsExpression tokens spare (tighter rule) k l b →
@@ -303,7 +303,7 @@ rest_follows : {tokens : List Token} (rule : Rule) {j k : ℕ} {a f : Expression
 rest_follows rule done g = g
 rest_follows rule (step o h x r) g = operator_follows o
 
--- the second goes on where the first ends, or the first goes on
+-- the second chain goes on where the first one ends, or the first one goes on after the second
 data Compared (tokens : List Token) (rule : Rule) (j : ℕ) (e : Expression) (k : ℕ) (f : Expression) : Type 0 where
   within : {a : Expression} → Rest tokens rule j a k f → Alike e a → Compared tokens rule j e k f
   beyond : {join : Join} {l : ℕ} → IsSign tokens rule k l join → Compared tokens rule j e k f
@@ -342,7 +342,7 @@ chain_end (within done same) f g = (refl, same)
 chain_end (within (step o h x r) same) f g = absurd (no_operator o f)
 chain_end (beyond o) f g = absurd (no_operator o g)
 
--- a comparison ends its first part
+-- the binding strength of a comparison's token
 comparison_at : (tokens : List Token) (c : Comparison) (i j : ℕ) → IsComparison tokens i j c → binding (kind_at tokens i) ≡ 3
 comparison_at tokens c i j cmp = let s = comparison_stands tokens c i j cmp in ap binding s.kind_is ∙ comparison_binds c
 

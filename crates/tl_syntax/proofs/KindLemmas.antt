@@ -1,4 +1,4 @@
--- The test of two kinds of tokens: where it says that they are one, they are.
+-- The comparison of two kinds of tokens: kinds that it finds equal are equal.
 use Rattle.std.proofs.Common.{◌≡◌, true, refl, sym, ap, true≢false}
 use Rattle.std.proofs.lemmas.Bool.{eqb-true}
 use Rattle.tl_syntax.specs.declared.token.TokenKind.{TokenKind}

@@ -1,7 +1,7 @@
--- Two lists that are read from one token on, item by item: where each item has one end, so has the list.
+-- Two lists that are read from the same token, item by item: if each item has only one end, so does the list.
 use Rattle.std.proofs.Common.{◌≡◌, ℕ, List, [], ◌∷◌, ◌++◌, refl, sym, subst}
 
--- what goes on behind the items read so far
+-- what follows the items read so far
 pub data Rest {A : Type 0} (Item : ℕ → ℕ → A → Type 0) : ℕ → List A → ℕ → List A → Type 0 where
   done : {j : ℕ} {xs : List A} → Rest Item j xs j xs
   step : {j k m : ℕ} {x : A} {xs ys : List A} → Item j k x → Rest Item k (xs ++ x ∷ []) m ys → Rest Item j xs m ys
@@ -15,7 +15,7 @@ rest_follows : {A : Type 0} {Item : ℕ → ℕ → A → Type 0} (Follows : ℕ
 rest_follows Follows begins done f = f
 rest_follows Follows begins (step {j = j} {k = k} {x = x} h r) f = begins j k x h
 
--- the second goes on where the first ends, or the first goes on
+-- the second list goes on where the first one ends, or the first one goes on after the second
 pub data Compared {A : Type 0} (Item : ℕ → ℕ → A → Type 0) (Pairs : List A → List A → Type 0) (j : ℕ) (xs : List A) (m : ℕ) (ys : List A) : Type 0 where
   within : {read : List A} → Rest Item j read m ys → Pairs xs read → Compared Item Pairs j xs m ys
   beyond : {l : ℕ} {y : A} → Item m l y → Compared Item Pairs j xs m ys

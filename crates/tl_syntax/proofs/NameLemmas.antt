@@ -1,4 +1,4 @@
--- The names of a text, as an `IndexSet` keeps them.
+-- The names of a text, as an `IndexSet` stores them.
 use denote.Bor.{Bor}
 use Rattle.std.proofs.Common.{◌≡◌, ◌≢◌, ℕ, zero, suc, Bool, true, false, List, [], ◌∷◌, ◌++◌, Some, slice_get, length, ◌≤◌, refl, sym, ap, subst, ◌∙◌, append-nil, nat_eq, if◌then◌else◌, ◌||◌}
 use Rattle.std.specs.List.{list_any, AllByRecursion, IsDistinct}
@@ -48,7 +48,7 @@ any_spelling : (names : List (Bor (List ℕ))) (name : Bor (List ℕ)) → list_
 any_spelling [] name = refl
 any_spelling (n ∷ names) name = ap (λ b. pointwise nat_eq name.now n.now || b) (any_spelling names name)
 
--- a name that isn't there goes last
+-- a name that isn't in the set is appended
 pub inserted_last : (keys keys' : List (Bor (List ℕ))) (name : Bor (List ℕ)) (word : List ℕ) (names : List (List ℕ)) → spellings keys ≡ names →
     name.now ≡ word → list_any (pointwise nat_eq word) names ≡ false → keys' ≡ insert_key same_name keys name → spellings keys' ≡ names ++ word ∷ []
 inserted_last keys keys' name word names k w new e =
@@ -57,7 +57,7 @@ inserted_last keys keys' name word names k w new e =
     let pushed : keys' ≡ keys ++ name ∷ [] = e ∙ ap (λ there. if there then keys else keys ++ name ∷ []) absent in
     ap spellings pushed ∙ spellings_pushed keys name ∙ ap (λ l. l ++ name.now ∷ []) k ∙ ap (λ l. names ++ l ∷ []) w
 
--- a name gets its index among the names
+-- a name's symbol is its index among the names
 pub named : (keys keys' keys'' : List (Bor (List ℕ))) (word : Bor (List ℕ)) (index offset : ℕ) (read read' : List Token) →
     keys' ≡ insert_key same_name keys word → ((k : Bor (List ℕ)) × (slice_get keys' index ≡ Some k) × (same_name word k ≡ true)) → keys'' ≡ keys' →
     IsFree word.now → length word.now ≤ MAX_NAME → read' ≡ read ++ (record { kind = K.Name (record { 0 = index }); offset = offset }) ∷ [] →
@@ -69,14 +69,14 @@ named keys keys' keys'' word index offset read read' e stored same free fits pus
 same_some : {A : Type 0} (a b : A) → Some a ≡ Some b → a ≡ b
 same_some a b e = cc
 
--- a name that differs from each later one is none of them
+-- a name that differs from each of the others isn't one of them
 apart : (name : Bor (List ℕ)) (names : List (Bor (List ℕ))) (i : ℕ) (word : List ℕ) → AllByRecursion (λ n. same_name name n ≡ false) names →
     slice_get (spellings names) i ≡ Some word → name.now ≢ word
 apart name [] i word all e = λ same. cc
 apart name (n ∷ names) zero word all e = λ same. other_text name.now n.now (sym all.0) (same ∙ sym (same_some n.now word e))
 apart name (n ∷ names) (suc i) word all e = apart name names i word all.1 e
 
--- names that an `IndexSet` keeps are distinct
+-- the names in an `IndexSet` are distinct
 pub distinct_spellings : (names : List (Bor (List ℕ))) → IsDistinct same_name names → AreDistinct (spellings names)
 unfolding IsDistinct
 distinct_spellings [] d i j word e f = cc

@@ -1,4 +1,4 @@
--- A text has one list of names: they are numbered in the order in which the text has them.
+-- A text has only one list of names: they are numbered in order of appearance.
 use Rattle.std.proofs.Common.{◌≡◌, ℕ, zero, suc, ◌+◌, ◌<◌, List, [], ◌∷◌, ◌++◌, length, take, drop, Some, slice_get, refl, sym, ap, subst, ◌∙◌, arith, ◌⊎◌, inl, inr, append_assoc, length-append}
 use Rattle.tl_syntax.specs.declared.token.Token.{Token}
 use Rattle.tl_syntax.specs.declared.token.TokenKind.{TokenKind}
@@ -123,7 +123,7 @@ get_before [] ys i x e less = absurd (omega (arith, less))
 get_before (a ∷ xs) ys zero x e less = e
 get_before (a ∷ xs) ys (suc i) x e less = get_before xs ys i x e (omega (arith, less))
 
--- what stands behind a front begins the rest
+-- the element after the front part is the first of the rest
 next_is : (xs ys : List (List ℕ)) (i : ℕ) (x : List ℕ) → slice_get (xs ++ ys) i ≡ Some x → i ≡ length xs → (zs : List (List ℕ)) × (ys ≡ x ∷ zs)
 next_is [] [] i x e at = absurd (by (subst (λ i. slice_get [] i ≡ Some x) at e))
   where
@@ -152,7 +152,7 @@ same_names s e f =
     let b : s.other ≡ [] = none_more s.front s.other (sym (ap length s.others_are) ∙ f ∙ sym s.long) in
     s.names_are ∙ ap (λ l. s.front ++ l) (a ∙ sym b) ∙ sym s.others_are
 
--- a name that both have next
+-- a name that is next in both lists
 shares_more : {known : ℕ} {names others : List (List ℕ)} (word : List ℕ) → Shares known names others → slice_get names known ≡ Some word →
     slice_get others known ≡ Some word → Shares (suc known) names others
 shares_more {known} word s e f =
@@ -167,7 +167,7 @@ shares_more {known} word s e f =
       long = grind (arith, length-append, s.long);
     }
 
--- a name that is known stands at the same place of both
+-- a known name is at the same position in both lists
 known_same : {known : ℕ} {names others : List (List ℕ)} (word : List ℕ) (i : ℕ) → Shares known names others → i < known → slice_get names i ≡ Some word →
     slice_get others i ≡ Some word
 known_same word i s less e =
@@ -234,7 +234,7 @@ names_go {names} {others} distinct apart (T.token {offset = o} {first = f} {n = 
     let token : IsToken others p (f ∷ take n after) other = subst (λ x. IsToken others p (f ∷ take x after) other) (sym same.1) piece in
     token_step o distinct apart (begins_no_name b) rest t token
 
--- two readings of a text number the same names
+-- two readings of a text have the same names
 pub names_once : {names others : List (List ℕ)} {text : List ℕ} {ts us : List Token} → Extends first_names names → Extends first_names others → AreDistinct names →
     AreDistinct others → AreTokens names 0 text ts → AreTokens others 0 text us → AreNumbered (length first_names) ts (length names) →
     AreNumbered (length first_names) us (length others) → names ≡ others

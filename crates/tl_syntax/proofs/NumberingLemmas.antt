@@ -1,4 +1,4 @@
--- A token is added, and maybe a name: the names stay those of the tokens, in their order.
+-- After a token is added, and possibly a name, the names are still those of the tokens, in order of appearance.
 use denote.Bor.{Bor}
 use Rattle.std.proofs.Common.{◌≡◌, ℕ, suc, ◌<◌, Bool, true, false, List, [], ◌∷◌, ◌++◌, Some, slice_get, length, refl, sym, ap, subst, ◌∙◌, arith, length-append, if◌then◌else◌}
 use Rattle.std.specs.List.{list_any, IsDistinct}

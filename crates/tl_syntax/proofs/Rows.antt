@@ -1,4 +1,4 @@
--- Worked examples: the tokens of a text, and what a few tokens spell.
+-- Worked examples: the tokens of a text, and what a few tokens denote.
 use Rattle.std.proofs.Common.{ℕ, List, [], ◌∷◌, pos, refl, codes, inl, lit<, lit≤}
 use Rattle.tl_syntax.specs.declared.token.Token.{Token}
 use Rattle.tl_syntax.specs.declared.token.TokenKind.{TokenKind}
@@ -26,7 +26,7 @@ minus_three : Stands three K.Minus 3 4
 unfolding kind_at
 minus_three = record { kind_is = refl; next_is = refl }
 
--- a number is a term where it stands
+-- the number is a term
 three_is : {levels : ℕ} → IsExpression three levels Term 0 1 (record { offset = 0; form = F.Number (pos 3) })
 unfolding kind_at offset_at
 three_is = chain (one (chain (one (plain (number (record { digits = 3; stands = record { kind_is = refl; next_is = refl }; fits = lit< tt; is = refl })) refl))))
@@ -39,7 +39,7 @@ one_is : {levels : ℕ} → IsExpression three levels Term 4 5 (record { offset 
 unfolding kind_at offset_at
 one_is = chain (one (chain (one (plain (number (record { digits = 1; stands = record { kind_is = refl; next_is = refl }; fits = lit< tt; is = refl })) refl))))
 
--- the first two are joined first
+-- the first two numbers are joined first
 from_the_left : (a e : Expression) → IsJoined (J.Calculate O.Subtract) (record { offset = 0; form = F.Number (pos 3) }) (record { offset = 2; form = F.Number (pos 2) }) a →
     IsJoined (J.Calculate O.Subtract) a (record { offset = 4; form = F.Number (pos 1) }) e → IsExpression three 64 Disjunction 0 5 e
 from_the_left a e p q = chain (one (chain (one (chain (one (chain (one (chain {spare = 62} (more {spare = 62} (more {spare = 63} (one three_is) minus_one two_is p) minus_three one_is q)))))))))

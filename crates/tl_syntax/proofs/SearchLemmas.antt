@@ -1,4 +1,4 @@
--- What a search for a byte finds, or the length where it finds none.
+-- The result of a search for a byte, which is the length if the byte doesn't occur.
 use Rattle.std.proofs.Common.{◌≡◌, ℕ, List, length, ◌∙◌, ap, Option, Some, None, Bool, cond, not, arith, inl, inr, nat_lt}
 use Rattle.std.specs.Prelude.{unwrap_or}
 use Rattle.std.specs.List.{position_or_len}

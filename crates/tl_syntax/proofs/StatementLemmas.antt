@@ -1,4 +1,4 @@
--- What was read is pushed to a list: the rules, where the list is given by equations.
+-- The rules for pushing a statement that was read to a list, where the list is given by an equation.
 use Rattle.std.proofs.Common.{◌≡◌, ℕ, List, [], ◌∷◌, ◌++◌, Option, None, Some, true, sym, ap, subst, ◌∙◌}
 use Rattle.tl_syntax.specs.declared.token.Token.{Token}
 use Rattle.tl_syntax.specs.declared.token.TokenKind.TheVariants as K

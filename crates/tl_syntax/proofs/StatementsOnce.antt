@@ -1,4 +1,4 @@
--- Tokens spell one statement.
+-- Tokens denote only one statement.
 use Rattle.std.proofs.Common.{◌≡◌, ◌≢◌, ℕ, ◌<◌, ◌≤◌, List, [], ◌∷◌, Option, Some, refl, sym, ap, subst, ◌∙◌, arith}
 use Rattle.std.proofs.Math.Path.{subst₂}
 use Rattle.tl_syntax.specs.declared.token.Token.{Token}
@@ -157,7 +157,7 @@ abbrev pub comma : TokenKind → ℕ
 comma K.Comma = 1
 comma kind = 0
 
--- what stands there is no comma
+-- the token is no comma
 pub record NoComma (tokens : List Token) (i : ℕ) : Type 0 where
   pub is : comma (kind_at tokens i) ≡ 0
 
@@ -276,7 +276,7 @@ expressions_once {tokens} {j = j} {k = k} {es = es} {fs = fs} h a c g b d =
 
 -- ---- actions
 
--- what ends an action
+-- the token ends an action
 record Ends (tokens : List Token) (i : ℕ) : Type 0 where
   follows : Follows tokens i
   no_comma : NoComma tokens i
@@ -432,7 +432,7 @@ leaving_once {tokens} {i = i} {k = end} (R.leaving {j = a1} {l = l} x s form o) 
     let action : AlikeAction (V.Leave l) (V.Leave r) = subst (λ z. AlikeAction (V.Leave l) (V.Leave z)) same.1 A.same_action in
     (same_end s t', A.next_statement A.no_statements (A.statement (o ∙ sym o2) (subst₂ AlikeStatementForm (sym form) (sym form2) (A.act action))))
 
--- the tokens that begin a statement: 1 an action, more another form
+-- the tokens that begin a statement: 1 for an action, higher numbers for other forms
 abbrev starting : TokenKind → ℕ
 starting K.Let = 1
 starting (K.Name s) = 1
@@ -500,7 +500,7 @@ some_rank (R.for_each body s t c n x u p v w m b) = omega arith
 statement_starts : {tokens : List Token} {n i j : ℕ} {s : Statement} → IsStatement tokens n i j s → 1 ≤ starting (kind_at tokens i)
 statement_starts (R.statement x o) = omega (arith, form_is x, some_rank x)
 
--- no `else` stands there
+-- the token is no `else`
 pub record NoElse (tokens : List Token) (i : ℕ) : Type 0 where
   pub is : kind_at tokens i ≢ K.Else
 
@@ -534,7 +534,7 @@ otherwise_starts (R.leave_else {o = o} s b p) = s.kind_is
 leaving_starts : {tokens : List Token} {i j : ℕ} {ss : List Statement} → IsLeaving tokens i j ss → starting (kind_at tokens i) ≡ 1
 leaving_starts {tokens} (R.leaving {i = i} {j = j} {l = l} x s form o) = leave_starting tokens l i j x
 
--- a block, or what else may stand there
+-- the token of a block, or another one that is allowed there
 abbrev bracing : TokenKind → ℕ
 bracing K.If = 1
 bracing (K.Name s) = 1
@@ -548,7 +548,7 @@ ending K.RightBrace = 1
 ending K.End = 1
 ending kind = 0
 
--- a parenthesis, or what else may stand behind the name of a loop's child
+-- a parenthesis, or another token that may follow the name of a loop's child
 abbrev parting : TokenKind → ℕ
 parting K.LeftParenthesis = 1
 parting kind = 0

@@ -1,4 +1,4 @@
--- A text is read piece by piece: what the tokens so far are of all that will follow.
+-- Reading a text piece by piece: how the tokens read so far relate to the tokens of the whole text.
 use Rattle.std.proofs.Common.{◌≡◌, ℕ, zero, suc, ◌+◌, ◌-◌, ◌≤◌, List, [], ◌∷◌, ◌++◌, length, take, drop, Option, None, Some, slice_get, sym, ap, subst, ◌∙◌, arith, append_assoc, append-nil, length-drop, add-one}
 use Rattle.tl_syntax.specs.declared.token.Token.{Token}
 use Rattle.tl_syntax.specs.declared.token.TokenKind.{TokenKind}
@@ -12,7 +12,7 @@ get_front [] ys k x e = cc
 get_front (a ∷ xs) ys zero x e = e
 get_front (a ∷ xs) ys (suc k) x e = get_front xs ys k x e
 
--- more names leave the symbols as they are
+-- more names don't change the symbols
 pub token_stays : {names final : List (List ℕ)} {piece : Piece} {word : List ℕ} {kind : TokenKind} → Extends names final →
     IsToken names piece word kind → IsToken final piece word kind
 token_stays x (T.reserved r) = T.reserved r
@@ -24,7 +24,7 @@ token_stays x T.sign = T.sign
 pub extends_more : {a b c : List (List ℕ)} → Extends a b → Extends b c → Extends a c
 extends_more {a} x y = record { more = x.more ++ y.more; is = y.is ∙ ap (λ l. l ++ y.more) x.is ∙ append_assoc a x.more y.more }
 
--- with the tokens of the rest, those read so far are the tokens of the text
+-- the tokens read so far, followed by the tokens of the rest, are the tokens of the text
 pub record SoFar (text rest : List ℕ) (names : List (List ℕ)) (read : List Token) : Type 0 where
   pub all : (final : List (List ℕ)) (tokens : List Token) → Extends names final → AreTokens final (length text - length rest) rest tokens →
       AreTokens final 0 text (read ++ tokens)
@@ -81,7 +81,7 @@ so_far_end {text} {rest} {names} {read} {read'} so none pushed =
     at_end [] e = T.end
     at_end (b ∷ l) e = absurd (omega arith)
 
--- what is left, by an equation
+-- the same with the rest given by an equation
 pub so_far_left : {text rest after left : List ℕ} {first n : ℕ} {names names' : List (List ℕ)} {read read' : List Token} {piece : Piece} {word : List ℕ} →
     left ≡ drop n after → SoFar text rest names read → rest ≡ first ∷ after → length rest ≤ length text → n ≤ length after → word ≡ first ∷ take n after →
     Begins first after piece n → Adds word (length text - length rest) names names' read read' piece → SoFar text left names' read'

@@ -1,4 +1,4 @@
--- A text has one list of tokens.
+-- A text has only one list of tokens.
 use Rattle.std.proofs.Common.{◌≡◌, ℕ, ◌+◌, Bool, true, false, List, ◌∷◌, take, drop, Some, refl, sym, ap, subst, ◌∙◌, true≢false, if◌then◌else◌, ◌==◌, codes, nat_eq, arith}
 use Rattle.std.specs.Char.{is_ascii_digit}
 use Rattle.std.specs.Cmp.Lexicographic.{pointwise}
@@ -13,7 +13,7 @@ use Rattle.tl_syntax.specs.Tokens.{separates, starts_word, IsShortSign, IsLongSi
 
 -- ---- signs and words
 
--- a sign begins neither a blank nor a word nor a number
+-- a sign doesn't begin a blank, a word or a number
 abbrev IsSign : ℕ → Type 0
 IsSign b = (separates b ≡ false) × (starts_word b ≡ false) × (is_ascii_digit b ≡ false)
 
@@ -148,7 +148,7 @@ long_sign (T.greater e f) = subst IsSign (sym e) (refl, refl, refl)
 long_sign (T.equal e f) = subst IsSign (sym e) (refl, refl, refl)
 long_sign (T.unequal e f) = subst IsSign (sym e) (refl, refl, refl)
 
--- no comment begins like a sign of two characters
+-- no comment begins with a sign of two characters
 no_slash : {b c : ℕ} {kind : TokenKind} → IsLongSign b c kind → b ≡ 47 → ⊥
 no_slash (T.add e f) g = omega arith
 no_slash (T.subtract e f) g = omega arith
@@ -177,7 +177,7 @@ same_some a b e = cc
 
 -- ---- pieces
 
--- what begins with a byte is one piece
+-- only one piece begins at a byte
 pub begins_once : {first n m : ℕ} {after : List ℕ} {p q : Piece} → Begins first after p n → Begins first after q m → (p ≡ q) × (n ≡ m)
 begins_once (T.blank e) (T.blank f) = (refl, refl)
 begins_once (T.blank e) (T.comment f f2) = absurd (is_both e (slash_sign f).0)
@@ -222,7 +222,7 @@ no_blank {names} {word = w} {kind = k} e t = by (subst (λ p. IsToken names p w 
     by : IsToken names P.Blank w k → ⊥
     by t = elim t [ ]
 
--- a piece is one token
+-- a piece has only one token
 token_once : {names : List (List ℕ)} {piece : Piece} {word : List ℕ} {kind other : TokenKind} → AreDistinct names → IsToken names piece word kind →
     IsToken names piece word other → kind ≡ other
 token_once distinct (T.reserved r) (T.reserved s) = sym (word_is r) ∙ word_is s

@@ -1,4 +1,5 @@
--- When two declarations are the same but for where their parts are in memory: a box or a `Vec` of the one stands where the other has its own, with the same content.
+-- When two declarations are the same except for the memory that their parts occupy: each box and each `Vec` may be a
+-- different one with the same content.
 use Rattle.std.specs.Prelude.{◌≡◌, ℕ, List, [], ◌∷◌, ◌++◌, Option, None, Some}
 use Rattle.std.specs.declared.boxed.Box.{Box}
 use Rattle.std.specs.declared.vec.Vec.{Vec}

@@ -1,4 +1,4 @@
--- Which tokens spell which declarations. Each rule says what stands from the token i on, up to the token j.
+-- The grammar of declarations. Each rule says what the tokens from i up to but not including j denote.
 use Rattle.std.specs.Prelude.{◌≡◌, ℕ, List, [], ◌∷◌, ◌++◌, ℤ}
 use Rattle.tl_syntax.specs.declared.token.Token.{Token}
 use Rattle.tl_syntax.specs.declared.token.TokenKind.TheVariants as K
@@ -15,18 +15,18 @@ pub data IsConstant (tokens : List Token) : ℕ → ℕ → ℤ → Type 0 where
   positive : {i j : ℕ} {n : ℤ} → IsNumber tokens i j n → IsConstant tokens i j n
   negative : {i j k : ℕ} {n : ℤ} → Stands tokens K.Minus i j → IsNegative tokens j k n → IsConstant tokens i k n
 
--- one name or more, with commas between them
+-- one or more names, separated by commas
 pub data AreNames (tokens : List Token) : ℕ → ℕ → List Name → Type 0 where
   one : {i j : ℕ} {n : Name} → IsName tokens i j n → AreNames tokens i j (n ∷ [])
   one_more : {i j k l : ℕ} {ns : List Name} {n : Name} → AreNames tokens i j ns → Stands tokens K.Comma j k → IsName tokens k l n →
       AreNames tokens i l (ns ++ n ∷ [])
 
--- what stands between a procedure's parentheses, and the closing one
+-- a procedure's arguments and the closing parenthesis
 pub data AreArguments (tokens : List Token) : ℕ → ℕ → List Name → Type 0 where
   none : {i j : ℕ} → Stands tokens K.RightParenthesis i j → AreArguments tokens i j []
   some : {i j k : ℕ} {ns : List Name} → AreNames tokens i j ns → Stands tokens K.RightParenthesis j k → AreArguments tokens i k ns
 
--- what a procedure's name, arguments and body are
+-- a procedure: its name, arguments and body, and optionally an `else` block
 pub data IsProcedure (tokens : List Token) : ℕ → ℕ → Procedure → Type 0 where
   procedure : {i j k l m n : ℕ} {p : Procedure} → Stands tokens K.Proc i j → IsName tokens j k p.name → Stands tokens K.LeftParenthesis k l →
       AreArguments tokens l m p.arguments.items → IsBlock tokens MAX_LEVELS m n p.body.items → p.otherwise.items ≡ [] → IsProcedure tokens i n p
@@ -47,7 +47,7 @@ pub data AreDeclarations (tokens : List Token) : ℕ → ℕ → List Declaratio
   next : {i j k : ℕ} {ds : List Declaration} {d : Declaration} → AreDeclarations tokens i j ds → IsDeclaration tokens j k d →
       AreDeclarations tokens i k (ds ++ d ∷ [])
 
--- all tokens up to the end spell these declarations
+-- the tokens up to the end denote these declarations
 pub record IsFile (tokens : List Token) (ds : List Declaration) : Type 0 where
   pub end : ℕ
   pub declarations : AreDeclarations tokens 0 end ds

@@ -1,4 +1,4 @@
--- The numbers of what may be wrong with a text.
+-- The faults of a text, as numbers.
 use Rattle.std.specs.Prelude.{ℕ}
 use Rattle.tl_syntax.specs.declared.fault.Wrong.{Wrong}
 use Rattle.tl_syntax.specs.declared.fault.Wrong.TheVariants as W

@@ -1,4 +1,4 @@
--- Which tokens spell which content. Each rule says what stands from the token i on, up to the token j.
+-- The grammar of expressions. Each rule says what the tokens from i up to but not including j denote.
 use Rattle.std.specs.Prelude.{◌≡◌, ◌≢◌, ℕ, suc, ◌+◌, ◌-◌, ◌<◌, ◌≤◌, List, length, Option, None, Some, slice_get, ℤ, pos, neg_ℤ}
 use Rattle.std.specs.declared.boxed.Box.{Box}
 use Rattle.std.specs.declared.alloc.Global.{Global}
@@ -23,7 +23,7 @@ abbrev pub kind_of : Option Token → TokenKind
 kind_of None = K.End
 kind_of (Some token) = token.kind
 
--- the kind of a token; past the last one it is the end
+-- the kind of token i; after the last token it is `End`
 unfoldable pub kind_at : List Token → ℕ → TokenKind
 kind_at tokens i = kind_of (slice_get tokens i)
 
@@ -32,11 +32,11 @@ offset_of (Some token) last = token.offset
 offset_of None (Some token) = token.offset
 offset_of None None = 0
 
--- the offset of a token; past the last one it is that of the last one
+-- the offset of token i; after the last token it is that of the last token
 unfoldable pub offset_at : List Token → ℕ → ℕ
 offset_at tokens i = offset_of (slice_get tokens i) (slice_get tokens (length tokens - 1))
 
--- one token of that kind
+-- one token of this kind
 pub record Stands (tokens : List Token) (kind : TokenKind) (i j : ℕ) : Type 0 where
   pub kind_is : kind_at tokens i ≡ kind
   pub next_is : j ≡ i + 1
@@ -45,21 +45,21 @@ pub record IsName (tokens : List Token) (i j : ℕ) (name : Name) : Type 0 where
   pub stands : Stands tokens (K.Name name.symbol) i j
   pub offset_is : name.offset ≡ offset_at tokens i
 
--- a number of 32 bits: one less than with a minus sign before it
+-- a number below MAX_NUMBER; after a minus sign MAX_NUMBER is allowed too
 pub record IsNumber (tokens : List Token) (i j : ℕ) (number : ℤ) : Type 0 where
   pub digits : ℕ
   pub stands : Stands tokens (K.Number digits) i j
   pub fits : digits < MAX_NUMBER
   pub is : number ≡ pos digits
 
--- the number behind a minus sign
+-- the number after a minus sign
 pub record IsNegative (tokens : List Token) (i j : ℕ) (number : ℤ) : Type 0 where
   pub digits : ℕ
   pub stands : Stands tokens (K.Number digits) i j
   pub fits : digits ≤ MAX_NUMBER
   pub is : number ≡ neg_ℤ (pos digits)
 
--- no number stands there
+-- token i is no number
 abbrev pub IsNoNumber : List Token → ℕ → Type 0
 IsNoNumber tokens i = (digits : ℕ) → kind_at tokens i ≢ K.Number digits
 
@@ -89,7 +89,7 @@ form_by J.And a b = F.And a b
 form_by (J.Compare comparison) a b = F.Compared comparison a b
 form_by (J.Calculate operator) a b = F.Calculated operator a b
 
--- two expressions, joined by an operator; it is where the first one is
+-- two expressions joined by an operator; the offset is that of the first one
 pub record IsJoined (join : Join) (a b e : Expression) : Type 0 where
   pub left : Box Expression Global
   pub right : Box Expression Global
@@ -98,7 +98,7 @@ pub record IsJoined (join : Join) (a b e : Expression) : Type 0 where
   pub form_is : e.form ≡ form_by join left right
   pub offset_is : e.offset ≡ a.offset
 
--- the rules of expressions, from the one that binds least
+-- the rules of expressions, from the one that binds least tightly
 pub data Rule : Type 0 where
   Disjunction : Rule
   Conjunction : Rule
@@ -109,7 +109,7 @@ pub data Rule : Type 0 where
   Unary : Rule
   Atom : Rule
 
--- the rule that binds next
+-- the rule that binds more tightly
 abbrev pub tighter : Rule → Rule
 tighter Disjunction = Conjunction
 tighter Conjunction = Negation
@@ -136,8 +136,9 @@ IsOperator tokens Sum i j (J.Calculate operator) = IsAdditive tokens i j operato
 IsOperator tokens Term i j (J.Calculate operator) = IsMultiplicative tokens i j operator
 IsOperator tokens rule i j join = ⊥
 
--- `levels` is how many levels may be opened there. A `not`, a minus sign and a parenthesis each open a level for their operand. So does each operator of a chain, and that level stays open
--- until the chain ends: `spare` is how many are left there. A comparison and a negative number open none.
+-- `levels` is the number of levels that may still be opened. A `not`, a minus sign and a parenthesis each open a level
+-- for their operand. Each operator of a chain opens a level that stays open until the chain ends, and `spare` is the
+-- number left there. A comparison and a negative number open none.
 mutual
   pub data IsExpression (tokens : List Token) : ℕ → Rule → ℕ → ℕ → Expression → Type 0 where
     chain : {levels spare : ℕ} {rule : Rule} {i j : ℕ} {e : Expression} → IsChain tokens levels spare rule i j e → IsExpression tokens levels rule i j e
@@ -147,7 +148,7 @@ mutual
         IsExpression tokens levels Sum k l b → IsJoined (J.Compare c) a b e → IsExpression tokens levels Relation i l e
     negative : {levels i j k : ℕ} {n : ℤ} {e : Expression} → Stands tokens K.Minus i j → IsNegative tokens j k n →
         e.form ≡ F.Number n → e.offset ≡ offset_at tokens i → IsExpression tokens levels Unary i k e
-    -- a minus sign right before a number is part of the number
+    -- a minus sign directly before a number is part of the number
     negated : {levels i j k : ℕ} {a : Box Expression Global} {e : Expression} → Stands tokens K.Minus i j → IsNoNumber tokens j →
         IsExpression tokens levels Unary j k a.value → e.form ≡ F.Negated a → e.offset ≡ offset_at tokens i → IsExpression tokens (suc levels) Unary i k e
     -- the offset is that of the parenthesis
@@ -155,7 +156,7 @@ mutual
         Stands tokens K.RightParenthesis k l → e.form ≡ a.form → e.offset ≡ offset_at tokens i → IsExpression tokens (suc levels) Atom i l e
     plain : {levels i j : ℕ} {e : Expression} → IsPlain tokens i j e.form → e.offset ≡ offset_at tokens i → IsExpression tokens levels Atom i j e
 
-  -- one operand or more of the rule that binds next, joined from the left
+  -- one or more operands of the next tighter rule, joined from the left
   pub data IsChain (tokens : List Token) : ℕ → ℕ → Rule → ℕ → ℕ → Expression → Type 0 where
     one : {levels : ℕ} {rule : Rule} {i j : ℕ} {e : Expression} → IsExpression tokens levels (tighter rule) i j e → IsChain tokens levels levels rule i j e
     more : {levels spare : ℕ} {rule : Rule} {join : Join} {i j k l : ℕ} {a b e : Expression} → IsChain tokens levels (suc spare) rule i j a →

@@ -1,4 +1,4 @@
--- Which tokens spell which statement. Each rule says what stands from the token i on, up to the token j.
+-- The grammar of statements. Each rule says what the tokens from i up to but not including j denote.
 use Rattle.std.specs.Prelude.{◌≡◌, ℕ, suc, List, [], ◌∷◌, ◌++◌, Bool, true, false, Option, None, Some}
 use Rattle.std.specs.declared.vec.Vec.{Vec}
 use Rattle.std.specs.declared.alloc.Global.{Global}
@@ -25,7 +25,7 @@ use Rattle.tl_syntax.specs.declared.parsed.StatementForm.{StatementForm}
 use Rattle.tl_syntax.specs.declared.parsed.StatementForm.TheVariants as S
 use Rattle.tl_syntax.specs.Grammar.{kind_at, offset_at, Stands, IsName, IsNumber, IsExpression, Disjunction}
 
--- the words that may also be names have the first symbols
+-- the words that may also be used as names have the first symbols
 abbrev pub word_at : TokenKind
 word_at = K.Name (record { 0 = 0 })
 
@@ -56,26 +56,26 @@ pub data IsArgument (tokens : List Token) (levels : ℕ) : ℕ → ℕ → Expre
   argument : {i j k l : ℕ} {e : Expression} → Stands tokens K.LeftParenthesis i j → IsExpression tokens levels Disjunction j k e →
       Stands tokens K.RightParenthesis k l → IsArgument tokens levels i l e
 
--- what stands behind the name and the sign
+-- the parent and the number of a child, which follow its name and `=`
 pub data IsChild (tokens : List Token) (levels : ℕ) : ℕ → ℕ → Child → Type 0 where
   child : {i j k l m n o : ℕ} {c : Child} → Stands tokens K.Child i j → Stands tokens K.LeftParenthesis j k → IsName tokens k l c.parent →
       Stands tokens K.Comma l m → IsExpression tokens levels Disjunction m n c.number → Stands tokens K.RightParenthesis n o → IsChild tokens levels i o c
 
 pub data IsPlace (tokens : List Token) (levels : ℕ) : ℕ → ℕ → Place → Type 0 where
-  -- the offset is that of the word
+  -- the offset is that of the word `node`
   node : {i j k l m offset : ℕ} {name : Name} {number : Expression} → IsName tokens i j name → Stands tokens K.Assign j k →
       Stands tokens K.Node k l → IsArgument tokens levels l m number → offset ≡ offset_at tokens k → IsPlace tokens levels i m (P.Node name offset number)
   child : {i j k l : ℕ} {c : Child} → IsName tokens i j c.name → Stands tokens K.Assign j k → IsChild tokens levels k l c → IsPlace tokens levels i l (P.Child c)
   pair : {i j k l m n o p : ℕ} {a b : Child} → IsName tokens i j a.name → Stands tokens K.Assign j k → IsChild tokens levels k l a →
       Stands tokens K.Comma l m → IsName tokens m n b.name → Stands tokens K.Assign n o → IsChild tokens levels o p b → IsPlace tokens levels i p (P.Pair a b)
 
--- one expression or more, with commas between them
+-- one or more expressions, separated by commas
 pub data AreExpressions (tokens : List Token) (levels : ℕ) : ℕ → ℕ → List Expression → Type 0 where
   one : {i j : ℕ} {e : Expression} → IsExpression tokens levels Disjunction i j e → AreExpressions tokens levels i j (e ∷ [])
   one_more : {i j k l : ℕ} {es : List Expression} {e : Expression} → AreExpressions tokens levels i j es → Stands tokens K.Comma j k →
       IsExpression tokens levels Disjunction k l e → AreExpressions tokens levels i l (es ++ e ∷ [])
 
--- a statement without blocks of its own, up to what ends it
+-- a statement without blocks, up to the semicolon or `else` that follows it
 pub data IsAction (tokens : List Token) (levels : ℕ) : ℕ → ℕ → Action → Type 0 where
   lets : {i j k l m : ℕ} {n : Name} {e : Expression} → Stands tokens K.Let i j → IsName tokens j k n → Stands tokens K.Assign k l →
       IsExpression tokens levels Disjunction l m e → IsAction tokens levels i m (A.Let n e)
@@ -93,7 +93,7 @@ pub data IsAction (tokens : List Token) (levels : ℕ) : ℕ → ℕ → Action 
   frees : {i j k : ℕ} {n : Name} → Stands tokens K.Free i j → IsName tokens j k n → IsAction tokens levels i k (A.Free n)
   leaves : {i j : ℕ} {l : Leave} → IsLeave tokens i j l → IsAction tokens levels i j (A.Leave l)
 
--- whether the statement may have an `else` of its own
+-- whether the statement may have an `else`
 abbrev pub allows_else : Action → Bool
 allows_else (A.Take n from) = false
 allows_else (A.Free n) = false
@@ -104,12 +104,12 @@ pub data IsQuestion (tokens : List Token) (levels : ℕ) : ℕ → ℕ → Quest
   condition : {i j : ℕ} {e : Expression} → IsExpression tokens levels Disjunction i j e → IsQuestion tokens levels i j (Q.Condition e)
   lock : {i j k : ℕ} {p : Place} → Stands tokens K.Lock i j → IsPlace tokens levels j k p → IsQuestion tokens levels i k (Q.Lock p)
 
--- how often a loop may turn
+-- the largest number of turns of a loop
 pub data IsCount (tokens : List Token) : ℕ → ℕ → Expression → Type 0 where
   named : {i j : ℕ} {n : Name} {e : Expression} → IsName tokens i j n → e.form ≡ F.Named n → e.offset ≡ offset_at tokens i → IsCount tokens i j e
   number : {i j : ℕ} {n : _} {e : Expression} → IsNumber tokens i j n → e.form ≡ F.Number n → e.offset ≡ offset_at tokens i → IsCount tokens i j e
 
--- the name of the place of a loop's child, in parentheses, if there is one
+-- the name of the index of a loop's child, in parentheses, if it is given
 pub data IsIndex (tokens : List Token) : ℕ → ℕ → Option Name → Type 0 where
   no_index : {i : ℕ} → IsIndex tokens i i None
   index : {i j k l : ℕ} {n : Name} → Stands tokens K.LeftParenthesis i j → IsName tokens j k n → Stands tokens K.RightParenthesis k l →
@@ -120,7 +120,7 @@ pub data IsLeaving (tokens : List Token) : ℕ → ℕ → List Statement → Ty
   leaving : {i j k : ℕ} {l : Leave} {s : Statement} → IsLeave tokens i j l → Stands tokens K.Semicolon j k → s.form ≡ S.Act (A.Leave l) None →
       s.offset ≡ offset_at tokens i → IsLeaving tokens i k (s ∷ [])
 
--- `levels` is how many levels may be opened there. A block opens one, and so does an `if`, for its condition and its blocks.
+-- `levels` is the number of levels that may still be opened. A block opens one, and an `if` opens one for its condition and its blocks.
 mutual
   pub data IsBlock (tokens : List Token) : ℕ → ℕ → ℕ → List Statement → Type 0 where
     block : {levels i j k l : ℕ} {all : List Statement} → Stands tokens K.LeftBrace i j → AreStatements tokens levels j k all →
@@ -155,7 +155,7 @@ mutual
         IsName tokens o p parent → Stands tokens word_at p q → Stands tokens word_most q r → IsCount tokens r s most → IsBlock tokens levels s t body.items →
         IsForm tokens levels i t (S.ForEach child place parent most body)
 
-  -- what stands behind the `else` of an `if`
+  -- what follows the `else` of an `if`
   pub data IsOther (tokens : List Token) : ℕ → ℕ → ℕ → List Statement → Type 0 where
     other_block : {levels i j : ℕ} {all : List Statement} → IsBlock tokens levels i j all → IsOther tokens levels i j all
     other_if : {levels i j : ℕ} {s : Statement} → kind_at tokens i ≡ K.If → IsStatement tokens levels i j s → IsOther tokens levels i j (s ∷ [])
@@ -167,7 +167,7 @@ mutual
     leave_else : {levels i j k : ℕ} {o : Otherwise} → Stands tokens K.Else i j → IsLeaving tokens j k (out-Otherwise o).body.items →
         (out-Otherwise o).offset ≡ offset_at tokens i → IsOtherwise tokens levels i k o
 
--- a semicolon, or an `else` of the statement's own
+-- a semicolon, or the statement's own `else`
 abbrev pub IsTail : List Token → ℕ → ℕ → ℕ → Option Otherwise → Type 0
 IsTail tokens levels i j None = Stands tokens K.Semicolon i j
 IsTail tokens levels i j (Some o) = IsOtherwise tokens levels i j o

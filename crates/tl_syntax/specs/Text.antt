@@ -1,5 +1,6 @@
--- What a text declares: its tokens spell it, and a name's symbol is its index among the names. These are the words of the grammar that may be names, and then the
--- names of the text in their order; none stands twice.
+-- What a text declares. Its tokens denote the declarations, and a name's symbol is its index among the names. The names
+-- are first the words of the grammar that may be names, then the text's names in order of appearance. No name occurs
+-- twice.
 use Rattle.std.specs.Prelude.{ℕ, List}
 use Rattle.tl_syntax.specs.declared.token.Token.{Token}
 use Rattle.tl_syntax.specs.declared.parsed.Declaration.{Declaration}

@@ -1,4 +1,4 @@
--- What the tokens of a text are. A text is a sequence of pieces: blanks, comments, words, numbers and signs.
+-- The tokens of a text. A text is a sequence of pieces: blanks, comments, words, numbers and signs.
 use denote.Bor.{Bor}
 use Rattle.std.specs.Prelude.{◌≡◌, ◌≢◌, ℕ, suc, ◌+◌, ◌<◌, ◌≤◌, Bool, true, not, ◌||◌, ◌==◌, List, [], ◌∷◌, ◌++◌, length, take, drop, Option, None, Some, slice_get, codes, map, filter, ◌⊎◌}
 use Rattle.std.specs.List.{position_or_len}
@@ -13,23 +13,23 @@ use Rattle.tl_syntax.specs.declared.words.TheConstants.{MAX_NAME, MAX_NUMBER}
 
 -- ---- bytes
 
--- a space, a tab or the end of a line
+-- a space, a tab, a carriage return or a line feed
 abbrev pub separates : ℕ → Bool
 separates b = b == 32 || b == 9 || b == 13 || b == 10
 
--- a letter or _
+-- a letter or `_`
 abbrev pub starts_word : ℕ → Bool
 starts_word b = is_ascii_alphabetic b || b == 95
 
--- a letter, a digit or _
+-- a letter, a digit or `_`
 abbrev pub stays_word : ℕ → Bool
 stays_word b = is_ascii_alphanumeric b || b == 95
 
--- how many bytes are left of a word or a number
+-- the number of bytes up to the end of the word or number
 abbrev pub word_left : List ℕ → ℕ
 word_left bytes = position_or_len (λ b. not (stays_word b)) bytes
 
--- how many bytes are left of a line
+-- the number of bytes up to the end of the line
 abbrev pub line_left : List ℕ → ℕ
 line_left bytes = position_or_len (λ b. b == 10) bytes
 
@@ -87,21 +87,21 @@ pub data IsReserved (word : List ℕ) : TokenKind → Type 0 where
   word_return : word ≡ codes "return" → IsReserved word K.Return
   word_try : word ≡ codes "try" → IsReserved word K.Try
 
--- not a reserved word
+-- the word isn't reserved
 abbrev pub IsFree : List ℕ → Type 0
 IsFree word = (kind : TokenKind) → IsReserved word kind → ⊥
 
--- not a sign of two characters
+-- the two bytes aren't a sign of two characters
 abbrev pub IsNoLongSign : ℕ → ℕ → Type 0
 IsNoLongSign first second = (kind : TokenKind) → IsLongSign first second kind → ⊥
 
--- digits, of which two may have a _ between them
+-- digits, where two neighbours may have one `_` between them
 pub data AreGrouped : List ℕ → Type 0 where
   first_digit : {b : ℕ} → is_ascii_digit b ≡ true → AreGrouped (b ∷ [])
   next_digit : {word : List ℕ} (b : ℕ) → AreGrouped word → is_ascii_digit b ≡ true → AreGrouped (word ++ b ∷ [])
   digit_apart : {word : List ℕ} (b : ℕ) → AreGrouped word → is_ascii_digit b ≡ true → AreGrouped ((word ++ 95 ∷ []) ++ b ∷ [])
 
--- digits without leading zeros, for a number that isn't too large
+-- a number of at most MAX_NUMBER, written in digits without leading zeros
 pub record IsDecimal (word : List ℕ) (n : ℕ) : Type 0 where
   pub digits : AreGrouped word
   pub no_zeros : (length word ≡ 1) ⊎ (slice_get word 0 ≢ Some 48)
@@ -115,25 +115,25 @@ abbrev pub IsAlone : ℕ → Option ℕ → Type 0
 IsAlone first None = Unit {0}
 IsAlone first (Some second) = ((first ≡ 47) → second ≢ 47) × IsNoLongSign first second
 
--- what begins with that byte before those others, and how many of these belong to it
+-- the piece that begins with the byte `first`, and how many of the bytes after it belong to it
 pub data Begins (first : ℕ) (after : List ℕ) : Piece → ℕ → Type 0 where
   blank : separates first ≡ true → Begins first after P.Blank 0
   comment : first ≡ 47 → slice_get after 0 ≡ Some 47 → Begins first after P.Blank (line_left after)
   word : starts_word first ≡ true → Begins first after P.Word (word_left after)
   digits : is_ascii_digit first ≡ true → Begins first after P.Digits (word_left after)
   long : {second : ℕ} {kind : TokenKind} → slice_get after 0 ≡ Some second → IsLongSign first second kind → Begins first after (P.Sign kind) 1
-  -- only where no longer sign stands
+  -- only if no comment and no sign of two characters begins here
   short : {kind : TokenKind} → IsShortSign first kind → IsAlone first (slice_get after 0) → Begins first after (P.Sign kind) 0
 
 -- the bytes of each name
 abbrev pub spellings : List (Bor (List ℕ)) → List (List ℕ)
 spellings names = map (λ name. name.now) names
 
--- no name stands twice
+-- no name occurs twice
 abbrev pub AreDistinct : List (List ℕ) → Type 0
 AreDistinct names = (i j : ℕ) (word : List ℕ) → slice_get names i ≡ Some word → slice_get names j ≡ Some word → i ≡ j
 
--- the token that a piece is; the symbol of a name is its index
+-- the token of a piece; the symbol of a name is its index
 pub data IsToken (names : List (List ℕ)) : Piece → List ℕ → TokenKind → Type 0 where
   reserved : {word : List ℕ} {kind : TokenKind} → IsReserved word kind → IsToken names P.Word word kind
   name : {word : List ℕ} {symbol : ℕ} → IsFree word → length word ≤ MAX_NAME → slice_get names symbol ≡ Some word →
@@ -141,7 +141,7 @@ pub data IsToken (names : List (List ℕ)) : Piece → List ℕ → TokenKind �
   number : {word : List ℕ} {n : ℕ} → IsDecimal word n → IsToken names P.Digits word (K.Number n)
   sign : {word : List ℕ} {kind : TokenKind} → IsToken names (P.Sign kind) word kind
 
--- the tokens of the bytes that begin at an offset of the text, with the end
+-- the tokens of the bytes that begin at this offset of the text, with the final `End`
 pub data AreTokens (names : List (List ℕ)) : ℕ → List ℕ → List Token → Type 0 where
   end : {offset : ℕ} → AreTokens names offset [] (record { kind = K.End; offset = offset } ∷ [])
   blank : {offset first n : ℕ} {after : List ℕ} {tokens : List Token} → Begins first after P.Blank n →
@@ -152,12 +152,12 @@ pub data AreTokens (names : List (List ℕ)) : ℕ → List ℕ → List Token �
 
 -- ---- the order of names
 
--- a token that brings no new name, where so many are known
+-- the token is no name, or a name whose symbol is below `known`
 abbrev pub IsKnown : ℕ → TokenKind → Type 0
 IsKnown known (K.Name symbol) = symbol.0 < known
 IsKnown known kind = Unit {0}
 
--- how many names are known before these tokens and behind them: each new one has the next symbol
+-- the number of names known before these tokens and after them; each new name has the next symbol
 pub data AreNumbered : ℕ → List Token → ℕ → Type 0 where
   no_tokens : {known : ℕ} → AreNumbered known [] known
   known_token : {known last : ℕ} {token : Token} {tokens : List Token} → IsKnown known token.kind → AreNumbered known tokens last →
@@ -167,20 +167,20 @@ pub data AreNumbered : ℕ → List Token → ℕ → Type 0 where
 
 -- ---- what is read so far
 
--- more names at the end
+-- the new list is the old one with more names at its end
 pub record Extends (old new : List (List ℕ)) : Type 0 where
   pub more : List (List ℕ)
   pub is : new ≡ old ++ more
 
--- the words that may also be names are the first ones
+-- the words that may also be used as names; they are the first names
 abbrev pub first_names : List (List ℕ)
 first_names = codes "at" ∷ codes "each" ∷ codes "most" ∷ codes "of" ∷ codes "to" ∷ []
 
--- the names are those of the grammar and then those of the tokens, in the order in which these have them
+-- the names are those of the grammar and then those of the tokens, in order of appearance
 abbrev pub AreNamesOf : List Token → List (List ℕ) → Type 0
 AreNamesOf tokens names = AreNumbered (length first_names) tokens (length names)
 
--- a piece adds its token, if it is one, and maybe a name
+-- a piece adds its token, if it has one, and possibly a name
 pub data Adds (word : List ℕ) (offset : ℕ) (names names' : List (List ℕ)) (tokens tokens' : List Token) : Piece → Type 0 where
   nothing : names' ≡ names → tokens' ≡ tokens → Adds word offset names names' tokens tokens' P.Blank
   one : {piece : Piece} {kind : TokenKind} → Extends names names' → IsToken names' piece word kind →

@@ -27,7 +27,7 @@ last_left-append (Done c ∷ xs) ys x r = last_left-append xs ys x r
 
 -- ---- one epoch at rest
 
--- a call that locked a node freed it
+-- a call that locked a node in an epoch at rest has freed it
 freed_by_rest : (e : EpochValue) (c x : ℕ) → IsRested e → locked (part_of c (seen e).past) x ≡ true → IsFreedIn (seen e).past c x
 freed_by_rest e c x rested l =
     let w = epoch_world e in
@@ -40,7 +40,7 @@ locked_there e c x l = locked_in (seen e).past [] c x refl (ap (λ p. locked (pa
 
 -- ---- later epochs
 
--- where a later epoch stands, and what it opens with
+-- the position of a later epoch, and the records that it opens with
 record IsLater (opening : Records) (parents : List ℕ) (es : List EpochValue) (j : ℕ) (f : EpochValue) : Type 0 where
   between : List EpochValue
   last : List EpochValue
@@ -103,7 +103,7 @@ one_later g es n a m b x h = record {
   finds = h.finds;
 }
 
--- what was left since, over the epochs in between
+-- the record left last, over the epochs in between
 found_there : (sooner : List Event) (between : List EpochValue) (since before : List Event) (a x : ℕ) (left r : Record)
     → last_left sooner x (last_left (events_of between) x (last_left (since ++ Free x a left ∷ before) x r)) ≡ last_left (sooner ++ events_of between ++ since) x left
 found_there sooner between since before a x left r =

@@ -1,4 +1,4 @@
--- The calls of epochs together do no more than their budgets allow.
+-- The calls of all epochs together execute no more instructions than their budgets allow.
 use Rattle.std.proofs.Common.{◌+◌, ◌≤◌, List, [], ◌∷◌, arith}
 use Rattle.std.proofs.lemmas.List.Elements.{All-head, All-tail}
 use Rattle.tl_core.specs.Cores.{all_budgets}

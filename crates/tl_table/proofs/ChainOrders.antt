@@ -1,4 +1,4 @@
--- What the orders of a closed table's epochs promise together.
+-- What the orders of a closed table's epochs guarantee together.
 use Rattle.std.proofs.Common.{◌≡◌, ℕ, ◌+◌, List, [], ◌∷◌, map, refl, ap, ◌∙◌}
 use Rattle.tl_tree.specs.Records.{Records}
 use Rattle.tl_tree_locking.specs.Epochs.{run_each, joined, left_by, AgreeEach}

@@ -1,4 +1,4 @@
--- Which call was done when another was admitted, by one number a call.
+-- Which call was done when another was admitted, from one number for each call.
 use Rattle.std.proofs.Common.{◌≡◌, ◌↔◌, ⊎_elim, ℕ, ◌<◌, ◌≤◌, Bool, true, false, List, [], ◌∷◌, ◌++◌, refl, sym, ap, ◌∙◌, subst, arith}
 use Rattle.std.specs.Prelude.{◌==◌, ◌||◌, if◌then◌else◌}
 use Rattle.std.proofs.Math.Nat.{eq-or-lt_of_le}
@@ -7,7 +7,7 @@ use Rattle.tl_tree_locking.specs.declared.event.Event.TheVariants.{Admit, Lock, 
 use Rattle.tl_tree_locking.specs.History.{is_done, admits, InTurn}
 use Rattle.tl_table.specs.Ends.{EndsBefore, begun_by_end}
 
--- one event later the end stands before the admission still
+-- after one more event the end still precedes the admission
 later-ends : (e : Event) (past : List Event) (a b : ℕ) → EndsBefore past a b → EndsBefore (e ∷ past) a b
 later-ends e past a b h = record {
   later = e ∷ h.later;
@@ -94,6 +94,6 @@ few-ended past a b turn h =
     let le = begun_few h.earlier a in
     omega (arith, number, same, le)
 
--- the end of a done call stands before an admission exactly where no more calls than its number had begun
+-- the end of a done call a precedes the admission of b exactly if at most b calls had been admitted when a ended
 pub ended-iff : (past : List Event) (a b : ℕ) → InTurn past → b < admits past → is_done a past ≡ true → (begun_by_end a past ≤ b) ↔ EndsBefore past a b
 ended-iff past a b turn lt done = (ended-few past a b turn lt done, few-ended past a b turn)

@@ -27,7 +27,7 @@ pub record IsLockedIn (events : List Event) (c x : ℕ) : Type 0 where
 locked_later : (e : Event) (events : List Event) (c x : ℕ) → IsLockedIn events c x → IsLockedIn (e ∷ events) c x
 locked_later e events c x h = record { front = e ∷ h.front; back = h.back; found = h.found; split = ap (λ es. e ∷ es) h.split }
 
--- a call that hadn't locked a node, and has now, locked it in between
+-- a call that has locked a node, but hadn't earlier, locked it in between
 pub locked_in : (later earlier : List Event) (c x : ℕ) → locked (part_of c earlier) x ≡ false → locked (part_of c (later ++ earlier)) x ≡ true → IsLockedIn later c x
 locked_in [] earlier c x none h = absurd (both_ways (locked (part_of c earlier) x) none h)
 locked_in (Admit d ∷ later) earlier c x none h = locked_later (Admit d) later c x (locked_in later earlier c x none h)
@@ -51,7 +51,7 @@ pub record IsFreedIn (events : List Event) (c x : ℕ) : Type 0 where
 freed_later : (e : Event) (events : List Event) (c x : ℕ) → IsFreedIn events c x → IsFreedIn (e ∷ events) c x
 freed_later e events c x h = record { front = e ∷ h.front; back = h.back; left = h.left; split = ap (λ es. e ∷ es) h.split }
 
--- a call that locked a node, and doesn't hold it any more, freed it
+-- a call that locked a node and doesn't hold it any more has freed it
 pub freed_in : (past : List Event) (c x : ℕ) → locked (part_of c past) x ≡ true → held (part_of c past) x ≡ false → IsFreedIn past c x
 freed_in [] c x h free = absurd (both_ways false refl h)
 freed_in (Admit d ∷ past) c x h free = freed_later (Admit d) past c x (freed_in past c x h free)
@@ -87,7 +87,7 @@ freed_in (Done d ∷ past) c x h free = freed_later (Done d) past c x (elim (cas
 
 -- ---- a call that has ended
 
--- it locks nothing more
+-- it locks no more nodes
 locked_by_end : (later earlier : List Event) (c x : ℕ) → InTurn (later ++ earlier) → is_done c earlier ≡ true → locked (part_of c (later ++ earlier)) x ≡ true → locked (part_of c earlier) x ≡ true
 locked_by_end [] earlier c x turn over h = h
 locked_by_end (Admit d ∷ later) earlier c x turn over h = locked_by_end later earlier c x turn.1 over h
@@ -111,7 +111,7 @@ found_then opening (Lock y d r ∷ later) earlier c x found follows = found_then
 found_then opening (Free y d r ∷ later) earlier c x found follows = found_then opening later earlier c x found follows
 found_then opening (Done d ∷ later) earlier c x found follows = found_then opening later earlier c x found follows
 
--- what was left last after a free doesn't depend on what stood before it
+-- the record left last after a free doesn't depend on the events before it
 pub last_left-free : (since before : List Event) (c x : ℕ) (left r : Record) → last_left (since ++ Free x c left ∷ before) x r ≡ last_left since x left
 last_left-free [] before c x left r = let q = eq-eqb x x refl in rw q refl
 last_left-free (Admit d ∷ since) before c x left r = last_left-free since before c x left r

@@ -1,4 +1,4 @@
--- What goes on in an epoch leaves its number and its opening tree.
+-- Events in an epoch don't change its number and its opening tree.
 use Rattle.std.proofs.Common.{◌≡◌, ℕ, List, [], ◌∷◌, ◌++◌, refl, sym, ap, subst, Result, Ok, Err, ℤ, Option, Some, None}
 use Rattle.std.specs.Prelude.{IfOk, OnOk, OnErr}
 use Rattle.std.specs.Option.{option_map_or}
@@ -55,7 +55,7 @@ admitted_same v w args None is = record { parents = ap (λ u. u.parents) is; ope
 pub admission_same : (v w : CoreValue) (name : List ℕ) (args : List ℤ) → w ≡ after_admission v name args → OpensSame v w
 admission_same v w name args is = admitted_same v w args (number_of v.procedures name) is
 
--- procedures that were taken up come last
+-- registered procedures are appended
 pub added_goes_on : {N E : Type 0} (r : Result N E) (t : EpochValue) (w : CoreState) (p : Named)
     → OnOk r (w ≡ record t.core { seen = record t.core.seen { procedures = t.core.seen.procedures ++ p ∷ [] } }) → OnErr r (w ≡ t.core)
     → GoesOn t (record { number = t.number; core = w; sessions = t.sessions; owners = t.owners })

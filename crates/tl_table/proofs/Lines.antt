@@ -1,4 +1,4 @@
--- Epochs in line, and the same as worlds of the protocol.
+-- Epochs that follow one another, as a list and as worlds of the protocol.
 use Rattle.std.proofs.Common.{◌≡◌, ℕ, zero, suc, ◌+◌, List, [], ◌∷◌, ◌++◌, length, map, refl, sym, ap, ◌∙◌, subst, arith, append_assoc}
 use Rattle.std.specs.Prelude.{Some, slice_get}
 use Rattle.std.proofs.lemmas.List.{append-nil}
@@ -16,7 +16,7 @@ begins_same xs = ([], sym (append-nil xs))
 pub begins_on : (xs ys zs : List Named) → BeginsWith xs ys → BeginsWith ys zs → BeginsWith xs zs
 begins_on xs ys zs a b = (a.0 ++ b.0, b.1 ∙ ap (λ l. l ++ b.0) a.1 ∙ append_assoc xs a.0 b.0)
 
--- an epoch that goes on stays the next
+-- an epoch that goes on stays the next one
 pub next_goes_on : (n : ℕ) (parents : List ℕ) (opening : Records) (procedures : List Named) (e f : EpochValue) → IsNext n parents opening procedures e → GoesOn e f → IsNext n parents opening procedures f
 next_goes_on n parents opening procedures e f h g = record {
   number = g.number ∙ h.number;
@@ -25,7 +25,7 @@ next_goes_on n parents opening procedures e f h g = record {
   procedures = begins_on procedures (seen e).procedures (seen f).procedures h.procedures g.procedures;
 }
 
--- the one that takes over is the next after it
+-- the epoch that follows is the next one after it
 pub after_next : (n : ℕ) (parents : List ℕ) (opening : Records) (procedures : List Named) (e : EpochValue) → IsNext n parents opening procedures e
     → IsNext (n + 1) parents (records_now (seen e).past (seen e).opening) (seen e).procedures (epoch_after e)
 after_next n parents opening procedures e h = record {
@@ -43,7 +43,7 @@ pub procedures_after-more : (procedures : List Named) (es : List EpochValue) (e 
 procedures_after-more procedures [] e = refl
 procedures_after-more procedures (f ∷ es) e = procedures_after-more (seen f).procedures es e
 
--- one more, at rest, at the end of the line
+-- one more epoch, at rest, is appended
 pub line_more : (n k : ℕ) (parents : List ℕ) (opening : Records) (procedures : List Named) (es : List EpochValue) (e : EpochValue) → InLine n parents opening procedures es
     → k ≡ n + length es → IsNext k parents (records_after opening es) (procedures_after procedures es) e → IsRested e
     → InLine n parents opening procedures (es ++ e ∷ [])
@@ -51,7 +51,7 @@ line_more n k parents opening procedures [] e line at next rested = (subst (λ m
 line_more n k parents opening procedures (f ∷ es) e line at next rested =
     (line.0, line.1, line_more (n + 1) k parents (records_now (seen f).past (seen f).opening) (seen f).procedures es e line.2 (omega (arith, at)) next rested)
 
--- the line without the last one, which is the next after it
+-- without the last epoch, that one is the next
 pub line_less : (n k : ℕ) (parents : List ℕ) (opening : Records) (procedures : List Named) (es : List EpochValue) (e : EpochValue) → InLine n parents opening procedures (es ++ e ∷ [])
     → k ≡ n + length es → InLine n parents opening procedures es × IsNext k parents (records_after opening es) (procedures_after procedures es) e
 line_less n k parents opening procedures [] e line at = (tt, subst (λ m. IsNext m parents opening procedures e) (omega (arith, at)) line.0)
@@ -59,7 +59,7 @@ line_less n k parents opening procedures (f ∷ es) e line at =
     let rest = line_less (n + 1) k parents (records_now (seen f).past (seen f).opening) (seen f).procedures es e line.2 (omega (arith, at)) in
     ((line.0, line.1, rest.0), rest.1)
 
--- each has its place as its number
+-- each epoch's number is its position
 pub number_at : (n : ℕ) (parents : List ℕ) (opening : Records) (procedures : List Named) (es : List EpochValue) (i : ℕ) (e : EpochValue) → InLine n parents opening procedures es
     → slice_get es i ≡ Some e → e.number ≡ n + i
 number_at n parents opening procedures [] i e line at = absurd (none-some e at)

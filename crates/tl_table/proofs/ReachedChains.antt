@@ -1,4 +1,4 @@
--- Admissions, steps and seals led to the epochs of a closed table.
+-- The epochs of a closed table were reached by admissions, steps and seals.
 use Rattle.std.proofs.Common.{◌≡◌, ℕ, ◌+◌, ◌<◌, List, [], ◌∷◌, ◌++◌, map, refl, sym, ap, subst, append_assoc, arith}
 use Rattle.std.proofs.lemmas.List.{append-nil}
 use Rattle.tl_tree.specs.Records.{Records}
@@ -13,7 +13,7 @@ use Rattle.tl_table.specs.Epochs.{EpochValue, seen}
 use Rattle.tl_table.specs.Tables.{epoch_world, InLine, IsChain}
 use Rattle.tl_table.specs.Chains.{AreReached}
 
--- what a seal makes of a world that opens with these records, whatever its calls are to mean
+-- a seal opens a world with these records, whatever its calls are to mean
 abbrev Begins : List ℕ → Records → List World → Records → Type 0
 Begins parents opening sealed left = (meanings : ℕ → Records → Outcome) → ReachedEpochs parents opening sealed (opening_world parents left meanings)
 
@@ -23,7 +23,7 @@ goes_on parents opening sealed left begins w (W.Opens meanings) = begins meaning
 goes_on parents opening sealed left begins w' (W.Admits w alone reached is_alone) = E.Admits sealed w alone (goes_on parents opening sealed left begins w reached) is_alone
 goes_on parents opening sealed left begins w' (W.Moves w c next reached may) = E.Moves sealed w c next (goes_on parents opening sealed left begins w reached) may
 
--- the epochs of a line from one on, after these worlds
+-- the epochs of a list from one on, after these worlds
 record Rest (parents : List ℕ) (opening : Records) (before : List World) (es : List EpochValue) : Type 0 where
   pub sealed : List EpochValue
   pub last : EpochValue

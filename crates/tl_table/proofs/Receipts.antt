@@ -1,4 +1,4 @@
--- Receipts: when two are the same, and which stand.
+-- When two receipts are equal, and which are valid.
 use Rattle.std.proofs.Common.{◌≡◌, Bool, sym, ap, ◌∙◌}
 use Rattle.std.specs.Prelude.{◌==◌, ◌&&◌, IsTrue}
 use Rattle.std.specs.Bool.{Decides}
@@ -25,7 +25,7 @@ same_parts a b h = (λ i. record {
 parts_same : (a b : Receipt) → a ≡ b → (a.session ≡ b.session) × ((a.epoch ≡ b.epoch) × ((a.call ≡ b.call) × ((a.procedure ≡ b.procedure) × ((a.args.items ≡ b.args.items) × (a.reply.items ≡ b.reply.items)))))
 parts_same a b e = (ap (λ r. r.session) e, (ap (λ r. r.epoch) e, (ap (λ r. r.call) e, (ap (λ r. r.procedure) e, (ap (λ r. r.args.items) e, ap (λ r. r.reply.items) e)))))
 
--- the derived comparison is that of receipts
+-- the derived comparison is equality of receipts
 pub receipts_compare : (a b : Receipt) (r : Bool)
     → r ≡ ((a.session == b.session) && ((a.epoch == b.epoch) && ((a.call == b.call) && ((a.procedure == b.procedure) && (pointwise int_eq a.args.items b.args.items && pointwise int_eq a.reply.items b.reply.items)))))
     → (IsTrue r → a ≡ b) × (a ≡ b → IsTrue r)

@@ -26,12 +26,12 @@ use Rattle.tl_table.specs.Stored.{IsEpoch}
 
 -- ---- what becomes of the history
 
--- nothing ended, or call c did
+-- no call ended
 pub record Passes (past : List Event) (c : ℕ) (now : List Event) : Type 0 where
   pub done : (d : ℕ) → is_done d now ≡ is_done d past
   pub begun : (d : ℕ) → begun_by_end d now ≡ begun_by_end d past
 
--- the same calls, of which none ended, or c did
+-- the same calls, of which none ended or only c did
 pub record IsLater (v : CoreValue) (c : ℕ) (w : CoreValue) : Type 0 where
   pub calls : length w.calls ≡ length v.calls
   pub passes : Passes v.past c w.past ⊎ (w.past ≡ Done c ∷ v.past)
@@ -59,7 +59,7 @@ stop_past s (did.Read x f n) c past h = absurd h
 stop_past s (did.Write x f n) c past h = absurd h
 stop_past s (did.Emit n) c past h = absurd h
 
--- the local actions leave the history as it is, and the last does what it does
+-- only the last action changes the history
 goes_on : (v : CoreValue) (c : ℕ) (local : List Action) (last : Action) (w : CoreValue) → EachLocal local → Goes v c (local ++ last ∷ []) w
     → (length w.calls ≡ length v.calls) × (w.past ≡ past_after c last v.past)
 goes_on v c [] last w h g = (ap (λ u. length u.calls) (sym g.1) ∙ length-slice_set v.calls c _, ap (λ u. u.past) (sym g.1))
@@ -148,7 +148,7 @@ table_finished t begun ro rb h w c later known_c counted was_open done_c n n_is 
     })
     later.passes
 
--- a core's refusal of a segment, as the table tells it
+-- a core's refusal of a segment, as a fault of the table
 pub submit_fault : (t : EpochValue) (c : ℕ) (seg : SegmentValue) (e : CoreFault) (f : TableFault) → length (seen t).calls ≡ admits (seen t).past
     → (e ≡ core_fault.NotFrom → f ≡ fault.Stale) → (e ≢ core_fault.NotFrom → f ≡ fault.Core e) → IsFollowFault t.core c seg e → IsSubmitFault t c seg f
 submit_fault t c seg e f counted stale other (inl unknown) =

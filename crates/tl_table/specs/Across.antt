@@ -7,7 +7,7 @@ use Rattle.tl_tree_locking.specs.declared.event.Event.TheVariants.{Lock, Free}
 use Rattle.tl_tree_locking.specs.History.{part_of, last_left}
 use Rattle.tl_table.specs.Epochs.{EpochValue, seen}
 
--- all that happened in these epochs, the latest event first
+-- all events of these epochs, the latest first
 abbrev pub events_of : List EpochValue → List Event
 events_of [] = []
 events_of (e ∷ es) = events_of es ++ (seen e).past
@@ -16,8 +16,8 @@ events_of (e ∷ es) = events_of es ++ (seen e).past
 abbrev pub LockedIn : List EpochValue → ℕ → ℕ → ℕ → Type 0
 LockedIn es n c x = (e : EpochValue) × (slice_get es n ≡ Some e) × (locked (part_of c (seen e).past) x ≡ true)
 
--- In epoch m call b locked x, which call a of the earlier epoch n had freed, and found what was left there last since then: by
--- another call, or else by a.
+-- Call a of epoch n freed x, and call b of the later epoch m locked x. b found the record that was left there last since
+-- a's free: by another call, or otherwise by a.
 pub record FindsAcross (es : List EpochValue) (n a m b x : ℕ) : Type 0 where
   pub first : List EpochValue
   pub between : List EpochValue

@@ -5,8 +5,8 @@ use Rattle.tl_tree_locking.specs.declared.event.Event.{Event}
 use Rattle.tl_tree_locking.specs.declared.event.Event.TheVariants.{Lock, Free}
 use Rattle.tl_tree_locking.specs.History.{last_left}
 
--- Call b locked x after call a had freed it, and found what was left there last since then: by another call, or else by a.
--- As ever, a history has its latest event first.
+-- Call b locked x after call a had freed it. b found the record that was left there last since a's free: by another call,
+-- or otherwise by a. The history has its latest event first.
 pub record FindsWhatWasLeft (past : List Event) (a b x : ℕ) : Type 0 where
   pub later : List Event
   pub since : List Event

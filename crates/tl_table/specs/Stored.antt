@@ -1,4 +1,4 @@
--- How an epoch stores its calls' sessions and ends, and a table its epochs.
+-- How an epoch stores the sessions and ends of its calls, and how a table stores its epochs.
 use Rattle.std.specs.Prelude.{◌≡◌, ℕ, ◌+◌, ◌<◌, ◌≤◌, true, List, [], length, get_or}
 use Rattle.tl_history.specs.declared.history.TheConstants.{MAX_CALLS}
 use Rattle.tl_tree_locking.specs.History.{is_done}
@@ -8,8 +8,8 @@ use Rattle.tl_tree.specs.Records.{Records}
 use Rattle.tl_table.specs.Epochs.{EpochValue, seen, owner_of, IsKnown}
 use Rattle.tl_table.specs.Tables.{TableValue, InLine, IsNext, records_after, procedures_after}
 
--- Each call has a session that was given, and each done call the number of calls that had been admitted when it ended.
--- There is room for as many as there may be calls.
+-- Each call has a session that was opened. For each done call the number of calls that had been admitted when it ended is
+-- stored. There is memory for MAX_CALLS entries of both.
 pub record IsEpoch (t : EpochValue) (begun : List ℕ) (owners_room begun_room : ℕ) : Type 0 where
   pub few : t.sessions ≤ MAX_SESSIONS
   pub owned : length t.owners ≡ length (seen t).calls
@@ -19,8 +19,7 @@ pub record IsEpoch (t : EpochValue) (begun : List ℕ) (owners_room begun_room :
   pub owners_fit : MAX_CALLS ≤ owners_room
   pub begun_fit : MAX_CALLS ≤ begun_room
 
--- The sealed epochs stand in line, and the current one is the next. There is room for one more closed one, which is the current
--- one's in the end.
+-- The sealed epochs follow one another, and the current one is next. There is memory for one more closed epoch, which the current one will need.
 pub record IsTable (t : TableValue) (capacity : ℕ) : Type 0 where
   pub parents : List ℕ
   pub opening : Records

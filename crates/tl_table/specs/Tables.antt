@@ -1,4 +1,4 @@
--- What callers see of a table: its epochs, one after another.
+-- A table as callers see it: a sequence of epochs.
 use Rattle.std.specs.Prelude.{◌≡◌, ℕ, ◌+◌, ◌<◌, ◌≤◌, List, [], ◌∷◌, ◌++◌, length}
 use Rattle.tl_history.specs.declared.history.TheConstants.{MAX_CALLS}
 use Rattle.tl_tree.specs.Records.{Records}
@@ -12,7 +12,7 @@ use Rattle.tl_table.specs.declared.fault.TableFault.TheVariants as fault
 use Rattle.tl_table.specs.declared.epoch.TheConstants.{MAX_EPOCHS}
 use Rattle.tl_table.specs.Epochs.{EpochValue, seen, IsAtRest, AreOwned}
 
--- the epochs that were sealed, the first one first, and the current one
+-- the sealed epochs, the earliest first, and the current one
 pub record TableValue : Type 0 where
   pub sealed : List EpochValue
   pub current : EpochValue
@@ -27,7 +27,7 @@ epoch_world e = world_of (seen e)
 
 -- ---- one epoch after another
 
--- the records that these epochs leave, and the procedures that they have in the end, after these before
+-- the records that these epochs leave, and below the procedures that they leave, starting from the given ones
 abbrev pub records_after : Records → List EpochValue → Records
 records_after opening [] = opening
 records_after opening (e ∷ es) = records_after (records_now (seen e).past (seen e).opening) es
@@ -36,14 +36,14 @@ abbrev pub procedures_after : List Named → List EpochValue → List Named
 procedures_after procedures [] = procedures
 procedures_after procedures (e ∷ es) = procedures_after (seen e).procedures es
 
--- the epoch has that number and that shape, opens with these records, and has these procedures first
+-- the epoch has this number and shape, opens with these records, and has these procedures first
 pub record IsNext (n : ℕ) (shape : List ℕ) (records : Records) (before : List Named) (e : EpochValue) : Type 0 where
   pub number : e.number ≡ n
   pub parents : (seen e).parents ≡ shape
   pub opening : (seen e).opening ≡ records
   pub procedures : BeginsWith before (seen e).procedures
 
--- What is so of an epoch at rest.
+-- What is true of an epoch at rest.
 pub record IsRested (e : EpochValue) : Type 0 where
   pub sound : IsSound (epoch_world e)
   pub reached : Reached (seen e).parents (seen e).opening (epoch_world e)
@@ -52,14 +52,14 @@ pub record IsRested (e : EpochValue) : Type 0 where
   pub few : length (seen e).calls ≤ MAX_CALLS
   pub owned : AreOwned e
 
--- From that number on each epoch is the next after the one before, and at rest.
+-- The epochs are at rest and numbered from n on, and each continues where the previous one ended.
 abbrev pub InLine : ℕ → List ℕ → Records → List Named → List EpochValue → Type 0
 InLine n parents opening procedures [] = Unit {0}
 InLine n parents opening procedures (e ∷ es) =
     IsNext n parents opening procedures e × IsRested e
     × InLine (n + 1) parents (records_now (seen e).past (seen e).opening) (seen e).procedures es
 
--- What a closed table is: its epochs in line, numbered from 0. The first opens with these records.
+-- What is true of a closed table: its epochs follow one another and are numbered from 0. The first opens with `opening`.
 pub record IsChain (es : List EpochValue) : Type 0 where
   pub parents : List ℕ
   pub opening : Records
@@ -67,7 +67,7 @@ pub record IsChain (es : List EpochValue) : Type 0 where
   pub some : 0 < length es
   pub few : length es ≤ MAX_EPOCHS
 
--- ---- why a table isn't sealed: the first that holds of a call that isn't done, and the last epoch; else memory was refused
+-- ---- why a table isn't sealed: its lowest unfinished call; else that it has MAX_EPOCHS epochs; else that memory was refused
 
 abbrev pub IsSealRefusal : TableValue → TableFault → Type 0
 IsSealRefusal t (fault.Core (core_fault.NotAtRest c)) = IsSealFault (seen t.current) (core_fault.NotAtRest c)

@@ -1,4 +1,4 @@
--- The calls, while they are taken one after another.
+-- The calls while they are read one after another.
 use Rattle.std.proofs.Common.{◌≡◌, ◌+◌, ◌<◌, ℕ, List, [], ◌∷◌, ◌++◌, length, get_or, drop, map, Result, Ok, Err, refl, ap}
 use Rattle.std.proofs.lemmas.List.{append_assoc, drop_more, map_push}
 use Rattle.tl_procedures.specs.Names.{Named}
@@ -9,7 +9,7 @@ use Rattle.tl_trail.specs.Trails.{CallValue, call_value}
 use Rattle.tl_trail.specs.Reading.{call_as, and_calls, each_call}
 use Rattle.tl_trail.specs.Raw.{call_form}
 
--- what was taken before, and then the rest
+-- the calls read before, followed by the rest
 abbrev pub onto_calls : List CallValue → Result (List CallValue) TrailFault → Result (List CallValue) TrailFault
 onto_calls done (Ok rest) = Ok (done ++ rest)
 onto_calls done (Err e) = Err e

@@ -66,7 +66,7 @@ first_wrong limit [] (u ∷ ts) d more e h wrong = absurd h
 first_wrong limit (x ∷ ds) [] d more e h wrong = absurd h
 first_wrong limit (x ∷ ds) (u ∷ ts) d more e h wrong = inr (u, h.0, first_wrong limit ds ts d more e h.1 wrong)
 
--- the items that were read, with those that follow
+-- the items that were read, followed by the rest of the list
 abbrev pub Read : List Token → List Data → List Token → Type 0
 Read ts ds now = (n : ℕ) × (length now ≤ n) × (converted of_items (items (value trail_depth) (length ts) ts) ≡ parse_map (items_onto ds) (converted of_items (items (value trail_depth) n now)))
 
@@ -129,7 +129,7 @@ counted count n fault e is = ⊎_elim
     (λ few. inr (few, is ∙ ap (λ b. if b then fault else NotTrail) (le-leb (count + n) 256 few)))
     (cases_lt 256 (count + n))
 
--- with more than 256 values that is wrong first; else what was wrong before is
+-- with more than 256 values the fault is NotTrail; otherwise it is the earlier fault
 all_wrong : (limit : ℕ) (ds : List Data) (count : ℕ) (fault e : TrailFault) (more : List Data) → count ≡ length ds → e ≡ (if nat_le (count + length more) 256 then fault else NotTrail)
     → (length (ds ++ more) ≤ 256 → e ≡ fault → IsFaultOfChain limit (if_chain (ds ++ more)) e) → IsFaultOfChain limit (if_chain (ds ++ more)) e
 all_wrong limit ds count fault e more count_is is wrong =
@@ -139,7 +139,7 @@ all_wrong limit ds count fault e more count_is is wrong =
     (λ few. wrong (omega (arith, long, count_is, few.0)) few.1)
     (counted count (length more) fault e is)
 
--- all items, where these follow up to the end of their list
+-- all items, where these are the ones up to the end of the list
 pub all_items : (ts now rest : List Token) (ds : List Data) (more : Items) → Read ts ds now → converted of_items (items (value trail_depth) (length now) now) ≡ Some (more, rest)
     → converted of_items (items (value trail_depth) (length ts) ts) ≡ Some (items_onto ds more, rest)
 all_items ts now rest ds more read e =
@@ -188,12 +188,12 @@ module _ (limit : ℕ) (ts now rest : List Token) (ds : List Data) (d : Data) (u
   left_many count count_is many (Faulty e) h = many_left e count h.0 count_is many h.1 h.2
   left_many count count_is many Unread h = tt
 
--- there are no values up to the end of the list
+-- the list has no values
 pub listed_none : (limit : ℕ) (ts rest : List Token) (ds : List Data) (us : List TrailValue) → AreEach limit ds us → length us ≡ 0 → converted of_items (items (value trail_depth) (length ts) ts) ≡ Some (items_onto ds no_items, rest) → BeginsWithFault limit ts NotTrail rest
 listed_none limit ts rest [] us each none e = record { found = no_items; are_items = e; is_fault = inl (refl, refl) }
 listed_none limit ts rest (d ∷ ds) us each none e = absurd (omega (arith, as_many limit (d ∷ ds) us each, none))
 
--- one value more was counted
+-- one more value was counted
 pub one_counted : (ts : List Token) (ds : List Data) (now r : List Token) (d : Data) (count n more : ℕ) → Read ts ds now → after_end_array now ≡ None → BeginsWith Some trail_depth now d r
     → n ≡ min (count + length ds) (2 ^ 64 - 1) → more ≡ min (n + 1) (2 ^ 64 - 1) → length now ≤ length ts
     → (es : List Data) × Read ts es r × (more ≡ min (count + length es) (2 ^ 64 - 1)) × (length r ≤ length ts)
@@ -205,7 +205,7 @@ one_counted ts ds now r d count n more read goes_on got counts next within =
       omega (arith, within, got.shorter),
     )
 
--- what is wrong, once the list has ended; so many were counted
+-- the fault at the end of the list, where `count` values were counted
 module _ (ts now r : List Token) (ds : List Data) (count n : ℕ) (fault : TrailFault) (read : Read ts ds now) (end : after_end_array now ≡ Some r) (counts : n ≡ min (count + length ds) (2 ^ 64 - 1)) where
   count_ended : length (items_of_list (items_onto ds no_items)) ≡ length ds
   count_ended = ap length (list_onto ds no_items ∙ append-nil ds)
@@ -243,7 +243,7 @@ pub list_view : (vs : List Value) → items_of_list (items_view vs) ≡ map view
 list_view [] = refl
 list_view (v ∷ vs) = ap (λ l. view v ∷ l) (list_view vs)
 
--- one value more is that of a trail
+-- one more value is that of a trail
 pub each_more : (limit : ℕ) (vs : List Value) (i : ℕ) (v : Value) (ts : List TrailValue) (t : TrailValue) → i < length vs → AreEach limit (map view (take i vs)) ts → IsFound limit (form_of_data (view (get_or vs i v))) t
     → AreEach limit (map view (take (i + 1) vs)) (ts ++ t ∷ [])
 each_more limit vs i v ts t inside h e = subst (λ l. AreEach limit l (ts ++ t ∷ [])) (sym (map_more view vs i v inside)) (one_each limit (map view (take i vs)) ts (view (get_or vs i v)) t h e)

@@ -1,4 +1,4 @@
--- What is read where a value nests at most so deep is read where it may nest deeper, and items where there may be more turns.
+-- A value that is read with a smaller nesting limit is read with a larger one, and items are read with more steps allowed.
 use Rattle.std.proofs.Common.{◌≡◌, ℕ, zero, suc, ◌≤◌, List, [], ◌∷◌, length, Option, Some, None, option_map, option_and_then, refl, sym, ap, subst, arith}
 use Rattle.std.specs.Prelude.{⊤}
 use Rattle.json.specs.Token.{Token}

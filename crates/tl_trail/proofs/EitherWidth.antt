@@ -1,4 +1,4 @@
--- The form of a text, by the width of its records.
+-- The form of a text, depending on the width of its records.
 use Rattle.std.proofs.Common.{ℕ, ◌≡◌, ◌≢◌, Option, Some, None, refl, sym, ap, subst, inl, inr}
 use Rattle.std.specs.Option.{option_or}
 use Rattle.tl_tree.specs.declared.record.Width.{Width}
@@ -37,7 +37,7 @@ pub none_unread : (limit : ℕ) (form : Option TrailForm) → IsUnread limit for
 none_unread limit form (inl h) = h.1
 none_unread limit form (inr h) = absurd (cc h.3)
 
--- where the records in the end aren't wide, there is no form of wide records
+-- if the end records can't be read as wide, there is no form with wide records
 no_wide : (parts : Parts) → records_of Wide parts.ends ≡ None → form_at Wide parts ≡ None
 no_wide parts none = by (each_of call_of parts.calls) refl
   where

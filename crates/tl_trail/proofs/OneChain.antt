@@ -1,4 +1,4 @@
--- A list is that of one chain, or has a fault.
+-- A list denotes at most one chain, or has a fault.
 use Rattle.std.proofs.Common.{ℕ, ◌≡◌, ◌≢◌, List, [], ◌∷◌, Option, Some, Result, Ok, Err, IfOk, IfErr, MatchResult, refl, ap₂, subst, inl, inr}
 use Rattle.serde_json.specs.Data.{Data}
 use Rattle.tl_trail.specs.declared.fault.TrailFault.{TrailFault}
@@ -32,7 +32,7 @@ no_chain_fault : (limit : ℕ) (found : Option (List Data)) (ts : List TrailValu
 no_chain_fault limit found ts e a (inl (is, none)) = let items_are = a.items_are in absurd cc
 no_chain_fault limit found ts e a (inr (items, is, wrong)) = none_wrong limit a.items ts e a.each (subst (λ l. IsFirstOf limit l e) (same_items limit found ts a items is) wrong)
 
--- the one chain is read, unless memory is refused
+-- reading returns that chain or a lack of memory
 pub only_chain : (limit : ℕ) → {X : Type 0} (trails : X → List TrailValue) (found : Option (List Data)) (r : Result X TrailFault) (ts : List TrailValue) → IfOk r (λ x. IsChain limit found (trails x))
     → IfErr r (λ e. e ≢ Memory → IsFaultOfChain limit found e) → IsChain limit found ts → MatchResult r (λ x. trails x ≡ ts) (λ e. e ≡ Memory)
 only_chain limit trails found (Ok x) ts ok fault a = one_chain limit found (trails x) ts ok a

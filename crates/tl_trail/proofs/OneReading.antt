@@ -1,4 +1,4 @@
--- A text is that of one trail, or has a fault.
+-- A text denotes at most one trail, or has a fault.
 use Rattle.std.proofs.Common.{◌≡◌, ◌≢◌, ℕ, List, [], Result, Ok, Err, Some, IfOk, IfErr, MatchResult, Option, refl, sym, ap, ◌∙◌, subst, inl, inr}
 use Rattle.tl_tree.specs.Trees.{TreeValue}
 use Rattle.tl_tree.specs.Reading.{tree_from}
@@ -18,7 +18,7 @@ same_form limit found t a form is = let form_is = a.form_is in let same : form �
 same_tree : (limit : ℕ) (form : TrailForm) (one other : TreeValue) → tree_from limit (Some form.tree) ≡ Ok one → tree_from limit (Some form.tree) ≡ Ok other → one ≡ other
 same_tree limit form one other a b = let same : one ≡ other = cc in same
 
--- what a form stands for
+-- a form denotes at most one trail
 one_standing : (form : TrailForm) (tree : TreeValue) (ps qs : List Named) (r : Result TrailValue TrailFault) (t : TrailValue) → TakenUp [] form.procedures ps → TakenUp [] form.procedures qs
     → trail_of_form tree ps form ≡ r → trail_of_form tree qs form ≡ Ok t → r ≡ Ok t
 one_standing form tree ps qs r t a b is same =
@@ -61,7 +61,7 @@ only_memory Memory h = refl
 
 -- ---- texts
 
--- the text's trail is read, unless memory is refused
+-- reading returns the text's trail or a lack of memory
 pub only_one : (limit : ℕ) (text : List ℕ) (r : Result TrailValue TrailFault) (t : TrailValue) → IfOk r (λ u. IsTrailText limit text u) → IfErr r (λ e. e ≢ Memory → IsFirstTrailFault limit text e) → IsTrailText limit text t
     → MatchResult r (λ u. u ≡ t) (λ e. e ≡ Memory)
 only_one limit text (Ok u) t ok fault a = one_trail limit (form_in text) u t ok a

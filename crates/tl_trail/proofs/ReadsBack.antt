@@ -1,4 +1,4 @@
--- What is written for data is read back as that data.
+-- The text written for data is read back as that data.
 use Rattle.std.proofs.Common.{◌≡◌, ℕ, suc, max, ◌<◌, ◌≤◌, ◌^◌, ℤ, pos, negsuc, List, [], ◌∷◌, map, false, Option, Some, Result, option_map, option_and_then, refl, sym, ap, ap₂, ◌∙◌, subst, arith, append-nil}
 use Rattle.std.specs.Prelude.{All, FitsSigned, OnOk}
 use Rattle.std.proofs.lemmas.Result.{on_ok_weaker}
@@ -21,7 +21,7 @@ use Rattle.tl_tree.specs.Writing.{integer_data, integers_data}
 use Rattle.tl_json.specs.Lists.{natural, list_data}
 use Rattle.tl_trail.specs.ReadsBack.{IsReadBack, Adds}
 
--- the same of items
+-- the same for items
 pub record AreReadBack (ds : Items) : Type 0 where
   pub numbers : tree.ItemsHaveNumbers (items_outline ds)
   pub same : of_items (items_outline ds) ≡ Some ds
@@ -45,11 +45,11 @@ mutual
   members_depth_outline no_members = refl
   members_depth_outline (member k d ms) = ap₂ max (depth_outline d) (members_depth_outline ms)
 
--- the data of what a text was parsed as
+-- the data of a parsed text
 abbrev data_of : Option (json.Json × List Token) → Option Data
 data_of parsed = option_and_then of_json (option_and_then (λ p. json.if_last p.0 p.1) parsed)
 
--- the text of what is read back is read as it
+-- the text of data that is read back is read as that data
 pub text_read : (d : Data) → IsReadBack d → depth d ≤ max_depth → read (compact_text d) ≡ Some d
 text_read d back shallow =
     let ts = tree.json_tokens (outline d) in
@@ -57,14 +57,14 @@ text_read d back shallow =
     let parsed = value-json_tokens (outline d) max_depth [] (omega (arith, depth_outline d)) in
     ap data_of (ap (json.value max_depth) lexed ∙ parsed) ∙ back.same
 
--- what was read back from a text
+-- data that was read from a text is read back
 pub text_back : (text : List ℕ) (d : Data) → IsInOrder text d → has_float d ≡ false → depth d ≤ max_depth → read text ≡ Some d → IsReadBack d
 text_back text d order whole shallow is =
     let lexed = tokens_from_order text d order whole ∙ sym (append-nil (tree.json_tokens (outline d))) in
     let parsed = ap (json.value max_depth) lexed ∙ value-json_tokens (outline d) max_depth [] (omega (arith, depth_outline d)) in
     record { numbers = value-HasNumbers max_depth (tokens text) [] (outline d) (ArePrintableOrBad-tokens text) parsed; same = sym (ap data_of parsed) ∙ is }
 
--- what was added of a value, said of its data
+-- what was appended for a value, in terms of equal data
 pub added : {U E : Type 0} (r : Result U E) (old new : List ℕ) (v d : Data) → v ≡ d → has_float d ≡ false → depth d ≤ max_depth
     → OnOk r (has_float v ≡ false → depth v ≤ max_depth → Adds old new v) → OnOk r (Adds old new d)
 added r old new v d is whole shallow h =
@@ -96,7 +96,7 @@ item_back d ds first rest = record {
 pub array_back : (ds : Items) → AreReadBack ds → IsReadBack (array ds)
 array_back ds back = record { numbers = back.numbers; same = ap (option_map array) back.same }
 
--- a list of what is read back
+-- a list of data that is read back is read back
 pub each_back : {A : Type 0} (f : A → Data) (P : A → Type 0) → ((x : A) → P x → IsReadBack (f x)) → (xs : List A) → All P xs → AreReadBack (items_of (map f xs))
 each_back f P back [] all = no_items_back
 each_back f P back (x ∷ xs) all =

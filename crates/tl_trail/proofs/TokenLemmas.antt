@@ -1,4 +1,4 @@
--- The values that tokens begin with, one after another.
+-- The values with which tokens begin, one after another.
 use Rattle.std.proofs.Common.{◌≡◌, ℕ, ◌-◌, ◌<◌, ◌≤◌, List, [], ◌∷◌, ◌++◌, map, length, Bool, Option, Some, None, option_map, option_and_then, refl, ap, ◌∙◌, arith}
 use Rattle.std.specs.Prelude.{MatchOption, is_some, false}
 use Rattle.json.specs.Token.{Token}
@@ -87,7 +87,7 @@ whole o d e = let j = converted_from of_json o d [] e in ap (λ q. option_and_th
 
 -- ---- items that come one after another
 
--- these items, and then those
+-- these items, followed by the others
 abbrev pub items_onto : List Data → Items → Items
 items_onto [] more = more
 items_onto (d ∷ ds) more = item d (items_onto ds more)
@@ -110,7 +110,7 @@ onto_views (v ∷ vs) = ap (item (view v)) (onto_views vs)
 
 -- ---- what items stand for
 
--- each stands for the one at its place
+-- for each item f returns the result at its place
 abbrev pub Stand : {A : Type 0} → (Data → Option A) → List Data → List A → Type 0
 Stand f [] [] = Unit {0}
 Stand f [] (a ∷ each) = ⊥

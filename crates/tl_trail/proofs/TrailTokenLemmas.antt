@@ -21,7 +21,7 @@ use Rattle.tl_trail.proofs.Deeper.{members_deeper}
 use Rattle.tl_trail.proofs.EitherWidth.{half_first}
 use Rattle.tl_trail.proofs.TreeOfText.{half_read}
 
--- what a member's value stands for
+-- the result of f for a member's value
 pub member_stands : {A : Type 0} (name : List ℕ) (f : Data → Option A) (ts rest : List Token) (d : Data) (a : A) → BeginsWithMember name Some ts d rest → f d ≡ Some a → BeginsWithMember name f ts a rest
 member_stands name f ts rest d a h e = record { behind = h.behind; named = h.named; member = stands_for member_depth h.behind rest f d a h.member e }
 

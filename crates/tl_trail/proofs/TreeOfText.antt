@@ -1,4 +1,4 @@
--- The tree of a text, and what else is read of it.
+-- The tree of a text, and the rest that is read of it.
 use Rattle.std.proofs.Common.{ℕ, ◌≡◌, ◌≢◌, ℤ, List, ◌∙◌, Option, Some, None, option_map, Ok, Err, refl, ap, inl, inr}
 use Rattle.tl_tree.specs.Records.{Records}
 use Rattle.tl_tree.specs.Trees.{TreeValue}
@@ -19,7 +19,7 @@ pub half_read : (limit : ℕ) (o : Option (List ℤ × Records)) (this : RawTrai
 half_read limit None this tree e = absurd cc
 half_read limit (Some parts) this tree e = record { parts = parts; form_is = refl; tree_is = e }
 
--- a fault that is neither of the form nor of memory is the tree's own
+-- a fault that is neither one of the form nor of memory is a fault of the tree
 own_fault : (f : TreeFault) → f ≢ NotTree → of_tree f ≢ Memory → of_tree f ≡ Tree f
 own_fault Empty form memory = refl
 own_fault TooMany form memory = refl

@@ -1,4 +1,4 @@
--- The trail that a form stands for, with its tree and its procedures.
+-- The trail that a form denotes, with its tree and its procedures.
 use Rattle.std.proofs.Common.{◌≡◌, ◌≢◌, ◌<◌, ◌≤◌, ℕ, ℤ, List, [], map, length, reverse, Option, Some, None, Ok, Err, nat_le, true, false, refl, sym, ap, ◌∙◌, arith, eq-eqb, ne_eqb, inl, inr, Bool, if◌then◌else◌}
 use Rattle.std.proofs.lemmas.Bool.{le-leb, lt-leb}
 use Rattle.std.proofs.lemmas.List.{reverse-reverse, length-reverse}

@@ -1,4 +1,4 @@
--- What is written of a trail is read as that trail.
+-- The text written for a trail is read as that trail.
 use Rattle.std.proofs.Common.{◌≡◌, ℕ, zero, suc, nat_lt, inl, inr, ◌+◌, ◌<◌, ◌≤◌, ◌^◌, ℤ, pos, List, [], ◌∷◌, ◌++◌, codes, length, get_or, map, reverse, position, bytes_eq, Bool, true, false, Option, Some, None, option_and_then, Ok, Err, refl, sym, ap, ◌∙◌, subst, arith, if◌then◌else◌}
 use Rattle.std.specs.Prelude.{All, FitsSigned, IfSome}
 use Rattle.std.specs.Int.{w64}
@@ -111,7 +111,7 @@ event_form (Done c) = Ended (pos c)
 abbrev pub procedure_form : Named → List ℕ × List ℕ
 procedure_form p = (p.name, listing p.code)
 
--- a list of what is read
+-- a list whose elements are read
 each_read : {A B : Type 0} (f : Data → Option B) (g : A → Data) (h : A → B) (P : A → Type 0) → ((x : A) → P x → f (g x) ≡ Some (h x)) → (xs : List A) → All P xs
     → each_item f (items_of (map g xs)) ≡ Some (map h xs)
 each_read f g h P back [] all = refl
@@ -130,7 +130,7 @@ reply_read (Some values) fit few = rw (integers_same values fit, le-leb (length 
 call_read : (procedures : List Named) (k : CallValue) → FitsText k → call_of (call_data procedures k) ≡ Some (call_form procedures k)
 call_read procedures k told = rw (integers_same k.args told.args, reply_read k.reply told.reply told.few) refl
 
--- an event of one of so many calls and nodes
+-- the event's call and node exist, and its record has the right width
 record IsInside (calls nodes : ℕ) (e : Event) : Type 0 where
   pub own : HasRecord e
   pub node : IsOfNodes nodes e
@@ -169,7 +169,7 @@ taken_again before (p ∷ ps) free accepted =
     )
 
 module _ (test : Named → Bool) where
-  -- none of those before passes
+  -- no earlier element passes the test
   first_place : (before : List Named) (p : Named) (rest : List Named) → (position_or_len test before < length before → ⊥) → test p ≡ true
       → position_or_len test (before ++ p ∷ rest) ≡ length before
   first_place [] p rest none h = rw h refl
@@ -317,6 +317,6 @@ text_back t w = text_read (trail_data t) (trail_back t w) (omega (arith, trail_f
 pub written_read : (limit : ℕ) (t : TrailValue) → length t.parents ≤ limit → IsWritable t → IsTrailText limit (trail_text t) t
 written_read limit t fits w = written_form t w limit fits (trail_text t) (text_back t w)
 
--- the data is that of the trail
+-- the trail's data is read as that trail
 pub data_read : (limit : ℕ) (t : TrailValue) → length t.parents ≤ limit → IsWritable t → IsFound limit (form_of_data (trail_data t)) t
 data_read limit t fits w = subst (λ o. IsFound limit (option_and_then form_of_data o) t) (text_back t w) (written_read limit t fits w)

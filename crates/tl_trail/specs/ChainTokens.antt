@@ -1,4 +1,4 @@
--- The trails of a chain, as tokens.
+-- The trails of a chain as tokens.
 use Rattle.std.specs.Prelude.{◌≡◌, ◌≢◌, ◌+◌, ◌<◌, nat_le, ℕ, List, length, Some, if◌then◌else◌}
 use Rattle.json.specs.Token.{Token}
 use Rattle.json.specs.Json.{items, value}
@@ -15,39 +15,40 @@ use Rattle.tl_trail.specs.declared.fault.TrailFault.{TrailFault}
 use Rattle.tl_trail.specs.declared.fault.TrailFault.TheVariants.{NotTrail, Memory}
 use Rattle.tl_trail.specs.Tokens.{trail_depth}
 
--- first comes the value of a trail; the rest follows
+-- the tokens begin with the value of this trail; the rest follows
 pub record BeginsWithTrail (limit : ℕ) (ts : List Token) (t : TrailValue) (rest : List Token) : Type 0 where
   pub found : Data
   pub is_value : converted of_json (value trail_depth ts) ≡ Some (found, rest)
   pub is_trail : IsFound limit (form_of_data found) t
   pub shorter : length rest < length ts
 
--- first come the values of these trails, up to the end of their list
+-- the tokens begin with the values of these trails, up to the end of their list
 pub record BeginsWithTrails (limit : ℕ) (ts : List Token) (each : List TrailValue) (rest : List Token) : Type 0 where
   pub found : Items
   pub are_items : converted of_items (items (value trail_depth) (length ts) ts) ≡ Some (found, rest)
   pub are_trails : AreEach limit (items_of_list found) each
   pub shorter : length rest < length ts
 
--- first come values up to the end of their list, with which this is wrong first
+-- the tokens begin with values up to the end of their list, and this is their first fault
 pub record BeginsWithFault (limit : ℕ) (ts : List Token) (e : TrailFault) (rest : List Token) : Type 0 where
   pub found : Items
   pub are_items : converted of_items (items (value trail_depth) (length ts) ts) ≡ Some (found, rest)
   pub is_fault : IsFaultOfChain limit (if_chain (items_of_list found)) e
 
--- what is said of the values up to the end of their list; nothing, where one of them isn't read
+-- the result of reading the values up to the end of their list; nothing is required if one of them can't be read
 abbrev pub IsListed : ℕ → List Token → Listed → List Token → Type 0
 IsListed limit ts (Trails v) rest = BeginsWithTrails limit ts v.items rest × (0 < length v.items) × (length v.items < MAX_TRAILS + 1)
 IsListed limit ts (Faulty e) rest = e ≢ Memory → BeginsWithFault limit ts e rest
 IsListed limit ts Unread rest = Unit {0}
 
--- the same of the list that a text is
+-- the same for the list that a text contains
 abbrev pub IsListedIn : ℕ → List ℕ → Listed → Type 0
 IsListedIn limit text (Trails v) = IsChainText limit text v.items
 IsListedIn limit text (Faulty e) = e ≢ Memory → IsFirstChainFault limit text e
 IsListedIn limit text Unread = Unit {0}
 
--- So many values were read, with which that is wrong. What follows up to the end of the list is read, and too many values are worse.
+-- `count` values were read, and the fault is theirs. The rest of the list is read too. If there are more than MAX_TRAILS
+-- values in all, the fault is NotTrail instead.
 abbrev pub IsLeftBehind : List Token → ℕ → TrailFault → Listed → List Token → Type 0
 IsLeftBehind ts count fault (Trails v) rest = ⊥
 IsLeftBehind ts count fault (Faulty e) rest =

@@ -1,4 +1,4 @@
--- What it is for a trail to have nothing wrong.
+-- When a trail has no faults.
 use Rattle.std.specs.Prelude.{◌≡◌, ℕ, ◌<◌, true, List, [], ◌∷◌, length, Some}
 use Rattle.tl_tree.specs.Records.{Records, record_at}
 use Rattle.tl_tree_locking.specs.declared.event.Event.{Event}
@@ -11,18 +11,18 @@ use Rattle.tl_trail.specs.Trails.{TrailValue, call_at, found_alone}
 
 -- ---- one event, after those before it
 
--- a lock finds the record that was left last
+-- a lock finds the node's current record
 abbrev pub FindsNow : Records → List Event → Event → Type 0
 FindsNow opening past (Lock x c found) = found ≡ record_now past opening x
 FindsNow opening past _ = Unit {0}
 
--- nothing is wrong with the event
+-- the event has no fault
 pub record IsRight (parents : List ℕ) (opening : Records) (past : List Event) (e : Event) : Type 0 where
   pub rules : KeepsRules parents past e
   pub apart : IsApart past e
   pub finds : FindsNow opening past e
 
--- nothing is wrong with any event
+-- no event has a fault
 abbrev pub AreRight : List ℕ → Records → List Event → Type 0
 AreRight parents opening [] = Unit {0}
 AreRight parents opening (e ∷ past) = IsRight parents opening past e × AreRight parents opening past
@@ -33,11 +33,11 @@ AreRight parents opening (e ∷ past) = IsRight parents opening past e × AreRig
 abbrev pub IsGenuine : TrailValue → ℕ → Type 0
 IsGenuine t c = locks_and_frees (part_of c t.past) ≡ locks_and_frees (all_taken (found_alone t c).actions)
 
--- its reply is that of the call alone
+-- the reply of call c is that of the call alone
 abbrev pub RepliesSo : TrailValue → ℕ → Type 0
 RepliesSo t c = (call_at t c).reply ≡ Some (found_alone t c).reply
 
--- the end record of node x is the one left last
+-- the end record of node x is the one that was left last
 abbrev pub EndsSo : TrailValue → ℕ → Type 0
 EndsSo t x = record_at t.ends x ≡ record_now t.past t.opening x
 
@@ -47,7 +47,7 @@ AreDone t = (c : ℕ) → c < length t.calls → is_done c t.past ≡ true
 
 -- ---- the whole trail
 
--- nothing is wrong
+-- the trail has no faults
 pub record Clean (t : TrailValue) : Type 0 where
   pub right : AreRight t.parents t.opening t.past
   pub done : AreDone t

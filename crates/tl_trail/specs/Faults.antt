@@ -1,4 +1,4 @@
--- Why no trail was read.
+-- The faults of reading a trail, as numbers.
 use Rattle.std.specs.Prelude.{ℕ, List, [], ◌∷◌, if◌then◌else◌}
 use Rattle.tl_tree.specs.Faults.{numbers_of as tree_numbers_of}
 use Rattle.tl_tree.specs.declared.fault.TreeFault.{TreeFault}
@@ -8,7 +8,7 @@ use Rattle.tl_json.specs.declared.fault.RegisterFault.{RegisterFault}
 use Rattle.tl_trail.specs.declared.fault.TrailFault.{TrailFault}
 use Rattle.tl_trail.specs.declared.fault.TrailFault.TheVariants.{NotTrail, Tree, Procedure, NoProcedure, WrongArgs, TooManyCalls, Memory}
 
--- a fault as numbers: its own, and then its parts
+-- the fault's number, followed by its operands
 abbrev pub numbers_of : TrailFault → List ℕ
 numbers_of NotTrail = 701 ∷ []
 numbers_of (Tree f) = tree_numbers_of f
@@ -18,7 +18,7 @@ numbers_of WrongArgs = 501 ∷ []
 numbers_of TooManyCalls = 603 ∷ []
 numbers_of Memory = 790 ∷ []
 
--- a fault of the tree: a value without a tree's form is no trail's
+-- the fault of a tree; a value that doesn't have the form of a tree isn't a trail
 abbrev pub of_tree : TreeFault → TrailFault
 of_tree tree.NotTree = NotTrail
 of_tree tree.Memory = Memory

@@ -1,4 +1,4 @@
--- A trail half read: what is kept of a text's form.
+-- A trail that is partly read: the stored parts of its form.
 use Rattle.std.specs.Prelude.{ℕ, ◌≡◌, ◌⊎◌, ℤ, List, [], map, Option, Some, None, option_map, Ok, Err, string_bytes}
 use Rattle.tl_tree.specs.Records.{Records}
 use Rattle.tl_tree.specs.Trees.{TreeValue}
@@ -28,7 +28,7 @@ parts_in m = record {
   tree = view m.tree.now;
 }
 
--- the form of a text that is this and has that tree
+-- the form with these stored parts and this tree
 abbrev pub form_with : RawTrail → List ℤ × Records → TrailForm
 form_with raw tree = record {
   tree = tree;
@@ -40,13 +40,13 @@ form_with raw tree = record {
 
 -- ---- the text
 
--- The form is that of what was read and of the tree's parts.
+-- The form consists of the stored parts and the parts of the tree.
 pub record IsHalfRead (limit : ℕ) (form : Option TrailForm) (tree : TreeValue) (raw : RawTrail) : Type 0 where
   pub parts : List ℤ × Records
   pub form_is : form ≡ Some (form_with raw parts)
   pub tree_is : tree_from limit (Some parts) ≡ Ok tree
 
--- there is no form, or the tree has that fault
+-- there is no form, or its tree has this fault
 abbrev pub IsUnread : ℕ → Option TrailForm → TrailFault → Type 0
 IsUnread limit found e =
     ((e ≡ NotTrail) × (found ≡ None))
@@ -58,7 +58,7 @@ pub record IsTrailOf (tree : TreeValue) (form : TrailForm) (t : TrailValue) : Ty
   pub taken_up : TakenUp [] form.procedures t.procedures
   pub same : trail_of_form tree t.procedures form ≡ Ok t
 
--- what is wrong besides the tree
+-- the fault of the form apart from its tree
 abbrev pub IsFaultOf : TreeValue → TrailForm → TrailFault → Type 0
 IsFaultOf tree form e =
     IsUnregistered form.procedures e

@@ -1,4 +1,4 @@
--- What a text of a trail is, and what is wrong with it first.
+-- When a text denotes a trail, and which fault it has otherwise.
 use Rattle.std.specs.Prelude.{◌≡◌, ◌⊎◌, ℕ, ◌==◌, nat_lt, nat_le, ℤ, pos, negsuc, List, [], ◌∷◌, length, get_or, codes, Option, Some, None, option_map, option_and_then, Result, Ok, Err, if◌then◌else◌, ◌&&◌}
 use Rattle.serde_json.specs.Data.{Data}
 use Rattle.serde_json.specs.Events.{members_len}
@@ -30,14 +30,13 @@ use Rattle.tl_trail.specs.Trails.{CallValue, TrailValue}
 
 -- ---- the form
 
--- a call as it is written: the name of its procedure, its arguments, and its reply, if any
+-- a call as it is written: the name of its procedure, its arguments, and optionally its reply
 pub record CallForm : Type 0 where
   pub name : List ℕ
   pub args : List ℤ
   pub reply : Option (List ℤ)
 
--- the tree's parents and records, the names and texts of the procedures, the calls, the events with the earliest first,
--- and the records in the end
+-- the tree's parents and records, the names and texts of the procedures, the calls, the events with the earliest first, and the end records
 pub record TrailForm : Type 0 where
   pub tree : List ℤ × Records
   pub procedures : List (List ℕ × List ℕ)
@@ -69,22 +68,22 @@ parts_of d = option_and_then (λ ms. if members_len ms == 5
     (both (get_member (codes "events") ms) (both (get_member (codes "procs") ms) (get_member (codes "tree") ms))))
     else None) (as_object d)
 
--- the form of the parts, where all records have that width
+-- the form of the parts, if all records have this width
 abbrev pub form_at : Width → Parts → Option TrailForm
 form_at width parts =
     option_map (λ x. record { calls = x.0.0; ends = x.0.1; events = x.1.0; procedures = x.1.1.0; tree = x.1.1.1 })
     (both (both (each_of call_of parts.calls) (records_of width parts.ends))
     (both (each_of (event_of width) parts.events) (both (each_of procedure_of parts.procedures) (tree_form_at width parts.tree))))
 
--- the form of the parts: all records are wide, or all are narrow
+-- the form of the parts; all records are wide, or all are narrow
 abbrev pub form_of_parts : Parts → Option TrailForm
 form_of_parts parts = option_or (form_at Wide parts) (form_at Narrow parts)
 
--- the form that a value has
+-- the form of a JSON value
 abbrev pub form_of_data : Data → Option TrailForm
 form_of_data d = option_and_then form_of_parts (parts_of d)
 
--- the form that a text has
+-- the form of a text
 abbrev pub form_in : List ℕ → Option TrailForm
 form_in text = option_and_then form_of_data (read text)
 
@@ -99,7 +98,7 @@ abbrev pub called : List Named → CallForm → Option ℕ → Result CallValue 
 called procedures form (Some number) = with_arity (get_or procedures number no_procedure) number form
 called procedures form None = Err NoProcedure
 
--- a call of the procedure of its name, with as many arguments as that takes
+-- a call of the procedure with this name, if it takes that many arguments; otherwise the fault
 abbrev pub call_as : List Named → CallForm → Result CallValue TrailFault
 call_as procedures form = called procedures form (number_of procedures form.name)
 
@@ -108,21 +107,21 @@ and_calls (Err e) more = Err e
 and_calls (Ok k) (Err e) = Err e
 and_calls (Ok k) (Ok ks) = Ok (k ∷ ks)
 
--- the calls, or the fault of the first that has one
+-- the calls, or the fault of the first call that has one
 abbrev pub each_call : List Named → List CallForm → Result (List CallValue) TrailFault
 each_call procedures [] = Ok []
 each_call procedures (form ∷ forms) = and_calls (call_as procedures form) (each_call procedures forms)
 
--- the same of at most 4,096 calls
+-- the same for at most MAX_CALLS calls
 abbrev pub calls_as : List Named → List CallForm → Result (List CallValue) TrailFault
 calls_as procedures forms = if nat_le (length forms) MAX_CALLS then each_call procedures forms else Err TooManyCalls
 
--- a number below the count
+-- a number below `count`
 abbrev pub below : ℕ → ℤ → Option ℕ
 below count (pos n) = if nat_lt n count then Some n else None
 below count (negsuc n) = None
 
--- an event of one of the calls and one of the nodes
+-- the event, if its call and its node exist
 abbrev pub event_as : ℕ → ℕ → RawEvent → Option Event
 event_as calls nodes (Admitted c) = option_map event.Admit (below calls c)
 event_as calls nodes (Locked c x r) = option_map (λ y. event.Lock y.1 y.0 r) (both (below calls c) (below nodes x))
@@ -133,7 +132,7 @@ abbrev pub events_as : ℕ → ℕ → List RawEvent → Option (List Event)
 events_as calls nodes [] = Some []
 events_as calls nodes (e ∷ es) = option_map (λ x. x.0 ∷ x.1) (both (event_as calls nodes e) (events_as calls nodes es))
 
--- the trail, where there are at most 1,048,576 events and one record in the end for each node
+-- the trail, if there are at most MAX_EVENTS events and one end record for each node
 abbrev pub trail_with : TreeValue → List Named → TrailForm → List CallValue → List Event → Result TrailValue TrailFault
 trail_with tree procedures form calls events =
     if (length form.ends == length tree.parents) && nat_le (length events) MAX_EVENTS
@@ -149,14 +148,13 @@ trail_of_calls tree procedures form (Ok calls) =
     trail_of_events tree procedures form calls (events_as (length calls) (length tree.parents) form.events)
 trail_of_calls tree procedures form (Err e) = Err e
 
--- the trail of that tree and of these procedures, or what is wrong first: the number of calls, a call, else the events
--- or the records in the end
+-- the trail of this tree and these procedures, or the first fault: too many calls, a call's fault, or a fault of the events or end records
 abbrev pub trail_of_form : TreeValue → List Named → TrailForm → Result TrailValue TrailFault
 trail_of_form tree procedures form = trail_of_calls tree procedures form (calls_as procedures form.calls)
 
 -- ---- the text
 
--- What was found is a form of the trail.
+-- The form that was found is one of this trail.
 pub record IsFound (limit : ℕ) (found : Option TrailForm) (t : TrailValue) : Type 0 where
   pub form : TrailForm
   pub tree : TreeValue
@@ -165,15 +163,15 @@ pub record IsFound (limit : ℕ) (found : Option TrailForm) (t : TrailValue) : T
   pub taken_up : TakenUp [] form.procedures t.procedures
   pub same : trail_of_form tree t.procedures form ≡ Ok t
 
--- the text is one of the trail
+-- the text denotes the trail
 abbrev pub IsTrailText : ℕ → List ℕ → TrailValue → Type 0
 IsTrailText limit text t = IsFound limit (form_in text) t
 
--- what is wrong with the first procedure that isn't taken up
+-- the fault of the first procedure that can't be registered
 abbrev pub IsUnregistered : List (List ℕ × List ℕ) → TrailFault → Type 0
 IsUnregistered ps e = (f : RegisterFault) × (e ≡ Procedure f) × IsFirstUnfit [] ps f
 
--- what is wrong with a form first: the tree, else a procedure, else all the rest
+-- the first fault of a form: that of the tree, of a procedure, or of the rest
 abbrev pub IsFormFault : ℕ → TrailForm → TrailFault → Type 0
 IsFormFault limit form e =
     ((f : TreeFault) × (e ≡ Tree f) × (tree_from limit (Some form.tree) ≡ Err f))
@@ -181,12 +179,12 @@ IsFormFault limit form e =
     × (IsUnregistered form.procedures e
     ⊎ ((procedures : List Named) × TakenUp [] form.procedures procedures × (trail_of_form tree procedures form ≡ Err e))))
 
--- what is wrong first with what was found
+-- the first fault of what was found
 abbrev pub IsFaultFound : ℕ → Option TrailForm → TrailFault → Type 0
 IsFaultFound limit found e =
     ((e ≡ NotTrail) × (found ≡ None))
     ⊎ ((form : TrailForm) × (found ≡ Some form) × IsFormFault limit form e)
 
--- what is wrong with a text first
+-- the first fault of a text
 abbrev pub IsFirstTrailFault : ℕ → List ℕ → TrailFault → Type 0
 IsFirstTrailFault limit text e = IsFaultFound limit (form_in text) e

@@ -1,16 +1,16 @@
--- Data whose text is read as that data.
+-- Data that is read back from its text.
 use Rattle.std.specs.Prelude.{◌≡◌, ◌++◌, ℕ, List, Some}
 use Rattle.json.specs.Tree.{HasNumbers}
 use Rattle.serde_json.specs.Data.{Data}
 use Rattle.serde_json.specs.Read.{of_json}
 use Rattle.serde_json.specs.Written.{outline, compact_text}
 
--- each number is written as one, and what is written stands for the data
+-- the numbers are written as numbers, and what is written denotes the data
 pub record IsReadBack (d : Data) : Type 0 where
   pub numbers : HasNumbers (outline d)
   pub same : of_json (outline d) ≡ Some d
 
--- the text of the data was added, and is read as the data
+-- the data's text was appended, and reading it gives the data
 pub record Adds (old new : List ℕ) (d : Data) : Type 0 where
   pub text : new ≡ old ++ compact_text d
   pub back : IsReadBack d

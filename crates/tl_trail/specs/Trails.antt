@@ -1,4 +1,4 @@
--- What a trail tells: a tree, procedures, calls with their replies, events, and the records in the end.
+-- The contents of a trail: a tree, procedures, calls with their replies, events, and end records.
 use Rattle.std.specs.Prelude.{◌≡◌, ℕ, ◌<◌, ◌≤◌, List, [], length, get_or, Option, None, option_map, All, ℤ}
 use Rattle.tl_history.specs.declared.history.TheConstants.{MAX_CALLS}
 use Rattle.tl_tree.specs.Records.{Records}
@@ -15,14 +15,13 @@ use Rattle.tl_procedures.specs.Names.{Named, no_procedure}
 use Rattle.tl_tree_locking.specs.Nodes.{IsOfNodes}
 use Rattle.tl_trail.specs.declared.trail.TrailCall.{TrailCall}
 
--- a call: the number of its procedure, its arguments, and its reply, if any
+-- a call: the number of its procedure, its arguments, and optionally its reply
 pub record CallValue : Type 0 where
   pub procedure : ℕ
   pub args : List ℤ
   pub reply : Option (List ℤ)
 
--- the shape and the opening records, the procedures and the calls by number, the events with the latest first, and the
--- records in the end
+-- the shape and the opening records, the procedures and the calls by number, the events with the latest first, and the end records
 pub record TrailValue : Type 0 where
   pub parents : List ℕ
   pub opening : Records
@@ -43,15 +42,15 @@ call_at t c = get_or t.calls c no_call
 abbrev pub code_of : List Named → CallValue → List Instr
 code_of procedures k = (get_or procedures k.procedure no_procedure).code.instrs
 
--- the call is of one of the procedures, whose code is accepted, with as many arguments as it takes
+-- the call's procedure exists, its code is accepted, and it takes as many arguments as the call has
 pub record IsCallOf (procedures : List Named) (k : CallValue) : Type 0 where
   pub known : k.procedure < length procedures
   pub valid : IsCode (get_or procedures k.procedure no_procedure).code
   pub accepted : Acceptable (code_of procedures k)
   pub arity : length k.args ≡ (get_or procedures k.procedure no_procedure).code.arity
 
--- What is so of every trail, whoever wrote it: it has a tree, records for its nodes in the end, and calls of its
--- procedures, at most 4,096; and its events are of these calls and these nodes.
+-- True of every trail that can be read, whoever wrote it. It has a tree, an opening record and an end record for each
+-- node, and at most MAX_CALLS calls of its procedures. Its events refer to existing calls and nodes.
 pub record IsTrail (t : TrailValue) : Type 0 where
   pub tree : IsTree t.parents
   pub size : length t.opening ≡ length t.parents
@@ -69,7 +68,7 @@ meaning_of t c = meaning (code_of t.procedures (call_at t c)) t.parents (call_at
 abbrev pub found_alone : TrailValue → ℕ → Outcome
 found_alone t c = alone_of (meaning_of t c) t.opening t.past c
 
--- the same as a world of the protocol, in which each call has done all that it does alone
+-- the trail as a world of the protocol, in which each call has done everything that it does alone
 abbrev pub world_of : TrailValue → World
 world_of t = record {
   parents = t.parents;

@@ -1,4 +1,4 @@
--- The value and the text that stand for a trail.
+-- How a trail is written as a JSON value and as text.
 use Rattle.std.specs.Prelude.{ℕ, List, [], ◌∷◌, map, reverse, codes, get_or, length, ◌≤◌, ◌≡◌, Ok, All, FitsSigned, IfSome}
 use Rattle.serde_json.specs.Data.{Data, string, object, member, no_members}
 use Rattle.serde_json.specs.Written.{compact_text}
@@ -16,12 +16,12 @@ use Rattle.tl_procedures.specs.Names.{Named, no_procedure, AreFreeAfter}
 use Rattle.tl_trail.specs.ReadsBack.{IsReadBack}
 use Rattle.tl_trail.specs.Trails.{CallValue, TrailValue, IsTrail}
 
--- the name of the procedure, the arguments, the reply
+-- the name of the procedure, the arguments, and the reply
 abbrev pub call_data : List Named → CallValue → Data
 call_data procedures k =
     list_data (string (get_or procedures k.procedure no_procedure).name ∷ integers_data k.args ∷ reply_data k.reply ∷ [])
 
--- the members in the order in which they are written
+-- the members, in the order in which they are written
 abbrev pub trail_data : TrailValue → Data
 trail_data t = object
     (member (codes "calls") (list_data (map (call_data t.procedures) t.calls))
@@ -36,13 +36,13 @@ trail_text t = compact_text (trail_data t)
 
 -- ---- what can be written
 
--- the arguments fit 64 bits, and so does a reply, which has at most 32 values
+-- the arguments and the reply fit signed 64-bit integers, and the reply has at most 32 values
 pub record FitsText (k : CallValue) : Type 0 where
   pub args : All (FitsSigned w64) k.args
   pub reply : IfSome k.reply (λ values. All (FitsSigned w64) values)
   pub few : IfSome k.reply (λ values. length values ≤ 32)
 
--- what is so of a trail that was written
+-- what is true of a trail that is written
 pub record IsWritable (t : TrailValue) : Type 0 where
   pub trail : IsTrail t
   pub free : AreFreeAfter [] t.procedures
@@ -52,7 +52,7 @@ pub record IsWritable (t : TrailValue) : Type 0 where
   pub few : length t.past ≤ MAX_EVENTS
   pub ends : All IsRecord t.ends
   pub tree : (limit : ℕ) → length t.parents ≤ limit → tree_at limit Wide (tree_data (record { parents = t.parents; records = t.opening })) ≡ Ok (record { parents = t.parents; records = t.opening })
-  -- what is made a value first is read back as its text has it
+  -- the parts that are first made JSON values are read back as they were
   pub calls_back : IsReadBack (list_data (map (call_data t.procedures) t.calls))
   pub procedures_back : IsReadBack (list_data (map procedure_data t.procedures))
   pub tree_back : IsReadBack (tree_data (record { parents = t.parents; records = t.opening }))

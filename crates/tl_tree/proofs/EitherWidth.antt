@@ -1,4 +1,4 @@
--- The tree of a value, by the width of its records.
+-- How a JSON value is read as a tree, depending on the width of its records.
 use Rattle.std.proofs.Common.{◌≡◌, ◌≢◌, ℕ, ◌==◌, ℤ, List, [], ◌∷◌, Bool, true, false, length, nat_lt, map, unsigned_abs, Option, Some, None, option_map, Result, Ok, Err, if◌then◌else◌, refl, sym, ap}
 use Rattle.std.specs.Option.{option_or}
 use Rattle.serde_json.specs.Data.{Data}

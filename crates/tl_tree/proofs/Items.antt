@@ -1,4 +1,4 @@
--- The items of a list, one after another.
+-- Reading the items of a list one after another.
 use Rattle.std.proofs.Common.{◌≡◌, ◌≢◌, ℕ, suc, ◌+◌, ◌<◌, ℤ, List, [], ◌∷◌, ◌++◌, length, get_or, take, map, Option, Some, None, option_map, option_and_then, refl, sym, ap, ap₂, ◌∙◌, ne_eqb}
 use Rattle.std.proofs.lemmas.List.{map_push, map_more}
 use Rattle.serde_json.specs.Data.{Data}
@@ -8,11 +8,11 @@ use Rattle.tl_tree.specs.declared.record.Width.{Width}
 use Rattle.tl_tree.specs.Records.{width_of}
 use Rattle.tl_tree.specs.Reading.{each_item, integer_of, if_record}
 
--- what was read before, and then the rest
+-- the items read so far, followed by the rest
 abbrev pub onto : {A : Type 0} → List A → Option (List A) → Option (List A)
 onto done rest = option_map (λ xs. done ++ xs) rest
 
--- as many come out as there are
+-- reading gives as many results as there are items
 each_or : {A : Type 0} (o : Option A) (rest : Option (List A)) (n : ℕ) (xs : List A) → ((ys : List A) → rest ≡ Some ys → length ys ≡ n) → option_and_then (λ x. option_map (λ zs. x ∷ zs) rest) o ≡ Some xs → length xs ≡ suc n
 each_or None rest n xs h e = absurd cc
 each_or (Some x) None n xs h e = absurd cc
@@ -28,7 +28,7 @@ no_record width (Some xs) n h other =
     let size = h xs refl in
     rw (ne_eqb (length xs) (width_of width) (λ e. other (sym size ∙ e)))
 
--- a list of another length is no record
+-- a list whose length isn't the width is no record
 pub other_width : (width : Width) (vs : List Value) → length vs ≢ width_of width → None ≡ option_and_then (if_record width) (each_item integer_of (items_view vs))
 other_width width vs other = no_record width (each_item integer_of (items_view vs)) (length vs) (length-each_item integer_of vs) other
 

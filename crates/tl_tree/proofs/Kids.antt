@@ -10,7 +10,7 @@ pub length-kids_from : (ps : List ℕ) (i x : ℕ) → length (kids_from ps i x)
 length-kids_from [] i x = omega arith
 length-kids_from (p ∷ ps) i x = grind (arith, common_steps, length-kids_from ps (i + 1) x)
 
--- a child is one of the nodes, and x is its parent
+-- y is a node from i on whose parent is x, where the list gives the parents of the nodes from i on
 abbrev IsKidAt : List ℕ → ℕ → ℕ → ℕ → Type 0
 IsKidAt ps i x y = (i ≤ y) × (y < i + length ps) × (get_or ps (y - i) 0 ≡ x)
 
@@ -68,7 +68,7 @@ joined lists up x node more mine inside more_is is = elim (cases_eq up x) [
       )
 ]
 
--- where the lists hold the children among the nodes before `node`, it goes onto the list of its parent
+-- if the lists have the children among the nodes before `node`, then after `node` is appended to its parent's list they also have `node`
 pub kids_step : (parents : List ℕ) (lists : List (List ℕ)) (node up : ℕ) (more : List ℕ) → 0 < node → node < length parents → up ≡ get_or parents node 0 → up < length lists
     → more ≡ get_or lists up [] ++ node ∷ [] → (x : ℕ) → get_or lists x [] ≡ kids_from (take (node - 1) (drop 1 parents)) 1 x
     → get_or (set lists up more) x [] ≡ kids_from (take (node + 1 - 1) (drop 1 parents)) 1 x

@@ -29,7 +29,7 @@ astray_none (p ∷ ps) x h (suc y) less =
     let along : (x + 1) + y ≡ x + suc y = omega arith in
     rw along at (astray_none ps (x + 1) ((step_none _ _ x h).1) y (omega arith))
 
--- x is the first of these nodes, counted from low, that has no parent before it
+-- x is the first node, where nodes are counted from low, whose parent isn't a lower number
 record IsFirst (ps : List ℤ) (low x : ℕ) : Type 0 where
   from : low ≤ x
   inside : x < low + length ps
@@ -114,7 +114,7 @@ tree_at limit p ps most few root none =
       lower = λ x above less. lower_at p ps none x above (omega (arith, size));
     }
 
--- what is taken is a tree's parents
+-- the parents that `shape_of` accepts are those of a tree
 pub tree_from_shape_of : (limit : ℕ) (numbers : List ℤ) (s : List ℕ) → limit ≤ MAX_NODES → shape_of limit numbers ≡ Ok s → IsTree s × (map pos s ≡ numbers)
 tree_from_shape_of limit [] s most h = absurd cc
 tree_from_shape_of limit (p ∷ ps) s most h =
@@ -124,7 +124,7 @@ tree_from_shape_of limit (p ∷ ps) s most h =
       ap₂ ◌∷◌ (sym ((root_is p parts.1).0 ∙ ap pos (sym ((root_is p parts.1).1)))) (same_pos ps 1 parts.2),
     )
 
--- a tree's parents are taken
+-- `shape_of` accepts the parents of a tree
 pub shape_of-pos : (limit : ℕ) (s : List ℕ) → IsTree s → length s ≤ limit → shape_of limit (map pos s) ≡ Ok s
 shape_of-pos limit [] h small = absurd (let some = h.some in omega arith)
 shape_of-pos limit (p ∷ ps) h small =
@@ -138,7 +138,7 @@ shifted : (p : ℤ) (ps : List ℤ) (x : ℕ) → 0 < x → get_or (p ∷ ps) x 
 shifted p ps zero above = absurd (omega arith)
 shifted p ps (suc x) above = let back : suc x - 1 ≡ x = omega arith in rw back refl
 
--- the node of a bad parent is the least one
+-- the node of a `BadParent` fault is the lowest such node
 pub astray_from_shape_of : (limit : ℕ) (numbers : List ℤ) (x : ℕ) → shape_of limit numbers ≡ Err (BadParent x) → IsFirstAstray numbers x
 astray_from_shape_of limit [] x h = absurd cc
 astray_from_shape_of limit (p ∷ ps) x h =

@@ -5,7 +5,7 @@ use Rattle.serde_json.specs.Events.{members_len}
 use Rattle.serde_json.specs.Find.{as_object, get, get_member}
 use Rattle.tl_tree.specs.Reading.{parts_of}
 
--- what is taken for an object is one
+-- only an object has members
 pub object_is : (d : Data) (ms : Members) → as_object d ≡ Some ms → d ≡ object ms
 object_is null ms e = absurd cc
 object_is (boolean b) ms e = absurd cc

@@ -1,4 +1,4 @@
--- Ways up to the root.
+-- Paths from a node up to the root.
 use Rattle.std.proofs.Common.{◌≢◌, ℕ, zero, suc, ◌≤◌, List, length, inl, inr, refl, arith}
 use Rattle.std.proofs.lemmas.Bool.{cases_lt}
 use Rattle.std.proofs.lemmas.List.{get_or_past}
@@ -12,12 +12,12 @@ parent_le parents tree (suc x) =
       | inr past ↦ (let at = get_or_past parents (suc x) 0 past in omega arith)
     ]
 
--- no way up leads to a higher node
+-- a path up leads only to nodes with lower numbers
 pub Above-le : (parents : List ℕ) → IsTree parents → (a b : ℕ) → Above parents a b → a ≤ b
 Above-le parents tree a b itself = omega arith
 Above-le parents tree a b (below h) = omega (arith, Above-le parents tree a (parent parents b) h, parent_le parents tree b)
 
--- a way up that isn't over goes through the parent
+-- a path up to another node goes through the parent
 pub Above-parent : (parents : List ℕ) (a b : ℕ) → b ≢ a → Above parents a b → Above parents a (parent parents b)
 Above-parent parents a b other itself = absurd (other refl)
 Above-parent parents a b other (below h) = h

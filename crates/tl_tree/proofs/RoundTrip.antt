@@ -1,4 +1,4 @@
--- What stands for a tree is read as that tree.
+-- The data written for a tree is read as that tree.
 use Rattle.std.proofs.Common.{◌≡◌, ℕ, suc, ◌-◌, ◌<◌, ◌≤◌, ◌^◌, ℤ, pos, negsuc, List, [], ◌∷◌, ◌++◌, length, replicate, get_or, map, Option, Some, Ok, refl, ap, ◌∙◌, arith, eq-eqb, lt-ltb}
 use Rattle.std.specs.Prelude.{All, FitsSigned}
 use Rattle.std.specs.Int.{w64}
@@ -15,7 +15,7 @@ use Rattle.tl_tree.specs.Writing.{integer_data, integers_data, records_data, tre
 use Rattle.tl_tree.proofs.Parents.{shape_of-pos}
 use Rattle.tl_tree.proofs.Paths.{parent_le}
 
--- a list of what is read back is read back
+-- if each item is read back, so is the list
 pub each_back : {A : Type 0} (f : Data → Option A) (g : A → Data) (P : A → Type 0) → ((x : A) → P x → f (g x) ≡ Some x) → (xs : List A) → All P xs → each_item f (items_of (map g xs)) ≡ Some xs
 each_back f g P back [] h = refl
 each_back f g P back (x ∷ xs) h =
@@ -30,7 +30,7 @@ integer_back (negsuc n) h = refl
 pub integers_back : (zs : List ℤ) → All (FitsSigned w64) zs → integers_of (integers_data zs) ≡ Some zs
 integers_back zs h = each_back integer_of integer_data (FitsSigned w64) integer_back zs h
 
--- a record of all its fields is wide already
+-- a record with all its fields isn't changed by widening
 pub widened_already : (fields : Record) → length fields ≡ field_count → widened fields ≡ fields
 widened_already fields all = ap (λ n. fields ++ replicate (field_count - n) (pos 0)) all ∙ append-nil fields
 

@@ -1,4 +1,4 @@
--- A value is read as a tree exactly where it stands for that tree.
+-- A JSON value is read as a tree exactly if it denotes that tree.
 use Rattle.std.proofs.Common.{◌≡◌, ℕ, ◌==◌, ◌≤◌, ℤ, pos, List, length, map, codes, cond, Bool, true, false, Option, Some, None, option_and_then, Result, Ok, Err, refl, sym, ap, ◌∙◌, eq-eqb}
 use Rattle.std.proofs.lemmas.Bool.{eqb-true}
 use Rattle.std.proofs.lemmas.Option.{some_pair_parts}
@@ -30,7 +30,7 @@ counted : (b : Bool) (t u : TreeValue) → cond {A = Result TreeValue TreeFault}
 counted true t u e = (refl, cc)
 counted false t u e = absurd cc
 
--- the shape, and the records beside it
+-- the shape and the records are those of the tree
 abbrev FromForm : List ℤ → Records → TreeValue → Type 0
 FromForm numbers records tree = (numbers ≡ map pos tree.parents) × (records ≡ tree.records) × IsWhole tree
 

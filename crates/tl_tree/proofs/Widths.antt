@@ -1,4 +1,4 @@
--- The numbers of a record, with zeros behind them.
+-- The numbers of a record, followed by zeros.
 use Rattle.std.proofs.Common.{◌≡◌, ℕ, ◌+◌, ◌-◌, ◌<◌, ◌≤◌, ℤ, pos, List, [], ◌∷◌, ◌++◌, length, get_or, set, take, drop, replicate, Option, Some, None, option_map, option_and_then, refl, sym, ap, ◌∙◌, append_assoc, arith, eq-eqb}
 use Rattle.std.proofs.lemmas.List.{append-nil, drop-drop, drop_more, drop-set-lt, drop-replicate, length-take-le, take-append-drop, take_more_set}
 use Rattle.serde_json.specs.View.{view, items_view}
@@ -13,12 +13,12 @@ onto_more : (xs : List ℤ) (z : ℤ) (o : Option (List ℤ)) → onto (xs ++ z 
 onto_more xs z None = refl
 onto_more xs z (Some ys) = ap Some (append_assoc xs (z ∷ []) ys)
 
--- one number more is read
+-- one more number is read
 pub number_read : (fields : List ℤ) (z : ℤ) (vs : List Value) (i : ℕ) (d : Value) → i < length fields → i < length vs → integer_of (view (get_or vs i d)) ≡ Some z
     → onto (take (i + 1) (set fields i z)) (each_item integer_of (items_view (drop (i + 1) vs))) ≡ onto (take i fields) (each_item integer_of (items_view (drop i vs)))
 number_read fields z vs i d inside within is = rw (take_more_set fields i z inside, drop_more vs i d within, is) (onto_more (take i fields) z (each_item integer_of (items_view (drop (i + 1) vs))))
 
--- behind it are zeros still
+-- the fields after it are still zeros
 pub zeros_behind : (fields : List ℤ) (i n : ℕ) (z : ℤ) → drop i fields ≡ replicate (n - i) (pos 0) → drop (i + 1) (set fields i z) ≡ replicate (n - (i + 1)) (pos 0)
 zeros_behind fields i n z zeros =
     drop-set-lt (i + 1) fields i z (omega arith) ∙ sym (drop-drop 1 i fields) ∙ ap (drop 1) zeros ∙ drop-replicate 1 (n - i) (pos 0) ∙ ap (λ k. replicate k (pos 0)) (omega arith)

@@ -1,9 +1,9 @@
--- Why no tree was made.
+-- The faults of making a tree, as numbers.
 use Rattle.std.specs.Prelude.{ℕ, List, [], ◌∷◌}
 use Rattle.tl_tree.specs.declared.fault.TreeFault.{TreeFault}
 use Rattle.tl_tree.specs.declared.fault.TreeFault.TheVariants.{Empty, TooMany, BadRoot, BadParent, WrongCount, NotTree, Memory}
 
--- a fault as numbers: its own, and then its parts
+-- the fault's number, followed by its operands
 abbrev pub numbers_of : TreeFault → List ℕ
 numbers_of Empty = 101 ∷ []
 numbers_of TooMany = 102 ∷ []

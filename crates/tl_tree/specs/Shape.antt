@@ -8,28 +8,28 @@ use Rattle.tl_tree.specs.declared.fault.TreeFault.TheVariants.{Empty, TooMany, B
 abbrev pub parent : List ℕ → ℕ → ℕ
 parent parents x = slice_index parents x
 
--- A tree has 1 to 65,535 nodes. The root is its own parent, and each other node has a parent of a lower number.
+-- A tree has 1 to 65,535 nodes. The root is its own parent, and the parent of each other node has a lower number.
 pub record IsTree (parents : List ℕ) : Type 0 where
   pub some : 0 < length parents
   pub few : length parents ≤ MAX_NODES
   pub root : parent parents 0 ≡ 0
   pub lower : (x : ℕ) → 0 < x → x < length parents → parent parents x < x
 
--- b leads to a by zero or more parent steps
+-- zero or more parent steps lead from b to a
 pub data Above (parents : List ℕ) (a : ℕ) : ℕ → Type 0 where
   itself : Above parents a a
   below : {b : ℕ} → Above parents a (parent parents b) → Above parents a b
 
--- the nodes that have the parent x, where the nodes from i on have these parents
+-- the nodes whose parent is x, where the list gives the parents of the nodes from i on
 abbrev pub kids_from : List ℕ → ℕ → ℕ → List ℕ
 kids_from [] i x = []
 kids_from (p ∷ ps) i x = if nat_eq p x then i ∷ kids_from ps (i + 1) x else kids_from ps (i + 1) x
 
--- the children of x by rising number; the root is nobody's child
+-- the children of x by rising number; the root is no node's child
 abbrev pub kids : List ℕ → ℕ → List ℕ
 kids parents x = kids_from (drop 1 parents) 1 x
 
--- the node is below the root, and x is its parent
+-- kid is a node other than the root, and its parent is x
 pub record IsKid (parents : List ℕ) (x kid : ℕ) : Type 0 where
   pub below_root : 0 < kid
   pub inside : kid < length parents
@@ -38,7 +38,7 @@ pub record IsKid (parents : List ℕ) (x kid : ℕ) : Type 0 where
 abbrev pub lists_of : List (Vec ℕ Global) → List (List ℕ)
 lists_of vectors = map (λ v. v.items) vectors
 
--- the lists hold each node's children
+-- `lists` has, for each node, the list of its children
 pub record IsIndex (parents : List ℕ) (lists : List (List ℕ)) : Type 0 where
   pub size : length lists ≡ length parents
   pub each : (x : ℕ) → x < length parents → slice_index_or lists x [] ≡ kids parents x
@@ -49,17 +49,17 @@ abbrev pub is_root : ℤ → Bool
 is_root (pos p) = p == 0
 is_root (negsuc p) = false
 
--- the integer is a node before x
+-- the integer is the number of a node before x
 abbrev pub is_lower : ℤ → ℕ → Bool
 is_lower (pos p) x = nat_lt p x
 is_lower (negsuc p) x = false
 
--- the first node whose parent is no node before it, where the nodes from x on have these parents
+-- the first node whose parent isn't a lower number, where the list gives the parents of the nodes from x on
 abbrev pub first_astray : ℕ → List ℤ → Option ℕ
 first_astray x [] = None
 first_astray x (p ∷ ps) = if is_lower p x then first_astray (x + 1) ps else Some x
 
--- the first thing that is wrong with the parents, where a tree may have so many nodes
+-- the first fault of these parents for a tree of at most `limit` nodes
 abbrev pub shape_fault : ℕ → List ℤ → Option TreeFault
 shape_fault limit [] = Some Empty
 shape_fault limit (p ∷ ps) =
@@ -70,11 +70,11 @@ abbrev pub unless_fault : {X : Type 0} → Option TreeFault → X → Result X T
 unless_fault None x = Ok x
 unless_fault (Some fault) x = Err fault
 
--- the shape of at most so many nodes that has these parents, or what is wrong first
+-- the shape with these parents, if it has at most `limit` nodes; otherwise the first fault
 abbrev pub shape_of : ℕ → List ℤ → Result (List ℕ) TreeFault
 shape_of limit numbers = unless_fault (shape_fault limit numbers) (map unsigned_abs numbers)
 
--- x is the least node from 1 on whose parent is no node before it
+-- x is the lowest node other than the root whose parent isn't a lower number
 pub record IsFirstAstray (numbers : List ℤ) (x : ℕ) : Type 0 where
   pub below_root : 0 < x
   pub inside : x < length numbers

@@ -9,12 +9,12 @@ pub record TreeValue : Type 0 where
   pub parents : List ℕ
   pub records : Records
 
--- the numbers of a record, which fit 64 bits
+-- a record has `field_count` numbers, each of which fits a signed 64-bit integer
 pub record IsRecord (fields : Record) : Type 0 where
   pub width : length fields ≡ field_count
   pub fit : All (FitsSigned w64) fields
 
--- a tree that can be: of a tree's shape, with a record for each node
+-- the parents form a tree, and each node has one record
 pub record IsWhole (tree : TreeValue) : Type 0 where
   pub shape : IsTree tree.parents
   pub count : length tree.records ≡ length tree.parents

@@ -1,4 +1,4 @@
--- The value and the text that stand for a tree.
+-- How a tree is written as a JSON value and as text.
 use Rattle.std.specs.Prelude.{ℕ, ℤ, pos, List, ◌++◌, map, codes, decimal}
 use Rattle.std.specs.Fmt.{signed_decimal}
 use Rattle.std.specs.List.{join_with_byte}
@@ -22,7 +22,7 @@ tree_data tree = object (member (codes "parents") (integers_data (map pos tree.p
 
 -- ---- the text, byte for byte
 
--- a list in brackets, with a comma between
+-- the items in brackets, separated by commas
 abbrev pub list_text : {A : Type 0} → (A → List ℕ) → List A → List ℕ
 list_text f xs = codes "[" ++ join_with_byte 44 (map f xs) ++ codes "]"
 

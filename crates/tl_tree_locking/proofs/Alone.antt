@@ -1,4 +1,4 @@
--- What one call does alone on two trees, and its first actions.
+-- The actions of one call alone on two trees.
 use Rattle.std.proofs.Common.{◌≡◌, ℕ, zero, suc, ◌<◌, true, false, List, [], ◌∷◌, length, refl, sym, ap, ◌∙◌, subst, inl, inr, arith, ◌⊎◌, Option, Some, None, slice_get}
 use Rattle.std.proofs.lemmas.Bool.{both_ways, eqb-true, eq-eqb, or_cases}
 use Rattle.tl_tree.specs.Records.{Record, Records, record_at}
@@ -44,7 +44,7 @@ finds_at t zero (b ∷ actions) x found h e = let same : b ≡ A.Lock x found = 
 finds_at t (suc k) [] x found h e = absurd cc
 finds_at t (suc k) (b ∷ actions) x found h e = finds_at t k actions x found (finds_rest t b actions h) e
 
--- two next actions that are one, or lock one node
+-- the two next actions are the same, or lock the same node; or there are none
 abbrev pub Alike : Option Action → Option Action → Type 0
 Alike None None = Unit {0}
 Alike None (Some b) = ⊥
@@ -60,7 +60,7 @@ no_split (A.Lock x r) (A.Lock y s) more bs done k t u f ft fu agree =
     f.1 (ft.1 ∙ here ∙ sym su)
 no_split _ _ more bs done k t u f ft fu agree = f
 
--- on two trees that agree at the nodes that the first actions lock, those actions are the same, and the next are alike
+-- on two trees that agree at the nodes locked by the first k actions, these actions are the same, and the next ones are alike
 pub same_taken : (k : ℕ) (more bs done : List Action) (t u : Records) → SameUntilFound more bs → Finds t more → Finds u bs
     → ((x : ℕ) → locked (taken k more done) x ≡ true → record_at t x ≡ record_at u x) → (taken k more done ≡ taken k bs done) × Alike (slice_get more k) (slice_get bs k)
 same_taken zero [] [] done t u h ft fu agree = (refl, tt)
@@ -138,7 +138,7 @@ lock_inside t (A.Emit n) actions h x l = absurd (both_ways false refl l)
 lock_inside t A.End actions h x l = absurd (both_ways false refl l)
 lock_inside t A.Plain actions h x l = absurd (both_ways false refl l)
 
--- the nodes that are locked are those of the tree
+-- each locked node is a node of the tree
 pub taken_inside : (t : Records) (k : ℕ) (actions done : List Action) → Finds t actions → (x : ℕ) → locked (taken k actions done) x ≡ true → (x < length t) ⊎ (locked done x ≡ true)
 taken_inside t zero actions done f x l = inr l
 taken_inside t (suc k) [] done f x l = inr l
@@ -147,8 +147,8 @@ taken_inside t (suc k) (a ∷ actions) done f x l = elim (taken_inside t k actio
   | inr more ↦ elim (or_cases (locks a x) (locked done x) more) [ inl mine ↦ inl (lock_inside t a actions f x mine) | inr old ↦ inr old ]
 ]
 
--- on two trees of the shape that agree at the nodes that a call's first k actions lock, it does the same k actions, and
--- the next are alike
+-- on two trees of the shape that agree at the nodes locked by a call's first k actions, the call does the same k actions,
+-- and its next actions are alike
 pub alone_same : (parents : List ℕ) (alone : Records → Outcome) → IsAlone parents alone → (t u : Records) → length t ≡ length parents → length u ≡ length parents → (k : ℕ)
     → ((x : ℕ) → locked (taken k (alone t).actions []) x ≡ true → record_at t x ≡ record_at u x)
     → (taken k (alone t).actions [] ≡ taken k (alone u).actions []) × Alike (slice_get (alone t).actions k) (slice_get (alone u).actions k)

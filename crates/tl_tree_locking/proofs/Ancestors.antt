@@ -10,7 +10,7 @@ use Rattle.tl_tree_locking.specs.Order.{stands}
 pub parent-lower : (parents : List ℕ) → IsTree parents → (x : ℕ) → 0 < x → parent parents x < x
 parent-lower parents tree x pos = elim (cases_lt x (length parents)) [ inl h ↦ tree.lower x pos h | inr h ↦ grind (arith, common_steps) ]
 
--- what holds of the root, and of each node whose parent it holds of, holds of each node within n
+-- a property of the root that each node inherits from its parent is true of each node up to n
 climb_to : (parents : List ℕ) → IsTree parents → (P : ℕ → Type 0) → P 0 → ((x : ℕ) → 0 < x → P (parent parents x) → P x) → (n x : ℕ) → x ≤ n → P x
 climb_to parents tree P root step zero x le = let e : 0 ≡ x = omega arith in subst P e root
 climb_to parents tree P root step (suc n) zero le = root
@@ -18,7 +18,7 @@ climb_to parents tree P root step (suc n) (suc x) le =
     let pos : 0 < suc x = omega arith in
     step (suc x) pos (climb_to parents tree P root step n (parent parents (suc x)) (omega (arith, parent-lower parents tree (suc x) pos)))
 
--- what holds of the root, and of each node whose parent it holds of, holds of each node
+-- a property of the root that each node inherits from its parent is true of each node
 pub by_climbing : (parents : List ℕ) → IsTree parents → (P : ℕ → Type 0) → P 0 → ((x : ℕ) → 0 < x → P (parent parents x) → P x) → (x : ℕ) → P x
 by_climbing parents tree P root step x = climb_to parents tree P root step x x (omega arith)
 
@@ -45,7 +45,7 @@ nodes_above-step parents tree (suc x) pos =
 
 -- ---- the list of the nodes strictly above a node, and the relation
 
--- a node of a list stands at some place of it
+-- a node that occurs in a list is an element of it
 stands-contains : (y : ℕ) (ys : List ℕ) → stands y ys ≡ true → Contains ys y
 stands-contains y [] h = absurd (both_ways false refl h)
 stands-contains y (z ∷ zs) h = elim (cases_Bool (z == y)) [
@@ -58,7 +58,7 @@ contains-stands y [] k lt e = absurd (omega arith)
 contains-stands y (z ∷ zs) zero lt e = let q = eq-eqb z y e in rw q refl
 contains-stands y (z ∷ zs) (suc k) lt e = let r = contains-stands y zs k (omega arith) e in grind (arith, r)
 
--- a node of the list has a lower number, and x leads to it
+-- a node in the list has a lower number than x and is above x
 pub listed_above : (parents : List ℕ) → IsTree parents → (y x : ℕ) → stands y (nodes_above parents x) ≡ true → (y < x) × Above parents y x
 listed_above parents tree y =
     by_climbing parents tree (λ x. stands y (nodes_above parents x) ≡ true → (y < x) × Above parents y x)
@@ -74,7 +74,7 @@ listed_above parents tree y =
       | inr other ↦ let r = ih (rw other at g) in let lt = r.0 in (omega arith, below r.1)
     ])
 
--- what x leads to is x or stands in the list
+-- a node above x is x or is in the list
 above_listed : (parents : List ℕ) → IsTree parents → (y x : ℕ) → Above parents y x → (y ≡ x) ⊎ (stands y (nodes_above parents x) ≡ true)
 above_listed parents tree y x itself = inl refl
 above_listed parents tree y x (below h) = elim (cases_lt 0 x) [

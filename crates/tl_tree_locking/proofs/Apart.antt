@@ -1,4 +1,4 @@
--- Locks are apart exactly if between two locks of one node stands a free of it by the first one's call.
+-- Locks are apart exactly if between two locks of a node the call of the first lock frees it.
 use Rattle.std.proofs.Common.{◌≡◌, ◌≢◌, ℕ, suc, length-append, ◌≤◌, ◌<◌, ◌==◌, ◌⊎◌, true, false, List, [], ◌∷◌, ◌++◌, length, refl, sym, ap, ◌∙◌, subst, inl, inr, arith, Some, slice_get}
 use Rattle.std.proofs.lemmas.Bool.{cases_Bool, false_from_ne_true, both_ways, eqb-true, eq-eqb}
 use Rattle.std.proofs.lemmas.Option.{slice_get_within}
@@ -12,7 +12,7 @@ use Rattle.tl_tree_locking.specs.History.{past_of, part_of, Apart, IsFreedBetwee
 use Rattle.tl_tree_locking.proofs.PartLemmas.{part_of-lock, apart_before, held-lock, held-free, held-done}
 use Rattle.tl_tree_locking.proofs.ListPlaces.{earliest_first, earliest_first-reverse, place_kept, place_back, place_new, place_cases}
 
--- a node that c doesn't hold after an event it didn't hold before, or the event is its free
+-- if c doesn't hold a node after an event, it didn't hold the node before, or the event is c's free of the node
 free_before : (e : Event) (past : List Event) (c x : ℕ) → held (part_of c (e ∷ past)) x ≡ false → (held (part_of c past) x ≡ false) ⊎ ((left : Record) × (e ≡ Free x c left))
 free_before (Admit d) past c x h = inl h
 free_before (Lock y d found) past c x h = elim (cases_Bool (d == c)) [
@@ -40,7 +40,7 @@ freed_more past e j k c x h m le = record {
   is_free = place_kept (earliest_first past) (e ∷ []) h.place (Free x c h.left) h.is_free;
 }
 
--- a node that c locked and doesn't hold any more
+-- if c locked a node and doesn't hold it any more, c has freed it since
 freed_event : (past : List Event) (j c x : ℕ) (found : Record) → slice_get (earliest_first past) j ≡ Some (Lock x c found) → held (part_of c past) x ≡ false
     → IsFreedBetween (earliest_first past) j (length (earliest_first past)) c x
 freed_event [] j c x found h free = absurd cc
@@ -63,7 +63,7 @@ freed_event (e ∷ past) j c x found h free =
       ]
     ]
 
--- what held of the node before the last event, if that is its lock
+-- if the last event is a lock of a node, no call held the node before
 apart_lock : (e : Event) (past : List Event) (d x : ℕ) (again : Record) → Apart (e ∷ past) → e ≡ Lock x d again → (c : ℕ) → held (part_of c past) x ≡ false
 apart_lock e past d x again apart same = let a : Apart (Lock x d again ∷ past) = subst (λ z. Apart (z ∷ past)) same apart in a.0
 
@@ -84,7 +84,7 @@ between (e ∷ past) apart j k c d x found again lt hj hk = elim (place_cases (e
 
 -- ---- the other way
 
--- a lock of x by c, after which c didn't free it
+-- a lock of x by c after which c didn't free x
 record IsHeldSince (events : List Event) (c x : ℕ) : Type 0 where
   place : ℕ
   found : Record
@@ -152,10 +152,10 @@ from_frees (Done d ∷ past) frees = from_frees past (frees_before (earliest_fir
 past_of-earliest : (events : List Event) → earliest_first (past_of events) ≡ events
 past_of-earliest events = earliest_first-reverse (past_of events) ∙ reverse-reverse events
 
--- between two locks of one node stands a free of it by the first one's call
+-- if locks are apart, then between two locks of a node the call of the first lock frees it
 pub apart_frees : (events : List Event) → Apart (past_of events) → FreesBetweenLocks events
 apart_frees events apart = subst FreesBetweenLocks (past_of-earliest events) (between (past_of events) apart)
 
--- where that is so each node is locked only while nobody holds it
+-- conversely, then each node is locked only while no call holds it
 pub frees_apart : (events : List Event) → FreesBetweenLocks events → Apart (past_of events)
 frees_apart events frees = from_frees (past_of events) (subst FreesBetweenLocks (sym (past_of-earliest events)) frees)

@@ -33,7 +33,7 @@ has-without x z (y ∷ ys) ne h = elim (cases_Bool (y == x)) [
   | inr other ↦ rw other (elim (cases_Bool (y == z)) [ inl here ↦ rw here refl | inr away ↦ rw away (has-without x z ys ne (rw away at h)) ])
 ]
 
--- the nodes still held
+-- the nodes that are still held
 abbrev still : List Action → List ℕ
 still [] = []
 still (A.Lock x found ∷ done) = x ∷ still done
@@ -53,7 +53,7 @@ held-still (A.Emit n ∷ done) x h = held-still done x h
 held-still (A.End ∷ done) x h = held-still done x h
 held-still (A.Plain ∷ done) x h = held-still done x h
 
--- each free has its lock
+-- locks are as many as frees and nodes still held
 frees_locks : (parents : List ℕ) (done : List Action) → EachPermitted parents done → free_count done + length (still done) ≡ lock_count done
 frees_locks parents [] h = refl
 frees_locks parents (A.Lock y found ∷ done) h = let i = frees_locks parents done h.2 in omega arith
@@ -66,7 +66,7 @@ frees_locks parents (A.Emit n ∷ done) h = frees_locks parents done h.2
 frees_locks parents (A.End ∷ done) h = frees_locks parents done h.2
 frees_locks parents (A.Plain ∷ done) h = frees_locks parents done h.2
 
--- a call frees no more than it locks
+-- a call does at most as many frees as locks
 pub frees_within : (parents : List ℕ) (done : List Action) → EachPermitted parents done → free_count done ≤ lock_count done
 frees_within parents done h = let f = frees_locks parents done h in omega arith
 
@@ -89,7 +89,7 @@ still-locked (A.Emit n ∷ done) x h = still-locked done x h
 still-locked (A.End ∷ done) x h = still-locked done x h
 still-locked (A.Plain ∷ done) x h = still-locked done x h
 
--- no number twice
+-- no number occurs twice
 abbrev Once : List ℕ → Type 0
 Once [] = Unit {0}
 Once (y ∷ ys) = (has y ys ≡ false) × Once ys
@@ -166,7 +166,7 @@ nodes_locked_most : (n : ℕ) (done : List Action) → nodes_locked n done ≤ n
 nodes_locked_most zero done = omega arith
 nodes_locked_most (suc n) done = let i = nodes_locked_most n done in elim (cases_Bool (locked done n)) [ inl h ↦ rw h (omega arith) | inr h ↦ rw h (omega arith) ]
 
--- an action that locks none of the first n nodes
+-- an action that locks none of the first n nodes doesn't change the count
 nodes_locked-same : (n : ℕ) (a : Action) (done : List Action) → ((x : ℕ) → x < n → locks a x ≡ false) → nodes_locked n (a ∷ done) ≡ nodes_locked n done
 nodes_locked-same zero a done h = refl
 nodes_locked-same (suc n) a done h =
@@ -174,7 +174,7 @@ nodes_locked-same (suc n) a done h =
     let q = h n (omega arith) in
     rw q (ap (λ m. if locked done n then suc m else m) i)
 
--- a first lock of one of them
+-- the first lock of one of them adds one
 nodes_locked-more : (n x : ℕ) (found : Record) (done : List Action) → x < n → locked done x ≡ false → nodes_locked n (A.Lock x found ∷ done) ≡ suc (nodes_locked n done)
 nodes_locked-more zero x found done lt fresh = absurd (omega arith)
 nodes_locked-more (suc n) x found done lt fresh = elim (cases_eq x n) [
@@ -206,10 +206,10 @@ locks_counted parents n (A.Emit v ∷ done) h inside = locks_counted parents n d
 locks_counted parents n (A.End ∷ done) h inside = locks_counted parents n done h.2 inside ∙ sym (nodes_locked-same n A.End done (λ x lt. refl))
 locks_counted parents n (A.Plain ∷ done) h inside = locks_counted parents n done h.2 inside ∙ sym (nodes_locked-same n A.Plain done (λ x lt. refl))
 
--- a call that locks only the first n nodes locks at most n times
+-- a call that locks only the first n nodes does at most n locks
 pub locks_within : (parents : List ℕ) (n : ℕ) (done : List Action) → EachPermitted parents done → ((x : ℕ) → locked done x ≡ true → x < n) → lock_count done ≤ n
 locks_within parents n done h inside = let e = locks_counted parents n done h inside in let m = nodes_locked_most n done in omega arith
 
--- a call of a sound world has locked at most all nodes
+-- a call of a sound world has locked each node at most once
 pub part_locks_within : (w : World) → IsSound w → (c : ℕ) → lock_count (part_of c w.past) ≤ length w.parents
 part_locks_within w sound c = locks_within w.parents (length w.parents) (part_of c w.past) ((sound_history w sound).obeys c) (part_inside w sound c)

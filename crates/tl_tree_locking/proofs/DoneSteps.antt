@@ -11,7 +11,7 @@ use Rattle.tl_tree_locking.proofs.ListPlaces.{earliest_first}
 use Rattle.tl_tree_locking.proofs.ObeysByPlaces.{taken-earliest}
 use Rattle.tl_tree_locking.proofs.WorldSteps.{taken_on, part_of-past_after}
 
--- the call itself: a step puts its action behind what the call has done
+-- a step appends its action to what its call has done
 pub done_own : (w : World) (c : ℕ) (next : Action) → IsSound w → MayTake w c next → done_of (after_step w c next) c ≡ done_of w c ++ as_found w next ∷ []
 done_own w c next sound may =
     let a = as_found w next in
@@ -20,13 +20,13 @@ done_own w c next sound may =
     let acts2 = (alone_of (w.meanings c) w.opening (past_after c a w.past) c).actions in
     rw self (sym (taken-earliest (suc (w.counts c)) acts2 []) ∙ ap earliest_first (taken_on w c next (sound.meanings c may.is_open.0) sound.size may) ∙ ap (λ z. z ++ a ∷ []) (taken-earliest (w.counts c) acts []))
 
--- another call
+-- a step doesn't change what other calls have done
 pub done_others : (w : World) (c d : ℕ) (next : Action) → c ≢ d → done_of (after_step w c next) d ≡ done_of w d
 done_others w c d next other =
     let q = ne_eqb c d other in
     rw q (ap (λ p. take (w.counts d) (w.meanings d (with_found p w.opening)).actions) (part_of-past_after c d (as_found w next) w.past other))
 
--- a call that is admitted has done nothing, and the others what they had
+-- an admission doesn't change what the earlier calls have done
 pub done_admitted : (w : World) (alone : Records → Outcome) (d : ℕ) → d < admits w.past → done_of (after_admission w alone) d ≡ done_of w d
 done_admitted w alone d lt =
     let q = ne_eqb (admits w.past) d (λ e. omega arith) in

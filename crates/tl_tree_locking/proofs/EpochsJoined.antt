@@ -1,4 +1,4 @@
--- The calls of all epochs run alone along their orders joined.
+-- The calls of all epochs, run alone in the joined orders.
 use Rattle.std.proofs.Common.{◌≡◌, ℕ, List, [], ◌∷◌, ◌++◌, map, refl, sym, ap, ◌∙◌, subst, append_assoc, ℤ}
 use Rattle.tl_tree.specs.Records.{Records}
 use Rattle.tl_tree_locking.specs.History.{AllDone, records_now}
@@ -15,7 +15,7 @@ replies-append : (xs ys : List (Records → Outcome)) (t : Records) → (run_eac
 replies-append [] ys t = refl
 replies-append (x ∷ xs) ys t = ap (λ rs. (x t).reply ∷ rs) (replies-append xs ys (x t).tree)
 
--- one epoch's calls along its order
+-- the calls of one epoch in its order
 pub serial-each : (meanings : ℕ → Records → Outcome) (order : List ℕ) (t : Records) → serial meanings order t ≡ run_each (map meanings order) t
 serial-each meanings [] t = refl
 serial-each meanings (c ∷ cs) t = ap (λ (s : SerialOutcome). record { tree = s.tree; replies = (meanings c t).reply ∷ s.replies }) (serial-each meanings cs (meanings c t).tree)

@@ -1,4 +1,4 @@
--- Every world that admissions, steps and seals lead to is sound, and those that were sealed follow on one another.
+-- Every world reached by admissions, steps and seals is sound, and the sealed worlds follow one another.
 use Rattle.std.proofs.Common.{◌≡◌, ℕ, List, [], ◌∷◌, ◌++◌, length, map, refl, sym, ap, ◌∙◌, subst}
 use Rattle.tl_tree.specs.Records.{Records}
 use Rattle.tl_tree.specs.Shape.{IsTree}
@@ -14,12 +14,12 @@ use Rattle.tl_tree_locking.proofs.NoStandstill.{sound_history}
 use Rattle.tl_tree_locking.proofs.ReachedWorlds.{sound_opening, sound_after_admission, sound_after_step}
 use Rattle.tl_tree_locking.proofs.EpochsJoined.{epochs-serial}
 
--- one more epoch follows on, which has the shape and opens with what the others left
+-- one more epoch that has the shape and opens with what the others left follows them
 follow-on : (parents : List ℕ) (opening : Records) (ws : List World) (w : World) → FollowOn parents opening ws → w.parents ≡ parents → w.opening ≡ left_by opening ws → FollowOn parents opening (ws ++ w ∷ [])
 follow-on parents opening [] w follow shape opens = (shape, opens, tt)
 follow-on parents opening (v ∷ vs) w follow shape opens = (follow.0, follow.1, follow-on parents (records_now v.past v.opening) vs w follow.2 shape opens)
 
--- what they leave is what the last one leaves
+-- the epochs leave what the last one leaves
 pub left_by-last : (opening : Records) (ws : List World) (w : World) → left_by opening (ws ++ w ∷ []) ≡ records_now w.past w.opening
 left_by-last opening [] w = refl
 left_by-last opening (v ∷ vs) w = left_by-last (records_now v.past v.opening) vs w
@@ -32,7 +32,7 @@ agree-each : (ws : List World) → AreAtRest ws → AgreeEach (placed_each ws) w
 agree-each [] rest = tt
 agree-each (w ∷ ws) rest = (placed-agrees w.parents rest.0.tree w.past (sound_history w rest.0), agree-each ws rest.2)
 
--- what is so of the sealed worlds and the one that goes on
+-- what is true of the sealed worlds and the current one
 pub record AreInLine (parents : List ℕ) (opening : Records) (sealed : List World) (w : World) : Type 0 where
   pub parents_are : w.parents ≡ parents
   pub opening_is : w.opening ≡ left_by opening sealed

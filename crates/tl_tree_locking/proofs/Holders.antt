@@ -1,4 +1,4 @@
--- The holder that a history names is the one call that holds the node.
+-- The holder in a history is the one call that holds the node.
 use Rattle.std.proofs.Common.{◌≢◌, ◌≡◌, ℕ, ◌==◌, true, false, List, [], ◌∷◌, refl, sym, ap, subst, inl, inr, arith, ◌⊎◌, Option, Some, None}
 use Rattle.std.proofs.lemmas.Bool.{cases_Bool, cases_eq, false_from_ne_true, both_ways, ne_eqb, eq-eqb}
 use Rattle.tl_tree.specs.Records.{Record}
@@ -25,7 +25,7 @@ held-free_back c x left past d y h = elim (cases_eq c d) [
   | inr other ↦ let q = part_of-other (Free x c left) d past other in inl (rw q h)
 ]
 
--- whoever holds a node is its holder
+-- a call that holds a node is its holder
 pub held-holder : (parents : List ℕ) (past : List Event) → IsLegalHistory parents past → (d x : ℕ) → held (part_of d past) x ≡ true → holder_of past x ≡ Some d
 held-holder parents [] legal d x h = absurd (both_ways false refl h)
 held-holder parents (Admit c ∷ past) legal d x h = held-holder parents past (legal_before parents (Admit c) past legal) d x h
@@ -87,11 +87,11 @@ holder-held parents (Free y c left ∷ past) legal d x h = elim (cases_Bool (y =
       elim (held-free_back c y left past d x old) [ inl kept ↦ kept | inr mine ↦ absurd (both_ways (y == x) other (eq-eqb y x mine.1)) ]
 ]
 
--- a node without a holder is held by nobody
+-- no call holds a node without a holder
 pub nobody_holds : (parents : List ℕ) (past : List Event) → IsLegalHistory parents past → (x : ℕ) → holder_of past x ≡ None → (d : ℕ) → held (part_of d past) x ≡ false
 nobody_holds parents past legal x none d = false_from_ne_true (held (part_of d past) x) (λ h. let some = held-holder parents past legal d x h in absurd cc)
 
--- an action is free to be done where the node that it locks has no holder
+-- an action is free if the node that it locks has no holder
 pub free_without_holder : (parents : List ℕ) (past : List Event) → IsLegalHistory parents past → (a : Action) → ((x : ℕ) (found : Record) → a ≡ A.Lock x found → holder_of past x ≡ None) → IsFree past a
 free_without_holder parents past legal (A.Lock x found) none = nobody_holds parents past legal x (none x found refl)
 free_without_holder parents past legal (A.Read x field value) none = tt
@@ -101,7 +101,7 @@ free_without_holder parents past legal (A.Emit value) none = tt
 free_without_holder parents past legal A.End none = tt
 free_without_holder parents past legal A.Plain none = tt
 
--- a call that may still come to x is the holder of a node strictly above x
+-- a call that may still lock x is the holder of a node strictly above x
 pub coming_holder : (parents : List ℕ) → IsTree parents → (past : List Event) → IsLegalHistory parents past → (c x : ℕ) → may_come parents (part_of c past) x ≡ true
     → (y : ℕ) × Above parents y x × (y ≢ x) × (holder_of past y ≡ Some c)
 coming_holder parents tree past legal c x may =
@@ -129,6 +129,6 @@ holder_stuck w sound c x found d is_open next h =
       holds = holds;
     }
 
--- an open call may take its next action where the node that it locks has no holder
+-- an open call may take its next action if the node that it locks has no holder
 pub holderless_may_take : (w : World) → IsSound w → (c : ℕ) (next : Action) → IsOpen c w.past → next_of w c ≡ Some next → ((x : ℕ) (found : Record) → next ≡ A.Lock x found → holder_of w.past x ≡ None) → MayTake w c next
 holderless_may_take w sound c next is_open is_next none = record { is_open = is_open; is_next = is_next; is_free = free_without_holder w.parents w.past (sound_history w sound) next none }

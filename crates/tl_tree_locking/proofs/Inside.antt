@@ -17,14 +17,14 @@ use Rattle.tl_tree_locking.proofs.NoStandstill.{sound_history}
 use Rattle.tl_tree_locking.proofs.WorldSteps.{part_inside, unadmitted}
 use Rattle.tl_tree_locking.specs.Nodes.{IsOfNodes}
 
--- what a call had locked, it has locked after a lock too
+-- a call that has locked a node has also locked it after another lock
 locked_still : (d x : ℕ) (found : List ℤ) (past : List Event) (c y : ℕ) → locked (part_of c past) y ≡ true → locked (part_of c (Lock x d found ∷ past)) y ≡ true
 locked_still d x found past c y l = elim (cases_eq d c) [
   | inl same ↦ let e = eq-eqb d c same in grind (arith, e, l)
   | inr other ↦ let e = ne_eqb d c other in grind (arith, e, l)
 ]
 
--- where no call locks anything but the first so many nodes, each event is of these
+-- if calls lock only the first `nodes` nodes, each event refers to these
 events_inside : (parents : List ℕ) (nodes : ℕ) (past : List Event) → IsLegalHistory parents past
     → ((c x : ℕ) → locked (part_of c past) x ≡ true → x < nodes) → All (IsOfNodes nodes) past
 events_inside parents nodes [] legal inside = λ k d h. absurd (omega arith)
@@ -47,7 +47,7 @@ events_inside parents nodes (Done c ∷ past) legal inside =
 pub sound_inside : (w : World) → IsSound w → All (IsOfNodes (length w.parents)) w.past
 sound_inside w sound = events_inside w.parents (length w.parents) w.past (sound_history w sound) (part_inside w sound)
 
--- a call that stands in an order that agrees was admitted
+-- a call that occurs in an agreeing order was admitted
 stands_known : (w : World) → IsSound w → (order : List ℕ) → Agrees order w.past → (c : ℕ) → stands c order ≡ true → c < admits w.past
 stands_known w sound order agrees c here = elim (cases_lt c (admits w.past)) [
   | inl known ↦ known
@@ -58,7 +58,7 @@ stands_known w sound order agrees c here = elim (cases_lt c (admits w.past)) [
       absurd (both_ways (stands c order) (grind (arith, m, none, over)) here)
 ]
 
--- what is so of each call that stands is so of all calls of the order
+-- a property of each call that occurs in an order is a property of all its elements
 stands_all : (P : ℕ → Type 0) (order : List ℕ) → ((c : ℕ) → stands c order ≡ true → P c) → All P order
 stands_all P [] each = λ k d h. absurd (omega arith)
 stands_all P (c ∷ cs) each =

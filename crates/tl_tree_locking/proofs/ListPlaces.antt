@@ -1,8 +1,8 @@
--- Places in a list whose latest element is its last.
+-- Positions in a list whose latest element is its last.
 use Rattle.std.proofs.Common.{◌≡◌, ℕ, zero, suc, ◌<◌, ◌⊎◌, List, [], ◌∷◌, ◌++◌, length, refl, sym, ap, ◌∙◌, inl, inr, arith, Some, slice_get, reverse}
 use Rattle.std.proofs.lemmas.List.{reverse-append}
 
--- a list with the latest first, in the other order
+-- a list with the latest element first, reversed
 abbrev pub earliest_first : {A : Type 0} → List A → List A
 earliest_first [] = []
 earliest_first (a ∷ done) = earliest_first done ++ a ∷ []

@@ -1,4 +1,4 @@
--- One call: what its actions tell of the nodes that it may still come to.
+-- Which nodes a call may still lock, depending on its actions.
 use Rattle.std.proofs.Common.{◌≢◌, ◌≡◌, ℕ, zero, suc, ◌<◌, ◌≤◌, ◌||◌, Bool, true, false, List, [], ◌∷◌, refl, sym, ap, subst, inl, inr, arith}
 use Rattle.std.specs.Prelude.{if◌then◌else◌}
 use Rattle.std.proofs.lemmas.Bool.{cases_Bool, cases_eq, both_ways, eq-eqb}
@@ -12,7 +12,7 @@ use Rattle.tl_tree_locking.specs.Actions.{locks, is_lock, locked, held, locked_a
 use Rattle.tl_tree_locking.specs.Order.{stands}
 use Rattle.tl_tree_locking.proofs.Ancestors.{parent-lower, by_climbing, nodes_above-root, nodes_above-step, listed_above}
 
--- the call holds the nearest node strictly above x that it locked
+-- the call holds the nearest node strictly above x that it has locked
 abbrev pub comes : List ℕ → List Action → ℕ → Bool
 comes parents done x = holds_first done (nodes_above parents x)
 
@@ -46,7 +46,7 @@ locked-any (a ∷ done) x h = grind (arith, locked-any done x, lock-any a x)
 lock_not-any : (a : Action) (x : ℕ) → is_lock a ≡ false → locks a x ≡ false
 lock_not-any a x h = grind (arith, lock-any a x, h)
 
--- what isn't a lock leaves the call no more nodes to come to
+-- an action that isn't a lock doesn't add nodes y with this property
 pub comes_shrinks : (parents : List ℕ) → IsTree parents → (a : Action) (done : List Action) → is_lock a ≡ false → (y : ℕ)
     → comes parents (a ∷ done) y ≡ true → comes parents done y ≡ true
 comes_shrinks parents tree a done plain =
@@ -58,7 +58,7 @@ comes_shrinks parents tree a done plain =
     let l = lock_not-any a (parent parents y) plain in
     grind (arith, e1, e2, ih, l))
 
--- the same for a lock under a held parent
+-- neither does a lock whose node's parent is held
 pub comes_child : (parents : List ℕ) → IsTree parents → (done : List Action) (x : ℕ) (found : Record) → 0 < x → locked done x ≡ false → held done (parent parents x) ≡ true
     → (y : ℕ) → comes parents (Lock x found ∷ done) y ≡ true → comes parents done y ≡ true
 comes_child parents tree done x found xpos fresh under =
@@ -71,7 +71,7 @@ comes_child parents tree done x found xpos fresh under =
     let l = held-locked done (parent parents x) in
     elim (cases_eq x (parent parents y)) [ inl same ↦ let e4 : comes parents done (parent parents y) ≡ comes parents done x = ap (comes parents done) (sym same) in let e5 : locked done (parent parents y) ≡ locked done x = ap (locked done) (sym same) in grind (arith, e2, e3, e4, e5, l, fresh, under) | inr other ↦ grind (arith, nat_tests, e1, e2, ih) ])
 
--- a parent that is held is that of another node than the root
+-- if the call holds the parent of an unlocked node, that node isn't the root
 pub child_pos : (parents : List ℕ) → IsTree parents → (done : List Action) (x : ℕ) → locked done x ≡ false → held done (parent parents x) ≡ true → 0 < x
 child_pos parents tree done zero fresh under = let l = held-locked done 0 (rw tree.root at under) in absurd (both_ways (locked done 0) fresh l)
 child_pos parents tree done (suc x) fresh under = omega arith
@@ -84,7 +84,7 @@ none_comes parents tree done none =
     by_climbing parents tree (λ y. comes parents done y ≡ false) (comes-root parents done)
     (λ y pos ih. let e = comes-step parents tree done y pos in let l = none-locked done (parent parents y) none in grind (arith, e, l, ih))
 
--- a call whose one lock is of x comes to no node that is numbered up to x
+-- after its first lock, of x, a call has this property for no node with a number up to x
 first_not_up : (parents : List ℕ) → IsTree parents → (done : List Action) (x : ℕ) (found : Record) → locked_any done ≡ false
     → (y : ℕ) → y ≤ x → comes parents (Lock x found ∷ done) y ≡ false
 first_not_up parents tree done x found none =
@@ -116,7 +116,7 @@ connected_child parents tree done x found fresh under z ih lz cz =
       | inr other ↦ grind (arith, nat_tests, lz, ih, c)
     ]
 
--- a call that has locked z and comes to z's parent has locked that parent
+-- if a call that has locked z has this property for z's parent, it has locked that parent
 pub connected : (parents : List ℕ) → IsTree parents → (done : List Action) → EachPermitted parents done → (z : ℕ) → 0 < z
     → locked done z ≡ true → comes parents done (parent parents z) ≡ true → locked done (parent parents z) ≡ true
 connected parents tree [] obeys z pos lz cz = lz
@@ -138,7 +138,7 @@ may_parts parents done x h = grind (arith, h)
 pub may_from : (parents : List ℕ) (done : List Action) (x : ℕ) → locked done x ≡ false → comes parents done x ≡ true → may_come parents done x ≡ true
 may_from parents done x l c = grind (arith, l, c)
 
--- a call that may come to the parent of y may come to y
+-- a call that may still lock the parent of y may still lock y
 pub may_down : (parents : List ℕ) → IsTree parents → (done : List Action) → EachPermitted parents done → (y : ℕ) → 0 < y → may_come parents done (parent parents y) ≡ true → may_come parents done y ≡ true
 may_down parents tree done obeys y pos h =
     let m = may_parts parents done (parent parents y) h in
@@ -146,7 +146,7 @@ may_down parents tree done obeys y pos h =
     let c = connected parents tree done obeys y pos in
     grind (arith, e, c, m, may_from parents done y)
 
--- where one call's only lock is of x, and it comes to y, whoever may come to x may come to y
+-- if a call's only lock is of x and it has this property for y, then every call that may still lock x may still lock y
 pub may_below : (parents : List ℕ) → IsTree parents → (mine done : List Action) (x : ℕ) (found : Record) → locked_any mine ≡ false → EachPermitted parents done → may_come parents done x ≡ true
     → (y : ℕ) → comes parents (Lock x found ∷ mine) y ≡ true → may_come parents done y ≡ true
 may_below parents tree mine done x found none obeys may =
@@ -161,21 +161,21 @@ may_below parents tree mine done x found none obeys may =
       | inr other ↦ let c : comes parents (Lock x found ∷ mine) (parent parents y) ≡ true = grind (arith, nat_tests, e, l, h) in d (ih c)
     ])
 
--- a call that locks x under a held parent might come to x
+-- a call that locks x while holding its parent could still lock x before
 pub child_may : (parents : List ℕ) → IsTree parents → (done : List Action) (x : ℕ) → locked done x ≡ false → held done (parent parents x) ≡ true → may_come parents done x ≡ true
 child_may parents tree done x fresh under =
     let e = comes-step parents tree done x (child_pos parents tree done x fresh under) in
     let l = held-locked done (parent parents x) under in
     may_from parents done x fresh (grind (arith, e, l, under))
 
--- a call that may come to x and does not hold x's parent may come to that parent
+-- a call that may still lock x and doesn't hold x's parent may still lock that parent
 pub may_up : (parents : List ℕ) → IsTree parents → (done : List Action) (x : ℕ) → 0 < x → may_come parents done x ≡ true → held done (parent parents x) ≡ false → may_come parents done (parent parents x) ≡ true
 may_up parents tree done x pos may free =
     let e = comes-step parents tree done x pos in
     let m = may_parts parents done x may in
     grind (arith, e, m, free, may_from parents done (parent parents x))
 
--- an action that is no lock leaves the call no more nodes that it may come to
+-- an action that isn't a lock doesn't add nodes that the call may still lock
 pub may_shrinks : (parents : List ℕ) → IsTree parents → (a : Action) (done : List Action) → is_lock a ≡ false → (y : ℕ) → may_come parents (a ∷ done) y ≡ true → may_come parents done y ≡ true
 may_shrinks parents tree a done plain y may =
     let m = may_parts parents (a ∷ done) y may in
@@ -190,7 +190,7 @@ may_child_shrinks parents tree done x found fresh under y may =
     let c = comes_child parents tree done x found (child_pos parents tree done x fresh under) fresh under y m.1 in
     may_from parents done y (grind (arith, m)) c
 
--- a call that may come anywhere has locked something
+-- a call that may still lock some node has locked a node
 pub may_any : (parents : List ℕ) → IsTree parents → (done : List Action) (x : ℕ) → may_come parents done x ≡ true → locked_any done ≡ true
 may_any parents tree done x may =
     let m = may_parts parents done x may in
@@ -201,7 +201,7 @@ holds_first-some : (done : List Action) (ys : List ℕ) → holds_first done ys 
 holds_first-some done [] h = h
 holds_first-some done (y ∷ ys) h = let ih = holds_first-some done ys in grind (arith, h, ih)
 
--- who may still come to x holds a node of the list of those strictly above x: only the holders of those need be looked at
+-- a call that may still lock x holds a node of the list of those strictly above x, so only the holders of these are relevant
 pub may_holds : (parents : List ℕ) (done : List Action) (x : ℕ) → may_come parents done x ≡ true → holds_some done (nodes_above parents x) ≡ true
 may_holds parents done x may = let m = may_parts parents done x may in holds_first-some done (nodes_above parents x) m.1
 
@@ -212,7 +212,7 @@ held_some done (y ∷ ys) h = elim (cases_Bool (held done y)) [
   | inr away ↦ let r = held_some done ys (rw away at h) in let s = r.1 in (r.0, grind (arith, s), r.2)
 ]
 
--- who may still come to x holds a node strictly above x
+-- a call that may still lock x holds a node strictly above x
 pub may_come_holds : (parents : List ℕ) → IsTree parents → (done : List Action) (x : ℕ) → may_come parents done x ≡ true → (y : ℕ) × Above parents y x × (y ≢ x) × (held done y ≡ true)
 may_come_holds parents tree done x may =
     let r = held_some done (nodes_above parents x) (may_holds parents done x may) in

@@ -18,7 +18,7 @@ use Rattle.tl_tree_locking.proofs.SharedActions.{permitted_shared}
 use Rattle.tl_tree_locking.proofs.Alone.{permitted_at}
 use Rattle.tl_tree_locking.proofs.WorldSteps.{legal_history}
 
--- a call that is done holds nothing
+-- a call that is done holds no nodes
 pub done_free : (parents : List ℕ) (past : List Event) → IsLegalHistory parents past → (d x : ℕ) → is_done d past ≡ true → held (part_of d past) x ≡ false
 done_free parents [] legal d x h = refl
 done_free parents (Admit e ∷ past) legal d x h = done_free parents past (legal_before parents (Admit e) past legal) d x h
@@ -40,7 +40,7 @@ done_free parents (Done e ∷ past) legal d x h = elim (cases_eq e d) [
       rw q (done_free parents past (legal_before parents (Done e) past legal) d x (rw ne at h))
 ]
 
--- a call that has locked something was admitted
+-- a call that has locked a node was admitted
 pub any_admitted : (parents : List ℕ) (past : List Event) → IsLegalHistory parents past → (c : ℕ) → locked_any (part_of c past) ≡ true → c < admits past
 any_admitted parents [] legal c h = absurd (both_ways false refl h)
 any_admitted parents (Admit e ∷ past) legal c h = let ih = any_admitted parents past (legal_before parents (Admit e) past legal) c h in omega arith
@@ -98,7 +98,7 @@ earliest past (e ∷ es) once = elim (cases_Bool (is_done e past)) [
 pub sound_history : (w : World) → IsSound w → IsLegalHistory w.parents w.past
 sound_history w sound = legal_history w sound.legal sound.size sound.meanings
 
--- there is an action below the length
+-- a list has an element at each position below its length
 element : (k : ℕ) (actions : List Action) → k < length actions → (a : Action) × (slice_get actions k ≡ Some a)
 element k [] lt = absurd (omega arith)
 element zero (b ∷ actions) lt = (b, refl)
@@ -113,7 +113,7 @@ next_some w legal c is_open =
     let lt : w.counts c < n = let le = h.within in omega arith in
     element (w.counts c) (alone_of (w.meanings c) w.opening w.past c).actions lt
 
--- it is permitted
+-- the next action is permitted
 pub next_permitted : (w : World) → IsSound w → (c : ℕ) (a : Action) → IsOpen c w.past → next_of w c ≡ Some a → Permitted w.parents (part_of c w.past) a
 next_permitted w sound c a is_open next =
     let h = sound.legal.genuine c is_open.0 in

@@ -1,4 +1,4 @@
--- Actions each of which is permitted after those before it obey the protocol by their places.
+-- Actions that are each permitted after the previous ones obey the protocol by positions.
 use Rattle.std.proofs.Common.{◌≡◌, ℕ, zero, suc, ◌≤◌, true, false, List, [], ◌∷◌, ◌++◌, length, refl, sym, ap, ◌∙◌, subst, inl, inr, arith, Some, slice_get, take, reverse, append_assoc, length-append}
 use Rattle.std.proofs.lemmas.Bool.{cases_Bool, both_ways, eqb-true, eq-eqb}
 use Rattle.std.proofs.lemmas.List.{append-nil}
@@ -66,7 +66,7 @@ held_more xs ys k x le h = record {
   kept = λ i left low high w. h.kept i left low high (place_back xs ys i (A.Free x left) (omega arith) w);
 }
 
--- what is held at the end of what was done
+-- a node that is held was locked at some position and not freed since
 pub held_at : (done : List Action) (x : ℕ) → held done x ≡ true → IsHeldAt (earliest_first done) (length (earliest_first done)) x
 held_at [] x h = absurd (both_ways false refl h)
 held_at (a ∷ done) x h =
@@ -114,7 +114,7 @@ freed_after (a ∷ done) k x found h free = elim (place_cases (earliest_first do
 
 -- ---- the rules
 
--- what an action touches is held, if it is permitted
+-- a permitted action touches only a held node
 touched : (parents : List ℕ) (done : List Action) (a : Action) (x : ℕ) → Permitted parents done a → Touches a x → held done x ≡ true
 touched parents done (A.Read y field value) x p t = subst (λ z. held done z ≡ true) t p
 touched parents done (A.Write y field value) x p t = subst (λ z. held done z ≡ true) t p
@@ -182,7 +182,7 @@ obeys_earliest parents [] h = record {
 }
 obeys_earliest parents (a ∷ done) h = one_more parents done a h.0 h.1 (obeys_earliest parents done h.2)
 
--- actions each of which is permitted after those before it obey the protocol
+-- actions that are each permitted after the previous ones obey the protocol
 pub obeys_places : (parents : List ℕ) (done : List Action) → EachPermitted parents done → Obeys parents (reverse done)
 obeys_places parents done h = subst (Obeys parents) (earliest_first-reverse done) (obeys_earliest parents done h)
 
@@ -193,7 +193,7 @@ taken-earliest zero actions done = sym (append-nil (earliest_first done))
 taken-earliest (suc k) [] done = sym (append-nil (earliest_first done))
 taken-earliest (suc k) (a ∷ actions) done = taken-earliest k actions (a ∷ done) ∙ append_assoc (earliest_first done) (a ∷ []) (take k actions)
 
--- the first k actions with the latest first are these with the earliest first, in reverse
+-- the first k actions listed with the latest first, reversed, are the first k actions
 pub reverse-taken : (k : ℕ) (actions : List Action) → reverse (taken k actions []) ≡ take k actions
 reverse-taken k actions = sym (earliest_first-reverse (taken k actions [])) ∙ taken-earliest k actions []
 

@@ -1,4 +1,4 @@
--- Lists of calls: where a call that is put in stands.
+-- Lists of calls, and the position at which a call is inserted.
 use Rattle.std.proofs.Common.{◌≡◌, ℕ, ◌==◌, ◌||◌, Bool, true, false, List, [], ◌∷◌, ◌++◌, refl, sym, ap, subst, inl, inr, arith}
 use Rattle.std.specs.Prelude.{if◌then◌else◌}
 use Rattle.std.proofs.lemmas.Bool.{cases_Bool, both_ways, eqb-true, eq-eqb}
@@ -25,7 +25,7 @@ IsDistinct-put test c (e ∷ es) out h =
     let s = stands-put test c es e in
     elim (cases_Bool (test e)) [ inl t ↦ rw t (out, h) | inr t ↦ rw t (grind (arith, s, ne, h.0), IsDistinct-put test c es i h.1) ]
 
--- what stood before stands before, when another call is put in
+-- inserting a call keeps the order of the others
 pub before-put : (test : ℕ → Bool) (c : ℕ) (order : List ℕ) → stands c order ≡ false → (a b : ℕ) → before order a b ≡ true → before (put_before test c order) a b ≡ true
 before-put test c [] out a b h = absurd (both_ways false refl h)
 before-put test c (e ∷ es) out a b h =
@@ -36,7 +36,7 @@ before-put test c (e ∷ es) out a b h =
     let s = stands-put test c es b in
     elim (cases_Bool (test e)) [ inl t ↦ rw (t, ne) h | inr t ↦ rw t (grind (arith, s, ih, h)) ]
 
--- the call stands before each that passes the test
+-- the inserted call comes before each call that passes the test
 pub put-before_passing : (test : ℕ → Bool) (c : ℕ) (order : List ℕ) → stands c order ≡ false → (d : ℕ) → stands d order ≡ true → test d ≡ true → before (put_before test c order) c d ≡ true
 put-before_passing test c [] out d here pass = absurd (both_ways false refl here)
 put-before_passing test c (e ∷ es) out d here pass =
@@ -51,7 +51,7 @@ put-before_passing test c (e ∷ es) out d here pass =
           rw (t, ne) (put-before_passing test c es i d there pass)
     ]
 
--- whoever stands before each that passes the test stands before the call
+-- a call that is before each call that passes the test is before the inserted call
 pub before_put_call : (test : ℕ → Bool) (c : ℕ) (order : List ℕ) → stands c order ≡ false → IsDistinct order → (a : ℕ) → stands a order ≡ true
     → ((d : ℕ) → stands d order ≡ true → test d ≡ true → before order a d ≡ true) → before (put_before test c order) a c ≡ true
 before_put_call test c [] out once a here ahead = absurd (both_ways false refl here)
@@ -74,17 +74,17 @@ before_put_call test c (e ∷ es) out once a here ahead =
       ])
     ]
 
--- at the end is before the first of none
+-- if no call passes, the call is inserted at the end
 pub put_before-none : (c : ℕ) (order : List ℕ) → put_before (λ _. false) c order ≡ order ++ c ∷ []
 put_before-none c [] = refl
 put_before-none c (e ∷ es) = ap (λ ys. e ∷ ys) (put_before-none c es)
 
--- in a list cut at c
+-- a call occurs in two joined lists if it occurs in one of them
 pub stands-append : (d : ℕ) (cs ds : List ℕ) → stands d (cs ++ ds) ≡ (stands d cs || stands d ds)
 stands-append d [] ds = refl
 stands-append d (c ∷ cs) ds = let ih = stands-append d cs ds in grind (arith, ih)
 
--- who stands before c in a list cut at c is in its first part
+-- in a list without repetitions, a call before c is in the part before c
 pub before_cut : (front back : List ℕ) (c d : ℕ) → IsDistinct (front ++ c ∷ back) → before (front ++ c ∷ back) d c ≡ true → stands d front ≡ true
 before_cut [] back c d once h = elim (cases_Bool (c == d)) [
   | inl same ↦ absurd (both_ways (stands c back) once.0 (rw same at h))
@@ -95,7 +95,7 @@ before_cut (e ∷ es) back c d once h = elim (cases_Bool (e == d)) [
   | inr other ↦ rw other (before_cut es back c d once.1 (rw other at h))
 ]
 
--- nobody stands in both parts of a list cut at c, nor does c
+-- a call isn't in both parts of a list that is split at c
 pub cut_apart : (front back : List ℕ) (c d : ℕ) → IsDistinct (front ++ c ∷ back) → stands d front ≡ true → stands d (c ∷ back) ≡ true → ⊥
 cut_apart [] back c d once h k = both_ways false refl h
 cut_apart (e ∷ es) back c d once h k =
@@ -106,7 +106,7 @@ cut_apart (e ∷ es) back c d once h k =
       | inr other ↦ cut_apart es back c d once.1 (rw other at h) k
     ]
 
--- who is in the first part_of of a list cut at c isn't behind c
+-- a call in the part before c doesn't come after c
 pub cut_not_behind : (front back : List ℕ) (c d : ℕ) → IsDistinct (front ++ c ∷ back) → stands d front ≡ true → before (front ++ c ∷ back) c d ≡ true → ⊥
 cut_not_behind [] back c d once h b = both_ways false refl h
 cut_not_behind (e ∷ es) back c d once h b =
@@ -123,7 +123,7 @@ cut_not_behind (e ∷ es) back c d once h b =
       | inr other ↦ cut_not_behind es back c d once.1 (rw other at h) b2
     ]
 
--- tests that agree on the calls of the order put a call in the same place
+-- tests that agree on the calls of the order insert a call at the same position
 pub put_before-same : (test other : ℕ → Bool) (c : ℕ) (order : List ℕ) → ((d : ℕ) → stands d order ≡ true → test d ≡ other d) → put_before test c order ≡ put_before other c order
 put_before-same test other c [] same = refl
 put_before-same test other c (e ∷ es) same =

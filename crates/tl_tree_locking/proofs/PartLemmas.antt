@@ -1,4 +1,4 @@
--- What an event adds to each call's part.
+-- What an event adds to each call's part of the history.
 use Rattle.std.proofs.Common.{◌≡◌, ◌≢◌, ℕ, ◌==◌, true, false, List, [], ◌∷◌, refl, sym, ◌∙◌, subst, inl, inr, arith, ◌⊎◌}
 use Rattle.std.proofs.lemmas.Bool.{cases_Bool, cases_eq, both_ways, ne_eqb, eq-eqb}
 use Rattle.std.proofs.lemmas.Bool.Decides.{nat_tests}
@@ -25,7 +25,7 @@ part_of-other (Lock x d found) c past ne = let e = ne_eqb d c ne in rw e refl
 part_of-other (Free x d left) c past ne = let e = ne_eqb d c ne in rw e refl
 part_of-other (Done d) c past ne = let e = ne_eqb d c ne in rw e refl
 
--- what held before an event held of each call
+-- if all parts obey the protocol after an event, they did before it
 pub obeys_before : (parents : List ℕ) (e : Event) (past : List Event) (c : ℕ) → EachPermitted parents (part_of c (e ∷ past)) → EachPermitted parents (part_of c past)
 obeys_before parents e past c h = elim (cases_eq (caller e) c) [ inl same ↦ obeys_own parents e past c same h | inr other ↦ let q = part_of-other e c past other in rw q at h ]
   where
@@ -35,7 +35,7 @@ obeys_before parents e past c h = elim (cases_eq (caller e) c) [ inl same ↦ ob
     obeys_own parents (Free x d left) past c same h = let q = eq-eqb d c same in let g = rw q at h in g.2
     obeys_own parents (Done d) past c same h = let q = eq-eqb d c same in let g = rw q at h in g.2
 
--- the same of what was apart
+-- if locks are apart after an event, they were before it
 pub apart_before : (e : Event) (past : List Event) → Apart (e ∷ past) → Apart past
 apart_before (Admit d) past h = h
 apart_before (Lock x d found) past h = h.1
@@ -49,14 +49,14 @@ legal_before parents e past h = record {
   in_turn = h.in_turn.1;
 }
 
--- who has locked a node after a lock
+-- after a lock, a call has locked a node if it is the one of the lock or had locked it before
 pub locked-lock : (c x : ℕ) (found : Record) (past : List Event) (d y : ℕ) → locked (part_of d (Lock x c found ∷ past)) y ≡ true → ((c ≡ d) × (x ≡ y)) ⊎ (locked (part_of d past) y ≡ true)
 locked-lock c x found past d y h = elim (cases_eq c d) [
   | inl same ↦ let q = eq-eqb c d same in let g = rw q at h in grind (arith, nat_tests, g, same)
   | inr other ↦ let q = part_of-other (Lock x c found) d past other in let g = rw q at h in inr g
 ]
 
--- who holds a node after a lock
+-- after a lock, a call holds a node if it is the one of the lock or held it before
 pub held-lock : (c x : ℕ) (found : Record) (past : List Event) (d y : ℕ) → held (part_of d (Lock x c found ∷ past)) y ≡ true → ((c ≡ d) × (x ≡ y)) ⊎ (held (part_of d past) y ≡ true)
 held-lock c x found past d y h = elim (cases_eq c d) [
   | inl same ↦ let q = eq-eqb c d same in let g = rw q at h in grind (arith, nat_tests, g, same)
@@ -75,7 +75,7 @@ held-done c past d y h = elim (cases_eq c d) [
   | inr other ↦ let q = part_of-other (Done c) d past other in rw q at h
 ]
 
--- no two calls hold one node
+-- no two calls hold the same node
 pub exclusive : (past : List Event) → Apart past → (c d x : ℕ) → held (part_of c past) x ≡ true → held (part_of d past) x ≡ true → c ≡ d
 exclusive [] apart c d x h k = absurd (both_ways false refl h)
 exclusive (Admit e ∷ past) apart c d x h k = exclusive past apart c d x h k

@@ -1,4 +1,4 @@
--- Events one by one, and what is so of each.
+-- Events one by one, and what is true of each.
 use Rattle.std.proofs.Common.{◌≡◌, ℕ, ◌+◌, ◌-◌, ◌<◌, List, [], ◌∷◌, length, get_or, take, reverse, sym, ap, ◌∙◌, subst, arith}
 use Rattle.std.proofs.lemmas.List.{take_more, reverse-append, reverse-reverse, length-reverse, get_or-reverse}
 use Rattle.std.specs.Prelude.{All}

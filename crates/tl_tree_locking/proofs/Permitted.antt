@@ -1,4 +1,4 @@
--- Actions that obey the protocol by their places, none of them after an end, are permitted one after another.
+-- Actions that obey the protocol by positions, with none after an end, are permitted one after another.
 use Rattle.std.proofs.Common.{◌≡◌, ◌≢◌, ℕ, suc, ◌≤◌, ◌==◌, true, false, List, [], ◌∷◌, ◌++◌, length, refl, sym, ap, ◌∙◌, subst, inl, inr, arith, Some, slice_get, reverse, length-append}
 use Rattle.std.proofs.lemmas.Bool.{cases_Bool, false_from_ne_true, both_ways, eqb-true}
 use Rattle.std.proofs.lemmas.Option.{slice_get_within}
@@ -89,7 +89,7 @@ at_held (a ∷ done) x h =
 
 -- ---- the rules
 
--- a list obeys without its last action, if no other is the end
+-- actions that obey the protocol also do so without the last one, if no other is the end
 one_less : (parents : List ℕ) (xs : List Action) (a : Action) → ((e : ℕ) → slice_get xs e ≢ Some A.End) → Obeys parents (xs ++ a ∷ []) → Obeys parents xs
 one_less parents xs a going whole = record {
   parent_held = λ k x found h.
@@ -105,7 +105,7 @@ one_less parents xs a going whole = record {
   all_freed = λ e k x found he hk. absurd (going e he);
 }
 
--- what the last action touches is held before it
+-- the node that the last action touches is held before it
 last_held : (parents : List ℕ) (done : List Action) (a : Action) (x : ℕ) → Obeys parents (earliest_first done ++ a ∷ []) → Touches a x → held done x ≡ true
 last_held parents done a x whole t =
     let xs = earliest_first done in
@@ -157,7 +157,7 @@ permitted_earliest parents (a ∷ done) whole ends =
     let none : (e : ℕ) → slice_get xs e ≢ Some A.End = λ e w. both_ways (has_ended done) going (ended_there done e w) in
     (last_permitted parents done a whole, going, permitted_earliest parents done (one_less parents xs a none whole) (λ e w. absurd (none e w)))
 
--- actions that obey the protocol, none of them after an end, are permitted one after another
+-- actions that obey the protocol, with none after an end, are permitted one after another
 pub places_permitted : (parents : List ℕ) (done : List Action) → Obeys parents (reverse done) → EndsLast (reverse done) → EachPermitted parents done
 places_permitted parents done whole ends =
     let e = earliest_first-reverse done in
@@ -165,7 +165,7 @@ places_permitted parents done whole ends =
 
 -- ---- nothing comes after an end
 
--- one more action, where none so far was the end
+-- one more action, where none before it is the end
 ends_more : (done : List Action) (a : Action) → has_ended done ≡ false → EndsLast (earliest_first (a ∷ done))
 ends_more done a going e h =
     let xs = earliest_first done in
@@ -190,7 +190,7 @@ has_ended-part_of c (Lock x d found ∷ past) = elim (cases_Bool (d == c)) [ inl
 has_ended-part_of c (Free x d left ∷ past) = elim (cases_Bool (d == c)) [ inl mine ↦ rw mine (has_ended-part_of c past) | inr other ↦ rw other (has_ended-part_of c past) ]
 has_ended-part_of c (Done d ∷ past) = elim (cases_Bool (d == c)) [ inl mine ↦ rw mine refl | inr other ↦ rw other (has_ended-part_of c past) ]
 
--- in turn, an event of a call comes while it isn't done
+-- a call that is open hasn't ended
 going_on : (past : List Event) (c d : ℕ) → IsOpen d past → (d == c) ≡ true → has_ended (part_of c past) ≡ false
 going_on past c d is_open mine = has_ended-part_of c past ∙ subst (λ z. is_done z past ≡ false) (eqb-true d c mine) is_open.1
 
@@ -210,7 +210,7 @@ part_ends (Done d ∷ past) turn c = elim (cases_Bool (d == c)) [
   | inr other ↦ rw other (part_ends past turn.1 c)
 ]
 
--- a history in turn each of whose parts obeys by places is legal, if its locks are apart
+-- a history is legal if its events are in turn, its locks are apart, and each part obeys the protocol by positions
 pub places_legal : (parents : List ℕ) (past : List Event) → ((c : ℕ) → Obeys parents (reverse (part_of c past))) → Apart past → InTurn past → IsLegalHistory parents past
 places_legal parents past obeys apart turn = record {
   obeys = λ c. places_permitted parents (part_of c past) (obeys c) (subst EndsLast (earliest_first-reverse (part_of c past)) (part_ends past turn c));

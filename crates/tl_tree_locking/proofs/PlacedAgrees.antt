@@ -1,4 +1,4 @@
--- The order of a history agrees with it: what is kept from event to event.
+-- The order of a history agrees with it: an invariant that each event keeps.
 use Rattle.std.proofs.Common.{◌≡◌, ℕ, ◌==◌, ◌||◌, Bool, true, false, List, [], ◌∷◌, ◌++◌, refl, sym, subst, inl, inr, arith}
 use Rattle.std.proofs.lemmas.Bool.{cases_Bool, cases_eq, both_ways, ne_eqb, eq-eqb}
 use Rattle.tl_tree.specs.Records.{Record}
@@ -14,7 +14,7 @@ use Rattle.tl_tree_locking.proofs.MayComeLemmas.{held-locked, locked-any, child_
 use Rattle.tl_tree_locking.proofs.Orders.{stands-put, IsDistinct-put, before-put, put-before_passing, before_put_call, put_before-none}
 use Rattle.tl_tree_locking.proofs.PartLemmas.{part_of-lock, part_of-free, part_of-done, part_of-other, legal_before, locked-lock, exclusive, locked-free, locked_any-free, locked-done, locked_any-done}
 
--- whoever has locked a node stands before each call that may still come to it
+-- the invariant: besides agreeing, a call that has locked a node comes before each call that may still lock it
 pub record KeepsOrder (parents order : List ℕ) (past : List Event) : Type 0 where
   pub distinct : IsDistinct order
   pub members : (c : ℕ) → stands c order ≡ (locked_any (part_of c past) || is_done c past)
@@ -28,7 +28,7 @@ in_lock_order-more order longer more (Lock x d found ∷ past) h = (λ c l. more
 in_lock_order-more order longer more (Free x c left ∷ past) h = in_lock_order-more order longer more past h
 in_lock_order-more order longer more (Done c ∷ past) h = in_lock_order-more order longer more past h
 
--- what a call that may come somewhere after a child's lock could come to before it
+-- after a lock of a node whose parent is held, calls may still lock only nodes that they could lock before
 may_lock_before : (parents : List ℕ) → IsTree parents → (past : List Event) (c x : ℕ) (found : Record)
     → locked (part_of c past) x ≡ false → held (part_of c past) (parent parents x) ≡ true
     → (d y : ℕ) → may_come parents (part_of d (Lock x c found ∷ past)) y ≡ true → may_come parents (part_of d past) y ≡ true
@@ -40,7 +40,7 @@ may_lock_before parents tree past c x found fresh under d y may = elim (cases_eq
   | inr other ↦ let q = part_of-other (Lock x c found) d past other in rw q at may
 ]
 
--- the one who locks a node doesn't come to it any more
+-- a call that locks a node may not lock it again
 not_again : (parents : List ℕ) (past : List Event) (c x : ℕ) (found : Record) → may_come parents (part_of c (Lock x c found ∷ past)) x ≡ true → ⊥
 not_again parents past c x found may =
     let q = part_of-lock c x found past in
@@ -48,7 +48,7 @@ not_again parents past c x found may =
     let self = eq-eqb x x refl in
     grind (arith, m.0, self)
 
--- a lock under a held parent
+-- the invariant after a lock of a node whose parent is held
 kept_child : (parents : List ℕ) → IsTree parents → (order : List ℕ) (past : List Event) (c x : ℕ) (found : Record) → Apart past → KeepsOrder parents order past
     → locked_any (part_of c past) ≡ true → locked (part_of c past) x ≡ false → held (part_of c past) (parent parents x) ≡ true → KeepsOrder parents order (Lock x c found ∷ past)
 kept_child parents tree order past c x found apart old some fresh under = record {
@@ -80,7 +80,7 @@ kept_child parents tree order past c x found apart old some fresh under = record
       ];
 }
 
--- a call's first lock
+-- the invariant after a call's first lock
 kept_first : (parents : List ℕ) → IsTree parents → (order : List ℕ) (past : List Event) (c x : ℕ) (found : Record) → ((d : ℕ) → EachPermitted parents (part_of d past)) → KeepsOrder parents order past
     → locked_any (part_of c past) ≡ false → stands c order ≡ false
     → KeepsOrder parents (put_before (λ d. may_come parents (part_of d past) x) c order) (Lock x c found ∷ past)
@@ -119,7 +119,7 @@ kept_first parents tree order past c x found obeys old none out =
       ];
     }
 
--- what isn't a lock of c leaves c's locks, and what c may come to, within what they were
+-- after an event that isn't a lock, calls may still lock only nodes that they could lock before
 own_shrinks : (parents : List ℕ) → IsTree parents → (a : Action) → is_lock a ≡ false → (e : Event) (past : List Event) → part_of (caller e) (e ∷ past) ≡ a ∷ part_of (caller e) past
     → (d y : ℕ) → may_come parents (part_of d (e ∷ past)) y ≡ true → may_come parents (part_of d past) y ≡ true
 own_shrinks parents tree a plain e past own d y may = elim (cases_eq (caller e) d) [
@@ -138,7 +138,7 @@ kept_free parents tree order past c x left old = record {
       old.ahead y e d (rw q at l) (own_shrinks parents tree (A.Free x left) refl (Free x c left) past (part_of-free c x left past) d y may);
 }
 
--- a call that is done stands in the order
+-- the invariant after a call is done, where the call occurs in the longer order
 kept_done : (parents : List ℕ) → IsTree parents → (order longer : List ℕ) (past : List Event) (c : ℕ) → KeepsOrder parents order past
     → IsDistinct longer → ((d : ℕ) → stands d longer ≡ ((c == d) || stands d order)) → ((a b : ℕ) → before order a b ≡ true → before longer a b ≡ true)
     → KeepsOrder parents longer (Done c ∷ past)

@@ -1,4 +1,4 @@
--- Two numbers a node tell which calls may still come to it.
+-- Two values for each node determine which calls may still lock it.
 use Rattle.std.proofs.Common.{◌≡◌, ◌≢◌, ℕ, zero, suc, ◌+◌, ◌<◌, ◌≤◌, ◌==◌, ◌||◌, slice_get, set, get_or, length, true, false, List, [], ◌∷◌, ◌++◌, refl, sym, ap, ◌∙◌, subst, inl, inr, arith, Option, Some, None}
 use Rattle.std.specs.Prelude.{◌&&◌, not, if◌then◌else◌, insert, min, is_some, eqb}
 use Rattle.std.specs.Option.{option_eq}
@@ -41,7 +41,7 @@ option_eq-call (Some d) c = refl
 
 -- ---- the call that last locked a node under its parent
 
--- it has locked the node, in whatever history
+-- the call under which a node was locked last has locked the node
 pub under-locked : (parents : List ℕ) (past : List Event) (c x : ℕ) → under_of parents past x ≡ Some c → locked (part_of c past) x ≡ true
 under-locked parents [] c x h = absurd cc
 under-locked parents (Admit d ∷ past) c x h = under-locked parents past c x h
@@ -59,7 +59,7 @@ under-locked parents (Lock y d found ∷ past) c x h = elim (cases_Bool ((y == x
       elim (cases_Bool (d == c)) [ inl q ↦ rw q (grind (arith, old)) | inr q ↦ rw q old ]
 ]
 
--- a call that locks x's parent hasn't locked x
+-- a call that may lock x's parent hasn't locked x
 pub not_yet_below : (parents : List ℕ) → IsTree parents → (done : List Action) (x : ℕ) (found : Record) → 0 < x → EachPermitted parents done → Permitted parents done (A.Lock (parent parents x) found) → locked done x ≡ false
 not_yet_below parents tree done x found pos obeys p = elim (cases_Bool (locked done x)) [
   | inl l ↦
@@ -69,7 +69,7 @@ not_yet_below parents tree done x found pos obeys p = elim (cases_Bool (locked d
   | inr not' ↦ not'
 ]
 
--- a call that holds x's parent and has locked x was the last to lock it so
+-- if a call holds x's parent and has locked x, it was the last to lock x under that parent
 pub locked-under : (parents : List ℕ) → IsTree parents → (past : List Event) → IsLegalHistory parents past → (c x : ℕ) → 0 < x → holder_of past (parent parents x) ≡ Some c → locked (part_of c past) x ≡ true
     → under_of parents past x ≡ Some c
 locked-under parents tree [] legal c x pos h l = absurd (both_ways false refl l)
@@ -135,7 +135,7 @@ stands-with_coming (Some d) under calls c = elim (cases_eq d c) [
 pub coming_calls-root : (parents : List ℕ) (past : List Event) → coming_calls parents past 0 ≡ []
 coming_calls-root parents past = rw nodes_above-root refl
 
--- each step up asks for one holder
+-- each step up needs one holder
 pub coming_calls-step : (parents : List ℕ) → IsTree parents → (past : List Event) (x : ℕ) → 0 < x
     → coming_calls parents past x ≡ with_coming (holder_of past (parent parents x)) (under_of parents past x) (coming_calls parents past (parent parents x))
 coming_calls-step parents tree past x pos = ap (coming_along parents past x) (nodes_above-step parents tree x pos)
@@ -145,14 +145,14 @@ stands-coming_step : (parents : List ℕ) → IsTree parents → (past : List Ev
 stands-coming_step parents tree past c x pos =
     ap (stands c) (coming_calls-step parents tree past x pos) ∙ stands-with_coming (holder_of past (parent parents x)) (under_of parents past x) (coming_calls parents past (parent parents x)) c
 
--- the holder of x's parent that wasn't the last to lock x under it may come to x
+-- the holder of x's parent may still lock x if it wasn't the last to lock x under it
 pub holder_may : (parents : List ℕ) → IsTree parents → (past : List Event) → IsLegalHistory parents past → (c x : ℕ) → 0 < x → holder_of past (parent parents x) ≡ Some c → under_of parents past x ≢ Some c
     → may_come parents (part_of c past) x ≡ true
 holder_may parents tree past legal c x pos h other =
     let fresh : locked (part_of c past) x ≡ false = elim (cases_Bool (locked (part_of c past) x)) [ inl l ↦ absurd (other (locked-under parents tree past legal c x pos h l)) | inr not' ↦ not' ] in
     child_may parents tree (part_of c past) x fresh (holder-held parents past legal c (parent parents x) h)
 
--- a call that may come to x is found
+-- the climb finds each call that may still lock x
 may-found : (parents : List ℕ) → IsTree parents → (past : List Event) → IsLegalHistory parents past → (c x : ℕ) → may_come parents (part_of c past) x ≡ true → stands c (coming_calls parents past x) ≡ true
 may-found parents tree past legal c =
     by_climbing parents tree (λ x. may_come parents (part_of c past) x ≡ true → stands c (coming_calls parents past x) ≡ true)
@@ -171,7 +171,7 @@ may-found parents tree past legal c =
       | inr free ↦ let up = ih (may_up parents tree (part_of c past) x pos may free) in grind (arith, s, up)
     ])
 
--- a call that is found may come to x
+-- each call that the climb finds may still lock x
 found-may : (parents : List ℕ) → IsTree parents → (past : List Event) → IsLegalHistory parents past → (c x : ℕ) → stands c (coming_calls parents past x) ≡ true → may_come parents (part_of c past) x ≡ true
 found-may parents tree past legal c =
     by_climbing parents tree (λ x. stands c (coming_calls parents past x) ≡ true → may_come parents (part_of c past) x ≡ true)
@@ -187,14 +187,14 @@ found-may parents tree past legal c =
           (λ w. both_ways (is_call (under_of parents past x) c) u (some-is_call (under_of parents past x) c w))
     ])
 
--- one climb finds exactly the calls that may come to x
+-- one climb finds exactly the calls that may still lock x
 pub may-coming_calls : (parents : List ℕ) → IsTree parents → (past : List Event) → IsLegalHistory parents past → (c x : ℕ) → may_come parents (part_of c past) x ≡ stands c (coming_calls parents past x)
 may-coming_calls parents tree past legal c x =
     let there = may-found parents tree past legal c x in
     let back = found-may parents tree past legal c x in
     elim (cases_Bool (stands c (coming_calls parents past x))) [ inl s ↦ rw s (back s) | inr out ↦ elim (cases_Bool (may_come parents (part_of c past) x)) [ inl m ↦ absurd (both_ways (stands c (coming_calls parents past x)) out (there m)) | inr n ↦ n ∙ sym out ] ]
 
--- and each of them once
+-- the climb finds each of them once
 pub coming_calls-distinct : (parents : List ℕ) → IsTree parents → (past : List Event) → IsLegalHistory parents past → (x : ℕ) → IsDistinct (coming_calls parents past x)
 coming_calls-distinct parents tree past legal =
     by_climbing parents tree (λ x. IsDistinct (coming_calls parents past x)) (rw coming_calls-root tt)
@@ -214,7 +214,7 @@ coming_calls-distinct parents tree past legal =
 
 -- ---- by nodes
 
--- a node on the way from x to the root, not the root itself, such that c holds its parent and wasn't the last to lock it under that parent
+-- a call that may still lock x holds the parent of a node at or above x, other than the root, and wasn't the last to lock that node under it
 pub may-node : (parents : List ℕ) → IsTree parents → (past : List Event) → IsLegalHistory parents past → (c x : ℕ) → may_come parents (part_of c past) x ≡ true
     → (z : ℕ) × Above parents z x × (0 < z) × (holder_of past (parent parents z) ≡ Some c) × (under_of parents past z ≢ Some c)
 may-node parents tree past legal c =
@@ -242,7 +242,7 @@ node-may parents tree past legal c z x (below up) pos h other =
 
 -- ---- the place of a first lock
 
--- a call is put in before the first of the calls that the climb finds, or at the end
+-- a call is inserted before the first of the calls that the climb finds, or at the end
 pub placed_by_climb : (parents : List ℕ) → IsTree parents → (past : List Event) → IsLegalHistory parents past → (c x : ℕ) (found : Record) (order : List ℕ)
     → placed_after parents past (Lock x c found) order ≡ (if stands c order then order else put_before (λ d. stands d (coming_calls parents past x)) c order)
 placed_by_climb parents tree past legal c x found order =
@@ -258,12 +258,12 @@ put_before-place calls c (e ∷ es) = elim (cases_Bool (stands e calls)) [
       rw (away, k) (ap (λ ds. e ∷ ds) (put_before-place calls c es))
 ]
 
--- before none: at the end
+-- without calls, the position is the end
 pub place_before-none : (order : List ℕ) → place_before [] order ≡ length order
 place_before-none [] = refl
 place_before-none (e ∷ es) = let i = place_before-none es in omega (arith, i)
 
--- before the first of more calls: the lesser of two places
+-- the position before the first of several calls is the minimum of two positions
 pub place_before-more : (d : ℕ) (calls order : List ℕ) → place_before (d ∷ calls) order ≡ min (place_before (d ∷ []) order) (place_before calls order)
 place_before-more d calls [] = refl
 place_before-more d calls (e ∷ es) =
@@ -276,7 +276,7 @@ place_before-more d calls (e ∷ es) =
       ]
     ]
 
--- the place of one call
+-- the position before one call is that call's position
 pub place_before-one : (d : ℕ) (order : List ℕ) (k : ℕ) → IsDistinct order → slice_get order k ≡ Some d → place_before (d ∷ []) order ≡ k
 place_before-one d [] k once h = absurd cc
 place_before-one d (e ∷ es) zero once h =
@@ -325,7 +325,7 @@ none_below past n y e lt = go (holder_of past y) refl
     go None h = refl
     go (Some d) h = let one = held_below-one past y n d lt h in absurd (omega (arith, one, e))
 
--- no node below z in number has a holder: the rest of the climb finds nobody
+-- if no node with a number below x has a holder, the climb finds no calls
 pub coming_calls-stop : (parents : List ℕ) → IsTree parents → (past : List Event) (x : ℕ) → held_below x past ≡ 0 → coming_calls parents past x ≡ []
 coming_calls-stop parents tree past =
     by_climbing parents tree (λ x. held_below x past ≡ 0 → coming_calls parents past x ≡ []) (λ _. coming_calls-root parents past)
@@ -335,7 +335,7 @@ coming_calls-stop parents tree past =
     let less = held_below-grows past (parent parents x) x (omega arith) in
     rw (coming_calls-step parents tree past x pos) (rw none (ih (omega (arith, less, e)))))
 
--- where x's parent has no holder, or one that was the last to lock x under it, the climb finds the same from the parent on
+-- if x's parent has no holder, or one that was the last to lock x under it, the climb finds the same as from the parent
 pub climb_on : (parents : List ℕ) → IsTree parents → (past : List Event) (x : ℕ) → 0 < x → ((d : ℕ) → holder_of past (parent parents x) ≡ Some d → under_of parents past x ≡ Some d)
     → coming_calls parents past x ≡ coming_calls parents past (parent parents x)
 climb_on parents tree past x pos closed = coming_calls-step parents tree past x pos ∙ skip (holder_of past (parent parents x)) refl
@@ -345,7 +345,7 @@ climb_on parents tree past x pos closed = coming_calls-step parents tree past x 
     skip None e = refl
     skip (Some d) e = let u = some-is_call (under_of parents past x) d (closed d e) in rw u refl
 
--- else it finds the holder first
+-- otherwise the climb finds that holder first
 pub climb_found : (parents : List ℕ) → IsTree parents → (past : List Event) (x d : ℕ) → 0 < x → holder_of past (parent parents x) ≡ Some d → under_of parents past x ≢ Some d
     → coming_calls parents past x ≡ d ∷ coming_calls parents past (parent parents x)
 climb_found parents tree past x d pos h other =
@@ -376,7 +376,7 @@ nearest_ahead parents tree past legal order keeps =
           subst (λ z. before order z e ≡ true) same (keeps.ahead (parent parents x) c e l may)
     ]
 
--- of calls of which the first stands before the others only the first counts
+-- if one of the calls comes before all the others, only that one matters
 put_before-first : (d : ℕ) (calls : List ℕ) (c : ℕ) (order : List ℕ) → IsDistinct order → ((e : ℕ) → stands e calls ≡ true → before order d e ≡ true)
     → put_before (λ e. stands e (d ∷ calls)) c order ≡ put_before (λ e. d == e) c order
 put_before-first d calls c [] once ahead = refl
@@ -392,7 +392,7 @@ put_before-first d calls c (e ∷ es) once ahead = elim (cases_eq d e) [
       rw (q, away) (ap (λ ds. e ∷ ds) (put_before-first d calls c es once.1 (λ f s. rw q' at (ahead f s))))
 ]
 
--- so a call is put in just before the first call that the climb finds, or at the end
+-- so a call is inserted directly before the first call that the climb finds, or at the end
 pub placed_before_nearest : (parents : List ℕ) → IsTree parents → (past : List Event) → IsLegalHistory parents past → (c x : ℕ) (found : Record)
     → placed parents (Lock x c found ∷ past) ≡ (if stands c (placed parents past) then placed parents past else put_before (is_call (slice_get (coming_calls parents past x) 0)) c (placed parents past))
 placed_before_nearest parents tree past legal c x found =
@@ -404,7 +404,7 @@ placed_before_nearest parents tree past legal c x found =
         let keeps = placed_keeps_order parents tree past legal in
         rw q (put_before-first d calls c (placed parents past) keeps.distinct (nearest_ahead parents tree past legal (placed parents past) keeps x d calls q))
 
--- and that call stands in the order
+-- the first call that the climb finds occurs in the order
 pub nearest_stands : (parents : List ℕ) → IsTree parents → (past : List Event) → IsLegalHistory parents past → (x d : ℕ) → slice_get (coming_calls parents past x) 0 ≡ Some d → stands d (placed parents past) ≡ true
 nearest_stands parents tree past legal x d h =
     let may = found-may parents tree past legal d x (first (coming_calls parents past x) h) in
@@ -452,7 +452,7 @@ held_below-lock past n c x found lt none = (locked_node n lt)
           rw ne (elim (cases_Bool (is_some (holder_of past n))) [ inl h ↦ rw h (omega (arith, i)) | inr h ↦ rw h i ])
     ]
 
--- and after a free of one of them that had one
+-- the same after a free of one of them that had a holder
 pub held_below-free : (past : List Event) (n c x d : ℕ) (left : Record) → x < n → holder_of past x ≡ Some d → held_below n (Free x c left ∷ past) + 1 ≡ held_below n past
 held_below-free past n c x d left lt some = (freed_node n lt)
   where
@@ -479,7 +479,7 @@ held_below-free past n c x d left lt some = (freed_node n lt)
 
 -- ---- what is permitted
 
--- a lock is permitted to a call that has locked nothing, and else under the parent that it holds and under which it wasn't the last to lock the node
+-- if a lock that isn't the call's first is permitted, the call holds the node's parent and wasn't the last to lock the node under it
 pub lock_permitted : (parents : List ℕ) → IsTree parents → (past : List Event) → IsLegalHistory parents past → (c x : ℕ) (found : Record) → Permitted parents (part_of c past) (A.Lock x found)
     → locked_any (part_of c past) ≡ true → (0 < x) × (holder_of past (parent parents x) ≡ Some c) × (under_of parents past x ≢ Some c)
 lock_permitted parents tree past legal c x found p some =
@@ -502,7 +502,7 @@ no_holder parents past legal x free = go (holder_of past x) refl
     go None e = refl
     go (Some d) e = absurd (both_ways (held (part_of d past) x) (free d) (holder-held parents past legal d x e))
 
--- what the two numbers a node ask of the next event is what keeps the history legal
+-- an event after which the history is legal satisfies `IsLegalNext`
 pub keeps_rules : (parents : List ℕ) → IsTree parents → (past : List Event) → IsLegalHistory parents past → (e : Event) → IsLegalHistory parents (e ∷ past) → IsLegalNext parents past e
 keeps_rules parents tree past legal (Admit c) h = h.in_turn.0
 keeps_rules parents tree past legal (Lock x c found) h =
@@ -519,7 +519,7 @@ keeps_rules parents tree past legal (Done c) h =
     let mine : Permitted parents (part_of c past) A.End × (has_ended (part_of c past) ≡ false) × EachPermitted parents (part_of c past) = rw q at (h.obeys c) in
     (h.in_turn.0, λ x u. both_ways (held (part_of c past) x) (mine.0 x) (holder-held parents past legal c x u))
 
--- a call's part after an action of its own
+-- if a call's next action is permitted, all parts obey the protocol after it
 own_more : (parents : List ℕ) (past : List Event) → IsLegalHistory parents past → (c : ℕ) (e : Event) (a : Action) → caller e ≡ c → IsOpen c past → Permitted parents (part_of c past) a → part_of c (e ∷ past) ≡ a ∷ part_of c past
     → (d : ℕ) → EachPermitted parents (part_of d (e ∷ past))
 own_more parents past legal c e a who is_open p q d = elim (cases_eq c d) [
@@ -547,7 +547,7 @@ rules_keep parents tree past legal (Done c) h = record {
 
 -- ---- the call that was the last to lock a node under its parent
 
--- at a lock that keeps the rules it is the call, unless the lock is its first
+-- at a permitted lock, the call holds the node's parent exactly if the lock isn't its first
 pub under_next : (parents : List ℕ) → IsTree parents → (past : List Event) → IsLegalHistory parents past → (c x : ℕ) (found : Record) → Permitted parents (part_of c past) (A.Lock x found)
     → is_call (holder_of past (parent parents x)) c ≡ locked_any (part_of c past)
 under_next parents tree past legal c x found p = elim (cases_Bool (locked_any (part_of c past))) [
@@ -573,14 +573,14 @@ under_after parents tree past c x found legal y =
       | inr other ↦ rw other refl
     ]
 
--- the lists after an event: a call's first lock leaves the list of the last lockers as it is
+-- a call's first lock doesn't change the list of last lockers
 pub AreUnder-first : (parents : List ℕ) → IsTree parents → (under : List (Option ℕ)) (past : List Event) (c x : ℕ) (found : Record) → IsLegalHistory parents (Lock x c found ∷ past) → locked_any (part_of c past) ≡ false
     → AreUnder parents under past → AreUnder parents under (Lock x c found ∷ past)
 AreUnder-first parents tree under past c x found legal none are y lt =
     let u = under_after parents tree past c x found legal y in
     are y lt ∙ sym (u ∙ elim (cases_Bool (x == y)) [ inl q ↦ rw (q, none) refl | inr q ↦ rw q refl ])
 
--- a further one is written at its node
+-- a later lock sets the entry of its node
 pub AreUnder-more : (parents : List ℕ) → IsTree parents → (under : List (Option ℕ)) (past : List Event) (c x : ℕ) (found : Record) → IsLegalHistory parents (Lock x c found ∷ past) → locked_any (part_of c past) ≡ true
     → AreUnder parents under past → AreUnder parents (set under x (Some c)) (Lock x c found ∷ past)
 AreUnder-more parents tree under past c x found legal some are y lt =

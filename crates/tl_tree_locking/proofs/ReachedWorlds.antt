@@ -1,4 +1,4 @@
--- Every world that admissions and steps lead to is sound, and ends as its calls alone do.
+-- Every world reached by admissions and steps is sound, and when all calls are done, it ends like a serial run.
 use Rattle.std.proofs.Common.{◌≡◌, ◌≢◌, ℕ, ◌<◌, ◌≤◌, true, false, List, [], ◌∷◌, length, map, refl, sym, ap, ◌∙◌, subst, inl, inr, arith}
 use Rattle.std.proofs.lemmas.Bool.{cases_eq, cases_lt, both_ways, eqb-true, ne_eqb, eq-eqb}
 use Rattle.tl_tree.specs.Records.{Records}
@@ -78,7 +78,7 @@ sound_after_step w c next sound may = record {
   legal = legal_after_step w c next sound.legal sound.size sound.meanings may;
 }
 
--- a world over this shape and these opening records
+-- a sound world with this shape and these opening records
 pub record IsOver (parents : List ℕ) (opening : Records) (w : World) : Type 0 where
   pub parents_are : w.parents ≡ parents
   pub opening_is : w.opening ≡ opening
@@ -100,14 +100,14 @@ reached_sound parents opening tree size w' (Moves w c next reached may) =
 
 -- ---- once all calls are done
 
--- a call that is done has done all that it does alone
+-- a call that is done has done everything that it does alone
 all_of : (w : World) (c : ℕ) → Genuine (w.meanings c) w.opening w.past c (w.counts c) → is_done c w.past ≡ true → part_of c w.past ≡ shared_actions (all_taken (alone_of (w.meanings c) w.opening w.past c).actions)
 all_of w c h over =
     let n = length (alone_of (w.meanings c) w.opening w.past c).actions in
     let all : w.counts c ≡ n = eqb-true (w.counts c) n (sym h.ended ∙ over) in
     h.is_part ∙ ap (λ k. shared_actions (taken k (alone_of (w.meanings c) w.opening w.past c).actions [])) all
 
--- the calls alone along an order that agrees leave the records now and give every reply
+-- run alone in an agreeing order, the calls leave the current records and give every reply
 pub serial-agreeing : (w : World) → IsSound w → AllDone w.past → (order : List ℕ) → Agrees order w.past
     → ((serial w.meanings order w.opening).tree ≡ records_now w.past w.opening) × ((serial w.meanings order w.opening).replies ≡ map (reply_of w) order)
 serial-agreeing w sound over order agrees =
@@ -128,7 +128,7 @@ serial-agreeing w sound over order agrees =
       genuine = λ c k. let lt = known c k in all_of w c (legal.genuine c lt) (over c lt);
     })
 
--- in particular along the order that the history gives
+-- the same for the order that the history determines
 pub serial-placed : (w : World) → IsSound w → AllDone w.past
     → ((serial w.meanings (placed w.parents w.past) w.opening).tree ≡ records_now w.past w.opening)
     × ((serial w.meanings (placed w.parents w.past) w.opening).replies ≡ map (reply_of w) (placed w.parents w.past))

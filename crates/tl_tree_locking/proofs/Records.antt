@@ -1,4 +1,4 @@
--- The records now, and those with what a call found put in place.
+-- The current records, and the records with those that a call found put in their places.
 use Rattle.std.proofs.Common.{◌≡◌, ◌≢◌, ℕ, ◌<◌, ◌==◌, List, [], ◌∷◌, length, set, refl, sym, ap, ◌∙◌, subst, inl, inr}
 use Rattle.std.specs.Prelude.{if◌then◌else◌}
 use Rattle.std.proofs.lemmas.Bool.{cases_Bool, both_ways, eqb-true, eq-eqb}
@@ -11,7 +11,7 @@ use Rattle.tl_tree_locking.specs.declared.event.Event.TheVariants.{Admit, Lock, 
 use Rattle.tl_tree_locking.specs.Actions.{found_in, with_found}
 use Rattle.tl_tree_locking.specs.History.{last_left, records_now}
 
--- a record put in its place
+-- reading a record after one was replaced
 pub record_at-put_record : (t : Records) (y : ℕ) (r : Record) (x : ℕ) → x < length t → record_at (set t y r) x ≡ (if y == x then r else record_at t x)
 record_at-put_record t y r x lt = elim (cases_Bool (y == x)) [
   | inl same ↦ let e = eqb-true y x same in rw same (subst (λ z. record_at (set t z r) x ≡ r) (sym e) (get_or-set_same t x r [] lt))

@@ -1,4 +1,4 @@
--- The records that the calls of an order leave, one after another, are those of the history.
+-- The records that the calls of an order leave one after another are those of the history.
 use Rattle.std.proofs.Common.{◌≡◌, ◌≢◌, ℕ, ◌==◌, true, false, List, [], ◌∷◌, ◌++◌, refl, sym, ◌∙◌, subst, inl, inr, arith}
 use Rattle.std.proofs.lemmas.Bool.{cases_Bool, cases_eq, both_ways, eqb-true, ne_eqb, eq-eqb}
 use Rattle.tl_tree.specs.Records.{Record, Records, record_at}
@@ -36,7 +36,7 @@ freed-locked parents (A.Emit n ∷ done) x obeys h = freed-locked parents done x
 freed-locked parents (A.End ∷ done) x obeys h = freed-locked parents done x obeys.2 h
 freed-locked parents (A.Plain ∷ done) x obeys h = freed-locked parents done x obeys.2 h
 
--- the record at x after these calls, one after another
+-- the record of x after these calls, one after another
 abbrev pub laid : List Event → ℕ → Record → List ℕ → Record
 laid past x r [] = r
 laid past x r (c ∷ cs) = laid past x (left_in (part_of c past) x r) cs
@@ -45,7 +45,7 @@ pub laid-append : (past : List Event) (x : ℕ) (r : Record) (cs ds : List ℕ) 
 laid-append past x r [] ds = refl
 laid-append past x r (c ∷ cs) ds = laid-append past x (left_in (part_of c past) x r) cs ds
 
--- calls that leave the same record at x
+-- an event after which each of these calls leaves the same record at x doesn't change the result
 laid-same : (e : Event) (past : List Event) (x : ℕ) (r : Record) (cs : List ℕ) → ((c : ℕ) (s : Record) → stands c cs ≡ true → left_in (part_of c (e ∷ past)) x s ≡ left_in (part_of c past) x s)
     → laid (e ∷ past) x r cs ≡ laid past x r cs
 laid-same e past x r [] same = refl
@@ -54,7 +54,7 @@ laid-same e past x r (c ∷ cs) same =
     let q = same c r (grind (arith, self)) in
     rw q (laid-same e past x (left_in (part_of c past) x r) cs (λ d s h. same d s (grind (arith, h))))
 
--- calls none of which freed x
+-- calls that haven't freed x don't change its record
 laid-none : (past : List Event) (x : ℕ) (r : Record) (cs : List ℕ) → ((c : ℕ) → stands c cs ≡ true → freed (part_of c past) x ≡ false) → laid past x r cs ≡ r
 laid-none past x r [] h = refl
 laid-none past x r (c ∷ cs) h =
@@ -62,7 +62,7 @@ laid-none past x r (c ∷ cs) h =
     let q = not_freed (part_of c past) x r (h c (grind (arith, self))) in
     rw q (laid-none past x r cs (λ d k. h d (grind (arith, k))))
 
--- where every other call that freed x stands before c, the record at x is the one that c left
+-- if every other call that freed x comes before c, the record of x is the one that c left
 laid-last : (past : List Event) (x : ℕ) (r left : Record) (cs : List ℕ) (c : ℕ) → IsDistinct cs → stands c cs ≡ true → ((s : Record) → left_in (part_of c past) x s ≡ left)
     → ((d : ℕ) → d ≢ c → stands d cs ≡ true → freed (part_of d past) x ≡ true → before cs d c ≡ true) → laid past x r cs ≡ left
 laid-last past x r left [] c once here is ahead = absurd (both_ways false refl here)
@@ -86,7 +86,7 @@ laid-last past x r left (e ∷ es) c once here is ahead =
           laid-last past x (left_in (part_of e past) x r) left es c once.1 there is rest
     ]
 
--- whoever has locked a node stands before the one who holds it
+-- a call that has locked a node comes before the call that holds it
 pub before_holder : (order : List ℕ) (past : List Event) → InLockOrder order past → Apart past → (c d x : ℕ) → held (part_of c past) x ≡ true → locked (part_of d past) x ≡ true → d ≢ c → before order d c ≡ true
 before_holder order [] sorted apart c d x h l ne = absurd (both_ways false refl h)
 before_holder order (Admit e ∷ past) sorted apart c d x h l ne = before_holder order past sorted apart c d x h l ne
@@ -110,21 +110,21 @@ left_in-lock e y found past c x s = elim (cases_Bool (e == c)) [ inl h ↦ rw h 
 left_in-done : (e : ℕ) (past : List Event) (c x : ℕ) (s : Record) → left_in (part_of c (Done e ∷ past)) x s ≡ left_in (part_of c past) x s
 left_in-done e past c x s = elim (cases_Bool (e == c)) [ inl h ↦ rw h refl | inr h ↦ rw h refl ]
 
--- a free of another node, or by another call
+-- a free of another node doesn't change what a call left at x
 left_in-free_node : (e y : ℕ) (left : Record) (past : List Event) (c x : ℕ) (s : Record) → (y == x) ≡ false → left_in (part_of c (Free y e left ∷ past)) x s ≡ left_in (part_of c past) x s
 left_in-free_node e y left past c x s ne = elim (cases_Bool (e == c)) [ inl h ↦ rw h (rw ne refl) | inr h ↦ rw h refl ]
 
 left_in-free_call : (e y : ℕ) (left : Record) (past : List Event) (c x : ℕ) (s : Record) → e ≢ c → left_in (part_of c (Free y e left ∷ past)) x s ≡ left_in (part_of c past) x s
 left_in-free_call e y left past c x s ne = let q = ne_eqb e c ne in rw q refl
 
--- what a free needs: the call holds the node
+-- a call frees only a node that it holds
 pub free_held : (parents : List ℕ) (e y : ℕ) (left : Record) (past : List Event) → IsLegalHistory parents (Free y e left ∷ past) → held (part_of e past) y ≡ true
 free_held parents e y left past legal =
     let q = part_of-free e y left past in
     let mine : Permitted parents (part_of e past) (A.Free y left) × (has_ended (part_of e past) ≡ false) × EachPermitted parents (part_of e past) = rw q at (legal.obeys e) in
     mine.0
 
--- a legal history and an order that has its calls in the order of their locks
+-- a legal history, and an order that is in the order of its locks
 pub record Sorted (parents order : List ℕ) (past : List Event) : Type 0 where
   pub legal : IsLegalHistory parents past
   pub sorted : InLockOrder order past
@@ -177,14 +177,14 @@ found_in-free e y left past c x r = elim (cases_Bool (e == c)) [ inl h ↦ rw h 
 found_in-done : (e : ℕ) (past : List Event) (c x : ℕ) (r : Record) → found_in (part_of c (Done e ∷ past)) x r ≡ found_in (part_of c past) x r
 found_in-done e past c x r = elim (cases_Bool (e == c)) [ inl h ↦ rw h refl | inr h ↦ rw h refl ]
 
--- what a lock needs
+-- a call locks only a node that it hasn't locked
 lock_fresh : (parents : List ℕ) (e y : ℕ) (found : Record) (past : List Event) → IsLegalHistory parents (Lock y e found ∷ past) → locked (part_of e past) y ≡ false
 lock_fresh parents e y found past legal =
     let q = part_of-lock e y found past in
     let mine : Permitted parents (part_of e past) (A.Lock y found) × (has_ended (part_of e past) ≡ false) × EachPermitted parents (part_of e past) = rw q at (legal.obeys e) in
     mine.0.0
 
--- what a call found at a node is what the calls before it in the order left there, one after another
+-- what a call found at a node is what the calls before it in the order left there
 pub laid-found : (parents front back : List ℕ) (c : ℕ) → IsDistinct (front ++ c ∷ back) → (opening : Records) (past : List Event) → Sorted parents (front ++ c ∷ back) past → Follows opening past
     → ((d x : ℕ) → locked (part_of d past) x ≡ true → stands d (front ++ c ∷ back) ≡ true) → (x : ℕ) → locked (part_of c past) x ≡ true
     → laid past x (record_at opening x) front ≡ found_in (part_of c past) x (record_at opening x)

@@ -1,4 +1,4 @@
--- Events that keep the rules, one after another, are a legal history.
+-- Events that keep the rules one after another are a legal history.
 use Rattle.std.proofs.Common.{◌≡◌, ℕ, suc, ◌<◌, true, false, List, [], ◌∷◌, Some, sym, ap, ◌∙◌, subst, inl, inr, arith}
 use Rattle.std.specs.Prelude.{All, IsTrue, ◌↔◌, nat_eq}
 use Rattle.std.proofs.lemmas.Bool.{cases_Bool, cases_eq, both_ways, ne_eqb, eq-eqb}
@@ -58,7 +58,7 @@ apart_more parents (Lock x c found) past rules apart h = (
 apart_more parents (Free x c left) past rules apart h = h
 apart_more parents (Done c) past rules apart h = h
 
--- an event that keeps the rules, of a node that no other call holds, goes on with a legal history
+-- an event that keeps the rules, and locks no node that another call holds, extends a legal history
 pub legal_next : (parents : List ℕ) (e : Event) (past : List Event) → KeepsRules parents past e → IsApart past e → IsLegalHistory parents past → IsLegalHistory parents (e ∷ past)
 legal_next parents e past rules apart before = record {
   obeys = λ c. obeys_more parents e past c rules (before.obeys c);
@@ -66,7 +66,7 @@ legal_next parents e past rules apart before = record {
   in_turn = (rules.may_happen, before.in_turn);
 }
 
--- the last event of a legal history keeps the rules, and is of a node that no other call held
+-- the last event of a legal history is permitted
 pub event_permitted : (parents : List ℕ) (e : Event) (past : List Event) → IsLegalHistory parents (e ∷ past) → IsPermitted parents past e
 event_permitted parents (Admit c) past legal = tt
 event_permitted parents (Lock x c found) past legal =
@@ -112,7 +112,7 @@ all_first P e past all = all 0 e (omega arith)
 all_later : (P : Event → Type 0) (e : Event) (past : List Event) → All P (e ∷ past) → All P past
 all_later P e past all k d h = all (suc k) d (omega arith)
 
--- no call locks any but the nodes that there are
+-- calls lock only nodes of the tree
 pub locked_inside : (n : ℕ) (past : List Event) → All (IsOfNodes n) past → (c y : ℕ) → locked (part_of c past) y ≡ true → y < n
 locked_inside n [] all c y l = absurd cc
 locked_inside n (Admit d ∷ past) all c y l = locked_inside n past (all_later (IsOfNodes n) (Admit d) past all) c y l

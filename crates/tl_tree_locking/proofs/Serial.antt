@@ -1,4 +1,4 @@
--- Calls run alone along an order that agrees with the history.
+-- Calls run alone in an order that agrees with the history.
 use Rattle.std.proofs.Common.{zero, suc, ◌≤◌, false, Option, Some, None, slice_get, ℤ, ◌≡◌, ℕ, ◌<◌, true, List, [], ◌∷◌, ◌++◌, map, length, refl, sym, ap, ◌∙◌, subst, inl, inr, arith, append_assoc}
 use Rattle.std.proofs.lemmas.Bool.{both_ways, eq-eqb}
 use Rattle.std.proofs.lemmas.List.{ext_get_or, append-nil}
@@ -17,7 +17,7 @@ use Rattle.tl_tree_locking.proofs.SharedActions.{locked-shared_actions, left_in-
 use Rattle.tl_tree_locking.proofs.RecordsAlongOrder.{laid, laid-append, laid-last_left, laid-found}
 use Rattle.tl_tree_locking.proofs.Alone.{Alike, same_taken, taken_inside}
 
--- what a call alone reads of a tree are the records of the nodes that it locks, and it changes those that it frees
+-- a call's actions alone depend only on the records of the nodes that it locks, and it changes only those that it frees
 pub record IsLocal (nodes : ℕ) (alone : Records → Outcome) : Type 0 where
   pub same_actions : (t u : Records) → length t ≡ nodes → length u ≡ nodes → ((x : ℕ) → x < nodes → locked (all_taken (alone t).actions) x ≡ true → record_at t x ≡ record_at u x)
       → all_taken (alone t).actions ≡ all_taken (alone u).actions
@@ -44,7 +44,7 @@ none_past : (actions : List Action) → slice_get actions (length actions) ≡ N
 none_past [] = refl
 none_past (a ∷ actions) = none_past actions
 
--- a call alone is local
+-- a call with a meaning alone is local
 pub alone_local : (parents : List ℕ) (n : ℕ) → n ≡ length parents → (alone : Records → Outcome) → IsAlone parents alone → IsLocal n alone
 alone_local parents n len alone is = record {
   same_actions = λ t u lt lu agree.
@@ -69,7 +69,7 @@ pub record IsComplete (meanings : ℕ → Records → Outcome) (opening : Record
   pub is_local : (c : ℕ) → stands c order ≡ true → IsLocal (length opening) (meanings c)
   pub genuine : (c : ℕ) → stands c order ≡ true → part_of c past ≡ shared_actions (all_taken (alone_of (meanings c) opening past c).actions)
 
--- a call of the order run alone after those before it: it does what it did, and leaves what it left
+-- a call of the order, run alone after those before it, gives the same reply and leaves the same records as in the history
 record Does (meanings : ℕ → Records → Outcome) (opening : Records) (past : List Event) (c : ℕ) (t : Records) : Type 0 where
   reply : (meanings c t).reply ≡ reply_found meanings opening past c
   size : length (meanings c t).tree ≡ length t
@@ -126,7 +126,7 @@ ends parents meanings opening past front (c ∷ cs) legal agrees complete t len 
       replies = (λ i. d.reply i ∷ rest.replies i);
     }
 
--- calls run alone along an order that agrees with a legal history leave the records of the history, and give its replies
+-- calls run alone in an order that agrees with a legal history leave the history's records and give its replies
 pub serial-along : (parents : List ℕ) (meanings : ℕ → Records → Outcome) (opening : Records) (past : List Event) (order : List ℕ)
     → IsLegalHistory parents past → Agrees order past → IsComplete meanings opening past order
     → ((serial meanings order opening).tree ≡ records_now past opening) × ((serial meanings order opening).replies ≡ map (reply_found meanings opening past) order)

@@ -1,4 +1,4 @@
--- What is said of a call's actions is said of those that are shared.
+-- Properties of a call's actions are properties of those that are shared.
 use Rattle.std.proofs.Common.{◌≡◌, ℕ, ◌==◌, ◌||◌, ◌&&◌, not, List, [], ◌∷◌, refl, sym, ap, ◌∙◌}
 use Rattle.std.specs.Prelude.{if◌then◌else◌}
 use Rattle.tl_tree.specs.Records.{Record}
@@ -57,7 +57,7 @@ has_ended-shared_actions (A.Emit n ∷ done) = has_ended-shared_actions done
 has_ended-shared_actions (A.End ∷ done) = refl
 has_ended-shared_actions (A.Plain ∷ done) = has_ended-shared_actions done
 
--- the locks and the frees alone are among what is shared
+-- the locks and frees of the shared actions are all locks and frees
 pub locks_and_frees-shared_actions : (done : List Action) → locks_and_frees (shared_actions done) ≡ locks_and_frees done
 locks_and_frees-shared_actions [] = refl
 locks_and_frees-shared_actions (A.Lock y found ∷ done) = ap (λ z. A.Lock y found ∷ z) (locks_and_frees-shared_actions done)
@@ -68,7 +68,7 @@ locks_and_frees-shared_actions (A.Emit n ∷ done) = locks_and_frees-shared_acti
 locks_and_frees-shared_actions (A.End ∷ done) = locks_and_frees-shared_actions done
 locks_and_frees-shared_actions (A.Plain ∷ done) = locks_and_frees-shared_actions done
 
--- an action that is permitted after all that was done is permitted after what is shared of it
+-- an action that is permitted after some actions is permitted after the shared ones of them
 pub permitted_shared : (parents : List ℕ) (done : List Action) (a : Action) → Permitted parents done a → Permitted parents (shared_actions done) a
 permitted_shared parents done (A.Lock x found) p = (locked-shared_actions done x ∙ p.0, λ any. held-shared_actions done (parent parents x) ∙ p.1 (sym (locked_any-shared_actions done) ∙ any))
 permitted_shared parents done (A.Read x f n) p = held-shared_actions done x ∙ p
@@ -78,7 +78,7 @@ permitted_shared parents done (A.Emit n) p = tt
 permitted_shared parents done A.End p = λ x. held-shared_actions done x ∙ p x
 permitted_shared parents done A.Plain p = tt
 
--- what is shared of permitted actions is permitted
+-- the shared ones of permitted actions are permitted
 pub obeys_shared : (parents : List ℕ) (done : List Action) → EachPermitted parents done → EachPermitted parents (shared_actions done)
 obeys_shared parents [] h = tt
 obeys_shared parents (A.Lock x found ∷ done) h = ((locked-shared_actions done x ∙ h.0.0, λ any. held-shared_actions done (parent parents x) ∙ h.0.1 (sym (locked_any-shared_actions done) ∙ any)), has_ended-shared_actions done ∙ h.1, obeys_shared parents done h.2)

@@ -17,7 +17,7 @@ use Rattle.tl_tree_locking.proofs.Records.{record_at-put_record, length-with_fou
 use Rattle.tl_tree_locking.proofs.SharedActions.{locked-shared_actions, obeys_shared}
 use Rattle.tl_tree_locking.proofs.Alone.{taken-next, obeys_taken, permitted_at, finds_at, Alike, same_taken, alike_lock, ends_there, ends_later, taken_inside}
 
--- what a call did that wasn't admitted: nothing
+-- a call that wasn't admitted has done nothing
 pub unadmitted : (past : List Event) → InTurn past → (c : ℕ) → admits past ≤ c → part_of c past ≡ []
 unadmitted [] turn c le = refl
 unadmitted (Admit d ∷ past) turn c le = unadmitted past turn.1 c (omega arith)
@@ -25,7 +25,7 @@ unadmitted (Lock x d found ∷ past) turn c le = let lt : d < admits past = turn
 unadmitted (Free x d left ∷ past) turn c le = let lt : d < admits past = turn.0.0 in let ne : d ≢ c = λ w. omega arith in part_of-other (Free x d left) c past ne ∙ unadmitted past turn.1 c le
 unadmitted (Done d ∷ past) turn c le = let lt : d < admits past = turn.0.0 in let ne : d ≢ c = λ w. omega arith in part_of-other (Done d) c past ne ∙ unadmitted past turn.1 c le
 
--- the history of a legal world is legal: what each call does is permitted because it is so alone
+-- the history of a legal world is legal, since each call does what it does alone, where it is permitted
 pub legal_history : (w : World) → Legal w → length w.opening ≡ length w.parents → ((c : ℕ) → c < admits w.past → IsAlone w.parents (w.meanings c)) → IsLegalHistory w.parents w.past
 legal_history w legal len meanings = record {
   obeys = λ c. elim (cases_lt c (admits w.past)) [
@@ -40,7 +40,7 @@ legal_history w legal len meanings = record {
   in_turn = legal.in_turn;
 }
 
--- a call whose part_of of the history is as before
+-- a call whose part of the history doesn't change stays genuine
 pub done_other : (alone : Records → Outcome) (opening : Records) (past more : List Event) (c k : ℕ) → Genuine alone opening past c k → part_of c more ≡ part_of c past → is_done c more ≡ is_done c past
     → Genuine alone opening more c k
 done_other alone opening past more c k h same over =
@@ -51,7 +51,7 @@ done_other alone opening past more c k h same over =
       ended = over ∙ h.ended ∙ ap (λ actions. k == length actions) (sym r);
     }
 
--- after an action that finds nothing the call alone does the same
+-- after an action that isn't a lock, the call has done one more of the same actions alone
 done_next : (alone : Records → Outcome) (opening : Records) (past more : List Event) (c k : ℕ) (a : Action) → Genuine alone opening past c k
     → (alone_of alone opening more c).actions ≡ (alone_of alone opening past c).actions → slice_get ((alone_of alone opening past c).actions) k ≡ Some a
     → part_of c more ≡ shared_actions (a ∷ taken k ((alone_of alone opening past c).actions) []) → is_done c more ≡ (suc k == length ((alone_of alone opening past c).actions)) → Genuine alone opening more c (suc k)
@@ -62,7 +62,7 @@ done_next alone opening past more c k a h r next same over =
       ended = over ∙ ap (λ actions. suc k == length actions) (sym r);
     }
 
--- after a lock it does what it does on the tree that has the record found, and goes on from the same actions
+-- After a lock, the actions of the call alone are those on the tree with the record found; the first k don't change.
 module _ (parents : List ℕ) (alone : Records → Outcome) (is_alone : IsAlone parents alone) (opening : Records) (len : length opening ≡ length parents) (past : List Event) (c k x : ℕ) (r found : Record)
     (next : slice_get ((alone_of alone opening past c).actions) k ≡ Some (A.Lock x r)) where
   abbrev tree_before : Records
@@ -93,7 +93,7 @@ module _ (parents : List ℕ) (alone : Records → Outcome) (is_alone : IsAlone 
       λ y l. let ne : y ≢ x = λ (w : y ≡ x). both_ways (locked (taken k actions_before []) x) p.0 (subst (λ z. locked (taken k actions_before []) z ≡ true) w l) in sym (get_or-set_other tree_before x y found [] ne) in
       same_taken k actions_before actions_then [] tree_before tree_then (is_alone.same tree_before tree_then size_before (size_then ∙ size_before)) (is_alone.finds tree_before size_before) (is_alone.finds tree_then (size_then ∙ size_before)) agree
 
-  -- what it does next there is the lock that finds this record
+  -- the next of these actions is the lock that finds this record
   next_then : (other : Record) × (slice_get actions_then k ≡ Some (A.Lock x other)) × (other ≡ found)
   next_then =
       let like : Alike (Some (A.Lock x r)) (slice_get actions_then k) = subst (λ o. Alike o (slice_get actions_then k)) next same_so_far.1 in
@@ -118,14 +118,14 @@ module _ (parents : List ℕ) (alone : Records → Outcome) (is_alone : IsAlone 
         ended = goes_on ∙ sym (ne_eqb (suc k) (length actions_then) (λ w. omega arith)) ∙ ap (λ z. suc k == length z) (sym run_then);
       }
 
--- what isn't the end isn't the last action
+-- an action that isn't the end isn't the last one
 own_later : (w : World) (c : ℕ) (next : Action) → IsAlone w.parents (w.meanings c) → length w.opening ≡ length w.parents → MayTake w c next → is_end next ≡ false
     → is_done c w.past ≡ (suc (w.counts c) == length ((alone_of (w.meanings c) w.opening w.past c).actions))
 own_later w c next is_alone len may n =
     let later = ends_later (w.counts c) ((alone_of (w.meanings c) w.opening w.past c).actions) next (is_alone.ends (with_found (part_of c w.past) w.opening) (length-with_found (part_of c w.past) w.opening ∙ len)) may.is_next n in
     may.is_open.1 ∙ sym (ne_eqb (suc (w.counts c)) (length ((alone_of (w.meanings c) w.opening w.past c).actions)) (λ e. omega arith))
 
--- the call itself after its next action
+-- a call stays genuine after its next action
 own : (w : World) (c : ℕ) (next : Action) → IsAlone w.parents (w.meanings c) → length w.opening ≡ length w.parents → Genuine (w.meanings c) w.opening w.past c (w.counts c) → MayTake w c next
     → Genuine (w.meanings c) w.opening (past_after c (as_found w next) w.past) c (suc (w.counts c))
 own w c (A.Lock x r) is_alone len h may = done_lock w.parents (w.meanings c) is_alone w.opening len w.past c (w.counts c) x r (last_left w.past x (record_at w.opening x)) may.is_next h may.is_open.1
@@ -143,7 +143,7 @@ own w c A.End is_alone len h may =
     (rw self (sym (eq-eqb (suc (w.counts c)) (length ((alone_of (w.meanings c) w.opening w.past c).actions)) (sym all))))
 own w c A.Plain is_alone len h may = done_next (w.meanings c) w.opening w.past w.past c (w.counts c) A.Plain h refl may.is_next h.is_part (own_later w c A.Plain is_alone len may refl)
 
--- other calls
+-- an action doesn't change whether other calls are done
 is_done-past_after : (c d : ℕ) (a : Action) (past : List Event) → c ≢ d → is_done d (past_after c a past) ≡ is_done d past
 is_done-past_after c d (A.Lock x r) past ne = refl
 is_done-past_after c d (A.Read x f n) past ne = refl
@@ -208,7 +208,7 @@ legal_after_step w c next legal len meanings may =
 
 -- ---- what each call has done
 
--- the latest first: a step puts its action before what its call has done
+-- a step puts its action in front of what its call has done, the latest first
 pub taken_on : (w : World) (c : ℕ) (next : Action) → IsAlone w.parents (w.meanings c) → length w.opening ≡ length w.parents → MayTake w c next
     → taken (suc (w.counts c)) (alone_of (w.meanings c) w.opening (past_after c (as_found w next) w.past) c).actions [] ≡ as_found w next ∷ taken (w.counts c) (alone_of (w.meanings c) w.opening w.past c).actions []
 taken_on w c (A.Lock x r) is_alone len may =

@@ -52,31 +52,31 @@ abbrev pub has_ended : List Action → Bool
 has_ended [] = false
 has_ended (a ∷ done) = is_end a || has_ended done
 
--- what the call found at x, and r where it didn't lock x
+-- the record that the call found at its latest lock of x; r if it hasn't locked x
 abbrev pub found_in : List Action → ℕ → Record → Record
 found_in [] x r = r
 found_in (Lock y found ∷ done) x r = if y == x then found else found_in done x r
 found_in (_ ∷ done) x r = found_in done x r
 
--- what the call left at x, and r where it didn't free x
+-- the record that the call left at its latest free of x; r if it hasn't freed x
 abbrev pub left_in : List Action → ℕ → Record → Record
 left_in [] x r = r
 left_in (Free y left ∷ done) x r = if y == x then left else left_in done x r
 left_in (_ ∷ done) x r = left_in done x r
 
--- the records with each that the call found put in its place
+-- the records t, with the record of each locked node replaced by the one that the call found there
 abbrev pub with_found : List Action → Records → Records
 with_found [] t = t
 with_found (Lock x found ∷ done) t = put_record (with_found done t) x found
 with_found (_ ∷ done) t = with_found done t
 
--- what the call emitted, in order
+-- the values that the call emitted, the earliest first
 abbrev pub emitted : List Action → List ℤ
 emitted [] = []
 emitted (Emit value ∷ done) = emitted done ++ value ∷ []
 emitted (_ ∷ done) = emitted done
 
--- the actions that a history stores: the locks and the frees, and the end, whose event is Done
+-- the actions that a history stores: locks, frees, and the end, which is stored as the event Done
 abbrev pub shared_actions : List Action → List Action
 shared_actions [] = []
 shared_actions (Lock x found ∷ done) = Lock x found ∷ shared_actions done
@@ -84,14 +84,14 @@ shared_actions (Free x left ∷ done) = Free x left ∷ shared_actions done
 shared_actions (End ∷ done) = End ∷ shared_actions done
 shared_actions (_ ∷ done) = shared_actions done
 
--- the locks and the frees alone
+-- only the locks and the frees
 abbrev pub locks_and_frees : List Action → List Action
 locks_and_frees [] = []
 locks_and_frees (Lock x found ∷ done) = Lock x found ∷ locks_and_frees done
 locks_and_frees (Free x left ∷ done) = Free x left ∷ locks_and_frees done
 locks_and_frees (_ ∷ done) = locks_and_frees done
 
--- how many locks and how many frees there were
+-- the number of locks, and below the number of frees
 abbrev pub lock_count : List Action → ℕ
 lock_count [] = 0
 lock_count (Lock x found ∷ done) = lock_count done + 1
@@ -104,7 +104,7 @@ free_count (_ ∷ done) = free_count done
 
 -- ---- from a list with the earliest first
 
--- the first k of these actions, the latest first, and then what was done before
+-- the list `done` after the first k of `actions`, the latest first
 abbrev pub taken : ℕ → List Action → List Action → List Action
 taken zero actions done = done
 taken (suc k) [] done = done
@@ -112,8 +112,8 @@ taken (suc k) (a ∷ actions) done = taken k actions (a ∷ done)
 
 -- ---- the tree protocol
 
--- what the protocol asks of the next action: a lock is the first of all or comes under a held parent, and is of a node
--- that wasn't locked; what is read, written or freed is held; at the end nothing is held
+-- what the protocol requires of the next action: a lock is the call's first or its node's parent is held, and the node
+-- hasn't been locked before; a node that is read, written or freed is held; at the end no node is held
 abbrev pub Permitted : List ℕ → List Action → Action → Type 0
 Permitted parents done (Lock x found) =
     (locked done x ≡ false) × (locked_any done ≡ true → held done (parent parents x) ≡ true)
@@ -124,12 +124,12 @@ Permitted parents done (Emit value) = Unit {0}
 Permitted parents done End = (x : ℕ) → held done x ≡ false
 Permitted parents done Plain = Unit {0}
 
--- each action is permitted after those before it, and none comes after the end
+-- each action is permitted after the actions before it, and no action follows the end
 abbrev pub EachPermitted : List ℕ → List Action → Type 0
 EachPermitted parents [] = Unit {0}
 EachPermitted parents (a ∷ done) = Permitted parents done a × (has_ended done ≡ false) × EachPermitted parents done
 
--- the same of further actions, the earliest first, after what was done
+-- the same for further actions, the earliest first, that follow `done`
 abbrev pub PermittedAfter : List ℕ → List Action → List Action → Type 0
 PermittedAfter parents done [] = Unit {0}
 PermittedAfter parents done (a ∷ actions) =
@@ -137,17 +137,16 @@ PermittedAfter parents done (a ∷ actions) =
 
 -- ---- where the call may still come
 
--- whether the first of these nodes that was locked is still held
+-- whether the call still holds the first of these nodes that it has locked; false if it has locked none
 abbrev pub holds_first : List Action → List ℕ → Bool
 holds_first done [] = false
 holds_first done (y ∷ ys) = if locked done y then held done y else holds_first done ys
 
--- whether one of these nodes is held
+-- whether the call holds one of these nodes
 abbrev pub holds_some : List Action → List ℕ → Bool
 holds_some done [] = false
 holds_some done (y ∷ ys) = held done y || holds_some done ys
 
--- a call that has done this may still come to x: it hasn't locked x, and still holds, of the nodes strictly above x
--- that it locked, the one nearest to x
+-- whether the call may still lock x: it hasn't locked x, and it still holds the nearest node strictly above x that it has locked
 abbrev pub may_come : List ℕ → List Action → ℕ → Bool
 may_come parents done x = not (locked done x) && holds_first done (nodes_above parents x)

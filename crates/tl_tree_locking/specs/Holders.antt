@@ -1,9 +1,9 @@
--- Who holds a node.
+-- The call that holds a node.
 use Rattle.std.specs.Prelude.{ℕ, List, [], ◌∷◌, ◌==◌, if◌then◌else◌, Option, Some, None}
 use Rattle.tl_tree_locking.specs.declared.event.Event.{Event}
 use Rattle.tl_tree_locking.specs.declared.event.Event.TheVariants.{Lock, Free}
 
--- the call that locked x last, if nobody has freed x since
+-- the call that last locked x, unless x was freed since
 abbrev pub holder_of : List Event → ℕ → Option ℕ
 holder_of [] x = None
 holder_of (Lock y c found ∷ past) x = if y == x then Some c else holder_of past x

@@ -1,4 +1,4 @@
--- What is remembered of a set of states.
+-- The summary of a set of states.
 use Rattle.std.proofs.Common.{◌≡◌, ℕ, ◌<◌, List, length, Option, Some, None, Bool, true, false, refl, sym, ◌∙◌, ◌⊎◌, inl, inr, ⊎_elim, subst}
 use Rattle.std.specs.Prelude.{get_or, slice_set, ◌≢◌, ◌&&◌, nat_eq}
 use Rattle.std.proofs.lemmas.List.{get_or-set_same, get_or-set_other}
@@ -8,7 +8,7 @@ use Rattle.tl_verify.specs.declared.arrivals.Arrivals.{Arrivals}
 use Rattle.tl_verify.specs.Pass.{Merges, MergesWith}
 use Rattle.tl_verify.specs.Known.{Gathers, Collects}
 
--- states that all hold the same, of which first is spent in some where it is in m
+-- states that all hold the same registers as m; if `first` is spent in m, it is spent in one of them, otherwise in none
 pub record IsClass (T : Marks → Type 0) (m : Marks) : Type 0 where
   pub some : (k : Marks) × T k × (k.held ≡ m.held)
   pub is_open : m.is_open ≡ true → (k : Marks) → T k → k.is_open ≡ true
@@ -67,12 +67,12 @@ module _ (S T : Marks → Type 0) (m : Marks) (new : Arrivals) (class : IsClass 
         (merges.differs d);
   }
 
-  -- one more class of states
+  -- adding one more class of states
   pub merge : (o : Option Arrivals) → Collects S o → Merges o m new → Gathers (λ k. S k ⊎ T k) new
   merge None h merges = with_none h merges
   merge (Some old) h merges = with_some old h merges
 
--- at every position, where one more class comes to one of them
+-- adding a class of states at one position
 pub joins : (n : ℕ) (S T : ℕ → Marks → Type 0) (to : ℕ) (m : Marks) (states : List (Option Arrivals)) (a : Arrivals)
     → to < length states → ((q : ℕ) (k : Marks) → T q k → q ≡ to) → IsClass (T to) m → Merges (get_or states to None) m a
     → ((q : ℕ) → q < n → Collects (S q) (get_or states q None))
@@ -90,7 +90,7 @@ joins n S T to m states a inside only class merges h q lt = cases (nat_eq q to) 
         rw (get_or-set_other states to q (Some a) None ne)
         (collects_same (S q) (λ k. S q k ⊎ T q k) (get_or states q None) (λ k s. inl s) (λ k x. ⊎_elim (λ s. s) (λ t. absurd (ne (only q k t))) x) (h q lt))
 
--- at every position, where none comes
+-- adding no states
 pub joins_none : (n : ℕ) (S T : ℕ → Marks → Type 0) (states : List (Option Arrivals)) → ((q : ℕ) (k : Marks) → T q k → ⊥)
     → ((q : ℕ) → q < n → Collects (S q) (get_or states q None))
     → (q : ℕ) → q < n → Collects (λ k. S q k ⊎ T q k) (get_or states q None)

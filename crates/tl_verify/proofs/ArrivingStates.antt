@@ -1,4 +1,4 @@
--- The states that come to a position from the positions below a bound.
+-- The states that reach a position from the positions below a bound.
 use Rattle.std.proofs.Common.{ℕ, ◌≤◌, List, refl, arith}
 use Rattle.tl_instr.specs.declared.instr.Instr.{Instr}
 use Rattle.tl_verify.specs.declared.marks.Marks.{Marks}

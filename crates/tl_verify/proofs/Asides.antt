@@ -1,4 +1,4 @@
--- Where control may go with the marks from before an instruction.
+-- The positions to which control may go with the marks from before an instruction.
 use Rattle.std.proofs.Common.{◌≡◌, ℕ, ◌+◌, ◌<◌, ◌≤◌, List, Option, Some, None, true, refl, sym, ap, ◌∙◌, arith, ◌⊎◌, inl, inr}
 use Rattle.std.specs.Prelude.{slice_get, option_map}
 use Rattle.std.proofs.lemmas.Bool.{cases_lt, cases_eq}
@@ -11,18 +11,18 @@ use Rattle.tl_budget.specs.declared.nested.Place.{Place}
 use Rattle.tl_budget.proofs.LoopLemmas.{nested, closes_after}
 use Rattle.tl_verify.specs.Marks.{goes_on, close_of, end_of, aside_by, aside, furthest_by, furthest}
 
--- a target is aside
+-- a target is such a position
 pub target_aside : (code : List Instr) (p q : ℕ) (i : Instr) → target i ≡ Some q → aside code p i ≡ Some q
 target_aside code p q (RepeatBy turns count) e = cc
 target_aside code p q i e = e
 
--- what is aside is a target, or the position behind the loop that opens here
+-- such a position is a target, or the position after the end of the loop that opens here
 pub target_or_behind : (code : List Instr) (p q : ℕ) (i : Instr) → aside code p i ≡ Some q
     → (target i ≡ Some q) ⊎ ((q ≡ end_of code p + 1) × (furthest code p i ≡ end_of code p) × (goes_on i ≡ true))
 target_or_behind code p q (RepeatBy turns count) e = inr (let h : end_of code p + 1 ≡ q = cc in sym h, refl, refl)
 target_or_behind code p q i e = inl e
 
--- the furthest position is the next one, or the one aside
+-- the furthest position is the next one, or the one to which control may go aside
 pub furthest_goes : (code : List Instr) (p : ℕ) (i : Instr) → (furthest code p i ≡ p) ⊎ (aside code p i ≡ Some (furthest code p i + 1))
 furthest_goes code p (RepeatBy turns count) = inr refl
 furthest_goes code p i = inl refl
@@ -39,7 +39,7 @@ pub furthest_after : (code : List Instr) (p : ℕ) (i : Instr) → p ≤ furthes
 furthest_after code p (RepeatBy turns count) = end_after code p
 furthest_after code p i = omega arith
 
--- a loop whose body has the position behind the loop that opens at p, but not as its first, has p in its body
+-- a loop that contains the position after the loop that opens at p, but not as the first position of its body, contains p
 pub behind_leaves : (code : List Instr) (p o : ℕ) (k : Loop) → o < end_of code p → IsAround code o k (end_of code p + 1) → o < p
 behind_leaves code p o k behind x = by (loop_at code p) refl behind x
   where
@@ -63,7 +63,7 @@ behind_leaves code p o k behind x = by (loop_at code p) refl behind x
               ]
         ]
 
--- what is kept of a position says where control may go aside, and how far on
+-- the stored place of a loop's opening has the loop's end
 end_at : (code : List Instr) (places : List Place) → IsNest code places → (p w : ℕ) → kind_at code p ≡ Some (Opens w) → (place_at places p).close ≡ end_of code p
 end_at code places nest p w at = let m = nest.nested.matched.opens p w at in nest.close p m.0 m.1 ∙ sym (ap (close_of p) m.1)
 

@@ -1,4 +1,4 @@
--- A list that fits agrees with all ways.
+-- Marks that fit a code agree with all ways.
 use Rattle.std.proofs.Common.{◌≡◌, ℕ, List, Option, Some, None, true, false, refl, ap, ◌∙◌}
 use Rattle.std.specs.Prelude.{slice_get, get_or, slice_set}
 use Rattle.tl_instr.specs.declared.instr.Instr.{Instr}
@@ -8,7 +8,7 @@ use Rattle.tl_verify.specs.Marks.{entry, is_held, after, Leads, to_next, to_asid
 use Rattle.tl_verify.specs.Ways.{Way, start, onward}
 use Rattle.tl_verify.specs.Acceptable.{Fits}
 
--- what the registers are behind an instruction depends on what they were alone
+-- the registers held after an instruction depend only on those held before it
 pub held-after : (i : Instr) (k m : Marks) → k.held ≡ m.held → (after i k).held ≡ (after i m).held
 held-after (First n v l) k m e = ap (λ hs. slice_set hs n true) e
 held-after (Child n parent v l) k m e = ap (λ hs. slice_set hs n true) e
@@ -23,7 +23,7 @@ open-after (Move n from) k m f e = f e
 open-after (Release n) k m f e = f e
 open-after i k m f e = f e
 
--- the list has marks where a way leads, with the same registers held, and open only if the way is
+-- the list has marks where the way leads, with the same registers held; if `first` is open in them, it is open on the way
 pub record Agrees (list : List (Option Marks)) (p : ℕ) (m : Marks) : Type 0 where
   pub marks : Marks
   pub there : get_or list p None ≡ Some marks

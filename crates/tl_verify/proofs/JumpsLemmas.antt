@@ -1,4 +1,4 @@
--- Targets, one position after another.
+-- Checking targets, one position after another.
 use Rattle.std.proofs.Common.{◌≡◌, ℕ, ◌+◌, ◌<◌, ◌≤◌, List, [], ◌∷◌, length, Some, None, refl, sym, ap, ◌∙◌, arith, ◌⊎◌, inl, inr, ⊎_elim}
 use Rattle.std.specs.Prelude.{slice_get, Bool, true, false, nat_le}
 use Rattle.std.proofs.lemmas.Bool.{leb-true, leb-false}
@@ -16,7 +16,7 @@ use Rattle.tl_verify.proofs.LoopBodies.{EntersNone, innermost_around, others_bef
 use Rattle.tl_budget.proofs.AroundLemmas.{nothing_found as loops_nothing_found}
 use Rattle.tl_verify.proofs.LoopFindings.{loops_first}
 
--- before the targets come the loops
+-- a nested code has no faults of loops
 pub loops_clear : (code : List Instr) → IsNested code → (f : Finding) → pass f < 2 → Arises code f → ⊥
 loops_clear code nested (OfLoops f) lt x = loops_nothing_found code nested f x
 loops_clear code nested f lt x = absurd (omega arith)
@@ -31,7 +31,7 @@ module _ (code : List Instr) (b : ℕ) (i : Instr) (at : slice_get code b ≡ So
   low_or_here : (n : ℕ) → n < b + 1 → (n < b) ⊎ (n ≡ b)
   low_or_here n lt = grind arith
 
-  -- one position further, where nothing is found of the target here
+  -- if the target at b has no fault, the targets up to b + 1 have none
   more : ((f : Finding) → pass f ≡ 2 → position f ≡ b → Arises code f → ⊥) → AheadTo code (b + 1)
   more here = record { none = λ f is lt x. ⊎_elim (λ low. ahead.none f is low x) (λ same. here f is same x) (low_or_here (position f) lt) }
 
@@ -49,7 +49,7 @@ module _ (code : List Instr) (b : ℕ) (i : Instr) (at : slice_get code b ≡ So
     same : (p k : ℕ) (j : Instr) → p ≡ b → slice_get code p ≡ Some j → target j ≡ Some k → k ≡ l
     same p k j e there is' = let h : Some k ≡ Some l = sym (same_target p k j e there is') ∙ is in cc
 
-    -- a finding of a lower pass or position would be known
+    -- the first fault of the target at b is the first fault of the code
     first : IsNested code → (f : Finding) → pass f ≡ 2 → position f ≡ b → Arises code f → ((g : Finding) → pass g ≡ 2 → position g ≡ b → rank g < rank f → Arises code g → ⊥) → IsFirstFault code (fault_of f)
     first nested f pass_is position_is x here = record { finding = f; arises = x; first = λ g y before. by g y before; fault = refl }
       where
@@ -69,7 +69,7 @@ module _ (code : List Instr) (b : ℕ) (i : Instr) (at : slice_get code b ≡ So
         here (TargetBack p) e there lt (j, k, at', is', h) = let g = same p k j there at' is' in absurd (omega arith)
         here f e there lt x = absurd (omega arith)
 
-    -- nothing is found of a target ahead that is in the code, but perhaps that it is in a loop
+    -- a target ahead and within the code has no fault, unless it is inside a loop
     ahead_here : b < l → l < length code → (g : Finding) → pass g ≡ 2 → position g ≡ b → rank g < 2 → Arises code g → ⊥
     ahead_here less inside (OfLoops f) e there lt x = let h = loops_first f in absurd (omega arith)
     ahead_here less inside (TargetBack p) e there lt (j, k, at', is', h) = let g = same p k j there at' is' in absurd (omega arith)
@@ -88,7 +88,7 @@ module _ (code : List Instr) (b : ℕ) (i : Instr) (at : slice_get code b ≡ So
               first nest.nested (TargetInLoop b) refl refl (i, l, k.opening, k, at, is, record { there = x.0; after = x.1; before = x.2 }, λ here. let h = here.after in omega arith)
               (ahead_here less inside)
 
-      -- what is around the target is around the jump
+      -- each loop around the target is around the jump
       around_both : ((place_at places l).depth ≡ 0) ⊎ ((place_at places l).opening < b) → (o : ℕ) (k : Loop) → IsAround code o k l → IsAround code o k b
       around_both d o k x = by (around code l) refl d
         where
@@ -144,7 +144,7 @@ module _ (code : List Instr) (ahead : Ahead code) where
         by true e = absurd (ahead.none (TargetPastEnd p) (omega arith) (i, l, at, is, leb-true (length code) l e))
         by false e = leb-false (length code) l e
 
-  -- what is aside is ahead
+  -- the position to which control may go aside is ahead
   pub aside_ahead : (p l : ℕ) (i : Instr) → slice_get code p ≡ Some i → aside code p i ≡ Some l → p < l
   aside_ahead p l i at is =
       ⊎_elim (λ jumps. target_ahead p l i at jumps) (λ leaves. let e = leaves.0 in let h = end_after code p in omega arith) (target_or_behind code p l i is)

@@ -15,7 +15,7 @@ use Rattle.tl_verify.proofs.FitLemmas.{held-after}
 use Rattle.tl_verify.proofs.ArrivalsLemmas.{IsClass, collects_same, joins, joins_none}
 use Rattle.tl_verify.proofs.JumpsLemmas.{aside_ahead}
 
--- behind an instruction first is spent for all, or as it was
+-- an instruction spends `first` in every state or in none
 pub is_open-after : (i : Instr) → ((m : Marks) → (after i m).is_open ≡ false) ⊎ ((m : Marks) → (after i m).is_open ≡ m.is_open)
 is_open-after (First n v l) = inl (λ m. refl)
 is_open-after (Child n parent v l) = inr (λ m. refl)
@@ -91,7 +91,7 @@ module _ (code : List Instr) (b : ℕ) (i : Instr) (at : slice_get code b ≡ So
       alike = λ k t. ap (λ (x : Marks). x.held) t.3 ∙ gathers.alike alike t.0 t.1;
     }
 
--- what is remembered at the position itself, or at one before it, is true of all ways to it
+-- what is recorded at a position up to b summarizes all ways to it
 pub up_to_here : (code : List Instr) (b q : ℕ) (states : List (Option Arrivals)) → Known code b states → q ≤ b → q < length code → (o : Option Arrivals) → get_or states q None ≡ o → Collects (Way code q) o
 up_to_here code b q states known le lt o is =
     collects_same (Comes code b q) (Way code q) o (comes_way code b q) (λ k way. way_comes code q k way b le)
@@ -100,7 +100,7 @@ up_to_here code b q states known le lt o is =
 pub here : (code : List Instr) (b : ℕ) (states : List (Option Arrivals)) → Known code b states → b < length code → (o : Option Arrivals) → get_or states b None ≡ o → Collects (Way code b) o
 here code b states known lt o is = up_to_here code b b states known (omega arith) lt o is
 
--- one position further, where a state was remembered
+-- one position further, if a state is recorded at b
 pub known_next : (code : List Instr) (b : ℕ) (i : Instr) (a : Arrivals) (old new : List (Option Arrivals)) → slice_get code b ≡ Some i → b < length code → Ahead code → Known code b old → get_or old b None ≡ Some a → a.differ ≡ false → PassesOn i (aside code b i) b a.marks old new → Known code (b + 1) new
 unfolding Next Aside
 known_next code b i a old new at lt ahead known is alike passes = record {
@@ -133,7 +133,7 @@ known_next code b i a old new at lt ahead known is alike passes = record {
         (λ q k t. let h : Some l ≡ Some q = sym g ∙ t.2 in cc)
         (aside_class code b i at a gathers alike l g (aside_ahead code ahead b l i at g)) e.3 (first (goes_on i) refl passes.next))
 
--- one position further, where none was
+-- one position further, if no state is recorded at b
 pub known_skip : (code : List Instr) (b : ℕ) (i : Instr) (states : List (Option Arrivals)) → slice_get code b ≡ Some i → b < length code → Known code b states → get_or states b None ≡ None → Known code (b + 1) states
 unfolding Next Aside
 known_skip code b i states at lt known is = record {

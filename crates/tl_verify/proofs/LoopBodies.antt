@@ -1,4 +1,4 @@
--- The bodies of loops: where they begin, and that all ways into them go through their first position.
+-- The bodies of loops: all ways into a body go through its first position.
 use Rattle.std.proofs.Common.{◌≡◌, ℕ, zero, suc, ◌+◌, ◌<◌, ◌≤◌, List, [], ◌∷◌, Option, Some, None, Bool, true, false, refl, sym, ap, ◌∙◌, arith, ◌⊎◌, ⊎_elim, subst}
 use Rattle.std.specs.Prelude.{slice_get, option_map, nat_le, drop, cond}
 use Rattle.std.proofs.lemmas.Bool.{leb-true, leb-false}
@@ -10,7 +10,7 @@ use Rattle.tl_verify.specs.Marks.{Leads, to_next, to_aside, to_body}
 use Rattle.tl_verify.specs.Ways.{Way, start, onward}
 use Rattle.tl_verify.proofs.Asides.{target_or_behind, behind_leaves}
 
--- a loop opens at its position, before its end
+-- the loop that opens at o has o as its opening, and its end is after o
 pub reach : (code : List Instr) (o : ℕ) (l : Loop) → loop_at code o ≡ Some l → (l.opening ≡ o) × (o < l.close)
 unfolding loop_at
 reach code o l e = by (kind_at code o) e
@@ -30,12 +30,12 @@ reach code o l e = by (kind_at code o) e
     by (Some Acts) e = cc
     by (Some (Opens w)) e = made w (closing (drop (o + 1) code) 0) e
 
--- no jump leads into a loop that it isn't in
+-- no jump enters a loop that it isn't in
 abbrev pub EntersNone : List Instr → Type 0
 EntersNone code = (p l : ℕ) (i : Instr) → slice_get code p ≡ Some i → target i ≡ Some l → (o : ℕ) (k : Loop) → IsAround code o k l → IsAround code o k p
 
 module _ (code : List Instr) (enters_none : EntersNone code) (o : ℕ) (l : Loop) (there : loop_at code o ≡ Some l) where
-  -- a step to a position of the body behind the first comes from the body
+  -- a step to a position of the body other than the first comes from inside the body
   pub from_body : (p q : ℕ) (m k : Marks) (i : Instr) → slice_get code p ≡ Some i → Leads code i p m q k → p < q → o + 1 < q → q ≤ l.close → o < p
   from_body p q m k i at (to_next goes is got) less behind le = omega arith
   from_body p q m k i at (to_aside is got) less behind le =
@@ -48,7 +48,7 @@ module _ (code : List Instr) (enters_none : EntersNone code) (o : ℕ) (l : Loop
   pub first_or_behind : (q : ℕ) → o < q → (q ≡ o + 1) ⊎ (o + 1 < q)
   first_or_behind q lt = grind arith
 
-  -- where a way leads into the body, one leads to its first position
+  -- if a way leads into the body, there is a way to its first position
   pub entered : (q : ℕ) (m : Marks) → Way code q m → o < q → q ≤ l.close → (k : Marks) × Way code (o + 1) k
   entered q m start lt le = absurd (omega arith)
   entered q m (onward {p = p} {m = before} way i at leads less) lt le =
@@ -58,7 +58,7 @@ module _ (code : List Instr) (enters_none : EntersNone code) (o : ℕ) (l : Loop
 
 -- ---- the innermost loop
 
--- it is around the position
+-- the innermost loop is around the position
 pub innermost_around : (code : List Instr) (n q : ℕ) (l : Loop) (ls : List Loop) → around_from code n q ≡ l ∷ ls → (loop_at code l.opening ≡ Some l) × (l.opening < n) × (q ≤ l.close)
 innermost_around code zero q l ls e = cc
 innermost_around code (suc n) q l ls e = by (loop_at code n) refl e (λ e. innermost_around code n q l ls e)
@@ -76,7 +76,7 @@ innermost_around code (suc n) q l ls e = by (loop_at code n) refl e (λ e. inner
             (ap (loop_at code) opens ∙ at ∙ ap Some same, omega arith, omega arith)
         test false g f = let x = rest f in (x.0, let h = x.1 in omega arith, x.2)
 
--- and no other opens behind it
+-- no other loop around the position opens after it
 pub others_before : (code : List Instr) (n q o : ℕ) (k l : Loop) (ls : List Loop) → around_from code n q ≡ l ∷ ls → IsAround code o k q → o < n → o ≤ l.opening
 others_before code zero q o k l ls e inside lt = absurd (omega arith)
 others_before code (suc n) q o k l ls e inside lt = by (loop_at code n) refl e (λ e lt. others_before code n q o k l ls e inside lt)
@@ -104,7 +104,7 @@ others_before code (suc n) q o k l ls e inside lt = by (loop_at code n) refl e (
                 let gt = leb-false q j.close g in
                 absurd (omega arith)
 
--- where none is around a position, none is
+-- if the list of loops around a position is empty, no loop is around it
 pub none_around : (code : List Instr) (n q o : ℕ) (k : Loop) → around_from code n q ≡ [] → IsAround code o k q → o < n → ⊥
 none_around code zero q o k e inside lt = absurd (omega arith)
 none_around code (suc n) q o k e inside lt = by (loop_at code n) refl e (λ e lt. none_around code n q o k e inside lt)

@@ -1,4 +1,4 @@
--- At the end of a loop's body: what the comparison says of all ways.
+-- What the comparison at the end of a loop says about all ways.
 use Rattle.std.proofs.Common.{◌≡◌, ℕ, ◌+◌, ◌<◌, ◌≤◌, List, length, Option, Some, None, Bool, true, false, refl, sym, ap, ◌∙◌, arith, ◌⊎◌, inl, inr, ⊎_elim}
 use Rattle.std.specs.Prelude.{slice_get, get_or, nat_le, ◌≢◌}
 use Rattle.std.proofs.lemmas.Bool.{leb-true, leb-false}
@@ -30,7 +30,7 @@ closes_ends (RepeatBy turns w) e = cc
 closes_ends Return e = cc
 closes_ends i e = cc
 
--- one end closes one loop
+-- an end closes only one loop
 pub same_end : (code : List Instr) (o p : ℕ) (l k : Loop) → loop_at code o ≡ Some l → loop_at code p ≡ Some k → l.close ≡ k.close → o ≡ p
 same_end code o p l k e f same = by (nat_le o p) (nat_le p o) refl refl
   where
@@ -62,7 +62,7 @@ module _ (code : List Instr) (places : List Place) (nest : IsNest code places) (
       let y = innermost_around code b b x.0 x.1 x.2 in
       record { loop = x.0; there = y.0; close = x.3; before = y.1; opening = nest.opening b x.0 x.1 (slice_get_within code b i at) x.2 }
 
-  -- the body's start lies in the code
+  -- the first position of the body is within the code
   pub start_inside : is_end i ≡ true → (place_at places b).opening + 1 < length code
   start_inside ends =
       let x = ends_loop ends in

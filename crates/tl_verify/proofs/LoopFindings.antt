@@ -1,8 +1,8 @@
--- Loops are looked at before all else.
+-- Faults of loops come before all others.
 use Rattle.std.proofs.Common.{◌<◌, arith}
 use Rattle.tl_budget.specs.Findings.{Finding, Alone, Zero, Deep, Unclosed, pass}
 
--- loops are looked at in two passes
+-- faults of loops are in the first two passes
 pub loops_first : (f : Finding) → pass f < 2
 loops_first (Alone p) = omega arith
 loops_first (Zero p) = omega arith

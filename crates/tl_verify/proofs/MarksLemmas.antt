@@ -1,4 +1,4 @@
--- Registers compared.
+-- Comparing sets of registers.
 use Rattle.std.proofs.Common.{◌≡◌, ℕ, ◌<◌, List, [], ◌∷◌, Option, Some, Bool, true, false, refl, sym, ap, ◌∙◌, ◌⊎◌, inl, inr}
 use Rattle.std.specs.Prelude.{◌≢◌, ◌||◌, nat_eq}
 use Rattle.std.proofs.lemmas.Bool.{eqb-true, eqb-false}
@@ -24,7 +24,7 @@ pointwise_itself [] = refl
 pointwise_itself (true ∷ xs) = pointwise_itself xs
 pointwise_itself (false ∷ xs) = pointwise_itself xs
 
--- bytes are the same where their bits are
+-- two bytes are equal exactly if their bits are
 pub compared : (a b : ℕ) → a < 256 → b < 256 → nat_eq a b ≡ pointwise beq (bits_of 8 a) (bits_of 8 b)
 compared a b small little = by (nat_eq a b) refl (pointwise beq (bits_of 8 a) (bits_of 8 b)) refl
   where
@@ -41,7 +41,7 @@ not_true : (b : Bool) → not b ≡ true → b ≡ false
 not_true false e = refl
 not_true true e = cc
 
--- where the comparison says that they don't differ, they are the same, and else they aren't
+-- the negated comparison is false exactly for equal sets
 pub not_differs : (r : Bool) (xs ys : List Bool) → r ≡ not (pointwise beq xs ys) → r ≡ false → xs ≡ ys
 not_differs r xs ys e f = pointwise_same xs ys (not_false (pointwise beq xs ys) (sym e ∙ f))
 
@@ -61,7 +61,7 @@ or_true true b e = inl refl
 or_true false true e = inr refl
 or_true false false e = cc
 
--- registers are the same or not
+-- two sets of registers are equal or not
 pub same_or_not : (xs ys : List Bool) → (xs ≡ ys) ⊎ (xs ≢ ys)
 same_or_not xs ys = by (pointwise beq xs ys) refl
   where
@@ -77,7 +77,7 @@ module _ (i : Instr) (start : Option Arrivals) (m : Marks) (a : Arrivals) (ends 
   }
 
   module _ (r : Bool) (e : r ≡ not (pointwise beq a.marks.held m.held)) (f : r ≡ false) where
-    -- where the same registers are held first decides
+    -- if the same registers are held, `first` decides
     first_decides : (changed : Bool) → (changed ≡ true → (a.marks.is_open ≡ true) × (m.is_open ≡ false)) → (changed ≡ false → a.marks.is_open ≡ true → m.is_open ≡ true) → Compares i start m changed
     first_decides changed spent kept = record {
       changes = λ g. (a, ends, is, inr (spent g));

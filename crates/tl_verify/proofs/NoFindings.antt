@@ -1,4 +1,4 @@
--- Where the registers fit, nothing is found of them.
+-- If registers fit, they have no faults.
 use Rattle.std.proofs.Common.{◌≡◌, ℕ, ◌+◌, ◌<◌, ◌≤◌, List, Option, Some, None, Bool, true, false, refl, sym, ap, ◌∙◌, arith, ⊎_elim, subst}
 use Rattle.std.specs.Prelude.{slice_get, get_or}
 use Rattle.tl_instr.specs.declared.instr.Instr.{Instr}
@@ -15,7 +15,7 @@ use Rattle.tl_verify.proofs.FitLemmas.{Agrees, agrees, same_held}
 use Rattle.tl_budget.proofs.AroundLemmas.{nothing_found as loops_nothing_found}
 use Rattle.tl_verify.proofs.LoopFindings.{loops_first}
 
--- only first spends
+-- only a `first` instruction spends `first`
 open_unless_first : (i : Instr) (m : Marks) → (is_first i ≡ true → ⊥) → (after i m).is_open ≡ m.is_open
 open_unless_first (First n v l) m h = absurd (h refl)
 open_unless_first (Child n parent v l) m h = refl
@@ -27,8 +27,8 @@ closed : (b : Bool) → (b ≡ true → ⊥) → b ≡ false
 closed true h = absurd (h refl)
 closed false h = refl
 
--- Where the list has spent marks at the first position of a body, it has in all of the body, and so no first stands there:
--- what came to the body open goes on open.
+-- If the list has `first` spent at the first position of a body, it has it spent in the whole body. So no `first`
+-- instruction is there, and a way that enters the body with `first` open keeps it open.
 module _ (code : List Instr) (enters_none : EntersNone code) (list : List (Option Marks)) (fits : Fits code list) (o : ℕ) (l : Loop) (there : loop_at code o ≡ Some l)
     (body : Marks) (has : get_or list (o + 1) None ≡ Some body) (spent : body.is_open ≡ false) (opens : (k : Marks) → Way code (o + 1) k → k.is_open ≡ true) where
   pub record Unspent (q : ℕ) (m : Marks) : Type 0 where
@@ -107,7 +107,7 @@ no_change code enters_none list fits p i m o l at way there ends changes =
         let h = u.is_open in
         cc
 
--- where the registers fit, nothing is found of them
+-- registers that fit have no faults
 pub fit_finds_nothing : (code : List Instr) → EntersNone code → HasFit code → (f : Finding) → pass f ≡ 3 → Arises code f → ⊥
 fit_finds_nothing code enters_none fit (OfLoops f) e a = let h = loops_first f in absurd (omega arith)
 fit_finds_nothing code enters_none fit (TargetBack p) e a = absurd (omega arith)
@@ -154,7 +154,7 @@ fit_finds_nothing code enters_none fit Steps e a = absurd (omega arith)
 fit_finds_nothing code enters_none fit Locks e a = absurd (omega arith)
 fit_finds_nothing code enters_none fit Emits e a = absurd (omega arith)
 
--- nothing is found in an accepted code
+-- an accepted code has no faults
 pub nothing_found : (code : List Instr) → Acceptable code → (f : Finding) → Arises code f → ⊥
 nothing_found code acc (OfLoops f) a = loops_nothing_found code (record { matched = acc.matched; shallow = acc.deep }) f a
 nothing_found code acc (TargetBack p) a = let h = acc.ahead p a.1 a.0 a.2 a.3 in let k = a.4 in absurd (omega arith)

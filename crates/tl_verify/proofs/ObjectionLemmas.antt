@@ -1,4 +1,4 @@
--- What is found at a position is what arises there, and the first of it.
+-- The objection at a position is the first fault there.
 use Rattle.std.proofs.Common.{◌≡◌, ℕ, zero, suc, ◌+◌, ◌<◌, List, [], ◌∷◌, length, Option, Some, None, Bool, true, false, refl, sym, ap, ◌∙◌, arith, subst}
 use Rattle.std.specs.Prelude.{slice_get, get_or, ◌&&◌, not, nat_le}
 use Rattle.std.proofs.lemmas.Bool.{leb-true, leb-false}
@@ -30,7 +30,7 @@ not_false : (b : Bool) → b ≡ false → not b ≡ true
 not_false false e = refl
 not_false true e = cc
 
--- the least register that holds a node
+-- the lowest register that holds a node
 pub first_held_is : (bs : List Bool) (k n : ℕ) → first_held bs k ≡ Some n → (j : ℕ) × (n ≡ k + j) × (get_or bs j false ≡ true) × ((l : ℕ) → l < j → get_or bs l false ≡ false)
 first_held_is [] k n e = cc
 first_held_is (true ∷ bs) k n e = (0, let h : k ≡ n = cc in omega arith, refl, λ l lt. absurd (omega arith))
@@ -251,7 +251,7 @@ module _ (code : List Instr) (p : ℕ) (i : Instr) (at : slice_get code p ≡ So
       subst (IsFirstAt code p) same (found_next (record { joined = λ lt. e0; spent = λ lt. e1; missing_none = λ lt. e2; taken_none = λ lt. e3; left_held_none' = λ lt. e4; same = λ lt. e5; next = λ lt. absurd (omega arith) }) e6)
   chain false false false false None None None e0 e1 e2 e3 e4 e5 e6 f e = cc
 
-  -- what is found arises, and nothing does before it at the position
+  -- the objection is a fault, and no fault at the position precedes it
   pub finds : (f : Finding) → objection (length code) (furthest code p i) p i a changed ≡ Some f → IsFirstAt code p f
   unfolding objection
   finds f e = chain a.differ (is_first i && not a.marks.is_open) changed (goes_on i && nat_le (length code) (furthest code p i + 1)) (missing p a.marks (source i)) (taken p a.marks (destination i)) (left_held p (is_return i) (first_held a.marks.held 0)) refl refl refl refl refl refl refl f e
@@ -273,7 +273,7 @@ module _ (code : List Instr) (p : ℕ) (i : Instr) (at : slice_get code p ≡ So
   unfolding objection
   passed e = all_passed a.differ (is_first i && not a.marks.is_open) changed (goes_on i && nat_le (length code) (furthest code p i + 1)) (missing p a.marks (source i)) (taken p a.marks (destination i)) (left_held p (is_return i) (first_held a.marks.held 0)) refl refl refl refl refl refl refl e
 
-  -- where nothing is found, nothing arises
+  -- if there is no objection, there is no fault at the position
   pub clear : objection (length code) (furthest code p i) p i a changed ≡ None → (g : Finding) → pass g ≡ 3 → position g ≡ p → Arises code g → ⊥
   clear e g is there x = below 7 (passed e) g is there (ranks g is) x
     where

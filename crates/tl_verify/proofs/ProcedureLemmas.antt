@@ -1,4 +1,4 @@
--- Where all passes find nothing the code is accepted, and what the last one finds is first.
+-- A code without faults in any pass is accepted, and the first fault of the last pass is the first fault.
 use Rattle.std.proofs.Common.{◌≡◌, ◌<◌, List, refl, ap, ◌∙◌, arith, ◌⊎◌, inl, inr, ⊎_elim}
 use Rattle.std.specs.Prelude.{◌≢◌}
 use Rattle.tl_instr.specs.declared.instr.Instr.{Instr}
@@ -56,7 +56,7 @@ loops_fault code nest.Memory x ne = absurd (ne refl)
 -- ---- and of the sums the first, where nothing is found before them
 
 module _ (code : List Instr) (ahead : Ahead code) (fit : HasFit code) where
-  -- a finding of the sums is first where the sums before it are within their limits
+  -- a fault of a sum is the first one if no earlier sum has a fault
   of_sums : (f : Finding) → pass f ≡ 4 → Arises code f → ((g : Finding) → pass g ≡ 4 → rank g < rank f → Arises code g → ⊥) → IsFirstFault code (fault_of f)
   of_sums f is x none = record { finding = f; arises = x; first = λ g y before. by g y before; fault = refl }
     where
@@ -108,7 +108,7 @@ module _ (code : List Instr) (ahead : Ahead code) (fit : HasFit code) where
   over_is_first (nest.ZeroCount p) over = absurd over
   over_is_first nest.Memory over = absurd over
 
--- an accepted code has no fault but want of memory
+-- an accepted code has no fault but lack of memory
 pub only_memory : (code : List Instr) → Acceptable code → (f : VerifyFault) → (f ≢ Memory → IsFirstFault code f) → f ≡ Memory
 only_memory code acc Memory h = refl
 only_memory code acc f h = let x = h (λ e. cc) in absurd (nothing_found code acc x.finding x.arises)

@@ -1,4 +1,4 @@
--- Bits of a number, one after another.
+-- The bits of a number, one by one.
 use Rattle.std.proofs.Common.{◌≡◌, ◌≢◌, ℕ, zero, suc, ◌+◌, ◌*◌, ◌/◌, ◌%◌, ◌^◌, ◌<◌, Some, Bool, true, false, refl, sym, ap, ◌∙◌, arith, w8, bit_and, bit_or, pow_pos, pow_mono}
 use Rattle.std.specs.Prelude.{slice_set, get_or, nat_eq, not}
 use Rattle.std.specs.Int.{bit_at, bit_not, trailing_zeros}
@@ -13,7 +13,7 @@ bit_is zero n i lt = absurd (omega arith)
 bit_is (suc count) n zero lt = ap (λ x. nat_eq x 1) (sym (bit_at_lowest n))
 bit_is (suc count) n (suc i) lt = bit_is count (n / 2) i (omega arith) ∙ ap (λ x. nat_eq x 1) (sym (bit_at-suc n i))
 
--- numbers with the same bits
+-- numbers with equal bits have the same list of bits
 same_bits : (count m n : ℕ) → ((i : ℕ) → i < count → bit_at m i ≡ bit_at n i) → bits_of count m ≡ bits_of count n
 same_bits zero m n same = refl
 same_bits (suc count) m n same =
@@ -21,7 +21,7 @@ same_bits (suc count) m n same =
     let tail = same_bits count (m / 2) (n / 2) (λ i lt. sym (bit_at-suc m i) ∙ same (suc i) (omega arith) ∙ bit_at-suc n i) in
     cc
 
--- and with the same but for one
+-- numbers whose bits are equal except for one
 other_bit : (count m n k : ℕ) (b : Bool) → k < count → nat_eq (bit_at m k) 1 ≡ b → ((i : ℕ) → i < count → i ≢ k → bit_at m i ≡ bit_at n i)
     → bits_of count m ≡ slice_set (bits_of count n) k b
 other_bit zero m n k b lt is others = absurd (omega arith)

@@ -1,4 +1,4 @@
--- One position after another, and the first fault of all.
+-- Checking registers, one position after another.
 use Rattle.std.proofs.Common.{◌≡◌, ℕ, zero, suc, ◌+◌, ◌<◌, List, length, Option, Some, None, Bool, true, false, refl, sym, ap, ◌∙◌, arith, ◌⊎◌, inl, inr, ⊎_elim, subst}
 use Rattle.std.specs.Prelude.{slice_get, get_or, option_map, IfSome, IfNone, MatchOption, ◌&&◌, nat_le}
 use Rattle.std.proofs.lemmas.Bool.{leb-false}
@@ -27,11 +27,11 @@ module _ (code : List Instr) (b : ℕ) where
   low_or_here : (n : ℕ) → n < b + 1 → (n < b) ⊎ (n ≡ b)
   low_or_here n lt = grind arith
 
-  -- nothing arises one position further, where nothing does here
+  -- if there is no fault up to b and none at b, there is none up to b + 1
   further : ClearTo code b → ((f : Finding) → pass f ≡ 3 → position f ≡ b → Arises code f → ⊥) → ClearTo code (b + 1)
   further c h = record { none = λ f is lt x. ⊎_elim (λ low. c.none f is low x) (λ same. h f is same x) (low_or_here (position f) lt) }
 
-  -- nothing of the registers arises where no way leads
+  -- there is no fault of registers at a position that no way reaches
   no_way : ((m : Marks) → Way code b m → ⊥) → (f : Finding) → pass f ≡ 3 → position f ≡ b → Arises code f → ⊥
   no_way none (OfLoops f) e p x = let h = loops_first f in absurd (omega arith)
   no_way none (TargetBack q) e p x = absurd (omega arith)
@@ -51,7 +51,7 @@ module _ (code : List Instr) (b : ℕ) where
   pub clear_skip : (states : List (Option Arrivals)) → ClearTo code b → Known code b states → b < length code → get_or states b None ≡ None → ClearTo code (b + 1)
   clear_skip states c known lt is = further c (no_way (here code b states known lt None is))
 
-  -- what is found first at a position, where nothing is before it, is the first of all
+  -- the first fault at b, with none before it, is the first fault of the code
   first_of_all : Ahead code → ClearTo code b → (f : Finding) → IsFirstAt code b f → IsFirstFault code (fault_of f)
   first_of_all ahead c f here = record {
     finding = f;
@@ -69,7 +69,7 @@ module _ (code : List Instr) (b : ℕ) where
   none_found None e = refl
   none_found (Some f) e = cc
 
-  -- a position that control may come to
+  -- a position that control may reach
   module _ (places : List Place) (nest : IsNest code places) (i : Instr) (at : slice_get code b ≡ Some i) (states : List (Option Arrivals)) (known : Known code b states) (c : ClearTo code b)
       (a : Arrivals) (is : get_or states b None ≡ Some a) (changed : Bool) (compares : Compares i (get_or states ((place_at places b).opening + 1) None) a.marks changed) (far : ℕ) (far_is : far ≡ furthest_by (place_at places b).close b i) where
     same_far : far ≡ furthest code b i
@@ -100,11 +100,11 @@ module _ (code : List Instr) (b : ℕ) where
       pub clear_next : ClearTo code (b + 1)
       clear_next = further c (clear code b i at a gathers changed changes keeps none)
 
-      -- the states that came here don't differ in what they hold
+      -- the states at this position hold the same registers
       pub alike : a.differ ≡ false
       alike = (passed code b i at a gathers changed changes keeps none).joined (omega arith)
 
-      -- where control goes on, the furthest position that it goes on to lies in the code
+      -- if control goes on, the furthest position it may reach is within the code
       furthest_inside : goes_on i ≡ true → furthest code b i + 1 < length states
       furthest_inside goes = strict (nat_le (length code) (furthest code b i + 1)) refl
         where
@@ -115,18 +115,18 @@ module _ (code : List Instr) (b : ℕ) where
           strict false f = let h = leb-false (length code) (furthest code b i + 1) f in let g = known.long in omega arith
           strict true f = absurd (both_true (goes_on i) (nat_le (length code) (furthest code b i + 1)) past goes f)
 
-      -- and so does the next one
+      -- the next position is within the code too
       pub next_inside : goes_on i ≡ true → b + 1 < length states
       next_inside goes = let h = furthest_inside goes in let g = furthest_after code b i in omega arith
 
-      -- what is aside lies in the code
+      -- the position to which control may go aside is within the code
       pub aside_inside : Ahead code → (beside : Option ℕ) → beside ≡ aside_by (place_at places b).close i → (l : ℕ) → beside ≡ Some l → l < length states
       aside_inside ahead beside is' l there =
           ⊎_elim (λ jumps. let h = target_in_code code ahead b l i at jumps in let g = known.long in omega arith)
           (λ leaves. let h = furthest_inside leaves.2 in let f = leaves.0 in let g = leaves.1 in omega arith)
           (target_or_behind code b l i (sym (aside_at code places nest b i at) ∙ sym is' ∙ there))
 
--- before the first position only the entry is known
+-- before the first position only the entry state is recorded
 pub known_start : (code : List Instr) (states : List (Option Arrivals)) → length states ≡ length code → 0 < length code
     → get_or states 0 None ≡ Some (record { marks = entry; differ = false }) → ((q : ℕ) → 0 < q → get_or states q None ≡ None) → Known code 0 states
 known_start code states long some first rest = record { long = long; each = λ q lt. by q }
@@ -145,11 +145,11 @@ known_start code states long some first rest = record { long = long; each = λ q
     })
     by (suc q) = rw (rest (suc q) (omega arith)) (λ k h. let e = (only (suc q) k h).0 in absurd (omega arith))
 
--- the first positions of bodies lie in the code
+-- the first positions of bodies are within the code
 pub body_inside : (code : List Instr) (places : List Place) → IsNest code places → (b : ℕ) (i : Instr) (states : List (Option Arrivals)) → slice_get code b ≡ Some i → Known code b states → is_end i ≡ true → (place_at places b).opening + 1 < length states
 body_inside code places nest b i states at known ends = let h = start_inside code places nest b i at ends in let g = known.long in omega arith
 
--- what was settled fits
+-- the recorded states of a code without faults fit
 pub settled_fits : (code : List Instr) (states : List (Option Arrivals)) (o : Option VerifyFault) → 0 < length code → Ahead code → IfNone o (Settled code states) → IfSome o (IsFirstFault code) → MatchOption o (HasFit code) (IsFirstFault code)
 settled_fits code states None some ahead settled fault = record { list = marks_of states; fits = fits code states settled.known ahead settled.clear some }
 settled_fits code states (Some f) some ahead settled fault = fault

@@ -12,18 +12,18 @@ use Rattle.tl_verify.specs.Pass.{objection}
 
 -- ---- registers: those that hold a node, and whether first is open
 
--- behind a first into n0, a child of n0 into n1, and a release of n0
+-- after a `first` into n0, a child of n0 into n1, and a release of n0
 abbrev child_held : Marks
 child_held = after (Release 0) (after (Child 1 0 1 6) (after (First 0 0 9) entry))
 
 child_alone : child_held ≡ record { held = false ∷ true ∷ false ∷ false ∷ false ∷ false ∷ false ∷ false ∷ []; is_open = false }
 child_alone = refl
 
--- then n0 takes what n1 holds, and n1 is empty
+-- a move from n1 to n0 leaves n1 empty
 moved : (after (Move 0 1) child_held).held ≡ true ∷ false ∷ false ∷ false ∷ false ∷ false ∷ false ∷ false ∷ []
 moved = refl
 
--- a move to itself keeps its node
+-- a move from a register to itself keeps its node
 kept : (after (Move 1 1) child_held).held ≡ child_held.held
 kept = refl
 
@@ -65,12 +65,12 @@ locked : objection 9 2 2 (Get 0 1 0) (came child_held) false ≡ None
 unfolding objection
 locked = refl
 
--- of a second first into a held register it is told that first is spent
+-- for a second `first` into a held register, the fault is that `first` is spent
 twice : objection 9 2 2 (First 1 0 8) (came child_held) false ≡ Some (Spent 2)
 unfolding objection
 twice = refl
 
--- of a child of an empty register into a held one, that the first is empty
+-- for a child of an empty register into a held one, the fault is the empty register
 child_of_none : objection 9 2 2 (Child 1 0 1 6) (came child_held) false ≡ Some (Missing 2 0)
 unfolding objection
 child_of_none = refl
@@ -87,7 +87,7 @@ last_goes_on : objection 3 2 2 (Release 1) (came child_held) false ≡ Some (Nex
 unfolding objection
 last_goes_on = refl
 
--- ways that differ are told before all else
+-- the fault that ways differ precedes all others
 differing : objection 3 2 2 (Get 0 0 0) (record { marks = entry; differ = true }) true ≡ Some (Joined 2)
 unfolding objection
 differing = refl

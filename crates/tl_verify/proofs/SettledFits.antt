@@ -1,4 +1,4 @@
--- Where nothing is found, what was remembered fits.
+-- If a code has no faults, the recorded states fit.
 use Rattle.std.proofs.Common.{◌≡◌, ℕ, ◌+◌, ◌<◌, List, length, Option, Some, None, Bool, true, false, refl, sym, ap, ◌∙◌, arith, ◌⊎◌, inl, inr, ⊎_elim, subst, map}
 use Rattle.std.specs.Prelude.{slice_get, get_or, nat_le, option_map, ◌≢◌}
 use Rattle.std.proofs.Math.ListN.{get_or-map}
@@ -81,7 +81,7 @@ module _ (code : List Instr) (states : List (Option Arrivals)) (known : Known co
             let y = first_held_is a.marks.held 0 k e in
             absurd (clear.none (LeftHeld q y.0) refl inside (i, x.0, meets x.0 x.1, returns, as_here y.0 ∙ y.2, λ l lt. as_here l ∙ y.3 l lt))
 
-    -- where the instruction leads, a state is remembered that fits
+    -- a fitting state is recorded where the instruction leads
     module _ (to : ℕ) (within : to < length code) (less : q < to) (f : Marks → Marks)
         (leads : (m : Marks) → Leads code i q m to (f m)) (same_held : (m : Marks) → m.held ≡ a.marks.held → (f m).held ≡ (f a.marks).held)
         (opens : ((m : Marks) → (f m).is_open ≡ false) ⊎ ((m : Marks) → (f m).is_open ≡ m.is_open)) where
@@ -120,7 +120,7 @@ module _ (code : List Instr) (states : List (Option Arrivals)) (known : Known co
               on true k = h a.marks ∙ k
               on false k = let x = gathers.spent k in let y = g.is_open o (f x.0) (goes x.0 x.1) in let z = h x.0 ∙ x.2 in cc
 
-    -- the furthest position that control goes on to lies in the code
+    -- the furthest position that control may reach is within the code
     furthest_within : goes_on i ≡ true → furthest code q i + 1 < length code
     furthest_within goes = strict (nat_le (length code) (furthest code q i + 1)) refl
       where
@@ -128,7 +128,7 @@ module _ (code : List Instr) (states : List (Option Arrivals)) (known : Known co
         strict false e = leb-false (length code) (furthest code q i + 1) e
         strict true e = let x = gathers.some in absurd (clear.none (NextPastEnd q) refl inside (i, x.0, meets x.0 x.1, goes, leb-true (length code) (furthest code q i + 1) e))
 
-    -- and so does the next one
+    -- the next position is within the code too
     next_within : goes_on i ≡ true → q + 1 < length code
     next_within goes = let h = furthest_within goes in let g = furthest_after code q i in omega arith
 

@@ -1,4 +1,4 @@
--- The numbers of a fault.
+-- The faults of verification as numbers.
 use Rattle.std.specs.Prelude.{ℕ, List, [], ◌∷◌}
 use Rattle.tl_budget.specs.declared.fault.NestFault.{NestFault}
 use Rattle.tl_budget.specs.declared.fault.NestFault.TheVariants as nest
@@ -19,7 +19,7 @@ numbers_of (Joins p) = 408 ∷ p ∷ []
 numbers_of (LoopChanges p) = 409 ∷ p ∷ []
 numbers_of Memory = 490 ∷ []
 
--- where memory was refused no fault was found
+-- a fault of the loops as a fault of verification; refused memory is no fault of the code
 abbrev pub of_nest : NestFault → VerifyFault
 of_nest (nest.LoopOpen p) = Nest (nest.LoopOpen p)
 of_nest (nest.EndAlone p) = Nest (nest.EndAlone p)

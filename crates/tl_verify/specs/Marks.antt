@@ -1,4 +1,4 @@
--- What an instruction asks of the node registers, and what it leaves of them.
+-- What an instruction requires of the node registers, and how it changes them.
 use Rattle.std.specs.Prelude.{◌≡◌, ℕ, ◌+◌, List, [], ◌∷◌, Bool, true, false, Option, Some, None, slice_set, get_or, replicate}
 use Rattle.tl_instr.specs.declared.operand.TheConstants.{NODE_REGISTERS}
 use Rattle.tl_instr.specs.declared.instr.Instr.{Instr}
@@ -18,11 +18,11 @@ all_empty [] = true
 all_empty (true ∷ bs) = false
 all_empty (false ∷ bs) = all_empty bs
 
--- at the start all registers are empty, and first is open
+-- at the start all registers are empty, and `first` is open: none has locked a node yet
 abbrev pub entry : Marks
 entry = record { held = replicate NODE_REGISTERS false; is_open = true }
 
--- the register that has to hold a node
+-- the register that must hold a node
 abbrev pub source : Instr → Option ℕ
 source (Child n parent v otherwise) = Some parent
 source (Move n from) = Some from
@@ -32,14 +32,14 @@ source (Put n f v) = Some n
 source (Kids v n) = Some n
 source i = None
 
--- the register that takes a node, and has to be empty
+-- the register that receives a node and must be empty
 abbrev pub destination : Instr → Option ℕ
 destination (First n v otherwise) = Some n
 destination (Child n parent v otherwise) = Some n
 destination (Move n from) = Some n
 destination i = None
 
--- the marks behind an instruction that didn't go to its target
+-- the marks after an instruction that doesn't go to its target
 abbrev pub after : Instr → Marks → Marks
 after (First n v otherwise) m = record { held = slice_set m.held n true; is_open = false }
 after (Child n parent v otherwise) m = with_held m n true
@@ -61,7 +61,7 @@ abbrev pub is_return : Instr → Bool
 is_return Return = true
 is_return i = false
 
--- where the end stands of the loop that opens at p; p itself, where none does
+-- the position of the loop's end; p if there is no loop
 abbrev pub close_of : ℕ → Option Loop → ℕ
 close_of p None = p
 close_of p (Some l) = l.close
@@ -69,8 +69,8 @@ close_of p (Some l) = l.close
 abbrev pub end_of : List Instr → ℕ → ℕ
 end_of code p = close_of p (loop_at code p)
 
--- where control may go with the marks from before the instruction: to the target, or behind the end of a loop that may
--- turn no time
+-- the position to which control may go with the marks from before the instruction: its target, or the position after the
+-- end of a loop that may have no turns
 abbrev pub aside_by : ℕ → Instr → Option ℕ
 aside_by close (RepeatBy turns count) = Some (close + 1)
 aside_by close i = target i
@@ -78,7 +78,7 @@ aside_by close i = target i
 abbrev pub aside : List Instr → ℕ → Instr → Option ℕ
 aside code p i = aside_by (end_of code p) i
 
--- the position before the furthest one to which an instruction that isn't a jump may go on
+-- the position before the furthest one that control may reach from the instruction without using its target
 abbrev pub furthest_by : ℕ → ℕ → Instr → ℕ
 furthest_by close p (RepeatBy turns count) = close
 furthest_by close p i = p

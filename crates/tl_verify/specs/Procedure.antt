@@ -1,4 +1,4 @@
--- What holds of every procedure.
+-- What is true of every procedure.
 use Rattle.std.specs.Prelude.{◌≡◌, List}
 use Rattle.tl_instr.specs.declared.instr.Instr.{Instr}
 use Rattle.tl_instr.specs.Codes.{CodeValue, IsCode}

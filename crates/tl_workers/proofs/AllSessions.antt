@@ -1,4 +1,4 @@
--- All sessions of a table ask for each of its calls once, and each finds its writes again.
+-- All sessions of a table together request each call once, and each session finds its own writes.
 use Rattle.std.proofs.Common.{◌≡◌, ◌≢◌, ⊎_elim, ℕ, zero, suc, ◌+◌, ◌<◌, Bool, true, false, List, [], ◌∷◌, ◌++◌, length, get_or, sym, ap, ◌∙◌, subst, inl, inr, arith, All, refl}
 use Rattle.std.specs.Prelude.{◌==◌, ◌&&◌, if◌then◌else◌, Some, slice_get, sum_by, count_by}
 use Rattle.std.proofs.lemmas.Bool.{cases_Bool, eq-eqb, ne_eqb}
@@ -37,7 +37,7 @@ counted-asked n c (Asked a ∷ dids) =
     count-cons (asks_for n c) (Asked a) dids ∙ ap (λ k. (if is_of n c a then 1 else 0) + k) (counted-asked n c dids) ∙ sym (count-cons (is_of n c) a (asked_in dids))
 counted-asked n c (Got r ∷ dids) = let e = count-cons (asks_for n c) (Got r) dids in let h = counted-asked n c dids in omega (arith, e, h)
 
--- whether a call of the epoch is that one
+-- whether it is this call of the epoch
 is_own : (e : EpochValue) (k : ℕ) → is_of e.number k (asking_of e k) ≡ true
 is_own e k = let p = eq-eqb e.number e.number refl in let q = eq-eqb k k refl in rw (p, q) refl
 
@@ -47,13 +47,13 @@ is_other_call e j k ne = let p = eq-eqb e.number e.number refl in let q = ne_eqb
 is_other_epoch : (e : EpochValue) (n c j : ℕ) → e.number ≢ n → is_of n c (asking_of e j) ≡ false
 is_other_epoch e n c j ne = let p = ne_eqb e.number n ne in rw p refl
 
--- one call more, which isn't the one that is counted
+-- one more call, which isn't the one that is counted
 counted-past : (p : Asking → Bool) (a : Asking) (rest : List Asking) (k : ℕ) → p a ≡ false → count_by p rest ≡ k → count_by p (a ∷ rest) ≡ k
 counted-past p a rest k other h =
     let e : count_by p (a ∷ rest) ≡ 0 + count_by p rest = count-cons p a rest ∙ ap (λ (b : Bool). (if b then 1 else 0) + count_by p rest) other in
     omega (arith, e, h)
 
--- of calls with higher numbers it is none
+-- it isn't among calls with higher numbers
 counted-higher : (e : EpochValue) (n : ℕ) (owners : List ℕ) (s c : ℕ) → c < n → count_by (is_of e.number c) (calls_from e n owners s) ≡ 0
 counted-higher e n [] s c lt = refl
 counted-higher e n (o ∷ owners) s c lt =
@@ -63,7 +63,7 @@ counted-higher e n (o ∷ owners) s c lt =
       | inr h ↦ rw h rest
     ]
 
--- of another epoch's calls it is none
+-- it isn't among the calls of another epoch
 counted-other : (e : EpochValue) (n : ℕ) (owners : List ℕ) (s m c : ℕ) → e.number ≢ m → count_by (is_of m c) (calls_from e n owners s) ≡ 0
 counted-other e n [] s m c ne = refl
 counted-other e n (o ∷ owners) s m c ne =
@@ -101,7 +101,7 @@ counted-own e n (o ∷ owners) s (suc k) lt =
 count-append : (p : Asking → Bool) (xs ys : List Asking) → count_by p (xs ++ ys) ≡ count_by p xs + count_by p ys
 count-append p xs ys = sum_by-append (λ y. if p y then 1 else 0) xs ys
 
--- of epochs with other numbers it is none
+-- it isn't among the calls of epochs with higher numbers
 counted-later : (k : ℕ) (parents : List ℕ) (opening : Records) (procedures : List Named) (es : List EpochValue) → InLine k parents opening procedures es → (s n c : ℕ) → n < k
     → count_by (is_of n c) (all_calls_of es s) ≡ 0
 counted-later k parents opening procedures [] line s n c lt = refl

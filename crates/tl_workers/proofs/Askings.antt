@@ -1,4 +1,4 @@
--- What was asked for: when two are the same, and where one was.
+-- Requests: when two are equal, and at which entry a request is.
 use Rattle.std.proofs.Common.{◌≡◌, ℕ, zero, suc, ◌+◌, ◌<◌, ◌≤◌, Bool, List, [], ◌∷◌, length, take, drop, refl, sym, ap, ◌∙◌, arith, add-one, length-take}
 use Rattle.std.specs.Prelude.{ℤ, IsTrue, Some, slice_get}
 use Rattle.std.specs.Cmp.Rules.{signed_items}
@@ -13,7 +13,7 @@ use Rattle.tl_workers.specs.declared.session.Did.TheVariants.{Asked, Got}
 use Rattle.tl_workers.specs.Kept.{asking, AsksAt}
 use Rattle.tl_workers.specs.Matching.{asked_in, asked_from, WasAsked}
 
--- those of the same call and name are compared by their arguments
+-- requests for the same call with the same name are compared by their arguments
 pub same_but_args : (a : Asking) (epoch call : ℕ) (name : List ℕ) (args given : List ℤ) (r : Bool) → a.epoch ≡ epoch → a.call ≡ call → a.name ≡ name → given ≡ a.args.items → r ≡ pointwise int_eq given args
     → (IsTrue r → a ≡ asking epoch call name args) × (a ≡ asking epoch call name args → IsTrue r)
 same_but_args a epoch call name args given r epochs calls names same is =
@@ -31,7 +31,7 @@ take_at (d ∷ dids) zero i lt = absurd (omega (arith, lt))
 take_at (d ∷ dids) (suc n) zero lt = refl
 take_at (d ∷ dids) (suc n) (suc i) lt = take_at dids n i (omega (arith, lt))
 
--- before a place
+-- before an entry
 pub was_asked_at : (dids : List Did) (place i e c : ℕ) → i < place → AsksAt dids i e c → WasAsked (take place dids) e c
 was_asked_at dids place i e c lt h = (i, h.0, take_at dids place i lt ∙ h.1, h.2, h.3)
 
@@ -49,11 +49,11 @@ from_next [] i did at = absurd (none-some did at)
 from_next (d ∷ dids) zero did at = ap (λ x. x ∷ dids) (same_Some d did at)
 from_next (d ∷ dids) (suc i) did at = from_next dids i did at
 
--- there the call was asked for
+-- the entry at i is a request
 pub asked_here : (dids : List Did) (i : ℕ) (a : Asking) → slice_get dids i ≡ Some (Asked a) → asked_from dids i ≡ a ∷ asked_from dids (i + 1)
 asked_here dids i a at = ap asked_in (from_next dids i (Asked a) at) ∙ ap (λ k. a ∷ asked_from dids k) (sym (add-one i))
 
--- there a receipt was got
+-- the entry at i is a receipt
 pub got_here : (dids : List Did) (i : ℕ) (r : Receipt) → slice_get dids i ≡ Some (Got r) → asked_from dids i ≡ asked_from dids (i + 1)
 got_here dids i r at = ap asked_in (from_next dids i (Got r) at) ∙ ap (asked_from dids) (sym (add-one i))
 

@@ -1,4 +1,4 @@
--- Batches: what was admitted and what was answered, request by request.
+-- Batches: admissions and answers, request by request.
 use Rattle.std.proofs.Common.{◌≡◌, ℕ, suc, ◌<◌, ◌+◌, List, [], ◌∷◌, ◌++◌, length, take, get_or, refl, sym, ap, ◌∙◌, subst, add-one}
 use Rattle.std.specs.Prelude.{Ok, Err, Result, string_bytes}
 use Rattle.std.proofs.Math.Seq.{take-suc}
@@ -94,7 +94,7 @@ receipts-next all i rs now d r lt h e is =
     let Q : List (Result Receipt Refusal) → Type 0 = λ ys. ReceiptsEach (take i all ++ get_or all i d ∷ []) ys in
     subst P (sym (ap (λ k. take k all) (add-one i) ∙ take-suc all i d lt)) (subst Q (sym is) (receipts-push (take i all) rs (get_or all i d) r h e))
 
--- nothing gained first, and then this
+-- first nothing is gained, and then these entries
 pub gains_then : (a b c : SessionValue) (xs ys : List Did) → Gains a b [] → Gains b c xs → xs ≡ ys → Gains a c ys
 gains_then a b c xs ys h g e = record {
   number = g.number ∙ h.number;

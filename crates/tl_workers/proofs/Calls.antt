@@ -12,7 +12,7 @@ use Rattle.tl_workers.specs.declared.session.Did.{Did}
 use Rattle.tl_workers.specs.declared.session.Did.TheVariants.{Asked, Got}
 use Rattle.tl_workers.specs.Matching.{asked_in, asking_of, calls_from, calls_of, all_calls_of, GotsStand, AreKnown}
 
--- each is a call of that number or later, and one that has an owner
+-- each is a call with this number or a higher one, and with an owner
 below_case : (e : EpochValue) (n : ℕ) (owners : List ℕ) (s : ℕ) (test : Bool) → ((k : ℕ) (a : Asking) → slice_get (calls_from e (n + 1) owners s) k ≡ Some a → a.call < (n + 1) + length owners)
     → (k : ℕ) (a : Asking) → slice_get (if test then asking_of e n ∷ calls_from e (n + 1) owners s else calls_from e (n + 1) owners s) k ≡ Some a → a.call < n + (1 + length owners)
 below_case e n owners s true later zero a at = let at_n : a.call ≡ n = (let same : asking_of e n ≡ a = cc in sym (ap (λ x. x.call) same)) in omega (arith, at_n)
@@ -23,7 +23,7 @@ calls_below : (e : EpochValue) (n : ℕ) (owners : List ℕ) (s : ℕ) (k : ℕ)
 calls_below e n [] s k a at = absurd (none-some a at)
 calls_below e n (o ∷ owners) s k a at = let l = below_case e n owners s (o == s) (calls_below e (n + 1) owners s) k a at in omega (arith, l)
 
--- the place among what was asked for
+-- the position among the requests
 place_asked : (dids : List Did) (j : ℕ) (a : Asking) → slice_get dids j ≡ Some (Asked a) → (k : ℕ) × (slice_get (asked_in dids) k ≡ Some a)
 place_asked [] j a at = absurd (none-some (Asked a) at)
 place_asked (Asked b ∷ dids) zero a at = (zero, cc)
@@ -31,7 +31,7 @@ place_asked (Asked b ∷ dids) (suc j) a at = let p = place_asked dids j a at in
 place_asked (Got r ∷ dids) zero a at = absurd (let e : ⊥ = cc in e)
 place_asked (Got r ∷ dids) (suc j) a at = place_asked dids j a at
 
--- each asks for a call of that epoch
+-- each is a call of this epoch
 epoch_case : (e : EpochValue) (n : ℕ) (owners : List ℕ) (s : ℕ) (test : Bool) → ((k : ℕ) (a : Asking) → slice_get (calls_from e (n + 1) owners s) k ≡ Some a → a.epoch ≡ e.number)
     → (k : ℕ) (a : Asking) → slice_get (if test then asking_of e n ∷ calls_from e (n + 1) owners s else calls_from e (n + 1) owners s) k ≡ Some a → a.epoch ≡ e.number
 epoch_case e n owners s true later zero a at = let same : asking_of e n ≡ a = cc in sym (ap (λ x. x.epoch) same)
@@ -47,7 +47,7 @@ at_append [] ys k a at = inr (k, at)
 at_append (x ∷ xs) ys zero a at = inl at
 at_append (x ∷ xs) ys (suc k) a at = at_append xs ys k a at
 
--- the epoch of number n or later that has the call
+-- the epoch with number n or higher that has the call
 pub record IsCallIn (es : List EpochValue) (n : ℕ) (a : Asking) : Type 0 where
   pub place : ℕ
   pub epoch : EpochValue

@@ -1,4 +1,4 @@
--- What a session's holder did, as it is kept: entries, and beside them their values and names.
+-- How the entries of a session are stored, with their values and names apart.
 use Rattle.std.proofs.Common.{◌≡◌, ℕ, zero, suc, ◌+◌, ◌<◌, ◌≤◌, List, [], ◌∷◌, ◌++◌, length, take, drop, get_or, refl, sym, ap, ◌∙◌, subst, arith, append_assoc, length-append, length-drop}
 use Rattle.std.specs.Prelude.{ℤ, Option, Some, slice_get, IsTrue, nat_eq}
 use Rattle.std.proofs.lemmas.Bool.{eqb-true, eq-eqb}
@@ -85,7 +85,7 @@ take_all (x ∷ xs) = ap (λ ys. x ∷ ys) (take_all xs)
 pub last_part : (values args : List ℤ) → take (length args) (drop (length values) (values ++ args)) ≡ args
 last_part values args = ap (take (length args)) (drop-append_seam values args) ∙ take_all args
 
--- a call that was asked for stands at the end
+-- the appended entry of a request denotes that request
 pub asked_did : (values : List ℤ) (names mn : List (List ℕ)) (a : Asking) (place : ℕ) → slice_get (names ++ mn) place ≡ Some a.name
     → did_of (values ++ a.args.items) (names ++ mn) (OfCall a.epoch a.call place (length values) (length a.args.items)) ≡ Asked a
 asked_did values names mn a place named =
@@ -93,7 +93,7 @@ asked_did values names mn a place named =
     let part = last_part values a.args.items in
     (λ i. Asked (asking a.epoch a.call (name i) (part i)))
 
--- and so does a receipt
+-- the appended entry of a receipt denotes that receipt
 pub got_did : (values : List ℤ) (names mn : List (List ℕ)) (r : Receipt)
     → did_of ((values ++ r.args.items) ++ r.reply.items) (names ++ mn) (OfReceipt r.session r.epoch r.call r.procedure (length values) (length r.args.items) (length r.reply.items)) ≡ Got r
 got_did values names mn r =

@@ -1,4 +1,4 @@
--- Why a call isn't admitted: what the table's rules come to for an engine that seals its epochs by itself, and for one that doesn't.
+-- Why a call isn't admitted: the table's rules, for an engine that seals its epochs by itself and for one that doesn't.
 use Rattle.std.proofs.Common.{◌≡◌, ◌≢◌, ℕ, ◌<◌, Bool, true, false, List, [], ◌∷◌, ◌++◌, length, ap, sym, subst}
 use Rattle.std.proofs.lemmas.Bool.{false≢true}
 use Rattle.std.specs.Prelude.{ℤ, Option, Some, None, Ok, Err, Result, IfErr, if◌then◌else◌, nat_eq, nat_lt, nat_le, option_map}
@@ -20,12 +20,12 @@ use Rattle.tl_workers.specs.declared.refusal.Refusal.{Refusal}
 use Rattle.tl_workers.specs.Kept.{ReceiptsEach}
 use Rattle.tl_workers.specs.Refusals.{IsAdmitRefused, IsCallRefusal, AreCallRefusals, IsTableSealRefused}
 
--- what a core may refuse with, if it refuses
+-- the faults with which a core may refuse
 abbrev CoreRefuses : Bool → Option CoreFault → Type 0
 CoreRefuses seals None = Unit {0}
 CoreRefuses seals (Some f) = IsAdmitRefused seals (fault.Core f)
 
--- what a table may refuse with, if it refuses
+-- the faults with which a table may refuse
 abbrev TableRefuses : Bool → Option TableFault → Type 0
 TableRefuses seals None = Unit {0}
 TableRefuses seals (Some f) = IsAdmitRefused seals f
@@ -43,7 +43,7 @@ by_number v args None = tt
 by_number v args (Some n) =
     by_tests (nat_eq (length args) (procedure_at v n).code.arity) (nat_lt (length v.calls) MAX_CALLS) (nat_lt (open_calls v) MAX_OPEN) (nat_le (places (procedure_at v n).code.instrs (length v.parents)) (room v))
 
--- an epoch without calls has room for one more, and none is opened
+-- an epoch without calls isn't full, and has no open calls
 by_tests_afresh : (arity calls opened places : Bool) → calls ≡ true → opened ≡ true
     → CoreRefuses true (if arity then (if calls then (if opened then (if places then None else Some core_fault.HistoryFull) else Some core_fault.TooManyOpen) else Some core_fault.TooManyCalls) else Some core_fault.WrongArgs)
 by_tests_afresh false calls opened places c o = tt
@@ -82,7 +82,7 @@ pub admit_refused_afresh : (t : EpochValue) (session : ℕ) (name : List ℕ) (a
 admit_refused_afresh t session name args e empty =
     by_fault true t session name args e (by_session true (nat_lt session t.sessions) (admission_refusal (seen t) name args) (by_number_afresh (seen t) args (number_of (seen t).procedures name) empty))
 
--- a table that was sealed just now
+-- a table that was just sealed
 pub sealed_afresh : (t u : EpochValue) → u ≡ epoch_after t → (seen u).calls ≡ []
 sealed_afresh t u is = ap (λ (e : EpochValue). (seen e).calls) is
 
@@ -103,7 +103,7 @@ seal_refused fault.TooManyEpochs h = tt
 seal_refused fault.TooManySessions h = absurd h
 seal_refused fault.Memory h = tt
 
--- a batch answers each refused request with why it was refused
+-- a batch answers each refused request with the reason of the refusal
 pub receipts_refused : (seals : Bool) (all : List (Result Asking Refusal)) (rs : List (Result Receipt Refusal)) → ReceiptsEach all rs → AreCallRefusals seals all → AreCallRefusals seals rs
 receipts_refused seals [] [] h g = tt
 receipts_refused seals [] (r ∷ rs) h g = absurd h
@@ -120,6 +120,6 @@ pushed seals [] (Err f) h e = (e, tt)
 pushed seals (Ok a ∷ all) one h e = pushed seals all one h e
 pushed seals (Err f ∷ all) one h e = (h.0, pushed seals all one h.1 e)
 
--- one request more
+-- one more request
 pub refused-push : (seals : Bool) (all now : List (Result Asking Refusal)) (one : Result Asking Refusal) → AreCallRefusals seals all → IfErr one (IsCallRefusal seals) → now ≡ all ++ one ∷ [] → AreCallRefusals seals now
 refused-push seals all now one h e is = subst (AreCallRefusals seals) (sym is) (pushed seals all one h e)

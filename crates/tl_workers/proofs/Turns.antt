@@ -1,4 +1,4 @@
--- Whether what was got had ended before what was asked for later: by one running number.
+-- Whether each call whose receipt came before a request had ended before the requested call was admitted, from one running number.
 use Rattle.std.proofs.Common.{◌≡◌, ◌↔◌, ◌⊎◌, ⊎_elim, inl, inr, ℕ, zero, suc, ◌<◌, ◌≤◌, ◌+◌, ◌*◌, [], ◌∷◌, true, length, refl, sym, ap, ◌∙◌, subst, arith}
 use Rattle.std.specs.Prelude.{Option, Some, None, slice_get, max, nat_lt, if◌then◌else◌, Bool, false, List}
 use Rattle.std.proofs.lemmas.Bool.{ltb-true, ltb-false, cases_lt}
@@ -18,14 +18,14 @@ use Rattle.tl_workers.specs.declared.session.Did.{Did}
 use Rattle.tl_workers.specs.declared.session.Did.TheVariants.{Asked, Got}
 use Rattle.tl_workers.specs.Matching.{HasEnded, GoInTurn, AreKnown, past_at, mark, end_mark, begun_after}
 
--- of the first n, those got had at most so many calls begun when they ended, one of them so many, and each that was asked
--- for was admitted after the ends of those got before
+-- Among the first n entries, `begun` is the highest end mark of the receipts, and each requested call was admitted after
+-- the calls of all earlier receipts had ended.
 pub record IsInTurnSoFar (es : List EpochValue) (dids : List Did) (n begun : ℕ) : Type 0 where
   pub most : (i : ℕ) (r : Receipt) → i < n → slice_get dids i ≡ Some (Got r) → end_mark es r ≤ begun
   pub one : (begun ≡ 0) ⊎ ((i : ℕ) × (r : Receipt) × (i < n) × (slice_get dids i ≡ Some (Got r)) × (begun ≡ end_mark es r))
   pub in_turn : (i j : ℕ) (r : Receipt) (a : Asking) → i < j → j < n → slice_get dids i ≡ Some (Got r) → slice_get dids j ≡ Some (Asked a) → HasEnded es r a
 
--- at most and at least one of the first n, one entry later
+-- an index below n + 1 is n or below n
 earlier : (i n : ℕ) → i < n + 1 → (i ≡ n) ⊎ (i < n)
 earlier i n lt = eq-or-lt_of_le (omega (arith, lt))
 
@@ -148,7 +148,7 @@ module _ (es : List EpochValue) (dids : List Did) (chain : IsChain es) (known : 
   asked_case n begun next b true is h here e = absurd (none-some _ e)
   asked_case n begun next b false is h here e = subst (IsInTurnSoFar es dids (n + 1)) (same_Some begun next e) (more_asked n begun b h here (ltb-false _ _ is))
 
-  -- one entry more, after which so many calls had begun at most
+  -- one more entry, after which `next` is the highest end mark
   pub turn_more : (n begun next : ℕ) (did : Did) → IsInTurnSoFar es dids n begun → slice_get dids n ≡ Some did → begun_after es did begun ≡ Some next → IsInTurnSoFar es dids (n + 1) next
   turn_more n begun next (Got s) h here e = subst (IsInTurnSoFar es dids (n + 1)) (same_Some _ next e) (more_got es dids n begun s h here)
   turn_more n begun next (Asked b) h here e = asked_case n begun next b (nat_lt (mark b.epoch b.call) begun) refl h here e
@@ -165,7 +165,7 @@ module _ (es : List EpochValue) (dids : List Did) (chain : IsChain es) (known : 
       h.one
   late_case n begun b false is h here e all = none-some _ (sym e)
 
-  -- one that was admitted too early
+  -- an entry that requests a call that was admitted too early
   pub turn_fails : (n begun : ℕ) (did : Did) → IsInTurnSoFar es dids n begun → slice_get dids n ≡ Some did → begun_after es did begun ≡ None → GoInTurn es dids → ⊥
   turn_fails n begun (Got s) h here e all = none-some _ (sym e)
   turn_fails n begun (Asked b) h here e all = late_case n begun b (nat_lt (mark b.epoch b.call) begun) refl h here e all

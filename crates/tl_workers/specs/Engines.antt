@@ -1,6 +1,6 @@
--- An engine, as a contract sees it.
+-- An engine as a contract sees it.
 use Rattle.std.specs.Prelude.{Bool}
 
--- whether it seals its epochs by itself; all else lies behind its lock
+-- whether the engine seals its epochs by itself; everything else is behind its lock
 pub record EngineValue : Type 0 where
   pub seals : Bool

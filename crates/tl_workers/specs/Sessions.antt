@@ -1,4 +1,4 @@
--- All sessions of a table together, and what each of them finds again.
+-- All sessions of a table together, and what their calls find.
 use Rattle.std.specs.Prelude.{◌≡◌, ◌⊎◌, ℕ, ◌<◌, ◌==◌, ◌&&◌, Bool, false, List, Some, slice_get, sum_by, count_by}
 use Rattle.tl_table.specs.Across.{LockedIn, FindsAcross}
 use Rattle.tl_table.specs.Epochs.{EpochValue, IsKnown}
@@ -10,20 +10,20 @@ use Rattle.tl_workers.specs.declared.session.Did.TheVariants.{Asked, Got}
 use Rattle.tl_workers.specs.Kept.{SessionValue}
 use Rattle.tl_workers.specs.Matching.{past_at}
 
--- whether an entry asks for call c of epoch n
+-- whether the entry requests call c of epoch n
 abbrev pub asks_for : ℕ → ℕ → Did → Bool
 asks_for n c (Asked a) = (a.epoch == n) && (a.call == c)
 asks_for n c (Got r) = false
 
--- how often a session asked for call c of epoch n
+-- how often the session requested call c of epoch n
 abbrev pub times_asked : ℕ → ℕ → SessionValue → ℕ
 times_asked n c s = count_by (asks_for n c) s.kept
 
--- each session that the table had given in some epoch is among these, once
+-- each session that the table has opened is in the list exactly once
 abbrev pub AreAllOf : List EpochValue → List SessionValue → Type 0
 AreAllOf es sessions = (i k : ℕ) (e : EpochValue) → slice_get es i ≡ Some e → k < e.sessions → count_by (λ s. k == s.number) sessions ≡ 1
 
--- together the sessions asked for each call once, so exactly one of them did, and once
+-- each call was requested exactly once by all sessions together
 abbrev pub AskForEachOnce : List EpochValue → List SessionValue → Type 0
 AskForEachOnce es sessions = (n c : ℕ) (e : EpochValue) → slice_get es n ≡ Some e → IsKnown e c → sum_by (times_asked n c) sessions ≡ 1
 
@@ -31,8 +31,8 @@ AskForEachOnce es sessions = (n c : ℕ) (e : EpochValue) → slice_get es n ≡
 abbrev pub FindsLeft : List EpochValue → ℕ → ℕ → ℕ → ℕ → ℕ → Type 0
 FindsLeft es n a m b x = ((n ≡ m) × FindsWhatWasLeft (past_at es n) a b x) ⊎ ((n < m) × FindsAcross es n a m b x)
 
--- Where a receipt was got before a call was asked for, and both calls locked x, the later one found there what the earlier
--- one left, or what was left there since.
+-- If the session received a receipt before it requested a call, and both calls locked x, the later call found at x what
+-- the earlier one left, or what was left there since.
 unfoldable pub FindsItsWrites : List EpochValue → SessionValue → Type 0
 FindsItsWrites es s =
     (i j : ℕ) (r : Receipt) (a : Asking) (x : ℕ) → i < j → slice_get s.kept i ≡ Some (Got r) → slice_get s.kept j ≡ Some (Asked a)

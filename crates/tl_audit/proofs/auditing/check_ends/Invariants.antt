@@ -1,4 +1,4 @@
--- The end records of the nodes before this one are so.
+-- The nodes before this one have the right end records.
 use Rattle.std.proofs.Common.{◌<◌, ℕ}
 use Rattle.tl_trail.specs.Clean.{EndsSo}
 use Rattle.tl_audit.proofs.auditing.check_ends.Given as goal

@@ -1,4 +1,4 @@
--- The events so far were right, were seen, and their calls went along.
+-- The events so far were right and were recorded, and their calls were replayed along them.
 use Rattle.std.proofs.Common.{length, take, reverse}
 use Rattle.tl_trail.specs.Clean.{AreRight}
 use Rattle.tl_audit.specs.Replaying.{IsFollowed}

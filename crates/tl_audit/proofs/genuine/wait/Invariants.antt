@@ -1,4 +1,4 @@
--- The turn is still on each run that it was on.
+-- The turn is still on each run that the initial turn was on.
 use Rattle.std.proofs.Common.{◌≡◌, ◌-◌, List}
 use Rattle.tl_tree.specs.Records.{Records}
 use Rattle.tl_tree_locking.specs.declared.action.Action.{Action}

@@ -3,7 +3,7 @@ use Rattle.sqlite_trees.specs.View.{IsClean, IsQuiet, KeepsSchema}
 use Rattle.tl_ledger.specs.Rows.{Appends}
 use Rattle.tl_ledger.proofs.appending.append_all.Given as goal
 
--- the items so far stand behind the rows of the table
+-- the items so far were appended to the rows of the table
 abbrev pub invariant-loop-item : goal.invariant-loop-item
 invariant-loop-item g l =
     (l.number ≡ l.first + l.item-index)

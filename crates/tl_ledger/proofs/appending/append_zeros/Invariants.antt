@@ -5,7 +5,7 @@ use Rattle.tl_ledger.specs.News.{new_columns}
 use Rattle.tl_ledger.specs.Rows.{Appends}
 use Rattle.tl_ledger.proofs.appending.append_zeros.Given as goal
 
--- the records so far stand behind those of the table
+-- the records so far were appended to those of the table
 abbrev pub invariant-loop-node : goal.invariant-loop-node
 invariant-loop-node g l =
     (l.at ≡ l.first + l._node-index)

@@ -5,7 +5,7 @@ use Rattle.tl_ledger.specs.Contents.{OnlyReads}
 use Rattle.tl_ledger.proofs.ReadLemmas.{Reads}
 use Rattle.tl_ledger.proofs.reading.read_rest.Given as goal
 
--- the items so far are the first rows that the cursor had to give, and it has the others to give
+-- the items so far are the first of the cursor's rows, and the cursor has the others
 abbrev pub invariant-loop-number : goal.invariant-loop-number
 invariant-loop-number g l =
     IsSome ((g.S.Store.view l.store).cursors 0)

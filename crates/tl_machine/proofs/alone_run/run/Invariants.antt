@@ -4,7 +4,7 @@ use Rattle.tl_machine.specs.BetweenSteps.{run_left}
 use Rattle.tl_machine.proofs.RunFromStart.{UnderWay}
 use Rattle.tl_machine.proofs.alone_run.run.Given as goal
 
--- what was done so far is what was to be done, and the tree has the shape that it had
+-- the actions so far and the rest of the run are the initial run, and the tree's shape hasn't changed
 abbrev pub invariant-loop-node : goal.invariant-loop-node
 invariant-loop-node l = record {
   under_way : UnderWay l.procedure.instrs l.tree.parents (run_left l.procedure.instrs l.initial.tree.parents l.initial.call l.initial.tree.records) l.call l.tree.records;

@@ -3,7 +3,7 @@ use Rattle.tl_tree_locking.specs.Alone.{serial}
 use Rattle.tl_core.specs.Cores.{world_of}
 use Rattle.tl_serial.proofs.replaying.replay.Given as goal
 
--- the rest of the calls, run from the tree so far, leave the tree of all; their replies come behind those so far
+-- the remaining calls, run from the tree so far, leave the final tree; their replies follow those so far
 abbrev pub invariant-loop-call : goal.invariant-loop-call
 invariant-loop-call l =
     (l.tree.parents ≡ l.core.seen.parents)

@@ -4,7 +4,7 @@ use Rattle.tl_tree_locking.specs.Placing.{coming_calls, held_below}
 use Rattle.tl_tree_locking.specs.Placing.{AreHolders, AreUnder}
 use Rattle.tl_serial_order.proofs.climb.nearest_coming.Given as goal
 
--- the climb finds the same from here on up, and of the nodes of lower numbers no more are held than are left
+-- the climb finds the same from this node on up, and at most `left` nodes with lower numbers are held
 abbrev pub invariant-loop-step : goal.invariant-loop-step
 invariant-loop-step l =
     (l.step < length l.shape)

@@ -1,4 +1,4 @@
--- No call before this place may come to the node.
+-- No call before this position may still lock the node.
 use Rattle.std.proofs.Common.{◌≡◌, ℕ, ◌<◌, List, false, get_or}
 use Rattle.tl_tree_locking.specs.declared.event.Event.{Event}
 use Rattle.tl_tree_locking.specs.Actions.{may_come}

@@ -34,7 +34,7 @@ loop-event-preserved c =
       subst (IsChecked c.args.shape.now c.take.new.self) (sym one_more) (c.take.ensures.taken c.if-not-take.false (reverse (take i events)) c.loop-event.invariant.1),
     )
 
--- the event at which the way ends would keep the rules
+-- the event at which the loop ends would keep the rules
 pub returns-then-not-take-clause-some : goal.returns-then-not-take-clause-some
 returns-then-not-take-clause-some c legal few =
     let shape = c.args.shape.now in

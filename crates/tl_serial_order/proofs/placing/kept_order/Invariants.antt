@@ -1,4 +1,4 @@
--- What is kept is what the events so far came to.
+-- The stored order is that of the events so far, each of which was checked.
 use Rattle.std.proofs.Common.{◌≡◌, take, reverse}
 use Rattle.tl_serial_order.specs.Checked.{calls_of, IsChecked}
 use Rattle.tl_serial_order.proofs.placing.kept_order.Given as goal

@@ -1,4 +1,4 @@
--- The calls so far are known.
+-- There are marks for all calls so far.
 use Rattle.std.proofs.Common.{◌≡◌, ◌≤◌, List, length}
 use Rattle.tl_tree_locking.specs.declared.event.Event.{Event}
 use Rattle.tl_serial_order.specs.Parts.{AreOfNodes, ShowAll}

@@ -1,4 +1,4 @@
--- What was noted and put in order of the events so far.
+-- The marks and the order are those of the events so far.
 use Rattle.std.proofs.Common.{◌≡◌, length, take, reverse}
 use Rattle.tl_tree_locking.specs.Order.{placed}
 use Rattle.tl_serial_order.specs.Parts.{AreOfNodes, ShowAll}

@@ -1,4 +1,4 @@
--- The rest is the end of the text, and with its tokens those so far are the tokens of the text.
+-- The rest is the end of the text. The tokens so far, followed by those of the rest, are the tokens of the text.
 use Rattle.std.proofs.Common.{◌≤◌, length}
 use Rattle.tl_syntax.specs.Tokens.{spellings, first_names, Extends, AreDistinct, AreNamesOf}
 use Rattle.tl_syntax.proofs.TokenLemmas.{SoFar}

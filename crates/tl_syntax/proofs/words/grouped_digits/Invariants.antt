@@ -1,4 +1,4 @@
--- What was read so far.
+-- The bytes read so far are the digits of the number.
 use Rattle.std.proofs.Common.{take}
 use Rattle.tl_syntax.proofs.DigitLemmas.{IsReading}
 use Rattle.tl_syntax.proofs.words.grouped_digits.Given as goal

@@ -1,4 +1,4 @@
--- As many calls, none with a turn.
+-- There is an entry without a turn for each call so far.
 use Rattle.std.proofs.Common.{◌≡◌, None, replicate}
 use Rattle.tl_audit.proofs.replays.Replays.new.Given as goal
 

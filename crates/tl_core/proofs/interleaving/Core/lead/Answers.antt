@@ -18,14 +18,14 @@ use Rattle.tl_core.proofs.interleaving.Core.lead.Goals as goal
 same_shape : (c : After-deref) → c.in_ok-check_lent.ensures.ok.0.parents ≡ c.deref.result.now
 same_shape c = c.in_ok-check_lent.ensures.ok.4 ∙ ap (λ s. s.seen.parents) (sym c.self.view_is) ∙ sym (c.deref.ensures ∙ c.shape.ensures.shape)
 
--- so the turn behind the local instructions stops where the lent call does
+-- so the turn after the local instructions stops where the lent call does
 stops_so : (c : After-stop-stop) → Stops (with_call c.in_ok-check_lent.ensures.ok.0 c.args.lent.now.to) c.stop-stop.result
 stops_so c =
     let k = c.in_ok-check_lent.ensures.ok in
     let same : k.0.parents ≡ c.deref.result.now = k.4 ∙ ap (λ s. s.seen.parents) (sym c.self.view_is) ∙ sym (c.deref.ensures ∙ c.shape.ensures.shape) in
     stops_there c.args.lent.now c.requires k.0 k.2 k.3 c.deref.result.now c.stop-stop.result same c.stop-stop.ensures
 
--- and what it stops at was done
+-- the action at this stop was done
 passed : (c : After-pass_stop-stepped) → PassesStop c.args.self.now c.take_end.new.self c.pass_stop-stepped.new.self c.args.call c.args.lent.now c.in_ok-check_lent.ensures.ok.0 c.stop-stop.result
 passed c =
     let k = c.in_ok-check_lent.ensures.ok in
@@ -36,7 +36,7 @@ passed c =
     c.take_end.ensures.led c.take_end.ensures.past kept (c.lemma_at_stop.ensures (with_call k.0 c.args.lent.now.to) c.stop-stop.result kept stops)
     ((rw c.in_default.is at c.in_the_way.ensures.none) refl) (Ok c.pass_stop-stepped.result) c.pass_stop-stepped.ensures.answer c.pass_stop-stepped.ensures.after
 
--- the shape stays
+-- the shape doesn't change
 shape_behind : (c : After-deref-in-Moved) → c.pass_stop-stepped.new.self.seen.parents ≡ c.args.self.now.seen.parents → c.in_ok-check_lent.ensures.ok.0.parents ≡ c.deref-in-Moved.result.now
 shape_behind c parents =
     c.in_ok-check_lent.ensures.ok.4 ∙ sym parents ∙ ap (λ s. s.seen.parents) (sym c.self-2.view_is) ∙ sym (c.deref-in-Moved.ensures ∙ c.shape-in-Moved.ensures.shape)
@@ -109,7 +109,7 @@ repeat-requires-clause-to c =
     let k = c.in_ok-check_lent.ensures.ok in
     led_on c.args.lent.now c.requires k.0 k.2 k.3 c.deref-in-Moved.result.now (shape_behind (goal.at.repeat-requires-clause-to c).After-deref-in-Moved (passed (goal.at.repeat-requires-clause-to c).After-pass_stop-stepped).parents)
 
--- the action is that of the stop, so the state stops at it
+-- the action is the one at the stop, so the state stops there
 pub repeat-requires-clause-lock : goal.repeat-requires-clause-lock
 repeat-requires-clause-lock c x found is =
     let k = c.in_ok-check_lent.ensures.ok in
@@ -126,7 +126,7 @@ repeat-requires-clause-free c x left is =
     let frees : c.stop-stop.result ≡ stop.Free x = ends_by c.take_end.new.self.seen c.args.call c.stop-stop.result p.next p.free (did.Free x left) answer in
     stops_here c.args.lent.now c.requires k.0 k.2 k.3 c.deref-in-Moved.result.now (stop.Free x) (shape_behind (goal.at.repeat-requires-clause-free c).After-deref-in-Moved (passed (goal.at.repeat-requires-clause-free c).After-pass_stop-stepped).parents) (subst (Stops (with_call k.0 c.args.lent.now.to)) frees (stops_so (goal.at.repeat-requires-clause-free c).After-stop-stop))
 
--- both states were the same before the action, which was done to both
+-- both states were the same before the action, and the action was done to both
 pub returns-in-Moved-clause-ok : goal.returns-in-Moved-clause-ok
 returns-in-Moved-clause-ok c =
     let k = c.in_ok-check_lent.ensures.ok in
@@ -152,7 +152,7 @@ returns-in-Moved-clause-ok c =
       turns = λ d other. c.pass_stop-stepped.ensures.turns d other ∙ c.take_end.ensures.turns d other;
     }
 
--- a call that nobody is in the way of does something
+-- a call whose stop isn't held by another call does an action
 pub unreachable-requires : goal.unreachable-requires
 unreachable-requires c =
     let p = passed (goal.at.unreachable-requires c).After-pass_stop-stepped in

@@ -1,4 +1,4 @@
--- What is still to be looked through decides.
+-- The events not yet searched determine the result.
 use Rattle.std.proofs.Common.{◌≡◌, reverse}
 use Rattle.std.specs.Slice.Iter.{iter_rest}
 use Rattle.std.specs.Iterator.Adapters.{rev_source}

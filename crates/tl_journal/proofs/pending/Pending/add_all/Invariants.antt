@@ -1,6 +1,6 @@
 use Rattle.tl_journal.specs.Pendings.{AddsAll}
 use Rattle.tl_journal.proofs.pending.Pending.add_all.Given as goal
 
--- what came of the first epochs was added
+-- the news of the first epochs was added
 abbrev pub invariant-loop-epoch : goal.invariant-loop-epoch
 invariant-loop-epoch l = AddsAll l.yielded l.initial.self l.self

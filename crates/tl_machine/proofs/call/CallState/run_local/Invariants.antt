@@ -5,7 +5,7 @@ use Rattle.tl_machine.specs.Call.{with_control}
 use Rattle.tl_machine.specs.Turns.{ComesByLocal}
 use Rattle.tl_machine.proofs.call.CallState.run_local.Given as goal
 
--- the call is open, where local instructions led it
+-- the call is open, in a state to which local instructions have led
 abbrev pub invariant-loop-pending : goal.invariant-loop-pending
 invariant-loop-pending l = record {
   stands : (parents : List ℕ) × IsBetweenSteps l.procedure.instrs parents (with_control l.self l.at);

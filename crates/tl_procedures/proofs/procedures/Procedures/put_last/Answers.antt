@@ -8,7 +8,7 @@ use Rattle.tl_procedures.specs.Names.{Named, number_of, naming_refusal}
 use Rattle.tl_procedures.proofs.Naming.{named, new_name, free_number, kept_free}
 use Rattle.tl_procedures.proofs.procedures.Procedures.put_last.Goals as goal
 
--- the pair goes last
+-- the pair is appended
 more : (c : goal.Joined-insert-2) → OnOk c.insert.result (map (named string_bytes arc_value) c.insert.new.self.entries
     ≡ map (named string_bytes arc_value) c.self.inside.by_name.entries ++ record { name = c.args.name.now; code = arc_value c.args.procedure } ∷ [])
 more c =

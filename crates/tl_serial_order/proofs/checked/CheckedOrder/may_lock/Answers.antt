@@ -13,7 +13,7 @@ use Rattle.tl_serial_order.proofs.CheckedLemmas.{stands_begun, is_other, first_l
 use Rattle.tl_serial_order.proofs.checked.CheckedOrder.may_lock.Goals as goal
 use Rattle.tl_serial_order.proofs.checked.CheckedOrder.may_lock.Goals.{then-node-eq0-via-then-node-eq0, then-node-eq0-via-else-node-eq0+then-ne}
 
--- an open call that doesn't stand in the order has locked nothing, and one that does has
+-- an open call has locked a node exactly if it occurs in the order
 begun_as : (parents : List ℕ) → IsTree parents → (past : List Event) (o : CheckedOrder) → IsChecked parents o past → (call : ℕ) (b : Bool) → b ≡ stands call o.kept.order.calls
     → is_done call past ≡ false → locked_any (part_of call past) ≡ b
 begun_as parents tree past o checked call b is open' =
@@ -31,7 +31,7 @@ returns-then-not-stands c past found checked =
       λ k. is_open.1 k.may_happen,
     )
 
--- a call that has begun doesn't lock the root, nor where it doesn't hold the parent
+-- a call that has begun may not lock the root, nor a node whose parent it doesn't hold
 pub returns-then-node-eq0 : goal.returns-then-node-eq0
 returns-then-node-eq0 c past found checked =
     let shape = c.args.shape.now in

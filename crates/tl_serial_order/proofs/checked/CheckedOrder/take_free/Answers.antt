@@ -12,7 +12,7 @@ returns-then-not-may_free-clause-legal c past left checked = (
   λ legal. sym c.if-not-may_free.true ∙ (c.may_free.ensures c.args.shape.now past left checked).1 legal.rules,
 )
 
--- where all was asked, the free is legal
+-- after all checks, the free is legal
 is_legal : (c : goal.After-note_free-arg-1) → (past : List Event) (left : Record) → IsChecked c.args.shape.now c.args.self.now past
     → IsLegal c.args.shape.now c.args.self.now past (Free c.args.node c.args.call left)
 is_legal c past left checked = record {

@@ -17,7 +17,7 @@ returns-then-not-may_lock-clause-legal c past found checked = (
   ],
 )
 
--- where all was asked, the lock is legal
+-- after all checks, the lock is legal
 is_legal : (c : goal.After-note_lock-arg-1) → (past : List Event) (found : Record) → IsChecked c.args.shape.now c.args.self.now past
     → IsLegal c.args.shape.now c.args.self.now past (Lock c.args.node c.args.call found)
 is_legal c past found checked = record {

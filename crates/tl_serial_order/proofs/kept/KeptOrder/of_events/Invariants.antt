@@ -1,4 +1,4 @@
--- What is kept is of the events so far.
+-- The stored order is that of the events so far.
 use Rattle.std.proofs.Common.{◌≡◌, length, take, reverse}
 use Rattle.tl_serial_order.specs.Kept.{IsOfSize, IsKept}
 use Rattle.tl_serial_order.proofs.kept.KeptOrder.of_events.Given as goal

@@ -4,7 +4,7 @@ use Rattle.tl_tree_locking.proofs.MayComeLemmas.{comes}
 use Rattle.tl_serial_order.specs.Part.{IsPart}
 use Rattle.tl_serial_order.proofs.part.Part.may_come.Given as goal
 
--- what is met from here on up decides
+-- the nodes from this one on up determine the result
 abbrev pub invariant-loop-step : goal.invariant-loop-step
 invariant-loop-step l =
     (l.step < length l.shape)

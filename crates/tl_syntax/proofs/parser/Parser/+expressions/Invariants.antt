@@ -1,4 +1,4 @@
--- Each call opens a level, or is of a rule further down. What a chain has read so far is an expression of its rule.
+-- Each call opens a level or is for a tighter rule. What a chain has read so far is an expression of its rule.
 use Rattle.std.proofs.Common.{◌+◌, ◌*◌, ◌≤◌}
 use Rattle.tl_syntax.specs.Grammar.{IsChain, Disjunction, Conjunction, Sum, Term}
 use Rattle.tl_syntax.proofs.parser.Parser.+expressions.Given as goal

@@ -1,4 +1,4 @@
--- What was read so far.
+-- The tokens read so far denote the declarations.
 use Rattle.tl_syntax.specs.Declarations.{AreDeclarations}
 use Rattle.tl_syntax.proofs.parser.Parser.declarations.Given as goal
 

@@ -1,4 +1,4 @@
--- What was read so far.
+-- The tokens read so far denote the names.
 use Rattle.tl_syntax.specs.Declarations.{AreNames}
 use Rattle.tl_syntax.proofs.parser.Parser.names.Given as goal
 

@@ -1,4 +1,4 @@
--- What was read so far.
+-- The tokens read so far denote the expressions.
 use Rattle.tl_syntax.specs.Statements.{AreExpressions}
 use Rattle.tl_syntax.proofs.parser.Parser.values.Given as goal
 

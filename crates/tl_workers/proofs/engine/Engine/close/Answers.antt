@@ -20,7 +20,7 @@ returns-then-not-all_match-clause-err c =
     let chain : Q c.in-Ok.closed.items c.args.sessions.items = subst (λ es. Q es c.args.sessions.items) c.as_slice.ensures.value sessions in
     (refl, inr (subst (λ es. Q es c.args.sessions.items) (sym c.reopened.ensures) chain))
 
--- the sessions that were handed in match
+-- the sessions that were given match
 matched : (held es : List EpochValue) (given sessions : List SessionValue) → held ≡ es → given ≡ sessions → All (Matches held) given → All (Matches es) sessions
 matched held es given sessions chain same all = subst (λ xs. All (Matches xs) sessions) chain (subst (λ xs. All (Matches held) xs) same all)
 
