@@ -1,0 +1,81 @@
+// Written by `tools/faults` from `docs/use/faults.md`.
+
+use crate::meanings::Meaning;
+
+pub fn from_1001_to_1090(number: u16) -> Option<Meaning> {
+    match number {
+        1001 => Some(Meaning {
+            parts: "",
+            name: "store not opened",
+            when: "the store's file can't be opened or made, is no regular file, or SQLite left a journal beside it",
+            advice: "look at the path and its rights; where there is a journal, open the file once with `sqlite3`",
+        }),
+        1002 => Some(Meaning {
+            parts: "",
+            name: "store in use",
+            when: "another program has the store open",
+            advice: "end that program: a store has one server",
+        }),
+        1003 => Some(Meaning {
+            parts: ", table",
+            name: "not a store",
+            when: "the table has a row of another form: 0 node, 1 record, 2 procedure, 3 call, 4 turn, 5 reply, 6 seal; 9: the file has other tables",
+            advice: "no server leaves such a file; name another one, or take back what was changed in it",
+        }),
+        1004 => Some(Meaning {
+            parts: ", turn",
+            name: "turn of no call",
+            when: "a stored turn, counted from the last seal, is of a call that isn't stored",
+            advice: "no server leaves such a file; take back what was changed in it",
+        }),
+        1005 => Some(Meaning {
+            parts: ", turn",
+            name: "turn that can't be",
+            when: "a stored turn, counted from the last seal, is of a call that is over, that waits for another, or that wasn't admitted",
+            advice: "no server leaves such a file; take back what was changed in it",
+        }),
+        1006 => Some(Meaning {
+            parts: ", call",
+            name: "another reply",
+            when: "the stored reply isn't that of the call, taken again",
+            advice: "no server leaves such a file; take back what was changed in it",
+        }),
+        1008 => Some(Meaning {
+            parts: "",
+            name: "no store",
+            when: "there is no store of this name, and no `--tree` to make one of",
+            advice: "look at the name, or say by `--tree` what the store begins with",
+        }),
+        1009 => Some(Meaning {
+            parts: "",
+            name: "store and tree",
+            when: "there is a store, which has a tree, and `--tree` names another",
+            advice: "leave out `--tree`, or name another file",
+        }),
+        1011 => Some(Meaning {
+            parts: "",
+            name: "disk failed",
+            when: "the disk failed while the store was read or written; what wasn't answered may be there or not",
+            advice: "look at the disk, and start the server again: it finds all that was answered",
+        }),
+        1012 => Some(Meaning {
+            parts: "",
+            name: "disk full",
+            when: "the disk has no room for the store; what wasn't answered may be there or not",
+            advice: "make room, and start the server again: it finds all that was answered",
+        }),
+        1013 => Some(Meaning {
+            parts: "",
+            name: "file damaged",
+            when: "a page of the store's file isn't what was written",
+            advice: "take a copy from before",
+        }),
+        1090 => Some(Meaning {
+            parts: "",
+            name: "memory, store",
+            when: "memory was refused for the store",
+            advice: "start the server again with more memory: it finds all that was answered",
+        }),
+        _ => None,
+    }
+}
