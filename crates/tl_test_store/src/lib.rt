@@ -1,0 +1,13 @@
+//! The tests of what is stored: a store that is made, crashes, is opened again, and makes its core again.
+#![tactic(auto)]
+
+#[cfg(test)]
+mod closings;
+#[cfg(test)]
+mod crashes;
+#[cfg(test)]
+mod files;
+#[cfg(test)]
+mod seen;
+#[cfg(test)]
+mod steps;
