@@ -3,6 +3,7 @@ use Rattle.std.proofs.Common.{◌≡◌, ℕ, ◌+◌, ◌/◌, List, [], ◌∷
 use Rattle.std.specs.List.{All}
 use Rattle.std.proofs.lemmas.List.Elements.{All-nil, All-cons, All-head, All-tail, All-push, All-take, All-drop}
 use Rattle.tl_syntax.specs.declared.parsed.Name.{Name}
+use Rattle.tl_syntax.specs.declared.parsed.Write.{Write}
 use Rattle.tl_syntax.specs.declared.parsed.Action.{Action}
 use Rattle.tl_syntax.specs.declared.parsed.Declaration.{Declaration}
 use Rattle.tl_syntax.specs.declared.parsed.Expression.{Expression as TextExpression}
@@ -15,7 +16,7 @@ use Rattle.tl_lowering.specs.declared.program.Procedure.{Procedure}
 use Rattle.tl_lowering.specs.declared.program.Statement.{Statement}
 use Rattle.tl_lowering.specs.declared.program.Statement.TheVariants as S
 use Rattle.tl_lowering.specs.Names.{Names, with_values, with_place}
-use Rattle.tl_lowering.specs.Naming.{opposite, calculated, then, IsHalved, none, one, more, AreEmits, no_emits, next_emit, IsAction, assigns, writes, emits, requires, descends, takes, frees, breaks, returns, fails}
+use Rattle.tl_lowering.specs.Naming.{opposite, calculated, then, IsHalved, none, one, more, AreEmits, no_emits, next_emit, AreWritten, all_computed, next_computed, IsWritten, one_write, several_writes, IsAction, assigns, writes, emits, requires, descends, takes, frees, breaks, returns, fails}
 use Rattle.tl_lowering.specs.Reading.{IsAtOffset, at, IsTried, tried, IsVisiting, visiting, IsBlock, block, AreStatements, no_more, next, let_rest, let_else, lock_rest, lock_else, IsStatement, act, act_else, try, if, if_lock, repeat, repeat_up_to, for_each, IsBody, IsProcedure, AreDeclared, none_declared, next_field, next_constant, next_procedure, IsProgram}
 use Rattle.tl_lowering.specs.Sound.{IsInOrder}
 use Rattle.tl_compiler.specs.Rooms.{IsNumbered, IsReady}
@@ -39,17 +40,25 @@ emitted : {names : Names} {xs : List TextExpression} {parts : List Statement} (d
 emitted d no_emits = All-nil (λ s. IsNumbered s d)
 emitted d (next_emit {emits = so_far} {e = e} a before n has) = All-push (λ s. IsNumbered s d) so_far (S.Emit e) (emitted d before) tt
 
-action : {names : Names} {a : Action} {s : Statement} (d : ℕ) → IsAction names a s → IsNumbered s d
-action d (assigns e n c has) = tt
-action d (writes e f n c has) = tt
-action d (emits e) = halved d e.joined (emitted d e.each)
-action d (requires c) = (tt, tt)
-action d (descends room e n has) = tt
-action d (takes e f) = tt
-action d (frees e) = tt
-action d (breaks lt) = tt
-action d returns = tt
-action d fails = tt
+computed : {names : Names} {t : ℕ} {ws : List Write} {done whole : Statement} → AreWritten names t ws done whole → ((d : ℕ) → IsNumbered done d) → IsNumbered whole t
+computed {t = t} all_computed n = n t
+computed (next_computed u lt has then rest) n = (refl, computed rest (λ d. (n d, tt)))
+
+written : {names : Names} {w : Write} {ws : List Write} {s : Statement} → IsWritten names w ws s → IsNumbered s names.values
+written (one_write u has) = tt
+written (several_writes a) = computed a (λ d. tt)
+
+action : {names : Names} {a : Action} {s : Statement} → IsAction names a s → IsNumbered s names.values
+action (assigns e n c has) = tt
+action (writes w) = written w
+action {names} (emits e) = halved names.values e.joined (emitted names.values e.each)
+action (requires c) = (tt, tt)
+action (descends room e n has) = tt
+action (takes e f) = tt
+action (frees e) = tt
+action (breaks lt) = tt
+action returns = tt
+action fails = tt
 
 beside : (names : Names) (text : TextPlace) (a : Statement) → IsNumbered a (with_place names text).values → IsNumbered a names.values
 beside names (T.Node name offset number) a n = n
@@ -74,8 +83,8 @@ mutual
       All-cons (λ s. IsNumbered s names.values) a [] (placed names.values (beside names text body (in_block b), in_block other) o) (All-nil (λ s. IsNumbered s names.values))
 
   in_statement : {names : Names} {form : StatementForm} {s : Statement} → IsStatement names form s → IsNumbered s names.values
-  in_statement {names} (act a) = action names.values a
-  in_statement {names} (act_else a h t) = handled names.values (action names.values a) (in_block h) t
+  in_statement (act a) = action a
+  in_statement {names} (act_else a h t) = handled names.values (action a) (in_block h) t
   in_statement {names} (try xs ys a b t) = handled names.values (in_block a) (in_block b) t
   in_statement (if xs ys c a b) = (in_block a, in_block b)
   in_statement {names} (if_lock {text = text} xs ys {a = a} place x y) = (beside names text a (in_block x), in_block y)

@@ -173,7 +173,7 @@ fn compile_all(
 
 /// The procedures of a text, in order, each accepted by the verifier.
 ///
-/// Otherwise the first fault: 255 if the text isn't UTF-8; 270 to 293 for the text; 294 to 297, procedure by procedure. 290
+/// Otherwise the first fault: 255 if the text isn't UTF-8; 270 to 293 and 299 for the text; 294 to 297, procedure by procedure. 290
 /// if memory was refused.
 #[tactic(auto, using(crate::proofs::FaultLemmas::of_text, crate::proofs::CompileLemmas::compiles, crate::proofs::NumberingLemmas::ready))]
 pub fn compile(alloc: Global, text: &[u8]) -> Result<Vec<Compiled>, CompileFault>

@@ -16,13 +16,13 @@ pub enum Excess {
     #[error("more than 1,024 instructions")]
     Instructions,
     /// 295.
-    #[error("more than 1,000,000 steps")]
+    #[error("more than 1,000,000 steps, each counted as often as the loops around it may turn")]
     Steps,
     /// 296.
-    #[error("more than 4,096 locks")]
+    #[error("more than 4,096 locks, each counted as often as the loops around it may turn")]
     Locks,
     /// 297.
-    #[error("more than 32 emitted values")]
+    #[error("more than 32 emitted values, each counted as often as the loops around it may turn (remember what was found, and emit it behind the loop)")]
     Emits,
 }
 
@@ -47,7 +47,7 @@ pub enum CompileFault {
     /// 255: the text isn't UTF-8.
     #[error("the text is not UTF-8")]
     NotUtf8,
-    /// 270 to 293: the first fault of the text, and where it is.
+    /// 270 to 293 and 299: the first fault of the text, and where it is.
     #[error("{1}: {0}")]
     Wrong(Wrong, Position),
     /// 294 to 297: too much of something, how much in all, and the statement that most of it is for.

@@ -76,7 +76,7 @@ fn procedures_of_text(alloc: Global, text: &[u8]) -> Result<Vec<Compiled>, Langu
 /// The line that says what the procedure of that name does at most and how many instructions it has, and its container.
 /// Without a name, it is the only procedure of the text. Takes the bytes of the text's file.
 ///
-/// Otherwise the first fault: 255; 270 to 293 for the text; 294 to 297, procedure by procedure; 289. If memory was refused,
+/// Otherwise the first fault: 255; 270 to 293 and 299 for the text; 294 to 297, procedure by procedure; 289. If memory was refused,
 /// 290 or 990.
 pub fn compile_cmd(
     alloc: Global,
@@ -146,7 +146,7 @@ fn all_checked_to_value(alloc: Global, procedures: &[Compiled]) -> Result<Value,
 /// The line for the procedures of a text, `[[name,text],..]`, each with its canonical assembler text. Takes the bytes of
 /// the text's file.
 ///
-/// Otherwise the first fault: 255; 270 to 293 for the text; 294 to 297, procedure by procedure. If memory was refused, 290
+/// Otherwise the first fault: 255; 270 to 293 and 299 for the text; 294 to 297, procedure by procedure. If memory was refused, 290
 /// or 990.
 pub fn procs_cmd(alloc: Global, text: &[u8]) -> Result<String, LanguageFault>
     ensures printed { IfOk result (λ s. ListsText procedure_data text.now (string_bytes s)) }

@@ -13,7 +13,7 @@ use tl_instr::CodeFault;
 /// Why there is nothing to print for a text of the procedure language.
 #[derive(Clone, Copy, Debug, PartialEq, Eq, Error)]
 pub enum LanguageFault {
-    /// 255, 270 to 297: the text.
+    /// 255, 270 to 297 and 299: the text.
     #[error("the text: {0}")]
     Compile(CompileFault),
     /// 290: the container.

@@ -71,7 +71,7 @@ visiting_of same turns x (visiting opposite calculated then then) (visiting oppo
 
 no_action : {names : Names} {action : Action} {a : Statement} → IsAction names action a → declares action ≡ true → ⊥
 no_action (assigns g n c has) e = cc
-no_action (writes g i n c has) e = cc
+no_action (writes w) e = cc
 no_action (emits h) e = cc
 no_action (requires c) e = cc
 no_action (descends a g n has) e = cc
@@ -95,7 +95,7 @@ same_declares : {a b : Action} → AlikeAction a b → declares a ≡ declares b
 same_declares T.same_action = refl
 same_declares (T.lets x) = refl
 same_declares (T.assigns x) = refl
-same_declares (T.writes x) = refl
+same_declares (T.writes x h) = refl
 same_declares (T.emits x) = refl
 same_declares (T.requires x) = refl
 same_declares (T.locks x) = refl
@@ -237,7 +237,7 @@ alike_procedure {spellings} {names} {other = other} {q = q} s f k = record {
 }
 
 procedure_itself : {spellings : List (List ℕ)} {names : Names} {text : TextProcedure} {p : Procedure} → IsProcedure spellings names text p → AlikeProcedure text text
-procedure_itself f = record { name = refl; arguments = refl; body = block_itself f.body.body_is; otherwise = block_itself f.body.handler_is }
+procedure_itself f = record { mark = refl; name = refl; arguments = refl; body = block_itself f.body.body_is; otherwise = block_itself f.body.handler_is }
 
 pub alike_procedures : {spellings : List (List ℕ)} {names : Names} {ds es : List Declaration} {ps qs : List Procedure} → PairedDeclarations ds es →
     AreDeclared spellings names ds ps → AreDeclared spellings names es qs → SameProcedures ps qs

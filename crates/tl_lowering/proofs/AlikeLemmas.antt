@@ -8,10 +8,11 @@ use Rattle.tl_syntax.specs.declared.parsed.Change.{Change}
 use Rattle.tl_syntax.specs.declared.parsed.Change.TheVariants as H
 use Rattle.tl_syntax.specs.declared.parsed.Form.{Form}
 use Rattle.tl_syntax.specs.declared.parsed.Expression.{Expression as TextExpression}
+use Rattle.tl_syntax.specs.declared.parsed.Write.{Write}
 use Rattle.tl_syntax.specs.declared.parsed.Action.{Action}
 use Rattle.tl_syntax.specs.declared.parsed.Place.{Place as TextPlace}
 use Rattle.tl_syntax.specs.Alike as T
-use Rattle.tl_syntax.specs.Alike.{AlikeForm, AreAlike, AlikePlace, AlikeAction}
+use Rattle.tl_syntax.specs.Alike.{AlikeForm, AreAlike, AlikePlace, AlikeWrite, AlikeWrites, AlikeAction}
 use Rattle.tl_syntax.proofs.AlikeForms.{form_of, same_rank, same_plain, same_first, same_second, same_operator, same_comparison}
 use Rattle.tl_syntax.proofs.AlikeParts.{same_action_rank, assign_of, write_of, emit_of, require_of, descend_of, take_of, free_of, leave_of}
 use Rattle.tl_lowering.specs.declared.program.Condition.{Condition}
@@ -20,9 +21,9 @@ use Rattle.tl_lowering.specs.declared.program.Expression.{Expression}
 use Rattle.tl_lowering.specs.declared.program.Expression.TheVariants as E
 use Rattle.tl_lowering.specs.declared.program.Place.{Place}
 use Rattle.tl_lowering.specs.declared.program.Statement.{Statement}
-use Rattle.tl_lowering.specs.Alike.{SameNumber, same_constant, same_value, same_field, same_children, same_operation, SameCondition, same_less, same_greater, same_equal, same_not, same_and, SamePlace, same_node, same_child, same_pair, SameStatement, same_skip, same_sequence, same_assign, same_write, same_emit, same_free, same_descend, same_take, same_break, same_return, same_fail, same_if, AllSame, none_same, more_same}
+use Rattle.tl_lowering.specs.Alike.{SameNumber, same_constant, same_value, same_field, same_children, same_operation, SameCondition, same_less, same_greater, same_equal, same_not, same_and, SamePlace, same_node, same_child, same_pair, SameStatement, same_skip, same_sequence, same_assign, same_write, same_emit, same_free, same_descend, same_take, same_break, same_return, same_fail, same_if, same_let, AllSame, none_same, more_same}
 use Rattle.tl_lowering.specs.Names.{Names, stands_for, field_named, with_node, with_place}
-use Rattle.tl_lowering.specs.Naming.{IsCalculated, calculated, IsNumber, number, constant, value, index, field, children, negated, operation, IsCount, count, constant_count, IsNot, opposite, IsBoth, together, IsComparison, IsCondition, comparison, negation, conjunction, disjunction, IsPlace, node, child, pair, IsThen, then, IsHalved, none, one, more, IsChanged, AreEmits, no_emits, next_emit, IsAction, assigns, writes, emits, requires, descends, takes, frees, breaks, returns, fails}
+use Rattle.tl_lowering.specs.Naming.{IsCalculated, calculated, IsNumber, number, constant, value, index, field, children, negated, operation, IsCount, count, constant_count, IsNot, opposite, IsBoth, together, IsComparison, IsCondition, comparison, negation, conjunction, disjunction, IsPlace, node, child, pair, IsThen, then, IsHalved, none, one, more, IsChanged, AreEmits, no_emits, next_emit, IsUpdate, AreWritten, all_computed, next_computed, IsWritten, one_write, several_writes, IsAction, assigns, writes, emits, requires, descends, takes, frees, breaks, returns, fails}
 
 -- ---- numbers and conditions
 
@@ -163,14 +164,35 @@ alike_halved {xs} {ys} h (more {a = a} {b = b} long s t w) (more {a = c} {b = d}
     then_of (alike_halved (take_same (length xs / 2) h) s (subst (λ m. IsHalved c (take m ys)) n u))
     (alike_halved (drop_same (length xs / 2) h) t (subst (λ m. IsHalved d (drop m ys)) n v)) w z
 
+-- ---- writes
+
+alike_update : {names : Names} {v w : Write} {n m k l : ℕ} {e f : Expression} → AlikeWrite v w → IsUpdate names v n k e → IsUpdate names w m l f → (n ≡ m) × (k ≡ l) × SameNumber e f
+alike_update {names} {v} {w} {n} {m} {k} {l} {e} {f} x a b =
+    let node = sym a.node_is ∙ ap (stands_for names) x.node ∙ b.node_is in
+    let field = sym a.field_is ∙ ap (field_named names) x.field ∙ b.field_is in (
+      cc,
+      cc,
+      alike_changed v.change (same_field (cc) (cc)) (alike_number (form_of x.value) a.operand_is b.operand_is) a.new_is
+          (subst (λ z. IsChanged (E.Field m l) z b.operand f) (sym x.change) b.new_is),
+    )
+
+alike_computed : {names : Names} {vs ws : List Write} {t : ℕ} {a b x y : Statement} → AlikeWrites vs ws → AreWritten names t vs a x → AreWritten names t ws b y → SameStatement a b → SameStatement x y
+alike_computed T.no_writes all_computed all_computed s = s
+alike_computed (T.more_writes x h) (next_computed u lt has then rest) (next_computed o below its then others) s =
+    let same = alike_update x u o in
+    same_let refl same.2 (alike_computed h rest others (same_sequence s (same_write same.0 same.1 (same_value refl))))
+
+alike_written : {names : Names} {v w : Write} {vs ws : List Write} {a b : Statement} → AlikeWrite v w → AlikeWrites vs ws → IsWritten names v vs a → IsWritten names w ws b → SameStatement a b
+alike_written x h (one_write u has) (one_write o its) = let same = alike_update x u o in same_write same.0 same.1 same.2
+alike_written x h (several_writes a) (several_writes b) = alike_computed (T.more_writes x h) a b same_skip
+alike_written x h (one_write u has) (several_writes b) = elim h [ ]
+alike_written x h (several_writes a) (one_write o its) = elim h [ ]
+
 pub alike_action : {names : Names} {action other : Action} {a b : Statement} → AlikeAction action other → IsAction names action a → IsAction names other b → SameStatement a b
 alike_action {names} s (assigns {change = change} g n c has) (assigns {x = y} {e = e} {f = f} h m d its) =
     let same = assign_of s in let w = sym g ∙ ap (stands_for names) same.0 ∙ h in
     same_assign (cc) (alike_changed change (same_value cc) (alike_number same.2 n m) c (subst (λ z. IsChanged (E.Value y) z e f) (sym same.1) d))
-alike_action {names} s (writes {change = change} g i n c has) (writes {n = y} {k = k} {e = e} {f = f} h j m d its) =
-    let same = write_of s in
-    let w = sym g ∙ ap (stands_for names) same.0 ∙ h in let v = sym i ∙ ap (field_named names) same.1 ∙ j in
-    same_write (cc) (cc) (alike_changed change (same_field (cc) (cc)) (alike_number same.3 n m) c (subst (λ z. IsChanged (E.Field y k) z e f) (sym same.2) d))
+alike_action s (writes g) (writes h) = let same = write_of s in alike_written same.0 same.1 g h
 alike_action s (emits g) (emits h) = alike_halved (alike_emits (emit_of s) refl refl g.each h.each) g.joined h.joined
 alike_action s (requires c) (requires d) = same_if (alike_condition (require_of s) c d) same_skip same_fail
 alike_action {names} s (descends a g n has) (descends b h m its) =

@@ -30,7 +30,7 @@ use Rattle.tl_lowering.specs.Repeating.{IsRepetition}
 use Rattle.tl_lowering.specs.Scopes.{View, meaning_of, IsBelow, IsInUse}
 use Rattle.tl_lowering.specs.Sets.{Nodes, holds, minus}
 use Rattle.tl_lowering.proofs.BitLemmas.{bits_are}
-use Rattle.tl_lowering.proofs.DescendLemmas.{descend_halved, emits_nothing, at_offset, in_block, block_are, block_descends, knows_child, knows_loop}
+use Rattle.tl_lowering.proofs.DescendLemmas.{descend_halved, emits_nothing, writes_nothing, at_offset, in_block, block_are, block_descends, knows_child, knows_loop}
 use Rattle.tl_lowering.proofs.NumberLemmas.{new_beside}
 
 -- ---- names stand for nodes in use
@@ -128,7 +128,7 @@ locking_beyond {names} body n le (pair fresh second room p q e f g h) inside =
 
 action_beyond : {names : Names} {a : Action} {s : Statement} (n : ℕ) → AreNamed names → names.nodes ≤ n → IsAction names a s → descends_from s n ≡ false
 action_beyond n named le (assigns f g h i) = refl
-action_beyond n named le (writes f g h i j) = refl
+action_beyond n named le (writes w) = writes_nothing n w
 action_beyond n named le (emits whole) = descend_halved n whole.joined ∙ emits_nothing n whole.each
 action_beyond n named le (requires f) = refl
 action_beyond n named le (descends {node = name} {n = k} room is num fits) = let lt = named.below name.symbol.0 k is in ne_eqb k n (λ e. absurd (omega arith))

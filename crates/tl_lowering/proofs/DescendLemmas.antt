@@ -5,6 +5,7 @@ use Rattle.std.proofs.lemmas.Bool.{eq-eqb, ne_eqb, cases_eq, cases_lt}
 use Rattle.std.proofs.lemmas.List.{get_or_past, get_or-set_same, get_or-set_other, length-set}
 use Rattle.std.specs.declared.vec.Vec.{Vec}
 use Rattle.std.specs.declared.alloc.Global.{Global}
+use Rattle.tl_syntax.specs.declared.parsed.Write.{Write}
 use Rattle.tl_syntax.specs.declared.parsed.Action.{Action}
 use Rattle.tl_syntax.specs.declared.parsed.Action.TheVariants as A
 use Rattle.tl_syntax.specs.declared.parsed.Otherwise.{Otherwise, out-Otherwise}
@@ -25,7 +26,7 @@ use Rattle.tl_lowering.specs.declared.scope.Meaning.{Meaning}
 use Rattle.tl_lowering.specs.declared.scope.Meaning.TheVariants as M
 use Rattle.tl_lowering.specs.Descending.{locks_in, descends_from, descend_from, node_in, is_in, Knows, IsDescending, here, declared, declared_else, IsElseDescending, no_else, some_else}
 use Rattle.tl_lowering.specs.Names.{Names, IsNew, AreFresh, in_loop, with_index, with_value, with_node, with_place}
-use Rattle.tl_lowering.specs.Naming.{declares, IsPlace, node, child, pair, AreEmits, no_emits, next_emit, IsAction, assigns, writes, emits, requires, descends, takes, frees, breaks, returns, fails, then, IsHalved, none, one, more, calculated, opposite}
+use Rattle.tl_lowering.specs.Naming.{declares, IsPlace, node, child, pair, AreEmits, no_emits, next_emit, AreWritten, all_computed, next_computed, IsWritten, one_write, several_writes, IsAction, assigns, writes, emits, requires, descends, takes, frees, breaks, returns, fails, then, IsHalved, none, one, more, calculated, opposite}
 use Rattle.tl_lowering.specs.Reading.{IsAtOffset, at, tried, IsVisiting, visiting, IsBlock, block, AreStatements, no_more, next, let_rest, let_else, lock_rest, lock_else, IsStatement, act, act_else, try, if, if_lock, repeat, repeat_up_to, for_each}
 use Rattle.tl_lowering.specs.Scopes.{View}
 use Rattle.tl_lowering.specs.Sets.{Nodes, holds}
@@ -261,10 +262,18 @@ emits_nothing n no_emits = refl
 emits_nothing n (next_emit {emits = parts} {e = e} a earlier is fits) =
     descend_append parts (S.Emit e ∷ []) n ∙ ap (λ z. z || descend_from (S.Emit e ∷ []) n) (emits_nothing n earlier)
 
+computes_nothing : {names : Names} {t : ℕ} {ws : List Write} {done whole : Statement} (n : ℕ) → AreWritten names t ws done whole → descends_from done n ≡ false → descends_from whole n ≡ false
+computes_nothing n all_computed e = e
+computes_nothing n (next_computed u lt has then rest) e = computes_nothing n rest (ap (λ z. z || false) e)
+
+pub writes_nothing : {names : Names} {w : Write} {ws : List Write} {whole : Statement} (n : ℕ) → IsWritten names w ws whole → descends_from whole n ≡ false
+writes_nothing n (one_write u has) = refl
+writes_nothing n (several_writes a) = computes_nothing n a refl
+
 pub descend_is : {outer : View} {names : Names} {action : Action} {a : Statement} (n : ℕ) {node : Name} {number : TextExpression} → Knows outer names → n < outer.nodes → action ≡ A.Descend node number → IsAction names action a
     → is_in (node_in (get_or outer.meanings node.symbol.0 M.Nothing)) n ≡ descends_from a n
 descend_is n k lt e (assigns f g h i) = cc
-descend_is n k lt e (writes f g h i j) = cc
+descend_is n k lt e (writes w) = cc
 descend_is n k lt e (emits whole) = cc
 descend_is n k lt e (requires f) = cc
 descend_is {outer} n {node = of} k lt e (descends {node = name} {n = r} room is num fits) =
@@ -279,7 +288,7 @@ descend_is n k lt e fails = cc
 pub take_is : {outer : View} {names : Names} {action : Action} {a : Statement} (n : ℕ) {node from : Name} → Knows outer names → n < outer.nodes → action ≡ A.Take node from → IsAction names action a
     → is_in (node_in (get_or outer.meanings node.symbol.0 M.Nothing)) n ≡ descends_from a n
 take_is n k lt e (assigns f g h i) = cc
-take_is n k lt e (writes f g h i j) = cc
+take_is n k lt e (writes w) = cc
 take_is n k lt e (emits whole) = cc
 take_is n k lt e (requires f) = cc
 take_is n k lt e (descends room is num fits) = cc
@@ -293,7 +302,7 @@ take_is n k lt e fails = cc
 
 pub other_is : {names : Names} {action : Action} {a : Statement} (n : ℕ) → ((node : Name) (number : TextExpression) → action ≡ A.Descend node number → ⊥) → ((node from : Name) → action ≡ A.Take node from → ⊥) → IsAction names action a → descends_from a n ≡ false
 other_is n d t (assigns f g h i) = refl
-other_is n d t (writes f g h i j) = refl
+other_is n d t (writes w) = writes_nothing n w
 other_is n d t (emits whole) = descend_halved n whole.joined ∙ emits_nothing n whole.each
 other_is n d t (requires f) = refl
 other_is n d t (descends {node = of} {a = number} room is num fits) = absurd (d of number refl)

@@ -1,5 +1,5 @@
 -- What is read uses only registers that exist, and its loops have positive counts and don't nest too deep.
-use Rattle.std.proofs.Common.{◌≡◌, ℕ, ◌+◌, ◌/◌, ◌<◌, ◌≤◌, List, [], length, Option, sym, subst, arith}
+use Rattle.std.proofs.Common.{◌≡◌, ℕ, ◌+◌, ◌/◌, ◌<◌, ◌≤◌, List, [], ◌∷◌, length, Option, sym, subst, arith}
 use Rattle.std.specs.Prelude.{max, nat_lt, false}
 use Rattle.std.specs.List.{All}
 use Rattle.std.proofs.lemmas.List.Elements.{All-nil, All-cons, All-head, All-push, All-take, All-drop}
@@ -11,6 +11,7 @@ use Rattle.tl_syntax.specs.declared.parsed.Comparison.TheVariants as K
 use Rattle.tl_syntax.specs.declared.parsed.Form.{Form}
 use Rattle.tl_syntax.specs.declared.parsed.Expression.{Expression as TextExpression}
 use Rattle.tl_syntax.specs.declared.parsed.Action.{Action}
+use Rattle.tl_syntax.specs.declared.parsed.Write.{Write}
 use Rattle.tl_syntax.specs.declared.parsed.Place.{Place as TextPlace}
 use Rattle.tl_syntax.specs.declared.parsed.Place.TheVariants as T
 use Rattle.tl_syntax.specs.declared.parsed.Procedure.{Procedure as TextProcedure}
@@ -24,7 +25,7 @@ use Rattle.tl_lowering.specs.declared.program.Statement.{Statement}
 use Rattle.tl_lowering.specs.declared.program.Statement.TheVariants as S
 use Rattle.tl_lowering.specs.Fit.{loops, AllTurn, AllSlots, HasBoth, IsWord, HasConditionRoom, HasRoom}
 use Rattle.tl_lowering.specs.Names.{Names, names_in, HasNode, in_loop, with_node, with_index, with_place}
-use Rattle.tl_lowering.specs.Naming.{IsCount, count, constant_count, IsPlace, node, child, pair, calculated, opposite, together, IsComparison, IsCondition, comparison, negation, conjunction, disjunction, then, IsHalved, none, one, more, AreEmits, no_emits, next_emit, IsAction, assigns, writes, emits, requires, descends, takes, frees, breaks, returns, fails}
+use Rattle.tl_lowering.specs.Naming.{IsCount, count, constant_count, IsPlace, node, child, pair, calculated, opposite, together, IsComparison, IsCondition, comparison, negation, conjunction, disjunction, then, IsHalved, none, one, more, AreEmits, no_emits, next_emit, AreWritten, all_computed, next_computed, IsWritten, one_write, several_writes, IsAction, assigns, writes, emits, requires, descends, takes, frees, breaks, returns, fails}
 use Rattle.tl_lowering.specs.Outcomes.{fails as failures}
 use Rattle.tl_lowering.specs.Passing.{nothing_before, EntersOnce}
 use Rattle.tl_lowering.specs.Reading.{IsAtOffset, at, IsTried, tried, IsVisiting, visiting, IsBlock, block, AreStatements, no_more, next, let_rest, let_else, lock_rest, lock_else, IsStatement, act, act_else, try, if, if_lock, repeat, repeat_up_to, for_each, IsBody}
@@ -105,9 +106,31 @@ emitted {names} le no_emits = All-nil (Fits names)
 emitted {names} le (next_emit {emits = so_far} {e = e} a before n has) =
     All-push (Fits names) so_far (S.Emit e) (emitted le before) (record { turns = tt; slots = tt; depth = omega arith; room = has })
 
+-- what is done once all numbers are computed needs no registers of its own
+record Settles (names : Names) (s : Statement) : Type 0 where
+  turns : AllTurn s
+  slots : AllSlots s names.nodes
+  depth : loops s + names.loops ≤ MAX_DEPTH
+  room : (d : ℕ) → d ≤ VALUE_REGISTERS → HasRoom s d
+
+computed : {names : Names} {t : ℕ} {ws : List Write} {done whole : Statement} → t ≤ VALUE_REGISTERS → AreWritten names t ws done whole → Settles names done → Fits (record names { values = t }) whole
+computed {t = t} le all_computed x = record { turns = x.turns; slots = x.slots; depth = x.depth; room = x.room t le }
+computed le (next_computed {t = t} u lt has then rest) x =
+    let more = computed (omega (arith, lt)) rest (record { turns = (x.turns, tt); slots = (x.slots, tt); depth = omega (arith, x.depth); room = λ d few. (x.room d few, omega (arith, few)) }) in
+    record { turns = more.turns; slots = more.slots; depth = more.depth; room = (has, more.room) }
+
+first_free : {names : Names} {t : ℕ} {w : Write} {ws : List Write} {done whole : Statement} → AreWritten names t (w ∷ ws) done whole → t ≤ VALUE_REGISTERS
+first_free (next_computed u lt has then rest) = omega (arith, lt)
+
+written : {names : Names} {w : Write} {ws : List Write} {whole : Statement} → names.loops ≤ MAX_DEPTH → IsWritten names w ws whole → Fits names whole
+written le (one_write u has) = record { turns = tt; slots = tt; depth = omega arith; room = has }
+written le (several_writes a) =
+    let x = computed (first_free a) a (record { turns = tt; slots = tt; depth = omega (arith, le); room = λ d few. tt }) in
+    record { turns = x.turns; slots = x.slots; depth = x.depth; room = x.room }
+
 action : {names : Names} {a : Action} {s : Statement} → names.loops ≤ MAX_DEPTH → IsAction names a s → Fits names s
 action le (assigns e n c has) = record { turns = tt; slots = tt; depth = omega arith; room = has }
-action le (writes e f n c has) = record { turns = tt; slots = tt; depth = omega arith; room = has }
+action le (writes w) = written le w
 action le (emits e) = halved le e.joined (emitted le e.each)
 action le (requires c) = record { turns = (tt, tt); slots = (tt, tt); depth = omega arith; room = (tested c, tt, tt) }
 action le (descends room e n has) = record { turns = tt; slots = room; depth = omega arith; room = has }

@@ -24,3 +24,4 @@ pub mod ScopeLemmas
 pub mod SetLemmas
 pub mod TextLemmas
 pub mod WordLemmas
+pub mod WriteLemmas

@@ -1,6 +1,8 @@
 pub mod Alike
+pub mod Atomic
 pub mod Blocks
 pub mod Choosing
+pub mod Computing
 pub mod Declaring
 pub mod Descending
 pub mod Drafts

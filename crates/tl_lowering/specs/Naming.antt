@@ -17,9 +17,11 @@ use Rattle.tl_syntax.specs.declared.parsed.Place.TheVariants as T
 use Rattle.tl_syntax.specs.declared.parsed.Change.{Change}
 use Rattle.tl_syntax.specs.declared.parsed.Change.TheVariants as H
 use Rattle.tl_syntax.specs.declared.parsed.Leave.TheVariants as L
+use Rattle.tl_syntax.specs.declared.parsed.Write.{Write}
 use Rattle.tl_syntax.specs.declared.parsed.Action.{Action}
 use Rattle.tl_syntax.specs.declared.parsed.Action.TheVariants as A
 use Rattle.tl_instr.specs.declared.operand.NodeRegister.{NodeRegister}
+use Rattle.tl_instr.specs.declared.operand.TheConstants.{VALUE_REGISTERS}
 use Rattle.tl_lowering.specs.declared.naming.Locking.{Locking}
 use Rattle.tl_lowering.specs.declared.program.Expression.{Expression}
 use Rattle.tl_lowering.specs.declared.program.Expression.TheVariants as E
@@ -144,6 +146,27 @@ IsChanged old H.Set operand new = new ≡ operand
 IsChanged old H.Add operand new = IsCalculated O.Add old operand new
 IsChanged old H.Subtract operand new = IsCalculated O.Subtract old operand new
 
+-- the field k that a write changes, of the node that register n has, and its new number
+pub record IsUpdate (names : Names) (w : Write) (n k : ℕ) (new : Expression) : Type 0 where
+  pub operand : Expression
+  pub node_is : stands_for names w.node ≡ M.Node n
+  pub field_is : field_named names w.field ≡ Some k
+  pub operand_is : IsNumber names w.value.form operand
+  pub new_is : IsChanged (E.Field n k) w.change operand new
+
+-- All numbers are computed, in the registers from t on, and then all fields are written: first by `done`, which writes those whose numbers were computed before.
+pub data AreWritten (names : Names) : ℕ → List Write → Statement → Statement → Type 0 where
+  all_computed : {t : ℕ} {done : Statement} → AreWritten names t [] done done
+  next_computed : {t n k : ℕ} {w : Write} {ws : List Write} {e : Expression} {p : _} {done more body : Statement} → IsUpdate names w n k e →
+      t < VALUE_REGISTERS → HasTemporaries e t → IsThen done (S.Write n k (E.Value t)) more → AreWritten names (t + 1) ws more body →
+      AreWritten names t (w ∷ ws) done (S.Let' t e p body)
+
+-- one write, or several
+pub data IsWritten (names : Names) : Write → List Write → Statement → Type 0 where
+  one_write : {w : Write} {n k : ℕ} {e : Expression} → IsUpdate names w n k e → HasRegisters e names.values → IsWritten names w [] (S.Write n k e)
+  several_writes : {v w : Write} {ws : List Write} {whole : Statement} → AreWritten names names.values (v ∷ w ∷ ws) S.Skip whole →
+      IsWritten names v (w ∷ ws) whole
+
 -- one statement for each number
 pub data AreEmits (names : Names) : List TextExpression → List Statement → Type 0 where
   no_emits : AreEmits names [] []
@@ -167,9 +190,7 @@ pub data IsAction (names : Names) : Action → Statement → Type 0 where
   assigns : {name : Name} {change : Change} {a : TextExpression} {x : ℕ} {e f : Expression} → stands_for names name ≡ M.Value x →
       IsNumber names a.form e → IsChanged (E.Value x) change e f → HasTemporaries f names.values →
       IsAction names (A.Assign name change a) (S.Assign x f)
-  writes : {node field : Name} {change : Change} {a : TextExpression} {n k : ℕ} {e f : Expression} → stands_for names node ≡ M.Node n →
-      field_named names field ≡ Some k → IsNumber names a.form e → IsChanged (E.Field n k) change e f → HasRegisters f names.values →
-      IsAction names (A.Write node field change a) (S.Write n k f)
+  writes : {w : Write} {ws : Vec Write Global} {whole : Statement} → IsWritten names w ws.items whole → IsAction names (A.Write w ws) whole
   emits : {xs : Vec TextExpression Global} {whole : Statement} → Emits names xs.items whole → IsAction names (A.Emit xs) whole
   requires : {p q : _} {a : TextExpression} {c : Condition} → IsCondition names a.form c →
       IsAction names (A.Require a) (S.If' c p S.Skip q S.Fail)

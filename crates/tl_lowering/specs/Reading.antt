@@ -1,5 +1,5 @@
 -- The core forms of blocks, procedures and texts.
-use Rattle.std.specs.Prelude.{◌≡◌, ◌≤◌, ◌+◌, ℕ, List, [], ◌∷◌, false, Option, Some, None, length, get_or, ℤ, pos, neg_ℤ}
+use Rattle.std.specs.Prelude.{◌≡◌, ◌≤◌, ◌+◌, ℕ, List, [], ◌∷◌, true, false, Option, Some, None, length, get_or, ℤ, pos, neg_ℤ}
 use Rattle.std.specs.declared.vec.Vec.{Vec}
 use Rattle.std.specs.declared.alloc.Global.{Global}
 use Rattle.tl_syntax.specs.declared.operator.Operator.TheVariants as O
@@ -29,6 +29,7 @@ use Rattle.tl_lowering.specs.declared.program.Statement.{Statement}
 use Rattle.tl_lowering.specs.declared.program.Statement.TheVariants as S
 use Rattle.tl_lowering.specs.declared.program.Procedure.{Procedure}
 use Rattle.tl_lowering.specs.declared.scope.Meaning.TheVariants as M
+use Rattle.tl_lowering.specs.Atomic.{IsAtomic}
 use Rattle.tl_lowering.specs.Outcomes.{after}
 use Rattle.tl_lowering.specs.Sets.{Nodes}
 use Rattle.tl_lowering.specs.Registers.{behind, HasTemporaries, HasRegisters}
@@ -112,7 +113,7 @@ mutual
         IsCount names most.form turns → IsBlock (with_node (with_index (in_loop names) index) child) xs.items a → IsVisiting names.values names.nodes n turns a whole →
         IsStatement names (T.ForEach child index parent most xs) whole
 
--- a failure that the procedure's `else` doesn't handle ends the procedure
+-- A failure that the procedure's `else` doesn't handle ends the procedure. Where an atomic procedure comes to its `else`, or its call ends by a failure, nothing has been written.
 pub record IsBody (names : Names) (text : TextProcedure) (whole : Statement) : Type 0 where
   pub body : Statement
   pub handler : Statement
@@ -121,6 +122,8 @@ pub record IsBody (names : Names) (text : TextProcedure) (whole : Statement) : T
   pub handler_is : IsBlock names text.otherwise.items handler
   pub handled_is : IsTried body handler handled
   pub whole_is : IsTried handled S.Skip whole
+  pub atomic : text.is_atomic ≡ true → IsAtomic body
+  pub atomic_else : text.is_atomic ≡ true → IsAtomic handled
 
 -- a procedure's arguments are its first values
 pub record IsProcedure (spellings : List (List ℕ)) (names : Names) (text : TextProcedure) (procedure : Procedure) : Type 0 where

@@ -1,6 +1,7 @@
 //! The rules of the procedure language: from a text to the core forms of its procedures, or to the first fault of the text.
 #![tactic(auto)]
 
+mod atomic;
 mod descents;
 pub mod laws;
 mod loops;

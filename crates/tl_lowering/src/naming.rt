@@ -1,18 +1,23 @@
 // Statements without blocks of their own, with registers in place of names.
 
-ghost use Rattle.std.specs.Prelude.{◌≡◌, ℕ, ◌+◌, false, IfOk, OnOk};
+ghost use Rattle.std.specs.Prelude.{◌≡◌, ◌<◌, ◌≤◌, [], ◌∷◌, ℕ, ◌+◌, true, false, IfOk, OnOk};
 ghost use Rattle.tl_lowering.specs.Blocks.{nodes_more};
+ghost use Rattle.tl_lowering.specs.Computing.{CannotFail, IsComputed};
+ghost use Rattle.tl_lowering.specs.Drafts.{Binds};
+ghost use Rattle.tl_lowering.specs.declared.lowering.Binding.TheVariants.{Value as one_value};
+ghost use Rattle.tl_instr.specs.declared.operand.TheConstants.{VALUE_REGISTERS};
+ghost use Rattle.tl_lowering.specs.declared.program.Statement.TheVariants.{Skip};
 ghost use Rattle.tl_lowering.specs.Declaring.{IsLocking, IsDeclarable, IsNewValue};
 ghost use Rattle.tl_lowering.specs.Entering.{before_of, entered_of, IsEntering, IsEnteringPlace};
 ghost use Rattle.tl_lowering.specs.Passing.{failing_entered, nowhere_entered};
 ghost use Rattle.tl_lowering.specs.Names.{names_of};
-ghost use Rattle.tl_lowering.specs.Naming.{IsNumber, IsChanged, Emits, IsAction, declares, with_locking, Locks};
-ghost use Rattle.tl_lowering.specs.Outcomes.{condition_may_fail as condition_may_fail_lem};
+ghost use Rattle.tl_lowering.specs.Naming.{IsNumber, IsChanged, IsUpdate, AreWritten, IsWritten, Emits, IsAction, declares, with_locking, Locks};
+ghost use Rattle.tl_lowering.specs.Outcomes.{may_fail as may_fail_lem, condition_may_fail as condition_may_fail_lem};
 ghost use Rattle.tl_lowering.specs.Paths.{nodes_of, paths_of, nowhere, failing_if};
 ghost use Rattle.tl_lowering.specs.Scopes.{View, view_of, IsInUse, IsAt, IsLowered, Extends};
-ghost use Rattle.tl_lowering.specs.Sets.{Nodes};
+ghost use Rattle.tl_lowering.specs.Sets.{Nodes, holds};
 ghost use Rattle.tl_lowering.specs.Sound.{IsReadable};
-ghost use Rattle.tl_syntax.specs.declared.parsed.Action.TheVariants.{Assign, Write, Require, Descend, Take, Free, Leave as leave_by};
+ghost use Rattle.tl_syntax.specs.declared.parsed.Action.TheVariants.{Assign, Require, Descend, Take, Free, Leave as leave_by};
 ghost use Rattle.tl_syntax.specs.declared.parsed.Place.TheVariants.{Node as one_node, Child as one_child, Pair as two_children};
 
 use crate::lowering::{Lowered, Lowering};
@@ -21,7 +26,7 @@ use crate::program::{Condition, Expression, Place, Statement};
 use crate::values::{
     behind, calculated, check_registers, condition_may_fail, may_fail, registers_for, registers_of,
 };
-use tl_instr::{NodeRegister, ValueRegister};
+use tl_instr::{Field, NodeRegister, ValueRegister};
 use tl_syntax::parsed::{self, Action, Change, Child, Leave, Name};
 use tl_syntax::{Operator, SyntaxFault, Wrong};
 
@@ -74,26 +79,139 @@ impl Lowering {
         Ok((Statement::Assign(register, number), flow))
     }
 
-    fn write(
+    // The field that a write changes, and its new number.
+    fn update(
         &self,
-        names: (Name, Name),
-        change: Change,
-        value: &parsed::Expression,
+        write: &parsed::Write,
         held: Held,
-    ) -> Result<Lowered, SyntaxFault>
+    ) -> Result<(NodeRegister, Field, Expression), SyntaxFault>
         requires { IsAt (view_of self.now.scope) held }
-        ensures named { IfOk result (λ l. IsAction (names_of self.now.scope) (Write names.0 names.1 change value.now) l.0) }
+        ensures named { IfOk result (λ u. IsUpdate (names_of self.now.scope) write.now u.0 u.1 u.2) }
+        ensures held { IfOk result (λ u. holds (nodes_of held) u.0 ≡ true) }
+        ensures readable { IfOk result (λ u. IsReadable self.now.scope.values (nodes_of held) u.2) }
+    {
+        let node = self.scope.node(write.node, held)?;
+        let field = self.scope.field(write.field)?;
+        let operand = self.scope.number(self.alloc, &write.value, held)?;
+        let number = self.changed(Expression::Field(node, field), write.change, operand)?;
+        Ok((node, field, number))
+    }
+
+    fn write(&self, write: &parsed::Write, held: Held) -> Result<Lowered, SyntaxFault>
+        requires { IsAt (view_of self.now.scope) held }
+        ensures named { IfOk result (λ l. IsWritten (names_of self.now.scope) write.now [] l.0) }
         ensures lowered { IfOk result (λ l. IsLowered (view_of self.now.scope) held l.0 l.1) }
         ensures entering { IfOk result (λ l. IsEntering (before_of held) l.0 l.1) }
     {
-        let node = self.scope.node(names.0, held)?;
-        let field = self.scope.field(names.1)?;
-        let operand = self.scope.number(self.alloc, value, held)?;
-        let number = self.changed(Expression::Field(node, field), change, operand)?;
+        let (node, field, number) = self.update(write, held)?;
         let needed = registers_for(&number, usize::from(self.scope.values));
-        check_registers(needed, value.offset)?;
+        check_registers(needed, write.value.offset)?;
         let flow = Flow::on(held).failing_if(may_fail(&number), held);
         Ok((Statement::Write(node, field, number), flow))
+    }
+
+    // The number of a write, which is computed in the register `free`, and what is done once all numbers are computed: `done`, and
+    // then this write.
+    fn computed(
+        &self,
+        write: &parsed::Write,
+        free: u8,
+        done: Statement,
+        held: Held,
+    ) -> Result<(ValueRegister, Expression, Statement), SyntaxFault>
+        requires at { IsAt (view_of self.now.scope) held }
+        requires done { CannotFail free (view_of self.now.scope) held done }
+        ensures register { IfOk result (λ c. c.0 ≡ free) }
+        ensures room { OnOk result (free < VALUE_REGISTERS) }
+        ensures named { IfOk result (λ c. IsComputed (names_of self.now.scope) free write.now c.1 done c.2) }
+        ensures readable { IfOk result (λ c. IsReadable self.now.scope.values (nodes_of held) c.1) }
+        ensures done { IfOk result (λ c. CannotFail (free + 1) (view_of self.now.scope) held c.2) }
+    {
+        let Some(register) = ValueRegister::new(free) else {
+            return Err(SyntaxFault::at(Wrong::Values, write.node.offset));
+        };
+        let (node, field, number) = self.update(write, held)?;
+        let needed = registers_of(&number, usize::from(free));
+        check_registers(needed, write.value.offset)?;
+        let last = Statement::Write(node, field, Expression::Value(register));
+        Ok((register, number, self.then(done, last)?))
+    }
+
+    // A number in a register of its own, and what follows. The number may fail.
+    fn let_in(
+        &self,
+        register: ValueRegister,
+        number: Expression,
+        body: Lowered,
+        held: Held,
+    ) -> Result<Lowered, SyntaxFault>
+        ensures named { IfOk result (λ l. Binds (one_value register number) body.0 l.0) }
+        ensures flow { IfOk result (λ l. paths_of l.1 ≡ failing_if (may_fail_lem number) (paths_of body.1) (nodes_of held)) }
+        ensures entering { IfOk result (λ l. entered_of l.1 ≡ failing_entered (may_fail_lem number) (before_of held) (entered_of body.1)) }
+    {
+        let (body, flow) = body;
+        let flow = flow.failing_if(may_fail(&number), held);
+        Ok((Statement::Let(register, number, self.boxed(body)?), flow))
+    }
+
+    // The numbers of writes are computed one after another, in the registers from `free` on. Then `done` is done, and the writes.
+    fn all_computed(
+        &self,
+        writes: &[parsed::Write],
+        free: u8,
+        done: Statement,
+        held: Held,
+    ) -> Result<Lowered, SyntaxFault>
+        requires at { IsAt (view_of self.now.scope) held }
+        requires free { self.now.scope.values ≤ free }
+        requires few { free ≤ VALUE_REGISTERS }
+        requires done { CannotFail free (view_of self.now.scope) held done }
+        ensures named { IfOk result (λ l. AreWritten (names_of self.now.scope) free writes.now done l.0) }
+        ensures lowered { IfOk result (λ l. IsLowered (record (view_of self.now.scope) { values = free }) held l.0 l.1) }
+        ensures entering { IfOk result (λ l. IsEntering (before_of held) l.0 l.1) }
+    {
+        let Some((write, others)) = writes.split_first() else {
+            return Ok((done, Flow::on(held)));
+        };
+        let (register, number, done) = self.computed(write, free, done, held)?;
+        let body = self.all_computed(others, free + 1, done, held)?;
+        self.let_in(register, number, body, held)
+    }
+
+    // Two writes or more.
+    fn several_writes(
+        &self,
+        first: &parsed::Write,
+        others: &[parsed::Write],
+        held: Held,
+    ) -> Result<Lowered, SyntaxFault>
+        requires { IsAt (view_of self.now.scope) held }
+        ensures named { IfOk result (λ l. AreWritten (names_of self.now.scope) self.now.scope.values (first.now ∷ others.now) Skip l.0) }
+        ensures lowered { IfOk result (λ l. IsLowered (view_of self.now.scope) held l.0 l.1) }
+        ensures entering { IfOk result (λ l. IsEntering (before_of held) l.0 l.1) }
+    {
+        let free = self.scope.values;
+        let (register, number, last) = self.computed(first, free, Statement::Skip, held)?;
+        let body = self.all_computed(others, free + 1, last, held)?;
+        self.let_in(register, number, body, held)
+    }
+
+    // One write, or several.
+    fn writes(
+        &self,
+        first: &parsed::Write,
+        others: &[parsed::Write],
+        held: Held,
+    ) -> Result<Lowered, SyntaxFault>
+        requires { IsAt (view_of self.now.scope) held }
+        ensures named { IfOk result (λ l. IsWritten (names_of self.now.scope) first.now others.now l.0) }
+        ensures lowered { IfOk result (λ l. IsLowered (view_of self.now.scope) held l.0 l.1) }
+        ensures entering { IfOk result (λ l. IsEntering (before_of held) l.0 l.1) }
+    {
+        match others.split_first() {
+            None => self.write(first, held),
+            Some(_) => self.several_writes(first, others, held),
+        }
     }
 
     fn emit(&self, values: &[parsed::Expression], held: Held) -> Result<Lowered, SyntaxFault>
@@ -205,12 +323,7 @@ impl Lowering {
                 change,
                 value,
             } => self.assign(*name, *change, value, held),
-            Action::Write {
-                node,
-                field,
-                change,
-                value,
-            } => self.write((*node, *field), *change, value, held),
+            Action::Write(first, others) => self.writes(first, others, held),
             Action::Emit(values) => self.emit(values, held),
             Action::Require(condition) => self.require(condition, held),
             Action::Descend { node, number } => self.descend(*node, number, offset, held),

@@ -13,6 +13,7 @@ ghost use Rattle.tl_lowering.specs.Sets.{none_held};
 ghost use Rattle.tl_lowering.specs.Sound.{IsWellFormed, IsInOrder};
 ghost use Rattle.tl_syntax.specs.Tokens.{spellings};
 
+use crate::atomic::check_atomic;
 use crate::lowering::Lowering;
 use crate::paths::Held;
 use crate::program::{Procedure, Program, Statement};
@@ -70,7 +71,9 @@ impl Lowering {
         ensures enters { IfOk result (λ s. EntersOnce s nothing_before) }
     {
         let lowered = self.block(&procedure.body, Held::NOTHING)?;
+        check_atomic(procedure.is_atomic, &lowered.0, procedure.name.offset)?;
         let (handled, _flow) = self.handled(lowered, &procedure.otherwise, Held::NOTHING)?;
+        check_atomic(procedure.is_atomic, &handled, procedure.name.offset)?;
         let handled = self.boxed(handled)?;
         Ok(Statement::Try(handled, self.boxed(Statement::Skip)?))
     }

@@ -1,3 +1,4 @@
+pub mod AtomicRuns
 pub mod CallRuns
 pub mod ChoiceRuns
 pub mod ConditionRuns
@@ -20,4 +21,5 @@ pub mod StatementRuns
 pub mod Steps
 pub mod TryRuns
 pub mod WayRuns
+pub mod WriteRuns
 mod Rows

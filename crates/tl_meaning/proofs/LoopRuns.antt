@@ -16,6 +16,7 @@ use Rattle.tl_lowering.specs.Outcomes.{behind_loop, after, fails, breaks}
 use Rattle.tl_compiler.specs.Statements.{Site, Exit, release_code, held_behind, loop_code, statement_code}
 use Rattle.tl_meaning.specs.Meaning.{Ending, On, Breaks, Fails, Returns, and_then, leave, leaving, turns, broken, behaviour}
 use Rattle.tl_meaning.specs.Leading.{Leads, Runs, from_label}
+use Rattle.tl_compiler.specs.Among.{IsIn}
 use Rattle.tl_compiler.specs.Tails.{Tail}
 use Rattle.tl_meaning.specs.Endings.{Mirrors, IsSite, LeadsBy, StatementLeads}
 use Rattle.tl_lowering.specs.Sound.{IsWellFormed, KeepsHeld}
@@ -89,6 +90,34 @@ module _ {c : List Instr} (parents : List ℕ) (ready : Runs c) (a : Statement) 
         (from_label c parents (frame c body rest (suc more) ∷ fs) (length body) u) d.outcome d.state d.events
         (ones held inner (I.End ∷ rest) (frame c body rest (suc more) ∷ fs) s u tail (in_loop (suc more)) sound agrees)
 
+-- What is kept behind a loop, in the place of what is held where it ends: at the end of a turn or before the first one,
+pub keeps_end : (a : Statement) (held : Nodes) (may_end : Bool) → (may_end || is_some (after a held)) ≡ true
+    → let whole = behind_loop may_end (after a held) (breaks a held) held in AnySized whole → Keeps (Some held) whole (held_behind whole)
+keeps_end a held may_end e = by (may_end || is_some (after a held)) e (leaves_first held (if may_end || is_some (after a held) then Some held else None) (all_of (breaks a held)))
+  where
+    whole : Option Nodes
+    whole = behind_loop may_end (after a held) (breaks a held) held
+
+    by : (b : Bool) → b ≡ true → Leaves held (if b then Some held else None) whole → AnySized whole → Keeps (Some held) whole (held_behind whole)
+    by false e l sized = cc
+    by true e l sized = record {
+      is = λ h f. l.is held refl;
+      within = λ h f i b. let same : held ≡ h = cc in subst (λ g. holds g i ≡ true) same (l.within held refl i b);
+      size = λ h f s. sized (held_behind whole) (l.is held refl);
+    }
+
+-- and at a break
+pub keeps_break : (a : Statement) (held : Nodes) (may_end : Bool) (h : Nodes) → IsIn h (breaks a held)
+    → let whole = behind_loop may_end (after a held) (breaks a held) held in AnySized whole → Keeps (Some h) whole (held_behind whole)
+keeps_break a held may_end h broken sized =
+    let g = some_of h (breaks a held) broken in
+    let ways = leaves_second held (if may_end || is_some (after a held) then Some held else None) (all_of (breaks a held)) in
+    record {
+      is = λ k f. ways.is g.0 g.1;
+      within = λ k f i b. let same : h ≡ k = cc in subst (λ z. holds z i ≡ true) same (all_within h (breaks a held) g.0 broken g.1 i (ways.within g.0 g.1 i b));
+      size = λ k f s. sized _ (ways.is g.0 g.1);
+    }
+
 module _ {c : List Instr} (parents : List ℕ) (ready : Runs c) (a : Statement) (held : Nodes) (x : Site) (may_end leaves : Bool) (k : List Instr) (fs : List Frame) (says : (h : Nodes) → after a held ≡ Some h → leaves ≡ true) (ended : (h : Nodes) → after a held ≡ Some h → (may_end || is_some (after a held)) ≡ true) where
   abbrev whole : Option Nodes
   whole = behind_loop may_end (after a held) (breaks a held) held
@@ -101,17 +130,6 @@ module _ {c : List Instr} (parents : List ℕ) (ready : Runs c) (a : Statement) 
 
   abbrev behind_end : List Instr
   behind_end = if leaves then release_code (minus held (held_behind whole)) k else k
-
-  pub keeps_end : (may_end || is_some (after a held)) ≡ true → length held ≡ NODE_REGISTERS → AnySized whole → Keeps (Some held) whole (held_behind whole)
-  keeps_end e size sized = by (may_end || is_some (after a held)) e (leaves_first held (if may_end || is_some (after a held) then Some held else None) (all_of (breaks a held))) sized
-    where
-      by : (b : Bool) → b ≡ true → Leaves held (if b then Some held else None) whole → AnySized whole → Keeps (Some held) whole (held_behind whole)
-      by false e l sized = cc
-      by true e l sized = record {
-        is = λ h f. l.is held refl;
-        within = λ h f i b. let same : held ≡ h = cc in subst (λ g. holds g i ≡ true) same (l.within held refl i b);
-        size = λ h f s. sized (held_behind whole) (l.is held refl);
-      }
 
   pub on_by : (b : Bool) → b ≡ true → Keeps (Some held) whole (held_behind whole) → IsSite c fs x (length k) → (from : Run) (s u : State) (events : List Action) → Tail c (if b then release_code (minus held (held_behind whole)) k else k)
       → Leads from events (from_label c parents fs (length (if b then release_code (minus held (held_behind whole)) k else k)) u) → Mirrors x.values held s u
@@ -128,17 +146,16 @@ module _ {c : List Instr} (parents : List ℕ) (ready : Runs c) (a : Statement) 
   finish tail site size keeps sized from Returns s events l = l
   finish tail site size keeps sized from On s events l =
       let same : l.1 ≡ held = subst (λ o. KeepsHeld o held) l.2 keeps in
-      on_by leaves (says l.1 l.2) (keeps_end (ended l.1 l.2) size sized) site from s l.0 events tail l.3 (subst (λ h. Mirrors x.values h s l.0) same l.4)
+      on_by leaves (says l.1 l.2) (keeps_end a held may_end (ended l.1 l.2) sized) site from s l.0 events tail l.3 (subst (λ h. Mirrors x.values h s l.0) same l.4)
   finish tail site size keeps sized from Breaks s events l =
       let h = l.1 in
       let e = l.3 in
       let f = l.4 in
       let same : out ≡ e = cc in
       let kept = held_behind whole in
-      let g = some_of h (breaks a held) l.2 in
-      let ways = leaves_second held (if may_end || is_some (after a held) then Some held else None) (all_of (breaks a held)) in
-      let is : whole ≡ Some kept = ways.is g.0 g.1 in
-      let within : Within kept h = λ i b. all_within h (breaks a held) g.0 l.2 g.1 i (ways.within g.0 g.1 i b) in
+      let keeps_h = keeps_break a held may_end h l.2 sized in
+      let is : whole ≡ Some kept = keeps_h.is h refl in
+      let within : Within kept h = keeps_h.within h refl in
       let leads : Leads from (events ++ (leave kept s).events) (from_label c parents fs (length k) l.0) =
       subst (λ (q : Exit). Leads from (events ++ (leave q.held s).events) (from_label c parents fs q.label l.0)) (sym same) l.5 in
       let agrees : Mirrors x.values (both h kept) (leave kept s).state l.0 =

@@ -37,14 +37,14 @@ use Rattle.tl_meaning.proofs.ReleaseRuns.{release_step}
 use Rattle.tl_meaning.proofs.SimpleRuns.{agrees_free, held_size}
 use Rattle.tl_meaning.proofs.PlaceRuns.{PlaceLeads, KidLeads, child_runs}
 
-still_held : (l : Nodes) (n m : ℕ) → holds l m ≡ true → holds (slice_set l n true) m ≡ true
+pub still_held : (l : Nodes) (n m : ℕ) → holds l m ≡ true → holds (slice_set l n true) m ≡ true
 still_held [] n m e = e
 still_held (b ∷ l) zero zero e = refl
 still_held (b ∷ l) zero (suc m) e = e
 still_held (b ∷ l) (suc n) zero e = e
 still_held (b ∷ l) (suc n) (suc m) e = still_held l n m e
 
-free_again : (l : Nodes) (n : ℕ) → holds l n ≡ false → slice_set (slice_set l n true) n false ≡ l
+pub free_again : (l : Nodes) (n : ℕ) → holds l n ≡ false → slice_set (slice_set l n true) n false ≡ l
 free_again [] n e = refl
 free_again (b ∷ l) zero e = ap (λ x. x ∷ l) (sym e)
 free_again (b ∷ l) (suc n) e = ap (λ l. b ∷ l) (free_again l n e)

@@ -1,5 +1,5 @@
 -- The code of a place locks it, or goes to the label of its failure.
-use Rattle.std.proofs.Common.{◌≡◌, ℕ, zero, suc, ◌+◌, ◌-◌, ◌≤◌, List, [], ◌∷◌, length, get_or, true, Option, Some, None, refl, sym, ap, ◌∙◌, subst, arith}
+use Rattle.std.proofs.Common.{◌≡◌, ℕ, zero, suc, ◌+◌, ◌-◌, ◌≤◌, List, [], ◌∷◌, length, get_or, Bool, true, Option, Some, None, refl, sym, ap, ◌∙◌, subst, arith}
 use Rattle.std.specs.Prelude.{slice_set, slice_index, ℤ}
 use Rattle.std.proofs.lemmas.List.{length-set}
 use Rattle.tl_instr.specs.declared.instr.Instr.{Instr}
@@ -31,8 +31,8 @@ use Rattle.tl_compiler.proofs.NumberStretches.{operand_tail}
 use Rattle.tl_meaning.proofs.SetLemmas.{held_set}
 use Rattle.tl_meaning.proofs.StatementRuns.{agrees_kept, readable_there, number_there}
 
--- a register that holds a node still holds one
-pub held_again : (l : Nodes) (n : ℕ) → holds l n ≡ true → slice_set l n true ≡ l
+-- a register that holds a node still holds one, and an empty one is still empty
+pub held_again : (l : Nodes) (n : ℕ) {b : Bool} → holds l n ≡ b → slice_set l n b ≡ l
 held_again [] n e = refl
 held_again (x ∷ l) zero e = ap (λ b. b ∷ l) (sym e)
 held_again (x ∷ l) (suc n) e = ap (λ l. x ∷ l) (held_again l n e)

@@ -171,6 +171,16 @@ leave_sizes (suc n) kept s =
     let b = first_sizes n kept s in
     (ap (λ (t : State). length t.values) (further n kept s) ∙ a.0 ∙ b.0, ap (λ (t : State). length t.nodes) (further n kept s) ∙ a.1 ∙ b.1)
 
+pub leave_records : (n : ℕ) (kept : Nodes) (s : State) → (leave_below n kept s).state.records ≡ s.records
+unfolding first
+leave_records zero kept s = refl
+leave_records (suc n) kept s = ap (λ (t : State). t.records) (further n kept s) ∙ leave_records n kept (first n kept s).state ∙ by (holds kept n) (node s n)
+  where
+    by : (b : Bool) (o : Option Held) → (if b then plain On s else free_by o n s).state.records ≡ s.records
+    by true o = refl
+    by false None = refl
+    by false (Some h) = refl
+
 pub held_then : (kept : Nodes) (s : State) → length s.nodes ≡ NODE_REGISTERS → length kept ≡ NODE_REGISTERS → held_at (leave kept s).state ≡ both (held_at s) kept
 held_then kept s size size_kept =
     let t = (leave kept s).state in

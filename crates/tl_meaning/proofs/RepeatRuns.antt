@@ -33,7 +33,6 @@ use Rattle.tl_meaning.proofs.LoopSteps.{skips}
 use Rattle.tl_compiler.specs.Numbers.{register_of, behind}
 use Rattle.tl_compiler.proofs.SizeLemmas.{AnySized}
 use Rattle.tl_meaning.proofs.StatementRuns.{agrees_kept, readable_there, number_there, prefixed, widened, StatementRuns}
-use Rattle.tl_meaning.proofs.SimpleRuns.{held_size}
 use Rattle.tl_meaning.proofs.LoopRuns.{keeps_end, on_by, end_long, inside_site, loop_runs}
 
 module _ {c : List Instr} (parents : List ℕ) (ready : Runs c) where
@@ -89,7 +88,7 @@ module _ {c : List Instr} (parents : List ℕ) (ready : Runs c) where
         let long = tail_length (tail_of_stretch stretch) in
         let more = end_long parents ready a held x true true k fs (λ h f. refl) (λ h f. refl) in
         let skip = skips parents ready fs body rest stretch (I.RepeatBy turn_register w) w u tail refl refl (further_in c fs (length k) (length body) (omega (arith, long, more)) site.inside) is in
-        let keeps_all = keeps_end parents ready a held x true true k fs (λ h f. refl) (λ h f. refl) refl (held_size agrees) sized in
+        let keeps_all = keeps_end a held true refl sized in
         let all = leaving whole (plain On s) in
         more_fails (from_label c parents fs (suc (length body)) u) all.outcome all.state all.events
         (on_by parents ready a held x true true k fs (λ h f. refl) (λ h f. refl) true refl keeps_all site (from_label c parents fs (suc (length body)) u) s u []

@@ -55,6 +55,26 @@ further_site {c} {fs} l m le site = record {
   sizes = site.sizes;
 }
 
+-- a node moves to another register, which held one before
+pub held_taken : (s : State) (n m : ℕ) (g : Held) → n ≢ m → holds (held_at s) n ≡ true → held_at (with_node (with_node (with_node s n None) m None) n (Some g)) ≡ without_node (held_at s) m
+held_taken s n m g ne e =
+    held_set (slice_set (slice_set s.nodes n None) m None) n (Some g)
+    ∙ ap (λ l. slice_set l n true) (held_set (slice_set s.nodes n None) m None ∙ ap (λ l. slice_set l m false) (held_set s.nodes n None))
+    ∙ back (held_at s) n m ne e
+  where
+    -- the first register holds a node again
+    back : (l : Nodes) (n m : ℕ) → n ≢ m → holds l n ≡ true → slice_set (slice_set (slice_set l n false) m false) n true ≡ slice_set l m false
+    back [] n m ne e = cc
+    back (y ∷ l) zero zero ne e = absurd (ne refl)
+    back (y ∷ l) zero (suc m) ne e = ap (λ b. b ∷ slice_set l m false) (sym e)
+    back (y ∷ l) (suc n) zero ne e = ap (λ l. false ∷ l) (twice l n e)
+      where
+        twice : (l : Nodes) (n : ℕ) → holds l n ≡ true → slice_set (slice_set l n false) n true ≡ l
+        twice [] n e = refl
+        twice (y ∷ l) zero e = ap (λ b. b ∷ l) (sym e)
+        twice (y ∷ l) (suc n) e = ap (λ l. y ∷ l) (twice l n e)
+    back (y ∷ l) (suc n) (suc m) ne e = ap (λ l. y ∷ l) (back l n m (λ q. ne (ap suc q)) e)
+
 -- everything that isn't kept is freed
 pub record Released (c : List Instr) (parents : List ℕ) (fs : List Frame) (d on : ℕ) (held kept : Nodes) (from : Run) (s : State) : Type 0 where
   pub state : State
@@ -113,9 +133,7 @@ module _ {c : List Instr} (parents : List ℕ) (ready : Runs c) where
       and_on (release_step parents ready fs n code x.values s u h.0 h.1 tail (further_in c fs (length k) (suc (length k)) (omega arith) site.inside) agrees.kept)
       (moves fs n m k s w x.values g.0 (tail_further tail (tail_behind (I.Release n) code)) site.inside still_there) in
       let nodes : held_at t' ≡ without_node held m =
-      held_set (slice_set (slice_set s.nodes n None) m None) n (Some g.0)
-      ∙ ap (λ l. slice_set l n true) (held_set (slice_set s.nodes n None) m None ∙ ap (λ l. slice_set l m false) (held_set s.nodes n None ∙ ap (λ l. slice_set l n false) agrees.held))
-      ∙ back held n m sound.0 sound.1 in
+      held_taken s n m g.0 sound.0 (subst (λ l. holds l n ≡ true) (sym agrees.held) sound.1) ∙ ap (λ l. without_node l m) agrees.held in
       let ends : StatementLeads (Some (without_node held m)) [] [] c parents fs x (length k) from
       (after_events (did.Free (h.0).node (record_at s.records (h.0).node) ∷ []) (plain On (with_node (with_node t m None) n (Some g.0)))) = (
         w',
@@ -140,19 +158,6 @@ module _ {c : List Instr} (parents : List ℕ) (ready : Runs c) where
       (after_events (did.Free (h.0).node (record_at s.records (h.0).node) ∷ []) (plain On (with_node (with_node t m None) n o)))) (sym still) ends in
       subst (λ o. StatementLeads (Some (without_node held m)) [] [] c parents fs x (length k) from
       (and_then (free_by o n s) (λ s. plain On (with_node (with_node s m None) n (node s m))))) (sym h.1) taken
-    where
-      -- the first register holds a node again
-      back : (l : Nodes) (n m : ℕ) → n ≢ m → holds l n ≡ true → slice_set (slice_set (slice_set l n false) m false) n true ≡ slice_set l m false
-      back [] n m ne e = cc
-      back (y ∷ l) zero zero ne e = absurd (ne refl)
-      back (y ∷ l) zero (suc m) ne e = ap (λ b. b ∷ slice_set l m false) (sym e)
-      back (y ∷ l) (suc n) zero ne e = ap (λ l. false ∷ l) (twice l n e)
-        where
-          twice : (l : Nodes) (n : ℕ) → holds l n ≡ true → slice_set (slice_set l n false) n true ≡ l
-          twice [] n e = refl
-          twice (y ∷ l) zero e = ap (λ b. b ∷ l) (sym e)
-          twice (y ∷ l) (suc n) e = ap (λ l. y ∷ l) (twice l n e)
-      back (y ∷ l) (suc n) (suc m) ne e = ap (λ l. y ∷ l) (back l n m (λ q. ne (ap suc q)) e)
 
   pub return_runs : StatementRuns parents ready S.Return
   return_runs held x k fs s u tail site sound agrees =

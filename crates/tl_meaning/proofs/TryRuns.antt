@@ -42,7 +42,7 @@ leaving_behind whole first d = by d.outcome whole
     by Returns whole = refl
 
 -- what is held at the handler's start is held at each failure
-start_within : (held h : Nodes) (failing : List Nodes) → IsIn h failing → Within (handled_by held (all_of failing)) h
+pub start_within : (held h : Nodes) (failing : List Nodes) → IsIn h failing → Within (handled_by held (all_of failing)) h
 start_within held h failing m = by (all_of failing) refl
   where
     by : (o : Option Nodes) → all_of failing ≡ o → Within (handled_by held o) h

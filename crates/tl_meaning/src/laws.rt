@@ -1,6 +1,6 @@
 //! What holds for every text.
 
-ghost use Rattle.std.specs.Prelude.{◌≡◌, ℕ, ◌<◌, ◌≤◌, None, List, [], Bool, false, length, is_some};
+ghost use Rattle.std.specs.Prelude.{◌≡◌, ℕ, ◌<◌, ◌≤◌, None, List, [], Bool, true, false, length, is_some};
 ghost use Rattle.std.specs.Prelude.{ℤ};
 ghost use Rattle.tl_instr.specs.declared.instr.Instr.{Instr};
 ghost use Rattle.tl_instr.specs.declared.operand.TheConstants.{VALUE_REGISTERS, NODE_REGISTERS};
@@ -16,13 +16,20 @@ ghost use Rattle.tl_compiler.specs.Numbers.{into_code, branch_code};
 ghost use Rattle.tl_lowering.specs.Outcomes.{after, fails, breaks};
 ghost use Rattle.tl_lowering.specs.Sets.{Nodes, none_held};
 ghost use Rattle.tl_compiler.specs.Statements.{Site, statement_code, procedure_code};
-ghost use Rattle.tl_meaning.specs.Calls.{DoesCall};
+ghost use Rattle.tl_meaning.specs.Calls.{DoesCall, WritesNothing};
 ghost use Rattle.tl_meaning.specs.Endings.{Mirrors, IsSite, StatementLeads};
 ghost use Rattle.tl_compiler.specs.Tails.{Tail};
 ghost use Rattle.tl_meaning.specs.Leading.{Runs, from_label, IsInside, NumberLeads, ConditionLeads};
 ghost use Rattle.tl_lowering.specs.Sound.{IsReadable, IsTestable};
-ghost use Rattle.tl_meaning.specs.Meaning.{is_on, behaviour, call, number, truth, held_at};
+ghost use Rattle.tl_meaning.specs.Meaning.{is_on, Fails, behaviour, call, number, truth, held_at};
 ghost use Rattle.tl_lowering.specs.Sound.{IsWellFormed};
+ghost use Rattle.tl_lowering.specs.Names.{Names};
+ghost use Rattle.tl_lowering.specs.Fit.{AllTurn};
+ghost use Rattle.tl_lowering.specs.Naming.{AreWritten};
+ghost use Rattle.tl_lowering.specs.Reading.{IsBody};
+ghost use Rattle.tl_lowering.specs.declared.program.Statement.TheVariants.{Skip};
+ghost use Rattle.tl_syntax.specs.declared.parsed.Procedure.{Procedure as TextProcedure};
+ghost use Rattle.tl_syntax.specs.declared.parsed.Write.{Write};
 
 use tl_verify::Proc;
 
@@ -53,11 +60,23 @@ pub fn statements()
     ensures { (code : List Instr) (parents : List ℕ) (frames : List Frame) (a : Statement) (held : Nodes) (x : Site) (rest : List Instr) (s u : State) → Runs code → Tail code (statement_code a held x rest) → IsSite code frames x (length rest) → IsWellFormed a x.values x.nodes held (is_some x.exit) → Mirrors x.values held s u → StatementLeads (after a held) (fails a held) (breaks a held) code parents frames x (length rest) (from_label code parents frames (length (statement_code a held x rest)) u) (behaviour parents a s) }
 {}
 
+/// Several writes in one statement that fail have done nothing, wherever the statement is well-formed: all numbers are
+/// computed before the first field is written.
+pub fn several_writes()
+    ensures { (names : Names) (t : ℕ) (writes : List Write) (whole : Statement) (m : ℕ) (in_loop : Bool) (parents : List ℕ) (s : State) → AreWritten names t writes Skip whole → IsWellFormed whole t m (held_at s) in_loop → (behaviour parents whole s).outcome ≡ Fails → (behaviour parents whole s).events ≡ [] }
+{}
+
 /// The code of a procedure, run alone on a tree of any shape, does what a call of its text does: the same locks, writes,
 /// frees and emitted values in the same order, and the same final records. Its text handles each failure, as every text
 /// that was read does.
 pub fn calls()
     ensures { (arity : ℕ) (parents : List ℕ) (body : Statement) (args : List ℤ) (t : Records) → Runs (procedure_code arity body) → IsWellFormed body arity 0 none_held false → fails body none_held ≡ [] → length args ≤ VALUE_REGISTERS → DoesCall (at_positions (procedure_code arity body)) parents body args t }
+{}
+
+/// A call of an atomic procedure has written nothing when its body fails and control goes to its `else`; nor has it when
+/// the `else` fails too, which ends the call.
+pub fn writes_nothing()
+    ensures { (names : Names) (text : TextProcedure) (whole : Statement) (arity : ℕ) (parents : List ℕ) (args : List ℤ) (t : Records) (read : IsBody names text whole) → text.is_atomic ≡ true → IsWellFormed whole arity 0 none_held false → AllTurn whole → WritesNothing parents read.body args t × WritesNothing parents read.handled args t }
 {}
 
 /// A procedure that the verifier accepted, and that has the code of a text, does what a call of the text does: the same locks, writes,

@@ -9,6 +9,7 @@ use Rattle.tl_syntax.specs.declared.parsed.Place.{Place}
 use Rattle.tl_syntax.specs.declared.parsed.Place.TheVariants as P
 use Rattle.tl_syntax.specs.declared.parsed.Change.{Change}
 use Rattle.tl_syntax.specs.declared.parsed.Leave.{Leave}
+use Rattle.tl_syntax.specs.declared.parsed.Write.{Write}
 use Rattle.tl_syntax.specs.declared.parsed.Action.{Action}
 use Rattle.tl_syntax.specs.declared.parsed.Action.TheVariants as V
 use Rattle.tl_syntax.specs.declared.parsed.Question.{Question}
@@ -22,7 +23,7 @@ use Rattle.tl_syntax.specs.declared.parsed.Procedure.{Procedure}
 use Rattle.tl_syntax.specs.declared.parsed.Declaration.{Declaration}
 use Rattle.tl_syntax.specs.declared.parsed.Declaration.TheVariants as D
 use Rattle.tl_syntax.specs.Alike as A
-use Rattle.tl_syntax.specs.Alike.{Alike, AlikeForm, AreAlike, AlikeChild, AlikePlace, AlikeAction, AlikeQuestion, AlikeStatements, AlikeStatement, AlikeStatementForm, AlikeOtherwise, AlikeProcedure, AlikeDeclaration, AlikeDeclarations}
+use Rattle.tl_syntax.specs.Alike.{Alike, AlikeForm, AreAlike, AlikeChild, AlikePlace, AlikeWrite, AlikeWrites, AlikeAction, AlikeQuestion, AlikeStatements, AlikeStatement, AlikeStatementForm, AlikeOtherwise, AlikeProcedure, AlikeDeclaration, AlikeDeclarations}
 use Rattle.tl_syntax.proofs.AlikeForms.{form_of}
 
 -- ---- itself
@@ -48,7 +49,7 @@ question_itself (Q.Lock p) = A.lock (place_itself p)
 abbrev pub action_rank : Action → ℕ
 action_rank (V.Let name e) = 0
 action_rank (V.Assign name change e) = 1
-action_rank (V.Write node field change e) = 2
+action_rank (V.Write w others) = 2
 action_rank (V.Emit es) = 3
 action_rank (V.Require e) = 4
 action_rank (V.Lock place) = 5
@@ -61,7 +62,7 @@ pub same_action_rank : {a b : Action} → AlikeAction a b → action_rank a ≡ 
 same_action_rank A.same_action = refl
 same_action_rank (A.lets x) = refl
 same_action_rank (A.assigns x) = refl
-same_action_rank (A.writes x) = refl
+same_action_rank (A.writes x y) = refl
 same_action_rank (A.emits x) = refl
 same_action_rank (A.requires x) = refl
 same_action_rank (A.locks x) = refl
@@ -75,9 +76,16 @@ pub assign_of : {n m : Name} {c d : Change} {e f : Expression} → AlikeAction (
 assign_of A.same_action = (refl, refl, A.same_form)
 assign_of (A.assigns x) = (refl, refl, form_of x)
 
-pub write_of : {n m k l : Name} {c d : Change} {e f : Expression} → AlikeAction (V.Write n k c e) (V.Write m l d f) → (n ≡ m) × (k ≡ l) × (c ≡ d) × AlikeForm e.form f.form
-write_of A.same_action = (refl, refl, refl, A.same_form)
-write_of (A.writes x) = (refl, refl, refl, form_of x)
+write_itself : (w : Write) → AlikeWrite w w
+write_itself w = record { node = refl; field = refl; change = refl; value = alike_itself w.value }
+
+writes_itself : (ws : List Write) → AlikeWrites ws ws
+writes_itself [] = A.no_writes
+writes_itself (w ∷ ws) = A.more_writes (write_itself w) (writes_itself ws)
+
+pub write_of : {v w : Write} {vs ws : Vec Write Global} → AlikeAction (V.Write v vs) (V.Write w ws) → AlikeWrite v w × AlikeWrites vs.items ws.items
+write_of {v} {vs = vs} A.same_action = (write_itself v, writes_itself vs.items)
+write_of (A.writes x y) = (x, y)
 
 pub require_of : {e f : Expression} → AlikeAction (V.Require e) (V.Require f) → AlikeForm e.form f.form
 require_of A.same_action = A.same_form

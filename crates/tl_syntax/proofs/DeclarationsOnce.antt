@@ -1,5 +1,5 @@
 -- Tokens denote only one list of declarations.
-use Rattle.std.proofs.Common.{◌≡◌, ℕ, ◌≤◌, ℤ, List, [], ◌∷◌, ◌++◌, refl, sym, ap, subst, ◌∙◌, arith}
+use Rattle.std.proofs.Common.{◌≡◌, ℕ, ◌≤◌, ℤ, Bool, List, [], ◌∷◌, ◌++◌, refl, sym, ap, subst, ◌∙◌, arith}
 use Rattle.std.proofs.Math.Path.{subst₂}
 use Rattle.tl_syntax.specs.declared.token.Token.{Token}
 use Rattle.tl_syntax.specs.declared.token.TokenKind.{TokenKind}
@@ -12,7 +12,7 @@ use Rattle.tl_syntax.specs.declared.parser.TheConstants.{MAX_LEVELS}
 use Rattle.tl_syntax.specs.Grammar.{kind_at, offset_at, Stands, IsName, IsNumber, IsNegative}
 use Rattle.tl_syntax.specs.Statements.{IsBlock}
 use Rattle.tl_syntax.specs.Declarations as D
-use Rattle.tl_syntax.specs.Declarations.{IsConstant, AreNames, AreArguments, IsProcedure, IsDeclaration, AreDeclarations, IsFile}
+use Rattle.tl_syntax.specs.Declarations.{IsConstant, AreNames, AreArguments, IsMark, IsProcedure, IsDeclaration, AreDeclarations, IsFile}
 use Rattle.tl_syntax.specs.Alike as A
 use Rattle.tl_syntax.specs.Alike.{AlikeStatements, AlikeProcedure, AlikeDeclaration, AlikeDeclarations}
 use Rattle.tl_syntax.proofs.ListsOnce.{Rest, done, append, Compared, within, another_compared, list_end}
@@ -102,12 +102,26 @@ arguments_once {tokens} {k = end} (D.some {j = a1} a s) (D.some b t) =
 
 -- ---- procedures
 
+abbrev starts : TokenKind → ℕ
+starts K.Proc = 1
+starts (K.Name s) = 2
+starts kind = 0
+
+-- the token behind a mark shows whether there is one
+mark_once : {tokens : List Token} {h i k a b : ℕ} {x y : Bool} → IsMark tokens h i x → Stands tokens K.Proc i a → IsMark tokens h k y → Stands tokens K.Proc k b → (i ≡ k) × (x ≡ y)
+mark_once D.no_mark s D.no_mark t = (refl, refl)
+mark_once D.no_mark s (D.mark n) t = differ starts s.kind_is n.kind_is (omega arith)
+mark_once (D.mark m) s D.no_mark t = differ starts t.kind_is m.kind_is (omega arith)
+mark_once (D.mark m) s (D.mark n) t = (same_end m n, refl)
+
 -- a procedure up to its body, and the position of the body
-record IsHead (tokens : List Token) (i j : ℕ) (p : Procedure) : Type 0 where
+record IsHead (tokens : List Token) (h j : ℕ) (p : Procedure) : Type 0 where
+  i : ℕ
   a : ℕ
   b : ℕ
   c : ℕ
   d : ℕ
+  marked : IsMark tokens h i p.is_atomic
   begins : Stands tokens K.Proc i a
   named : IsName tokens a b p.name
   opens : Stands tokens K.LeftParenthesis b c
@@ -116,40 +130,43 @@ record IsHead (tokens : List Token) (i j : ℕ) (p : Procedure) : Type 0 where
 
 record SameHead (j k : ℕ) (p q : Procedure) : Type 0 where
   ends : j ≡ k
+  marked : p.is_atomic ≡ q.is_atomic
   named : p.name ≡ q.name
   arguments : p.arguments.items ≡ q.arguments.items
   body : AlikeStatements p.body.items q.body.items
 
 head_once : (tokens : List Token) (i j k : ℕ) (p q : Procedure) → IsHead tokens i j p → IsHead tokens i k q → SameHead j k p q
 head_once tokens i j k p q x y =
-    let named : IsName tokens x.a y.b q.name = at (λ z. IsName tokens z y.b q.name) (same_end x.begins y.begins) y.named in
+    let marked = mark_once x.marked x.begins y.marked y.begins in
+    let begins : Stands tokens K.Proc x.i y.a = at (λ z. Stands tokens K.Proc z y.a) marked.0 y.begins in
+    let named : IsName tokens x.a y.b q.name = at (λ z. IsName tokens z y.b q.name) (same_end x.begins begins) y.named in
     let opens : Stands tokens K.LeftParenthesis x.b y.c = at (λ z. Stands tokens K.LeftParenthesis z y.c) (same_end x.named.stands named.stands) y.opens in
     let arguments : AreArguments tokens x.c y.d q.arguments.items = at (λ z. AreArguments tokens z y.d q.arguments.items) (same_end x.opens opens) y.arguments in
     let same = arguments_once x.arguments arguments in
     let body : IsBlock tokens MAX_LEVELS x.d k q.body.items = at (λ z. IsBlock tokens MAX_LEVELS z k q.body.items) same.0 y.body in
     let alike = block_once x.body body in
-    record { ends = alike.0; named = same_name x.named named; arguments = same.1; body = alike.1 }
+    record { ends = alike.0; marked = marked.1; named = same_name x.named named; arguments = same.1; body = alike.1 }
 
 procedure_once : {tokens : List Token} {i j k : ℕ} {p q : Procedure} → IsProcedure tokens i j p → NoElse tokens j → IsProcedure tokens i k q → NoElse tokens k → (j ≡ k) × AlikeProcedure p q
-procedure_once {tokens} {i} {j} {k} {p} {q} (D.procedure {j = a1} {k = a2} {l = a3} {m = a4} s n t a b none) f (D.procedure {j = b1} {k = b2} {l = b3} {m = b4} s2 n2 t2 x2 y2 none2) g =
-    let h = head_once tokens i j k p q (record { a = a1; b = a2; c = a3; d = a4; begins = s; named = n; opens = t; arguments = a; body = b })
-    (record { a = b1; b = b2; c = b3; d = b4; begins = s2; named = n2; opens = t2; arguments = x2; body = y2 }) in
-    (h.ends, record { name = h.named; arguments = h.arguments; body = h.body; otherwise = subst₂ AlikeStatements (sym none) (sym none2) A.no_statements })
-procedure_once {tokens} {i} {j} {k} {p} {q} (D.procedure {j = a1} {k = a2} {l = a3} {m = a4} s n t a b none) f (D.procedure_else {j = b1} {k = b2} {l = b3} {m = b4} {n = b5} s2 n2 t2 x2 y2 u2 c2) g =
-    let h = head_once tokens i j b5 p q (record { a = a1; b = a2; c = a3; d = a4; begins = s; named = n; opens = t; arguments = a; body = b })
-    (record { a = b1; b = b2; c = b3; d = b4; begins = s2; named = n2; opens = t2; arguments = x2; body = y2 }) in
+procedure_once {tokens} {i} {j} {k} {p} {q} (D.procedure {i = a0} {j = a1} {k = a2} {l = a3} {m = a4} r s n t a b none) f (D.procedure {i = b0} {j = b1} {k = b2} {l = b3} {m = b4} r2 s2 n2 t2 x2 y2 none2) g =
+    let h = head_once tokens i j k p q (record { i = a0; a = a1; b = a2; c = a3; d = a4; marked = r; begins = s; named = n; opens = t; arguments = a; body = b })
+    (record { i = b0; a = b1; b = b2; c = b3; d = b4; marked = r2; begins = s2; named = n2; opens = t2; arguments = x2; body = y2 }) in
+    (h.ends, record { mark = h.marked; name = h.named; arguments = h.arguments; body = h.body; otherwise = subst₂ AlikeStatements (sym none) (sym none2) A.no_statements })
+procedure_once {tokens} {i} {j} {k} {p} {q} (D.procedure {i = a0} {j = a1} {k = a2} {l = a3} {m = a4} r s n t a b none) f (D.procedure_else {i = b0} {j = b1} {k = b2} {l = b3} {m = b4} {n = b5} r2 s2 n2 t2 x2 y2 u2 c2) g =
+    let h = head_once tokens i j b5 p q (record { i = a0; a = a1; b = a2; c = a3; d = a4; marked = r; begins = s; named = n; opens = t; arguments = a; body = b })
+    (record { i = b0; a = b1; b = b2; c = b3; d = b4; marked = r2; begins = s2; named = n2; opens = t2; arguments = x2; body = y2 }) in
     some_else u2 (subst (λ z. NoElse tokens z) h.ends f)
-procedure_once {tokens} {i} {j} {k} {p} {q} (D.procedure_else {j = a1} {k = a2} {l = a3} {m = a4} {n = a5} s n t a b u c) f (D.procedure {j = b1} {k = b2} {l = b3} {m = b4} s2 n2 t2 x2 y2 none2) g =
-    let h = head_once tokens i a5 k p q (record { a = a1; b = a2; c = a3; d = a4; begins = s; named = n; opens = t; arguments = a; body = b })
-    (record { a = b1; b = b2; c = b3; d = b4; begins = s2; named = n2; opens = t2; arguments = x2; body = y2 }) in
+procedure_once {tokens} {i} {j} {k} {p} {q} (D.procedure_else {i = a0} {j = a1} {k = a2} {l = a3} {m = a4} {n = a5} r s n t a b u c) f (D.procedure {i = b0} {j = b1} {k = b2} {l = b3} {m = b4} r2 s2 n2 t2 x2 y2 none2) g =
+    let h = head_once tokens i a5 k p q (record { i = a0; a = a1; b = a2; c = a3; d = a4; marked = r; begins = s; named = n; opens = t; arguments = a; body = b })
+    (record { i = b0; a = b1; b = b2; c = b3; d = b4; marked = r2; begins = s2; named = n2; opens = t2; arguments = x2; body = y2 }) in
     some_else u (at (λ z. NoElse tokens z) h.ends g)
-procedure_once {tokens} {i} {j} {k} {p} {q} (D.procedure_else {j = a1} {k = a2} {l = a3} {m = a4} {n = a5} {o = a6} s n t a b u c) f (D.procedure_else {j = b1} {k = b2} {l = b3} {m = b4} {n = b5} {o = b6} s2 n2 t2 x2 y2 u2 c2) g =
-    let h = head_once tokens i a5 b5 p q (record { a = a1; b = a2; c = a3; d = a4; begins = s; named = n; opens = t; arguments = a; body = b })
-    (record { a = b1; b = b2; c = b3; d = b4; begins = s2; named = n2; opens = t2; arguments = x2; body = y2 }) in
+procedure_once {tokens} {i} {j} {k} {p} {q} (D.procedure_else {i = a0} {j = a1} {k = a2} {l = a3} {m = a4} {n = a5} {o = a6} r s n t a b u c) f (D.procedure_else {i = b0} {j = b1} {k = b2} {l = b3} {m = b4} {n = b5} {o = b6} r2 s2 n2 t2 x2 y2 u2 c2) g =
+    let h = head_once tokens i a5 b5 p q (record { i = a0; a = a1; b = a2; c = a3; d = a4; marked = r; begins = s; named = n; opens = t; arguments = a; body = b })
+    (record { i = b0; a = b1; b = b2; c = b3; d = b4; marked = r2; begins = s2; named = n2; opens = t2; arguments = x2; body = y2 }) in
     let u2' : Stands tokens K.Else a5 b6 = at (λ z. Stands tokens K.Else z b6) h.ends u2 in
     let c2' : IsBlock tokens MAX_LEVELS a6 k q.otherwise.items = at (λ z. IsBlock tokens MAX_LEVELS z k q.otherwise.items) (same_end u u2') c2 in
     let other = block_once c c2' in
-    (other.0, record { name = h.named; arguments = h.arguments; body = h.body; otherwise = other.1 })
+    (other.0, record { mark = h.marked; name = h.named; arguments = h.arguments; body = h.body; otherwise = other.1 })
 
 -- ---- declarations
 
@@ -157,11 +174,16 @@ abbrev declares : TokenKind → ℕ
 declares K.Field = 1
 declares K.Const = 2
 declares K.Proc = 3
+declares (K.Name s) = 3
 declares kind = 0
 
-procedure_starts : {tokens : List Token} {i j : ℕ} {p : Procedure} → IsProcedure tokens i j p → kind_at tokens i ≡ K.Proc
-procedure_starts (D.procedure s n t a b none) = s.kind_is
-procedure_starts (D.procedure_else s n t a b u c) = s.kind_is
+mark_starts : {tokens : List Token} {h i a : ℕ} {x : Bool} → IsMark tokens h i x → Stands tokens K.Proc i a → declares (kind_at tokens h) ≡ 3
+mark_starts D.no_mark s = ap declares s.kind_is
+mark_starts (D.mark m) s = ap declares m.kind_is
+
+procedure_starts : {tokens : List Token} {i j : ℕ} {p : Procedure} → IsProcedure tokens i j p → declares (kind_at tokens i) ≡ 3
+procedure_starts (D.procedure r s n t a b none) = mark_starts r s
+procedure_starts (D.procedure_else r s n t a b u c) = mark_starts r s
 
 abbrev rank : {tokens : List Token} {i j : ℕ} {d : Declaration} → IsDeclaration tokens i j d → ℕ
 rank (D.field s n t m u o) = 1
@@ -171,12 +193,12 @@ rank (D.procedures p) = 3
 rank_is : {tokens : List Token} {i j : ℕ} {d : Declaration} (x : IsDeclaration tokens i j d) → declares (kind_at tokens i) ≡ rank x
 rank_is (D.field s n t m u o) = ap declares s.kind_is
 rank_is (D.constant s n t m u) = ap declares s.kind_is
-rank_is (D.procedures p) = ap declares (procedure_starts p)
+rank_is (D.procedures p) = procedure_starts p
 
 some_rank : {tokens : List Token} {i j : ℕ} {d : Declaration} → IsDeclaration tokens i j d → 1 ≤ declares (kind_at tokens i)
 some_rank (D.field s n t m u o) = omega (arith, ap declares s.kind_is)
 some_rank (D.constant s n t m u) = omega (arith, ap declares s.kind_is)
-some_rank (D.procedures p) = omega (arith, ap declares (procedure_starts p))
+some_rank (D.procedures p) = omega (arith, procedure_starts p)
 
 declaration_once : {tokens : List Token} {i j k : ℕ} {d e : Declaration} → IsDeclaration tokens i j d → NoElse tokens j → IsDeclaration tokens i k e → NoElse tokens k →
     (j ≡ k) × AlikeDeclaration d e

@@ -4,6 +4,7 @@ use Rattle.tl_syntax.specs.declared.token.Token.{Token}
 use Rattle.tl_syntax.specs.declared.token.TokenKind.TheVariants as K
 use Rattle.tl_syntax.specs.declared.parsed.Expression.{Expression}
 use Rattle.tl_syntax.specs.declared.parsed.Leave.{Leave}
+use Rattle.tl_syntax.specs.declared.parsed.Write.{Write}
 use Rattle.tl_syntax.specs.declared.parsed.Action.{Action}
 use Rattle.tl_syntax.specs.declared.parsed.Action.TheVariants as A
 use Rattle.std.specs.declared.vec.Vec.{Vec}
@@ -13,7 +14,7 @@ use Rattle.tl_syntax.specs.declared.parsed.Statement.{Statement}
 use Rattle.tl_syntax.specs.declared.parsed.StatementForm.TheVariants as S
 use Rattle.tl_syntax.specs.Grammar.{kind_at, offset_at, Stands, IsExpression, Disjunction}
 use Rattle.tl_syntax.specs.Statements as R
-use Rattle.tl_syntax.specs.Statements.{AreExpressions, IsLeave, IsLeaving, IsAction, allows_else, IsTail, IsBlock, IsForm, AreStatements, IsStatement, IsOther}
+use Rattle.tl_syntax.specs.Statements.{AreExpressions, IsLeave, IsLeaving, IsWrite, AreMoreWrites, IsAction, allows_else, IsTail, IsBlock, IsForm, AreStatements, IsStatement, IsOther}
 
 pub pushed_first : {A : Type 0} {old new : List A} {x : A} → new ≡ old ++ x ∷ [] → old ≡ [] → new ≡ x ∷ []
 pushed_first {x = x} e o = e ∙ ap (λ l. l ++ x ∷ []) o
@@ -25,6 +26,13 @@ first_value {tokens} {levels} {i} {j} p o h = subst (λ es. AreExpressions token
 pub next_value : {tokens : List Token} {levels i j k l : ℕ} {e : Expression} {old new : List Expression} → new ≡ old ++ e ∷ [] →
     AreExpressions tokens levels i j old → Stands tokens K.Comma j k → IsExpression tokens levels Disjunction k l e → AreExpressions tokens levels i l new
 next_value {tokens} {levels} {i} {l = l} p a b h = subst (λ es. AreExpressions tokens levels i l es) (sym p) (R.one_more a b h)
+
+pub no_writes : {tokens : List Token} {levels i : ℕ} {ws : List Write} → ws ≡ [] → AreMoreWrites tokens levels i i ws
+no_writes {tokens} {levels} {i} e = subst (λ ws. AreMoreWrites tokens levels i i ws) (sym e) R.no_more_writes
+
+pub next_write : {tokens : List Token} {levels i j k l : ℕ} {w : Write} {old new : List Write} → new ≡ old ++ w ∷ [] →
+    AreMoreWrites tokens levels i j old → Stands tokens K.Comma j k → IsWrite tokens levels k l w → AreMoreWrites tokens levels i l new
+next_write {tokens} {levels} {i} {l = l} p a b h = subst (λ ws. AreMoreWrites tokens levels i l ws) (sym p) (R.next_write a b h)
 
 pub leaving_pushed : {tokens : List Token} {i j k : ℕ} (l : Leave) {s : Statement} {old new : List Statement} → new ≡ old ++ s ∷ [] → old ≡ [] →
     IsLeave tokens i j l → Stands tokens K.Semicolon j k → s.form ≡ S.Act (A.Leave l) None → s.offset ≡ offset_at tokens i → IsLeaving tokens i k new

@@ -1,5 +1,5 @@
 -- Tokens denote only one statement.
-use Rattle.std.proofs.Common.{◌≡◌, ◌≢◌, ℕ, ◌<◌, ◌≤◌, List, [], ◌∷◌, Option, Some, refl, sym, ap, subst, ◌∙◌, arith}
+use Rattle.std.proofs.Common.{◌≡◌, ◌≢◌, ℕ, ◌<◌, ◌≤◌, List, [], ◌∷◌, ◌++◌, Option, Some, refl, sym, ap, subst, ◌∙◌, arith}
 use Rattle.std.proofs.Math.Path.{subst₂}
 use Rattle.tl_syntax.specs.declared.token.Token.{Token}
 use Rattle.tl_syntax.specs.declared.token.TokenKind.{TokenKind}
@@ -15,6 +15,7 @@ use Rattle.tl_syntax.specs.declared.parsed.Change.{Change}
 use Rattle.tl_syntax.specs.declared.parsed.Change.TheVariants as C
 use Rattle.tl_syntax.specs.declared.parsed.Leave.{Leave}
 use Rattle.tl_syntax.specs.declared.parsed.Leave.TheVariants as L
+use Rattle.tl_syntax.specs.declared.parsed.Write.{Write}
 use Rattle.tl_syntax.specs.declared.parsed.Action.{Action}
 use Rattle.tl_syntax.specs.declared.parsed.Action.TheVariants as V
 use Rattle.tl_syntax.specs.declared.parsed.Question.{Question}
@@ -25,9 +26,9 @@ use Rattle.tl_syntax.specs.declared.parsed.StatementForm.TheVariants as S
 use Rattle.tl_syntax.specs.Grammar as G
 use Rattle.tl_syntax.specs.Grammar.{kind_at, offset_at, Stands, IsName, IsNumber, Disjunction, Rule, IsPlain, IsExpression, IsChain}
 use Rattle.tl_syntax.specs.Statements as R
-use Rattle.tl_syntax.specs.Statements.{word_at, word_most, word_each, word_of, word_to, IsLeave, IsChange, IsArgument, IsChild, IsPlace, AreExpressions, IsAction, IsQuestion, IsCount, IsIndex, IsLeaving, IsBlock, AreStatements, IsStatement, IsForm, IsOther, IsOtherwise}
+use Rattle.tl_syntax.specs.Statements.{word_at, word_most, word_each, word_of, word_to, IsLeave, IsChange, IsArgument, IsChild, IsPlace, AreExpressions, IsWrite, AreMoreWrites, IsAction, IsQuestion, IsCount, IsIndex, IsLeaving, IsBlock, AreStatements, IsStatement, IsForm, IsOther, IsOtherwise}
 use Rattle.tl_syntax.specs.Alike as A
-use Rattle.tl_syntax.specs.Alike.{Alike, AlikeForm, AreAlike, AlikeChild, AlikePlace, AlikeAction, AlikeQuestion, AlikeStatements, AlikeStatement, AlikeStatementForm, AlikeOtherwise}
+use Rattle.tl_syntax.specs.Alike.{Alike, AlikeForm, AreAlike, AlikeChild, AlikePlace, AlikeWrite, AlikeWrites, AlikeAction, AlikeQuestion, AlikeStatements, AlikeStatement, AlikeStatementForm, AlikeOtherwise}
 use Rattle.tl_syntax.proofs.ListsOnce.{Rest, done, step, append, Compared, within, another_compared, list_end}
 use Rattle.tl_syntax.proofs.ExpressionsOnce.{both_kinds, same_end, differ, same_name, same_number, binding, CanFollow, once}
 
@@ -274,6 +275,58 @@ expressions_once : {tokens : List Token} {n m i j k : ℕ} {es fs : List Express
 expressions_once {tokens} {j = j} {k = k} {es = es} {fs = fs} h a c g b d =
     list_end j k es fs (items_compared h a k fs (parts g) b) (λ l y q. some_comma q.stands c) (λ l y q. some_comma q.stands d)
 
+-- ---- writes
+
+write_once : {tokens : List Token} {n m i j k : ℕ} {v w : Write} → IsWrite tokens n i j v → Follows tokens j → IsWrite tokens m i k w → Follows tokens k → (j ≡ k) × AlikeWrite v w
+write_once {tokens} {m = m} {k = end} {v = v} {w = w} (R.write {j = a1} {k = a2} {l = a3} {m = a4} n s q t h) f (R.write {k = b2} {l = b3} {m = b4} n2 s2 q2 t2 h2) g =
+    let s2' : Stands tokens K.Dot a1 b2 = at (λ z. Stands tokens K.Dot z b2) (same_end n.stands n2.stands) s2 in
+    let q2' : IsName tokens a2 b3 w.field = at (λ z. IsName tokens z b3 w.field) (same_end s s2') q2 in
+    let t2' : IsChange tokens a3 b4 w.change = at (λ z. IsChange tokens z b4 w.change) (same_end q.stands q2'.stands) t2 in
+    let change = same_change tokens v.change w.change a3 a4 b4 t t2' in
+    let h2' : IsExpression tokens m Disjunction a4 end w.value = at (λ z. IsExpression tokens m Disjunction z end w.value) change.0 h2 in
+    let same = once h f m end w.value h2' g in
+    (same.0, record { node = same_name n n2; field = same_name q q2'; change = change.1; value = same.1 })
+
+-- a comma and a write
+record IsNextWrite (tokens : List Token) (i k : ℕ) (w : Write) : Type 0 where
+  levels : ℕ
+  middle : ℕ
+  stands : Stands tokens K.Comma i middle
+  is : IsWrite tokens levels middle k w
+
+next_begins : (tokens : List Token) (j k : ℕ) (w : Write) → IsNextWrite tokens j k w → Follows tokens j
+next_begins tokens j k w h = ends h.stands.kind_is refl
+
+next_once : (tokens : List Token) (j k : ℕ) (v : Write) → IsNextWrite tokens j k v → Follows tokens k → (l : ℕ) (w : Write) → IsNextWrite tokens j l w → Follows tokens l → (k ≡ l) × AlikeWrite v w
+next_once tokens j k v x a l w y b =
+    let is : IsWrite tokens y.levels x.middle l w = at (λ z. IsWrite tokens y.levels z l w) (same_end x.stands y.stands) y.is in
+    write_once x.is a is b
+
+push_write : {vs ws : List Write} {v w : Write} → AlikeWrites vs ws → AlikeWrite v w → AlikeWrites (vs ++ v ∷ []) (ws ++ w ∷ [])
+push_write A.no_writes x = A.more_writes x A.no_writes
+push_write (A.more_writes y h) x = A.more_writes y (push_write h x)
+
+writes_follow : {tokens : List Token} {n i j : ℕ} {ws : List Write} → AreMoreWrites tokens n i j ws → Follows tokens j → Follows tokens i
+writes_follow R.no_more_writes f = f
+writes_follow (R.next_write a s h) f = writes_follow a (ends s.kind_is refl)
+
+writes_read : {tokens : List Token} {n i k : ℕ} {ws : List Write} → AreMoreWrites tokens n i k ws → Rest (IsNextWrite tokens) i [] k ws
+writes_read R.no_more_writes = done
+writes_read {n = n} (R.next_write {k = k} a s h) = append (writes_read a) (record { levels = n; middle = k; stands = s; is = h })
+
+writes_compared : {tokens : List Token} {n i j : ℕ} {vs : List Write} → AreMoreWrites tokens n i j vs → Follows tokens j → (k : ℕ) (ws : List Write) → Rest (IsNextWrite tokens) i [] k ws →
+    Follows tokens k → Compared (IsNextWrite tokens) AlikeWrites j vs k ws
+writes_compared R.no_more_writes a k ws p b = within p A.no_writes
+writes_compared {tokens} {n = n} (R.next_write {j = j} {k = m} {l = l} {ws = vs} {w = v} xs s h) a k ws p b =
+    let item : IsNextWrite tokens j l v = record { levels = n; middle = m; stands = s; is = h } in
+    another_compared (IsNextWrite tokens) AlikeWrite AlikeWrites (Follows tokens) (next_begins tokens) (λ xs ys x y ps q. push_write ps q) j l k vs ws v item (next_once tokens j l v item) a b
+    (writes_compared xs (ends s.kind_is refl) k ws p b)
+
+writes_once : {tokens : List Token} {n m i j k : ℕ} {vs ws : List Write} → AreMoreWrites tokens n i j vs → Follows tokens j → NoComma tokens j → AreMoreWrites tokens m i k ws →
+    Follows tokens k → NoComma tokens k → (j ≡ k) × AlikeWrites vs ws
+writes_once {tokens} {j = j} {k = k} {vs = vs} {ws = ws} h a c g b d =
+    list_end j k vs ws (writes_compared h a k ws (writes_read g) b) (λ l y q. some_comma q.stands c) (λ l y q. some_comma q.stands d)
+
 -- ---- actions
 
 -- the token ends an action
@@ -301,7 +354,7 @@ heading kind = 0
 abbrev head : Action → ℕ
 head (V.Let n e) = 1
 head (V.Assign n c e) = 2
-head (V.Write n f c e) = 2
+head (V.Write w others) = 2
 head (V.Emit es) = 3
 head (V.Require e) = 4
 head (V.Lock p) = 5
@@ -318,7 +371,7 @@ leave_heading tokens L.Fail i j s = ap heading s.kind_is
 action_is : {tokens : List Token} {n i j : ℕ} {a : Action} → IsAction tokens n i j a → heading (kind_at tokens i) ≡ head a
 action_is (R.lets s n t e) = ap heading s.kind_is
 action_is (R.assigns n c e) = ap heading n.stands.kind_is
-action_is (R.writes n d f c e) = ap heading n.stands.kind_is
+action_is (R.writes (R.write n d f c e) others) = ap heading n.stands.kind_is
 action_is (R.emits s es) = ap heading s.kind_is
 action_is (R.requires s e) = ap heading s.kind_is
 action_is (R.locks s p) = ap heading s.kind_is
@@ -340,23 +393,17 @@ action_once {tokens} {m = m} {k = end} (R.assigns {j = a1} {k = a2} {n = x} {c =
     let h2' : IsExpression tokens m Disjunction a2 end e2 = at (λ z. IsExpression tokens m Disjunction z end e2) change.0 h2 in
     let same = once h f.follows m end e2 h2' g.follows in
     (same.0, subst₂ (λ z w. AlikeAction (V.Assign x c e) (V.Assign z w e2)) (same_name n n2) change.1 (A.assigns same.1))
-action_once {tokens} (R.assigns {j = a1} {k = a2} {c = c} n s h) f (R.writes {k = b2} n2 d fd s2 h2) g =
+action_once {tokens} (R.assigns {j = a1} {k = a2} {c = c} n s h) f (R.writes (R.write {k = b2} n2 d fd s2 h2) others) g =
     let d' : Stands tokens K.Dot a1 b2 = at (λ z. Stands tokens K.Dot z b2) (same_end n.stands n2.stands) d in
     absurd (omega (arith, change_no_dot tokens c a1 a2 s, ap dotted d'.kind_is))
-action_once {tokens} (R.writes {j = a1} {k = a2} n d fd s h) f (R.assigns {j = b1} {k = b2} {c = c} n2 s2 h2) g =
+action_once {tokens} (R.writes (R.write {j = a1} {k = a2} n d fd s h) others) f (R.assigns {j = b1} {k = b2} {c = c} n2 s2 h2) g =
     let d' : Stands tokens K.Dot b1 a2 = at (λ z. Stands tokens K.Dot z a2) (same_end n2.stands n.stands) d in
     absurd (omega (arith, change_no_dot tokens c b1 b2 s2, ap dotted d'.kind_is))
-action_once {tokens} {m = m} {k = end} (R.writes {j = a1} {k = a2} {l = a3} {m = a4} {n = x} {f = xf} {c = c} {e = e} n s q t h) f (R.writes {k = b2} {l = b3} {m = b4} {n = y} {f = yf} {c = d} {e = e2} n2 s2 q2 t2 h2) g =
-    let s2' : Stands tokens K.Dot a1 b2 = at (λ z. Stands tokens K.Dot z b2) (same_end n.stands n2.stands) s2 in
-    let q2' : IsName tokens a2 b3 yf = at (λ z. IsName tokens z b3 yf) (same_end s s2') q2 in
-    let t2' : IsChange tokens a3 b4 d = at (λ z. IsChange tokens z b4 d) (same_end q.stands q2'.stands) t2 in
-    let change = same_change tokens c d a3 a4 b4 t t2' in
-    let h2' : IsExpression tokens m Disjunction a4 end e2 = at (λ z. IsExpression tokens m Disjunction z end e2) change.0 h2 in
-    let same = once h f.follows m end e2 h2' g.follows in (
-      same.0,
-      subst (λ z. AlikeAction (V.Write x xf c e) (V.Write z yf d e2)) (same_name n n2)
-          (subst₂ (λ z w. AlikeAction (V.Write x xf c e) (V.Write x z w e2)) (same_name q q2') change.1 (A.writes same.1)),
-    )
+action_once {tokens} {m = m} {k = end} (R.writes {j = a1} w others) f (R.writes {others = ws} w2 others2) g =
+    let first = write_once w (writes_follow others f.follows) w2 (writes_follow others2 g.follows) in
+    let others2' : AreMoreWrites tokens m a1 end ws.items = at (λ z. AreMoreWrites tokens m z end ws.items) first.0 others2 in
+    let more = writes_once others f.follows f.no_comma others2' g.follows g.no_comma in
+    (more.0, A.writes first.1 more.1)
 action_once {tokens} {m = m} {k = end} (R.emits {j = a1} s h) f (R.emits {es = fs} s2 h2) g =
     let h2' : AreExpressions tokens m a1 end fs.items = at (λ z. AreExpressions tokens m z end fs.items) (same_end s s2) h2 in
     let same = expressions_once h f.follows f.no_comma h2' g.follows g.no_comma in
@@ -468,7 +515,7 @@ leave_starting tokens L.Fail i j s = ap starting s.kind_is
 action_starting : {tokens : List Token} {n i j : ℕ} {a : Action} → IsAction tokens n i j a → starting (kind_at tokens i) ≡ 1
 action_starting (R.lets s n t e) = ap starting s.kind_is
 action_starting (R.assigns n c e) = ap starting n.stands.kind_is
-action_starting (R.writes n d f c e) = ap starting n.stands.kind_is
+action_starting (R.writes (R.write n d f c e) others) = ap starting n.stands.kind_is
 action_starting (R.emits s es) = ap starting s.kind_is
 action_starting (R.requires s e) = ap starting s.kind_is
 action_starting (R.locks s p) = ap starting s.kind_is

@@ -12,6 +12,7 @@ use Rattle.tl_syntax.specs.declared.parsed.Child.{Child}
 use Rattle.tl_syntax.specs.declared.parsed.Place.{Place}
 use Rattle.tl_syntax.specs.declared.parsed.Place.TheVariants as P
 use Rattle.tl_syntax.specs.declared.parsed.Change.{Change}
+use Rattle.tl_syntax.specs.declared.parsed.Write.{Write}
 use Rattle.tl_syntax.specs.declared.parsed.Action.{Action}
 use Rattle.tl_syntax.specs.declared.parsed.Action.TheVariants as A
 use Rattle.tl_syntax.specs.declared.parsed.Question.{Question}
@@ -51,11 +52,22 @@ pub data AlikePlace : Place → Place → Type 0 where
   child : {c d : Child} → AlikeChild c d → AlikePlace (P.Child c) (P.Child d)
   pair : {a b c d : Child} → AlikeChild a c → AlikeChild b d → AlikePlace (P.Pair a b) (P.Pair c d)
 
+pub record AlikeWrite (v w : Write) : Type 0 where
+  pub node : v.node ≡ w.node
+  pub field : v.field ≡ w.field
+  pub change : v.change ≡ w.change
+  pub value : Alike v.value w.value
+
+-- one by one
+pub data AlikeWrites : List Write → List Write → Type 0 where
+  no_writes : AlikeWrites [] []
+  more_writes : {vs ws : List Write} {v w : Write} → AlikeWrite v w → AlikeWrites vs ws → AlikeWrites (v ∷ vs) (w ∷ ws)
+
 pub data AlikeAction : Action → Action → Type 0 where
   same_action : {a : Action} → AlikeAction a a
   lets : {n : Name} {e f : Expression} → Alike e f → AlikeAction (A.Let n e) (A.Let n f)
   assigns : {n : Name} {c : Change} {e f : Expression} → Alike e f → AlikeAction (A.Assign n c e) (A.Assign n c f)
-  writes : {n field : Name} {c : Change} {e f : Expression} → Alike e f → AlikeAction (A.Write n field c e) (A.Write n field c f)
+  writes : {v w : Write} {vs ws : Vec Write Global} → AlikeWrite v w → AlikeWrites vs.items ws.items → AlikeAction (A.Write v vs) (A.Write w ws)
   emits : {es fs : Vec Expression Global} → AreAlike es.items fs.items → AlikeAction (A.Emit es) (A.Emit fs)
   requires : {e f : Expression} → Alike e f → AlikeAction (A.Require e) (A.Require f)
   locks : {p q : Place} → AlikePlace p q → AlikeAction (A.Lock p) (A.Lock q)
@@ -93,6 +105,7 @@ mutual
         AlikeStatements (out-Otherwise o).body.items (out-Otherwise p).body.items → AlikeOtherwise o p
 
 pub record AlikeProcedure (p q : Procedure) : Type 0 where
+  pub mark : p.is_atomic ≡ q.is_atomic
   pub name : p.name ≡ q.name
   pub arguments : p.arguments.items ≡ q.arguments.items
   pub body : AlikeStatements p.body.items q.body.items

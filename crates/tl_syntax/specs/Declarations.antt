@@ -1,6 +1,7 @@
 -- The grammar of declarations. Each rule says what the tokens from i up to but not including j denote.
-use Rattle.std.specs.Prelude.{◌≡◌, ℕ, List, [], ◌∷◌, ◌++◌, ℤ}
+use Rattle.std.specs.Prelude.{◌≡◌, ℕ, List, [], ◌∷◌, ◌++◌, Bool, true, false, ℤ}
 use Rattle.tl_syntax.specs.declared.token.Token.{Token}
+use Rattle.tl_syntax.specs.declared.token.TokenKind.{TokenKind}
 use Rattle.tl_syntax.specs.declared.token.TokenKind.TheVariants as K
 use Rattle.tl_syntax.specs.declared.parsed.Name.{Name}
 use Rattle.tl_syntax.specs.declared.parsed.Procedure.{Procedure}
@@ -26,13 +27,21 @@ pub data AreArguments (tokens : List Token) : ℕ → ℕ → List Name → Type
   none : {i j : ℕ} → Stands tokens K.RightParenthesis i j → AreArguments tokens i j []
   some : {i j k : ℕ} {ns : List Name} → AreNames tokens i j ns → Stands tokens K.RightParenthesis j k → AreArguments tokens i k ns
 
--- a procedure: its name, arguments and body, and optionally an `else` block
+abbrev pub word_atomic : TokenKind
+word_atomic = K.Name (record { 0 = 5 })
+
+-- whether a procedure is marked by `atomic`
+pub data IsMark (tokens : List Token) : ℕ → ℕ → Bool → Type 0 where
+  no_mark : {i : ℕ} → IsMark tokens i i false
+  mark : {i j : ℕ} → Stands tokens word_atomic i j → IsMark tokens i j true
+
+-- a procedure: optionally a mark, its name, arguments and body, and optionally an `else` block
 pub data IsProcedure (tokens : List Token) : ℕ → ℕ → Procedure → Type 0 where
-  procedure : {i j k l m n : ℕ} {p : Procedure} → Stands tokens K.Proc i j → IsName tokens j k p.name → Stands tokens K.LeftParenthesis k l →
-      AreArguments tokens l m p.arguments.items → IsBlock tokens MAX_LEVELS m n p.body.items → p.otherwise.items ≡ [] → IsProcedure tokens i n p
-  procedure_else : {i j k l m n o q : ℕ} {p : Procedure} → Stands tokens K.Proc i j → IsName tokens j k p.name → Stands tokens K.LeftParenthesis k l →
+  procedure : {h i j k l m n : ℕ} {p : Procedure} → IsMark tokens h i p.is_atomic → Stands tokens K.Proc i j → IsName tokens j k p.name → Stands tokens K.LeftParenthesis k l →
+      AreArguments tokens l m p.arguments.items → IsBlock tokens MAX_LEVELS m n p.body.items → p.otherwise.items ≡ [] → IsProcedure tokens h n p
+  procedure_else : {h i j k l m n o q : ℕ} {p : Procedure} → IsMark tokens h i p.is_atomic → Stands tokens K.Proc i j → IsName tokens j k p.name → Stands tokens K.LeftParenthesis k l →
       AreArguments tokens l m p.arguments.items → IsBlock tokens MAX_LEVELS m n p.body.items → Stands tokens K.Else n o → IsBlock tokens MAX_LEVELS o q p.otherwise.items →
-      IsProcedure tokens i q p
+      IsProcedure tokens h q p
 
 pub data IsDeclaration (tokens : List Token) : ℕ → ℕ → Declaration → Type 0 where
   -- the offset is that of the number

@@ -27,6 +27,7 @@ number_of W.OtherParent = 285
 number_of W.ElseEnds = 286
 number_of W.Unreached = 287
 number_of W.NoLoop = 288
+number_of W.WrittenBefore = 299
 number_of W.Values = 291
 number_of W.Nodes = 292
 number_of W.LoopDepth = 293

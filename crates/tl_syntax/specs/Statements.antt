@@ -15,6 +15,7 @@ use Rattle.tl_syntax.specs.declared.parsed.Change.{Change}
 use Rattle.tl_syntax.specs.declared.parsed.Change.TheVariants as C
 use Rattle.tl_syntax.specs.declared.parsed.Leave.{Leave}
 use Rattle.tl_syntax.specs.declared.parsed.Leave.TheVariants as L
+use Rattle.tl_syntax.specs.declared.parsed.Write.{Write}
 use Rattle.tl_syntax.specs.declared.parsed.Action.{Action}
 use Rattle.tl_syntax.specs.declared.parsed.Action.TheVariants as A
 use Rattle.tl_syntax.specs.declared.parsed.Question.{Question}
@@ -75,14 +76,24 @@ pub data AreExpressions (tokens : List Token) (levels : ℕ) : ℕ → ℕ → L
   one_more : {i j k l : ℕ} {es : List Expression} {e : Expression} → AreExpressions tokens levels i j es → Stands tokens K.Comma j k →
       IsExpression tokens levels Disjunction k l e → AreExpressions tokens levels i l (es ++ e ∷ [])
 
+pub data IsWrite (tokens : List Token) (levels : ℕ) : ℕ → ℕ → Write → Type 0 where
+  write : {i j k l m o : ℕ} {w : Write} → IsName tokens i j w.node → Stands tokens K.Dot j k → IsName tokens k l w.field → IsChange tokens l m w.change →
+      IsExpression tokens levels Disjunction m o w.value → IsWrite tokens levels i o w
+
+-- the writes behind the first one, each behind a comma
+pub data AreMoreWrites (tokens : List Token) (levels : ℕ) : ℕ → ℕ → List Write → Type 0 where
+  no_more_writes : {i : ℕ} → AreMoreWrites tokens levels i i []
+  next_write : {i j k l : ℕ} {ws : List Write} {w : Write} → AreMoreWrites tokens levels i j ws → Stands tokens K.Comma j k →
+      IsWrite tokens levels k l w → AreMoreWrites tokens levels i l (ws ++ w ∷ [])
+
 -- a statement without blocks, up to the semicolon or `else` that follows it
 pub data IsAction (tokens : List Token) (levels : ℕ) : ℕ → ℕ → Action → Type 0 where
   lets : {i j k l m : ℕ} {n : Name} {e : Expression} → Stands tokens K.Let i j → IsName tokens j k n → Stands tokens K.Assign k l →
       IsExpression tokens levels Disjunction l m e → IsAction tokens levels i m (A.Let n e)
   assigns : {i j k l : ℕ} {n : Name} {c : Change} {e : Expression} → IsName tokens i j n → IsChange tokens j k c →
       IsExpression tokens levels Disjunction k l e → IsAction tokens levels i l (A.Assign n c e)
-  writes : {i j k l m o : ℕ} {n f : Name} {c : Change} {e : Expression} → IsName tokens i j n → Stands tokens K.Dot j k → IsName tokens k l f →
-      IsChange tokens l m c → IsExpression tokens levels Disjunction m o e → IsAction tokens levels i o (A.Write n f c e)
+  writes : {i j k : ℕ} {w : Write} {others : Vec Write Global} → IsWrite tokens levels i j w → AreMoreWrites tokens levels j k others.items →
+      IsAction tokens levels i k (A.Write w others)
   emits : {i j k : ℕ} {es : Vec Expression Global} → Stands tokens K.Emit i j → AreExpressions tokens levels j k es.items → IsAction tokens levels i k (A.Emit es)
   requires : {i j k : ℕ} {e : Expression} → Stands tokens K.Require i j → IsExpression tokens levels Disjunction j k e → IsAction tokens levels i k (A.Require e)
   locks : {i j k : ℕ} {p : Place} → Stands tokens K.Lock i j → IsPlace tokens levels j k p → IsAction tokens levels i k (A.Lock p)

@@ -5,6 +5,7 @@ ghost use Rattle.tl_syntax.specs.Declarations.{
   IsConstant,
   AreNames,
   AreArguments,
+  IsMark,
   IsProcedure,
   IsDeclaration,
   IsFile,
@@ -13,7 +14,7 @@ ghost use Rattle.tl_syntax.specs.Declarations.{
 use crate::fault::SyntaxFault;
 use crate::parsed::{Declaration, Name, Procedure};
 use crate::parser::{MAX_LEVELS, Parsed, Parser};
-use crate::token::TokenKind;
+use crate::token::{Symbol, TokenKind};
 
 impl<'a> Parser<'a> {
     fn field(&self, at: usize) -> Parsed<Declaration>
@@ -86,9 +87,20 @@ impl<'a> Parser<'a> {
         Ok((names, at))
     }
 
+    // Whether a procedure is marked by `atomic`.
+    fn mark(&self, at: usize) -> (bool, usize)
+        ensures { IsMark self.now.tokens.now at result.1 result.0 }
+    {
+        let Some(next) = self.skip_if(at, TokenKind::Name(Symbol::ATOMIC)) else {
+            return (false, at);
+        };
+        (true, next)
+    }
+
     fn procedure(&self, at: usize) -> Parsed<Procedure>
         ensures { IfOk result (λ read. IsProcedure self.now.tokens.now at read.1 read.0) }
     {
+        let (is_atomic, at) = self.mark(at);
         let at = self.skip(at, TokenKind::Proc)?;
         let (name, at) = self.name(at)?;
         let at = self.skip(at, TokenKind::LeftParenthesis)?;
@@ -97,6 +109,7 @@ impl<'a> Parser<'a> {
         let Some(next) = self.skip_if(at, TokenKind::Else) else {
             let nothing = Vec::new(self.alloc);
             let procedure = Procedure {
+                is_atomic,
                 name,
                 arguments,
                 body,
@@ -106,6 +119,7 @@ impl<'a> Parser<'a> {
         };
         let (otherwise, after) = self.block(next, MAX_LEVELS)?;
         let procedure = Procedure {
+            is_atomic,
             name,
             arguments,
             body,
@@ -120,11 +134,10 @@ impl<'a> Parser<'a> {
         match self.kind(at) {
             TokenKind::Field => self.field(at),
             TokenKind::Const => self.constant(at),
-            TokenKind::Proc => {
+            _ => {
                 let (procedure, after) = self.procedure(at)?;
                 Ok((Declaration::Procedure(procedure), after))
             }
-            _ => Err(self.misplaced(at)),
         }
     }
 

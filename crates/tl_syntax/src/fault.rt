@@ -78,6 +78,9 @@ pub enum Wrong {
     /// 288: `break` outside a loop.
     #[error("break outside a loop")]
     NoLoop,
+    /// 299: a failure that may follow a write, in a procedure that is marked by `atomic`.
+    #[error("a field may have been written before this fails: an atomic procedure computes first, and then writes")]
+    WrittenBefore,
     /// 291: more than 16 values at once.
     #[error("more than 16 value registers are needed")]
     Values,
@@ -120,6 +123,7 @@ impl Wrong {
             Wrong::ElseEnds => 286,
             Wrong::Unreached => 287,
             Wrong::NoLoop => 288,
+            Wrong::WrittenBefore => 299,
             Wrong::Values => 291,
             Wrong::Nodes => 292,
             Wrong::LoopDepth => 293,

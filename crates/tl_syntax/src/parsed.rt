@@ -82,6 +82,15 @@ pub enum Leave {
     Fail,
 }
 
+/// A write of a field of a node.
+#[derive(Drop)]
+pub struct Write {
+    pub node: Name,
+    pub field: Name,
+    pub change: Change,
+    pub value: Expression,
+}
+
 /// A statement without blocks of its own.
 #[derive(Drop)]
 pub enum Action {
@@ -94,12 +103,8 @@ pub enum Action {
         change: Change,
         value: Expression,
     },
-    Write {
-        node: Name,
-        field: Name,
-        change: Change,
-        value: Expression,
-    },
+    /// A write, and those that follow it: all numbers are computed before the first field is written.
+    Write(Write, Vec<Write>),
     Emit(Vec<Expression>),
     Require(Expression),
     Lock(Place),
@@ -160,9 +165,10 @@ pub enum StatementForm {
     },
 }
 
-/// A procedure.
+/// A procedure. One that is marked by `atomic` promises that it has written nothing where it fails.
 #[derive(Drop)]
 pub struct Procedure {
+    pub is_atomic: bool,
     pub name: Name,
     pub arguments: Vec<Name>,
     pub body: Vec<Statement>,

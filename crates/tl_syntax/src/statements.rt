@@ -9,6 +9,8 @@ ghost use Rattle.tl_syntax.specs.Statements.{
   IsChild,
   IsPlace,
   AreExpressions,
+  IsWrite,
+  AreMoreWrites,
   IsAction,
   IsQuestion,
   IsCount,
@@ -25,7 +27,7 @@ ghost use Rattle.tl_syntax.specs.Statements.{
 use crate::fault::SyntaxFault;
 use crate::parsed::{
     Action, Change, Child, Expression, Form, Leave, Name, Otherwise, Place, Question, Statement,
-    StatementForm,
+    StatementForm, Write,
 };
 use crate::parser::{Parsed, Parser};
 use crate::token::{Symbol, TokenKind};
@@ -75,31 +77,66 @@ impl<'a> Parser<'a> {
         Ok((Action::Let { name, value }, at))
     }
 
-    // An assignment to a value, or a write of a field.
-    fn assignment(&self, at: usize, levels: u32) -> Parsed<Action>
+    // An assignment to a value.
+    fn assign(&self, at: usize, levels: u32) -> Parsed<Action>
         ensures { IfOk result (λ read. IsAction self.now.tokens.now levels at read.1 read.0) }
     {
         let (name, at) = self.name(at)?;
-        let Some(next) = self.skip_if(at, TokenKind::Dot) else {
-            let (change, at) = self.change(at)?;
-            let (value, at) = self.expression(at, levels)?;
-            let action = Action::Assign {
-                name,
-                change,
-                value,
-            };
-            return Ok((action, at));
-        };
-        let (field, at) = self.name(next)?;
         let (change, at) = self.change(at)?;
         let (value, at) = self.expression(at, levels)?;
-        let action = Action::Write {
-            node: name,
-            field,
+        let action = Action::Assign {
+            name,
             change,
             value,
         };
         Ok((action, at))
+    }
+
+    // A write of a field.
+    fn write(&self, at: usize, levels: u32) -> Parsed<Write>
+        ensures { IfOk result (λ read. IsWrite self.now.tokens.now levels at read.1 read.0) }
+    {
+        let (node, at) = self.name(at)?;
+        let at = self.skip(at, TokenKind::Dot)?;
+        let (field, at) = self.name(at)?;
+        let (change, at) = self.change(at)?;
+        let (value, at) = self.expression(at, levels)?;
+        let write = Write {
+            node,
+            field,
+            change,
+            value,
+        };
+        Ok((write, at))
+    }
+
+    // The writes that follow the first one, each behind a comma.
+    fn more_writes(&self, at: usize, levels: u32) -> Parsed<Vec<Write>>
+        ensures { IfOk result (λ read. AreMoreWrites self.now.tokens.now levels at read.1 read.0.items) }
+    {
+        let mut writes = Vec::new(self.alloc);
+        let mut next = at;
+        for _ in 0..self.tokens.len() {
+            let Some(behind) = self.skip_if(next, TokenKind::Comma) else {
+                break;
+            };
+            let (write, after) = self.write(behind, levels)?;
+            writes.push(write)?;
+            next = after;
+        }
+        Ok((writes, next))
+    }
+
+    // An assignment to a value, or writes of fields.
+    fn assignment(&self, at: usize, levels: u32) -> Parsed<Action>
+        ensures { IfOk result (λ read. IsAction self.now.tokens.now levels at read.1 read.0) }
+    {
+        if self.kind(self.behind(at)) != TokenKind::Dot {
+            return self.assign(at, levels);
+        }
+        let (first, at) = self.write(at, levels)?;
+        let (others, at) = self.more_writes(at, levels)?;
+        Ok((Action::Write(first, others), at))
     }
 
     // One expression or more, with commas between them.

@@ -15,6 +15,8 @@ impl Symbol {
     pub const OF: Symbol = Symbol(3);
 
     pub const TO: Symbol = Symbol(4);
+
+    pub const ATOMIC: Symbol = Symbol(5);
 }
 
 /// The kind of a token. The reserved words come first.

@@ -272,7 +272,7 @@ pub fn from_276_to_289(number: u16) -> Option<Meaning> {
     }
 }
 
-pub fn from_290_to_297(number: u16) -> Option<Meaning> {
+pub fn from_290_to_299(number: u16) -> Option<Meaning> {
     match number {
         290 => Some(Meaning {
             parts: "",
@@ -307,20 +307,26 @@ pub fn from_290_to_297(number: u16) -> Option<Meaning> {
         295 => Some(Meaning {
             parts: ", line, column",
             name: "too many steps",
-            when: "the procedure may do more than 1,000,000 instructions; the place is where most of them come from",
-            advice: "let loops turn less often",
+            when: "the procedure may do more than 1,000,000 instructions: what stands in loops counts as often as they may turn, all bounds multiplied; the place is where most of them come from",
+            advice: "let the loops around it turn less often, or do it behind them",
         }),
         296 => Some(Meaning {
             parts: ", line, column",
             name: "too many locks",
-            when: "the procedure may lock more than 4,096 nodes; the place is where most of them come from",
-            advice: "let loops turn less often",
+            when: "the procedure may lock more than 4,096 nodes: a lock in loops counts as often as they may turn, all bounds multiplied; the place is where most of them come from",
+            advice: "let the loops around it turn less often",
         }),
         297 => Some(Meaning {
             parts: ", line, column",
             name: "too many emits",
-            when: "the procedure may emit more than 32 values; the place is where most of them come from",
-            advice: "emit fewer values, or let loops turn less often",
+            when: "the procedure may emit more than 32 values: an `emit` in loops counts as often as they may turn, all bounds multiplied; the place is where most of them come from",
+            advice: "remember what was found, `break`, and emit it behind the loop; or let the loops turn less often",
+        }),
+        299 => Some(Meaning {
+            parts: ", line, column",
+            name: "written before",
+            when: "a field may have been written before the statement fails, in an atomic procedure",
+            advice: "compute first, and write in one statement; or give the statement an `else` of its own",
         }),
         _ => None,
     }

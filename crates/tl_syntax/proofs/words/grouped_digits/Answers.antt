@@ -1,4 +1,4 @@
-use Rattle.std.proofs.Common.{◌≡◌, ◌+◌, ◌++◌, ◌∷◌, [], ℕ, List, take, get_or, refl, sym, ◌∙◌, arith}
+use Rattle.std.proofs.Common.{◌≡◌, ◌+◌, ◌++◌, ◌∷◌, [], take, get_or, refl, sym, ◌∙◌, arith}
 use Rattle.std.proofs.lemmas.List.{take_more}
 use Rattle.tl_syntax.proofs.DigitLemmas.{reads_nothing, reads_digit, reads_gap}
 use Rattle.tl_syntax.proofs.words.grouped_digits.Goals.{then-is_ascii_digit+in_ok-checked_mul+in_ok-number, else-is_ascii_digit+then-byte-eq95+then-follows_digit}

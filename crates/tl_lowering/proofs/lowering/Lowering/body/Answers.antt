@@ -20,6 +20,8 @@ returns-clause-named c =
       handler_is = block_at (ap names_in c.in_ok-lowered.ensures.scope) c.deref-2.ensures.value h.block;
       handled_is = h.tried;
       whole_is = tried_of c.in_ok-handled-2.ensures c.in_ok-boxed.ensures;
+      atomic = c.in_ok-check_atomic.ensures;
+      atomic_else = c.in_ok-check_atomic-2.ensures;
     }
 
 pub returns-clause-sound : goal.returns-clause-sound

@@ -21,7 +21,10 @@ returns-clause-names c =
     let now5 : c.as_slice-5.result.now ≡ codes "to" = search rules in
     let with5 : spellings c.insert-5.new.self.keys ≡ codes "at" ∷ codes "each" ∷ codes "most" ∷ codes "of" ∷ codes "to" ∷ [] =
     inserted_last c.insert-4.new.self.keys c.insert-5.new.self.keys c.as_slice-5.result (codes "to") (codes "at" ∷ codes "each" ∷ codes "most" ∷ codes "of" ∷ []) with4 now5 refl c.in_ok-insert-5.ensures.keys in
-    with5
+    let now6 : c.as_slice-6.result.now ≡ codes "atomic" = search rules in
+    let with6 : spellings c.insert-6.new.self.keys ≡ codes "at" ∷ codes "each" ∷ codes "most" ∷ codes "of" ∷ codes "to" ∷ codes "atomic" ∷ [] =
+    inserted_last c.insert-5.new.self.keys c.insert-6.new.self.keys c.as_slice-6.result (codes "atomic") (codes "at" ∷ codes "each" ∷ codes "most" ∷ codes "of" ∷ codes "to" ∷ []) with5 now6 refl c.in_ok-insert-6.ensures.keys in
+    with6
 
 pub returns-clause-distinct : goal.returns-clause-distinct
-returns-clause-distinct c = distinct_spellings c.insert-5.new.self.keys c.in_ok-insert-5.ensures.unique
+returns-clause-distinct c = distinct_spellings c.insert-6.new.self.keys c.in_ok-insert-6.ensures.unique

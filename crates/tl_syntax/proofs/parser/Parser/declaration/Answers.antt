@@ -1,5 +1,5 @@
 use Rattle.tl_syntax.specs.Declarations.{procedures}
 use Rattle.tl_syntax.proofs.parser.Parser.declaration.Goals as goal
 
-pub returns-in_ok-procedure-in-Proc : goal.returns-in_ok-procedure-in-Proc
-returns-in_ok-procedure-in-Proc c = procedures c.in_ok-procedure-in-Proc.ensures
+pub returns-in_ok-procedure-in_default : goal.returns-in_ok-procedure-in_default
+returns-in_ok-procedure-in_default c = procedures c.in_ok-procedure-in_default.ensures

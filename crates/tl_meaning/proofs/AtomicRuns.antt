@@ -1,0 +1,681 @@
+-- What a statement leaves: what is held then, and the records of before where no field can have been written.
+use Rattle.std.proofs.Common.{◌≡◌, ◌≢◌, ℕ, zero, suc, ◌+◌, List, [], ◌∷◌, ◌++◌, length, Bool, true, false, ◌||◌, Option, Some, None, is_some, option_map, if◌then◌else◌, refl, sym, ap, ◌∙◌, subst, arith, append-nil, inl, inr}
+use Rattle.std.specs.Prelude.{ℤ, pos, negsuc, IfSome, slice_set, slice_index, nat_le}
+use Rattle.std.specs.Int.Signed.{lt_z}
+use Rattle.std.specs.Ordering.{int_eq}
+use Rattle.std.specs.Option.{unwrap_or}
+use Rattle.std.proofs.lemmas.Bool.{or_parts, or_left, or_right}
+use Rattle.std.proofs.lemmas.List.{length-replicate, length-set, get_or-set_other, set_comm}
+use Rattle.tl_instr.specs.declared.operand.TheConstants.{NODE_REGISTERS}
+use Rattle.tl_tree.specs.Shape.{kids}
+use Rattle.tl_tree.specs.Records.{Records}
+use Rattle.tl_tree_locking.specs.declared.action.Action.{Action}
+use Rattle.tl_tree_locking.specs.declared.action.Action.TheVariants as did
+use Rattle.tl_machine.specs.Runs.{Held, State}
+use Rattle.tl_machine.specs.Alone.{node, with_value, with_node, numbered, open_kid, start}
+use Rattle.tl_machine.proofs.Slots.{held_by}
+use Rattle.tl_syntax.specs.declared.parsed.Procedure.{Procedure as TextProcedure}
+use Rattle.tl_lowering.specs.declared.atomic.Ways.{Ways}
+use Rattle.tl_lowering.specs.declared.program.Expression.{Expression}
+use Rattle.tl_lowering.specs.declared.program.Expression.TheVariants as E
+use Rattle.tl_lowering.specs.declared.program.Condition.{Condition}
+use Rattle.tl_lowering.specs.declared.program.Condition.TheVariants as C
+use Rattle.tl_lowering.specs.declared.program.Place.{Place}
+use Rattle.tl_lowering.specs.declared.program.Place.TheVariants as P
+use Rattle.tl_lowering.specs.declared.program.Statement.{Statement}
+use Rattle.tl_lowering.specs.declared.program.Statement.TheVariants as S
+use Rattle.tl_lowering.specs.Atomic.{or_of, on as on_path, failing_if, either, then_by, behind_turns, written, IsAtomic}
+use Rattle.tl_lowering.specs.Fit.{AllTurn}
+use Rattle.tl_lowering.specs.Names.{Names}
+use Rattle.tl_lowering.specs.Outcomes.{may_fail, condition_may_fail, locked, unlocked, nodes_behind, here_if, next, going_on, handled_by, behind_loop, after, fails, breaks}
+use Rattle.tl_lowering.specs.Reading.{IsTried, tried, IsBody}
+use Rattle.tl_lowering.specs.Sets.{Nodes, none_held, holds, with_node as also, without_node, both_of, all_of}
+use Rattle.tl_lowering.specs.Sound.{IsReadable, IsTestable, IsLockable, KeepsHeld, IsWellFormed}
+use Rattle.tl_compiler.specs.Among.{IsIn}
+use Rattle.tl_compiler.specs.Statements.{held_behind}
+use Rattle.tl_compiler.proofs.SetLemmas.{in_left, in_right, both_within}
+use Rattle.tl_compiler.proofs.SizeLemmas.{AnySized, sizes, handled_sized, locked_sized}
+use Rattle.tl_compiler.proofs.WayLemmas.{Keeps, keeps_first, keeps_second, keeps_itself, keeps_unlocked}
+use Rattle.tl_meaning.specs.Calls.{WritesNothing}
+use Rattle.tl_meaning.specs.Meaning.{Ending, On, Breaks, Fails, Returns, Done, plain, telling, given, with_both, opposite, both_true, of_node, number, truth, after_events, is_on, and_then, or_else, held_at, free_by, free, leave, lock_node, lock_kid, lock_child_by, lock_child, lock_in_order, lock_pair, lock_place, go_down, descend_by, write, leaving, chosen, turns, broken, counted, behaviour}
+use Rattle.tl_meaning.proofs.SetLemmas.{held_is, held_length, held_set}
+use Rattle.tl_meaning.proofs.ReleaseRuns.{leave_on, leave_sizes, leave_records, held_then}
+use Rattle.tl_meaning.proofs.SimpleRuns.{held_taken}
+use Rattle.tl_meaning.proofs.PlaceRuns.{held_again}
+use Rattle.tl_meaning.proofs.PairRuns.{still_held, free_again}
+use Rattle.tl_meaning.proofs.TryRuns.{start_within}
+use Rattle.tl_meaning.proofs.LoopRuns.{keeps_end, keeps_break}
+
+-- ---- what fails
+
+none_of : (o : Option Held) (h : Held) (read : Held → ℤ) → o ≡ Some h → of_node o read ≡ None → ⊥
+none_of None h read e f = cc
+none_of (Some g) h read e f = cc
+
+number_fails : (parents : List ℕ) (e : Expression) (d : ℕ) (s : State) → IsReadable d (held_at s) e → number parents e s ≡ None → may_fail e ≡ true
+number_fails parents (E.Constant w) d s r f = cc
+number_fails parents (E.Value x) d s r f = cc
+number_fails parents (E.Field n k) d s r f = let h = held_by s.nodes n r in absurd (none_of (node s n) h.0 _ h.1 f)
+number_fails parents (E.Children n) d s r f = let h = held_by s.nodes n r in absurd (none_of (node s n) h.0 _ h.1 f)
+number_fails parents (E.Calculated' o p a q b) d s r f = refl
+
+one_fails : {A : Type 0} (f : ℤ → ℤ → Option A) (x y : Option ℤ) (c e : Bool) → ((u v : ℤ) → f u v ≡ None → ⊥) → (x ≡ None → c ≡ true) → (y ≡ None → e ≡ true) → with_both f x y ≡ None → (c || e) ≡ true
+one_fails f None y c e some g h is = or_left c e (g refl)
+one_fails f (Some u) None c e some g h is = or_right c e (h refl)
+one_fails f (Some u) (Some v) c e some g h is = absurd (some u v is)
+
+truth_fails : (parents : List ℕ) (c : Condition) (d : ℕ) (s : State) → IsTestable d (held_at s) c → truth parents c s ≡ None → condition_may_fail c ≡ true
+truth_fails parents (C.Less a b) d s r f = one_fails (λ x y. Some (lt_z x y)) (number parents a s) (number parents b s) (may_fail a) (may_fail b) (λ u v e. cc) (number_fails parents a d s r.0) (number_fails parents b d s r.1) f
+truth_fails parents (C.Greater a b) d s r f = one_fails (λ x y. Some (lt_z y x)) (number parents a s) (number parents b s) (may_fail a) (may_fail b) (λ u v e. cc) (number_fails parents a d s r.0) (number_fails parents b d s r.1) f
+truth_fails parents (C.Equal a b) d s r f = one_fails (λ x y. Some (int_eq x y)) (number parents a s) (number parents b s) (may_fail a) (may_fail b) (λ u v e. cc) (number_fails parents a d s r.0) (number_fails parents b d s r.1) f
+truth_fails parents (C.Not' p c) d s r f = by (truth parents c s) (truth_fails parents c d s r) f
+  where
+    by : (o : Option Bool) → (o ≡ None → condition_may_fail c ≡ true) → opposite o ≡ None → condition_may_fail c ≡ true
+    by None g e = g refl
+    by (Some b) g e = cc
+truth_fails parents (C.And' p c q e) d s r f = by (truth parents c s) (truth parents e s) (truth_fails parents c d s r.0) (truth_fails parents e d s r.1) f
+  where
+    by : (x y : Option Bool) → (x ≡ None → condition_may_fail c ≡ true) → (y ≡ None → condition_may_fail e ≡ true) → both_true x y ≡ None → (condition_may_fail c || condition_may_fail e) ≡ true
+    by None y g h is = or_left (condition_may_fail c) (condition_may_fail e) (g refl)
+    by (Some true) y g h is = or_right (condition_may_fail c) (condition_may_fail e) (h is)
+    by (Some false) y g h is = cc
+
+-- ---- a place in a call
+
+-- if w is false, nothing has been written since the records were t
+record Here (w : Bool) (t : Records) (s : State) : Type 0 where
+  size : length s.nodes ≡ NODE_REGISTERS
+  clean : w ≡ false → s.records ≡ t
+
+abbrev HereBy : Option Bool → Records → State → Type 0
+HereBy None t s = ⊥
+HereBy (Some w) t s = Here w t s
+
+here_left : (p q : Option Bool) (t : Records) (s : State) → HereBy p t s → HereBy (or_of p q) t s
+here_left None q t s h = absurd h
+here_left (Some w) None t s h = h
+here_left (Some w) (Some v) t s h = record { size = h.size; clean = λ e. h.clean (or_parts w v e).0 }
+
+here_right : (p q : Option Bool) (t : Records) (s : State) → HereBy q t s → HereBy (or_of p q) t s
+here_right None q t s h = h
+here_right (Some w) None t s h = absurd h
+here_right (Some w) (Some v) t s h = record { size = h.size; clean = λ e. h.clean (or_parts w v e).1 }
+
+-- in another state with the same records
+here_there : (p : Option Bool) (t : Records) (s u : State) → length u.nodes ≡ length s.nodes → u.records ≡ s.records → HereBy p t s → HereBy p t u
+here_there None t s u e f h = h
+here_there (Some w) t s u e f h = record { size = e ∙ h.size; clean = λ g. f ∙ h.clean g }
+
+size_of : (p : Option Bool) (t : Records) (s : State) → HereBy p t s → length s.nodes ≡ NODE_REGISTERS
+size_of None t s h = absurd h
+size_of (Some w) t s h = h.size
+
+-- how a statement ends, by what is known of it
+abbrev EndsBy : Option Nodes → List Nodes → List Nodes → Ways → Records → Ending → State → Type 0
+EndsBy A F B x t On s = (A ≡ Some (held_at s)) × HereBy x.after t s
+EndsBy A F B x t Fails s = IsIn (held_at s) F × HereBy x.fails t s
+EndsBy A F B x t Breaks s = IsIn (held_at s) B × HereBy x.breaks t s
+EndsBy A F B x t Returns s = Unit {0}
+
+abbrev Ends : Option Nodes → List Nodes → List Nodes → Ways → Records → Done → Type 0
+Ends A F B x t d = EndsBy A F B x t d.outcome d.state
+
+widened : (A : Option Nodes) (F B G C : List Nodes) (x y : Ways) (t : Records) → ((h : Nodes) → IsIn h F → IsIn h G) → ((h : Nodes) → IsIn h B → IsIn h C)
+    → ((s : State) → HereBy x.after t s → HereBy y.after t s) → ((s : State) → HereBy x.fails t s → HereBy y.fails t s) → ((s : State) → HereBy x.breaks t s → HereBy y.breaks t s)
+    → (o : Ending) (s : State) → EndsBy A F B x t o s → EndsBy A G C y t o s
+widened A F B G C x y t f b first second third On s e = (e.0, first s e.1)
+widened A F B G C x y t f b first second third Fails s e = (f (held_at s) e.0, second s e.1)
+widened A F B G C x y t f b first second third Breaks s e = (b (held_at s) e.0, third s e.1)
+widened A F B G C x y t f b first second third Returns s e = tt
+
+first_way : (A : Option Nodes) (F B G C : List Nodes) (x y : Ways) (t : Records) (o : Ending) (s : State) → EndsBy A F B x t o s → EndsBy A (F ++ G) (B ++ C) (either x y) t o s
+first_way A F B G C x y t o s e =
+    widened A F B (F ++ G) (B ++ C) x (either x y) t (λ h m. in_left h F G m) (λ h m. in_left h B C m)
+    (λ s h. here_left x.after y.after t s h) (λ s h. here_left x.fails y.fails t s h) (λ s h. here_left x.breaks y.breaks t s h) o s e
+
+second_way : (A : Option Nodes) (F B G C : List Nodes) (x y : Ways) (t : Records) (o : Ending) (s : State) → EndsBy A G C y t o s → EndsBy A (F ++ G) (B ++ C) (either x y) t o s
+second_way A F B G C x y t o s e =
+    widened A G C (F ++ G) (B ++ C) y (either x y) t (λ h m. in_right h F G m) (λ h m. in_right h B C m)
+    (λ s h. here_right x.after y.after t s h) (λ s h. here_right x.fails y.fails t s h) (λ s h. here_right x.breaks y.breaks t s h) o s e
+
+-- what may fail first, and does
+fails_first : (c w : Bool) (A : Option Nodes) (F B : List Nodes) (x : Ways) (t : Records) (s : State) → c ≡ true → Here w t s → EndsBy A (here_if c (held_at s) ++ F) B (failing_if c w x) t Fails s
+fails_first true w A F B x t s e h = (inl refl, here_left (Some w) x.fails t s h)
+fails_first false w A F B x t s e h = cc
+
+-- and doesn't
+goes_first : (c w : Bool) (held : Nodes) (A : Option Nodes) (F B : List Nodes) (x : Ways) (t : Records) (o : Ending) (s : State) → EndsBy A F B x t o s → EndsBy A (here_if c held ++ F) B (failing_if c w x) t o s
+goes_first true w held A F B x t o s e = widened A F B (held ∷ F) B x (failing_if true w x) t (λ h m. inr m) (λ h m. m) (λ s h. h) (λ s h. here_right (Some w) x.fails t s h) (λ s h. h) o s e
+goes_first false w held A F B x t o s e = e
+
+given_ends : (o : Option ℤ) (c w : Bool) (s : State) (go : ℤ → Done) (A : Option Nodes) (F B : List Nodes) (x : Ways) (t : Records) → (o ≡ None → c ≡ true) → Here w t s → ((y : ℤ) → Ends A F B x t (go y))
+    → Ends A (here_if c (held_at s) ++ F) B (failing_if c w x) t (given o s go)
+given_ends None c w s go A F B x t f h more = fails_first c w A F B x t s (f refl) h
+given_ends (Some y) c w s go A F B x t f h more = goes_first c w (held_at s) A F B x t (go y).outcome (go y).state (more y)
+
+-- only what is held behind the whole statement is kept
+left_ends : (A whole : Option Nodes) → Keeps A whole (held_behind whole) → (F B : List Nodes) (x : Ways) (t : Records) (o : Ending) (s : State) (es : List Action) → EndsBy A F B x t o s
+    → Ends whole F B x t (leaving whole (record { outcome = o; state = s; events = es }))
+left_ends A whole keeps F B x t Fails s es e = e
+left_ends A whole keeps F B x t Breaks s es e = e
+left_ends A whole keeps F B x t Returns s es e = tt
+left_ends A whole keeps F B x t On s es e =
+    let kept = held_behind whole in
+    let is : whole ≡ Some kept = keeps.is (held_at s) e.0 in
+    let size = size_of x.after t s e.1 in
+    let long : length (held_at s) ≡ NODE_REGISTERS = held_length s.nodes ∙ size in
+    let size_kept = keeps.size (held_at s) e.0 long in
+    let u = (leave kept s).state in
+    let held : held_at u ≡ kept = held_then kept s size size_kept ∙ both_within (held_at s) kept (long ∙ sym size_kept) (keeps.within (held_at s) e.0) in
+    let ends : EndsBy whole F B x t On u = (is ∙ ap Some (sym held), here_there x.after t s u (leave_sizes NODE_REGISTERS kept s).1 (leave_records NODE_REGISTERS kept s) e.1) in
+    let by_kept : Ends whole F B x t (leaving (Some kept) (record { outcome = On; state = s; events = es })) = subst (λ o. EndsBy whole F B x t o u) (sym (leave_on NODE_REGISTERS kept s)) ends in
+    subst (λ k. Ends whole F B x t (leaving k (record { outcome = On; state = s; events = es }))) (sym is) by_kept
+
+-- ---- locks
+
+-- a lock changes no record; without it the same is held as before
+abbrev PlacedBy : Nodes → State → Ending → State → Type 0
+PlacedBy then_held s On u = (held_at u ≡ then_held) × (length u.nodes ≡ length s.nodes) × (u.records ≡ s.records)
+PlacedBy then_held s Fails u = (held_at u ≡ held_at s) × (length u.nodes ≡ length s.nodes) × (u.records ≡ s.records)
+PlacedBy then_held s Breaks u = ⊥
+PlacedBy then_held s Returns u = ⊥
+
+abbrev Placed : Nodes → State → Done → Type 0
+Placed then_held s d = PlacedBy then_held s d.outcome d.state
+
+given_placed : (g : Nodes) (s : State) (o : Option ℤ) (go : ℤ → Done) → ((y : ℤ) → Placed g s (go y)) → Placed g s (given o s go)
+given_placed g s None go more = (refl, refl, refl)
+given_placed g s (Some y) go more = more y
+
+node_placed : (n : ℕ) (o : Option ℕ) (s : State) → Placed (also (held_at s) n) s (lock_node n o s)
+node_placed n None s = (refl, refl, refl)
+node_placed n (Some x) s = let h : Option Held = Some (record { node = x; cursor = 0 }) in (held_set s.nodes n h, length-set s.nodes n h, refl)
+
+child_placed : (parents : List ℕ) (n p : ℕ) (y : ℤ) (s : State) → holds (held_at s) p ≡ true → Placed (also (held_at s) n) s (lock_child parents n p y s)
+child_placed parents n p y s is_held = by (node s p)
+  where
+    kid : (h : Held) (o : Option ℕ) → Placed (also (held_at s) n) s (lock_kid parents n p h o s)
+    kid h None = (refl, refl, refl)
+    kid h (Some i) =
+        let g : Option Held = Some (record { node = h.node; cursor = i + 1 }) in
+        let b : Option Held = Some (record { node = slice_index (kids parents h.node) i; cursor = 0 }) in (
+          held_set (slice_set s.nodes p g) n b ∙ ap (λ l. slice_set l n true) (held_set s.nodes p g ∙ held_again (held_at s) p is_held),
+          length-set (slice_set s.nodes p g) n b ∙ length-set s.nodes p g,
+          refl,
+        )
+
+    by : (o : Option Held) → Placed (also (held_at s) n) s (lock_child_by parents n p o y s)
+    by None = (refl, refl, refl)
+    by (Some h) = kid h (open_kid h.cursor (length (kids parents h.node)) y)
+
+-- the lower child is freed again
+undone : (g : Nodes) (lower : ℕ) (s u : State) → holds (held_at s) lower ≡ false → held_at u ≡ also (held_at s) lower → length u.nodes ≡ length s.nodes → u.records ≡ s.records → Placed g s (and_then (free lower u) (plain Fails))
+undone g lower s u is_free e f r = by (node u lower) refl
+  where
+    by : (o : Option Held) → node u lower ≡ o → Placed g s (and_then (free_by o lower u) (plain Fails))
+    by (Some h) is = (held_set u.nodes lower None ∙ ap (λ l. slice_set l lower false) e ∙ free_again (held_at s) lower is_free, length-set u.nodes lower None ∙ f, r)
+    by None is =
+        let none : holds (held_at u) lower ≡ false = held_is u.nodes lower ∙ ap is_some is in
+        (sym (held_again (held_at u) lower none) ∙ ap (λ l. slice_set l lower false) e ∙ free_again (held_at s) lower is_free, f, r)
+
+in_order_placed : (parents : List ℕ) (lower : ℕ) (x : ℤ) (upper : ℕ) (y : ℤ) (p : ℕ) (s : State) → holds (held_at s) lower ≡ false → holds (held_at s) p ≡ true
+    → Placed (also (also (held_at s) lower) upper) s (lock_in_order parents lower x upper y p s)
+in_order_placed parents lower x upper y p s is_free is_held =
+    let d = lock_child parents lower p x s in first d.outcome d.state d.events (child_placed parents lower p x s is_held)
+  where
+    second : (u : State) → held_at u ≡ also (held_at s) lower → length u.nodes ≡ length s.nodes → u.records ≡ s.records → (o : Ending) (v : State) (es : List Action) → PlacedBy (also (held_at u) upper) u o v
+        → Placed (also (also (held_at s) lower) upper) s (or_else (record { outcome = o; state = v; events = es }) (λ s. and_then (free lower s) (plain Fails)))
+    second u e f r On v es q = (q.0 ∙ ap (λ l. also l upper) e, q.1 ∙ f, q.2 ∙ r)
+    second u e f r Fails v es q = undone (also (also (held_at s) lower) upper) lower s v is_free (q.0 ∙ e) (q.1 ∙ f) (q.2 ∙ r)
+    second u e f r Breaks v es q = absurd q
+    second u e f r Returns v es q = absurd q
+
+    first : (o : Ending) (u : State) (es : List Action) → PlacedBy (also (held_at s) lower) s o u
+        → Placed (also (also (held_at s) lower) upper) s (and_then (record { outcome = o; state = u; events = es }) (λ s. or_else (lock_child parents upper p y s) (λ s. and_then (free lower s) (plain Fails))))
+    first On u es q =
+        let d = lock_child parents upper p y u in
+        second u q.0 q.1 q.2 d.outcome d.state d.events (child_placed parents upper p y u (subst (λ l. holds l p ≡ true) (sym q.0) (still_held (held_at s) lower p is_held)))
+    first Fails u es q = q
+    first Breaks u es q = absurd q
+    first Returns u es q = absurd q
+
+pair_placed : (parents : List ℕ) (n : ℕ) (x : ℤ) (m : ℕ) (y : ℤ) (p : ℕ) (s : State) → n ≢ m → holds (held_at s) n ≡ false → holds (held_at s) m ≡ false → holds (held_at s) p ≡ true
+    → Placed (also (also (held_at s) n) m) s (lock_pair parents n x m y p s)
+pair_placed parents n x m y p s ne free_n free_m is_held = by (int_eq x y) (lt_z x y)
+  where
+    by : (e l : Bool) → Placed (also (also (held_at s) n) m) s (if e then plain Fails s else (if l then lock_in_order parents n x m y p s else lock_in_order parents m y n x p s))
+    by true l = (refl, refl, refl)
+    by false true = in_order_placed parents n x m y p s free_n is_held
+    by false false =
+        subst (λ g. Placed g s (lock_in_order parents m y n x p s)) (set_comm (held_at s) m n true true (λ e. ne (sym e))) (in_order_placed parents m y n x p s free_m is_held)
+
+place_placed : (parents : List ℕ) (place : Place) (d : ℕ) (s : State) → IsLockable place d (held_at s) → Placed (locked place (held_at s)) s (lock_place parents place s)
+place_placed parents (P.Node n e) d s l = given_placed (also (held_at s) n) s (number parents e s) (λ x. lock_node n (numbered (length parents) x) s) (λ x. node_placed n (numbered (length parents) x) s)
+place_placed parents (P.Child n p e) d s l = given_placed (also (held_at s) n) s (number parents e s) (λ x. lock_child parents n p x s) (λ x. child_placed parents n p x s l.1)
+place_placed parents (P.Pair n m p a b) d s l =
+    let g = also (also (held_at s) n) m in
+    given_placed g s (number parents a s) (λ x. given (number parents b s) s (λ y. lock_pair parents n x m y p s))
+    (λ x. given_placed g s (number parents b s) (λ y. lock_pair parents n x m y p s) (λ y. pair_placed parents n x m y p s l.0 l.1 l.2 l.3))
+
+-- ---- statements
+
+module _ (parents : List ℕ) (t : Records) where
+  abbrev Bounded : Statement → Type 0
+  Bounded a = (d m : ℕ) (in_loop w : Bool) (s : State) → IsWellFormed a d m (held_at s) in_loop → AllTurn a → Here w t s
+      → Ends (after a (held_at s)) (fails a (held_at s)) (breaks a (held_at s)) (written a w) t (behaviour parents a s)
+
+  -- a number, and something that can't fail
+  with_number : (e : Expression) (d : ℕ) (w : Bool) (s : State) (go : ℤ → Done) (A : Option Nodes) (x : Ways) → IsReadable d (held_at s) e → Here w t s → ((y : ℤ) → Ends A [] [] x t (go y))
+      → Ends A (here_if (may_fail e) (held_at s)) [] (failing_if (may_fail e) w x) t (given (number parents e s) s go)
+  with_number e d w s go A x readable h more =
+      subst (λ F. Ends A F [] (failing_if (may_fail e) w x) t (given (number parents e s) s go)) (append-nil (here_if (may_fail e) (held_at s)))
+      (given_ends (number parents e s) (may_fail e) w s go A [] [] x t (number_fails parents e d s readable) h more)
+
+  assign_ends : (v : ℕ) (e : Expression) → Bounded (S.Assign v e)
+  assign_ends v e d m l w s sound turn h =
+      with_number e d w s (λ y. plain On (with_value s v y)) (Some (held_at s)) (on_path w) sound.1 h (λ y. (refl, record { size = h.size; clean = h.clean }))
+
+  emit_ends : (e : Expression) → Bounded (S.Emit e)
+  emit_ends e d m l w s sound turn h = with_number e d w s (λ y. telling (did.Emit y) s) (Some (held_at s)) (on_path w) sound h (λ y. (refl, h))
+
+  write_ends : (n f : ℕ) (e : Expression) → Bounded (S.Write n f e)
+  write_ends n f e d m l w s sound turn h =
+      with_number e d w s (λ y. write f y (node s n) s) (Some (held_at s)) (on_path true) sound.1 h (λ y. by y (node s n) (held_by s.nodes n sound.0).0 (held_by s.nodes n sound.0).1)
+    where
+      by : (y : ℤ) (o : Option Held) (g : Held) → o ≡ Some g → Ends (Some (held_at s)) [] [] (on_path true) t (write f y o s)
+      by y None g e = cc
+      by y (Some k) g e = (refl, record { size = h.size; clean = λ e. cc })
+
+  free_ends : (n : ℕ) → Bounded (S.Free n)
+  free_ends n d m l w s sound turn h = by (node s n) (held_by s.nodes n sound).0 (held_by s.nodes n sound).1
+    where
+      by : (o : Option Held) (g : Held) → o ≡ Some g → Ends (Some (without_node (held_at s) n)) [] [] (on_path w) t (free_by o n s)
+      by None g e = cc
+      by (Some k) g e = (ap Some (sym (held_set s.nodes n None)), record { size = length-set s.nodes n None ∙ h.size; clean = h.clean })
+
+  descend_ends : (n : ℕ) (e : Expression) → Bounded (S.Descend n e)
+  descend_ends n e d m l w s sound turn h = by (number parents e s)
+    where
+      down : (k : Held) (o : Option ℕ) → Ends (Some (held_at s)) (held_at s ∷ []) [] (failing_if true w (on_path w)) t (go_down n k o parents s)
+      down k None = (inl refl, h)
+      down k (Some i) =
+          let b : Option Held = Some (record { node = slice_index (kids parents k.node) i; cursor = 0 }) in
+          (ap Some (sym (held_set s.nodes n b ∙ held_again (held_at s) n sound.0)), record { size = length-set s.nodes n b ∙ h.size; clean = h.clean })
+
+      from : (y : ℤ) (o : Option Held) → Ends (Some (held_at s)) (held_at s ∷ []) [] (failing_if true w (on_path w)) t (descend_by parents n o y s)
+      from y None = (inl refl, h)
+      from y (Some k) = down k (open_kid k.cursor (length (kids parents k.node)) y)
+
+      by : (o : Option ℤ) → Ends (Some (held_at s)) (held_at s ∷ []) [] (failing_if true w (on_path w)) t (given o s (λ y. descend_by parents n (node s n) y s))
+      by None = (inl refl, h)
+      by (Some y) = from y (node s n)
+
+  take_ends : (n m : ℕ) → Bounded (S.Take n m)
+  take_ends n m d k l w s sound turn h =
+      let a = held_by s.nodes n sound.1 in
+      let b = held_by s.nodes m sound.2 in
+      let u = with_node s n None in
+      let still : node u m ≡ Some b.0 = get_or-set_other s.nodes n m None None (λ e. sound.0 (sym e)) ∙ b.1 in
+      let ends : Ends (Some (without_node (held_at s) m)) [] [] (on_path w) t (plain On (with_node (with_node u m None) n (Some b.0))) = (
+        ap Some (sym (held_taken s n m b.0 sound.0 sound.1)),
+        record {
+          size = length-set (slice_set (slice_set s.nodes n None) m None) n (Some b.0) ∙ length-set (slice_set s.nodes n None) m None ∙ length-set s.nodes n None ∙ h.size;
+          clean = h.clean;
+        },
+      ) in
+      let taken : Ends (Some (without_node (held_at s) m)) [] [] (on_path w) t (and_then (free_by (Some a.0) n s) (λ s. plain On (with_node (with_node s m None) n (node s m)))) =
+      subst (λ o. Ends (Some (without_node (held_at s) m)) [] [] (on_path w) t (plain On (with_node (with_node u m None) n o))) (sym still) ends in
+      subst (λ o. Ends (Some (without_node (held_at s) m)) [] [] (on_path w) t (and_then (free_by o n s) (λ s. plain On (with_node (with_node s m None) n (node s m))))) (sym a.1) taken
+
+  -- one statement after another
+  then_by_ends : (b : Statement) → Bounded b → (d m : ℕ) (l : Bool) → AllTurn b → (A : Option Nodes) (F B : List Nodes) (x : Ways) → IfSome A (λ h. IsWellFormed b d m h l) → (p : Option Bool) → x.after ≡ p
+      → (o : Ending) (s : State) (es : List Action) → EndsBy A F B x t o s
+      → Ends (next A (after b)) (F ++ going_on A (fails b)) (B ++ going_on A (breaks b)) (then_by p x (written b)) t (and_then (record { outcome = o; state = s; events = es }) (behaviour parents b))
+  then_by_ends b twos d m l turn A F B x sound None is Fails s es e = (in_left (held_at s) F (going_on A (fails b)) e.0, e.1)
+  then_by_ends b twos d m l turn A F B x sound (Some v) is Fails s es e = (in_left (held_at s) F (going_on A (fails b)) e.0, here_left x.fails (written b v).fails t s e.1)
+  then_by_ends b twos d m l turn A F B x sound None is Breaks s es e = (in_left (held_at s) B (going_on A (breaks b)) e.0, e.1)
+  then_by_ends b twos d m l turn A F B x sound (Some v) is Breaks s es e = (in_left (held_at s) B (going_on A (breaks b)) e.0, here_left x.breaks (written b v).breaks t s e.1)
+  then_by_ends b twos d m l turn A F B x sound p is Returns s es e = tt
+  then_by_ends b twos d m l turn A F B x sound None is On s es e = absurd (subst (λ q. HereBy q t s) is e.1)
+  then_by_ends b twos d m l turn None F B x sound (Some v) is On s es e = let f = e.0 in cc
+  then_by_ends b twos d m l turn (Some g) F B x sound (Some v) is On s es e =
+      let same : g ≡ held_at s = let f = e.0 in cc in
+      let here : Here v t s = subst (λ q. HereBy q t s) is e.1 in
+      let r = behaviour parents b s in
+      let y = written b v in
+      let ends : Ends (after b g) (fails b g) (breaks b g) y t r = subst (λ k. Ends (after b k) (fails b k) (breaks b k) y t r) (sym same) (twos d m l v s (subst (λ k. IsWellFormed b d m k l) same sound) turn here) in
+      widened (after b g) (fails b g) (breaks b g) (F ++ fails b g) (B ++ breaks b g) y (then_by (Some v) x (written b)) t (λ k i. in_right k F (fails b g) i) (λ k i. in_right k B (breaks b g) i)
+      (λ s h. h) (λ s h. here_right x.fails y.fails t s h) (λ s h. here_right x.breaks y.breaks t s h) r.outcome r.state ends
+
+  sequence_ends : (p q : _) (a b : Statement) → Bounded a → Bounded b → Bounded (S.Sequence' p a q b)
+  sequence_ends p q a b ones twos d m l w s sound turn h =
+      let r = behaviour parents a s in
+      then_by_ends b twos d m l turn.1 (after a (held_at s)) (fails a (held_at s)) (breaks a (held_at s)) (written a w) sound.1 (written a w).after refl r.outcome r.state r.events (ones d m l w s sound.0 turn.0 h)
+
+  -- one of two ways, and what is kept behind both
+  module _ (a b : Statement) (h g : Nodes) (w : Bool) where
+    abbrev ways : Ways
+    ways = either (written a w) (written b w)
+
+    first_left : (whole : Option Nodes) → Keeps (after a h) whole (held_behind whole) → (r : Done) → Ends (after a h) (fails a h) (breaks a h) (written a w) t r → Ends whole (fails a h ++ fails b g) (breaks a h ++ breaks b g) ways t (leaving whole r)
+    first_left whole keeps r e =
+        let all = leaving whole r in
+        first_way whole (fails a h) (breaks a h) (fails b g) (breaks b g) (written a w) (written b w) t all.outcome all.state (left_ends (after a h) whole keeps (fails a h) (breaks a h) (written a w) t r.outcome r.state r.events e)
+
+    second_left : (whole : Option Nodes) → Keeps (after b g) whole (held_behind whole) → (r : Done) → Ends (after b g) (fails b g) (breaks b g) (written b w) t r → Ends whole (fails a h ++ fails b g) (breaks a h ++ breaks b g) ways t (leaving whole r)
+    second_left whole keeps r e =
+        let all = leaving whole r in
+        second_way whole (fails a h) (breaks a h) (fails b g) (breaks b g) (written a w) (written b w) t all.outcome all.state (left_ends (after b g) whole keeps (fails b g) (breaks b g) (written b w) t r.outcome r.state r.events e)
+
+  if_ends : (p q : _) (c : Condition) (a b : Statement) → Bounded a → Bounded b → Bounded (S.If' c p a q b)
+  if_ends p q c a b ones twos d m l w s sound turn h = by (truth parents c s) (truth_fails parents c d s sound.0)
+    where
+      g : Nodes
+      g = held_at s
+
+      whole : Option Nodes
+      whole = both_of (after a g) (after b g)
+
+      size : length g ≡ NODE_REGISTERS
+      size = held_length s.nodes ∙ h.size
+
+      by : (o : Option Bool) → (o ≡ None → condition_may_fail c ≡ true)
+          → Ends whole (here_if (condition_may_fail c) g ++ (fails a g ++ fails b g)) (breaks a g ++ breaks b g) (failing_if (condition_may_fail c) w (either (written a w) (written b w))) t
+          (leaving whole (chosen o s (behaviour parents a) (behaviour parents b)))
+      by None f = fails_first (condition_may_fail c) w whole (fails a g ++ fails b g) (breaks a g ++ breaks b g) (either (written a w) (written b w)) t s (f refl) h
+      by (Some true) f =
+          let all = leaving whole (behaviour parents a s) in
+          goes_first (condition_may_fail c) w g whole (fails a g ++ fails b g) (breaks a g ++ breaks b g) (either (written a w) (written b w)) t all.outcome all.state
+          (first_left a b g g w whole (keeps_first (after a g) (after b g) (sizes a g size).after (sizes b g size).after) (behaviour parents a s) (ones d m l w s sound.1 turn.0 h))
+      by (Some false) f =
+          let all = leaving whole (behaviour parents b s) in
+          goes_first (condition_may_fail c) w g whole (fails a g ++ fails b g) (breaks a g ++ breaks b g) (either (written a w) (written b w)) t all.outcome all.state
+          (second_left a b g g w whole (keeps_second (after a g) (after b g) (sizes a g size).after (sizes b g size).after) (behaviour parents b s) (twos d m l w s sound.2 turn.1 h))
+
+  let_ends : (p : _) (v : ℕ) (e : Expression) (a : Statement) → Bounded a → Bounded (S.Let' v e p a)
+  let_ends p v e a ones d m l w s sound turn h =
+      let g = held_at s in
+      let size : length g ≡ NODE_REGISTERS = held_length s.nodes ∙ h.size in
+      let r = given (number parents e s) s (λ y. behaviour parents a (with_value s v y)) in
+      left_ends (after a g) (after a g) (keeps_itself (after a g) (sizes a g size).after) (here_if (may_fail e) g ++ fails a g) (breaks a g) (failing_if (may_fail e) w (written a w)) t r.outcome r.state r.events
+      (given_ends (number parents e s) (may_fail e) w s (λ y. behaviour parents a (with_value s v y)) (after a g) (fails a g) (breaks a g) (written a w) t (number_fails parents e d s sound.1) h
+      (λ y. ones (d + 1) m l w (with_value s v y) sound.2 turn (record { size = h.size; clean = h.clean })))
+
+  else_ends : (p q : _) (v : ℕ) (e : Expression) (a o : Statement) → Bounded a → Bounded o → Bounded (S.LetElse' v e p a q o)
+  else_ends p q v e a o ones twos d m l w s sound turn h = by (number parents e s)
+    where
+      g : Nodes
+      g = held_at s
+
+      whole : Option Nodes
+      whole = both_of (after a g) (after o g)
+
+      size : length g ≡ NODE_REGISTERS
+      size = held_length s.nodes ∙ h.size
+
+      by : (n : Option ℤ) → Ends whole (fails a g ++ fails o g) (breaks a g ++ breaks o g) (either (written a w) (written o w)) t
+          (leaving whole (elim n [ Some y ↦ behaviour parents a (with_value s v y) | None ↦ behaviour parents o s ]))
+      by None = second_left a o g g w whole (keeps_second (after a g) (after o g) (sizes a g size).after (sizes o g size).after) (behaviour parents o s) (twos d m l w s sound.3 turn.1 h)
+      by (Some y) =
+          first_left a o g g w whole (keeps_first (after a g) (after o g) (sizes a g size).after (sizes o g size).after) (behaviour parents a (with_value s v y))
+          (ones (d + 1) m l w (with_value s v y) sound.2 turn.0 (record { size = h.size; clean = h.clean }))
+
+  lock_ends : (p q : _) (place : Place) (a o : Statement) → Bounded a → Bounded o → Bounded (S.Lock' place p a q o)
+  lock_ends p q place a o ones twos d m l w s sound turn h = let r = lock_place parents place s in by r.outcome r.state r.events (place_placed parents place d s sound.0)
+    where
+      g : Nodes
+      g = held_at s
+
+      k : Nodes
+      k = locked place g
+
+      paths : Option Nodes
+      paths = both_of (after a k) (after o g)
+
+      whole : Option Nodes
+      whole = option_map (unlocked place) paths
+
+      size : length g ≡ NODE_REGISTERS
+      size = held_length s.nodes ∙ h.size
+
+      by : (q : Ending) (u : State) (es : List Action) → PlacedBy k s q u
+          → Ends whole (fails a k ++ fails o g) (breaks a k ++ breaks o g) (either (written a w) (written o w)) t (leaving whole (after_events es (if is_on q then behaviour parents a u else behaviour parents o u)))
+      by Breaks u es e = absurd e
+      by Returns u es e = absurd e
+      by On u es e =
+          let r = behaviour parents a u in
+          let ends : Ends (after a k) (fails a k) (breaks a k) (written a w) t r =
+          subst (λ z. Ends (after a z) (fails a z) (breaks a z) (written a w) t r) e.0
+          (ones d (nodes_behind place) l w u (subst (λ z. IsWellFormed a d (nodes_behind place) z l) (sym e.0) sound.1) turn.0 (here_there (Some w) t s u e.1 e.2 h)) in
+          first_left a o k g w whole
+          (keeps_unlocked place (after a k) paths (keeps_first (after a k) (after o g) (sizes a k (locked_sized place g size)).after (sizes o g size).after)) (after_events es r) ends
+      by Fails u es e =
+          let r = behaviour parents o u in
+          let ends : Ends (after o g) (fails o g) (breaks o g) (written o w) t r =
+          subst (λ z. Ends (after o z) (fails o z) (breaks o z) (written o w) t r) e.0
+          (twos d m l w u (subst (λ z. IsWellFormed o d m z l) (sym e.0) sound.2) turn.1 (here_there (Some w) t s u e.1 e.2 h)) in
+          second_left a o k g w whole
+          (keeps_unlocked place (after o g) paths (keeps_second (after a k) (after o g) (sizes a k (locked_sized place g size)).after (sizes o g size).after)) (after_events es r) ends
+
+  try_ends : (p q : _) (a b : Statement) → Bounded a → Bounded b → Bounded (S.Try' p a q b)
+  try_ends p q a b ones twos d m l w s sound turn h =
+      let r = behaviour parents a s in by (written a w).fails refl r.outcome r.state r.events (ones d m l w s sound.0 turn.0 h)
+    where
+      g : Nodes
+      g = held_at s
+
+      start : Nodes
+      start = handled_by g (all_of (fails a g))
+
+      whole : Option Nodes
+      whole = both_of (after a g) (after b start)
+
+      size : length g ≡ NODE_REGISTERS
+      size = held_length s.nodes ∙ h.size
+
+      start_size : length start ≡ NODE_REGISTERS
+      start_size = handled_sized g (fails a g) size (sizes a g size).fails
+
+      x : Ways
+      x = written a w
+
+      all : Bool → Ways
+      all v = let y = written b v in record { after = or_of x.after y.after; fails = y.fails; breaks = or_of x.breaks y.breaks }
+
+      keeps_one : Keeps (after a g) whole (held_behind whole)
+      keeps_one = keeps_first (after a g) (after b start) (sizes a g size).after (sizes b start start_size).after
+
+      keeps_two : Keeps (after b start) whole (held_behind whole)
+      keeps_two = keeps_second (after a g) (after b start) (sizes a g size).after (sizes b start start_size).after
+
+      -- from the handler on
+      handled : (v : Bool) (u : State) (es : List Action) → IsIn (held_at u) (fails a g) → Here v t u
+          → Ends whole (fails b start) (breaks a g ++ breaks b start) (all v) t (leaving whole (after_events es (and_then (leave start u) (behaviour parents b))))
+      handled v u es i here =
+          let f = leave start u in
+          let long : length (held_at u) ≡ NODE_REGISTERS = held_length u.nodes ∙ here.size in
+          let held : held_at f.state ≡ start = held_then start u here.size start_size ∙ both_within (held_at u) start (long ∙ sym start_size) (start_within g (held_at u) (fails a g) i) in
+          let there : Here v t f.state = here_there (Some v) t u f.state (leave_sizes NODE_REGISTERS start u).1 (leave_records NODE_REGISTERS start u) here in
+          let r = behaviour parents b f.state in
+          let y = written b v in
+          let ends : Ends (after b start) (fails b start) (breaks b start) y t r =
+          subst (λ z. Ends (after b z) (fails b z) (breaks b z) y t r) held (twos d m l v f.state (subst (λ z. IsWellFormed b d m z l) (sym held) sound.1) turn.1 there) in
+          let done = leaving whole (after_events es (after_events f.events r)) in
+          let left : Ends whole (fails b start) (breaks a g ++ breaks b start) (all v) t done =
+          widened whole (fails b start) (breaks b start) (fails b start) (breaks a g ++ breaks b start) y (all v) t (λ z j. j) (λ z j. in_right z (breaks a g) (breaks b start) j)
+          (λ z j. here_right x.after y.after t z j) (λ z j. j) (λ z j. here_right x.breaks y.breaks t z j) done.outcome done.state
+          (left_ends (after b start) whole keeps_two (fails b start) (breaks b start) y t r.outcome r.state (es ++ (f.events ++ r.events)) ends) in
+          subst (λ o. Ends whole (fails b start) (breaks a g ++ breaks b start) (all v) t (leaving whole (after_events es (if is_on o then after_events f.events r else f)))) (sym (leave_on NODE_REGISTERS start u)) left
+
+      by : (p : Option Bool) → x.fails ≡ p → (o : Ending) (u : State) (es : List Action) → EndsBy (after a g) (fails a g) (breaks a g) x t o u
+          → Ends whole (fails b start) (breaks a g ++ breaks b start) (all (unwrap_or p w)) t (leaving whole (or_else (record { outcome = o; state = u; events = es }) (λ u. and_then (leave start u) (behaviour parents b))))
+      by p is Returns u es e = tt
+      by p is Breaks u es e = (in_left (held_at u) (breaks a g) (breaks b start) e.0, here_left x.breaks (written b (unwrap_or p w)).breaks t u e.1)
+      by None is Fails u es e = absurd (subst (λ q. HereBy q t u) is e.1)
+      by (Some v) is Fails u es e = handled v u es e.0 (subst (λ q. HereBy q t u) is e.1)
+      by p is On u es e =
+          let r : Done = record { outcome = On; state = u; events = es } in
+          let done = leaving whole r in
+          let y = written b (unwrap_or p w) in
+          widened whole [] [] (fails b start) (breaks a g ++ breaks b start) (record x { fails = None; breaks = None }) (all (unwrap_or p w)) t (λ z j. absurd j) (λ z j. absurd j)
+          (λ z j. here_left x.after y.after t z j) (λ z j. absurd j) (λ z j. absurd j) done.outcome done.state
+          (left_ends (after a g) whole keeps_one [] [] (record x { fails = None; breaks = None }) t On u es e)
+
+  -- ---- loops
+
+  -- A turn begins as the one before it: where a turn may write, the next one begins behind a write.
+  again : (f : Bool → Option Bool) (w : Bool) (s : State) → HereBy (f (w || unwrap_or (f w) false)) t s → Here (w || unwrap_or (f w) false) t s
+  again f true s h = record { size = size_of (f true) t s h; clean = λ e. cc }
+  again f false s h = by (f false) refl h
+    where
+      by : (p : Option Bool) → f false ≡ p → HereBy (f (unwrap_or p false)) t s → Here (unwrap_or p false) t s
+      by None is h = absurd (subst (λ q. HereBy q t s) is h)
+      by (Some true) is h = record { size = size_of (f true) t s h; clean = λ e. cc }
+      by (Some false) is h = subst (λ q. HereBy q t s) is h
+
+  module _ (a : Statement) (ones : Bounded a) (d m : ℕ) (w : Bool) (g : Nodes) (sound : IsWellFormed a d m g true) (keeps : KeepsHeld (after a g) g) (turn : AllTurn a) where
+    abbrev v : Bool
+    v = w || unwrap_or (written a w).after false
+
+    abbrev x : Ways
+    x = written a v
+
+    one_turn : (s : State) → held_at s ≡ g → Here v t s → Ends (after a g) (fails a g) (breaks a g) x t (behaviour parents a s)
+    one_turn s e h =
+        let r = behaviour parents a s in
+        subst (λ z. Ends (after a z) (fails a z) (breaks a z) x t r) e (ones d m true v s (subst (λ z. IsWellFormed a d m z true) (sym e) sound) turn h)
+
+    same_held : (h : Nodes) → after a g ≡ Some h → h ≡ g
+    same_held h e = subst (λ o. KeepsHeld o g) e keeps
+
+    behind_turn : (n : ℕ) → ((s : State) → held_at s ≡ g → Here v t s → (k : ℕ) → suc k ≡ n → Ends (after a g) (fails a g) (breaks a g) x t (turns n (behaviour parents a) s))
+        → (o : Ending) (s : State) (es : List Action) → EndsBy (after a g) (fails a g) (breaks a g) x t o s
+        → Ends (after a g) (fails a g) (breaks a g) x t (and_then (record { outcome = o; state = s; events = es }) (turns n (behaviour parents a)))
+    behind_turn n more Fails s es e = e
+    behind_turn n more Breaks s es e = e
+    behind_turn n more Returns s es e = tt
+    behind_turn zero more On s es e = e
+    behind_turn (suc k) more On s es e = more s (same_held (held_at s) e.0) (again (λ u. (written a u).after) w s e.1) k refl
+
+    turns_end : (n : ℕ) (s : State) → held_at s ≡ g → Here v t s → Ends (after a g) (fails a g) (breaks a g) x t (turns (suc n) (behaviour parents a) s)
+    turns_end zero s e h =
+        let r = behaviour parents a s in
+        behind_turn zero (λ s e h k is. absurd (omega (arith, is))) r.outcome r.state r.events (one_turn s e h)
+    turns_end (suc n) s e h =
+        let r = behaviour parents a s in
+        behind_turn (suc n) (λ s e h k is. turns_end n s e h) r.outcome r.state r.events (one_turn s e h)
+
+    module _ (may_end : Bool) (ended : (h : Nodes) → after a g ≡ Some h → (may_end || is_some (after a g)) ≡ true) (sized : AnySized (behind_loop may_end (after a g) (breaks a g) g)) where
+      abbrev whole : Option Nodes
+      whole = behind_loop may_end (after a g) (breaks a g) g
+
+      -- after the turns
+      finish : (o : Ending) (s : State) (es : List Action) → EndsBy (after a g) (fails a g) (breaks a g) x t o s → Ends whole (fails a g) [] (behind_turns false w x) t (leaving whole (broken (record { outcome = o; state = s; events = es })))
+      finish Fails s es e = e
+      finish Returns s es e = tt
+      finish On s es e =
+          let keeps_here : Keeps (Some (held_at s)) whole (held_behind whole) =
+          subst (λ h. Keeps (Some h) whole (held_behind whole)) (sym (same_held (held_at s) e.0)) (keeps_end a g may_end (ended (held_at s) e.0) sized) in
+          left_ends (Some (held_at s)) whole keeps_here (fails a g) [] (behind_turns false w x) t On s es (refl, here_left x.after x.breaks t s e.1)
+      finish Breaks s es e =
+          left_ends (Some (held_at s)) whole (keeps_break a g may_end (held_at s) e.0 sized) (fails a g) [] (behind_turns false w x) t On s es (refl, here_right x.after x.breaks t s e.1)
+
+      all_turns : (n : ℕ) (s : State) → held_at s ≡ g → Here w t s → Ends whole (fails a g) [] (behind_turns false w x) t (leaving whole (broken (turns (suc n) (behaviour parents a) s)))
+      all_turns n s e h =
+          let r = turns (suc n) (behaviour parents a) s in
+          finish r.outcome r.state r.events (turns_end n s e (record { size = h.size; clean = λ f. h.clean (or_parts w (unwrap_or (written a w).after false) f).0 }))
+
+  repeat_ends : (p : _) (n : ℕ) (a : Statement) → Bounded a → Bounded (S.Repeat' n p a)
+  repeat_ends p zero a ones d m l w s sound turn h = absurd (omega (arith, turn.0))
+  repeat_ends p (suc n) a ones d m l w s sound turn h =
+      let g = held_at s in
+      let sized = (sizes (S.Repeat' (suc n) p a) g (held_length s.nodes ∙ h.size)).after in
+      all_turns a ones d m w g sound.1 sound.0 turn.1 false (λ k e. ap is_some e) sized n s refl h
+
+  counted_ends : (p : _) (e : Expression) (n : ℕ) (a : Statement) → Bounded a → Bounded (S.RepeatUpTo' e n p a)
+  counted_ends p e n a ones d m l w s sound turn h = by (number parents e s)
+    where
+      g : Nodes
+      g = held_at s
+
+      x : Ways
+      x = written a (w || unwrap_or (written a w).after false)
+
+      whole : Option Nodes
+      whole = behind_loop true (after a g) (breaks a g) g
+
+      sized : AnySized whole
+      sized = (sizes (S.RepeatUpTo' e n p a) g (held_length s.nodes ∙ h.size)).after
+
+      go : (k : ℕ) → Ends whole (g ∷ fails a g) [] (behind_turns true w x) t (leaving whole (broken (turns k (behaviour parents a) s)))
+      go zero = left_ends (Some g) whole (keeps_end a g true refl sized) (g ∷ fails a g) [] (behind_turns true w x) t On s [] (refl, here_left (Some w) (or_of x.after x.breaks) t s h)
+      go (suc k) =
+          let r = leaving whole (broken (turns (suc k) (behaviour parents a) s)) in
+          widened whole (fails a g) [] (g ∷ fails a g) [] (behind_turns false w x) (behind_turns true w x) t (λ z i. inr i) (λ z i. i)
+          (λ z i. here_right (Some w) (or_of x.after x.breaks) t z i) (λ z i. here_right (Some w) x.fails t z i) (λ z i. i) r.outcome r.state
+          (all_turns a ones d m w g sound.2 sound.1 turn.1 true (λ k e. refl) sized k s refl h)
+
+      fails_here : Ends whole (g ∷ fails a g) [] (behind_turns true w x) t (plain Fails s)
+      fails_here = (inl refl, here_left (Some w) x.fails t s h)
+
+      counts : (y : ℤ) → Ends whole (g ∷ fails a g) [] (behind_turns true w x) t (counted n y s (λ k. leaving whole (broken (turns k (behaviour parents a) s))))
+      counts (negsuc y) = go 0
+      counts (pos y) = if_small (nat_le y n)
+        where
+          if_small : (b : Bool) → Ends whole (g ∷ fails a g) [] (behind_turns true w x) t (if b then leaving whole (broken (turns y (behaviour parents a) s)) else plain Fails s)
+          if_small true = go y
+          if_small false = fails_here
+
+      by : (o : Option ℤ) → Ends whole (g ∷ fails a g) [] (behind_turns true w x) t (given o s (λ y. counted n y s (λ k. leaving whole (broken (turns k (behaviour parents a) s)))))
+      by None = fails_here
+      by (Some y) = counts y
+
+  bounded : (a : Statement) → Bounded a
+  bounded S.Skip d m l w s sound turn h = (refl, h)
+  bounded (S.Sequence' p a q b) d m l w s sound turn h = sequence_ends p q a b (bounded a) (bounded b) d m l w s sound turn h
+  bounded (S.Assign v e) d m l w s sound turn h = assign_ends v e d m l w s sound turn h
+  bounded (S.Write n f e) d m l w s sound turn h = write_ends n f e d m l w s sound turn h
+  bounded (S.Emit e) d m l w s sound turn h = emit_ends e d m l w s sound turn h
+  bounded (S.Free n) d m l w s sound turn h = free_ends n d m l w s sound turn h
+  bounded (S.Descend n e) d m l w s sound turn h = descend_ends n e d m l w s sound turn h
+  bounded (S.Take n k) d m l w s sound turn h = take_ends n k d m l w s sound turn h
+  bounded S.Break d m l w s sound turn h = (inl refl, h)
+  bounded S.Return d m l w s sound turn h = tt
+  bounded S.Fail d m l w s sound turn h = (inl refl, h)
+  bounded (S.If' c p a q b) d m l w s sound turn h = if_ends p q c a b (bounded a) (bounded b) d m l w s sound turn h
+  bounded (S.Let' v e p a) d m l w s sound turn h = let_ends p v e a (bounded a) d m l w s sound turn h
+  bounded (S.LetElse' v e p a q o) d m l w s sound turn h = else_ends p q v e a o (bounded a) (bounded o) d m l w s sound turn h
+  bounded (S.Lock' place p a q o) d m l w s sound turn h = lock_ends p q place a o (bounded a) (bounded o) d m l w s sound turn h
+  bounded (S.Try' p a q b) d m l w s sound turn h = try_ends p q a b (bounded a) (bounded b) d m l w s sound turn h
+  bounded (S.Repeat' n p a) d m l w s sound turn h = repeat_ends p n a (bounded a) d m l w s sound turn h
+  bounded (S.RepeatUpTo' e n p a) d m l w s sound turn h = counted_ends p e n a (bounded a) d m l w s sound turn h
+  bounded (S.At' offset p a) d m l w s sound turn h = bounded a d m l w s sound turn h
+
+-- ---- atomic procedures
+
+-- where such a statement fails, nothing was written
+pub nothing_written : (parents : List ℕ) (a : Statement) (d : ℕ) (args : List ℤ) (t : Records) → IsWellFormed a d 0 none_held false → AllTurn a → IsAtomic a → WritesNothing parents a args t
+nothing_written parents a d args t sound turn atomic failed =
+    let s = start args t in
+    let r = behaviour parents a s in
+    let empty : Option Held = None in
+    by r.outcome (bounded parents t a d 0 false false s sound turn (record { size = length-replicate NODE_REGISTERS empty; clean = λ e. refl })) failed (written a false).fails refl atomic
+  where
+    by : (o : Ending) → EndsBy (after a none_held) (fails a none_held) (breaks a none_held) (written a false) t o (behaviour parents a (start args t)).state → o ≡ Fails
+        → (p : Option Bool) → (written a false).fails ≡ p → IfSome p (λ w. w ≡ false) → (behaviour parents a (start args t)).state.records ≡ t
+    by On e f p is none = cc
+    by Breaks e f p is none = cc
+    by Returns e f p is none = cc
+    by Fails e f None is none = absurd (subst (λ q. HereBy q t (behaviour parents a (start args t)).state) is e.1)
+    by Fails e f (Some w) is none = let h : Here w t (behaviour parents a (start args t)).state = subst (λ q. HereBy q t (behaviour parents a (start args t)).state) is e.1 in h.clean none
+
+-- of a procedure's body, and of the body with its `else`
+pub atomic_writes_nothing : {names : Names} {text : TextProcedure} {whole : Statement} (read : IsBody names text whole) → text.is_atomic ≡ true → (arity : ℕ) (parents : List ℕ) (args : List ℤ) (t : Records)
+    → IsWellFormed whole arity 0 none_held false → AllTurn whole → WritesNothing parents read.body args t × WritesNothing parents read.handled args t
+atomic_writes_nothing {text} read marked arity parents args t sound turn =
+    by read.handled_is read.whole_is sound turn (read.atomic marked) (read.atomic_else marked)
+  where
+    by : {body handler handled whole : Statement} → IsTried body handler handled → IsTried handled S.Skip whole → IsWellFormed whole arity 0 none_held false → AllTurn whole → IsAtomic body → IsAtomic handled
+        → WritesNothing parents body args t × WritesNothing parents handled args t
+    by {body} {handler} (tried {p = p} {q = q}) tried sound turn atomic atomic_else =
+        (nothing_written parents body arity args t sound.0.0 turn.0.0 atomic, nothing_written parents (S.Try' p body q handler) arity args t sound.0 turn.0 atomic_else)
