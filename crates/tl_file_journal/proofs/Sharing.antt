@@ -27,4 +27,4 @@ store_send : IsSend store
 store_send = stores.the_send file (disk.ghosts Host.the_row Unknown.the_row calls.ghosts disk.no_dict start.ghosts disk.no_dict disk.no_dict) file_send
 
 pub journal_sync : IsSync the_row
-journal_sync = declared_sync the_type (ledgers.the_sync store store_send, tt)
+journal_sync = declared_sync the_type (ledgers.the_sync store _ store_send, tt)

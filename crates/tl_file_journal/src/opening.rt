@@ -48,7 +48,9 @@ pub struct Stored<J> {
 fn opening_of<S: Store + Drop>(
     alloc: Global,
     begun: Beginning<S>,
-) -> Result<Opening<LedgerJournal<S>>, StoreRefusal> {
+) -> Result<Opening<LedgerJournal<S>>, StoreRefusal>
+    ensures { (result ≢ Err NoTree) × (result ≢ Err HasTree) }
+{
     let Beginning { ledger, core } = begun;
     let known = core.procedures().copy(alloc)?;
     let records = Vec::from_slice(alloc, core.opening().records())?;
