@@ -75,7 +75,7 @@ fn engine(rt: &impl Wait, alloc: Global, container: &[u8], asked: &Asked) -> Opt
     }
 }
 
-// Runs the batches of a new session, and returns it alone, with the time that they took.
+// Runs the batches of a new session while threads stay to help with them, and returns it alone, with the time that they took.
 fn run<R: Threads + Wait + Clock + Sync>(
     rt: &R,
     alloc: Global,
@@ -83,7 +83,11 @@ fn run<R: Threads + Wait + Clock + Sync>(
     asked: &Asked,
 ) -> Option<(Vec<Session>, u64)> {
     let mut session = engine.session(rt, alloc).ok()?;
-    let nanos = run_batches(rt, alloc, engine, &mut session, asked)?;
+    let assists = || engine.assist(rt, &NoGate);
+    let helpers = asked.workers.saturating_sub(1);
+    let nanos = engine.crew().with_members(rt, helpers, &assists, || {
+        run_batches(rt, alloc, engine, &mut session, asked)
+    })?;
     let mut sessions = Vec::new(alloc);
     sessions.push(session).ok()?;
     Some((sessions, nanos))

@@ -81,6 +81,45 @@ fn ask_each<R: Threads + Wait + Sync, G: Gate + Sync>(
     Ok(all)
 }
 
+// The same for a session that comes back, while so many threads less one stay and help with the batches.
+fn ask_with_helpers<R: Threads + Wait + Sync, G: Gate + Sync>(
+    rt: &R,
+    alloc: Global,
+    engine: &Engine,
+    session: Session,
+    batches: &[Vec<Request>],
+    workers: usize,
+    gate: &G,
+) -> Result<(Vec<Answers>, Session), CliFault>
+    requires each { All (λ b. (1 ≤ length b.items) × (length b.items ≤ MAX_REQUESTS)) batches.now }
+    requires one { 1 ≤ workers }
+    requires workers { workers ≤ MAX_WORKERS }
+    ensures each { IfOk result (λ r. AnswersBatches (batches_of batches.now) (answers_of r.0.items)) }
+    ensures epochs { IfOk result (λ r. AreInEpochs (answers_of r.0.items)) }
+    ensures kept { IfOk result (λ r. Gains session r.1 (kept_of (batches_of batches.now) (answers_of r.0.items))) }
+    ensures fault { IfErr result (λ e. status_of e ≢ 4 → IsBrokenOff (batches_of batches.now) e) }
+{
+    let assists = || engine.assist(rt, gate);
+    engine.crew().with_members(
+        rt,
+        workers - 1,
+        &assists,
+        || -> Result<(Vec<Answers>, Session), CliFault>
+            requires each { All (λ b. (1 ≤ length b.items) × (length b.items ≤ MAX_REQUESTS)) batches.now }
+            requires one { 1 ≤ workers }
+            requires workers { workers ≤ MAX_WORKERS }
+            ensures each { IfOk result (λ r. AnswersBatches (batches_of batches.entry.now) (answers_of r.0.items)) }
+            ensures epochs { IfOk result (λ r. AreInEpochs (answers_of r.0.items)) }
+            ensures kept { IfOk result (λ r. Gains session r.1 (kept_of (batches_of batches.entry.now) (answers_of r.0.items))) }
+            ensures fault { IfErr result (λ e. status_of e ≢ 4 → IsBrokenOff (batches_of batches.entry.now) e) }
+        {
+            let mut session = session;
+            let answers = ask_each(rt, alloc, engine, &mut session, batches, workers, gate)?;
+            Ok((answers, session))
+        },
+    )
+}
+
 // Asks the engine for the batches in one session, and closes it. 831 if it has more or fewer epochs than there are batches.
 fn run_batches<R: Threads + Wait + Sync, G: Gate + Sync>(
     rt: &R,
@@ -98,9 +137,10 @@ fn run_batches<R: Threads + Wait + Sync, G: Gate + Sync>(
     ensures epochs { IfOk result (λ r. (length r.1.items ≡ length (batches_of batches.now)) × AreInEpochs (answers_of r.0.items)) }
     ensures fault { IfErr result (λ e. status_of e ≢ 4 → IsLeftOpen (batches_of batches.now) e) }
 {
-    let mut session = engine.session(rt, alloc)?;
+    let session = engine.session(rt, alloc)?;
     let mut sessions = Vec::with_capacity(alloc, 1)?;
-    let answers = ask_each(rt, alloc, &engine, &mut session, batches, workers, gate)?;
+    let asked = ask_with_helpers(rt, alloc, &engine, session, batches, workers, gate)?;
+    let (answers, session) = asked;
     sessions.push_reserved(session);
     match engine.close(sessions) {
         Ok((chain, _)) => {

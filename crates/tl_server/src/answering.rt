@@ -11,11 +11,12 @@ use crate::answer::{put_closed_line, put_error_line};
 use crate::device::Sink;
 use crate::outbox::Outbox;
 use crate::outcome::put_outcome;
-use crate::request::{LineRequest, read_request};
+use crate::request::{LineRequest, read_request_with};
 use crate::service::Service;
 use std::alloc::Global;
 use std::sync::Wait;
 use std::thread::Threads;
+use tl_tokens::Scratch;
 
 /// Answers a line. A call is run to its end, and then its answer is handed over: the service holds nothing meanwhile that others
 /// wait for. Returns whether the line closes the connection.
@@ -27,12 +28,13 @@ pub(crate) fn answer_line<R: Threads + Wait + Sync, K: Sink, V: Service>(
     outbox: &mut Outbox,
     sink: &mut K,
     line: &[u8],
+    scratch: &mut Scratch,
 ) -> bool
     ensures { (gained : List Did) × (out : List ℕ) × V.gains visitor.old visitor.new gained
         × Writes (sending (K.output sink.old) (K.failures sink.old) outbox.old) (sending (K.output sink.new) (K.failures sink.new) outbox.new) out
         × IsAnswer (V.ways service.now) (V.may_seal visitor.old) line.now result gained out }
 {
-    match read_request(alloc, line) {
+    match read_request_with(alloc, line, scratch) {
         Err(fault) => {
             put_error_line(outbox, sink, fault.numbers().as_slice());
             false

@@ -8,7 +8,7 @@ use crate::entrance::{Entrance, Listener};
 use crate::fault::ListenFault;
 use crate::hall::{Hall, MAX_CONNECTIONS, Phase};
 use crate::journal::Journal;
-use crate::listening::Door;
+use crate::listening::{Door, helpers};
 use crate::relay::{Keeper, Place, Relay};
 use crate::serving::serve;
 use crate::socket::{SocketSink, SocketSource};
@@ -56,9 +56,32 @@ where
     hall.give_place(rt, number);
 }
 
+// Serves the connections that come through the door, while threads stay that help with batches.
+fn serve_all<R, K: Keeper + Send, J: Journal + Sync>(
+    rt: &R,
+    alloc: Global,
+    door: Door<'_>,
+    relay: &Relay<K, J>,
+    hall: &Hall,
+)
+where
+    R: Net<Listener = TcpListener, Stream = TcpStream> + Threads + Wait + Sync,
+{
+    match relay.crew() {
+        Some(crew) => {
+            let assists = || relay.assist(rt);
+            crew.with_members(rt, helpers(rt), &assists, || {
+                serve_each(rt, alloc, door, relay, hall)
+            });
+        }
+        None => serve_each(rt, alloc, door, relay, hall),
+    }
+    hall.enter(rt, Phase::Over);
+}
+
 // Serves the connections that come through the door, each on a thread of its own if one can be started, otherwise on this
 // one.
-fn serve_all<R, K: Keeper + Send, J: Journal + Sync>(
+fn serve_each<R, K: Keeper + Send, J: Journal + Sync>(
     rt: &R,
     alloc: Global,
     door: Door<'_>,
@@ -91,7 +114,6 @@ where
         }
         hall.enter(rt, Phase::Draining);
     });
-    hall.enter(rt, Phase::Over);
 }
 
 // A hall for so many connections at once, which are ended if what was done can't be stored. If memory is refused for that, each is ended

@@ -19,7 +19,7 @@ use std::sync::Wait;
 use std::thread;
 use std::thread::Threads;
 use std::time::{Clock, Duration};
-use tl_workers::{Engine, Session};
+use tl_workers::{Engine, MAX_WORKERS, NoGate, Session};
 
 /// Where connections come from, how many of them, and how long one may be silent.
 #[derive(Clone, Copy)]
@@ -92,9 +92,33 @@ fn visit<R: Threads + Wait + Sync>(
     hall.give_place(rt, number);
 }
 
+// How many threads stay to help with batches: one for each processor but that of the batch's own thread.
+pub(crate) fn helpers(rt: &impl Threads) -> usize {
+    match thread::available_parallelism(rt) {
+        Ok(processors) => processors.get().min(MAX_WORKERS).saturating_sub(1),
+        Err(_) => 0,
+    }
+}
+
+// Serves the connections that come through the door, while threads stay that help with batches.
+fn serve_all<R: Threads + Wait + Sync>(
+    rt: &R,
+    alloc: Global,
+    door: Door<'_>,
+    engine: &Engine,
+    hall: &Hall,
+    outbox: Outbox,
+) {
+    let assists = || engine.assist(rt, &NoGate);
+    engine.crew().with_members(rt, helpers(rt), &assists, || {
+        serve_each(rt, alloc, door, engine, hall, outbox)
+    });
+    hall.enter(rt, Phase::Over);
+}
+
 // Serves the connections that come through the door, each on a thread of its own if one can be started, otherwise on this
 // one.
-fn serve_all<R: Threads + Wait + Sync>(
+fn serve_each<R: Threads + Wait + Sync>(
     rt: &R,
     alloc: Global,
     door: Door<'_>,
@@ -122,7 +146,6 @@ fn serve_all<R: Threads + Wait + Sync>(
         }
         hall.enter(rt, Phase::Draining);
     });
-    hall.enter(rt, Phase::Over);
 }
 
 /// A local port or a Unix socket that waits for connections. The system lets clients connect from then on; `serve` accepts them.

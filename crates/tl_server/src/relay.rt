@@ -18,11 +18,11 @@ use crate::status::{Reporter, Status, Tally};
 use std::alloc::Global;
 use std::marker::Model;
 use std::mem;
-use std::sync::{Mutex, RwLock, Wait};
+use std::sync::{Arc, Mutex, RwLock, Wait};
 use std::thread::Threads;
 use tl_generations::GrowthFault;
 use tl_table::TableFault;
-use tl_workers::{Engine, Refusal, Session};
+use tl_workers::{Crew, Engine, NoGate, Refusal, Session};
 
 /// Who closes an engine, keeps what it did, and opens the next.
 pub trait Keeper {
@@ -245,6 +245,8 @@ pub struct Relay<K, J> {
     // Whether nodes can be appended to the tree.
     grows: bool,
     tally: Tally,
+    // The threads that stay and help with batches. All engines share them.
+    crew: Option<Arc<Crew>>,
 }
 
 impl<K: Keeper, J: Journal> Relay<K, J> {
@@ -254,6 +256,8 @@ impl<K: Keeper, J: Journal> Relay<K, J> {
         requires { engine.seals ≡ true }
     {
         let nodes = keeper.nodes();
+        // Without a crew batches start threads of their own.
+        let crew = Arc::try_clone(engine.crew()).ok();
         Relay {
             stage: RwLock::new(Stage {
                 engine: Some(engine),
@@ -267,6 +271,7 @@ impl<K: Keeper, J: Journal> Relay<K, J> {
             epochs: epochs.max(1),
             grows: true,
             tally: Tally::new(),
+            crew,
         }
     }
 
@@ -293,6 +298,7 @@ impl<K: Keeper, J: Journal> Relay<K, J> {
             epochs: _,
             grows: _,
             tally: _,
+            crew: _,
         } = self;
         let Stage {
             engine,
@@ -307,6 +313,36 @@ impl<K: Keeper, J: Journal> Relay<K, J> {
                 (Some((engine, sessions)), keeper.into_inner(), journal)
             }
             None => (None, keeper.into_inner(), journal),
+        }
+    }
+
+    /// The threads that stay and help with the batches of its engines.
+    pub fn crew(&self) -> Option<&Crew> {
+        match &self.crew {
+            Some(crew) => Some(crew),
+            None => None,
+        }
+    }
+
+    /// Runs calls of batches that are ready, as long as that pays, and says whether there was one. It is for members of the crew.
+    pub fn assist(&self, rt: &impl Wait) -> bool {
+        let stage = self.stage.read(rt);
+        match &stage.engine {
+            Some(engine) => engine.assist(rt, &NoGate),
+            None => false,
+        }
+    }
+
+    // The same engine, with whose batches the crew helps.
+    fn staffed(&self, engine: Engine) -> Engine
+        ensures { result.seals ≡ engine.seals }
+    {
+        match &self.crew {
+            Some(crew) => match Arc::try_clone(crew) {
+                Ok(crew) => engine.with_crew(crew),
+                Err(_) => engine,
+            },
+            None => engine,
         }
     }
 
@@ -366,7 +402,7 @@ impl<K: Keeper, J: Journal> Relay<K, J> {
         let Some(engine) = keeper.open(alloc) else {
             return false;
         };
-        stage.engine = Some(engine);
+        stage.engine = Some(self.staffed(engine));
         stage.nodes = keeper.nodes();
         // Lines are answered again. The next hand-over waits for the keeper.
         drop(stage);
@@ -434,7 +470,7 @@ impl<K: Keeper, J: Journal> Relay<K, J> {
             // The next line opens it.
             return known(grown);
         };
-        stage.engine = Some(engine);
+        stage.engine = Some(self.staffed(engine));
         stage.nodes = keeper.nodes();
         // Lines are answered again. The next hand-over waits for the keeper.
         drop(stage);

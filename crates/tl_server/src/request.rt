@@ -10,7 +10,8 @@ use crate::batch::BatchRequest;
 use crate::fault::LineFault;
 use serde_json::Value;
 use std::alloc::{AllocError, Global};
-use tl_json::{ProcedureText, Request, each_of, parse_text};
+use tl_json::{ProcedureText, Request, each_of};
+use tl_tokens::{Scratch, parse_with};
 use tl_tree::integers_from_value;
 use tl_workers::{MAX_REQUESTS, MAX_WORKERS};
 
@@ -195,13 +196,26 @@ pub fn read_request(alloc: Global, line: &[u8]) -> Result<LineRequest, LineFault
     ensures ok { IfOk result (λ r. IsRequest line.now (line_view r)) }
     ensures fault { IfErr result (λ e. e ≢ LineFault.Memory → IsLineFault line.now e) }
 {
+    let mut scratch = Scratch::new(alloc);
+    read_request_with(alloc, line, &mut scratch)
+}
+
+/// The same for a caller that reads many lines and keeps the memory that reading needs.
+pub(crate) fn read_request_with(
+    alloc: Global,
+    line: &[u8],
+    scratch: &mut Scratch,
+) -> Result<LineRequest, LineFault>
+    ensures ok { IfOk result (λ r. IsRequest line.now (line_view r)) }
+    ensures fault { IfErr result (λ e. e ≢ LineFault.Memory → IsLineFault line.now e) }
+{
     if line.len() > MAX_LINE {
         return Err(LineFault::TooLong);
     }
     let Ok(text) = std::str::from_utf8(line) else {
         return Err(LineFault::NotUtf8);
     };
-    let Some(value) = parse_text(alloc, text)? else {
+    let Some(value) = parse_with(alloc, text, scratch)? else {
         return Err(LineFault::NotRequest);
     };
     match request_of_value(alloc, &value)? {

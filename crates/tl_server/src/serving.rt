@@ -15,6 +15,7 @@ use crate::service::Service;
 use std::alloc::Global;
 use std::sync::Wait;
 use std::thread::Threads;
+use tl_tokens::Scratch;
 
 // Writes what is gathered, unless there is a line that can be answered first.
 fn settle<K: Sink>(reader: &Reader, outbox: &mut Outbox, sink: &mut K)
@@ -64,6 +65,7 @@ pub fn serve<R: Threads + Wait + Sync, S: Source, K: Sink, V: Service>(
     let Ok(mut outbox) = Outbox::new(alloc) else {
         return Err(ServeFault::Memory);
     };
+    let mut scratch = Scratch::new(alloc);
     let mut count = 0u64;
     for _ in rt.forever() {
         // No run counts this far.
@@ -86,6 +88,7 @@ pub fn serve<R: Threads + Wait + Sync, S: Source, K: Sink, V: Service>(
                     &mut outbox,
                     sink,
                     reader.line(),
+                    &mut scratch,
                 );
                 outbox.flush(sink);
                 if outbox.has_failed() {
@@ -102,6 +105,7 @@ pub fn serve<R: Threads + Wait + Sync, S: Source, K: Sink, V: Service>(
                     &mut outbox,
                     sink,
                     reader.line(),
+                    &mut scratch,
                 ) {
                     outbox.flush(sink);
                     if outbox.has_failed() {

@@ -122,16 +122,15 @@ fn found(rt: &impl Abort, node: i64, answer: &Result<Receipt, Refusal>) {
 /// Looks at nodes 1 and 2.
 const LOOKED: [Asked<'static>; 2] = [(1, "look", &[1]), (1, "look", &[2])];
 
-/// Makes two looks cross in a batch of this session.
+/// Makes two looks cross at the gate in a batch of this session.
 fn cross_in_a_batch<R: Threads + Wait + Abort + Sync>(
     rt: &R,
     alloc: Global,
     engine: &Engine,
     session: &mut Session,
-    point: Point,
+    gate: &Crossing,
 ) -> Result<(), Fail> {
-    let gate = Crossing::new(point);
-    let answers = batch(rt, alloc, engine, session, &LOOKED, 2, &gate)?;
+    let answers = batch(rt, alloc, engine, session, &LOOKED, 2, gate)?;
     assert!(rt; gate.came_in_time());
     assert_eq!(rt; answers.len(), 2);
     found(rt, 1, &answers[0]);
@@ -139,18 +138,35 @@ fn cross_in_a_batch<R: Threads + Wait + Abort + Sync>(
     Ok(())
 }
 
-/// Two workers of a new engine run one look each.
+/// The same, and so many threads stay to help. With none the batch starts one.
+fn cross_with_members<R: Threads + Wait + Abort + Sync>(
+    rt: &R,
+    alloc: Global,
+    engine: &Engine,
+    session: &mut Session,
+    point: Point,
+    members: usize,
+) -> Result<(), Fail> {
+    let gate = Crossing::new(point);
+    let assists = || engine.assist(rt, &gate);
+    engine.crew().with_members(rt, members, &assists, || {
+        cross_in_a_batch(rt, alloc, engine, session, &gate)
+    })
+}
+
+/// Two workers of a new engine run one look each. So many threads stay to help.
 fn two_workers_cross<R: Threads + Wait + Abort + Sync>(
     rt: &R,
     alloc: Global,
     point: Point,
+    members: usize,
 ) -> Result<(), Fail> {
     with_one_session(
         rt,
         alloc,
         FORK,
         &[("look", LOOK)],
-        |engine, session| cross_in_a_batch(rt, alloc, engine, session, point),
+        |engine, session| cross_with_members(rt, alloc, engine, session, point, members),
         |_, ended| {
             crossed(rt, ended);
             Ok(())
@@ -161,7 +177,7 @@ fn two_workers_cross<R: Threads + Wait + Abort + Sync>(
 #[test]
 fn a_gate_shows_two_workers(rt: HostRuntime) -> Result<(), Fail> {
     for _ in 0..RUNS {
-        two_workers_cross(&rt, rt.alloc(), Point::Pass)?;
+        two_workers_cross(&rt, rt.alloc(), Point::Pass, 0)?;
     }
     Ok(())
 }
@@ -169,7 +185,17 @@ fn a_gate_shows_two_workers(rt: HostRuntime) -> Result<(), Fail> {
 #[test]
 fn a_gate_shows_local_parts_of_two_workers(rt: HostRuntime) -> Result<(), Fail> {
     for _ in 0..RUNS {
-        two_workers_cross(&rt, rt.alloc(), Point::Ready)?;
+        two_workers_cross(&rt, rt.alloc(), Point::Ready, 0)?;
+    }
+    Ok(())
+}
+
+#[test]
+fn a_gate_shows_local_parts_of_a_batch_and_a_thread_that_stays(
+    rt: HostRuntime,
+) -> Result<(), Fail> {
+    for _ in 0..RUNS {
+        two_workers_cross(&rt, rt.alloc(), Point::Ready, 1)?;
     }
     Ok(())
 }

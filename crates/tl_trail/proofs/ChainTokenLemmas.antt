@@ -24,9 +24,10 @@ use Rattle.tl_trail.specs.Trails.{TrailValue}
 use Rattle.tl_trail.specs.Reading.{form_of_data, IsFound, IsFaultFound}
 use Rattle.tl_trail.specs.Chains.{AreEach, IsFirstOf, IsChain, IsFaultOfChain, IsChainText, if_chain, chain_of, chain_in}
 use Rattle.tl_trail.specs.ChainTokens.{BeginsWithTrail, BeginsWithTrails, BeginsWithFault, IsListed, IsListedIn, IsLeftBehind}
-use Rattle.tl_trail.specs.Tokens.{trail_depth, BeginsWith}
+use Rattle.tl_tokens.specs.Tokens.{BeginsWith}
+use Rattle.tl_trail.specs.Tokens.{trail_depth}
 use Rattle.tl_trail.specs.TrailTokens.{AreOfTrail}
-use Rattle.tl_trail.proofs.TokenLemmas.{converted_from, value_of, items_onto, object_begins, list_begins, one_item, no_item, parsed_one, parsed_none, whole}
+use Rattle.tl_tokens.proofs.TokenLemmas.{converted_from, value_of, items_onto, object_begins, list_begins, one_item, no_item, parsed_one, parsed_none, whole}
 use Rattle.tl_trail.proofs.Deeper.{items_further}
 use Rattle.tl_trail.proofs.WholeTrail.{found_is}
 

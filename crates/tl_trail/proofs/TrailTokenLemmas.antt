@@ -16,7 +16,7 @@ use Rattle.tl_trail.specs.Raw.{call_form, form_with, IsHalfRead}
 use Rattle.tl_trail.specs.Reading.{Parts, call_of, parts_of, form_at, form_of_parts}
 use Rattle.tl_trail.specs.Tokens.{member_depth, BeginsWithMember}
 use Rattle.tl_trail.specs.TrailTokens.{AreOfTrail, IsFirstWidth}
-use Rattle.tl_trail.proofs.TokenLemmas.{same_some, converted_from, one_member, no_member, stands_for}
+use Rattle.tl_tokens.proofs.TokenLemmas.{same_some, converted_from, one_member, no_member, stands_for}
 use Rattle.tl_trail.proofs.Deeper.{members_deeper}
 use Rattle.tl_trail.proofs.EitherWidth.{half_first}
 use Rattle.tl_trail.proofs.TreeOfText.{half_read}

@@ -3,8 +3,9 @@ use Rattle.std.specs.Prelude.{◌≡◌, ◌<◌, ℕ, List, length, Option, Som
 use Rattle.json.specs.Token.{Token}
 use Rattle.json.specs.Json.{items, read_key, value}
 use Rattle.serde_json.specs.Data.{Data, Items}
-use Rattle.serde_json.specs.Read.{of_json, of_items, converted}
+use Rattle.serde_json.specs.Read.{of_items, converted}
 use Rattle.tl_tree.specs.Reading.{each_item}
+use Rattle.tl_tokens.specs.Tokens.{BeginsWith}
 
 -- the largest nesting depth of a trail in a chain, of a trail's member, and of a member's item; a text nests at most 127 deep
 abbrev pub trail_depth : ℕ
@@ -15,13 +16,6 @@ member_depth = 125
 
 abbrev pub item_depth : ℕ
 item_depth = 124
-
--- the tokens begin with a value of at most this depth, for which f returns a; the rest follows
-pub record BeginsWith {A : Type 0} (f : Data → Option A) (depth : ℕ) (ts : List Token) (a : A) (rest : List Token) : Type 0 where
-  pub found : Data
-  pub is_value : converted of_json (value depth ts) ≡ Some (found, rest)
-  pub stands : f found ≡ Some a
-  pub shorter : length rest < length ts
 
 -- the tokens begin with items up to the end of their list, for which f returns these results
 pub record BeginsWithItems {A : Type 0} (f : Data → Option A) (ts : List Token) (each : List A) (rest : List Token) : Type 0 where

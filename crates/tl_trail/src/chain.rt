@@ -14,13 +14,14 @@ ghost use Rattle.tl_trail.specs.Trails.{TrailValue};
 
 use crate::fault::TrailFault;
 use crate::reading::{checked_trail, trail_of_value};
-use crate::tokens::{TRAIL_DEPTH, trail_members, value};
+use crate::tokens::{TRAIL_DEPTH, trail_members};
 use crate::trail::Trail;
 use crate::writing::push_trail;
 use json::{Reader, Scratch, Token};
 use serde_json::Value;
 use std::alloc::{AllocError, Global};
 use tl_json::parse_text;
+use tl_tokens::value;
 
 /// The most trails that a chain has.
 pub const MAX_TRAILS: usize = 256;

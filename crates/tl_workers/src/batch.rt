@@ -53,14 +53,14 @@ struct Batch<'a, R, G> {
     // Whether all requests are handed out. It changes under the table's lock only.
     is_handed_out: AtomicBool,
     // When workers other than the caller's thread help.
-    help: Help,
+    help: &'a Help,
 }
 
 impl Engine {
     /// Runs the requests on at most `workers` threads, one of which is the caller's, and answers each: its receipt, or why it was
     /// refused. They are admitted in their order. If 64 calls are open, a request waits until a call of the batch has
     /// ended, and is refused with 604 only if none of the batch's calls is unfinished. The other threads help only while that pays, or
-    /// while the caller's thread is held up. If a thread can't be started, the batch runs with fewer. 990 if there is no memory for the answers and for what the session keeps; then nothing was admitted.
+    /// while the caller's thread is held up: they are of the engine's crew, if that has members, and are started otherwise. If a thread can't be started, the batch runs with fewer. 990 if there is no memory for the answers and for what the session keeps; then nothing was admitted.
     pub fn batch<R: Threads + Wait + Sync, G: Gate + Sync>(
         &self,
         rt: &R,
@@ -89,6 +89,9 @@ impl Engine {
         let Ok(()) = session.reserve(count) else {
             return Err(Refusal::Memory);
         };
+        let others = workers.min(count).saturating_sub(1);
+        let own = Help::new();
+        let has_crew = others > 0 && self.crew.call(rt, others);
         let batch = Batch {
             engine: self,
             rt,
@@ -96,9 +99,13 @@ impl Engine {
             session: session.number(),
             requests,
             is_handed_out: AtomicBool::new(false),
-            help: Help::new(),
+            help: if has_crew { self.crew.help() } else { &own },
         };
-        let admitted = batch.run(alloc, session.pass(), admitted, workers);
+        let started = if has_crew { 0 } else { others };
+        let admitted = batch.run(alloc, session.pass(), admitted, started);
+        if has_crew {
+            self.crew.release(rt, others);
+        }
         let answers = batch.collect(admitted.as_slice(), answers);
         session.record_all(admitted.as_slice(), answers.as_slice());
         Ok(answers)
@@ -106,19 +113,36 @@ impl Engine {
 }
 
 impl<R: Threads + Wait + Sync, G: Gate + Sync> Batch<'_, R, G> {
-    // Admits the requests and works on them, as do the other workers.
+    // Admits the requests and works on them, and starts so many other workers, at most, that do so too.
     fn run(
         &self,
         alloc: Global,
         pass: &mut ReadyPass,
         admitted: Vec<Result<Asking, Refusal>>,
-        workers: usize,
+        started: usize,
     ) -> Vec<Result<Asking, Refusal>>
         requires { (admitted.items ≡ []) × (vec_len admitted ≡ 0) × (length self.now.requests.now ≤ vec_capacity admitted) }
         ensures each { AdmittedEach self.now.requests.now result.items }
         ensures refused { AreCallRefusals self.now.engine.now.seals result.items }
     {
-        let others = workers.min(self.requests.len()).saturating_sub(1);
+        match started {
+            0 => self.run_here(alloc, pass, admitted),
+            others => self.run_with(alloc, pass, admitted, others),
+        }
+    }
+
+    // The same with so many others.
+    fn run_with(
+        &self,
+        alloc: Global,
+        pass: &mut ReadyPass,
+        admitted: Vec<Result<Asking, Refusal>>,
+        others: usize,
+    ) -> Vec<Result<Asking, Refusal>>
+        requires { (admitted.items ≡ []) × (vec_len admitted ≡ 0) × (length self.now.requests.now ≤ vec_capacity admitted) }
+        ensures each { AdmittedEach self.now.requests.now result.items }
+        ensures refused { AreCallRefusals self.now.engine.now.seals result.items }
+    {
         thread::scope(
             thread::scope_env(),
             self.rt,
@@ -127,14 +151,10 @@ impl<R: Threads + Wait + Sync, G: Gate + Sync> Batch<'_, R, G> {
                 ensures each { AdmittedEach self.entry.now.requests.now result.items }
                 ensures refused { AreCallRefusals self.entry.now.engine.now.seals result.items }
             {
-                if others > 0 {
-                    // A worker that can't be started is left out.
-                    let more = others - 1;
-                    let _ = scope.spawn(move || self.watch(scope, more));
-                }
-                let admitted = self.hand_out(alloc, pass, admitted);
-                self.end_handing_out();
-                self.work(pass);
+                // A worker that can't be started is left out.
+                let more = others.saturating_sub(1);
+                let _ = scope.spawn(move || self.watch(scope, more));
+                let admitted = self.run_here(alloc, pass, admitted);
                 self.help.end();
                 admitted
             },
@@ -159,6 +179,23 @@ impl<R: Threads + Wait + Sync, G: Gate + Sync> Batch<'_, R, G> {
 }
 
 impl<R: Wait, G: Gate> Batch<'_, R, G> {
+    // Admits the requests and works on them.
+    fn run_here(
+        &self,
+        alloc: Global,
+        pass: &mut ReadyPass,
+        admitted: Vec<Result<Asking, Refusal>>,
+    ) -> Vec<Result<Asking, Refusal>>
+        requires { (admitted.items ≡ []) × (vec_len admitted ≡ 0) × (length self.now.requests.now ≤ vec_capacity admitted) }
+        ensures each { AdmittedEach self.now.requests.now result.items }
+        ensures refused { AreCallRefusals self.now.engine.now.seals result.items }
+    {
+        let admitted = self.hand_out(alloc, pass, admitted);
+        self.end_handing_out();
+        self.work(pass);
+        admitted
+    }
+
     // Says that no more calls of the batch become ready.
     fn end_handing_out(&self) {
         let engine = self.engine;
@@ -188,13 +225,11 @@ impl<R: Wait, G: Gate> Batch<'_, R, G> {
             match handed {
                 Handed::Full => self.help(turnstile, pass),
                 Handed::NoPlace(call) => {
-                    drop(turnstile);
-                    engine.moved.notify_all();
+                    self.announce(turnstile);
                     self.run_taken(call);
                 }
                 Handed::All => {
-                    drop(turnstile);
-                    engine.moved.notify_all();
+                    self.announce(turnstile);
                     return admitted;
                 }
             }
@@ -207,12 +242,19 @@ impl<R: Wait, G: Gate> Batch<'_, R, G> {
         let engine = self.engine;
         match engine.ready.pop(self.rt, pass) {
             Some(call) => {
-                drop(turnstile);
-                engine.moved.notify_all();
+                self.announce(turnstile);
                 self.run_taken(call);
             }
             None => drop(engine.moved.wait(self.rt, turnstile)),
         }
+    }
+
+    // Tells other workers that calls became ready.
+    fn announce(&self, turnstile: MutexGuard<'_, Turnstile>) {
+        let engine = self.engine;
+        drop(turnstile);
+        engine.moved.notify_all();
+        self.help.announce();
     }
 
     // Admits the next requests, as long as none has to wait, and makes their calls ready. As the table's lock is held, a worker that
@@ -299,9 +341,7 @@ impl<R: Wait, G: Gate> Batch<'_, R, G> {
 
     // Runs a call that was taken.
     fn run_taken(&self, call: u32) {
-        self.help.take();
-        let pace = self.engine.run(self.rt, call, None, self.gate);
-        self.help.learn(pace);
+        self.engine.run_for(self.rt, call, self.gate, self.help);
     }
 
     // As long as no call was taken, the bounds of the first one say whether help is wanted.

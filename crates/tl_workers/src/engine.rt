@@ -12,13 +12,15 @@ ghost use Rattle.tl_workers.specs.Refusals.{IsNewEngineRefusal, IsSealRefused, I
 ghost use Rattle.tl_workers.specs.Matching.{Matches, DoesNotClose};
 ghost use Rattle.tl_workers.specs.Sessions.{AreAllOf, AskForEachOnce, FindsItsWrites};
 
+use crate::crew::Crew;
+use crate::gate::Gate;
 use crate::matching::all_match;
 use crate::refusal::Refusal;
 use crate::session::Session;
 use crate::turnstile::Turnstile;
 use std::alloc::Global;
 use std::marker::Model;
-use std::sync::{Condvar, Mutex, Wait};
+use std::sync::{Arc, Condvar, Mutex, Wait};
 use tl_core::Core;
 use tl_procedures::NamingFault;
 use tl_ready::Ready;
@@ -39,6 +41,8 @@ pub struct Engine {
     pub(crate) moved: Condvar,
     // Whether an epoch that has no room for a call is sealed for it.
     pub(crate) seals: bool,
+    // The threads that stay and help with its batches.
+    pub(crate) crew: Arc<Crew>,
 }
 
 impl Model for Engine {
@@ -72,11 +76,15 @@ impl Engine {
             Err(fault) => return Err(Refusal::Table(fault)),
         };
         let (ready, _first) = Ready::new(alloc)?;
+        let Ok(crew) = Arc::new(alloc, Crew::new()) else {
+            return Err(Refusal::Memory);
+        };
         Ok(Engine {
             turnstile: Mutex::new(Turnstile::new(table)),
             ready,
             moved: Condvar::new(),
             seals: false,
+            crew,
         })
     }
 
@@ -91,6 +99,37 @@ impl Engine {
             seals: true,
             ..self
         }
+    }
+
+    /// The same engine, with whose batches the members of this crew help.
+    pub fn with_crew(self, crew: Arc<Crew>) -> Engine
+        ensures { result.seals ≡ self.seals }
+    {
+        Engine { crew, ..self }
+    }
+
+    /// The crew that helps with its batches.
+    pub fn crew(&self) -> &Arc<Crew> {
+        &self.crew
+    }
+
+    /// Runs calls of batches that are ready, as long as that pays, and says whether there was one. It is for members of its crew.
+    pub fn assist<G: Gate>(&self, rt: &impl Wait, gate: &G) -> bool {
+        let Ok(mut pass) = self.ready.join() else {
+            return false;
+        };
+        let mut has_helped = false;
+        for _ in rt.forever() {
+            let Some(call) = self.ready.pop(rt, &mut pass) else {
+                return has_helped;
+            };
+            self.run_for(rt, call, gate, self.crew.help());
+            has_helped = true;
+            if !self.crew.goes_on(rt) {
+                return has_helped;
+            }
+        }
+        unreachable!()
     }
 
     /// The number of the current epoch.
@@ -173,6 +212,7 @@ impl Engine {
             ready: _,
             moved: _,
             seals: _,
+            crew: _,
         } = self;
         let Turnstile {
             table,

@@ -15,8 +15,8 @@ const PATIENCE: u64 = 200;
 // A new measurement counts as one part in so many.
 const PARTS: u64 = 8;
 
-/// What a batch's workers know of its calls: one worker runs short calls as fast as many, so the others help only if calls do
-/// much between two stops, or if nobody takes the next one.
+/// What the workers of a batch, or of all batches with which a crew helps, know of the calls: one worker runs short calls as fast as
+/// many, so the others help only if calls do much between two stops, or if nobody takes the next one.
 #[derive(Drop)]
 pub(crate) struct Help {
     // How many instructions calls do a turn, in the mean of the latest ones.
@@ -67,10 +67,38 @@ impl Help {
         }
     }
 
+    /// Calls became ready: whoever waits for the next one takes it if that pays.
+    pub(crate) fn announce(&self) {
+        if self.pays() {
+            self.called.notify_all();
+        }
+    }
+
+    /// Whether calls do so much a turn that another worker is a gain.
+    pub(crate) fn pays(&self) -> bool {
+        self.pace.load(Ordering::SeqCst) >= MANY
+    }
+
+    /// A batch begins, and none was under way.
+    pub(crate) fn begin(&self) {
+        self.is_over.store(false, Ordering::SeqCst);
+    }
+
+    /// No batch is under way. Nobody is woken: whoever watches finds out within its patience, or finds the next batch.
+    pub(crate) fn rest(&self) {
+        self.is_over.store(true, Ordering::SeqCst);
+    }
+
     /// The batch is over.
     pub(crate) fn end(&self) {
         self.is_over.store(true, Ordering::SeqCst);
         self.called.notify_all();
+    }
+
+    /// Waits until calls may have become ready.
+    pub(crate) fn pause(&self, rt: &impl Wait) {
+        let seen = self.called.notifications();
+        self.called.sleep(rt, seen, Duration::from_micros(PATIENCE));
     }
 
     /// Waits until help is wanted. False if the batch is over.
@@ -80,7 +108,7 @@ impl Help {
             if self.is_over.load(Ordering::SeqCst) {
                 return false;
             }
-            if self.pace.load(Ordering::SeqCst) >= MANY {
+            if self.pays() {
                 return true;
             }
             let taken = self.taken.load(Ordering::SeqCst);

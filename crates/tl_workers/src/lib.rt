@@ -7,6 +7,7 @@
 
 mod asking;
 mod batch;
+mod crew;
 mod engine;
 mod gate;
 mod help;
@@ -21,6 +22,7 @@ mod turnstile;
 
 pub use asking::{Asking, Name};
 pub use batch::{MAX_REQUESTS, MAX_WORKERS};
+pub use crew::Crew;
 pub use engine::Engine;
 pub use gate::{Gate, NoGate};
 pub use matching::matches;

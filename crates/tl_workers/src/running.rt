@@ -9,6 +9,7 @@ ghost use Rattle.tl_workers.specs.Refusals.{IsCallRefusal};
 use crate::asking::Asking;
 use crate::engine::Engine;
 use crate::gate::Gate;
+use crate::help::Help;
 use crate::refusal::Refusal;
 use crate::sealing::Begun;
 use crate::session::Session;
@@ -43,8 +44,8 @@ impl Engine {
             Ok(begun) => begun,
             Err(fault) => return Err(Refusal::Table(fault)),
         };
-        let Begun { epoch, call, lent } = begun;
-        let _pace = self.run(rt, call, lent, gate);
+        let Begun { epoch, call } = begun;
+        let _pace = self.run(rt, call, gate);
         let asked = Asking::new(epoch, call, name, args);
         // The call was admitted and has ended, so its receipt is there at once.
         let (receipt, _turnstile) = self.take(rt, self.turnstile.lock(rt), &asked);
@@ -52,25 +53,21 @@ impl Engine {
         Ok(receipt)
     }
 
-    // Takes the turns of a call from where it was lent to its end, and returns its pace: how many instructions it did a turn, in the
-    // mean. None is taken if no call of that number was admitted. The table is asked where the call is if it wasn't lent, and again if
-    // a turn was stale.
-    pub(crate) fn run<G: Gate>(
-        &self,
-        rt: &impl Wait,
-        call: u32,
-        lent: Option<LentTurn>,
-        gate: &G,
-    ) -> u64 {
-        let mut lent = lent;
+    // Runs a call that was taken from those that are ready.
+    pub(crate) fn run_for<G: Gate>(&self, rt: &impl Wait, call: u32, gate: &G, help: &Help) {
+        help.take();
+        let pace = self.run(rt, call, gate);
+        help.learn(pace);
+    }
+
+    // Takes the turns of a call to its end, and returns its pace: how many instructions it did a turn, in the mean. None is taken if
+    // no call of that number was admitted. The table is asked where the call is, and again if a turn was stale.
+    fn run<G: Gate>(&self, rt: &impl Wait, call: u32, gate: &G) -> u64 {
         let mut passed = 0;
         for _ in rt.forever() {
             passed = pass(gate, call, passed);
-            let next = match lent.take() {
-                Some(lent) => Ok(Some(lent)),
-                None => self.turnstile.lock(rt).table.lend(call),
-            };
-            match next {
+            let lent = self.turnstile.lock(rt).table.lend(call);
+            match lent {
                 Ok(Some(lent)) => {
                     if let Some(steps) = self.run_from(rt, call, lent, &mut passed, gate) {
                         gate.answered(call);

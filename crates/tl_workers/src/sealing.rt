@@ -11,15 +11,13 @@ use crate::refusal::Refusal;
 use crate::turnstile::Turnstile;
 use std::alloc::Global;
 use std::sync::Wait;
-use tl_machine::LentTurn;
 use tl_table::TableFault;
 
-// A call that was admitted: its epoch, its number, and the call lent, if memory wasn't refused for that.
-#[derive(Drop)]
+// A call that was admitted: its epoch and its number.
+#[derive(Clone, Copy)]
 pub(crate) struct Begun {
     pub(crate) epoch: u32,
     pub(crate) call: u32,
-    pub(crate) lent: Option<LentTurn>,
 }
 
 impl Engine {
@@ -40,10 +38,8 @@ impl Engine {
         for _ in rt.forever() {
             match self.try_admit(alloc, &mut turnstile, session, name, args) {
                 Some(Ok(call)) => {
-                    // The call is lent under the lock that admitted it. If memory is refused for that, `run` asks once more.
-                    let lent = turnstile.table.lend(call).unwrap_or(None);
                     let epoch = turnstile.table.epoch();
-                    return Ok(Begun { epoch, call, lent });
+                    return Ok(Begun { epoch, call });
                 }
                 Some(Err(fault)) => return Err(fault),
                 None => turnstile = self.moved.wait(rt, turnstile),

@@ -1,6 +1,6 @@
 use Rattle.std.proofs.Common.{◌≡◌, [], ◌∷◌, sym, ap, ◌∙◌}
 use Rattle.json.specs.Reads.{token_of}
-use Rattle.tl_trail.proofs.TokenLemmas.{if_none}
+use Rattle.tl_tokens.proofs.TokenLemmas.{if_none}
 use Rattle.tl_trail.proofs.ChainTokenLemmas.{text_listed}
 use Rattle.tl_trail.proofs.chain.chain_by_values.Goals as goal
 

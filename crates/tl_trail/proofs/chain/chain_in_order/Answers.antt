@@ -1,7 +1,7 @@
 use Rattle.std.proofs.Common.{◌≡◌, ◌<◌, ◌≤◌, [], ◌∷◌, length, sym, ap, ◌∙◌, arith}
 use Rattle.json.specs.Reads.{token_of}
 use Rattle.tl_trail.specs.ChainTokens.{BeginsWithTrails}
-use Rattle.tl_trail.proofs.TokenLemmas.{if_none}
+use Rattle.tl_tokens.proofs.TokenLemmas.{if_none}
 use Rattle.tl_trail.proofs.ChainTokenLemmas.{text_chain}
 use Rattle.tl_trail.proofs.chain.chain_in_order.Goals as goal
 

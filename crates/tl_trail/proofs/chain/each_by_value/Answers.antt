@@ -5,8 +5,9 @@ use Rattle.json.specs.Json.{after_end_array}
 use Rattle.serde_json.specs.View.{view}
 use Rattle.tl_trail.specs.Chains.{AreEach}
 use Rattle.tl_trail.specs.ChainTokens.{IsListed}
-use Rattle.tl_trail.specs.Tokens.{BeginsWith, trail_depth}
-use Rattle.tl_trail.proofs.TokenLemmas.{value_of}
+use Rattle.tl_tokens.specs.Tokens.{BeginsWith}
+use Rattle.tl_trail.specs.Tokens.{trail_depth}
+use Rattle.tl_tokens.proofs.TokenLemmas.{value_of}
 use Rattle.tl_trail.proofs.ChainTokenLemmas.{read_more, read_ends, trails_end, one_each, left_wrong, left_many, listed_none}
 use Rattle.tl_trail.proofs.chain.each_by_value.Goals as goal
 

@@ -1,7 +1,8 @@
 use Rattle.std.proofs.Common.{◌≡◌, Some, None, arith}
 use Rattle.json.specs.Json.{after_end_array}
 use Rattle.serde_json.specs.View.{view}
-use Rattle.tl_trail.specs.Tokens.{BeginsWith, trail_depth}
+use Rattle.tl_tokens.specs.Tokens.{BeginsWith}
+use Rattle.tl_trail.specs.Tokens.{trail_depth}
 use Rattle.tl_trail.proofs.ChainTokenLemmas.{one_counted, ends_many, ends_few}
 use Rattle.tl_trail.proofs.chain.faulty.Goals as goal
 

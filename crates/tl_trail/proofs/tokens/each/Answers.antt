@@ -4,8 +4,10 @@ use Rattle.json.specs.Json.{parse_map, after_end_array, items, value}
 use Rattle.json.proofs.Grammar.{after_end_array-shorter}
 use Rattle.serde_json.specs.Data.{no_items}
 use Rattle.serde_json.specs.Read.{of_items, converted}
-use Rattle.tl_trail.specs.Tokens.{BeginsWith, item_depth}
-use Rattle.tl_trail.proofs.TokenLemmas.{items_onto, Stand, one_item, no_item, parsed_one, one_stands, all_stand}
+use Rattle.tl_tokens.specs.Tokens.{BeginsWith}
+use Rattle.tl_trail.specs.Tokens.{item_depth}
+use Rattle.tl_tokens.proofs.TokenLemmas.{items_onto, one_item, no_item, parsed_one}
+use Rattle.tl_trail.proofs.TokenLemmas.{Stand, one_stands, all_stand}
 use Rattle.tl_trail.proofs.tokens.each.Goals as goal
 
 pub loop-alloc-preserved : goal.loop-alloc-preserved

@@ -3,7 +3,8 @@ use Rattle.json.specs.Json.{items, value, parse_map}
 use Rattle.serde_json.specs.Data.{Data}
 use Rattle.serde_json.specs.Read.{of_items, converted}
 use Rattle.tl_trail.specs.Tokens.{item_depth}
-use Rattle.tl_trail.proofs.TokenLemmas.{items_onto, Stand}
+use Rattle.tl_tokens.proofs.TokenLemmas.{items_onto}
+use Rattle.tl_trail.proofs.TokenLemmas.{Stand}
 use Rattle.tl_trail.proofs.tokens.each.Given as goal
 
 abbrev pub invariant-loop-alloc : goal.invariant-loop-alloc

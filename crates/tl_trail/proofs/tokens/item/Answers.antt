@@ -1,7 +1,8 @@
 use Rattle.std.proofs.Common.{Some, option_map, sym, ap, ◌∙◌}
 use Rattle.serde_json.specs.View.{view}
-use Rattle.tl_trail.specs.Tokens.{BeginsWith, item_depth}
-use Rattle.tl_trail.proofs.TokenLemmas.{stands_for}
+use Rattle.tl_tokens.specs.Tokens.{BeginsWith}
+use Rattle.tl_trail.specs.Tokens.{item_depth}
+use Rattle.tl_tokens.proofs.TokenLemmas.{stands_for}
 use Rattle.tl_trail.proofs.tokens.item.Goals as goal
 
 pub returns : goal.returns

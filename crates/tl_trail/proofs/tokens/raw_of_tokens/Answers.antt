@@ -7,7 +7,7 @@ use Rattle.serde_json.specs.Read.{of_json, converted, read}
 use Rattle.tl_trail.specs.Raw.{IsHalfRead}
 use Rattle.tl_trail.specs.Reading.{form_of_data}
 use Rattle.tl_trail.specs.TrailTokens.{AreOfTrail}
-use Rattle.tl_trail.proofs.TokenLemmas.{if_none, object_begins, whole}
+use Rattle.tl_tokens.proofs.TokenLemmas.{if_none, object_begins, whole}
 use Rattle.tl_trail.proofs.TrailTokenLemmas.{text_members}
 use Rattle.tl_trail.proofs.tokens.raw_of_tokens.Goals as goal
 

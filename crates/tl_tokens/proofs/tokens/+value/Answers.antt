@@ -8,9 +8,9 @@ use Rattle.serde_json.specs.Read.{of_items, of_members, converted}
 use Rattle.serde_json.specs.View.{view, number_view, items_view, members_view}
 use Rattle.serde_json.specs.declared.value.Value.{String, Number, Bool, Null, the_lemmas}
 use Rattle.serde_json.proofs.Views.{view-Array, view-Object, members_view-insert_entry}
-use Rattle.tl_trail.specs.Tokens.{BeginsWith}
-use Rattle.tl_trail.proofs.TokenLemmas.{items_onto, one_item, no_item, one_member, no_member, parsed_one, onto_views, value_of, begins_null, begins_boolean, begins_string, begins_number, begins_array, begins_object}
-use Rattle.tl_trail.proofs.tokens.+value.Goals as goal
+use Rattle.tl_tokens.specs.Tokens.{BeginsWith}
+use Rattle.tl_tokens.proofs.TokenLemmas.{items_onto, one_item, no_item, one_member, no_member, parsed_one, onto_views, value_of, begins_null, begins_boolean, begins_string, begins_number, begins_array, begins_object}
+use Rattle.tl_tokens.proofs.tokens.+value.Goals as goal
 
 pub value-returns-in-Null : goal.value-returns-in-Null
 value-returns-in-Null t c =

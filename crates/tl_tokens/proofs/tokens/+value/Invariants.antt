@@ -3,8 +3,8 @@ use Rattle.json.specs.Json.{items, members, value, parse_map}
 use Rattle.serde_json.specs.Data.{no_members}
 use Rattle.serde_json.specs.Read.{of_items, of_members, converted}
 use Rattle.serde_json.specs.View.{view, members_view}
-use Rattle.tl_trail.proofs.TokenLemmas.{items_onto}
-use Rattle.tl_trail.proofs.tokens.+value.Given as goal
+use Rattle.tl_tokens.proofs.TokenLemmas.{items_onto}
+use Rattle.tl_tokens.proofs.tokens.+value.Given as goal
 
 abbrev pub decreases-value : goal.decreases-value
 decreases-value l = 2 * l.depth

@@ -3,7 +3,7 @@ use Rattle.std.specs.Prelude.{IfSome}
 use Rattle.fast_float.specs.Text.{scan}
 use Rattle.serde_json.specs.Read.{number_of, number_from}
 use Rattle.serde_json.specs.View.{number_view}
-use Rattle.tl_trail.proofs.tokens.integer.Goals as goal
+use Rattle.tl_tokens.proofs.tokens.integer.Goals as goal
 
 pub returns-then-has_minus : goal.returns-then-has_minus
 unfolding number_of
