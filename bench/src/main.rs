@@ -16,6 +16,7 @@ mod rows;
 mod schedules;
 mod spread;
 mod sqlite;
+mod sqlite_library;
 mod table;
 mod trees;
 mod twin;

@@ -1,4 +1,4 @@
-//! A side makes its calls, by the clock.
+//! A server is asked for calls, by the clock.
 
 use std::sync::Barrier;
 use std::thread;
@@ -6,7 +6,7 @@ use std::time::{Duration, Instant};
 
 use crate::calls::{Call, Record, Work};
 use crate::connection::Connection;
-use crate::sides::{Answers, Side};
+use crate::sides::{Answers, Server};
 use crate::ways::Way;
 use crate::Result;
 
@@ -41,50 +41,49 @@ struct Done {
     answers: Answers,
 }
 
-/// The calls are made from the tree as at the start; as many of them as the work says are made before the clock starts.
-pub fn measure(side: &mut dyn Side, work: Work, way: Way, calls: &[Call]) -> Result<Measured> {
-    let (before, timed) = calls.split_at(work.counts().before);
-    let mut connections = side.begin(work, way.connections())?;
-    let scripts =
-        (0..way.connections()).map(|nth| Script { before: bursts(side, way, before, nth), timed: bursts(side, way, timed, nth) });
-    let done = all_done(side, &mut connections, scripts.collect())?;
-    let records = side.end(connections)?;
+/// All calls are made from the tree as at the start; those of `before` are made before the clock starts.
+pub fn measure(server: &mut dyn Server, work: Work, way: Way, before: &[Call], timed: &[Call]) -> Result<Measured> {
+    let mut connections = server.begin(work, way.connections())?;
+    let scripts = (0..way.connections())
+        .map(|nth| Script { before: bursts(server, way, before, nth), timed: bursts(server, way, timed, nth) });
+    let done = all_done(server, &mut connections, scripts.collect())?;
+    let records = server.end(connections)?;
     let start = done.iter().map(|done| done.start).min().ok_or("no connection")?;
     let end = done.iter().map(|done| done.end).max().ok_or("no connection")?;
     let mut answers = Answers::default();
     done.iter().for_each(|done| answers.add(done.answers));
     if answers.count != timed.len() {
-        return Err(format!("{}: {} calls, and {} answers", side.name(), timed.len(), answers.count).into());
+        return Err(format!("{} calls, and {} answers", timed.len(), answers.count).into());
     }
     Ok(Measured { took: end - start, bursts: done.into_iter().flat_map(|done| done.bursts).collect(), answers, records })
 }
 
 /// The bursts of one connection, which makes each so manieth call.
-fn bursts(side: &dyn Side, way: Way, calls: &[Call], connection: usize) -> Vec<Burst> {
+fn bursts(server: &dyn Server, way: Way, calls: &[Call], connection: usize) -> Vec<Burst> {
     let own: Vec<Call> = calls.iter().skip(connection).step_by(way.connections()).cloned().collect();
     let burst = |calls: &[Call]| {
         let mut bytes = Vec::new();
-        let answers = side.put(way, calls, &mut bytes);
+        let answers = server.put(way, calls, &mut bytes);
         Burst { bytes, answers }
     };
     own.chunks(way.burst()).map(burst).collect()
 }
 
 /// Each connection does its script, all at once where there are several.
-fn all_done(side: &dyn Side, connections: &mut [Connection], scripts: Vec<Script>) -> Result<Vec<Done>> {
+fn all_done(server: &dyn Server, connections: &mut [Connection], scripts: Vec<Script>) -> Result<Vec<Done>> {
     let ready = Barrier::new(scripts.len());
     thread::scope(|scope| {
         let start = |(connection, script)| {
             let ready = &ready;
-            scope.spawn(move || done(side, connection, &script, ready))
+            scope.spawn(move || done(server, connection, &script, ready))
         };
         let threads: Vec<_> = connections.iter_mut().zip(scripts).map(start).collect();
         threads.into_iter().map(|thread| thread.join().map_err(|_| "a connection's thread panicked")?).collect()
     })
 }
 
-fn done(side: &dyn Side, connection: &mut Connection, script: &Script, ready: &Barrier) -> Result<Done> {
-    let warmed = script.before.iter().try_for_each(|burst| ask(side, connection, burst).map(drop));
+fn done(server: &dyn Server, connection: &mut Connection, script: &Script, ready: &Barrier) -> Result<Done> {
+    let warmed = script.before.iter().try_for_each(|burst| ask(server, connection, burst).map(drop));
     // The others wait for this one even where it fails.
     ready.wait();
     warmed?;
@@ -92,7 +91,7 @@ fn done(side: &dyn Side, connection: &mut Connection, script: &Script, ready: &B
     let start = Instant::now();
     let mut end = start;
     for burst in &script.timed {
-        answers.add(ask(side, connection, burst)?);
+        answers.add(ask(server, connection, burst)?);
         let now = Instant::now();
         bursts.push(now - end);
         end = now;
@@ -101,11 +100,11 @@ fn done(side: &dyn Side, connection: &mut Connection, script: &Script, ready: &B
 }
 
 /// Sends a burst, and takes all its answers.
-fn ask(side: &dyn Side, connection: &mut Connection, burst: &Burst) -> Result<Answers> {
+fn ask(server: &dyn Server, connection: &mut Connection, burst: &Burst) -> Result<Answers> {
     connection.send(&burst.bytes)?;
     let mut answers = Answers::default();
     for _ in 0..burst.answers {
-        answers.add(connection.take(|bytes| side.answer(bytes))?);
+        answers.add(connection.take(|bytes| server.answer(bytes))?);
     }
     Ok(answers)
 }

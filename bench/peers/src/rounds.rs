@@ -3,7 +3,8 @@
 use std::collections::HashMap;
 
 use crate::calls::{calls, Work};
-use crate::measuring::{measure, Measured};
+use crate::keeping::Keeping;
+use crate::measuring::Measured;
 use crate::sides::Sides;
 use crate::ways::Way;
 use crate::Result;
@@ -28,14 +29,14 @@ pub struct Times {
 pub type Results = HashMap<Entry, Times>;
 
 /// So many rounds of these procedures. Where sides come to something else, there are no results.
-pub fn rounds(sides: &mut Sides, works: &[Work], rounds: usize) -> Result<Results> {
+pub fn rounds(sides: &mut Sides, works: &[Work], keeping: Keeping, rounds: usize) -> Result<Results> {
     let mut results = Results::new();
     for round in 0..rounds {
         eprintln!("peers: round {} of {rounds}", round + 1);
         for &work in works {
             for way in Way::COMMON {
                 let entries = entries(sides, work, way);
-                compare(sides, &entries, round, &mut results)?;
+                compare(sides, &entries, keeping, round, &mut results)?;
             }
         }
     }
@@ -53,13 +54,14 @@ fn entries(sides: &Sides, work: Work, beside: Way) -> Vec<Entry> {
 }
 
 /// All entries make the same calls in turn, each round beginning with another one, and have to come to the same.
-fn compare(sides: &mut Sides, entries: &[Entry], round: usize, results: &mut Results) -> Result<()> {
+fn compare(sides: &mut Sides, entries: &[Entry], keeping: Keeping, round: usize, results: &mut Results) -> Result<()> {
     let mut all = Vec::new();
     for nth in 0..entries.len() {
         let entry = entries[(nth + round) % entries.len()];
-        let counts = entry.work.counts();
+        let counts = keeping.counts(entry.work, entry.way);
         let calls = calls(entry.work, counts.before + counts.timed, round as u64);
-        let measured = measure(sides[entry.side].as_mut(), entry.work, entry.way, &calls);
+        let (before, timed) = calls.split_at(counts.before);
+        let measured = sides[entry.side].measure(entry.work, entry.way, before, timed);
         let measured = measured.map_err(|error| format!("{}: {error}", name(sides, entry)))?;
         let times = results.entry(entry).or_default();
         times.rates.push(counts.timed as f64 / measured.took.as_secs_f64());

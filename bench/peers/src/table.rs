@@ -30,9 +30,18 @@ pub struct Tables<'a> {
     pub made: &'a Made,
     pub names: &'a [&'static str],
     pub works: &'a [Work],
+    /// The ways in which treedb was asked.
+    pub ways: &'static [Way],
     pub results: &'a Results,
     /// What no ratio says.
     pub notes: &'a [String],
+}
+
+/// What the files of all sides stand on.
+pub struct Disk {
+    pub name: String,
+    /// what a write with its sync takes, in microseconds
+    pub sync: f64,
 }
 
 /// The number below which such a share of some numbers lies, or at it.
@@ -104,6 +113,15 @@ impl Tables<'_> {
         sides.map(|side| self.names[side].to_string()).collect::<Vec<_>>().into_iter()
     }
 
+    /// Each side with its settings, and those that weren't there.
+    fn put_sides(&self, out: &mut Formatter<'_>) -> fmt::Result {
+        let Made { sides, skipped, .. } = self.made;
+        for (name, made) in self.names.iter().zip(sides) {
+            writeln!(out, "- **{name}**: {made}.")?;
+        }
+        skipped.iter().try_for_each(|peer| writeln!(out, "- {peer} isn't installed, and was left out."))
+    }
+
     fn ratio_cell(&self, side: usize, work: Work, way: Way) -> String {
         let Some(Spread { low, middle, high }) = self.ratios(side, work, way) else { return String::new() };
         let mark = if 1.0 / middle > 1.0 + LEVEL { "**" } else { "" };
@@ -113,7 +131,7 @@ impl Tables<'_> {
     fn put_ratios(&self, out: &mut Formatter<'_>) -> fmt::Result {
         head(out, ["Work".to_string()].into_iter().chain(self.names(self.others())).collect())?;
         for &work in self.works {
-            for way in Way::ALL {
+            for &way in self.ways {
                 let cells = self.others().map(|side| self.ratio_cell(side, work, way));
                 row(out, [format!("`{}`, {}", work.name(), way.name())].into_iter().chain(cells))?;
             }
@@ -121,14 +139,15 @@ impl Tables<'_> {
         Ok(())
     }
 
-    fn put_rates(&self, out: &mut Formatter<'_>) -> fmt::Result {
+    /// The rates in the middle round, each written in some form.
+    fn put_rates(&self, out: &mut Formatter<'_>, written: fn(f64) -> String) -> fmt::Result {
         head(out, ["Work".to_string()].into_iter().chain(self.names(0..self.names.len())).collect())?;
         let cell = |side, work, way| match self.times(side, work, way) {
-            Some(times) => thousands(middle(&times.rates)),
+            Some(times) => written(middle(&times.rates)),
             None => String::new(),
         };
         for &work in self.works {
-            for way in Way::ALL {
+            for &way in self.ways {
                 let cells = (0..self.names.len()).map(|side| cell(side, work, way));
                 row(out, [format!("`{}`, {}", work.name(), way.name())].into_iter().chain(cells))?;
             }
@@ -154,16 +173,18 @@ impl Tables<'_> {
 
     fn put_verdicts(&self, out: &mut Formatter<'_>) -> fmt::Result {
         let batches = [1, 2, 4].map(|workers| Way::Batch { workers });
-        let columns: [&[Way]; 4] = [&[Way::OneByOne], &[Way::Pipelined], &batches, &[Way::Eight]];
-        head(
-            out,
-            ["Work, beside", "one by one", "pipelined", "best batch, beside pipelined", "eight connections"]
-                .map(String::from)
-                .to_vec(),
-        )?;
+        let columns: [(&str, &[Way]); 4] = [
+            ("one by one", &[Way::OneByOne]),
+            ("pipelined", &[Way::Pipelined]),
+            ("best batch, beside pipelined", &batches),
+            ("eight connections", &[Way::Eight]),
+        ];
+        let columns: Vec<_> = columns.into_iter().filter(|(_, ways)| ways.iter().any(|way| self.ways.contains(way))).collect();
+        let names = columns.iter().map(|(name, _)| name.to_string());
+        head(out, ["Work, beside".to_string()].into_iter().chain(names).collect())?;
         for &work in self.works {
             for side in self.others() {
-                let cells = columns.map(|ways| self.verdict_cell(side, work, ways));
+                let cells: Vec<String> = columns.iter().map(|(_, ways)| self.verdict_cell(side, work, ways)).collect();
                 if cells.iter().any(|cell| !cell.is_empty()) {
                     row(out, [format!("`{}`, {}", work.name(), self.names[side])].into_iter().chain(cells))?;
                 }
@@ -199,12 +220,9 @@ Made by `bench/peers/run` on {date}; `bench/peers/results.md` has the versions, 
 
 impl Display for Tables<'_> {
     fn fmt(&self, out: &mut Formatter<'_>) -> fmt::Result {
-        let Made { date, machine, product, rounds, sides, skipped } = self.made;
+        let Made { date, machine, product, rounds, .. } = self.made;
         writeln!(out, "# Beside other servers\n\nMade by `bench/peers/run` on {date}, on {machine}, in {rounds} rounds. treedb is {product}.\n")?;
-        for (name, made) in self.names.iter().zip(sides) {
-            writeln!(out, "- **{name}**: {made}.")?;
-        }
-        skipped.iter().try_for_each(|peer| writeln!(out, "- {peer} isn't installed, and was left out."))?;
+        self.put_sides(out)?;
         writeln!(out, "\n## Which is faster, and how many times as fast\n")?;
         self.put_verdicts(out)?;
         writeln!(
@@ -216,10 +234,47 @@ the other is faster by more than a tenth the number is bold. Beside a batch the 
         )?;
         self.put_ratios(out)?;
         writeln!(out, "\n## Calls\n\n1,000 calls a second, in the middle round.\n")?;
-        self.put_rates(out)?;
+        self.put_rates(out, thousands)?;
         writeln!(out, "\n## Waiting\n\nHalf of all calls, and 99 of 100, are answered within so many microseconds.\n")?;
         self.put_waits(out)?;
         self.notes.iter().try_for_each(|note| writeln!(out, "\n{note}"))
+    }
+}
+
+/// The tables of calls that are on a disk before they are answered.
+pub struct Durable<'a> {
+    pub tables: &'a Tables<'a>,
+    pub disk: &'a Disk,
+}
+
+impl Display for Durable<'_> {
+    fn fmt(&self, out: &mut Formatter<'_>) -> fmt::Result {
+        let Durable { tables, disk: Disk { name, sync } } = self;
+        let Made { date, machine, product, rounds, .. } = tables.made;
+        writeln!(
+            out,
+            "# Calls that are stored before they are answered, beside others
+
+Made by `bench/peers/run --durable` on {date}, on {machine}, in {rounds} rounds. treedb is {product}.
+
+All files stand on {name}. There a write of 4,096 bytes behind the end of a file took {sync:.0} microseconds with its sync, before the first round.\n"
+        )?;
+        tables.put_sides(out)?;
+        writeln!(out, "\n## Which is faster, and how many times as fast\n")?;
+        tables.put_verdicts(out)?;
+        writeln!(
+            out,
+            "\n## Ratios
+
+treedb's calls a second by the other's: the middle of the rounds' ratios, and their quartiles in brackets. Above 1 treedb is faster; where
+the other is faster by more than a tenth the number is bold. SQLite has neither pipelined requests nor connections.\n"
+        )?;
+        tables.put_ratios(out)?;
+        writeln!(out, "\n## Calls\n\nCalls a second, in the middle round.\n")?;
+        tables.put_rates(out, |rate| format!("{rate:.0}"))?;
+        writeln!(out, "\n## Waiting\n\nHalf of all calls, and 99 of 100, are answered within so many microseconds.\n")?;
+        tables.put_waits(out)?;
+        tables.notes.iter().try_for_each(|note| writeln!(out, "\n{note}"))
     }
 }
 
@@ -277,11 +332,52 @@ mod tests {
             made: &made,
             names: &["treedb", "Redis function"],
             works: &[Work::Add],
+            ways: &Way::ALL,
             results: &results,
             notes: &["A note.".to_string()],
         };
         assert_eq!(tables.ratio_cell(1, Work::Add, Way::Batch { workers: 1 }), "**0.80** (0.80 to 0.80)");
         assert!(Summary(&tables).to_string().contains("| `add`, Redis function |  | Redis, 2.0 times | treedb, 2.0 times |  |"));
         assert!(tables.to_string().contains("PostgreSQL isn't installed"));
+    }
+
+    #[test]
+    fn a_table_of_stored_calls_has_no_batches() {
+        let one_by_one = |rate, nanos| Times { rates: vec![rate], calls: vec![nanos] };
+        let entry = |side, way| Entry { side, work: Work::Add, way };
+        let results = Results::from([
+            (entry(0, Way::OneByOne), one_by_one(300.0, 2_000.0)),
+            (entry(0, Way::Eight), one_by_one(900.4, 5_000.0)),
+            (entry(1, Way::OneByOne), one_by_one(200.0, 3_000.0)),
+        ]);
+        let made = Made {
+            date: "d".into(),
+            machine: "m".into(),
+            product: "p".into(),
+            rounds: 1,
+            sides: vec!["one".into(), "`PRAGMA synchronous=FULL`".into()],
+            skipped: vec!["Redis".into()],
+        };
+        let tables = Tables {
+            made: &made,
+            names: &["treedb", "SQLite"],
+            works: &[Work::Add],
+            ways: &Way::COMMON,
+            results: &results,
+            notes: &[],
+        };
+        let told = Durable { tables: &tables, disk: &Disk { name: "a disk".into(), sync: 812.4 } }.to_string();
+        let wanted = [
+            "All files stand on a disk. There a write of 4,096 bytes behind the end of a file took 812 microseconds",
+            "- **SQLite**: `PRAGMA synchronous=FULL`.\n- Redis isn't installed",
+            "| Work, beside | one by one | pipelined | eight connections |",
+            "| `add`, SQLite | treedb, 1.5 times |  |  |",
+            "| `add`, eight connections | 900 |  |",
+            "| `add`, one by one | 2, 2 | 3, 3 |",
+        ];
+        for part in wanted {
+            assert!(told.contains(part), "{part}\n{told}");
+        }
+        assert!(!told.contains("batch"));
     }
 }

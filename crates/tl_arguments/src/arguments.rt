@@ -241,11 +241,30 @@ fn run_command<'a>(alloc: Global) -> Result<Command<'a>, AllocError> {
     )
 }
 
-// The tree of a server, and where it listens.
-fn address_rows() -> [Row; 5] {
+// What a server begins with.
+fn store_rows() -> [Row; 4] {
     [
-        tree(),
+        Row::option(
+            "tree",
+            "T",
+            "The file of the tree, as JSON; with --store, only where the store is made",
+        )
+        .required_unless([Some("store"), None, None]),
+        Row::option(
+            "store",
+            "FILE",
+            "The file that the tree, the procedures and the calls are stored in: what was answered is found again after a crash",
+        ),
+        procedures(
+            "Procedures to register first: all of a `.tdb` file, or NAME of it, or NAME=assembler file; of a server that seals itself",
+        ),
         nodes(),
+    ]
+}
+
+// Where a server listens.
+fn address_rows() -> [Row; 3] {
+    [
         port("The port of this machine, 1 to 65535"),
         socket("The file of a Unix socket in the place of the port"),
         Row::option(
@@ -279,7 +298,7 @@ fn connection_rows() -> [Row; 5] {
             "A second port of this machine, on which `treedb stop` asks the server to end",
         )
         .as_a(Reading::Positive)
-        .required_unless([Some("connections"), Some("control-socket"), None])
+        .required_unless([Some("connections"), Some("control-socket"), Some("store")])
         .excluding("control-socket"),
         Row::option(
             "control-socket",
@@ -323,7 +342,8 @@ fn epoch_rows() -> [Row; 5] {
 fn serve_command<'a>(alloc: Global) -> Result<Command<'a>, AllocError> {
     let about =
         "Serves connections on a local port or a Unix socket, a request a line, and prints the tree in the end";
-    let command = command_of(alloc, "serve", about, SERVE_HELP, &address_rows())?;
+    let command = command_of(alloc, "serve", about, SERVE_HELP, &store_rows())?;
+    let command = with_rows(alloc, command, &address_rows())?;
     let command = with_rows(alloc, command, &connection_rows())?;
     with_rows(alloc, command, &epoch_rows())
 }

@@ -40,8 +40,11 @@ pub enum CallCommand<'a> {
         workers: usize,
         script: ScriptFiles<'a>,
     },
-    /// Serve connections on a local port or a socket.
-    Serve(ServeOptions<'a>),
+    /// Serve connections on a local port or a socket, with these procedures from the start.
+    Serve {
+        options: ServeOptions<'a>,
+        procedures: Vec<&'a str>,
+    },
 }
 
 /// How a server is run.
@@ -138,6 +141,14 @@ pub enum Request<'a> {
         command: CallCommand<'a>,
         outputs: Outputs<'a>,
     },
+    /// Serve connections on what a store's file holds, or on this tree where the file isn't there, with these procedures.
+    Store {
+        store: &'a str,
+        tree: Option<&'a str>,
+        options: ServeOptions<'a>,
+        procedures: Vec<&'a str>,
+        save: Option<&'a str>,
+    },
     Files(FileCommand<'a>),
     /// Say whether the calls of trails may have done what these say. Each file or folder goes on where the one before it ends.
     Audit {
@@ -176,9 +187,9 @@ fn who_seals<'a>(words: &ArgMatches<'a>) -> Result<Sealing<'a>, &'static str> {
         None => connections.is_some(),
     };
     match connections {
-        Some(_) if is_by_hand && has_lasting_options(words) => {
-            Err("--generation and --trails are for a server that seals itself: --seal itself")
-        }
+        Some(_) if is_by_hand && has_lasting_options(words) => Err(
+            "--generation, --trails, --store and --proc are for a server that seals itself: --seal itself",
+        ),
         Some(connections) if is_by_hand => Ok(Sealing::ByHand { connections }),
         connections => Ok(Sealing::Itself(LastingOptions {
             connections,
@@ -189,7 +200,10 @@ fn who_seals<'a>(words: &ArgMatches<'a>) -> Result<Sealing<'a>, &'static str> {
 }
 
 fn has_lasting_options(words: &ArgMatches<'_>) -> bool {
-    words.contains_id("generation") || words.contains_id("trails")
+    words.contains_id("generation")
+        || words.contains_id("trails")
+        || words.contains_id("store")
+        || words.contains_id("proc")
 }
 
 // A port or a socket's file, whichever is named.
@@ -259,16 +273,34 @@ fn call_command<'a>(alloc: Global, name: &str, words: &ArgMatches<'a>) -> Option
             workers: words.get_one("workers")?,
             script: script_of(alloc, words)?,
         }),
-        "serve" => Some(CallCommand::Serve(ServeOptions {
-            address: address_of(words, "port", "socket")?,
-            at_once: words.get_one("at-once").unwrap_or(AT_ONCE),
-            control: address_of(words, "control", "control-socket"),
-            mode: mode_of(words).ok()?,
-            idle: words.get_one("idle"),
-            sealing: who_seals(words).ok()?,
-        })),
+        "serve" => Some(CallCommand::Serve {
+            options: serve_options(words)?,
+            procedures: all_of(alloc, words, "proc")?,
+        }),
         _ => None,
     }
+}
+
+fn serve_options<'a>(words: &ArgMatches<'a>) -> Option<ServeOptions<'a>> {
+    Some(ServeOptions {
+        address: address_of(words, "port", "socket")?,
+        at_once: words.get_one("at-once").unwrap_or(AT_ONCE),
+        control: address_of(words, "control", "control-socket"),
+        mode: mode_of(words).ok()?,
+        idle: words.get_one("idle"),
+        sealing: who_seals(words).ok()?,
+    })
+}
+
+// What a server with a store is asked for.
+fn store_request<'a>(alloc: Global, words: &ArgMatches<'a>) -> Option<Request<'a>> {
+    Some(Request::Store {
+        store: words.get_str("store")?,
+        tree: words.get_str("tree"),
+        options: serve_options(words)?,
+        procedures: all_of(alloc, words, "proc")?,
+        save: words.get_str("save"),
+    })
 }
 
 fn file_command<'a>(name: &str, words: &ArgMatches<'a>) -> Option<FileCommand<'a>> {
@@ -332,6 +364,11 @@ fn asked_of<'a>(alloc: Global, matches: &ArgMatches<'a>) -> Option<Asked<'a>> {
         if let Err(reason) = mode_of(words) {
             return Some(Asked::Mistaken(reason));
         }
+        if words.contains_id("store") && words.contains_id("trail") {
+            return Some(Asked::Mistaken(
+                "--trail is for one generation, and a store has many: --trails FOLDER",
+            ));
+        }
     }
     Some(Asked::Request {
         request: request_of(alloc, name, words)?,
@@ -356,6 +393,9 @@ fn request_of<'a>(alloc: Global, name: &str, words: &ArgMatches<'a>) -> Option<R
             trails: all_of(alloc, words, "TRAIL")?,
             explains: words.get_flag("explain"),
         });
+    }
+    if name == "serve" && words.contains_id("store") {
+        return store_request(alloc, words);
     }
     if let Some(command) = file_command(name, words) {
         return Some(Request::Files(command));

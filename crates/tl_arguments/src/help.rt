@@ -91,6 +91,8 @@ treedb stop --port 7879 ends it: each line that was read is answered, the connec
 {\"generations\":n} and the tree as JSON. An epoch that is full, after 4,096 calls, is sealed, and the next goes on with the tree as
 it is. After G epochs a new generation begins. With --trails FOLDER a file there has what the calls of a generation did, 0.json,
 1.json and so on, which is written while lines are answered; treedb audit FOLDER checks them.
+With --store FILE all is stored before it is answered: the first start makes FILE of the tree, and later ones, without --tree, go on
+with what it has, also after a crash.
 With --connections C it ends by itself after so many connections, and clients seal full epochs: after 4,096 calls each call
 is refused until one does. Then this prints {\"order\":[..]}, the order in which the calls would do the same alone, or
 {\"orders\":[..]}, the order in each epoch, and the tree. With --trail what the calls did and the records in the end are

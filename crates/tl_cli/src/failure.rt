@@ -3,15 +3,18 @@
 use std::alloc::{AllocError, AllocFailed};
 use std::{fmt, io};
 use tl_commands::CliFault;
+use tl_file_journal::StoreRefusal;
 use tl_language_commands::LanguageFault;
 use tl_server::Address;
+use tl_store::StoreFault;
 
-/// The fault of a command, or of a command on a text of the procedure language; a file that can't be read or written, with the
-/// system's reason; a port or a socket that can't be opened; or a server that isn't there.
+/// The fault of a command, or of a command on a text of the procedure language; a store that can't be used; a file that can't be read or
+/// written, with the system's reason; a port or a socket that can't be opened; or a server that isn't there.
 #[derive(Drop)]
 pub enum Failure<'a> {
     Refused(CliFault),
     RefusedText(LanguageFault),
+    Unstored(StoreRefusal),
     Unreadable {
         path: &'a str,
         reason: io::Error,
@@ -34,6 +37,7 @@ pub enum Failure<'a> {
 pub enum Fault {
     Command(CliFault),
     Text(LanguageFault),
+    Store(StoreRefusal),
 }
 
 impl Failure<'_> {
@@ -42,6 +46,7 @@ impl Failure<'_> {
         match self {
             Failure::Refused(fault) => Fault::Command(*fault),
             Failure::RefusedText(fault) => Fault::Text(*fault),
+            Failure::Unstored(refusal) => Fault::Store(*refusal),
             Failure::Unreadable { .. } => Fault::Command(CliFault::Unreadable),
             Failure::Unwritable { .. } => Fault::Command(CliFault::Unwritable),
             Failure::NotOpened { .. } | Failure::NoServer { .. } => {
@@ -55,7 +60,20 @@ impl Failure<'_> {
         match self.fault() {
             Fault::Command(fault) => fault.status(),
             Fault::Text(fault) => fault.status(),
+            Fault::Store(refusal) => refusal.status(),
         }
+    }
+}
+
+impl From<StoreRefusal> for Failure<'_> {
+    fn from(refusal: StoreRefusal) -> Self {
+        Failure::Unstored(refusal)
+    }
+}
+
+impl From<StoreFault> for Failure<'_> {
+    fn from(fault: StoreFault) -> Self {
+        Failure::Unstored(StoreRefusal::Store(fault))
     }
 }
 
@@ -82,6 +100,7 @@ impl fmt::Display for Failure<'_> {
         match self {
             Failure::Refused(fault) => write!(f, "{fault}"),
             Failure::RefusedText(fault) => write!(f, "{fault}"),
+            Failure::Unstored(refusal) => write!(f, "{refusal}"),
             Failure::Unreadable { path, reason } => write!(f, "{path} can't be read: {reason}"),
             Failure::Unwritable { path, reason } => write!(f, "{path} can't be written: {reason}"),
             Failure::NotOpened { address } => match address {

@@ -25,12 +25,14 @@ pub use tl_commands::{
     CliFault, Generation, alone_cmd, asm_cmd, audit_cmd, audit_next_cmd, check_cmd,
     close_generation, conclude_engine, conclude_engine_with_trail, dis_cmd, drive_cmd,
     drive_with_trail_cmd, explain_audit_fault, keep_generation, migrate_cmd, next_engine,
-    open_engine, open_generations, run_cmd, run_with_trail_cmd, take_generation, verify_cmd,
-    widen_cmd,
+    open_engine, open_generations, run_cmd, run_with_trail_cmd, take_generation, tree_of_file,
+    verify_cmd, widen_cmd,
 };
+use tl_file_journal::{End, StoreRefusal, Stored, open_stored};
 use tl_generations::Succession;
 pub use tl_language_commands::{LanguageFault, check_procs_cmd, compile_cmd, procs_cmd};
-use tl_server::Keeper;
+use tl_server::{Journal, Keeper};
+use tl_tree::Tree;
 
 /// The exit status if memory is refused before a command is known. Nothing is printed then.
 const NO_MEMORY: u8 = 4;
@@ -64,7 +66,7 @@ fn tell<R: Print + Eprint>(rt: &R, error: &Error) -> u8 {
 }
 
 // Does what the words of the command line ask for, and returns the exit status.
-fn answer<R, K, F>(rt: &R, words: &[String], is_terminal: bool, archive: F) -> u8
+fn answer<R, K, F, J, O>(rt: &R, words: &[String], is_terminal: bool, archive: F, opens: O) -> u8
 where
     R: Files
         + Print
@@ -79,11 +81,14 @@ where
         + Sync,
     K: Keeper + Finish + Send + Drop,
     F: FnOnce(Trails, Succession, u16) -> K + Drop,
-    requires { F.IsAlwaysCallable archive }
+    J: Journal + End + Sync + Drop,
+    O: FnOnce(&str, Option<Tree>) -> Result<Stored<J>, StoreRefusal> + Drop,
+    requires archive { F.IsAlwaysCallable archive }
+    requires opens { O.IsAlwaysCallable opens }
 {
     match tl_arguments::parse(rt.alloc(), words) {
         Ok(Asked::Request { request, nodes }) => {
-            Program::new(rt, is_terminal, nodes).execute(&request, archive)
+            Program::new(rt, is_terminal, nodes).execute(&request, archive, opens)
         }
         Ok(Asked::Explanation { number }) => explain::explain(rt, number),
         Ok(Asked::Told(error)) => tell(rt, &error),
@@ -104,6 +109,7 @@ fn main(rt: HostRuntime) -> ExitCode {
             &words,
             rt.stderr().is_terminal(),
             |trails, succession, nodes| Archive::new(rt, trails, succession, nodes),
+            |path, tree| open_stored(&rt, path, tree),
         ),
         Err(status) => status,
     };

@@ -3,6 +3,7 @@
 
 mod auditing;
 mod serving;
+mod storing;
 
 use crate::archive::{Finish, Trails};
 use crate::failure::Failure;
@@ -19,10 +20,13 @@ use std::rt::Files;
 use std::sync::Wait;
 use std::thread::Threads;
 use std::time::Clock;
+use storing::StoreFiles;
 use tl_arguments::{CallCommand, FileCommand, Outputs, Request, ScriptFiles};
 use tl_compiler::CompileFault;
+use tl_file_journal::{End, StoreRefusal, Stored};
 use tl_generations::Succession;
-use tl_server::Keeper;
+use tl_server::{Journal, Keeper};
+use tl_tree::Tree;
 use tl_workers::{MAX_WORKERS, NoGate};
 
 // A file that was read: its path, and its bytes.
@@ -358,7 +362,10 @@ where
             CallCommand::Alone { procedure, args } => self.alone(tree, procedure, args)?,
             CallCommand::Drive { script } => self.drive(tree, script, trail)?,
             CallCommand::Run { workers, script } => self.run(tree, *workers, script, trail)?,
-            CallCommand::Serve(options) => self.serve(tree, *options, outputs, archive)?,
+            CallCommand::Serve {
+                options,
+                procedures,
+            } => self.serve(tree, *options, procedures, outputs, archive)?,
         };
         if let Some(path) = outputs.tree {
             self.save(path, &lines)?;
@@ -389,11 +396,19 @@ where
     }
 
     // What the program prints for a request.
-    fn answer<'p, K, F>(&self, request: &Request<'p>, archive: F) -> Result<String, Failure<'p>>
+    fn answer<'p, K, F, J, O>(
+        &self,
+        request: &Request<'p>,
+        archive: F,
+        opens: O,
+    ) -> Result<String, Failure<'p>>
     where
         K: Keeper + Finish + Send + Drop,
         F: FnOnce(Trails, Succession, u16) -> K + Drop,
-        requires { F.IsAlwaysCallable archive }
+        J: Journal + End + Sync + Drop,
+        O: FnOnce(&str, Option<Tree>) -> Result<Stored<J>, StoreRefusal> + Drop,
+        requires archive { F.IsAlwaysCallable archive }
+        requires opens { O.IsAlwaysCallable opens }
     {
         match request {
             Request::Calls {
@@ -401,6 +416,24 @@ where
                 command,
                 outputs,
             } => self.answer_calls(tree, command, *outputs, archive),
+            Request::Store {
+                store,
+                tree,
+                options,
+                procedures,
+                save,
+            } => {
+                let files = StoreFiles {
+                    store,
+                    tree: *tree,
+                    save: *save,
+                };
+                let lines = self.serve_store(files, *options, procedures, archive, opens)?;
+                if let Some(path) = save {
+                    self.save(path, &lines)?;
+                }
+                Ok(lines)
+            }
             Request::Files(command) => self.answer_files(*command),
             Request::Audit { trails, explains } => self.audit(trails, *explains),
             Request::Stop { control } => self.stop(*control),
@@ -409,14 +442,18 @@ where
     }
 
     /// Does what a request asks for, prints the result, and returns the exit status. `archive` makes what closes the engines of a server
-    /// that lasts, of which a generic program couldn't say that it may be sent to a thread.
-    pub fn execute<'p, K, F>(&self, request: &Request<'p>, archive: F) -> u8
+    /// that lasts, of which a generic program couldn't say that it may be sent to a thread. `opens` opens a store, of whose journal
+    /// the program knows no more than that it is one.
+    pub fn execute<'p, K, F, J, O>(&self, request: &Request<'p>, archive: F, opens: O) -> u8
     where
         K: Keeper + Finish + Send + Drop,
         F: FnOnce(Trails, Succession, u16) -> K + Drop,
-        requires { F.IsAlwaysCallable archive }
+        J: Journal + End + Sync + Drop,
+        O: FnOnce(&str, Option<Tree>) -> Result<Stored<J>, StoreRefusal> + Drop,
+        requires archive { F.IsAlwaysCallable archive }
+        requires opens { O.IsAlwaysCallable opens }
     {
-        match self.answer(request, archive) {
+        match self.answer(request, archive, opens) {
             Ok(text) => output::status_after(self.rt, self.rt.print(text.as_str()), 0),
             Err(failure) => {
                 let printed = output::print_failure(self.rt, &failure);

@@ -1,11 +1,13 @@
-//! The servers that are compared.
+//! What is compared.
 
 pub mod postgresql;
 pub mod redis;
+pub mod sqlite;
 pub mod treedb;
 
 use crate::calls::{Call, Record, Work};
 use crate::connection::{Connection, Found};
+use crate::measuring::Measured;
 use crate::ways::Way;
 use crate::Result;
 
@@ -30,8 +32,8 @@ impl Answers {
 /// All sides, treedb first.
 pub type Sides = Vec<Box<dyn Side>>;
 
-/// A kind of server, as it is asked.
-pub trait Side: Sync {
+/// What makes the calls, as it is measured.
+pub trait Side {
     /// Its name in a table.
     fn name(&self) -> &'static str;
 
@@ -46,6 +48,17 @@ pub trait Side: Sync {
         &Way::COMMON
     }
 
+    /// Makes all calls from the tree as at the start, and times those that don't come before.
+    fn measure(&mut self, work: Work, way: Way, before: &[Call], timed: &[Call]) -> Result<Measured>;
+
+    /// What no ratio says.
+    fn note(&self) -> Option<String> {
+        None
+    }
+}
+
+/// A kind of server, as it is asked.
+pub trait Server: Sync {
     /// The tree stands as at the start, and there are connections on which calls of this procedure can be asked for.
     fn begin(&mut self, work: Work, connections: usize) -> Result<Vec<Connection>>;
 
@@ -57,9 +70,4 @@ pub trait Side: Sync {
 
     /// Ends the connections, and returns the records that are left.
     fn end(&mut self, connections: Vec<Connection>) -> Result<Vec<Record>>;
-
-    /// What no ratio says.
-    fn note(&self) -> Option<String> {
-        None
-    }
 }

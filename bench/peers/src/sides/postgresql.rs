@@ -1,13 +1,21 @@
 //! PostgreSQL: functions in PL/pgSQL, by prepared statements.
 
-use super::{Answers, Side};
+use super::{Answers, Server, Side};
 use crate::calls::{parent, place, record, Call, Record, Work, NODES};
 use crate::connection::{Connection, Found};
+use crate::keeping::Keeping;
+use crate::measuring::{measure, Measured};
 use crate::messages::{self, Rows};
 use crate::ways::Way;
 use crate::Result;
 
 const FUNCTIONS: &str = include_str!("../../procedures/postgresql.sql");
+
+/// Has all changes of the table written to the log.
+const LOGGED: &str = "alter table peers.nodes set logged";
+
+/// What the server says of its settings, and what it has to say where calls are kept on a disk.
+const SETTINGS: [(&str, &str); 3] = [("fsync", "on"), ("synchronous_commit", "on"), ("full_page_writes", "on")];
 
 /// How the script starts the server.
 const USER: &str = "peers";
@@ -15,13 +23,14 @@ const DATABASE: &str = "postgres";
 
 pub struct PostgreSql {
     port: u16,
+    keeping: Keeping,
     is_ready: bool,
 }
 
 impl PostgreSql {
-    /// A server that runs on this port.
-    pub fn new(port: u16) -> PostgreSql {
-        PostgreSql { port, is_ready: false }
+    /// A server that runs on this port, and was started so that it keeps calls there.
+    pub fn new(port: u16, keeping: Keeping) -> PostgreSql {
+        PostgreSql { port, keeping, is_ready: false }
     }
 
     fn open(&self) -> Result<Connection> {
@@ -38,6 +47,27 @@ fn done(connection: &mut Connection, statements: &str) -> Result<Rows> {
     let mut request = Vec::new();
     messages::put_query(statements, &mut request);
     connection.ask(&request, messages::rows)
+}
+
+/// The first column of the first row that a statement answers.
+fn said(connection: &mut Connection, statement: &str) -> Result<String> {
+    let Rows(rows) = done(connection, statement)?;
+    Ok(rows.into_iter().flatten().next().unwrap_or_default())
+}
+
+/// The settings, which have to be those by which calls are kept on a disk.
+fn settings(connection: &mut Connection) -> Result<String> {
+    let mut told = Vec::new();
+    for (name, wanted) in SETTINGS {
+        let value = said(connection, &format!("show {name}"))?;
+        if value != wanted {
+            return Err(format!("PostgreSQL has {name}={value}").into());
+        }
+        told.push(format!("`{name}={value}`"));
+    }
+    let method = said(connection, "show wal_sync_method")?;
+    told.push(format!("`wal_sync_method={method}`"));
+    Ok(told.join(", "))
 }
 
 /// Statements that make the tree as at the start.
@@ -68,15 +98,28 @@ impl Side for PostgreSql {
     }
 
     fn made(&mut self) -> Result<String> {
-        let Rows(rows) = done(&mut self.open()?, "show server_version")?;
-        let version = rows.into_iter().flatten().next().unwrap_or_default();
-        Ok(format!("PostgreSQL {version}; an unlogged table, `synchronous_commit=off`, no autovacuum; PL/pgSQL functions by prepared statements"))
+        let mut connection = self.open()?;
+        let version = said(&mut connection, "show server_version")?;
+        let kept = match self.keeping {
+            Keeping::Memory => "an unlogged table, `synchronous_commit=off`".to_string(),
+            Keeping::Disk => format!("a logged table, {}", settings(&mut connection)?),
+        };
+        Ok(format!("PostgreSQL {version}; {kept}, no autovacuum; PL/pgSQL functions by prepared statements"))
     }
 
+    fn measure(&mut self, work: Work, way: Way, before: &[Call], timed: &[Call]) -> Result<Measured> {
+        measure(self, work, way, before, timed)
+    }
+}
+
+impl Server for PostgreSql {
     fn begin(&mut self, work: Work, connections: usize) -> Result<Vec<Connection>> {
         let mut all = (0..connections).map(|_| self.open()).collect::<Result<Vec<_>>>()?;
         if !self.is_ready {
             done(&mut all[0], FUNCTIONS)?;
+            if self.keeping == Keeping::Disk {
+                done(&mut all[0], LOGGED)?;
+            }
             self.is_ready = true;
         }
         done(&mut all[0], &tree())?;

@@ -1,13 +1,18 @@
 //! Redis: functions in Lua, and the plain command for `add`.
 
-use super::{Answers, Side};
+use super::{Answers, Server, Side};
 use crate::calls::{children, record, Call, Record, Work, NODES};
 use crate::connection::{Connection, Found};
+use crate::keeping::Keeping;
+use crate::measuring::{measure, Measured};
 use crate::resp::{self, Value};
 use crate::ways::Way;
 use crate::Result;
 
 const FUNCTIONS: &str = include_str!("../../procedures/redis.lua");
+
+/// What the server says of its settings where calls are kept on a disk.
+const SETTINGS: [(&str, &str); 3] = [("save", ""), ("appendonly", "yes"), ("appendfsync", "always")];
 
 /// Whether `add` is a function or the command that does the same.
 #[derive(Clone, Copy, PartialEq)]
@@ -19,12 +24,13 @@ pub enum Form {
 pub struct Redis {
     port: u16,
     form: Form,
+    keeping: Keeping,
 }
 
 impl Redis {
-    /// A server that runs on this port.
-    pub fn new(port: u16, form: Form) -> Redis {
-        Redis { port, form }
+    /// A server that runs on this port, and was started so that it keeps calls there.
+    pub fn new(port: u16, form: Form, keeping: Keeping) -> Redis {
+        Redis { port, form, keeping }
     }
 }
 
@@ -39,6 +45,17 @@ fn done(connection: &mut Connection, words: &[&str]) -> Result<Value> {
     let mut request = Vec::new();
     put(words, &mut request);
     connection.ask(&request, resp::value)
+}
+
+/// The settings have to be those by which calls are kept on a disk.
+fn check_settings(connection: &mut Connection) -> Result<()> {
+    for (name, wanted) in SETTINGS {
+        let said = done(connection, &["CONFIG", "GET", name])?;
+        if said != Value::List(vec![Value::Text(name.to_string()), Value::Text(wanted.to_string())]) {
+            return Err(format!("Redis has the setting {said:?}").into());
+        }
+    }
+    Ok(())
 }
 
 /// The command that makes a node.
@@ -72,17 +89,31 @@ impl Side for Redis {
         if self.form == Form::Command {
             return Ok("the same server, and the plain command".to_string());
         }
-        let Value::Text(said) = done(&mut Connection::open(self.port)?, &["INFO", "server"])? else {
+        let mut connection = Connection::open(self.port)?;
+        let Value::Text(said) = done(&mut connection, &["INFO", "server"])? else {
             return Err("Redis doesn't say its version".into());
         };
+        let kept = match self.keeping {
+            Keeping::Memory => "nothing is saved (`--save \"\" --appendonly no`)",
+            Keeping::Disk => {
+                check_settings(&mut connection)?;
+                "each write is in its log before it is answered (`--save \"\" --appendonly yes --appendfsync always`)"
+            }
+        };
         let version = said.lines().find_map(|line| line.strip_prefix("redis_version:")).unwrap_or("of an unknown version");
-        Ok(format!("Redis {version}; nothing is saved (`--save \"\" --appendonly no`); Lua functions by `FCALL`"))
+        Ok(format!("Redis {version}; {kept}; Lua functions by `FCALL`"))
     }
 
     fn serves(&self, work: Work) -> bool {
         self.form == Form::Function || work == Work::Add
     }
 
+    fn measure(&mut self, work: Work, way: Way, before: &[Call], timed: &[Call]) -> Result<Measured> {
+        measure(self, work, way, before, timed)
+    }
+}
+
+impl Server for Redis {
     fn begin(&mut self, _work: Work, connections: usize) -> Result<Vec<Connection>> {
         let mut all = (0..connections).map(|_| Connection::open(self.port)).collect::<Result<Vec<_>>>()?;
         done(&mut all[0], &["FLUSHALL"])?;

@@ -3,6 +3,7 @@
 use crate::archive::{Finish, Trails};
 use crate::failure::Failure;
 use crate::program::{Program, printed};
+use crate::script::NamedText;
 use crate::trail_file::TrailFile;
 use crate::{CliFault, conclude_engine, conclude_engine_with_trail, open_engine, open_generations};
 use std::net::{Net, TcpListener, TcpStream};
@@ -11,10 +12,13 @@ use std::sync::Wait;
 use std::thread::Threads;
 use std::time::{Clock, Duration};
 use tl_arguments::{LastingOptions, Outputs, Sealing, ServeOptions};
+use tl_file_journal::{End, Opening};
 use tl_generations::Succession;
+use tl_json::{RegisterFault, procedure_of_text};
+use tl_procedures::Procedures;
 use tl_server::{
-    Address, Control, Keeper, LastingServer, ListenFault, NoJournal, Relay, Server, ask_status,
-    ask_to_stop,
+    Address, Control, Journal, Keeper, LastingServer, ListenFault, NoJournal, Relay, Server,
+    ask_status, ask_to_stop,
 };
 use tl_workers::{Engine, Session};
 
@@ -122,6 +126,7 @@ where
         &self,
         tree: &'p str,
         options: ServeOptions<'p>,
+        procedures: &[&'p str],
         outputs: Outputs<'p>,
         archive: F,
     ) -> Result<String, Failure<'p>>
@@ -136,7 +141,7 @@ where
                 self.serve_sealed_by_hand(&file, options, connections, outputs.trail)
             }
             Sealing::Itself(lasting) => {
-                self.serve_lasting(&file, options, lasting, outputs, archive)
+                self.serve_lasting(&file, options, lasting, procedures, outputs, archive)
             }
         }
     }
@@ -166,6 +171,7 @@ where
         tree: &[u8],
         options: ServeOptions<'p>,
         lasting: LastingOptions<'p>,
+        procedures: &[&'p str],
         outputs: Outputs<'p>,
         archive: F,
     ) -> Result<String, Failure<'p>>
@@ -177,35 +183,121 @@ where
         let alloc = self.rt.alloc();
         let trails = self.trails_of(lasting, outputs.trail)?;
         let (engine, succession) = open_generations(alloc, tree, self.nodes)?;
+        let opening = Opening {
+            engine,
+            journal: NoJournal,
+            succession,
+            known: Procedures::new(alloc),
+        };
+        self.serve_opened(
+            opening, trails, options, lasting, procedures, outputs, archive,
+        )
+    }
+
+    /// What a server that lasts prints, once all connections have ended, or once it was asked to stop.
+    pub(crate) fn serve_opened<'p, K, F, J>(
+        &self,
+        opening: Opening<J>,
+        trails: Trails,
+        options: ServeOptions<'p>,
+        lasting: LastingOptions<'p>,
+        procedures: &[&'p str],
+        outputs: Outputs<'p>,
+        archive: F,
+    ) -> Result<String, Failure<'p>>
+    where
+        K: Keeper + Finish + Send + Drop,
+        F: FnOnce(Trails, Succession, u16) -> K + Drop,
+        J: Journal + End + Sync + Drop,
+        requires { F.IsAlwaysCallable archive }
+    {
+        self.register_named(&opening.engine, &opening.known, procedures)?;
         // One file has one generation.
         let one = matches!(trails, Trails::File(_));
+        let Opening {
+            engine,
+            journal,
+            succession,
+            known: _,
+        } = opening;
+        let archive = archive(trails, succession, self.nodes);
         let epochs = if one {
             u32::MAX
         } else {
             u32::from(lasting.generation)
         };
-        let relay = Relay::new(
-            alloc,
-            engine,
-            archive(trails, succession, self.nodes),
-            NoJournal,
-            epochs,
-        );
+        let relay = Relay::new(self.rt.alloc(), engine, archive, journal, epochs);
         let relay = if one {
             relay.that_does_not_grow()
         } else {
             relay
         };
-        self.serve_connections(&relay, options, lasting.connections)?;
-        let (left, mut archive, _) = relay.into_parts(self.rt, alloc);
+        self.serve_relay(relay, options, lasting.connections, outputs)
+    }
+
+    // Serves the connections of a relay, closes its engine and its journal, and says what it came to.
+    fn serve_relay<'p, K, J>(
+        &self,
+        relay: Relay<K, J>,
+        options: ServeOptions<'p>,
+        connections: Option<u16>,
+        outputs: Outputs<'p>,
+    ) -> Result<String, Failure<'p>>
+    where
+        K: Keeper + Finish + Send + Drop,
+        J: Journal + End + Sync + Drop,
+    {
+        self.serve_connections(&relay, options, connections)?;
+        let (left, mut archive, journal) = relay.into_parts(self.rt, self.rt.alloc());
+        let ended = journal.end(self.rt, self.rt.alloc());
         if let Some((engine, sessions)) = left {
             archive.close(engine, sessions);
+        }
+        if let Err(fault) = ended {
+            return Err(Failure::from(fault));
         }
         self.conclude(&mut archive, outputs)
     }
 
+    // Registers the procedures that the command line names. One that is known already, under this name and with this code, is passed over.
+    fn register_named<'p>(
+        &self,
+        engine: &Engine,
+        known: &Procedures,
+        procedures: &[&'p str],
+    ) -> Result<(), Failure<'p>> {
+        for named in procedures {
+            for text in self.named_texts(named)? {
+                if let Err(fault) = self.register_text(engine, known, &text) {
+                    let NamedText { name, text } = text;
+                    let _shown = eprintln!(self.rt; "treedb: the procedure {name}");
+                    return Err(self.misread(&name, text.as_bytes(), CliFault::Register(fault)));
+                }
+            }
+        }
+        Ok(())
+    }
+
+    // Registers a procedure, unless it is known.
+    fn register_text(
+        &self,
+        engine: &Engine,
+        known: &Procedures,
+        named: &NamedText,
+    ) -> Result<(), RegisterFault> {
+        let alloc = self.rt.alloc();
+        let procedure = procedure_of_text(alloc, &named.text)?;
+        if let Some(number) = known.number_of(&named.name) {
+            if known.get(number).is(&procedure) {
+                return Ok(());
+            }
+        }
+        engine.register(self.rt, alloc, &named.name, procedure)?;
+        Ok(())
+    }
+
     // Where the trails go. 32 if the folder isn't there, or has files of other generations.
-    fn trails_of<'p>(
+    pub(crate) fn trails_of<'p>(
         &self,
         lasting: LastingOptions<'p>,
         trail: Option<&'p str>,
@@ -228,9 +320,9 @@ where
     }
 
     // Serves connections until there were as many as were asked for, or until the server is asked to stop.
-    fn serve_connections<'p, K: Keeper + Send>(
+    fn serve_connections<'p, K: Keeper + Send, J: Journal + Sync>(
         &self,
-        relay: &Relay<K, NoJournal>,
+        relay: &Relay<K, J>,
         options: ServeOptions<'p>,
         connections: Option<u16>,
     ) -> Result<(), Failure<'p>> {
@@ -246,9 +338,9 @@ where
     }
 
     // The same, where the server can be asked to stop at that control.
-    fn serve_until_stopped<'p, K: Keeper + Send>(
+    fn serve_until_stopped<'p, K: Keeper + Send, J: Journal + Sync>(
         &self,
-        relay: &Relay<K, NoJournal>,
+        relay: &Relay<K, J>,
         options: ServeOptions<'p>,
         connections: Option<u16>,
         control: &Control<'_>,

@@ -1,0 +1,30 @@
+-- A journal on a store in a file may be shared between threads. Its types are deeper than a `search` goes, so a proof of a caller names this.
+use denote.RattleType.{RattleType}
+use denote.Param.Send.{IsSync, IsSend, sendable}
+use denote.Param.SendFields.{declared_sync}
+use Rattle.sqlite_disk.specs.contracts.modelled.Modelled as Files
+use Rattle.sqlite_disk.specs.contracts.modelled.ModelledDisk.TheImpl as disk
+use Rattle.sqlite_disk.specs.contracts.start.Unknown as Unknown
+use Rattle.sqlite_disk.specs.contracts.start.UnknownStart.TheImpl as start
+use Rattle.sqlite_std_file.specs.contracts.host.Host as Host
+use Rattle.sqlite_std_file.specs.contracts.host.HostCalls.TheImpl as calls
+use Rattle.sqlite_store.proofs.store.FileStore.TheSendSync as stores
+use Rattle.sqlite_store.specs.contracts.store.FileStore as FileStore
+use Rattle.tl_file_journal.specs.contracts.journal.FileJournal.{the_type, the_row}
+use Rattle.tl_journal.proofs.journal.LedgerJournal.TheSendSync as ledgers
+
+-- a file that held anything, and the store in it
+abbrev file : RattleType
+file = Files.the_row Host.the_row Unknown.the_row calls.ghosts start.ghosts
+
+abbrev store : RattleType
+store = FileStore.the_row file (disk.ghosts Host.the_row Unknown.the_row calls.ghosts disk.no_dict start.ghosts disk.no_dict disk.no_dict)
+
+file_send : IsSend file
+file_send = search sendable depth 30
+
+store_send : IsSend store
+store_send = stores.the_send file (disk.ghosts Host.the_row Unknown.the_row calls.ghosts disk.no_dict start.ghosts disk.no_dict disk.no_dict) file_send
+
+pub journal_sync : IsSync the_row
+journal_sync = declared_sync the_type (ledgers.the_sync store _ store_send, tt)

@@ -1,0 +1,149 @@
+// What a server with a store opens with.
+
+ghost use Rattle.std.specs.Prelude.{◌≡◌, ◌≢◌, ◌↔◌, [], true, Some, None, Err, IsSome, IfOk};
+ghost use Rattle.sqlite_store.specs.FileStore.{view};
+ghost use Rattle.sqlite_trees.specs.View.{IsClean};
+ghost use Rattle.tl_core.specs.Cores.{opened};
+ghost use Rattle.tl_file_journal.specs.declared.refusal.StoreRefusal.TheVariants.{NoTree, HasTree};
+ghost use Rattle.tl_history.specs.declared.history.TheConstants.{MAX_EVENTS};
+ghost use Rattle.tl_ledger.specs.Contents.{Contents, no_contents, Holds};
+ghost use Rattle.tl_ledger.specs.News.{after_founding};
+ghost use Rattle.tl_ledger.specs.declared.founding.Founding.{Founding};
+ghost use Rattle.tl_store_commands.specs.Beginning.{IsFirst, TakesUp};
+
+use crate::journal::FileJournal;
+use crate::refusal::StoreRefusal;
+use sqlite_disk::Disk;
+use sqlite_std_file::File;
+use sqlite_store::FileStore;
+use sqlite_trees::store::Store;
+use std::alloc::Global;
+use tl_generations::Succession;
+use tl_journal::LedgerJournal;
+use tl_procedures::Procedures;
+use tl_store::StoreFault;
+use tl_store_commands::{Beginning, Retaken, make_store, reopen_store};
+use tl_store_file::{Blank, Found, Rested};
+use tl_tree::Tree;
+use tl_workers::Engine;
+
+/// What a server that lasts opens with: an engine that seals its epochs by itself, and the procedures that are known already.
+#[derive(Drop)]
+pub struct Opening<J> {
+    pub engine: Engine,
+    pub journal: J,
+    pub succession: Succession,
+    pub known: Procedures,
+    ghost sealing: { engine.seals ≡ true },
+}
+
+/// What a server with a store opens with, and what was taken again, if the store was there.
+#[derive(Drop)]
+pub struct Stored<J> {
+    pub opening: Opening<J>,
+    pub retaken: Option<Retaken>,
+}
+
+// An engine on the core that a server begins with, and the journal of the ledger.
+fn opening_of<S: Store + Drop>(
+    alloc: Global,
+    begun: Beginning<S>,
+) -> Result<Opening<LedgerJournal<S>>, StoreRefusal>
+    ensures { (result ≢ Err NoTree) × (result ≢ Err HasTree) }
+{
+    let Beginning { ledger, core } = begun;
+    let known = core.procedures().copy(alloc)?;
+    let records = Vec::from_slice(alloc, core.opening().records())?;
+    let succession = Succession::new(alloc, &core)?;
+    // It refuses for want of memory alone.
+    let Ok(engine) = Engine::of_core(alloc, core) else {
+        return Err(StoreRefusal::Store(StoreFault::Memory));
+    };
+    Ok(Opening {
+        engine: engine.that_seals(),
+        journal: LedgerJournal::new(alloc, ledger, records, known.len()),
+        succession,
+        known,
+    })
+}
+
+// The same opening, whose journal is known to be on a file.
+fn on_file(opening: Opening<LedgerJournal<FileStore<File>>>) -> Opening<FileJournal> {
+    let Opening {
+        engine,
+        journal,
+        succession,
+        known,
+    } = opening;
+    Opening {
+        engine,
+        journal: FileJournal { ledger: journal },
+        succession,
+        known,
+    }
+}
+
+// A store that is made of a tree where files hold nothing yet.
+fn make_in<D: Disk + Drop>(
+    alloc: Global,
+    blank: Blank<D>,
+    tree: Tree,
+) -> Result<Beginning<FileStore<D>>, StoreRefusal>
+    ensures core { IfOk result (λ b. b.core ≡ opened tree [] MAX_EVENTS) }
+    ensures stored { IfOk result (λ b. (first : Founding) × IsFirst tree first
+        × (IsClean (view b.ledger.store) → Holds (view b.ledger.store).committed (after_founding no_contents first))) }
+    ensures err { (result ≢ Err NoTree) × (result ≢ Err HasTree) }
+{
+    Ok(make_store(alloc, blank.make()?.store, tree)?)
+}
+
+// The store that files hold, taken up again.
+fn reopen_in<D: Disk + Drop>(
+    alloc: Global,
+    rested: Rested<D>,
+) -> Result<(Beginning<FileStore<D>>, Retaken), StoreRefusal>
+    ensures taken_up { IfOk result (λ r. IsClean (view r.0.ledger.store) → (c : Contents) → Holds (view rested.store).committed c
+        → TakesUp c r.0.core (view r.0.ledger.store).committed r.0.ledger.marks) }
+    ensures err { (result ≢ Err NoTree) × (result ≢ Err HasTree) }
+{
+    Ok(reopen_store(alloc, rested.store)?)
+}
+
+// What files hold, or the tree where they hold nothing yet.
+fn begin_in<D: Disk + Drop>(
+    alloc: Global,
+    found: Found<D>,
+    tree: Option<Tree>,
+) -> Result<(Beginning<FileStore<D>>, Option<Retaken>), StoreRefusal>
+    ensures retaken { IfOk result (λ r. IsSome r.1 ↔ (tree ≡ None)) }
+    ensures no_tree { result ≡ Err NoTree → tree ≡ None }
+    ensures has_tree { result ≡ Err HasTree → IsSome tree }
+{
+    match (found, tree) {
+        (Found::Blank(blank), Some(tree)) => Ok((make_in(alloc, blank, tree)?, None)),
+        (Found::Store(rested), None) => {
+            let (begun, retaken) = reopen_in(alloc, rested)?;
+            Ok((begun, Some(retaken)))
+        }
+        (Found::Blank(_), None) => Err(StoreRefusal::NoTree),
+        (Found::Store(_), Some(_)) => Err(StoreRefusal::HasTree),
+    }
+}
+
+/// What a server on the store of that path opens with: what the store holds, or the tree where there is none yet. 1008 if there is neither,
+/// 1009 if there are both; 1001 to 1006, and 1011 to 1013.
+pub fn open_stored(
+    rt: &HostRuntime,
+    path: &str,
+    tree: Option<Tree>,
+) -> Result<Stored<FileJournal>, StoreRefusal>
+    ensures retaken { IfOk result (λ s. IsSome s.retaken ↔ (tree ≡ None)) }
+    ensures no_tree { result ≡ Err NoTree → tree ≡ None }
+    ensures has_tree { result ≡ Err HasTree → IsSome tree }
+{
+    let (begun, retaken) = begin_in(rt.alloc(), tl_store_file::open(rt, path)?, tree)?;
+    Ok(Stored {
+        opening: on_file(opening_of(rt.alloc(), begun)?),
+        retaken,
+    })
+}

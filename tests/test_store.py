@@ -1,0 +1,328 @@
+"""Tests a server with a store: what was answered is found again, whatever ends the server.
+
+The files are read by Python's own SQLite while no server has them open. The test of a full disk mounts a small file system, and is skipped where that isn't allowed.
+"""
+
+import contextlib
+import json
+import random
+import shutil
+import signal
+import sqlite3
+import subprocess
+import threading
+import time
+import unittest
+
+from running import free_port
+from serving import ADD, Peer, serving
+
+STORE = "things.db"
+
+
+def lines(*values):
+    return "".join(json.dumps(value, separators=(",", ":")) + "\n" for value in values)
+
+
+def call(node, amount):
+    return json.dumps({"op": "call", "proc": "add", "args": [node, amount]})
+
+
+def batch(*amounts):
+    return json.dumps({"op": "batch", "calls": [["add", [0, amount]] for amount in amounts], "workers": 1})
+
+
+def reply(number, value, epoch=0):
+    return lines({"call": number, **({"epoch": epoch} if epoch else {}), "reply": [value]})
+
+
+def stored(tests, name, question):
+    """The rows of a question to a store that no server has open. A file that was left by a kill is read with its log."""
+    with contextlib.closing(sqlite3.connect(f"file:{tests.path(name)}?mode=ro", uri=True)) as base:
+        return base.execute(question).fetchall()
+
+
+def made(tests, name, **more):
+    return serving(tests, "--store", name, connections=None, **more)
+
+
+def again(tests, name, *words, **more):
+    return serving(tests, "--store", name, *words, connections=None, tree=None, **more)
+
+
+def kill(server):
+    server.process.send_signal(signal.SIGKILL)
+    server.process.communicate(timeout=60)
+
+
+def test_no_store(tests):
+    words = ["serve", "--port", str(free_port()), "--store", "none.db"]
+    tests.answers("no store, and no tree", words, 1, lines({"error": [1008]}))
+    tests.check("nothing is made", not tests.path("none.db").exists() and not tests.path("none.db-wal").exists(), "it is there")
+    tests.answers("no store, and a tree that isn't there", [*words, "--tree", "nowhere.json"], 3, lines({"error": [31]}))
+    tests.path("bad.json").write_text('{"parents":[1],"records":[[0,0,0,0,0,0,0,0]]}')
+    tests.answers("no store, and a tree with a fault", [*words, "--tree", "bad.json"], 1, lines({"error": [103]}))
+    tests.check("nothing is made of a bad tree", not tests.path("none.db").exists(), "it is there")
+
+
+def test_a_store(tests):
+    """Made, stopped in order, and taken up again."""
+    with made(tests, STORE) as server:
+        peer = Peer(server.port)
+        told = [peer.ask(ADD) != "", peer.ask(call(0, 3))]
+        peer.close()
+        server.stop()
+        run = server.end()
+    tests.check("a store that is made", told == [True, reply(0, 8)], told)
+    after = {"parents": [0], "records": [[8, 0, 0, 0, 0, 0, 0, 0]]}
+    tests.check("a store that is made: the end", (run.status, run.out) == (0, lines({"generations": 1}, after)), run)
+    tests.check("its records", stored(tests, STORE, "select * from record") == [(0, 8, 0, 0, 0, 0, 0, 0, 0)], stored(tests, STORE, "select * from record"))
+    question = "select call.procedure, call.arguments, reply.reply from call join reply on call.epoch = reply.epoch and call.number = reply.call"
+    tests.check("its calls", stored(tests, STORE, question) == [("add", "[0,3]", "[8]")], stored(tests, STORE, question))
+    tests.check("its opening", stored(tests, STORE, "select f0 from opening") == [(5,)], stored(tests, STORE, "select f0 from opening"))
+    tests.check("its nodes", stored(tests, STORE, "select * from node") == [(0, 0, 0)], stored(tests, STORE, "select * from node"))
+    tests.check("its procedures", stored(tests, STORE, "select number, name from procedure") == [(0, "add")], stored(tests, STORE, "select number, name from procedure"))
+    tests.check("its soundness", stored(tests, STORE, "pragma integrity_check") == [("ok",)], stored(tests, STORE, "pragma integrity_check"))
+    before = tests.bytes(STORE)
+    words = ["serve", "--port", str(free_port()), "--store", STORE, "--tree", "examples/one-node.json"]
+    tests.answers("a store, and a tree", words, 1, lines({"error": [1009]}))
+    tests.check("a store, and a tree: the file", tests.bytes(STORE) == before, "it is another")
+    with again(tests, STORE) as server:
+        peer = Peer(server.port)
+        told = peer.ask(call(0, 4))
+        peer.close()
+        server.stop()
+        run = server.end()
+    tests.check("a store that is taken up", told == reply(0, 12) and run.status == 0, (told, run))
+    tests.check("its epochs", stored(tests, STORE, "select epoch, number from call") == [(0, 0), (1, 0)], stored(tests, STORE, "select epoch, number from call"))
+
+
+def test_a_kill(tests):
+    """What was answered before a kill is taken again."""
+    name = "killed.db"
+    with made(tests, name) as server:
+        peer = Peer(server.port)
+        told = [peer.ask(ADD) != "", peer.ask(call(0, 3)), peer.ask(batch(1, 2, 3))]
+        kill(server)
+    tests.check("before a kill", told[1] == reply(0, 8), told)
+    for number in range(2):
+        with again(tests, name) as server:
+            peer = Peer(server.port)
+            told = peer.ask(call(0, 0))
+            kill(server)
+        calls, epoch = (4, 0) if number == 0 else (1, 1)
+        tests.check(f"after kill {number}", told == reply(0, 14) and f"{name}: {calls} calls of epoch {epoch} taken again, 0 of them ended now" in server.said + "", (told, server.said))
+    with again(tests, name) as server:
+        peer = Peer(server.port)
+        told = peer.ask(call(0, 1))
+        peer.close()
+        server.stop()
+        run = server.end()
+    tests.check("a stop after kills", told == reply(0, 15) and run.out == lines({"generations": 1}, {"parents": [0], "records": [[15] + [0] * 7]}), (told, run))
+
+
+def test_one_server(tests):
+    """A store has one server."""
+    name = "one.db"
+    with made(tests, name) as server:
+        Peer(server.port).ask(ADD)
+        tests.answers("a store that is open", ["serve", "--port", str(free_port()), "--store", name], 3, lines({"error": [1002]}))
+        server.stop()
+        tests.check("the first server goes on", server.end().status == 0, "it didn't")
+
+
+def test_foreign(tests):
+    """Files that are no stores, and stores that somebody changed."""
+    with contextlib.closing(sqlite3.connect(tests.path("other.db"))) as base:
+        base.execute("create table t(a)")
+        base.commit()
+    before = tests.bytes("other.db")
+    words = ["serve", "--port", str(free_port()), "--store"]
+    tests.answers("a file with other tables", [*words, "other.db"], 1, lines({"error": [1003, 9]}))
+    tests.check("a file with other tables stays", tests.bytes("other.db") == before, "it is another")
+    tests.path("folder.db").mkdir()
+    tests.answers("a folder", [*words, "folder.db"], 3, lines({"error": [1001]}))
+    with made(tests, "changed.db") as server:
+        peer = Peer(server.port)
+        peer.ask(ADD)
+        peer.ask(call(0, 3))
+        peer.ask(call(0, 4))
+        kill(server)
+    for what, number in (("update reply set reply = '[16]' where id = 0", [1006, 0]), ("update reply set call = 7 where id = 0", [1006, 7]), ("update call set arguments = '[a]' where id = 0", [1003, 3]),
+                         ("update turn set calls = x'0001'", [1005, 0]), ("update turn set calls = x'000000000000000000010001000100010002'", [1004, 8]), ("update turn set calls = x'00000000000000000000'", [1005, 4]),
+                         ("update procedure set container = x'00'", [1003, 2]), ("update node set parent = 1", [1003, 0]), ("delete from record", [1003, 1])):
+        for suffix in ("", "-wal"):
+            shutil.copyfile(tests.path("changed.db" + suffix), tests.path("copy.db" + suffix))
+        with contextlib.closing(sqlite3.connect(tests.path("copy.db"))) as base:
+            base.execute(what)
+            base.commit()
+        run = tests.run(*words, "copy.db")
+        tests.check(f"a store after {what}", run.status == 1 and json.loads(run.out)["error"][0] == number[0], run)
+
+
+def test_registered(tests):
+    """Procedures of the command line are registered once; one that is there already is passed over."""
+    words = ("--proc", "add=examples/add.asm")
+    with serving(tests, "--store", "named.db", *words, connections=None) as server:
+        peer = Peer(server.port)
+        told = [peer.ask(call(0, 1))]
+        kill(server)
+    with again(tests, "named.db", *words) as server:
+        peer = Peer(server.port)
+        told.append(peer.ask(call(0, 1)))
+        peer.close()
+        server.stop()
+        server.end()
+    tests.check("procedures of the command line", told == [reply(0, 6), reply(0, 7)], told)
+    tests.check("they are stored once", stored(tests, "named.db", "select name from procedure") == [("add",)], stored(tests, "named.db", "select name from procedure"))
+    tests.answers("another procedure of that name", ["serve", "--port", str(free_port()), "--store", "named.db", "--proc", "add=examples/walk.asm"], 1, lines({"error": [611]}))
+
+
+def test_growth(tests):
+    """Nodes that are appended are stored, with the epoch at whose beginning they were there first."""
+    name = "grown.db"
+    with made(tests, name) as server:
+        peer = Peer(server.port)
+        told = [peer.ask(ADD) != "", peer.ask(call(0, 3)), peer.ask(json.dumps({"op": "grow", "parents": [0, 1]})), peer.ask(call(2, 5))]
+        kill(server)
+    tests.check("growth with a store", told[1:] == [reply(0, 8), lines({"grown": 1}), reply(0, 5, 1)], told)
+    with again(tests, name) as server:
+        peer = Peer(server.port)
+        told = [peer.ask(call(node, 1)) for node in (0, 1, 2, 3)]
+        peer.close()
+        server.stop()
+        run = server.end()
+    tests.check("growth after a kill", told == [reply(0, 9), reply(1, 1), reply(2, 6), reply(3, 0).replace("[0]", "[]")], told)
+    tests.check("growth: the nodes", stored(tests, name, "select number, parent, epoch from node") == [(0, 0, 0), (1, 0, 1), (2, 1, 1)], stored(tests, name, "select number, parent, epoch from node"))
+    after = {"parents": [0, 0, 1], "records": [[value] + [0] * 7 for value in (9, 1, 6)]}
+    tests.check("growth: the end", run.out.endswith(lines(after)), run)
+
+
+def test_many_epochs(tests):
+    """Epochs that fill up, over generations, and a kill in one of them."""
+    name, count = "many.db", 0
+    with serving(tests, "--store", name, "--generation", "1", connections=None) as server:
+        peer = Peer(server.port)
+        peer.ask(ADD)
+        for _ in range(80):
+            answer = json.loads(peer.ask(batch(*[1] * 256)))
+            count += sum("reply" in each for each in answer["batch"])
+        kill(server)
+    tests.check("many epochs: all calls", count == 80 * 256, count)
+    with again(tests, name) as server:
+        peer = Peer(server.port)
+        told = peer.ask(call(0, 0))
+        peer.close()
+        server.stop()
+        run = server.end()
+    tests.check("many epochs: after a kill", json.loads(told)["reply"] == [5 + count] and run.status == 0, (told, run))
+    tests.check("many epochs: the rows", stored(tests, name, "select count(*) from call") == [(count + 1,)], stored(tests, name, "select count(*) from call"))
+    epochs = stored(tests, name, "select epoch, count(*), max(number) + 1 from call group by epoch order by epoch")
+    tests.check("many epochs: each has its calls", len(epochs) > 5 and all(count == numbers <= 4096 for _, count, numbers in epochs), epochs)
+    tests.check("many epochs: the seals", stored(tests, name, "select epoch, calls from seal") == [(epoch, sum(count for other, count, _ in epochs if other <= epoch))
+                for epoch in range(epochs[-1][0] + 1)], (stored(tests, name, "select epoch, calls from seal"), epochs))
+
+
+def ask_until_killed(port, own):
+    """Adds one after another, some lines together, and keeps the replies that came."""
+    with contextlib.suppress(OSError, ValueError, KeyError):
+        peer = Peer(port)
+        while True:
+            amounts = [random.randrange(1, 5) for _ in range(random.choice((1, 1, 3)))]
+            peer.send(*(call(0, amount) for amount in amounts))
+            for amount in amounts:
+                answer = json.loads(peer.lines.readline())
+                own.append((answer["epoch"] if "epoch" in answer else 0, answer["call"], amount, answer["reply"][0]))
+
+
+def test_kills_under_load(tests):
+    """Eight connections, and kills at random times: each call that was answered is stored, with its reply, and the record is the sum of all."""
+    name = "load.db"
+    base_epoch, missing = 0, []
+    for number in range(12):
+        with (made if number == 0 else again)(tests, name) as server:
+            if number == 0:
+                Peer(server.port).ask(ADD)
+            answered = [[] for _ in range(8)]
+            threads = [threading.Thread(target=ask_until_killed, args=(server.port, own)) for own in answered]
+            for thread in threads:
+                thread.start()
+            time.sleep(random.uniform(0.02, 0.3))
+            kill(server)
+            for thread in threads:
+                thread.join()
+        shutil.copyfile(tests.path(name), tests.path("look.db"))
+        shutil.copyfile(tests.path(name + "-wal"), tests.path("look.db-wal"))
+        rows = {(epoch, call): (json.loads(arguments), json.loads(reply)) for epoch, call, arguments, reply in stored(tests, "look.db",
+                "select call.epoch, call.number, call.arguments, reply.reply from call join reply on call.epoch = reply.epoch and call.number = reply.call")}
+        for epoch, call_number, amount, value in (each for own in answered for each in own):
+            if rows.get((base_epoch + epoch, call_number)) != ([0, amount], [value]):
+                missing.append((number, epoch, call_number))
+        base_epoch = max((epoch for epoch, _ in rows), default=-1) + 1
+    tests.check("kills under load: what was answered is stored", missing == [], missing[:5])
+    with again(tests, name) as server:
+        peer = Peer(server.port)
+        told = json.loads(peer.ask(call(0, 0)))["reply"]
+        peer.close()
+        server.stop()
+        server.end()
+    amounts = [json.loads(arguments)[1] for arguments, in stored(tests, name, "select arguments from call")]
+    tests.check("kills under load: the sum of all", told == [5 + sum(amounts)] and len(amounts) > 100, (told, sum(amounts), len(amounts)))
+
+
+@contextlib.contextmanager
+def small_disk(path):
+    """A file system of 1,500 kB there, or None where this user may mount none."""
+    path.mkdir()
+    mounted = subprocess.run(["mount", "-t", "tmpfs", "-o", "size=1500k", "tmpfs", str(path)], capture_output=True).returncode == 0
+    try:
+        yield path if mounted else None
+    finally:
+        if mounted:
+            subprocess.run(["umount", "-l", str(path)], check=True)
+
+
+def fill(server):
+    """Adds until nothing is answered any more, and returns what was."""
+    answered = []
+    with contextlib.suppress(OSError, ValueError):
+        peer = Peer(server.port)
+        peer.ask(ADD)
+        while True:
+            answered += json.loads(peer.ask(batch(*[1] * 256)))["batch"]
+    return answered
+
+
+def test_a_full_disk(tests):
+    """Nothing is answered that has no room, the server ends by itself, and all that was answered is found where there is room."""
+    with small_disk(tests.path("small")) as disk:
+        if disk is None:
+            raise unittest.SkipTest("this user may mount no file system")
+        with made(tests, "small/full.db") as server:
+            answered = fill(server)
+            run = server.end()
+        for suffix in ("", "-wal"):
+            if (disk / f"full.db{suffix}").exists():
+                shutil.copyfile(disk / f"full.db{suffix}", tests.path(f"roomy.db{suffix}"))
+    tests.check("a full disk: the server's end", (run.status, run.out) == (3, lines({"error": [1012]})), run)
+    tests.check("a full disk: calls before it", len(answered) > 256 and all("reply" in each for each in answered), len(answered))
+    with again(tests, "roomy.db") as server:
+        peer = Peer(server.port)
+        told = json.loads(peer.ask(call(0, 0)))["reply"][0]
+        peer.close()
+        server.stop()
+        server.end()
+    rows = {(epoch, number): json.loads(values) for epoch, number, values in stored(tests, "roomy.db", "select epoch, call, reply from reply")}
+    lost = [each for each in answered if rows.get((each.get("epoch", 0), each["call"])) != each["reply"]]
+    tests.check("a full disk: what was answered is there", lost == [] and told >= 5 + len(answered), (lost[:3], told, len(answered)))
+
+
+def test_mistakes(tests):
+    """Options that don't go together."""
+    words = ["serve", "--port", str(free_port()), "--store", "mistaken.db"]
+    for more in (["--connections", "1"], ["--connections", "1", "--seal", "by-hand"], ["--trail", "a.json"]):
+        run = tests.run(*words, *more)
+        tests.check(f"serve {' '.join(more)}", (run.status, run.out) == (2, "") and run.err.startswith("error: "), run)
+    run = tests.run("serve", "--port", str(free_port()), "--connections", "1", "--tree", "examples/one-node.json", "--proc", "add=examples/add.asm")
+    tests.check("serve --proc by hand", (run.status, run.out) == (2, "") and run.err.startswith("error: "), run)
+    tests.check("nothing is made by a mistake", not tests.path("mistaken.db").exists(), "it is there")
