@@ -1,4 +1,5 @@
 mod RowLemmas
 mod CommitLemmas
+mod SomeLemmas
 mod ReadLemmas
 pub mod OnlyReading

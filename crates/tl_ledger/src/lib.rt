@@ -11,6 +11,7 @@ mod ledger;
 mod news;
 mod read_rows;
 mod reading;
+mod reading_some;
 mod rows;
 mod schema;
 mod surviving;
@@ -24,6 +25,7 @@ pub use founding::{Founding, found};
 pub use ledger::Ledger;
 pub use news::News;
 pub use reading::{ReadEntry, ReadFault, read_all, read_from};
+pub use reading_some::read_some;
 pub use rows::{
     CallRow, ChangedRecord, FIELDS, NodeRow, ProcedureRow, RecordRow, ReplyRow, SealRow, TurnRow,
 };

@@ -48,7 +48,7 @@ pub(crate) fn if_row_of<T: Entry + Drop>(
 }
 
 /// How many rows a table has at most.
-const MAX_ROWS: u64 = 1 << 62;
+pub(crate) const MAX_ROWS: u64 = 1 << 62;
 
 /// Why a table isn't read.
 #[derive(Clone, Copy, Debug, PartialEq, Eq)]
@@ -72,7 +72,7 @@ impl From<StoreError> for ReadFault {
 }
 
 // The item of the cursor's next row, which has to have that number; none at the end.
-fn next_item<S: Store, T: ReadEntry + Drop>(
+pub(crate) fn next_item<S: Store, T: ReadEntry + Drop>(
     alloc: Global,
     store: &mut S,
     row: &mut Row,

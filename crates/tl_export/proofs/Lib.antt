@@ -1,0 +1,4 @@
+mod ReadLemmas
+mod QuietLemmas
+mod DifferingLemmas
+mod TrailLemmas

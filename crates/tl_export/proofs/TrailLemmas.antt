@@ -1,0 +1,68 @@
+-- Trails that were handed over one after another.
+use Rattle.std.proofs.Common.{◌≡◌, ℕ, zero, suc, ◌+◌, List, [], ◌∷◌, ◌++◌, length, map, Option, Some, None, slice_get, refl, sym, ap, ◌∙◌, subst, append_assoc, arith}
+use Rattle.tl_trail.specs.Trails.{TrailValue}
+use Rattle.tl_audit.specs.Chains.{CleanAfter, AreCleanFiles, after_file, last_trail, opening_of}
+use Rattle.tl_ledger.specs.Contents.{Contents}
+use Rattle.tl_store.specs.Rows.{fields_in}
+use Rattle.tl_export.specs.declared.plan.Plan.{Plan}
+use Rattle.tl_export.specs.Epochs.{IsTrailOf}
+use Rattle.tl_export.specs.Exported.{TookMore, files_of, EachIsOf, IsAlong}
+
+pub took_then : (old now new : Option (List TrailValue)) (xs ys : List TrailValue) → TookMore old xs now → TookMore now ys new → TookMore old (xs ++ ys) new
+took_then None now new xs ys first then = tt
+took_then (Some old) now new xs ys first then =
+    let e : new ≡ Some ((old ++ xs) ++ ys) = subst (λ o. TookMore o ys new) first then in
+    e ∙ ap Some (append_assoc old xs ys)
+
+-- the next trail continues the last one
+clean_more : (before : Option TrailValue) (trails : List TrailValue) (last next : TrailValue) → AreCleanFiles before (files_of trails) → last_trail before trails ≡ Some last
+    → CleanAfter (after_file (Some last)) (next ∷ []) → AreCleanFiles before (files_of (trails ++ next ∷ []))
+clean_more before [] last next clean is_last more = (subst (λ b. CleanAfter (after_file b) (next ∷ [])) (sym is_last) more, tt)
+clean_more before (t ∷ trails) last next clean is_last more = (clean.0, clean_more (Some t) trails last next clean.1 is_last more)
+
+last_more : (before : Option TrailValue) (trails : List TrailValue) (next : TrailValue) → last_trail before (trails ++ next ∷ []) ≡ Some next
+last_more before [] next = refl
+last_more before (t ∷ trails) next = last_more (Some t) trails next
+
+same_opening : (trails : List TrailValue) (next : TrailValue) (n : ℕ) → length trails ≡ n + 1 → opening_of (trails ++ next ∷ []) ≡ opening_of trails
+same_opening [] next n count = absurd (omega (arith, count))
+same_opening (t ∷ trails) next n count = refl
+
+one_longer : (trails : List TrailValue) (next : TrailValue) → length (trails ++ next ∷ []) ≡ suc (length trails)
+one_longer [] next = refl
+one_longer (t ∷ trails) next = ap suc (one_longer trails next)
+
+-- what holds of each trail at its place, and of the next one at the end
+each_more : (P : ℕ → TrailValue → Type 0) (trails : List TrailValue) (next : TrailValue) → ((n : ℕ) (t : TrailValue) → slice_get trails n ≡ Some t → P n t) → P (length trails) next
+    → (n : ℕ) (t : TrailValue) → slice_get (trails ++ next ∷ []) n ≡ Some t → P n t
+each_more P [] next each there zero t is = let e : next ≡ t = cc in subst (λ x. P 0 x) e there
+each_more P [] next each there (suc n) t is = absurd cc
+each_more P (x ∷ trails) next each there zero t is = each zero t is
+each_more P (x ∷ trails) next each there (suc n) t is = each_more (λ k u. P (suc k) u) trails next (λ k u at. each (suc k) u at) there n t is
+
+-- the first epoch
+pub along_first : (p : Plan) (t : TrailValue) → CleanAfter (after_file None) (t ∷ []) → t.opening ≡ map fields_in p.opening.items → IsAlong p 0 (t ∷ []) t
+along_first p t clean opening = record { clean = (clean, tt); count = refl; last_is = refl; opening = opening }
+
+pub each_first : (c : Contents) (p : Plan) (t : TrailValue) → IsTrailOf c p 0 t → EachIsOf c p (t ∷ [])
+each_first c p t is = each_more (IsTrailOf c p) [] t (λ n u none. absurd cc) is
+
+-- the next one
+pub along_next : (p : Plan) (n : ℕ) (trails : List TrailValue) (last next : TrailValue) → IsAlong p n trails last → CleanAfter (after_file (Some last)) (next ∷ [])
+    → IsAlong p (n + 1) (trails ++ next ∷ []) next
+along_next p n trails last next along more =
+    record {
+      clean = clean_more None trails last next along.clean along.last_is more;
+      count = (let e = one_longer trails next in omega (arith, e, along.count));
+      last_is = last_more None trails next;
+      opening = same_opening trails next n along.count ∙ along.opening;
+    }
+
+pub each_next : (c : Contents) (p : Plan) (n : ℕ) (trails : List TrailValue) (last next : TrailValue) → IsAlong p n trails last → EachIsOf c p trails → IsTrailOf c p (n + 1) next
+    → EachIsOf c p (trails ++ next ∷ [])
+each_next c p n trails last next along each there = each_more (IsTrailOf c p) trails next each (subst (λ k. IsTrailOf c p k next) (sym along.count) there)
+
+-- the last trail is the last
+pub of_last : (p : Plan) (n : ℕ) (trails : List TrailValue) (last : TrailValue) → IsAlong p n trails last → last.opening ≡ map fields_in p.records.items
+    → (t : TrailValue) → last_trail None trails ≡ Some t → t.opening ≡ map fields_in p.records.items
+of_last p n trails last along is t at = let e : last ≡ t = (let both : Some last ≡ Some t = sym along.last_is ∙ at in cc) in subst (λ u. u.opening ≡ map fields_in p.records.items) e is

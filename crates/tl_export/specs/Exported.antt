@@ -1,0 +1,43 @@
+-- The trails of a store.
+use Rattle.std.specs.Prelude.{◌≡◌, ℕ, ◌+◌, List, [], ◌∷◌, ◌++◌, length, map, slice_get, Option, Some, None}
+use Rattle.tl_trail.specs.Trails.{TrailValue}
+use Rattle.tl_audit.specs.Chains.{AreCleanFiles, last_trail, opening_of}
+use Rattle.tl_ledger.specs.Contents.{Contents}
+use Rattle.tl_store.specs.Rows.{fields_in}
+use Rattle.tl_export.specs.declared.plan.Plan.{Plan}
+use Rattle.tl_export.specs.Plans.{IsPlanOf}
+use Rattle.tl_export.specs.Epochs.{IsTrailOf}
+
+-- these trails were taken as well; nothing is said if it isn't known what was taken before
+abbrev pub TookMore : Option (List TrailValue) → List TrailValue → Option (List TrailValue) → Type 0
+TookMore None trails new = Unit {0}
+TookMore (Some old) trails new = new ≡ Some (old ++ trails)
+
+-- each trail in a file of its own
+abbrev pub files_of : List TrailValue → List (List TrailValue)
+files_of trails = map (λ t. t ∷ []) trails
+
+-- the auditor finds each of them clean, and that it continues the one before; nodes may have been appended in between
+abbrev pub AreClean : List TrailValue → Type 0
+AreClean trails = AreCleanFiles None (files_of trails)
+
+-- trail n is that of epoch n
+abbrev pub EachIsOf : Contents → Plan → List TrailValue → Type 0
+EachIsOf c p trails = (n : ℕ) (t : TrailValue) → slice_get trails n ≡ Some t → IsTrailOf c p n t
+
+-- the trails up to that of epoch n, which is `last`, are clean and begin with the records at the store's opening
+pub record IsAlong (p : Plan) (n : ℕ) (trails : List TrailValue) (last : TrailValue) : Type 0 where
+  pub clean : AreClean trails
+  pub count : length trails ≡ n + 1
+  pub last_is : last_trail None trails ≡ Some last
+  pub opening : opening_of trails ≡ map fields_in p.opening.items
+
+-- The trails of all epochs: those that are sealed, and the one after. The first begins with the records at the store's opening, and the last
+-- with those that the store has.
+pub record AreTrailsOf (c : Contents) (trails : List TrailValue) : Type 0 where
+  pub plan : Plan
+  pub is_plan : IsPlanOf c plan
+  pub count : length trails ≡ length plan.seals.items + 1
+  pub each : EachIsOf c plan trails
+  pub opening : opening_of trails ≡ map fields_in plan.opening.items
+  pub records : (last : TrailValue) → last_trail None trails ≡ Some last → last.opening ≡ map fields_in plan.records.items

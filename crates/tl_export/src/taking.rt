@@ -1,0 +1,91 @@
+// The trail of an epoch, whose calls are taken again.
+
+ghost use Rattle.std.specs.Prelude.{◌≡◌, ◌∷◌, [], None, map, option_copied, IfOk, OnOk};
+ghost use Rattle.sqlite_trees.specs.View.{IsClean, IsQuiet, KeepsSchema};
+ghost use Rattle.tl_audit.specs.Chains.{CleanAfter, after_file};
+ghost use Rattle.tl_ledger.specs.Contents.{OnlyReads, Contents, Holds, AreTables};
+ghost use Rattle.tl_store.specs.Rows.{fields_in};
+ghost use Rattle.tl_export.specs.Plans.{IsPlanOf};
+ghost use Rattle.tl_export.specs.Epochs.{IsTrailOf, IsMadeOf};
+
+use crate::fault::ExportFault;
+use crate::plan::Plan;
+use crate::rows::{count_nodes, rows_of};
+use sqlite_trees::store::Store;
+use std::alloc::{AllocError, Global};
+use std::slice;
+use tl_audit::{ChainFault, Silent, audit_chain_after};
+use tl_ledger::{FIELDS, RecordRow};
+use tl_record::trail_of;
+use tl_store::{Recovered, StoreFault, Stored, rebuild, record_rows};
+use tl_trail::Trail;
+
+// The records with which an epoch begins on so many nodes: those that the one before left, and zeros for the nodes that are new. Before the first epoch,
+// those of the store's opening.
+fn first_records(
+    alloc: Global,
+    plan: &Plan,
+    before: Option<&Trail>,
+    nodes: usize,
+) -> Result<Vec<RecordRow>, AllocError>
+    ensures { option_copied before.entry ≡ None → IfOk result (λ rows. rows.items ≡ plan.now.opening.items) }
+{
+    let Some(before) = before else {
+        return Vec::from_slice(alloc, &plan.opening);
+    };
+    let mut rows = record_rows(alloc, before.ends())?;
+    let zeros = RecordRow {
+        fields: [0; FIELDS],
+    };
+    for _node in rows.len()..nodes {
+        rows.push(zeros)?;
+    }
+    Ok(rows)
+}
+
+// The trail of the core that these rows make.
+fn trail_of_rows(alloc: Global, rows: &Stored) -> Result<Trail, ExportFault>
+    ensures { IfOk result (IsMadeOf rows.now) }
+{
+    let Recovered { core, .. } = rebuild(alloc, rows)?;
+    match trail_of(alloc, &core) {
+        Ok(trail) => Ok(trail),
+        Err(_) => Err(ExportFault::Store(StoreFault::Memory)),
+    }
+}
+
+// What the auditor says of the trail, which has to take over from the one before, if there is one.
+fn judge(alloc: Global, before: Option<&Trail>, trail: &Trail) -> Result<(), ExportFault>
+    ensures { OnOk result (CleanAfter (after_file (option_copied before.entry)) (trail.now ∷ [])) }
+{
+    match audit_chain_after(alloc, before, slice::from_ref(trail), &mut Silent) {
+        Ok(_) => Ok(()),
+        Err(ChainFault::Memory) => Err(ExportFault::Store(StoreFault::Memory)),
+        Err(fault) => Err(ExportFault::Unclean(fault)),
+    }
+}
+
+/// Takes the calls of an epoch again: the trail of the core that its rows make, where all calls are done. It takes over from the trail of the epoch
+/// before, or begins with the store's opening; the auditor finds it clean. Faults as of `read_stored` and `rebuild`; 718 or 719 of the auditor.
+pub fn take_again<S: Store>(
+    alloc: Global,
+    store: &mut S,
+    plan: &Plan,
+    epoch: usize,
+    before: Option<&Trail>,
+) -> Result<Trail, ExportFault>
+    requires { IsClean (S.Store.view store.old) → AreTables (S.Store.view store.old) }
+    ensures epoch { IfOk result (λ t. IsClean (S.Store.view store.new) → (c : Contents) → Holds (S.Store.view store.old).trees c → IsPlanOf c plan.now
+        → IsTrailOf c plan.now epoch t) }
+    ensures opening { option_copied before.entry ≡ None → IfOk result (λ t. t.opening ≡ map fields_in plan.now.opening.items) }
+    ensures clean { IfOk result (λ t. CleanAfter (after_file (option_copied before.entry)) (t ∷ [])) }
+    ensures reads { OnOk result (IsClean (S.Store.view store.new) → OnlyReads (S.Store.view store.old) (S.Store.view store.new)) }
+    ensures schema { KeepsSchema (S.Store.view store.old) (S.Store.view store.new) }
+    ensures quiet { IsQuiet S.Store.view S.Store.faults S.Store.recovers S.Store.is_shielded store.old store.new }
+{
+    let records = first_records(alloc, plan, before, count_nodes(&plan.nodes, epoch))?;
+    let rows = rows_of(alloc, store, plan, epoch, records)?;
+    let trail = trail_of_rows(alloc, &rows)?;
+    judge(alloc, before, &trail)?;
+    Ok(trail)
+}
