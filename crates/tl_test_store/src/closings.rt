@@ -21,7 +21,7 @@ fn closing_of<D: Disk + Drop>(alloc: Global, files: Files<D>) -> Result<(Closing
 fn recovered<D: Disk + Drop>(alloc: Global, files: Files<D>) -> Result<(usize, i64), Fail> {
     let mut rested = opened(alloc, files)?;
     match recover(alloc, &mut rested.store) {
-        Ok(found) => Ok((found.core.calls(), field_of(&found.core, 1))),
+        Ok(found) => Ok((found.core.calls(), field_of(found.core.tree().records(), 1))),
         Err(_) => Err("not recovered".into()),
     }
 }

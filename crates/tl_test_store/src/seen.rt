@@ -9,6 +9,7 @@ use std::alloc::Global;
 use tl_core::Core;
 use tl_ledger::{Marks, News};
 use tl_store::{Recovered, StoreFault, closing_news, read_stored, rebuild};
+use tl_tree::Record;
 
 /// How many nodes, calls, turns, replies and seals are stored; of the core made again its stored turns, its calls, the field 0 of nodes 1 and 3 and the
 /// last call's reply; and of what the store gets then the turns, replies and records.
@@ -36,8 +37,8 @@ fn last_reply(core: &Core) -> Option<i64> {
 }
 
 /// The field 0 of a node; 0 if there is no such node.
-pub fn field_of(core: &Core, node: usize) -> i64 {
-    match core.tree().records().get(node) {
+pub fn field_of(records: &[Record], node: usize) -> i64 {
+    match records.get(node) {
         Some(record) => record[0],
         None => 0,
     }
@@ -45,6 +46,7 @@ pub fn field_of(core: &Core, node: usize) -> i64 {
 
 // What is seen of a core that was made again of rows with so many stored turns.
 fn seen_of(marks: &Marks, turns: usize, core: &Core, late: &News) -> Seen {
+    let records = core.tree().records();
     Seen {
         rows: (
             marks.nodes,
@@ -55,7 +57,7 @@ fn seen_of(marks: &Marks, turns: usize, core: &Core, late: &News) -> Seen {
         ),
         turns,
         calls: core.calls(),
-        fields: (field_of(core, 1), field_of(core, 3)),
+        fields: (field_of(records, 1), field_of(records, 3)),
         reply: last_reply(core),
         late: (late.turns.len(), late.replies.len(), late.records.len()),
     }
