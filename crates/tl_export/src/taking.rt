@@ -1,8 +1,8 @@
 // The trail of an epoch, whose calls are taken again.
 
-ghost use Rattle.std.specs.Prelude.{◌≡◌, ◌∷◌, [], None, map, option_copied, IfOk, OnOk};
+ghost use Rattle.std.specs.Prelude.{◌≡◌, ◌∷◌, [], None, length, map, option_copied, IfOk, OnOk};
 ghost use Rattle.sqlite_trees.specs.View.{IsClean, IsQuiet, KeepsSchema};
-ghost use Rattle.tl_audit.specs.Chains.{CleanAfter, after_file};
+ghost use Rattle.tl_audit.specs.Chains.{CleanAfter, after_file, order_of};
 ghost use Rattle.tl_ledger.specs.Contents.{OnlyReads, Contents, Holds, AreTables};
 ghost use Rattle.tl_store.specs.Rows.{fields_in};
 ghost use Rattle.tl_export.specs.Plans.{IsPlanOf};
@@ -17,6 +17,7 @@ use std::slice;
 use tl_audit::{ChainFault, Silent, audit_chain_after};
 use tl_ledger::{FIELDS, RecordRow};
 use tl_record::trail_of;
+use tl_serial_order::Order;
 use tl_store::{Recovered, StoreFault, Stored, rebuild, record_rows};
 use tl_trail::Trail;
 
@@ -54,31 +55,46 @@ fn trail_of_rows(alloc: Global, rows: &Stored) -> Result<Trail, ExportFault>
     }
 }
 
-// What the auditor says of the trail, which has to take over from the one before, if there is one.
-fn judge(alloc: Global, before: Option<&Trail>, trail: &Trail) -> Result<(), ExportFault>
-    ensures { OnOk result (CleanAfter (after_file (option_copied before.entry)) (trail.now ∷ [])) }
+// The only one of these orders.
+fn only_order(orders: Vec<Order>) -> Order
+    requires { length orders.items ≡ 1 }
+    ensures { orders.items ≡ result ∷ [] }
+{
+    let mut orders = orders;
+    let Some(order) = orders.pop() else {
+        unreachable!()
+    };
+    order
+}
+
+// The order of the trail's calls, if the auditor finds it clean. It has to take over from the one before, if there is one.
+fn judge(alloc: Global, before: Option<&Trail>, trail: &Trail) -> Result<Order, ExportFault>
+    ensures clean { OnOk result (CleanAfter (after_file (option_copied before.entry)) (trail.now ∷ [])) }
+    ensures order { IfOk result (λ order. order.calls ≡ order_of trail.now) }
 {
     match audit_chain_after(alloc, before, slice::from_ref(trail), &mut Silent) {
-        Ok(_) => Ok(()),
+        Ok(orders) => Ok(only_order(orders)),
         Err(ChainFault::Memory) => Err(ExportFault::Store(StoreFault::Memory)),
         Err(fault) => Err(ExportFault::Unclean(fault)),
     }
 }
 
 /// Takes the calls of an epoch again: the trail of the core that its rows make, where all calls are done. It takes over from the trail of the epoch
-/// before, or begins with the store's opening; the auditor finds it clean. Faults as of `read_stored` and `rebuild`; 718 or 719 of the auditor.
+/// before, or begins with the store's opening; the auditor finds it clean, with that order of its calls. Faults as of `read_stored` and `rebuild`; 718 or
+/// 719 of the auditor.
 pub fn take_again<S: Store>(
     alloc: Global,
     store: &mut S,
     plan: &Plan,
     epoch: usize,
     before: Option<&Trail>,
-) -> Result<Trail, ExportFault>
+) -> Result<(Trail, Order), ExportFault>
     requires { IsClean (S.Store.view store.old) → AreTables (S.Store.view store.old) }
-    ensures epoch { IfOk result (λ t. IsClean (S.Store.view store.new) → (c : Contents) → Holds (S.Store.view store.old).trees c → IsPlanOf c plan.now
-        → IsTrailOf c plan.now epoch t) }
-    ensures opening { option_copied before.entry ≡ None → IfOk result (λ t. t.opening ≡ map fields_in plan.now.opening.items) }
-    ensures clean { IfOk result (λ t. CleanAfter (after_file (option_copied before.entry)) (t ∷ [])) }
+    ensures epoch { IfOk result (λ r. IsClean (S.Store.view store.new) → (c : Contents) → Holds (S.Store.view store.old).trees c → IsPlanOf c plan.now
+        → IsTrailOf c plan.now epoch r.0) }
+    ensures opening { option_copied before.entry ≡ None → IfOk result (λ r. r.0.opening ≡ map fields_in plan.now.opening.items) }
+    ensures clean { IfOk result (λ r. CleanAfter (after_file (option_copied before.entry)) (r.0 ∷ [])) }
+    ensures order { IfOk result (λ r. r.1.calls ≡ order_of r.0) }
     ensures reads { OnOk result (IsClean (S.Store.view store.new) → OnlyReads (S.Store.view store.old) (S.Store.view store.new)) }
     ensures schema { KeepsSchema (S.Store.view store.old) (S.Store.view store.new) }
     ensures quiet { IsQuiet S.Store.view S.Store.faults S.Store.recovers S.Store.is_shielded store.old store.new }
@@ -86,6 +102,6 @@ pub fn take_again<S: Store>(
     let records = first_records(alloc, plan, before, count_nodes(&plan.nodes, epoch))?;
     let rows = rows_of(alloc, store, plan, epoch, records)?;
     let trail = trail_of_rows(alloc, &rows)?;
-    judge(alloc, before, &trail)?;
-    Ok(trail)
+    let order = judge(alloc, before, &trail)?;
+    Ok((trail, order))
 }

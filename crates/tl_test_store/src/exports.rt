@@ -9,6 +9,7 @@ use std::test::Fail;
 use tl_audit::{Silent, audit_chain_after};
 use tl_export::{ExportFault, TrailTaker, export};
 use tl_ledger::{ChangedRecord, News, RecordRow, ReplyRow};
+use tl_serial_order::Order;
 use tl_store::{StoreFault, reply_row};
 use tl_trail::{Trail, read_trail, write_trail};
 
@@ -23,7 +24,9 @@ impl TrailTaker for Texts {
 
     ghost taken = { λ _. None };
 
-    fn take(&mut self, alloc: Global, trail: &Trail) -> Result<(), ExportFault> {
+    ghost IsReady = { λ _. Unit {0} };
+
+    fn take(&mut self, alloc: Global, trail: &Trail, _order: &Order) -> Result<(), ExportFault> {
         match write_trail(alloc, trail) {
             Ok(text) => Ok(self.texts.push(text)?),
             Err(_) => Err(ExportFault::Untaken),

@@ -6,8 +6,8 @@ use Rattle.tl_export.proofs.ReadLemmas.{holds_again}
 use Rattle.tl_export.proofs.TrailLemmas.{of_last}
 use Rattle.tl_export.proofs.exporting.export.Goals as goal
 
-pub returns : goal.returns
-returns g c =
+pub returns-clause-trails : goal.returns-clause-trails
+returns-clause-trails g c =
     let p = c.in_ok-plan.plan in
     let old = (g.S.Store.view c.args.store.now).trees in
     let handed = c.in_ok-last.ensures.trails in

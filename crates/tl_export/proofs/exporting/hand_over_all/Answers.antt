@@ -14,6 +14,7 @@ loop-epoch-init g c =
       search rules,
       search rules,
       search rules,
+      search rules,
     )
 
 pub loop-epoch-preserved : goal.loop-epoch-preserved
@@ -36,5 +37,6 @@ loop-epoch-preserved g c =
       ),
       search rules,
       search rules,
-      quiet_then c.loop-epoch.invariant.3 c.hand_over-in-loop-epoch.ensures.quiet,
+      search rules,
+      quiet_then c.loop-epoch.invariant.4 c.hand_over-in-loop-epoch.ensures.quiet,
     )
