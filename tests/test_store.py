@@ -201,6 +201,107 @@ def test_growth(tests):
     tests.check("growth: the end", run.out.endswith(lines(after)), run)
 
 
+def copied(tests, name, copy, change=None):
+    """A copy of a store and its log, after that change."""
+    for suffix in ("", "-wal"):
+        if tests.path(name + suffix).exists():
+            shutil.copyfile(tests.path(name + suffix), tests.path(copy + suffix))
+    if change is not None:
+        with contextlib.closing(sqlite3.connect(tests.path(copy))) as base, base:
+            base.execute(change)
+
+
+def check_export(tests, name, folder, files):
+    """What a store has is exported into so many epochs a file, which the auditor finds clean, and the store stays as it is."""
+    before = [tests.bytes(name + suffix) for suffix in ("", "-wal")]
+    tests.path(folder).mkdir()
+    run = tests.run("export", name, folder)
+    tests.check(f"{folder}: export", (run.status, run.out) == (0, lines({"epochs": sum(files), "files": len(files)})), run)
+    found = sorted(file.name for file in tests.path(folder).iterdir())
+    tests.check(f"{folder}: the files", found == [f"{number}.json" for number in range(len(files))], found)
+    of_folder, of_store = tests.run("audit", folder), tests.run("audit", name)
+    tests.check(f"{folder}: audit", of_folder.status == 0 and [len(json.loads(line)["orders"]) for line in of_folder.out.splitlines()] == files, of_folder)
+    tests.check(f"{folder}: audit of the store", (of_store.status, of_store.out) == (0, of_folder.out), of_store)
+    tests.check(f"{folder}: the store stays", [tests.bytes(name + suffix) for suffix in ("", "-wal")] == before, "it is another")
+    trails = [trail for number in range(len(files)) for trail in json.loads(tests.path(f"{folder}/{number}.json").read_text())]
+    copied(tests, name, "counted.db")
+    wanted = dict(stored(tests, "counted.db", "select epoch, count(*) from call group by epoch"))
+    tests.check(f"{folder}: the calls of each epoch", [len(trail["calls"]) for trail in trails] == [wanted.get(epoch, 0) for epoch in range(len(trails))], wanted)
+    return trails
+
+
+def test_exports(tests):
+    """Epochs that filled up, that a growth ended and that a kill ended are exported, and judged by the auditor."""
+    name, full = "exported.db", 17 * 256
+    with serving(tests, "--store", name, "--generation", "1", connections=None) as server:
+        peer = Peer(server.port)
+        peer.ask(ADD)
+        for _ in range(17):
+            peer.ask(batch(*[1] * 256))
+        for line in (json.dumps({"op": "grow", "parents": [0, 1]}), call(1, 4), call(2, 5), json.dumps({"op": "grow", "parents": [2]}), call(3, 6)):
+            peer.ask(line)
+        kill(server)
+    trails = check_export(tests, name, "killed", [2, 1, 1])
+    tests.check("an export: the first tree", trails[0]["tree"] == {"parents": [0], "records": [[5] + [0] * 7]}, trails[0]["tree"])
+    tests.check("an export: the last tree", [record[0] for record in trails[-1]["end"]] == [5 + full, 4, 5, 6], trails[-1]["end"])
+    with again(tests, name) as server:
+        peer = Peer(server.port)
+        told = json.loads(peer.ask(call(0, 1)))["reply"]
+        for verb in (["audit"], ["export"]):
+            tests.path("held").mkdir(exist_ok=True)
+            tests.answers(f"{verb[0]} of a store that a server has", [*verb, name, *(["held"] if verb == ["export"] else [])], 3, lines({"error": [1002]}))
+        peer.close()
+        server.stop()
+        server.end()
+    trails = check_export(tests, name, "ended", [2, 1, 3])
+    tests.check("an export after a start", told == [6 + full] and trails[-1]["end"][0][0] == 6 + full, (told, trails[-1]["end"]))
+
+
+def test_exports_refused(tests):
+    """Files that are no stores, folders that won't do, and stores that somebody changed."""
+    tests.path("there").mkdir()
+    name = "sound.db"
+    with made(tests, name) as server:
+        peer = Peer(server.port)
+        for line in (ADD, call(0, 3), call(0, 4)):
+            peer.ask(line)
+        kill(server)
+    with again(tests, name) as server:
+        server.stop()
+        server.end()
+    for what, words, status, numbers in (("a folder that isn't there", [name, "nowhere"], 3, [32]), ("a store that isn't there", ["none.db", "there"], 3, [31]),
+                                         ("a text", ["examples/one-node.json", "there"], 1, [1003, 9]), ("a folder as a store", ["examples", "there"], 3, [1001])):
+        tests.answers(f"export: {what}", ["export", *words], status, lines({"error": numbers}))
+    tests.check("nothing is made by these", not any(tests.path(other).exists() for other in ("none.db", "none.db-wal", "examples/one-node.json-wal")), "it is there")
+    with contextlib.closing(sqlite3.connect(tests.path("foreign.db"))) as base, base:
+        base.execute("create table t(a)")
+    for words in (["audit", "foreign.db"], ["export", "foreign.db", "there"]):
+        tests.answers(f"{words[0]}: a database that is no store", words, 1, lines({"error": [1003, 9]}))
+    tests.path("sound").mkdir()
+    tests.run("export", name, "sound")
+    run = tests.run("audit", "sound/0.json", name)
+    tests.check("a store behind another file is read as a trail", run.status == 1 and run.out.startswith('{"orders":') and run.out.endswith(lines({"error": [701]})), run)
+    for change, numbers in (("update record set f0 = 13", [1007, 0]), ("update reply set reply = '[9]' where id = 0", [1006, 0]), ("update opening set f0 = 6", [1006, 0]),
+                            ("update turn set calls = x'0001'", [1005]), ("update seal set calls = 9", [1003, 6])):
+        copied(tests, name, "changed.db", change)
+        for words in (["audit", "changed.db"], ["export", "changed.db", "there"]):
+            run = tests.run(*words)
+            tests.check(f"{words[0]} after {change}", run.status == 1 and json.loads(run.out)["error"][:len(numbers)] == numbers, run)
+    tests.check("a refused export leaves no whole file", [file.name for file in tests.path("there").iterdir() if file.suffix == ".json"] == [], list(tests.path("there").iterdir()))
+    copied(tests, name, "damaged.db")
+    content = bytearray(tests.bytes("damaged.db"))
+    content[4096 * 2:4096 * 2 + 64] = bytes(64)
+    tests.path("damaged.db").write_bytes(content)
+    for words in (["audit", "damaged.db"], ["export", "damaged.db", "there"]):
+        run = tests.run(*words)
+        tests.check(f"{words[0]} of a damaged file", run.status == 1 and json.loads(run.out)["error"][0] in (1003, 1013), run)
+    for number in (0, 5):
+        shutil.rmtree(tests.path("there"))
+        tests.path("there").mkdir()
+        tests.path(f"there/{number}.json").write_text("")
+        tests.answers("export: a folder that has trails", ["export", name, "there"], 3, lines({"error": [32]}))
+
+
 def test_questions(tests):
     """The questions of the page are answered by a store whose nodes have names, and a server takes that store up."""
     name = "asked.db"

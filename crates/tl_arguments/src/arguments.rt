@@ -2,8 +2,8 @@
 
 use crate::help::{
     ALONE_HELP, ASM_HELP, AUDIT_HELP, CHECK_HELP, COMPILE_HELP, DIS_HELP, DRIVE_HELP, EXPLAIN_HELP,
-    HELP, MIGRATE_HELP, PROCS_HELP, RUN_HELP, SERVE_HELP, STATUS_HELP, STOP_HELP, VERIFY_HELP,
-    WIDEN_HELP,
+    EXPORT_HELP, HELP, MIGRATE_HELP, PROCS_HELP, RUN_HELP, SERVE_HELP, STATUS_HELP, STOP_HELP,
+    VERIFY_HELP, WIDEN_HELP,
 };
 use crate::rows::{Reading, Row};
 use clap::{Arg, ArgAction, Command, value_parser};
@@ -158,6 +158,7 @@ enum Name {
     Status,
     Stop,
     Audit,
+    Export,
     Check,
     Compile,
     Procs,
@@ -169,7 +170,7 @@ enum Name {
     Explain,
 }
 
-const NAMES: [Name; 16] = [
+const NAMES: [Name; 17] = [
     Name::Alone,
     Name::Drive,
     Name::Run,
@@ -177,6 +178,7 @@ const NAMES: [Name; 16] = [
     Name::Status,
     Name::Stop,
     Name::Audit,
+    Name::Export,
     Name::Check,
     Name::Compile,
     Name::Procs,
@@ -383,7 +385,7 @@ fn audit_command<'a>(alloc: Global) -> Result<Command<'a>, AllocError> {
             .as_a(Reading::Flag),
             Row::file(
                 "TRAIL",
-                "The file of the trail, as JSON; several that follow each other; or a folder of such files",
+                "The file of the trail, as JSON; several that follow each other; a folder of such files; or the file of a store",
             )
             .as_a(Reading::Files),
         ],
@@ -439,7 +441,7 @@ fn reading_command<'a>(
     command_of(alloc, name, about, help, &[file])
 }
 
-// The command that reads one file and writes another.
+// The command that reads one file and writes another, or others.
 fn writing_command<'a>(
     alloc: Global,
     name: &'static str,
@@ -469,6 +471,19 @@ fn command_named<'a>(alloc: Global, name: Name) -> Result<Command<'a>, AllocErro
             STOP_HELP,
         ),
         Name::Audit => audit_command(alloc),
+        Name::Export => writing_command(
+            alloc,
+            "export",
+            "Writes what the calls of a store did, as trails that `audit` checks",
+            EXPORT_HELP,
+            [
+                Row::file("STORE", "The file of the store"),
+                Row::file(
+                    "FOLDER",
+                    "The folder that the trails are written to, as 0.json, 1.json and so on",
+                ),
+            ],
+        ),
         Name::Check => reading_command(
             alloc,
             "check",

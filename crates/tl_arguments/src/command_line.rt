@@ -156,6 +156,11 @@ pub enum Request<'a> {
         /// Whether to say what should stand where something is wrong.
         explains: bool,
     },
+    /// Write the trails of a store's epochs into a folder.
+    Export {
+        store: &'a str,
+        folder: &'a str,
+    },
     /// Ask the server with this control port or socket to stop.
     Stop {
         control: Address<'a>,
@@ -392,6 +397,12 @@ fn request_of<'a>(alloc: Global, name: &str, words: &ArgMatches<'a>) -> Option<R
         return Some(Request::Audit {
             trails: all_of(alloc, words, "TRAIL")?,
             explains: words.get_flag("explain"),
+        });
+    }
+    if name == "export" {
+        return Some(Request::Export {
+            store: words.get_str("STORE")?,
+            folder: words.get_str("FOLDER")?,
         });
     }
     if name == "serve" && words.contains_id("store") {

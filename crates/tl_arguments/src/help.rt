@@ -33,6 +33,8 @@ A file that is a list is a chain, one trail an epoch: this prints {\"orders\":[.
 doesn't take over where the one before it ends, or {\"error\":[719,trail,..]} with what is wrong with a trail.
 Of several files, each has to go on where the one before it ends: treedb audit 0.json 1.json prints {\"orders\":[..]} for each file,
 or what is wrong with it, and names it. So does treedb audit FOLDER with the files 0.json, 1.json and so on of a folder.
+Of the file of a store, which no server has open, it takes the calls again, and prints what it would print of the files that export
+writes.
 With --explain a sentence on standard error says what stands where something is wrong, and what should stand there.
 Exit status: 0 done, 1 refused, 2 a mistake on the command line, 3 a file that can't be read, 4 memory.";
 
@@ -64,6 +66,13 @@ Example: treedb explain 407
 prints when the verifier refuses a procedure with [407,position,register], and what to do then.
 Exit status: 0 done, 2 a number that no fault has, or another mistake on the command line, 3 standard output can't be
 written, 4 memory.";
+
+pub const EXPORT_HELP: &str = "\
+Example: treedb export things.db trails
+takes all calls again that the store things.db has, and writes what they did into the folder trails, which has to be there and may
+have no such files: 0.json, 1.json and so on. It prints {\"epochs\":E,\"files\":F}. treedb audit trails checks the files. A new file begins
+where the tree has grown, or after 256 epochs. No server may have the store open, and it stays as it is.
+Exit status: 0 done, 1 refused, 2 a mistake on the command line, 3 a file that can't be read or written, 4 memory.";
 
 pub const MIGRATE_HELP: &str = "\
 Example: treedb migrate add.tlp add2.tlp

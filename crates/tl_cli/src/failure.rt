@@ -3,18 +3,21 @@
 use std::alloc::{AllocError, AllocFailed};
 use std::{fmt, io};
 use tl_commands::CliFault;
+use tl_export::ExportFault;
 use tl_file_journal::StoreRefusal;
 use tl_language_commands::LanguageFault;
 use tl_server::Address;
 use tl_store::StoreFault;
+use tl_store_file::FileFault;
 
-/// The fault of a command, or of a command on a text of the procedure language; a store that can't be used; a file that can't be read or
+/// The fault of a command, or of a command on a text of the procedure language; a store that can't be used, or not be exported; a file that can't be read or
 /// written, with the system's reason; a port or a socket that can't be opened; or a server that isn't there.
 #[derive(Drop)]
 pub enum Failure<'a> {
     Refused(CliFault),
     RefusedText(LanguageFault),
     Unstored(StoreRefusal),
+    Unexported(ExportFault),
     Unreadable {
         path: &'a str,
         reason: io::Error,
@@ -38,6 +41,18 @@ pub enum Fault {
     Command(CliFault),
     Text(LanguageFault),
     Store(StoreRefusal),
+    /// 1007: a record of a store isn't that of the calls taken again.
+    Record(ExportFault),
+}
+
+// The fault that stands for one of an export.
+fn of_export(fault: ExportFault) -> Fault {
+    match fault {
+        ExportFault::Store(fault) => Fault::Store(StoreRefusal::Store(fault)),
+        ExportFault::Unclean(fault) => Fault::Command(CliFault::Chain(fault)),
+        ExportFault::Untaken => Fault::Command(CliFault::Unwritable),
+        ExportFault::WrongRecord { .. } => Fault::Record(fault),
+    }
 }
 
 impl Failure<'_> {
@@ -47,6 +62,7 @@ impl Failure<'_> {
             Failure::Refused(fault) => Fault::Command(*fault),
             Failure::RefusedText(fault) => Fault::Text(*fault),
             Failure::Unstored(refusal) => Fault::Store(*refusal),
+            Failure::Unexported(fault) => of_export(*fault),
             Failure::Unreadable { .. } => Fault::Command(CliFault::Unreadable),
             Failure::Unwritable { .. } => Fault::Command(CliFault::Unwritable),
             Failure::NotOpened { .. } | Failure::NoServer { .. } => {
@@ -61,6 +77,7 @@ impl Failure<'_> {
             Fault::Command(fault) => fault.status(),
             Fault::Text(fault) => fault.status(),
             Fault::Store(refusal) => refusal.status(),
+            Fault::Record(_) => 1,
         }
     }
 }
@@ -74,6 +91,12 @@ impl From<StoreRefusal> for Failure<'_> {
 impl From<StoreFault> for Failure<'_> {
     fn from(fault: StoreFault) -> Self {
         Failure::Unstored(StoreRefusal::Store(fault))
+    }
+}
+
+impl From<FileFault> for Failure<'_> {
+    fn from(fault: FileFault) -> Self {
+        Failure::Unstored(StoreRefusal::File(fault))
     }
 }
 
@@ -101,6 +124,7 @@ impl fmt::Display for Failure<'_> {
             Failure::Refused(fault) => write!(f, "{fault}"),
             Failure::RefusedText(fault) => write!(f, "{fault}"),
             Failure::Unstored(refusal) => write!(f, "{refusal}"),
+            Failure::Unexported(fault) => write!(f, "{fault}"),
             Failure::Unreadable { path, reason } => write!(f, "{path} can't be read: {reason}"),
             Failure::Unwritable { path, reason } => write!(f, "{path} can't be written: {reason}"),
             Failure::NotOpened { address } => match address {

@@ -8,6 +8,7 @@ mod output;
 mod program;
 mod progress;
 mod script;
+mod store_files;
 mod trail_file;
 
 use archive::{Archive, Finish, Trails};
@@ -28,10 +29,12 @@ pub use tl_commands::{
     open_engine, open_generations, run_cmd, run_with_trail_cmd, take_generation, tree_of_file,
     verify_cmd, widen_cmd,
 };
+use tl_file_export::{Epochs, open_epochs};
 use tl_file_journal::{End, StoreRefusal, Stored, open_stored};
 use tl_generations::Succession;
 pub use tl_language_commands::{LanguageFault, check_procs_cmd, compile_cmd, procs_cmd};
 use tl_server::{Journal, Keeper};
+use tl_store_file::FileFault;
 use tl_tree::Tree;
 
 /// The exit status if memory is refused before a command is known. Nothing is printed then.
@@ -66,7 +69,14 @@ fn tell<R: Print + Eprint>(rt: &R, error: &Error) -> u8 {
 }
 
 // Does what the words of the command line ask for, and returns the exit status.
-fn answer<R, K, F, J, O>(rt: &R, words: &[String], is_terminal: bool, archive: F, opens: O) -> u8
+fn answer<R, K, F, J, O, E, X>(
+    rt: &R,
+    words: &[String],
+    is_terminal: bool,
+    archive: F,
+    opens: O,
+    epochs: X,
+) -> u8
 where
     R: Files
         + Print
@@ -83,12 +93,15 @@ where
     F: FnOnce(Trails, Succession, u16) -> K + Drop,
     J: Journal + End + Sync + Drop,
     O: FnOnce(&str, Option<Tree>) -> Result<Stored<J>, StoreRefusal> + Drop,
+    E: Epochs + Drop,
+    X: FnOnce(&str) -> Result<E, FileFault> + Drop,
     requires archive { F.IsAlwaysCallable archive }
     requires opens { O.IsAlwaysCallable opens }
+    requires epochs { X.IsAlwaysCallable epochs }
 {
     match tl_arguments::parse(rt.alloc(), words) {
         Ok(Asked::Request { request, nodes }) => {
-            Program::new(rt, is_terminal, nodes).execute(&request, archive, opens)
+            Program::new(rt, is_terminal, nodes).execute(&request, archive, opens, epochs)
         }
         Ok(Asked::Explanation { number }) => explain::explain(rt, number),
         Ok(Asked::Told(error)) => tell(rt, &error),
@@ -110,6 +123,7 @@ fn main(rt: HostRuntime) -> ExitCode {
             rt.stderr().is_terminal(),
             |trails, succession, nodes| Archive::new(rt, trails, succession, nodes),
             |path, tree| open_stored(&rt, path, tree),
+            |path| open_epochs(&rt, path),
         ),
         Err(status) => status,
     };

@@ -35,6 +35,7 @@ pub fn print_failure<R: Print + Eprint>(rt: &R, failure: &Failure<'_>) -> io::Re
         Fault::Command(fault) => print_numbers(rt, fault.numbers().as_slice()),
         Fault::Text(fault) => print_numbers(rt, fault.numbers().as_slice()),
         Fault::Store(refusal) => print_numbers(rt, refusal.numbers().as_slice()),
+        Fault::Record(fault) => print_numbers(rt, fault.numbers().as_slice()),
     }
 }
 

@@ -2,6 +2,7 @@
 // printed.
 
 mod auditing;
+mod exporting;
 mod serving;
 mod storing;
 
@@ -23,9 +24,11 @@ use std::time::Clock;
 use storing::StoreFiles;
 use tl_arguments::{CallCommand, FileCommand, Outputs, Request, ScriptFiles};
 use tl_compiler::CompileFault;
+use tl_file_export::Epochs;
 use tl_file_journal::{End, StoreRefusal, Stored};
 use tl_generations::Succession;
 use tl_server::{Journal, Keeper};
+use tl_store_file::FileFault;
 use tl_tree::Tree;
 use tl_workers::{MAX_WORKERS, NoGate};
 
@@ -396,19 +399,23 @@ where
     }
 
     // What the program prints for a request.
-    fn answer<'p, K, F, J, O>(
+    fn answer<'p, K, F, J, O, E, X>(
         &self,
         request: &Request<'p>,
         archive: F,
         opens: O,
+        epochs: X,
     ) -> Result<String, Failure<'p>>
     where
         K: Keeper + Finish + Send + Drop,
         F: FnOnce(Trails, Succession, u16) -> K + Drop,
         J: Journal + End + Sync + Drop,
         O: FnOnce(&str, Option<Tree>) -> Result<Stored<J>, StoreRefusal> + Drop,
+        E: Epochs + Drop,
+        X: FnOnce(&str) -> Result<E, FileFault> + Drop,
         requires archive { F.IsAlwaysCallable archive }
         requires opens { O.IsAlwaysCallable opens }
+        requires epochs { X.IsAlwaysCallable epochs }
     {
         match request {
             Request::Calls {
@@ -435,7 +442,8 @@ where
                 Ok(lines)
             }
             Request::Files(command) => self.answer_files(*command),
-            Request::Audit { trails, explains } => self.audit(trails, *explains),
+            Request::Audit { trails, explains } => self.audit(trails, *explains, epochs),
+            Request::Export { store, folder } => self.export(store, folder, epochs),
             Request::Stop { control } => self.stop(*control),
             Request::Status { control } => self.status(*control),
         }
@@ -443,17 +451,26 @@ where
 
     /// Does what a request asks for, prints the result, and returns the exit status. `archive` makes what closes the engines of a server
     /// that lasts, of which a generic program couldn't say that it may be sent to a thread. `opens` opens a store, of whose journal
-    /// the program knows no more than that it is one.
-    pub fn execute<'p, K, F, J, O>(&self, request: &Request<'p>, archive: F, opens: O) -> u8
+    /// the program knows no more than that it is one; `epochs` opens one to take its epochs again.
+    pub fn execute<'p, K, F, J, O, E, X>(
+        &self,
+        request: &Request<'p>,
+        archive: F,
+        opens: O,
+        epochs: X,
+    ) -> u8
     where
         K: Keeper + Finish + Send + Drop,
         F: FnOnce(Trails, Succession, u16) -> K + Drop,
         J: Journal + End + Sync + Drop,
         O: FnOnce(&str, Option<Tree>) -> Result<Stored<J>, StoreRefusal> + Drop,
+        E: Epochs + Drop,
+        X: FnOnce(&str) -> Result<E, FileFault> + Drop,
         requires archive { F.IsAlwaysCallable archive }
         requires opens { O.IsAlwaysCallable opens }
+        requires epochs { X.IsAlwaysCallable epochs }
     {
-        match self.answer(request, archive, opens) {
+        match self.answer(request, archive, opens, epochs) {
             Ok(text) => output::status_after(self.rt, self.rt.print(text.as_str()), 0),
             Err(failure) => {
                 let printed = output::print_failure(self.rt, &failure);

@@ -6,6 +6,8 @@ use crate::progress::Shown;
 use crate::{CliFault, audit_cmd, audit_next_cmd, explain_audit_fault};
 use std::fs;
 use std::rt::Files;
+use tl_file_export::Epochs;
+use tl_store_file::FileFault;
 use tl_trail::Trail;
 
 // The number of a generation's file, by its name: `3.json`.
@@ -19,18 +21,32 @@ fn number_of(name: &str) -> Option<u64> {
 }
 
 impl<'a, R: Files + Print + Eprint + AllocGlobal + Clone + Drop> Program<'a, R> {
-    /// What `audit` prints of these files and folders. One file alone is told as it always was; of several each has a line, which is printed
-    /// as it comes. Where something is wrong, and it is asked for, people are told what should stand there.
-    pub(crate) fn audit<'p>(
+    /// What `audit` prints of these files and folders. One file alone is told as it always was, or may be a store; of several each has a line, which
+    /// is printed as it comes. Where something is wrong, and it is asked for, people are told what should stand there.
+    pub(crate) fn audit<'p, E, X>(
         &self,
         paths: &[&'p str],
         explains: bool,
-    ) -> Result<String, Failure<'p>> {
+        opens: X,
+    ) -> Result<String, Failure<'p>>
+    where
+        E: Epochs + Drop,
+        X: FnOnce(&str) -> Result<E, FileFault> + Drop,
+        requires { X.IsAlwaysCallable opens }
+    {
         if let [path] = paths {
+            if self.is_database(path)? {
+                return self.audit_store(path, opens);
+            }
             if !self.is_folder(path) {
                 return self.audit_alone(path, explains);
             }
         }
+        self.audit_all(paths, explains)
+    }
+
+    // The same of several files, or of a folder.
+    fn audit_all<'p>(&self, paths: &[&'p str], explains: bool) -> Result<String, Failure<'p>> {
         let mut before = None;
         for path in paths {
             before = if self.is_folder(path) {

@@ -308,15 +308,8 @@ where
         let Some(folder) = lasting.trails else {
             return Ok(Trails::Nowhere);
         };
-        match self.numbers_in(folder) {
-            Ok(None) => Ok(Trails::Folder(String::from_str(self.rt.alloc(), folder)?)),
-            Ok(Some(_)) => {
-                let _shown = eprintln!(self.rt; "treedb: {folder} has trails already");
-                Err(Failure::Refused(CliFault::Unwritable))
-            }
-            Err(Failure::Unreadable { path, reason }) => Err(Failure::Unwritable { path, reason }),
-            Err(failure) => Err(failure),
-        }
+        self.check_folder(folder)?;
+        Ok(Trails::Folder(String::from_str(self.rt.alloc(), folder)?))
     }
 
     // Serves connections until there were as many as were asked for, or until the server is asked to stop.

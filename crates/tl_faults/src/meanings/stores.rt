@@ -40,6 +40,12 @@ pub fn from_1001_to_1090(number: u16) -> Option<Meaning> {
             when: "the stored reply isn't that of the call, taken again",
             advice: "no server leaves such a file; take back what was changed in it",
         }),
+        1007 => Some(Meaning {
+            parts: ", node",
+            name: "another record",
+            when: "the record of this node at the last seal isn't that of the calls taken again; of `export` and `audit`",
+            advice: "no server leaves such a file; take back what was changed in `record`, or in a call",
+        }),
         1008 => Some(Meaning {
             parts: "",
             name: "no store",

@@ -1,0 +1,179 @@
+// What comes of the trails of a store: files of a folder, or lines.
+
+use serde_json::Value;
+use std::alloc::Global;
+use std::io::Write;
+use std::rt::Files;
+use std::{fs, io, mem};
+use tl_export::ExportFault;
+use tl_file_export::TrailFiles;
+use tl_json::{calls_to_value, orders_to_value};
+use tl_lines::line_of;
+use tl_serial_order::Order;
+use tl_store::StoreFault;
+use tl_trail::{Trail, write_trail};
+
+/// Writes trails into the files 0.json, 1.json and so on of a folder, each a chain. Until a file is whole its name ends with `.part`.
+#[derive(Drop)]
+pub struct FolderFiles<'a, R: Files> {
+    rt: &'a R,
+    folder: &'a str,
+    // The file that was begun last, until it is whole.
+    open: Option<R::File>,
+    files: u64,
+    epochs: u64,
+}
+
+impl<'a, R: Files + Eprint> FolderFiles<'a, R> {
+    pub fn new(rt: &'a R, folder: &'a str) -> FolderFiles<'a, R> {
+        FolderFiles {
+            rt,
+            folder,
+            open: None,
+            files: 0,
+            epochs: 0,
+        }
+    }
+
+    /// How many epochs' trails were written.
+    pub fn epochs(&self) -> u64 {
+        self.epochs
+    }
+
+    /// How many files were written.
+    pub fn files(&self) -> u64 {
+        self.files
+    }
+
+    // The name of the last file, once it is whole.
+    fn path(&self, alloc: Global) -> Result<String, ExportFault> {
+        let number = self.files.saturating_sub(1);
+        Ok(format!(in alloc; "{}/{number}.json", self.folder)?)
+    }
+
+    // Says to people why something wasn't written.
+    fn unwritten(&self, path: &str, reason: &io::Error) -> ExportFault {
+        let _shown = eprintln!(self.rt; "treedb: {path} can't be written: {reason}");
+        ExportFault::Untaken
+    }
+
+    // Makes the next file.
+    fn make(&mut self, alloc: Global) -> Result<(), ExportFault> {
+        self.files = self.files.saturating_add(1);
+        let path = self.path(alloc)?;
+        let part = format!(in alloc; "{path}.part")?;
+        match fs::create(self.rt, part.as_str()) {
+            Ok(file) => {
+                self.open = Some(file);
+                Ok(())
+            }
+            Err(reason) => Err(self.unwritten(part.as_str(), &reason)),
+        }
+    }
+
+    // Writes a piece after those before it.
+    fn put(&mut self, alloc: Global, piece: &str) -> Result<(), ExportFault> {
+        let Some(file) = &mut self.open else {
+            return Err(ExportFault::Untaken);
+        };
+        match file.write_all(piece.as_bytes()) {
+            Ok(()) => Ok(()),
+            Err(reason) => {
+                let path = self.path(alloc)?;
+                Err(self.unwritten(path.as_str(), &reason))
+            }
+        }
+    }
+
+    // Writes a trail behind that.
+    fn put_trail(&mut self, alloc: Global, before: &str, trail: &Trail) -> Result<(), ExportFault> {
+        let Ok(text) = write_trail(alloc, trail) else {
+            return Err(ExportFault::Store(StoreFault::Memory));
+        };
+        self.put(alloc, before)?;
+        self.put(alloc, text.as_str())?;
+        self.epochs = self.epochs.saturating_add(1);
+        Ok(())
+    }
+}
+
+impl<R: Files + Eprint> TrailFiles for FolderFiles<'_, R> {
+    ghost use Rattle.std.specs.Prelude.{None};
+
+    // No contract can say what is in a file.
+    ghost files = { λ _. None };
+
+    fn begin(&mut self, alloc: Global, trail: &Trail, _order: &Order) -> Result<(), ExportFault> {
+        self.end(alloc)?;
+        self.make(alloc)?;
+        self.put_trail(alloc, "[", trail)
+    }
+
+    fn add(&mut self, alloc: Global, trail: &Trail, _order: &Order) -> Result<(), ExportFault> {
+        self.put_trail(alloc, ",", trail)
+    }
+
+    fn end(&mut self, alloc: Global) -> Result<(), ExportFault> {
+        if self.open.is_none() {
+            return Ok(());
+        }
+        self.put(alloc, "]\n")?;
+        self.open = None;
+        let path = self.path(alloc)?;
+        let part = format!(in alloc; "{path}.part")?;
+        match fs::rename(self.rt, part.as_str(), path.as_str()) {
+            Ok(()) => Ok(()),
+            Err(reason) => Err(self.unwritten(path.as_str(), &reason)),
+        }
+    }
+}
+
+/// Prints a line for the trails that would be in one file: the orders of their calls, as `audit` does.
+#[derive(Drop)]
+pub struct PrintedOrders<'a, R> {
+    rt: &'a R,
+    // The orders of the file that was begun last.
+    orders: Vec<Value>,
+}
+
+impl<'a, R: Print> PrintedOrders<'a, R> {
+    pub fn new(rt: &'a R, alloc: Global) -> PrintedOrders<'a, R> {
+        PrintedOrders {
+            rt,
+            orders: Vec::new(alloc),
+        }
+    }
+
+    fn push(&mut self, alloc: Global, order: &Order) -> Result<(), ExportFault> {
+        let calls = calls_to_value(alloc, order.calls())?;
+        Ok(self.orders.push(calls)?)
+    }
+}
+
+impl<R: Print> TrailFiles for PrintedOrders<'_, R> {
+    ghost use Rattle.std.specs.Prelude.{None};
+
+    // Trails are printed by their orders alone.
+    ghost files = { λ _. None };
+
+    fn begin(&mut self, alloc: Global, _trail: &Trail, order: &Order) -> Result<(), ExportFault> {
+        self.end(alloc)?;
+        self.push(alloc, order)
+    }
+
+    fn add(&mut self, alloc: Global, _trail: &Trail, order: &Order) -> Result<(), ExportFault> {
+        self.push(alloc, order)
+    }
+
+    fn end(&mut self, alloc: Global) -> Result<(), ExportFault> {
+        if self.orders.is_empty() {
+            return Ok(());
+        }
+        let orders = mem::replace(&mut self.orders, Vec::new(alloc));
+        let line = line_of(alloc, &orders_to_value(alloc, orders)?)?;
+        match self.rt.print(line.as_str()) {
+            Ok(()) => Ok(()),
+            Err(_) => Err(ExportFault::Untaken),
+        }
+    }
+}

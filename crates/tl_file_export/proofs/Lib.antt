@@ -1,0 +1,2 @@
+mod FiledLemmas
+mod CleanLemmas
