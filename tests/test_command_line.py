@@ -57,7 +57,8 @@ MISTAKES = [
     [], ["walk"], ["--tree"], ["alone"], ALONE[:3], ALONE + ["more"], ALONE + ["--steps"], ALONE + ["--tree", "again"],
     ALONE[:-1], ["asm"], ASM[:2], ASM + ["more"], ["dis"], DIS + ["more"], ["verify"], VERIFY + ["--tree", "t"], ["migrate"],
     ["check"], CHECK + ["more"], ALONE + ["--save"], RUN + ["--proc"], MIGRATE[:2], MIGRATE + ["more"], ["widen"], WIDEN[:2], WIDEN + ["more"], ["drive"],
-    DRIVE[:3], DRIVE + ["--trail"], ["audit"], AUDIT + ["--more"], ["run"], RUN[:5], RUN[:3] + RUN[5:], RUN + ["more"],
+    DRIVE[:3], DRIVE + ["--trail"], ["audit"], AUDIT + ["--more"],
+    ["export"], ["export", "a.db"], ["export", "a.db", "trails", "more"], ["run"], RUN[:5], RUN[:3] + RUN[5:], RUN + ["more"],
     RUN + ["--trail"], RUN + ["--workers", "2"],
 ] + [RUN[:4] + [workers] + RUN[5:] for workers in ("0", "17", "-1", "two", "", "1.0", "99999999999999999999")] + [
     ["serve"], SERVE[:5], SERVE[:3] + SERVE[5:], SERVE[:1] + SERVE[3:], SERVE + ["more"], SERVE + ["--trail"],
@@ -97,7 +98,7 @@ def error_line(numbers):
 
 def test_command_lines(tests):
     for command in [[], ["alone"], ["drive"], ["run"], ["serve"], ["audit"], ["asm"], ["dis"], ["verify"], ["check"], ["compile"], ["procs"], ["migrate"],
-                    ["widen"], ["stop"], ["status"], ["explain"]]:
+                    ["widen"], ["export"], ["stop"], ["status"], ["explain"]]:
         run = tests.run(*command, "--help")
         name = " ".join(command) or "treedb"
         holds = run.status == 0 and "Usage" in run.out and "Exit status" in run.out and run.err == ""

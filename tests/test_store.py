@@ -211,9 +211,15 @@ def copied(tests, name, copy, change=None):
             base.execute(change)
 
 
+def kept(tests, name):
+    """The bytes of a store and of the pages in its log. A log without pages gets another head whenever the store is opened."""
+    log = tests.bytes(name + "-wal")
+    return tests.bytes(name), log if len(log) > 4096 else b""
+
+
 def check_export(tests, name, folder, files):
     """What a store has is exported into so many epochs a file, which the auditor finds clean, and the store stays as it is."""
-    before = [tests.bytes(name + suffix) for suffix in ("", "-wal")]
+    before = kept(tests, name)
     tests.path(folder).mkdir()
     run = tests.run("export", name, folder)
     tests.check(f"{folder}: export", (run.status, run.out) == (0, lines({"epochs": sum(files), "files": len(files)})), run)
@@ -222,7 +228,7 @@ def check_export(tests, name, folder, files):
     of_folder, of_store = tests.run("audit", folder), tests.run("audit", name)
     tests.check(f"{folder}: audit", of_folder.status == 0 and [len(json.loads(line)["orders"]) for line in of_folder.out.splitlines()] == files, of_folder)
     tests.check(f"{folder}: audit of the store", (of_store.status, of_store.out) == (0, of_folder.out), of_store)
-    tests.check(f"{folder}: the store stays", [tests.bytes(name + suffix) for suffix in ("", "-wal")] == before, "it is another")
+    tests.check(f"{folder}: the store stays", kept(tests, name) == before, "it is another")
     trails = [trail for number in range(len(files)) for trail in json.loads(tests.path(f"{folder}/{number}.json").read_text())]
     copied(tests, name, "counted.db")
     wanted = dict(stored(tests, "counted.db", "select epoch, count(*) from call group by epoch"))

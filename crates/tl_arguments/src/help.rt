@@ -71,7 +71,7 @@ pub const EXPORT_HELP: &str = "\
 Example: treedb export things.db trails
 takes all calls again that the store things.db has, and writes what they did into the folder trails, which has to be there and may
 have no such files: 0.json, 1.json and so on. It prints {\"epochs\":E,\"files\":F}. treedb audit trails checks the files. A new file begins
-where the tree has grown, or after 256 epochs. No server may have the store open, and it stays as it is.
+where the tree has grown, or after 256 epochs. No server may have the store open, and nothing is stored in it.
 Exit status: 0 done, 1 refused, 2 a mistake on the command line, 3 a file that can't be read or written, 4 memory.";
 
 pub const MIGRATE_HELP: &str = "\

@@ -29,8 +29,8 @@ impl Epochs for FileEpochs {
     }
 }
 
-/// Opens the store of that path, and writes nothing into it: what calls did since the last seal stays as it is. 1003 if the file is empty, and all
-/// faults of `tl_store_file::open`. As long as it is open, others find it locked.
+/// Opens the store of that path, to read it: nothing is committed, so what calls did since the last seal stays as it is. 1003 if the file is empty, and
+/// all faults of `tl_store_file::open`. As long as it is open, others find it locked.
 pub fn open_epochs(rt: &HostRuntime, path: &str) -> Result<FileEpochs, FileFault> {
     match tl_store_file::open(rt, path)? {
         Found::Store(rested) => Ok(FileEpochs { rested }),
