@@ -24,14 +24,14 @@ rest_of_file : (n : ℕ) (t : TrailValue) (us rest : List TrailValue) → nodes_
 rest_of_file n t [] rest is are clean = (tt, clean)
 rest_of_file n t (u ∷ us) rest is are clean =
     let later = rest_of_file n u us rest are.0 are.1 clean.1 in
-    ((not_grown t u (are.0 ∙ sym is) clean.0.0, clean.0.1.0, later.0), later.1)
+    ((not_grown t u (are.0 ∙ sym is) clean.0.0, clean.0.1, later.0), later.1)
 
 one_file : (n : ℕ) (before : Option TrailValue) (ts rest : List TrailValue) → IsFile n ts → AreCleanFiles before (files_of (ts ++ rest))
     → CleanAfter (after_file before) ts × AreCleanFiles (last_trail before ts) (files_of rest)
 one_file n before [] rest file clean = absurd (omega (arith, file.some))
 one_file n before (t ∷ us) rest file clean =
     let later = rest_of_file n t us rest file.same.0 file.same.1 clean.1 in
-    ((clean.0.0, clean.0.1.0, later.0), later.1)
+    ((clean.0.0, clean.0.1, later.0), later.1)
 
 all_files : (n c : ℕ) (before : Option TrailValue) (fs : List (List TrailValue)) → AreSplit n c fs → AreCleanFiles before (files_of (trails_of fs)) → AreCleanFiles before fs
 all_files n c before [] split clean = tt

@@ -56,7 +56,7 @@ impl<F: TrailFiles> TrailTaker for Splitting<F> {
 
     ghost IsReady = { λ s. IfSome (F.files s.kept) (AreSplit s.nodes s.count) };
 
-    #[tactic(auto, using(crate::proofs::FiledLemmas::took_begun, crate::proofs::FiledLemmas::took_with_more, crate::proofs::FiledLemmas::ready_begun, crate::proofs::FiledLemmas::ready_more))]
+    #[tactic(auto, using(crate::proofs::FiledLemmas::took_begun, crate::proofs::FiledLemmas::took_with_more))]
     fn take(&mut self, alloc: Global, trail: &Trail, order: &Order) -> Result<(), ExportFault> {
         let nodes = count_nodes(trail);
         if self.goes_on(nodes) {
