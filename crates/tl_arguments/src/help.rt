@@ -9,6 +9,7 @@ Help on a command: treedb COMMAND --help. What a number means: treedb explain NU
 pub const ALONE_HELP: &str = "\
 Example: treedb alone --tree one-node.json --proc add.tlp --args '[0,3]'
 prints {\"reply\":[8],\"steps\":7}, and then the tree as JSON. The files are not changed.
+treedb alone --tree t.json --proc stock.tdb --name shift runs one procedure of a text; of a text with only one, --name is left out.
 Exit status: 0 done, 1 refused, 2 a mistake on the command line, 3 a file that can't be read, 4 memory.";
 
 pub const ASM_HELP: &str = "\
