@@ -484,7 +484,10 @@ fn command_named<'a>(alloc: Global, name: Name) -> Result<Command<'a>, AllocErro
             "check",
             "Says what a procedure does at most, or shows where its text is wrong",
             CHECK_HELP,
-            Row::file("FILE", "The file of an assembler text or of a container"),
+            Row::file(
+                "FILE",
+                "The file of a text of the procedure language, whose name ends with `.tdb`, of an assembler text, or of a container",
+            ),
         ),
         Name::Compile => compile_command(alloc),
         Name::Procs => reading_command(
