@@ -11,17 +11,17 @@ use crate::failure::Failure;
 use crate::refused::{RefusedProcedure, first_refused};
 use crate::trail_file::TrailFile;
 use crate::{
-    CliFault, Inputs, LanguageFault, alone_cmd, asm_cmd, check_cmd, check_procs_cmd, compile_cmd, dis_cmd,
-    drive_cmd, drive_with_trail_cmd, migrate_cmd, output, procs_cmd, run_cmd, run_with_trail_cmd,
-    verify_cmd, widen_cmd,
+    CliFault, Inputs, LanguageFault, alone_cmd, asm_cmd, check_cmd, check_procs_cmd, compile_cmd,
+    dis_cmd, drive_cmd, drive_with_trail_cmd, migrate_cmd, output, procs_cmd, run_cmd,
+    run_with_trail_cmd, verify_cmd, widen_cmd,
 };
+use sources::source_by_name;
 use std::io::ErrorKind;
 use std::net::{Net, TcpListener, TcpStream};
 use std::rt::Files;
 use std::sync::Wait;
 use std::thread::Threads;
 use std::time::Clock;
-use sources::source_by_name;
 use storing::StoreFiles;
 use tl_arguments::{CallCommand, FileCommand, Outputs, Request, ScriptFiles};
 use tl_file_journal::{End, StoreRefusal, Stored};

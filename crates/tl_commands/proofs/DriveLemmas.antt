@@ -1,5 +1,5 @@
 -- The parts of a run of the command `drive` together.
-use Rattle.std.proofs.Common.{◌≡◌, ℕ, List, [], map, ap, ◌∙◌, subst, Ok}
+use Rattle.std.proofs.Common.{◌≡◌, ℕ, List, map, ap, ◌∙◌, subst, Ok}
 use Rattle.serde_json.specs.Data.{Data}
 use Rattle.tl_tree.specs.Trees.{TreeValue}
 use Rattle.tl_tree.specs.Reading.{tree_of_text}

@@ -87,10 +87,7 @@ pub fn drive_cmd(alloc: Global, inputs: Inputs<'_>) -> Result<String, CliFault>
 }
 
 /// The same, and the text of a file: the trail of the calls, and a line feed. If memory was refused, also 790.
-pub fn drive_with_trail_cmd(
-    alloc: Global,
-    inputs: Inputs<'_>,
-) -> Result<(String, String), CliFault>
+pub fn drive_with_trail_cmd(alloc: Global, inputs: Inputs<'_>) -> Result<(String, String), CliFault>
     ensures printed { IfOk result (λ r. DrivesToTrail inputs.entry.limit inputs.entry.tree.now inputs.entry.script.now inputs.entry.procedures.items (string_bytes r.0) (string_bytes r.1)) }
     ensures fault { IfErr result (λ e. IsFirstDriveFault inputs.entry.limit inputs.entry.tree.now inputs.entry.script.now inputs.entry.procedures.items e) }
 {

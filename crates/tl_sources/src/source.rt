@@ -124,10 +124,7 @@ pub fn procedure_of(
 }
 
 // The procedures with their names.
-fn all_named(
-    alloc: Global,
-    compiled: Vec<Compiled>,
-) -> Result<Vec<NamedProcedure>, AllocError>
+fn all_named(alloc: Global, compiled: Vec<Compiled>) -> Result<Vec<NamedProcedure>, AllocError>
     ensures { IfOk result (λ found. found.items ≡ map made compiled.items) }
 {
     let mut found = Vec::new(alloc);

@@ -73,7 +73,14 @@ fn wrong_with(alloc: Global, container: &[u8]) -> Result<u64, Fail> {
         Err(fault) => return Ok(first_number(CliFault::Code(fault))),
     }
     let source = Source::Container(container);
-    match alone_cmd(alloc, ONE_NODE.as_bytes(), source, None, "[0,3]", USUAL_NODES) {
+    match alone_cmd(
+        alloc,
+        ONE_NODE.as_bytes(),
+        source,
+        None,
+        "[0,3]",
+        USUAL_NODES,
+    ) {
         Ok(_) => Ok(0),
         Err(fault) => Ok(first_number(fault)),
     }

@@ -40,10 +40,7 @@ impl<'a, R: Files + Print + Eprint + AllocGlobal> Program<'a, R> {
             Err(fault) => return Err(self.misread(path, &file, CliFault::Source(fault))),
         };
         let mut procedures = Vec::with_capacity(alloc, 1)?;
-        procedures.push_reserved(NamedProcedure::new(
-            String::from_str(alloc, name)?,
-            procedure,
-        ));
+        procedures.push_reserved(NamedProcedure::new(String::from_str(alloc, name)?, procedure));
         Ok(procedures)
     }
 

@@ -1,6 +1,5 @@
-use Rattle.std.proofs.Common.{ℕ, List, Option, option_map, Bor, arith, subst, ◌∙◌, ap, inr, refl}
+use Rattle.std.proofs.Common.{ℕ, List, Option, option_map, Bor, arith, subst, ap, inr}
 use Rattle.tl_instr.specs.Codes.{CodeValue}
-use Rattle.tl_verify.specs.Acceptable.{Acceptable}
 use Rattle.tl_lowering.specs.Sound.{IsInOrder}
 use Rattle.tl_compiler.proofs.MeantLemmas.{source_of, no_source}
 use Rattle.tl_meaning.specs.Calls.{DoesCall}
