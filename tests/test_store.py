@@ -5,16 +5,19 @@ The files are read by Python's own SQLite while no server has them open. The tes
 
 import contextlib
 import json
+import os
 import random
+import re
 import shutil
 import signal
 import sqlite3
 import subprocess
+import sys
 import threading
 import time
 import unittest
 
-from running import free_port
+from running import TOP, free_port
 from serving import ADD, Peer, serving
 
 STORE = "things.db"
@@ -196,6 +199,38 @@ def test_growth(tests):
     tests.check("growth: the nodes", stored(tests, name, "select number, parent, epoch from node") == [(0, 0, 0), (1, 0, 1), (2, 1, 1)], stored(tests, name, "select number, parent, epoch from node"))
     after = {"parents": [0, 0, 1], "records": [[value] + [0] * 7 for value in (9, 1, 6)]}
     tests.check("growth: the end", run.out.endswith(lines(after)), run)
+
+
+def test_questions(tests):
+    """The questions of the page are answered by a store whose nodes have names, and a server takes that store up."""
+    name = "asked.db"
+    with made(tests, name) as server:
+        peer = Peer(server.port)
+        for line in (ADD, call(0, 3), json.dumps({"op": "grow", "parents": [0, 1]}), call(1, 4), call(2, 5)):
+            peer.ask(line)
+        peer.close()
+        server.stop()
+        server.end()
+    tests.path("names.json").write_text(json.dumps(["", "north", "aisle 1"]))
+    environment = {**os.environ, "PYTHONPATH": str(TOP / "clients/python")}
+    named = subprocess.run([sys.executable, "-m", "treedb", "name", name, "names.json"], cwd=tests.folder, env=environment, capture_output=True, text=True, check=False)
+    tests.check("names in a store", (named.returncode, named.stdout) == (0, "3 names\n"), named)
+    views, *questions = re.search("```sql\n(.*?)```", (TOP / "docs/use/store.md").read_text(), re.DOTALL)[1].split("\n-- ")
+    wanted = [[], [("add", 3)], [(1, 0, 4)], [("north/aisle 1", 5)]]
+    with contextlib.closing(sqlite3.connect(tests.path(name))) as base:
+        base.executescript(views)
+        found = [base.execute(question.partition("\n")[2]).fetchall() for question in questions]
+        rows = base.execute("select number, path, parent, f0 from records order by number").fetchall()
+    tests.check("questions to a store", found == wanted, found)
+    tests.check("records by name", rows == [(0, "", 0, 8), (1, "north", 0, 4), (2, "north/aisle 1", 1, 5)], rows)
+    with again(tests, name) as server:
+        peer = Peer(server.port)
+        told = json.loads(peer.ask(call(1, 1)))["reply"]
+        peer.close()
+        server.stop()
+        run = server.end()
+    tests.check("a store with names is taken up", (told, run.status) == ([5], 0), (told, run))
+    tests.check("its names stay", stored(tests, name, "select count(*) from name") == [(3,)], stored(tests, name, "select count(*) from name"))
 
 
 def test_many_epochs(tests):

@@ -25,8 +25,9 @@ from .errors import Disconnected, Error, Exhausted, MissingNode, Refused, TimedO
 from .faults import FAULTS
 from .names import Names
 from .protocol import Answer, Batch, Bounds
+from .stores import write_names
 from .texts import procedures_of, script, text_of
 
 __all__ = ["FAULTS", "Answer", "AsyncClient", "Batch", "Bounds", "Client", "Disconnected", "Error", "Exhausted", "MissingNode", "Names", "Refused", "Status",
-           "TimedOut", "Unreadable", "procedures_of", "script", "status", "stop", "text_of"]
+           "TimedOut", "Unreadable", "procedures_of", "script", "status", "stop", "text_of", "write_names"]
 __version__ = "0.1.0"

@@ -8,6 +8,7 @@ import sys
 from typing import Any
 
 from . import __version__
+from .stores import write_names
 from .tables import read_table, shown, write_table
 
 
@@ -37,6 +38,10 @@ def show(words: argparse.Namespace) -> None:
         print(line)
 
 
+def name(words: argparse.Namespace) -> None:
+    print(f"{write_names(words.store, loaded(words.names))} names")
+
+
 def loaded(path: str) -> Any:
     with open(path, encoding="utf-8") as file:
         return json.load(file)
@@ -48,13 +53,13 @@ def parser() -> argparse.ArgumentParser:
     commands = words.add_subparsers(required=True, metavar="COMMAND")
 
     command = commands.add_parser("tree", help="make a tree and its names of a table (CSV) of paths and fields")
-    for name in ("table", "tree", "names"):
-        command.add_argument(name)
+    for argument in ("table", "tree", "names"):
+        command.add_argument(argument)
     command.set_defaults(do=from_table)
 
     command = commands.add_parser("table", help="make a table (CSV) of a tree and its names")
-    for name in ("tree", "names", "table"):
-        command.add_argument(name)
+    for argument in ("tree", "names", "table"):
+        command.add_argument(argument)
     command.add_argument("--fields", help="the names of the fields, with commas between")
     command.set_defaults(do=to_table)
 
@@ -63,6 +68,11 @@ def parser() -> argparse.ArgumentParser:
     command.add_argument("node", nargs="?", type=int, default=0)
     command.add_argument("--names")
     command.set_defaults(do=show)
+
+    command = commands.add_parser("name", help="write the names of nodes into the file of a store, for SQLite")
+    for argument in ("store", "names"):
+        command.add_argument(argument)
+    command.set_defaults(do=name)
     return words
 
 
