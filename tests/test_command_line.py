@@ -232,6 +232,58 @@ def test_options(tests):
                       re.compile(r"^treedb: .+\n\Z", re.MULTILINE))
 
 
+# ---- files of procedures
+
+def test_sources(tests):
+    """`--proc` takes a text of the procedure language, an assembler text or a container, as the file's name says."""
+    stock = ["alone", "--tree", "examples/stock/tree.json", "--args", "[10,5,0,1]", "--proc"]
+    tests.run("compile", "examples/stock/stock.tdb", "shift.tlp", "--proc", "shift")
+    compiled = tests.run(*stock, "shift.tlp")
+    tests.check("alone of a container", compiled.status == 0 and compiled.out.startswith('{"reply":['), compiled)
+    for name, words in [("a text", ["examples/stock/stock.tdb", "--name", "shift"]), ("a container, whatever the name", ["shift.tlp", "--name", "other"])]:
+        tests.answers(f"alone of {name}", stock + words, 0, compiled.out, "")
+    tests.answers("alone of an assembler text", ["alone", "--tree", "examples/one-node.json", "--proc", "examples/add.asm", "--args", "[0,3]"], 0,
+                  tests.run(*ALONE).out, "")
+    two = "proc one() { emit 1; } proc two() { emit 2; }"
+    tests.path("two.tdb").write_text(two)
+    tests.path("two.asm").write_text(two)
+    tests.path("bytes.asm").write_bytes(b"\xff")
+    tests.path("bytes.tdb").write_bytes(b"\xff")
+    on_one = ["alone", "--tree", "examples/one-node.json", "--proc"]
+    tests.path("only.tdb").write_text("proc only() { emit 1; }")
+    tests.answers("alone of the only procedure", on_one + ["only.tdb"], 0, '{"reply":[1],"steps":2}\n' + ONE_NODE_OUT, "")
+    tests.answers("alone of the second procedure", on_one + ["two.tdb", "--name", "two"], 0, '{"reply":[2],"steps":2}\n' + ONE_NODE_OUT, "")
+    for name, words, numbers in [("two procedures", ["two.tdb"], [289]), ("no procedure of the name", ["two.tdb", "--name", "three"], [289]),
+                                 ("a text for an assembler text", ["two.asm"], [251, 1]), ("an assembler text without UTF-8", ["bytes.asm"], [255]),
+                                 ("a text without UTF-8", ["bytes.tdb"], [255])]:
+        tests.answers(f"alone of {name}", on_one + words, 1, error_line(numbers), re.compile(r"^(two.asm:1\n.+\n.+\n)?treedb: .+\n\Z"))
+    tests.answers("the tree is judged before the procedure", ["alone", "--tree", "examples/add.asm", "--proc", "two.tdb"], 1, error_line([106]),
+                  re.compile("^(?s:.*)treedb: "))
+    tests.path("wrong.tdb").write_text("proc one() {\n    emit 1 + ;\n}")
+    tests.answers("a fault of a text of alone is shown", on_one + ["wrong.tdb"], 1, re.compile(r'^{"error":\[\d+,2,\d+\]}\n\Z'),
+                  re.compile(r"^wrong.tdb:2:\d+\n    .+\n.+\^\ntreedb: the text: "))
+    bare = RUN_WITH_PROCEDURE[:-3]
+    for name, words in [("a container", ["look=examples/look.tlp"]), ("a file of another name", ["look=look"])]:
+        if name == "a container":
+            tests.run("asm", "examples/look.asm", "look.tlp")
+            words = ["look=look.tlp"]
+        else:
+            tests.path("look").write_bytes(tests.bytes("examples/look.asm"))
+        tests.answers(f"run with {name}", bare + ["--proc", *words, "bare.json"], 0, tests.run(*RUN_WITH_PROCEDURE).out, "")
+    tests.path("twos.json").write_text('{"calls":[["two",[]],["one",[]]]}')
+    out = '{"batch":[{"call":0,"reply":[2]},{"call":1,"reply":[1]}]}\n{"order":[0,1]}\n' + ONE_NODE_OUT
+    tests.answers("run with all of a text", bare + ["--proc", "two.tdb", "twos.json"], 0, out, "")
+    out = '{"batch":[{"call":0,"reply":[2]},{"error":[601]}]}\n{"order":[0]}\n' + ONE_NODE_OUT
+    tests.answers("run with one of a text", bare + ["--proc", "two=two.tdb", "twos.json"], 0, out, "")
+    tests.answers("run with another name than the text has", bare + ["--proc", "three=two.tdb", "twos.json"], 1, error_line([289]), re.compile("^treedb: "))
+    tests.answers("run with a text twice", bare + ["--proc", "two.tdb", "--proc", "two=two.tdb", "twos.json"], 1, error_line([611]), re.compile("^treedb: "))
+    tests.answers("run with a container that is none", bare + ["--proc", "two=wrong.tlp", "twos.json"], 3, error_line([31]), re.compile("^treedb: "))
+    tests.path("moves.json").write_text('{"moves":[["two",[]],0,0]}')
+    run = tests.run("drive", "--tree", "examples/one-node.json", "--proc", "two.tdb", "moves.json")
+    tests.check("drive with a text", run.status == 0 and run.out.startswith('{"trace":[["a",0],'), run)
+    tests.answers("drive without procedures", ["drive", "--tree", "examples/one-node.json", "moves.json"], 1, error_line([731]), re.compile("^"))
+
+
 # ---- files
 
 def unreadable(tests, words, place, reason, path):

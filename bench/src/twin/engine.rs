@@ -1,10 +1,10 @@
 //! Calls on threads: a core and its order stand under one lock. What a call does by itself it does outside, and then the core
 //! looks whether it began where the call stands.
 
-use std::sync::{Condvar, Mutex, MutexGuard, PoisonError};
-use std::thread::{self, Scope};
+use std::sync::{Arc, Condvar, Mutex, MutexGuard, PoisonError};
 
 use super::core::{Core, Stepped, Turn};
+use super::crew::Crew;
 use super::fault::Fault;
 use super::help::Help;
 use super::machine::{Action, Call, Outside};
@@ -34,15 +34,31 @@ pub struct Session {
 
 pub struct Engine {
     shared: Mutex<Shared>,
+    /// Notified after a node was freed, and when another thread's call has ended.
     freed: Condvar,
+    crew: Crew,
+}
+
+/// A batch under way, which the threads that stay help with.
+pub struct Batch {
+    /// Which of the engine's batches it is.
+    number: usize,
+    requests: Vec<Request>,
+    pub help: Help,
 }
 
 struct Shared {
     running: Running,
-    /// How many requests of the batch were admitted.
+    /// How many batches there were before the one under way, and how many requests of that were admitted.
+    batches: usize,
     admitted: usize,
     /// How many threads wait for a node.
     waiting: usize,
+    /// What the threads that stay have run, the places in the batch and the receipts; how many calls they have under way; and the first fault
+    /// of theirs.
+    helped: Vec<(usize, Receipt)>,
+    under_way: usize,
+    fault: Option<Fault>,
 }
 
 impl Shared {
@@ -54,35 +70,74 @@ impl Shared {
     }
 }
 
-/// What a worker has run: the places of its requests in the batch, and their receipts.
+/// The places of a worker's requests in the batch, and their receipts.
 type Answers = Result<Vec<(usize, Receipt)>, Fault>;
 
 impl Engine {
     pub fn new(tree: Tree) -> Engine {
-        let shared = Shared { running: Running::new(Core::new(tree)), admitted: 0, waiting: 0 };
-        Engine { shared: Mutex::new(shared), freed: Condvar::new() }
+        let shared = Shared {
+            running: Running::new(Core::new(tree)),
+            batches: 0,
+            admitted: 0,
+            waiting: 0,
+            helped: Vec::new(),
+            under_way: 0,
+            fault: None,
+        };
+        Engine { shared: Mutex::new(shared), freed: Condvar::new(), crew: Crew::default() }
     }
 
     pub fn register(&self, name: &str, procedure: Procedure) -> Result<(), Fault> {
         self.lock().running.add_procedure(name, procedure)
     }
 
-    /// Runs the requests on so many threads, of which this is one, and answers their receipts.
-    pub fn batch(&self, session: &mut Session, requests: &[Request], workers: usize) -> Result<Vec<Receipt>, Fault> {
-        self.lock().admitted = 0;
+    /// Does the work while so many threads, of which this is one, run the batches.
+    pub fn with_workers<T>(&self, workers: usize, work: impl FnOnce() -> T) -> T {
+        self.crew.with_members(self, workers.saturating_sub(1), work)
+    }
+
+    /// Runs the requests with up to so many workers, of which this is one, and answers their receipts.
+    pub fn batch(&self, session: &mut Session, requests: Vec<Request>, workers: usize) -> Result<Vec<Receipt>, Fault> {
         let others = workers.min(requests.len()).saturating_sub(1);
-        let help = &Help::new();
-        let mut answers = thread::scope(|scope| {
-            let watching = (others > 0).then(|| scope.spawn(move || self.watch(scope, requests, help, others - 1)));
-            let own = self.work(requests, help);
-            help.end();
-            watching.into_iter().map(|other| other.join().expect("a worker ends")).fold(own, joined)
-        })?;
+        let batch = Arc::new(Batch { number: self.begin(), requests, help: Help::new() });
+        if others > 0 {
+            self.crew.call(&batch, others);
+        }
+        let own = self.work(&batch);
+        if others > 0 {
+            batch.help.end();
+            self.crew.release();
+        }
+        let mut answers = self.joined(own)?;
         answers.sort_unstable_by_key(|(place, _)| *place);
         let receipts: Vec<Receipt> = answers.into_iter().map(|(_, receipt)| receipt).collect();
-        let named = requests.iter().zip(&receipts).map(|(asked, got)| (asked.name.clone(), got.clone()));
+        let named = batch.requests.iter().zip(&receipts).map(|(asked, got)| (asked.name.clone(), got.clone()));
         session.done.extend(named);
         Ok(receipts)
+    }
+
+    /// Begins a batch, and answers its number.
+    fn begin(&self) -> usize {
+        let mut shared = self.lock();
+        shared.batches += 1;
+        shared.admitted = 0;
+        shared.batches
+    }
+
+    /// The answers of this worker, and those of the threads that stay, once these have ended their calls.
+    fn joined(&self, own: Answers) -> Answers {
+        let mut shared = self.lock();
+        while shared.under_way > 0 {
+            shared.waiting += 1;
+            shared = self.freed.wait(shared).unwrap_or_else(PoisonError::into_inner);
+            shared.waiting -= 1;
+        }
+        if let Some(fault) = shared.fault.take() {
+            return Err(fault);
+        }
+        let mut all = own?;
+        all.append(&mut shared.helped);
+        Ok(all)
     }
 
     /// The core and its order, where the session's list is what they say.
@@ -102,36 +157,45 @@ impl Engine {
     }
 
     /// Admits the next request and runs it, as long as there is one.
-    fn work(&self, requests: &[Request], help: &Help) -> Answers {
-        let mut answers = Vec::with_capacity(requests.len());
+    fn work(&self, batch: &Batch) -> Answers {
+        let mut answers = Vec::with_capacity(batch.requests.len());
         let mut shared = self.lock();
-        while let Some(request) = requests.get(shared.admitted) {
-            let (answer, held) = self.answer(shared, request, help)?;
+        while let Some(request) = batch.requests.get(shared.admitted) {
+            let (answer, held) = self.answer(shared, request, &batch.help)?;
             shared = held;
             answers.push(answer);
         }
         Ok(answers)
     }
 
-    /// Waits until help is wanted, starts so many more workers, and helps too.
-    fn watch<'s>(&'s self, scope: &'s Scope<'s, '_>, requests: &'s [Request], help: &'s Help, more: usize) -> Answers {
-        if !help.is_wanted() {
-            return Ok(Vec::new());
+    /// Admits the next request and runs it, as long as there is one and help pays. For a thread that stays.
+    pub fn assist(&self, batch: &Batch) {
+        let mut shared = self.lock();
+        loop {
+            // Another batch may be under way by now.
+            let next = if shared.batches == batch.number { batch.requests.get(shared.admitted) } else { None };
+            let Some(request) = next else { return };
+            shared.under_way += 1;
+            match self.answer(shared, request, &batch.help) {
+                Ok((answer, held)) => {
+                    shared = held;
+                    shared.helped.push(answer);
+                }
+                Err(fault) => {
+                    shared = self.lock();
+                    shared.fault = Some(fault);
+                }
+            }
+            shared.under_way -= 1;
+            if shared.waiting > 0 {
+                drop(shared);
+                self.freed.notify_all();
+                shared = self.lock();
+            }
+            if !batch.help.pays() {
+                return;
+            }
         }
-        let others: Vec<_> = (0..more).map(|_| scope.spawn(move || self.assist(requests, help))).collect();
-        let own = self.assist(requests, help);
-        others.into_iter().map(|other| other.join().expect("a worker ends")).fold(own, joined)
-    }
-
-    /// Admits the next request and runs it, as long as there is one and help is wanted.
-    fn assist(&self, requests: &[Request], help: &Help) -> Answers {
-        let mut answers = Vec::new();
-        while help.is_wanted() {
-            let shared = self.lock();
-            let Some(request) = requests.get(shared.admitted) else { break };
-            answers.push(self.answer(shared, request, help)?.0);
-        }
-        Ok(answers)
     }
 
     /// Admits the next request, which is this one, and runs it. Has the lock then.
@@ -195,10 +259,4 @@ impl Engine {
         }
         shared
     }
-}
-
-fn joined(one: Answers, other: Answers) -> Answers {
-    let mut all = one?;
-    all.extend(other?);
-    Ok(all)
 }

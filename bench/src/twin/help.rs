@@ -58,15 +58,20 @@ impl Help {
         self.is_over.lock().unwrap_or_else(PoisonError::into_inner)
     }
 
+    /// Whether calls do so much a turn that another worker is a gain.
+    pub fn pays(&self) -> bool {
+        self.pace.load(Ordering::SeqCst) >= MANY
+    }
+
     /// Waits until help is wanted. False if the batch is over.
     pub fn is_wanted(&self) -> bool {
         loop {
-            if self.pace.load(Ordering::SeqCst) >= MANY {
-                return !*self.lock();
-            }
             let is_over = self.lock();
             if *is_over {
                 return false;
+            }
+            if self.pays() {
+                return true;
             }
             let taken = self.taken.load(Ordering::SeqCst);
             let (is_over, waited) = self.called.wait_timeout(is_over, PATIENCE).unwrap_or_else(PoisonError::into_inner);

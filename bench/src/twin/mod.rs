@@ -4,6 +4,7 @@ pub mod assembler;
 pub mod audit;
 mod checked;
 pub mod core;
+mod crew;
 mod defined;
 pub mod engine;
 pub mod fault;

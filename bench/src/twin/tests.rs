@@ -387,8 +387,12 @@ fn what_an_engine_leaves_is_clean() {
             let engine = Engine::new(Tree::new(vec![0, 0, 1], vec![[0; 8]; 3]).unwrap());
             engine.register("two", verify(decode(&two_locks(turns)).unwrap()).unwrap()).unwrap();
             let mut session = Session::default();
-            let requests = [1; 200].map(|node| Request { name: "two".to_string(), args: vec![node] });
-            engine.batch(&mut session, &requests, workers).unwrap();
+            engine.with_workers(workers, || {
+                for _ in 0..2 {
+                    let requests = (0..100).map(|_| Request { name: "two".to_string(), args: vec![1] }).collect();
+                    engine.batch(&mut session, requests, workers).unwrap();
+                }
+            });
             let running = engine.close(&session).unwrap();
             assert_eq!(running.core().records()[2], [200, 0, 0, 0, 0, 0, 0, 0]);
             assert_eq!(audit_trail(&trail_of(running.core())).as_deref(), Ok(running.order()), "{turns} {workers}");

@@ -212,11 +212,13 @@ fn run_engine(code: &[u8], tree: Tree, args: &[i64], workers: usize, measured: &
     let engine = Engine::new(tree);
     engine.register("call", procedure_of(code).ok()?).ok()?;
     let mut session = Session::default();
-    for batch in args.chunks(MAX_REQUESTS) {
-        let requests: Vec<Request> =
-            batch.iter().map(|&arg| Request { name: "call".to_string(), args: vec![arg] }).collect();
-        timed(&mut measured.nanos, || engine.batch(&mut session, &requests, workers)).ok()?;
-    }
+    engine.with_workers(workers, || -> Option<()> {
+        for batch in args.chunks(MAX_REQUESTS) {
+            let requests = batch.iter().map(|&arg| Request { name: "call".to_string(), args: vec![arg] }).collect();
+            timed(&mut measured.nanos, || engine.batch(&mut session, requests, workers)).ok()?;
+        }
+        Some(())
+    })?;
     let running = engine.close(&session)?;
     let core = running.core();
     measured.count += core.call_count() as u64;

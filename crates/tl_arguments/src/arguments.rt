@@ -50,7 +50,7 @@ fn procedures(help: &'static str) -> Row {
 
 fn script_procedures() -> Row {
     procedures(
-        "Procedures to add to the script: all of a `.tdb` file, or NAME of it, or NAME=assembler file",
+        "Procedures to add to the script's: all of a text of the procedure language, or as NAME the one of a `.tdb`, `.tlp` or assembler file",
     )
 }
 
@@ -199,7 +199,17 @@ fn alone_command<'a>(alloc: Global) -> Result<Command<'a>, AllocError> {
         &[
             tree(),
             nodes(),
-            Row::option("proc", "P", "The file of the procedure, a container").required(),
+            Row::option(
+                "proc",
+                "P",
+                "The file of the procedure: a text of the procedure language (`.tdb`), an assembler text (`.asm`), or else a container",
+            )
+            .required(),
+            Row::option(
+                "name",
+                "NAME",
+                "The name of the procedure in a text that has more than one",
+            ),
             Row::option("args", "A", "The arguments, a JSON list of numbers").or("[]"),
             save(),
         ],
@@ -258,7 +268,7 @@ fn store_rows() -> [Row; 4] {
             "The file that the tree, the procedures and the calls are stored in: what was answered is found again after a crash",
         ),
         procedures(
-            "Procedures to register first: all of a `.tdb` file, or NAME of it, or NAME=assembler file; of a server that seals itself",
+            "Procedures to register first: all of a text of the procedure language, or as NAME the one of a `.tdb`, `.tlp` or assembler file; of a server that seals itself",
         ),
         nodes(),
     ]
@@ -489,7 +499,10 @@ fn command_named<'a>(alloc: Global, name: Name) -> Result<Command<'a>, AllocErro
             "check",
             "Says what a procedure does at most, or shows where its text is wrong",
             CHECK_HELP,
-            Row::file("FILE", "The file of an assembler text or of a container"),
+            Row::file(
+                "FILE",
+                "The file of a text of the procedure language, whose name ends with `.tdb`, of an assembler text, or of a container",
+            ),
         ),
         Name::Compile => compile_command(alloc),
         Name::Procs => reading_command(

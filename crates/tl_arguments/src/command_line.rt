@@ -26,9 +26,10 @@ pub struct ScriptFiles<'a> {
 /// A command that runs calls on a tree.
 #[derive(Drop)]
 pub enum CallCommand<'a> {
-    /// Run a procedure alone.
+    /// Run a procedure alone: that of the file, of that name if the file has more than one.
     Alone {
         procedure: &'a str,
+        name: Option<&'a str>,
         args: &'a str,
     },
     /// Carry out a script, move by move.
@@ -269,6 +270,7 @@ fn call_command<'a>(alloc: Global, name: &str, words: &ArgMatches<'a>) -> Option
     match name {
         "alone" => Some(CallCommand::Alone {
             procedure: words.get_str("proc")?,
+            name: words.get_str("name"),
             args: words.get_str("args")?,
         }),
         "drive" => Some(CallCommand::Drive {

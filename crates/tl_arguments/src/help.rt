@@ -9,6 +9,7 @@ Help on a command: treedb COMMAND --help. What a number means: treedb explain NU
 pub const ALONE_HELP: &str = "\
 Example: treedb alone --tree one-node.json --proc add.tlp --args '[0,3]'
 prints {\"reply\":[8],\"steps\":7}, and then the tree as JSON. The files are not changed.
+treedb alone --tree t.json --proc stock.tdb --name shift runs one procedure of a text; of a text with only one, --name is left out.
 Exit status: 0 done, 1 refused, 2 a mistake on the command line, 3 a file that can't be read, 4 memory.";
 
 pub const ASM_HELP: &str = "\
@@ -40,7 +41,7 @@ Exit status: 0 done, 1 refused, 2 a mistake on the command line, 3 a file that c
 
 pub const COMPILE_HELP: &str = "\
 Example: treedb compile stock.tdb shift.tlp --proc shift
-prints {\"bounds\":{\"emits\":1,\"locks\":3,\"steps\":33},\"count\":36}. A text that is refused is told by line and column, with a
+prints {\"bounds\":{\"emits\":2,\"locks\":5,\"steps\":36},\"count\":36}. A text that is refused is told by line and column, with a
 caret under the place, and nothing is written.
 Exit status: 0 done, 1 refused, 2 a mistake on the command line, 3 a file that can't be read or written, 4 memory.";
 
@@ -94,8 +95,8 @@ Example: treedb serve --tree one-node.json --port 7878 --control 7879
 says on standard error that it listens on 127.0.0.1:7878. Then, from another terminal,
     nc -N 127.0.0.1 7878 < requests.txt
 sends the lines of a file, each a request: {\"op\":\"register\",\"name\":\"add\",\"asm\":\"arity 2\\n..\"},
-{\"op\":\"call\",\"proc\":\"add\",\"args\":[0,3]}, {\"op\":\"batch\",\"calls\":[[\"add\",[0,3]],..],\"workers\":2}, {\"op\":\"seal\"} or
-{\"op\":\"close\"}. Each is answered by a line, in order.
+{\"op\":\"call\",\"proc\":\"add\",\"args\":[0,3]}, {\"op\":\"batch\",\"calls\":[[\"add\",[0,3]],..],\"workers\":2},
+{\"op\":\"grow\",\"parents\":[0]}, {\"op\":\"seal\"} or {\"op\":\"close\"}. Each is answered by a line, in order.
 treedb stop --port 7879 ends it: each line that was read is answered, the connections are ended, and this prints
 {\"generations\":n} and the tree as JSON. An epoch that is full, after 4,096 calls, is sealed, and the next goes on with the tree as
 it is. After G epochs a new generation begins. With --trails FOLDER a file there has what the calls of a generation did, 0.json,

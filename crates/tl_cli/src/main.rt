@@ -7,7 +7,7 @@ mod failure;
 mod output;
 mod program;
 mod progress;
-mod script;
+mod refused;
 mod store_files;
 mod trail_file;
 
@@ -23,7 +23,7 @@ use std::thread::Threads;
 use std::time::Clock;
 use tl_arguments::Asked;
 pub use tl_commands::{
-    CliFault, Generation, alone_cmd, asm_cmd, audit_cmd, audit_next_cmd, check_cmd,
+    CliFault, Generation, Inputs, alone_cmd, asm_cmd, audit_cmd, audit_next_cmd, check_cmd,
     close_generation, conclude_engine, conclude_engine_with_trail, dis_cmd, drive_cmd,
     drive_with_trail_cmd, explain_audit_fault, keep_generation, migrate_cmd, next_engine,
     open_engine, open_generations, run_cmd, run_with_trail_cmd, take_generation, tree_of_file,

@@ -6,8 +6,9 @@ use std::alloc::Global;
 use std::io;
 use tl_asm::{AsmFault, instruction_lines};
 use tl_commands::CliFault;
-use tl_compiler::Position;
+use tl_compiler::{CompileFault, Position};
 use tl_language_commands::LanguageFault;
+use tl_sources::SourceFault;
 use tl_trail::TrailFault;
 use tl_tree::TreeFault;
 
@@ -74,17 +75,37 @@ fn place_in_json(alloc: Global, text: &str) -> Option<Place> {
     }
 }
 
+// The line of an assembler text's fault, if the fault is in one line.
+fn place_in_assembler(fault: &AsmFault) -> Option<Place> {
+    match fault {
+        AsmFault::BadLine(line) | AsmFault::NoLabel(line) | AsmFault::LabelTwice(line) => {
+            Some(Place {
+                line: *line,
+                column: None,
+            })
+        }
+        AsmFault::TooLong | AsmFault::Memory => None,
+    }
+}
+
+// The place of the fault of a text of the procedure language, if the fault is at one place.
+fn place_of_compiling(fault: &CompileFault) -> Option<Place> {
+    let Position { line, column } = fault.position()?;
+    Some(Place {
+        line,
+        column: Some(column),
+    })
+}
+
 /// The place of a text's fault, if the fault is at one place. For a position in the code this is the line of that
 /// instruction, and for a text that isn't JSON the place that shows it.
 pub fn place_of(alloc: Global, text: &str, fault: &CliFault) -> Option<Place> {
     match fault {
-        CliFault::Asm(
-            AsmFault::BadLine(line) | AsmFault::NoLabel(line) | AsmFault::LabelTwice(line),
-        ) => Some(Place {
-            line: *line,
-            column: None,
-        }),
-        CliFault::Verify(fault) => {
+        CliFault::Asm(fault) | CliFault::Source(SourceFault::Asm(fault)) => {
+            place_in_assembler(fault)
+        }
+        CliFault::Source(SourceFault::Compile(fault)) => place_of_compiling(fault),
+        CliFault::Verify(fault) | CliFault::Source(SourceFault::Verify(fault)) => {
             let position = *fault.numbers().as_slice().get(1)?;
             Some(Place {
                 line: line_of_position(alloc, text, position)?,
@@ -100,14 +121,10 @@ pub fn place_of(alloc: Global, text: &str, fault: &CliFault) -> Option<Place> {
 
 /// The place of the fault of a text of the procedure language, if the fault is at one place.
 pub fn place_in_language(fault: &LanguageFault) -> Option<Place> {
-    let LanguageFault::Compile(fault) = fault else {
-        return None;
-    };
-    let Position { line, column } = fault.position()?;
-    Some(Place {
-        line,
-        column: Some(column),
-    })
+    match fault {
+        LanguageFault::Compile(fault) => place_of_compiling(fault),
+        LanguageFault::Code(_) | LanguageFault::Memory => None,
+    }
 }
 
 // How many bytes of the line come before the place. If the column isn't known, these are the leading blanks.

@@ -4,17 +4,19 @@
 mod auditing;
 mod exporting;
 mod serving;
+mod sources;
 mod storing;
 
 use crate::archive::{Finish, Trails};
 use crate::failure::Failure;
-use crate::script::{NamedText, RefusedProcedure, first_refused, named_in_list, with_procedures};
+use crate::refused::{RefusedProcedure, first_refused};
 use crate::trail_file::TrailFile;
 use crate::{
-    CliFault, LanguageFault, alone_cmd, asm_cmd, check_cmd, check_procs_cmd, compile_cmd, dis_cmd,
-    drive_cmd, drive_with_trail_cmd, migrate_cmd, output, procs_cmd, run_cmd, run_with_trail_cmd,
-    verify_cmd, widen_cmd,
+    CliFault, Inputs, LanguageFault, alone_cmd, asm_cmd, check_cmd, check_procs_cmd, compile_cmd,
+    dis_cmd, drive_cmd, drive_with_trail_cmd, migrate_cmd, output, procs_cmd, run_cmd,
+    run_with_trail_cmd, verify_cmd, widen_cmd,
 };
+use sources::source_by_name;
 use std::io::ErrorKind;
 use std::net::{Net, TcpListener, TcpStream};
 use std::rt::Files;
@@ -23,11 +25,11 @@ use std::thread::Threads;
 use std::time::Clock;
 use storing::StoreFiles;
 use tl_arguments::{CallCommand, FileCommand, Outputs, Request, ScriptFiles};
-use tl_compiler::CompileFault;
 use tl_file_export::Epochs;
 use tl_file_journal::{End, StoreRefusal, Stored};
 use tl_generations::Succession;
 use tl_server::{Journal, Keeper};
+use tl_sources::Source;
 use tl_store_file::FileFault;
 use tl_tree::Tree;
 use tl_workers::{MAX_WORKERS, NoGate};
@@ -80,16 +82,22 @@ impl<'a, R: Files + Print + Eprint + AllocGlobal> Program<'a, R> {
         }
     }
 
+    // A file of a procedure whose name says nothing has a container.
     fn alone<'p>(
         &self,
         path: &'p str,
         procedure: &'p str,
+        name: Option<&str>,
         args: &str,
     ) -> Result<String, Failure<'p>> {
         let tree = self.read_file(path)?;
-        let procedure = self.read_file(procedure)?;
-        let done = alone_cmd(self.rt.alloc(), &tree, &procedure, args, self.nodes);
-        done.map_err(|fault| self.misread(path, &tree, fault))
+        let file = self.read_file(procedure)?;
+        let source = source_by_name(procedure, &file).unwrap_or(Source::Container(&file));
+        let done = alone_cmd(self.rt.alloc(), &tree, source, name, args, self.nodes);
+        done.map_err(|fault| match fault {
+            CliFault::Source(_) => self.misread(procedure, &file, fault),
+            fault => self.misread(path, &tree, fault),
+        })
     }
 
     // Returns the fault of a text, and shows people where it is.
@@ -177,44 +185,20 @@ impl<'a, R: Files + Print + Eprint + AllocGlobal> Program<'a, R> {
         })
     }
 
-    // The procedures that the command line names. `FILE` has a text of the procedure language, and names all its
-    // procedures. `NAME=FILE` names the procedure of that name if the file's name ends with `.tdb`; otherwise the file has
-    // its assembler text.
-    fn named_texts<'p>(&self, named: &'p str) -> Result<Vec<NamedText>, Failure<'p>> {
-        let alloc = self.rt.alloc();
-        let Some((name, path)) = named.split_once('=') else {
-            return Ok(named_in_list(alloc, &self.procedures(named)?, None)?);
-        };
-        if has_language(path) {
-            let texts = named_in_list(alloc, &self.procedures(path)?, Some(name))?;
-            if texts.is_empty() {
-                return Err(Failure::RefusedText(LanguageFault::Compile(CompileFault::NotOne)));
-            }
-            return Ok(texts);
-        }
-        let Ok(text) = String::from_utf8(self.read_file(path)?) else {
-            return Err(Failure::Refused(CliFault::NotUtf8));
-        };
-        let name = String::from_str(alloc, name)?;
-        let mut texts = Vec::new(alloc);
-        texts.push(NamedText { name, text })?;
-        Ok(texts)
-    }
-
-    // A script, with the procedures that the command line names after its own.
-    fn read_script<'p>(&self, files: &ScriptFiles<'p>) -> Result<Named<'p>, Failure<'p>> {
-        let mut script = self.read_named(files.script)?;
-        if files.procedures.is_empty() {
-            return Ok(script);
-        }
-        let mut texts = Vec::new(self.rt.alloc());
-        for named in &files.procedures {
-            for text in self.named_texts(named)? {
-                texts.push(text)?;
-            }
-        }
-        script.bytes = with_procedures(self.rt.alloc(), script.bytes, &texts)?;
-        Ok(script)
+    // What a script is carried out on, where the tree and the script were read: and the procedures that the command line names beside the
+    // script's own.
+    fn inputs<'n, 'p>(
+        &self,
+        tree: &'n Named<'_>,
+        script: &'n Named<'_>,
+        names: &[&'p str],
+    ) -> Result<Inputs<'n>, Failure<'p>> {
+        Ok(Inputs {
+            tree: &tree.bytes,
+            script: &script.bytes,
+            procedures: self.all_named_procedures(names)?,
+            limit: self.nodes,
+        })
     }
 
     // Returns the fault of a script on a tree. If one of its procedures is refused, people are shown which, and where.
@@ -227,11 +211,10 @@ impl<'a, R: Files + Print + Eprint + AllocGlobal> Program<'a, R> {
         match fault {
             CliFault::Tree(_) => self.misread(tree.path, &tree.bytes, fault),
             CliFault::Register(_) => {
-                if let Some(RefusedProcedure { named, fault }) = first_refused(
+                if let Some(RefusedProcedure { name, text, fault }) = first_refused(
                     self.rt.alloc(),
                     &script.bytes,
                 ) {
-                    let NamedText { name, text } = named;
                     let _shown = eprintln!(self.rt; "treedb: the procedure {name}");
                     let _failure = self.misread(&name, text.as_bytes(), fault);
                 }
@@ -245,18 +228,18 @@ impl<'a, R: Files + Print + Eprint + AllocGlobal> Program<'a, R> {
     fn drive<'p>(
         &self,
         tree: &'p str,
-        script: &ScriptFiles<'p>,
+        files: &ScriptFiles<'p>,
         trail: Option<&'p str>,
     ) -> Result<String, Failure<'p>> {
         let tree = self.read_named(tree)?;
-        let script = self.read_script(script)?;
+        let ScriptFiles { script, procedures } = files;
+        let script = self.read_named(script)?;
+        let inputs = self.inputs(&tree, &script, procedures)?;
         let Some(path) = trail else {
-            let driven = drive_cmd(self.rt.alloc(), &tree.bytes, &script.bytes, self.nodes);
+            let driven = drive_cmd(self.rt.alloc(), inputs);
             return driven.map_err(|fault| self.misread_script(&tree, &script, fault));
         };
-        let (tree_bytes, script_bytes) = (&tree.bytes, &script.bytes);
-        let driven = drive_with_trail_cmd(self.rt.alloc(), tree_bytes, script_bytes, self.nodes);
-        let (lines, trail) = match driven {
+        let (lines, trail) = match drive_with_trail_cmd(self.rt.alloc(), inputs) {
             Ok(driven) => driven,
             Err(fault) => return Err(self.misread_script(&tree, &script, fault)),
         };
@@ -297,38 +280,22 @@ impl<'a, R: Files + Print + Eprint + AllocGlobal + Threads + Wait + Sync> Progra
         &self,
         tree: &'p str,
         workers: usize,
-        script: &ScriptFiles<'p>,
+        files: &ScriptFiles<'p>,
         trail: Option<&'p str>,
     ) -> Result<String, Failure<'p>> {
         let tree = self.read_named(tree)?;
-        let script = self.read_script(script)?;
+        let ScriptFiles { script, procedures } = files;
+        let script = self.read_named(script)?;
+        let inputs = self.inputs(&tree, &script, procedures)?;
         let alloc = self.rt.alloc();
         // The command line takes no other numbers.
         let workers = workers.clamp(1, MAX_WORKERS);
-        let (tree_bytes, script_bytes) = (&tree.bytes, &script.bytes);
         let Some(path) = trail else {
-            let ran = run_cmd(
-                self.rt,
-                alloc,
-                tree_bytes,
-                script_bytes,
-                workers,
-                &NoGate,
-                self.nodes,
-            );
+            let ran = run_cmd(self.rt, alloc, inputs, workers, &NoGate);
             return ran.map_err(|fault| self.misread_script(&tree, &script, fault));
         };
         let mut file = TrailFile::new(self.rt, path);
-        let ran = run_with_trail_cmd(
-            self.rt,
-            alloc,
-            tree_bytes,
-            script_bytes,
-            workers,
-            &NoGate,
-            &mut file,
-            self.nodes,
-        );
+        let ran = run_with_trail_cmd(self.rt, alloc, inputs, workers, &NoGate, &mut file);
         printed(path, file, ran)
     }
 }
@@ -362,7 +329,11 @@ where
     {
         let trail = outputs.trail;
         let lines = match command {
-            CallCommand::Alone { procedure, args } => self.alone(tree, procedure, args)?,
+            CallCommand::Alone {
+                procedure,
+                name,
+                args,
+            } => self.alone(tree, procedure, *name, args)?,
             CallCommand::Drive { script } => self.drive(tree, script, trail)?,
             CallCommand::Run { workers, script } => self.run(tree, *workers, script, trail)?,
             CallCommand::Serve {

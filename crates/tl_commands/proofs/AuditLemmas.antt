@@ -1,5 +1,5 @@
 -- Which texts begin with a list.
-use Rattle.std.proofs.Common.{◌≡◌, ◌+◌, ◌<◌, ◌≤◌, ◌==◌, ◌||◌, ◌&&◌, ℕ, nat_le, zero, suc, List, [], ◌∷◌, ◌++◌, length, get_or, drop, true, false, if◌then◌else◌, Option, Some, IsUtf8, inr, refl, sym, ap, ◌∙◌, subst, arith}
+use Rattle.std.proofs.Common.{◌≡◌, ◌+◌, ◌<◌, ◌≤◌, ◌==◌, ◌||◌, ◌&&◌, ℕ, nat_le, zero, suc, List, [], ◌∷◌, ◌++◌, length, get_or, drop, true, false, if◌then◌else◌, Some, IsUtf8, inr, refl, sym, ap, ◌∙◌, subst, arith}
 use Rattle.std.proofs.lemmas.Bool.{leb-true, and_parts}
 use Rattle.std.proofs.lemmas.List.{drop_more}
 use Rattle.std.proofs.lemmas.Option.{cond_some, option_and_then_some}

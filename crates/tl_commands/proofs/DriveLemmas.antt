@@ -1,5 +1,5 @@
 -- The parts of a run of the command `drive` together.
-use Rattle.std.proofs.Common.{◌≡◌, ℕ, List, [], map, ap, ◌∙◌, subst, Ok}
+use Rattle.std.proofs.Common.{◌≡◌, ℕ, List, map, ap, ◌∙◌, subst, Ok}
 use Rattle.serde_json.specs.Data.{Data}
 use Rattle.tl_tree.specs.Trees.{TreeValue}
 use Rattle.tl_tree.specs.Reading.{tree_of_text}
@@ -10,16 +10,16 @@ use Rattle.tl_core.specs.Entries.{Traced, after_moves}
 use Rattle.tl_core.specs.declared.moves.Move.{Move}
 use Rattle.tl_core.specs.declared.moves.Entry.{Entry}
 use Rattle.tl_commands.specs.declared.script.Script.{Script}
-use Rattle.tl_commands.specs.Script.{IsScript, move_view, script_view, script_of_moves}
-use Rattle.tl_commands.specs.Scripted.{core_with, tree_now, lines_text}
+use Rattle.tl_commands.specs.Script.{IsScript, beside, move_view, script_view, script_of_moves}
+use Rattle.tl_commands.specs.Scripted.{AreRegistered, core_with, tree_now, lines_text}
 use Rattle.tl_commands.specs.Trace.{trace_data}
-use Rattle.tl_json.specs.Registering.{TakenUp}
+use Rattle.tl_procedures.specs.Names.{Named}
 use Rattle.tl_commands.specs.Drive.{IsConclusion, IsDriven, Prints}
 
-pub driven : (limit : ℕ) (t s : List ℕ) (tree : TreeValue) (script : Script Move) (core after : CoreValue) (texts : List ProcedureText) (moves : List Move) (entries : List Entry)
-    → tree_of_text limit t ≡ Ok tree → IsScript script_of_moves s (script_view move_view script) → texts ≡ script.procedures.items → TakenUp [] (map procedure_form texts) core.procedures
-    → core ≡ core_with tree core.procedures → moves ≡ script.tasks.items → Traced core moves entries → after ≡ after_moves core moves entries → IsDriven limit t s entries after
-driven limit t s tree script core after texts moves entries tree_is script_is texts_are taken core_is moves_are traced after_is =
+pub driven : (limit : ℕ) (t s : List ℕ) (more : List Named) (tree : TreeValue) (script : Script Move) (core after : CoreValue) (texts : List ProcedureText) (moves : List Move) (entries : List Entry)
+    → tree_of_text limit t ≡ Ok tree → IsScript (script_of_moves (beside more)) s (script_view move_view script) → texts ≡ script.procedures.items → AreRegistered (map procedure_form texts) more core.procedures
+    → core ≡ core_with tree core.procedures → moves ≡ script.tasks.items → Traced core moves entries → after ≡ after_moves core moves entries → IsDriven limit t s more entries after
+driven limit t s more tree script core after texts moves entries tree_is script_is texts_are registered core_is moves_are traced after_is =
     record {
       tree = tree;
       script = script_view move_view script;
@@ -27,15 +27,15 @@ driven limit t s tree script core after texts moves entries tree_is script_is te
       moves = moves;
       tree_is = tree_is;
       script_is = script_is;
-      taken_up = subst (λ ps. TakenUp [] (map procedure_form ps) core.procedures) texts_are taken;
+      registered = subst (λ ps. AreRegistered (map procedure_form ps) more core.procedures) texts_are registered;
       moves_are = ap (map move_view) moves_are;
       traced = subst (λ v. Traced v moves entries) core_is traced;
       after = after_is ∙ ap (λ v. after_moves v moves entries) core_is;
     }
 
-pub printed : (limit : ℕ) (t s out : List ℕ) (after : CoreValue) (entries shown : List Entry) → IsDriven limit t s entries after → shown ≡ entries
-    → ((d : Data) × IsConclusion after d × (out ≡ lines_text (trace_data shown) d (tree_now after))) → Prints limit t s out after
-printed limit t s out after entries shown is same told = record {
+pub printed : (limit : ℕ) (t s : List ℕ) (more : List Named) (out : List ℕ) (after : CoreValue) (entries shown : List Entry) → IsDriven limit t s more entries after → shown ≡ entries
+    → ((d : Data) × IsConclusion after d × (out ≡ lines_text (trace_data shown) d (tree_now after))) → Prints limit t s more out after
+printed limit t s more out after entries shown is same told = record {
   entries = entries;
   conclusion = told.0;
   driven = is;

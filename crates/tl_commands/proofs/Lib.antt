@@ -2,6 +2,7 @@ pub mod AloneLines
 pub mod ScriptLemmas
 pub mod LineLemmas
 pub mod DriveLemmas
+pub mod InputLemmas
 pub mod RunLemmas
 pub mod ProcedureLines
 mod Rows

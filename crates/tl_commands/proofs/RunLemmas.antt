@@ -13,10 +13,10 @@ use Rattle.tl_core.specs.Cores.{CoreValue}
 use Rattle.tl_core.proofs.StoredCalls.{more_at}
 use Rattle.tl_json.specs.declared.procedure.ProcedureText.{ProcedureText}
 use Rattle.tl_json.specs.Procedures.{procedure_form}
-use Rattle.tl_json.specs.Registering.{TakenUp}
+use Rattle.tl_procedures.specs.Names.{Named}
 use Rattle.tl_json.specs.Requests.{request_form}
 use Rattle.tl_commands.specs.declared.script.Script.{Script}
-use Rattle.tl_commands.specs.Script.{IsScript, script_view, batch_form, script_of_run}
+use Rattle.tl_commands.specs.Script.{IsScript, beside, script_view, batch_form, script_of_run}
 use Rattle.tl_table.specs.Epochs.{EpochValue}
 use Rattle.tl_table.specs.declared.receipt.Receipt.{Receipt}
 use Rattle.tl_workers.specs.Kept.{SessionValue, Gains, AnswersEach, asked_of, gots_of}
@@ -26,7 +26,7 @@ use Rattle.tl_workers.specs.declared.session.Did.{Did}
 use Rattle.tl_commands.specs.declared.fault.CliFault.{CliFault}
 use Rattle.tl_commands.specs.declared.fault.CliFault.TheVariants.{Unwritable, Tree, Register, Engine, NotScript}
 use Rattle.tl_commands.specs.Faults.{status_of}
-use Rattle.tl_commands.specs.Scripted.{IsWrong}
+use Rattle.tl_commands.specs.Scripted.{AreRegistered, IsWrong}
 use Rattle.tl_commands.specs.Run.{IsReady, IsLeftOpen, IsFirstRunFault, AreAnswered, AnswersBatches, IsInEpoch, AreInEpochs, kept_of, batches_of, answers_of, batch_data, batch_lines}
 
 -- ---- what is asked for
@@ -35,16 +35,16 @@ forms : (batches : List (Vec Request Global)) → map (map request_form) (batche
 forms [] = refl
 forms (b ∷ bs) = ap (λ xs. map request_form b.items ∷ xs) (forms bs)
 
-pub ready : (limit : ℕ) (t s : List ℕ) (tree : TreeValue) (script : Script (Vec Request Global)) (core : CoreValue) (texts : List ProcedureText) (batches : List (Vec Request Global))
-    → tree_of_text limit t ≡ Ok tree → IsScript script_of_run s (script_view batch_form script) → texts ≡ script.procedures.items → TakenUp [] (map procedure_form texts) core.procedures
-    → batches ≡ script.tasks.items → IsReady limit t s (batches_of batches)
-ready limit t s tree script core texts batches tree_is script_is texts_are taken batches_are =
+pub ready : (limit : ℕ) (t s : List ℕ) (more : List Named) (tree : TreeValue) (script : Script (Vec Request Global)) (core : CoreValue) (texts : List ProcedureText) (batches : List (Vec Request Global))
+    → tree_of_text limit t ≡ Ok tree → IsScript (script_of_run (beside more)) s (script_view batch_form script) → texts ≡ script.procedures.items → AreRegistered (map procedure_form texts) more core.procedures
+    → batches ≡ script.tasks.items → IsReady limit t s more (batches_of batches)
+ready limit t s more tree script core texts batches tree_is script_is texts_are registered batches_are =
     record {
       tree = record { tree = tree; same = tree_is };
       script = script_view batch_form script;
       procedures = core.procedures;
       script_is = script_is;
-      taken_up = subst (λ ps. TakenUp [] (map procedure_form ps) core.procedures) texts_are taken;
+      registered = subst (λ ps. AreRegistered (map procedure_form ps) more core.procedures) texts_are registered;
       batches_are = forms batches ∙ ap (map batch_form) batches_are;
     }
 
@@ -139,21 +139,21 @@ left_open batches e (inl h) is = cc
 left_open batches e (inr (inl h)) is = let other : e ≡ Engine h.1 = h.2 in cc
 left_open batches e (inr (inr h)) is = cc
 
-wrong_file : (limit : ℕ) (t s : List ℕ) (e : CliFault) → IsWrong limit script_of_run t s e → e ≢ Unwritable
-wrong_file limit t s e (inl h) is = let other : e ≡ Tree h.0 = h.1 in cc
-wrong_file limit t s e (inr (inl h)) is = let other : e ≡ NotScript = h.0 in cc
-wrong_file limit t s e (inr (inr h)) is = let other : e ≡ Register h.1 = h.2 in cc
+wrong_file : (limit : ℕ) (t s : List ℕ) (more : List Named) (e : CliFault) → IsWrong limit (script_of_run (beside more)) t s more e → e ≢ Unwritable
+wrong_file limit t s more e (inl h) is = let other : e ≡ Tree h.0 = h.1 in cc
+wrong_file limit t s more e (inr (inl h)) is = let other : e ≡ NotScript = h.0 in cc
+wrong_file limit t s more e (inr (inr h)) is = let other : e ≡ Register h.1 = h.2 in cc
 
-either : (limit : ℕ) (t s : List ℕ) (e : CliFault) → IsWrong limit script_of_run t s e ⊎ ((batches : List (List Request)) × IsReady limit t s batches × IsLeftOpen batches e) → e ≢ Unwritable
-either limit t s e (inl h) = wrong_file limit t s e h
-either limit t s e (inr h) = left_open h.0 e h.2
+either : (limit : ℕ) (t s : List ℕ) (more : List Named) (e : CliFault) → IsWrong limit (script_of_run (beside more)) t s more e ⊎ ((batches : List (List Request)) × IsReady limit t s more batches × IsLeftOpen batches e) → e ≢ Unwritable
+either limit t s more e (inl h) = wrong_file limit t s more e h
+either limit t s more e (inr h) = left_open h.0 e h.2
 
 -- refused memory isn't `Unwritable`
 pub memory_fault : (e : CliFault) → status_of e ≡ 4 → e ≢ Unwritable
 memory_fault e four is = let h : 3 ≡ 4 = ap status_of (sym is) ∙ four in absurd (omega (arith, h))
 
 -- neither is any fault of a run
-pub run_fault : (limit : ℕ) (t s : List ℕ) (e : CliFault) → IsFirstRunFault limit t s e → e ≢ Unwritable
-run_fault limit t s e fault is =
+pub run_fault : (limit : ℕ) (t s : List ℕ) (more : List Named) (e : CliFault) → IsFirstRunFault limit t s more e → e ≢ Unwritable
+run_fault limit t s more e fault is =
     let other : status_of e ≢ 4 = λ four. memory_fault e four is in
-    either limit t s e (fault other) is
+    either limit t s more e (fault other) is

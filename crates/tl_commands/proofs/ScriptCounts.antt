@@ -96,15 +96,15 @@ both_parts g None p s is k = absurd (none-some s is)
 both_parts g (Some x) None s is k = absurd (none-some s is)
 both_parts g (Some x) (Some y) s is k = k x y refl refl (same_Some (g (x, y)) s is)
 
-calls_few : (d : Data) (s : BatchesValue) → script_of_calls d ≡ Some s → AreFew s
-calls_few d s is =
-    option_and_then_some (λ parts. option_map one_batch (both (each_of procedure_of parts.0) (batch_of parts.1))) (parts_of (codes "calls") d) s is
+calls_few : (none : Option Data) (d : Data) (s : BatchesValue) → script_of_calls none d ≡ Some s → AreFew s
+calls_few none d s is =
+    option_and_then_some (λ parts. option_map one_batch (both (each_of procedure_of parts.0) (batch_of parts.1))) (parts_of none (codes "calls") d) s is
     (λ parts found made. both_parts one_batch (each_of procedure_of parts.0) (batch_of parts.1) s made
     (λ ps b ps_are b_is same. subst AreFew same (record { some = omega arith; few = omega arith; each = All-cons IsFew b [] (batch_few parts.1 b b_is) (λ k e less. absurd (omega (arith, less))) })))
 
-tasks_few : (d : Data) (s : BatchesValue) → script_of (codes "epochs") batch_of d ≡ Some s → All IsFew s.tasks
-tasks_few d s is =
-    option_and_then_some (λ parts. option_map all_batches (both (each_of procedure_of parts.0) (each_of batch_of parts.1))) (parts_of (codes "epochs") d) s is
+tasks_few : (none : Option Data) (d : Data) (s : BatchesValue) → script_of none (codes "epochs") batch_of d ≡ Some s → All IsFew s.tasks
+tasks_few none d s is =
+    option_and_then_some (λ parts. option_map all_batches (both (each_of procedure_of parts.0) (each_of batch_of parts.1))) (parts_of none (codes "epochs") d) s is
     (λ parts found made. both_parts all_batches (each_of procedure_of parts.0) (each_of batch_of parts.1) s made
     (λ ps bs ps_are bs_are same. subst (λ (v : BatchesValue). All IsFew v.tasks) same (list_few parts.1 bs bs_are)))
 
@@ -117,15 +117,15 @@ fit_few s t each is = by (nat_le 1 (length s.tasks) && nat_le (length s.tasks) 2
         let h = and_parts (nat_le 1 (length s.tasks)) (nat_le (length s.tasks) 256) test in
         subst AreFew (same_Some (with_tasks s s.tasks) t made) (record { some = leb-true 1 (length s.tasks) h.0; few = leb-true (length s.tasks) 256 h.1; each = each })
 
-epochs_few : (d : Data) (s : BatchesValue) → script_of_epochs d ≡ Some s → AreFew s
-epochs_few d s is = option_and_then_some if_fit (script_of (codes "epochs") batch_of d) s is (λ v found made. fit_few v s (tasks_few d v found) made)
+epochs_few : (none : Option Data) (d : Data) (s : BatchesValue) → script_of_epochs none d ≡ Some s → AreFew s
+epochs_few none d s is = option_and_then_some if_fit (script_of none (codes "epochs") batch_of d) s is (λ v found made. fit_few v s (tasks_few none d v found) made)
 
-run_few : (d : Data) (s : BatchesValue) → script_of_run d ≡ Some s → AreFew s
-run_few d s is = by (script_of_calls d) refl is
+run_few : (none : Option Data) (d : Data) (s : BatchesValue) → script_of_run none d ≡ Some s → AreFew s
+run_few none d s is = by (script_of_calls none d) refl is
   where
-    by : (o : Option BatchesValue) → script_of_calls d ≡ o → option_or o (script_of_epochs d) ≡ Some s → AreFew s
-    by (Some v) found same = calls_few d s (found ∙ same)
-    by None found same = epochs_few d s same
+    by : (o : Option BatchesValue) → script_of_calls none d ≡ o → option_or o (script_of_epochs none d) ≡ Some s → AreFew s
+    by (Some v) found same = calls_few none d s (found ∙ same)
+    by None found same = epochs_few none d s same
 
 -- the same for a script that was read
 pub record AreBatches (script : Script (Vec Request Global)) : Type 0 where
@@ -133,10 +133,10 @@ pub record AreBatches (script : Script (Vec Request Global)) : Type 0 where
   pub few : length script.tasks.items ≤ 256
   pub each : All (λ b. (1 ≤ length b.items) × (length b.items ≤ 256)) script.tasks.items
 
-pub are_batches : (d : Data) (script : Script (Vec Request Global)) → script_of_run d ≡ Some (script_view batch_form script) → AreBatches script
-are_batches d script is =
+pub are_batches : (none : Option Data) (d : Data) (script : Script (Vec Request Global)) → script_of_run none d ≡ Some (script_view batch_form script) → AreBatches script
+are_batches none d script is =
     let tasks = script.tasks.items in
-    let h = run_few d (script_view batch_form script) is in
+    let h = run_few none d (script_view batch_form script) is in
     let long = length-map tasks batch_form in
     record {
       some = omega (arith, long, h.some);

@@ -7,19 +7,25 @@ use Rattle.serde_json.specs.Find.{as_object, get, get_member}
 use Rattle.serde_json.specs.Read.{read}
 use Rattle.tl_tree.proofs.Parts.{object_is}
 use Rattle.tl_commands.specs.declared.script.Script.{Script}
-use Rattle.tl_commands.specs.Script.{ScriptValue, parts_of, IsScript}
+use Rattle.tl_commands.specs.Script.{ScriptValue, both_of, tasks_of, IsScript}
 
 -- ---- its parts
 
-pub parts_found : (tasks : List ℕ) (d : Data) (ms : Members) (a b : Data) → as_object d ≡ Some ms → members_len ms ≡ 2 → get (codes "procs") d ≡ Some a → get tasks d ≡ Some b → parts_of tasks d ≡ Some (a, b)
-parts_found tasks d ms a b is two first second =
+pub both_found : (tasks : List ℕ) (d : Data) (ms : Members) (a b : Data) → as_object d ≡ Some ms → members_len ms ≡ 2 → get (codes "procs") d ≡ Some a → get tasks d ≡ Some b → both_of tasks d ≡ Some (a, b)
+both_found tasks d ms a b is two first second =
     let shown = object_is d ms is in
     let first_in : get_member (codes "procs") ms ≡ Some a = rw shown at first in
     let second_in : get_member tasks ms ≡ Some b = rw shown at second in
     rw (shown, eq-eqb (members_len ms) 2 two, first_in, second_in) refl
 
-pub parts_other : (tasks : List ℕ) (d : Data) (ms : Members) → as_object d ≡ Some ms → members_len ms ≢ 2 → parts_of tasks d ≡ None
-parts_other tasks d ms is other = rw (object_is d ms is, ne_eqb (members_len ms) 2 other) refl
+pub both_other : (tasks : List ℕ) (d : Data) (ms : Members) → as_object d ≡ Some ms → members_len ms ≢ 2 → both_of tasks d ≡ None
+both_other tasks d ms is other = rw (object_is d ms is, ne_eqb (members_len ms) 2 other) refl
+
+pub tasks_found : (tasks : List ℕ) (d : Data) (ms : Members) → as_object d ≡ Some ms → members_len ms ≡ 1 → tasks_of tasks d ≡ get tasks d
+tasks_found tasks d ms is one = let shown = object_is d ms is in rw (shown, eq-eqb (members_len ms) 1 one) refl
+
+pub tasks_other : (tasks : List ℕ) (d : Data) (ms : Members) → as_object d ≡ Some ms → members_len ms ≢ 1 → tasks_of tasks d ≡ None
+tasks_other tasks d ms is other = rw (object_is d ms is, ne_eqb (members_len ms) 1 other) refl
 
 -- ---- a file
 

@@ -14,7 +14,6 @@ use Rattle.tl_procedures.specs.Names.{Named}
 use Rattle.tl_table.specs.Epochs.{EpochValue, seen}
 use Rattle.tl_table.specs.Tables.{InLine, IsNext, IsChain}
 use Rattle.tl_trail.specs.Clean.{Clean}
-use Rattle.tl_trail.specs.Trails.{TrailValue}
 use Rattle.tl_audit.specs.Chains.{Before, Nothing, AfterTrail, TakesOverFrom, CleanAfter, IsCleanChain}
 use Rattle.tl_trail.specs.Chains.{chain_text}
 use Rattle.tl_trail.specs.Writing.{trail_data, trail_text}

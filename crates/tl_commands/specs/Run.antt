@@ -8,7 +8,6 @@ use Rattle.tl_tree.specs.Writing.{integers_data}
 use Rattle.tl_procedures.specs.Names.{Named}
 use Rattle.tl_procedures.specs.declared.request.Request.{Request}
 use Rattle.tl_json.specs.Lists.{list_data, natural}
-use Rattle.tl_json.specs.Registering.{TakenUp}
 use Rattle.tl_json.specs.Requests.{request_form}
 use Rattle.tl_table.specs.Epochs.{EpochValue}
 use Rattle.tl_table.specs.Tables.{IsChain}
@@ -25,8 +24,8 @@ use Rattle.tl_commands.specs.declared.fault.CliFault.TheVariants.{Engine, NotClo
 use Rattle.tl_commands.specs.Alone.{IsTreeFile}
 use Rattle.tl_commands.specs.Closing.{IsClosing}
 use Rattle.tl_commands.specs.Faults.{status_of}
-use Rattle.tl_commands.specs.Script.{BatchesValue, IsScript, script_of_run, has_epochs}
-use Rattle.tl_commands.specs.Scripted.{IsWrong}
+use Rattle.tl_commands.specs.Script.{BatchesValue, IsScript, beside, script_of_run, has_epochs}
+use Rattle.tl_commands.specs.Scripted.{AreRegistered, IsWrong}
 use Rattle.tl_commands.specs.Sinks.{FilesTrails}
 use Rattle.tl_commands.specs.Trace.{error_data}
 
@@ -58,13 +57,13 @@ batches_of batches = map (λ b. b.items) batches
 abbrev pub answers_of : List (Vec (Result Receipt Refusal) Global) → List (List (Result Receipt Refusal))
 answers_of answers = map (λ a. a.items) answers
 
--- The tree's file has a tree, the script's procedures can be registered, and `batches` are its calls.
-pub record IsReady (limit : ℕ) (tree_bytes script_bytes : List ℕ) (batches : List (List Request)) : Type 0 where
+-- The tree's file has a tree, the script's procedures and `more` can be registered, and `batches` are the script's calls.
+pub record IsReady (limit : ℕ) (tree_bytes script_bytes : List ℕ) (more : List Named) (batches : List (List Request)) : Type 0 where
   pub tree : IsTreeFile limit tree_bytes
   pub script : BatchesValue
   pub procedures : List Named
-  pub script_is : IsScript script_of_run script_bytes script
-  pub taken_up : TakenUp [] script.procedures procedures
+  pub script_is : IsScript (script_of_run (beside more)) script_bytes script
+  pub registered : AreRegistered script.procedures more procedures
   pub batches_are : map (map request_form) batches ≡ script.tasks
 
 -- the answers belong to the requests of each batch
@@ -94,10 +93,10 @@ pub record AreAnswered (batches : List (List Request)) (answers : List (List (Re
   pub kept : session.kept ≡ kept_of batches answers
 
 -- The script's calls were requested, one batch in each epoch, and the epochs of the closed table match the session's entries.
-pub record IsRun (limit : ℕ) (tree_bytes script_bytes : List ℕ) (answers : List (List (Result Receipt Refusal))) (es : List EpochValue) : Type 0 where
+pub record IsRun (limit : ℕ) (tree_bytes script_bytes : List ℕ) (more : List Named) (answers : List (List (Result Receipt Refusal))) (es : List EpochValue) : Type 0 where
   pub batches : List (List Request)
   pub session : SessionValue
-  pub ready : IsReady limit tree_bytes script_bytes batches
+  pub ready : IsReady limit tree_bytes script_bytes more batches
   pub answered : AreAnswered batches answers session
   pub as_many : length es ≡ length batches
   pub in_epochs : AreInEpochs answers
@@ -110,17 +109,17 @@ pub record PrintsRun (with_epochs : Bool) (answers : List (List (Result Receipt 
   pub closes : IsClosing with_epochs es closing
   pub same : out ≡ batch_lines answers ++ closing
 
-pub record Prints (limit : ℕ) (tree_bytes script_bytes out : List ℕ) (es : List EpochValue) : Type 0 where
+pub record Prints (limit : ℕ) (tree_bytes script_bytes : List ℕ) (more : List Named) (out : List ℕ) (es : List EpochValue) : Type 0 where
   pub answers : List (List (Result Receipt Refusal))
-  pub run : IsRun limit tree_bytes script_bytes answers es
-  pub printed : PrintsRun (has_epochs script_bytes) answers es out
+  pub run : IsRun limit tree_bytes script_bytes more answers es
+  pub printed : PrintsRun (has_epochs (beside more) script_bytes) answers es out
 
-abbrev pub Runs : ℕ → List ℕ → List ℕ → List ℕ → Type 0
-Runs limit t s out = (es : List EpochValue) × Prints limit t s out es
+abbrev pub Runs : ℕ → List ℕ → List ℕ → List Named → List ℕ → Type 0
+Runs limit t s more out = (es : List EpochValue) × Prints limit t s more out es
 
 -- The same, and the file has the trails of these epochs, which are clean.
-abbrev pub RunsToTrail : ℕ → List ℕ → List ℕ → List ℕ → Option (List ℕ) → Option (List ℕ) → Type 0
-RunsToTrail limit t s out old new = (es : List EpochValue) × Prints limit t s out es × FilesTrails es old new
+abbrev pub RunsToTrail : ℕ → List ℕ → List ℕ → List Named → List ℕ → Option (List ℕ) → Option (List ℕ) → Type 0
+RunsToTrail limit t s more out old new = (es : List EpochValue) × Prints limit t s more out es × FilesTrails es old new
 
 -- ---- faults
 
@@ -133,7 +132,7 @@ abbrev pub IsLeftOpen : List (List Request) → CliFault → Type 0
 IsLeftOpen batches e = (e ≡ Engine (refusal.Table TooManySessions)) ⊎ IsBrokenOff batches e
 
 -- the first fault of the inputs, or otherwise why the engine doesn't close; or lack of memory
-abbrev pub IsFirstRunFault : ℕ → List ℕ → List ℕ → CliFault → Type 0
-IsFirstRunFault limit t s e = status_of e ≢ 4 →
-    IsWrong limit script_of_run t s e
-    ⊎ ((batches : List (List Request)) × IsReady limit t s batches × IsLeftOpen batches e)
+abbrev pub IsFirstRunFault : ℕ → List ℕ → List ℕ → List Named → CliFault → Type 0
+IsFirstRunFault limit t s more e = status_of e ≢ 4 →
+    IsWrong limit (script_of_run (beside more)) t s more e
+    ⊎ ((batches : List (List Request)) × IsReady limit t s more batches × IsLeftOpen batches e)

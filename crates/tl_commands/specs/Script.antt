@@ -7,9 +7,10 @@ use Rattle.serde_json.specs.Events.{members_len}
 use Rattle.serde_json.specs.Find.{as_number, as_u64, as_object, get_member}
 use Rattle.serde_json.specs.Read.{read}
 use Rattle.tl_tree.specs.Reading.{both}
-use Rattle.tl_json.specs.Lists.{each_of}
+use Rattle.tl_json.specs.Lists.{each_of, list_data}
 use Rattle.tl_json.specs.Procedures.{procedure_form, procedure_of}
 use Rattle.tl_json.specs.Requests.{request_form, request_of}
+use Rattle.tl_procedures.specs.Names.{Named}
 use Rattle.tl_procedures.specs.declared.request.Request.{Request}
 use Rattle.tl_core.specs.declared.moves.Move.{Move}
 use Rattle.tl_core.specs.declared.moves.Move.TheVariants as a_move
@@ -45,18 +46,31 @@ call_of d = option_and_then if_call (option_and_then as_u64 (as_number d))
 abbrev pub move_of : Data → Option MoveValue
 move_of d = option_or (option_map Steps (call_of d)) (option_map (λ x. Admits x.0 x.1) (request_of d))
 
+-- what stands for the procedures of a script that names none: an empty list if others are given beside it
+abbrev pub beside : List Named → Option Data
+beside [] = None
+beside (p ∷ ps) = Some (list_data [])
+
 -- the procedures and the tasks of an object that has these two members and no others
-abbrev pub parts_of : List ℕ → Data → Option (Data × Data)
-parts_of tasks d = option_and_then (λ ms. if members_len ms == 2 then both (get_member (codes "procs") ms) (get_member tasks ms) else None) (as_object d)
+abbrev pub both_of : List ℕ → Data → Option (Data × Data)
+both_of tasks d = option_and_then (λ ms. if members_len ms == 2 then both (get_member (codes "procs") ms) (get_member tasks ms) else None) (as_object d)
+
+-- the tasks of an object that has no other member
+abbrev pub tasks_of : List ℕ → Data → Option Data
+tasks_of tasks d = option_and_then (λ ms. if members_len ms == 1 then get_member tasks ms else None) (as_object d)
+
+-- the procedures and the tasks of a script, which may have only the tasks if something stands for the procedures
+abbrev pub parts_of : Option Data → List ℕ → Data → Option (Data × Data)
+parts_of none tasks d = option_or (both_of tasks d) (both none (tasks_of tasks d))
 
 -- the script in a JSON value, where the tasks are the list in the member `tasks`, and f reads each of them
-abbrev pub script_of : {A : Type 0} → List ℕ → (Data → Option A) → Data → Option (ScriptValue A)
-script_of tasks f d =
-    option_and_then (λ parts. option_map (λ x. record { procedures = x.0; tasks = x.1 }) (both (each_of procedure_of parts.0) (each_of f parts.1))) (parts_of tasks d)
+abbrev pub script_of : {A : Type 0} → Option Data → List ℕ → (Data → Option A) → Data → Option (ScriptValue A)
+script_of none tasks f d =
+    option_and_then (λ parts. option_map (λ x. record { procedures = x.0; tasks = x.1 }) (both (each_of procedure_of parts.0) (each_of f parts.1))) (parts_of none tasks d)
 
 -- the script of `drive`
-abbrev pub script_of_moves : Data → Option (ScriptValue MoveValue)
-script_of_moves = script_of (codes "moves") move_of
+abbrev pub script_of_moves : Option Data → Data → Option (ScriptValue MoveValue)
+script_of_moves none = script_of none (codes "moves") move_of
 
 -- ---- the script of `run`
 
@@ -76,25 +90,25 @@ abbrev pub BatchesValue : Type 0
 BatchesValue = ScriptValue (List (List ℕ × List ℤ))
 
 -- a script of one batch
-abbrev pub script_of_calls : Data → Option BatchesValue
-script_of_calls d =
+abbrev pub script_of_calls : Option Data → Data → Option BatchesValue
+script_of_calls none d =
     option_and_then (λ parts. option_map (λ x. record { procedures = x.0; tasks = x.1 ∷ [] }) (both (each_of procedure_of parts.0) (batch_of parts.1)))
-    (parts_of (codes "calls") d)
+    (parts_of none (codes "calls") d)
 
 -- a script of 1 to 256 batches, one for each epoch
-abbrev pub script_of_epochs : Data → Option BatchesValue
-script_of_epochs d =
-    option_and_then (λ s. option_map (λ tasks. record { procedures = s.procedures; tasks = tasks }) (if_few s.tasks)) (script_of (codes "epochs") batch_of d)
+abbrev pub script_of_epochs : Option Data → Data → Option BatchesValue
+script_of_epochs none d =
+    option_and_then (λ s. option_map (λ tasks. record { procedures = s.procedures; tasks = tasks }) (if_few s.tasks)) (script_of none (codes "epochs") batch_of d)
 
-abbrev pub script_of_run : Data → Option BatchesValue
-script_of_run d = option_or (script_of_calls d) (script_of_epochs d)
+abbrev pub script_of_run : Option Data → Data → Option BatchesValue
+script_of_run none d = option_or (script_of_calls none d) (script_of_epochs none d)
 
 -- whether it is a script of epochs
-abbrev pub is_of_epochs : Data → Bool
-is_of_epochs d = option_map_or (λ s. false) (script_of_calls d) true
+abbrev pub is_of_epochs : Option Data → Data → Bool
+is_of_epochs none d = option_map_or (λ s. false) (script_of_calls none d) true
 
-abbrev pub has_epochs : List ℕ → Bool
-has_epochs bytes = option_map_or is_of_epochs (read bytes) false
+abbrev pub has_epochs : Option Data → List ℕ → Bool
+has_epochs none bytes = option_map_or (is_of_epochs none) (read bytes) false
 
 -- The bytes are UTF-8 and contain the script.
 pub record IsScript {A : Type 0} (script_of : Data → Option (ScriptValue A)) (bytes : List ℕ) (s : ScriptValue A) : Type 0 where

@@ -1,5 +1,5 @@
 -- What the commands `drive` and `run`, which carry out a script, have in common.
-use Rattle.std.specs.Prelude.{◌≡◌, ◌⊎◌, ℕ, List, [], ◌∷◌, ◌++◌, Option}
+use Rattle.std.specs.Prelude.{◌≡◌, ◌⊎◌, ℕ, List, [], ◌∷◌, ◌++◌, Option, Some}
 use Rattle.serde_json.specs.Data.{Data}
 use Rattle.serde_json.specs.Written.{compact_text}
 use Rattle.tl_tree.specs.Trees.{TreeValue}
@@ -7,10 +7,12 @@ use Rattle.tl_tree.specs.Writing.{tree_text}
 use Rattle.tl_tree.specs.declared.fault.TreeFault.{TreeFault}
 use Rattle.tl_tree_locking.specs.History.{records_now}
 use Rattle.tl_history.specs.declared.history.TheConstants.{MAX_EVENTS}
-use Rattle.tl_procedures.specs.Names.{Named}
+use Rattle.tl_procedures.specs.Names.{Named, naming_refusal, AreFreeAfter}
+use Rattle.tl_procedures.specs.declared.fault.NamingFault.{NamingFault}
 use Rattle.tl_core.specs.Cores.{CoreValue}
-use Rattle.tl_json.specs.Registering.{IsFirstUnfit}
+use Rattle.tl_json.specs.Registering.{TakenUp, IsFirstUnfit}
 use Rattle.tl_json.specs.declared.fault.RegisterFault.{RegisterFault}
+use Rattle.tl_json.specs.declared.fault.RegisterFault.TheVariants.{Name}
 use Rattle.tl_commands.specs.declared.fault.CliFault.{CliFault}
 use Rattle.tl_commands.specs.declared.fault.CliFault.TheVariants.{Tree, Register, NotScript}
 use Rattle.tl_commands.specs.Alone.{IsTreeFile, IsTreeFault}
@@ -38,9 +40,31 @@ two_lines_text value tree = compact_text value ++ 10 ∷ tree_text tree ++ 10 �
 abbrev pub lines_text : Data → Data → TreeValue → List ℕ
 lines_text first second tree = compact_text first ++ 10 ∷ two_lines_text second tree
 
+-- These are the procedures of the texts, and then `more`. Each has a name that was free when it was added.
+pub record AreRegistered (texts : List (List ℕ × List ℕ)) (more all : List Named) : Type 0 where
+  pub own : List Named
+  pub taken_up : TakenUp [] texts own
+  pub free : AreFreeAfter own more
+  pub same : all ≡ own ++ more
+
+-- The name of one of `more` is refused, and none before it was.
+pub record IsFirstRefused (before more : List Named) (f : NamingFault) : Type 0 where
+  pub first : List Named
+  pub one : Named
+  pub rest : List Named
+  pub split : more ≡ first ++ one ∷ rest
+  pub free : AreFreeAfter before first
+  pub refused : naming_refusal (before ++ first) one.name ≡ Some f
+
+-- why not all can be registered: the first fault of the texts, or otherwise of the names of `more`
+abbrev pub IsUnregistered : List (List ℕ × List ℕ) → List Named → RegisterFault → Type 0
+IsUnregistered texts more f =
+    IsFirstUnfit [] texts f
+    ⊎ ((own : List Named) × (n : NamingFault) × TakenUp [] texts own × (f ≡ Name n) × IsFirstRefused own more n)
+
 -- the first fault of the inputs: of the tree, of the script, or of the first procedure that can't be registered
-abbrev pub IsWrong : {A : Type 0} → ℕ → (Data → Option (ScriptValue A)) → List ℕ → List ℕ → CliFault → Type 0
-IsWrong {A} limit script_of t s e =
+abbrev pub IsWrong : {A : Type 0} → ℕ → (Data → Option (ScriptValue A)) → List ℕ → List ℕ → List Named → CliFault → Type 0
+IsWrong {A} limit script_of t s more e =
     ((f : TreeFault) × (e ≡ Tree f) × IsTreeFault limit t f)
     ⊎ ((e ≡ NotScript) × IsTreeFile limit t × ((script : ScriptValue A) → ¬ IsScript script_of s script))
-    ⊎ ((script : ScriptValue A) × (f : RegisterFault) × (e ≡ Register f) × IsTreeFile limit t × IsScript script_of s script × IsFirstUnfit [] script.procedures f)
+    ⊎ ((script : ScriptValue A) × (f : RegisterFault) × (e ≡ Register f) × IsTreeFile limit t × IsScript script_of s script × IsUnregistered script.procedures more f)

@@ -1,38 +1,19 @@
 // The command `alone`.
 
-ghost use Rattle.std.specs.Prelude.{◌≡◌, IfOk, IfErr, string_bytes, codes, pos, List, [], ◌∷◌, ◌++◌, ℕ, ◌⊎◌, None, Some};
+ghost use Rattle.std.specs.Prelude.{◌≡◌, IfOk, IfErr, option_map, string_bytes, codes, pos, List, [], ◌∷◌, ◌++◌, ℕ, ◌⊎◌, None, Some};
 ghost use Rattle.serde_json.specs.Data.{object, member, no_members};
 ghost use Rattle.serde_json.specs.View.{view};
-ghost use Rattle.tl_instr.specs.Spelling.{Spelled};
-ghost use Rattle.tl_verify.specs.Acceptable.{Acceptable};
 ghost use Rattle.tl_tree.specs.Writing.{integer_data, integers_data, tree_text};
-ghost use Rattle.tl_commands.specs.Alone.{answer_text, args_of_text, Prints, IsTreeFile, IsFirstAloneFault};
+ghost use Rattle.tl_commands.specs.Alone.{answer_text, args_of_text, Prints, IsFirstAloneFault};
 
 use crate::fault::CliFault;
 use crate::inputs::tree_of_file;
 use serde_json::{Value, json};
 use std::alloc::{AllocError, Global};
 use std::sync::Arc;
-use tl_instr::decode;
 use tl_machine::{Answer, alone};
+use tl_sources::{Source, procedure_of};
 use tl_tree::{integers_from_value, integers_to_value, write_tree};
-use tl_verify::{Proc, verify};
-
-// The procedure in a file.
-fn procedure_of_file(alloc: Global, bytes: &[u8]) -> Result<Proc, CliFault>
-    ensures spelled { IfOk result (λ p. Spelled bytes.now p) }
-    ensures accepted { IfOk result (λ p. Acceptable p.instrs) }
-    ensures fault { IfErr result (λ e. (limit : ℕ) (tree args : List ℕ) → IsTreeFile limit tree → IsFirstAloneFault limit tree bytes.now args e) }
-{
-    let code = match decode(alloc, bytes) {
-        Ok(code) => code,
-        Err(fault) => return Err(CliFault::Code(fault)),
-    };
-    match verify(alloc, code) {
-        Ok(procedure) => Ok(procedure),
-        Err((_, fault)) => Err(CliFault::Verify(fault)),
-    }
-}
 
 // The arguments in a text: a JSON list of signed 64-bit integers.
 fn args_of(alloc: Global, text: &str) -> Result<Vec<i64>, CliFault>
@@ -70,26 +51,30 @@ fn answer_line(alloc: Global, answer: &Answer) -> Result<String, AllocError>
 }
 
 /// Runs a procedure alone on a tree, and returns the lines to print: first the reply and the number of instructions done,
-/// then the resulting tree. Takes the bytes of the tree's file, those of the procedure's container, and the arguments as
+/// then the resulting tree. Takes the bytes of the tree's file, the procedure's file and its name there, and the arguments as
 /// text.
 ///
-/// The first fault, in this order: 106 (also if the tree isn't UTF-8), 101 to 105, where the tree may have `limit` nodes; the container's 201 to 206; the
-/// verifier's 301 to 307 and 401 to 409; 732; 501. If memory was refused, 190, 290, 490 or 990.
+/// The first fault, in this order: 106 (also if the tree isn't UTF-8), 101 to 105, where the tree may have `limit` nodes; that of the procedure's file, as from
+/// `procedure_of`; 732; 501. If memory was refused, 190, 290, 490 or 990.
 pub fn alone_cmd(
     alloc: Global,
     tree: &[u8],
-    procedure: &[u8],
+    source: Source<'_>,
+    name: Option<&str>,
     args: &str,
     limit: u16,
 ) -> Result<String, CliFault>
-    ensures printed { IfOk result (λ s. Prints limit tree.now procedure.now args.now (string_bytes s)) }
-    ensures fault { IfErr result (IsFirstAloneFault limit tree.now procedure.now args.now) }
+    ensures printed { IfOk result (λ s. Prints limit tree.now source.entry (option_map (λ n. n.now) name.entry) args.now (string_bytes s)) }
+    ensures fault { IfErr result (IsFirstAloneFault limit tree.now source.entry (option_map (λ n. n.now) name.entry) args.now) }
 {
     let mut tree = match tree_of_file(alloc, tree, limit) {
         Ok(tree) => tree,
         Err(fault) => return Err(CliFault::Tree(fault)),
     };
-    let procedure = procedure_of_file(alloc, procedure)?;
+    let procedure = match procedure_of(alloc, source, name) {
+        Ok(procedure) => procedure,
+        Err(fault) => return Err(CliFault::Source(fault)),
+    };
     let args = args_of(alloc, args)?;
     let Ok(procedure) = Arc::new(alloc, procedure) else {
         return Err(CliFault::Memory);

@@ -9,7 +9,7 @@ ghost use Rattle.tl_commands.specs.Trace.{trace_data};
 ghost use Rattle.tl_commands.specs.Drive.{IsConclusion, IsDriven, Drives, DrivesToTrail, IsFirstDriveFault};
 
 use crate::fault::CliFault;
-use crate::inputs::{core_of, tree_of_file};
+use crate::inputs::{Inputs, core_of, tree_of_file};
 use crate::outputs::{three_lines, trail_file};
 use crate::script::read_moves;
 use crate::trace::{trace_to_value, unfinished_to_value};
@@ -49,17 +49,23 @@ pub struct Driven {
     core: Core,
 }
 
-// Carries out a script on a tree.
-fn drive_script(alloc: Global, tree: &[u8], script: &[u8], limit: u16) -> Result<Driven, CliFault>
-    ensures ok { IfOk result (λ d. IsDriven limit tree.now script.now d.trace.items d.core.seen) }
-    ensures fault { IfErr result (λ e. IsFirstDriveFault limit tree.now script.now e) }
+// Carries out a script on its inputs.
+fn drive_script(alloc: Global, inputs: Inputs<'_>) -> Result<Driven, CliFault>
+    ensures ok { IfOk result (λ d. IsDriven inputs.entry.limit inputs.entry.tree.now inputs.entry.script.now inputs.entry.procedures.items d.trace.items d.core.seen) }
+    ensures fault { IfErr result (λ e. IsFirstDriveFault inputs.entry.limit inputs.entry.tree.now inputs.entry.script.now inputs.entry.procedures.items e) }
 {
+    let Inputs {
+        tree,
+        script,
+        procedures,
+        limit,
+    } = inputs;
     let tree = match tree_of_file(alloc, tree, limit) {
         Ok(tree) => tree,
         Err(fault) => return Err(CliFault::Tree(fault)),
     };
-    let script = read_moves(alloc, script)?;
-    let mut core = core_of(alloc, tree, &script.procedures)?;
+    let script = read_moves(alloc, script, &procedures)?;
+    let mut core = core_of(alloc, tree, &script.procedures, procedures)?;
     match core.drive(alloc, &script.tasks) {
         Ok(trace) => Ok(Driven { trace, core }),
         Err(fault) => Err(CliFault::Core(fault)),
@@ -67,30 +73,25 @@ fn drive_script(alloc: Global, tree: &[u8], script: &[u8], limit: u16) -> Result
 }
 
 /// Carries out a script on a tree, and returns the lines to print: the result of each move; the order of the calls, or 651
-/// and the least unfinished call; and the resulting tree. Takes the bytes of the tree's file and those of the script.
+/// and the least unfinished call; and the resulting tree.
 ///
-/// The first fault, in this order: 106 (also if the tree isn't UTF-8), 101 to 105, where the tree may have `limit` nodes; 731; then for each procedure the
-/// assembler's 251 to 254, the verifier's 301 to 307 and 401 to 409, and 612, 611, 613. If memory was refused, 190, 290,
-/// 490, 690 or 990.
-pub fn drive_cmd(alloc: Global, tree: &[u8], script: &[u8], limit: u16) -> Result<String, CliFault>
-    ensures printed { IfOk result (λ s. Drives limit tree.now script.now (string_bytes s)) }
-    ensures fault { IfErr result (λ e. IsFirstDriveFault limit tree.now script.now e) }
+/// The first fault, in this order: 106 (also if the tree isn't UTF-8), 101 to 105, where the tree may have `limit` nodes; 731; then for each procedure of the script the
+/// assembler's 251 to 254, the verifier's 301 to 307 and 401 to 409, and 612, 611, 613; then for each other procedure 612, 611, 613. If
+/// memory was refused, 190, 290, 490, 690 or 990.
+pub fn drive_cmd(alloc: Global, inputs: Inputs<'_>) -> Result<String, CliFault>
+    ensures printed { IfOk result (λ s. Drives inputs.entry.limit inputs.entry.tree.now inputs.entry.script.now inputs.entry.procedures.items (string_bytes s)) }
+    ensures fault { IfErr result (λ e. IsFirstDriveFault inputs.entry.limit inputs.entry.tree.now inputs.entry.script.now inputs.entry.procedures.items e) }
 {
-    let driven = drive_script(alloc, tree, script, limit)?;
+    let driven = drive_script(alloc, inputs)?;
     lines(alloc, &driven.core, &driven.trace)
 }
 
 /// The same, and the text of a file: the trail of the calls, and a line feed. If memory was refused, also 790.
-pub fn drive_with_trail_cmd(
-    alloc: Global,
-    tree: &[u8],
-    script: &[u8],
-    limit: u16,
-) -> Result<(String, String), CliFault>
-    ensures printed { IfOk result (λ r. DrivesToTrail limit tree.now script.now (string_bytes r.0) (string_bytes r.1)) }
-    ensures fault { IfErr result (λ e. IsFirstDriveFault limit tree.now script.now e) }
+pub fn drive_with_trail_cmd(alloc: Global, inputs: Inputs<'_>) -> Result<(String, String), CliFault>
+    ensures printed { IfOk result (λ r. DrivesToTrail inputs.entry.limit inputs.entry.tree.now inputs.entry.script.now inputs.entry.procedures.items (string_bytes r.0) (string_bytes r.1)) }
+    ensures fault { IfErr result (λ e. IsFirstDriveFault inputs.entry.limit inputs.entry.tree.now inputs.entry.script.now inputs.entry.procedures.items e) }
 {
-    let driven = drive_script(alloc, tree, script, limit)?;
+    let driven = drive_script(alloc, inputs)?;
     let text = lines(alloc, &driven.core, &driven.trace)?;
     let trail = trail_file(alloc, &driven.core)?;
     Ok((text, trail))

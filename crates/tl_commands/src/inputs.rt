@@ -1,22 +1,34 @@
 // The contents of the files that more than one command reads.
 
-ghost use Rattle.std.specs.Prelude.{◌≡◌, ◌≢◌, [], map, IfOk, IfErr, Ok};
+ghost use Rattle.std.specs.Prelude.{◌≡◌, ◌≢◌, ◌++◌, [], map, IfOk, IfErr, Ok};
 ghost use Rattle.tl_tree.specs.Reading.{tree_of_text};
-ghost use Rattle.tl_procedures.specs.Names.{Named};
+ghost use Rattle.tl_procedures.specs.Names.{AreFreeAfter};
+ghost use Rattle.tl_procedures.specs.declared.fault.NamingFault.TheVariants as naming;
 ghost use Rattle.tl_json.specs.Procedures.{procedure_form};
-ghost use Rattle.tl_json.specs.Registering.{TakenUp, IsFirstUnfit};
 ghost use Rattle.tl_json.specs.declared.fault.RegisterFault.{RegisterFault};
 ghost use Rattle.tl_commands.specs.declared.fault.CliFault.TheVariants.{Register};
 ghost use Rattle.tl_commands.specs.Alone.{IsTreeFault};
 ghost use Rattle.tl_commands.specs.Faults.{status_of};
-ghost use Rattle.tl_commands.specs.Scripted.{core_with};
+ghost use Rattle.tl_commands.specs.Scripted.{core_with, AreRegistered, IsFirstRefused, IsUnregistered};
 
 use crate::fault::CliFault;
 use std::alloc::Global;
 use tl_core::Core;
 use tl_history::MAX_EVENTS;
-use tl_json::{ProcedureText, register_all};
+use tl_json::{ProcedureText, RegisterFault, register_all};
+use tl_procedures::{NamingFault, Procedures};
+use tl_sources::NamedProcedure;
 use tl_tree::{Tree, TreeFault, read_tree};
+
+/// What a script is carried out on: the bytes of the tree's file and of the script's, procedures that are registered after the script's own,
+/// and how many nodes the tree may have.
+#[derive(Debug, Drop)]
+pub struct Inputs<'a> {
+    pub tree: &'a [u8],
+    pub script: &'a [u8],
+    pub procedures: Vec<NamedProcedure>,
+    pub limit: u16,
+}
 
 /// The tree of at most `limit` nodes in a file. 106 if the file isn't UTF-8 or has another form, then 101 to 105.
 pub fn tree_of_file(alloc: Global, bytes: &[u8], limit: u16) -> Result<Tree, TreeFault>
@@ -29,16 +41,45 @@ pub fn tree_of_file(alloc: Global, bytes: &[u8], limit: u16) -> Result<Tree, Tre
     }
 }
 
-/// A core of the tree with a script's procedures. Otherwise what is wrong with the first procedure that has a fault: its
-/// text, its code or its name. 290, 490 or 690 if memory is refused.
-pub fn core_of(alloc: Global, tree: Tree, texts: &[ProcedureText]) -> Result<Core, CliFault>
-    ensures taken { IfOk result (λ core. TakenUp [] (map procedure_form texts.now) core.seen.procedures) }
-    ensures ok { IfOk result (λ core. core.seen ≡ core_with tree core.seen.procedures) }
-    ensures fault { IfErr result (λ e. status_of e ≢ 4 → (f : RegisterFault) × (e ≡ Register f) × IsFirstUnfit [] (map procedure_form texts.now) f) }
+// The same procedures and these after them, or the fault of the first name that is refused: 612, 611 or 613; 690 if memory is refused.
+fn add_all(
+    alloc: Global,
+    before: Procedures,
+    more: Vec<NamedProcedure>,
+) -> Result<Procedures, NamingFault>
+    ensures free { IfOk result (λ _. AreFreeAfter before more.items) }
+    ensures added { IfOk result (λ all. all ≡ before ++ more.items) }
+    ensures fault { IfErr result (λ e. e ≢ naming.Memory → IsFirstRefused before more.items e) }
 {
-    let procedures = match register_all(alloc, texts) {
-        Ok(procedures) => procedures,
+    let mut procedures = before;
+    for named in more {
+        let (name, procedure) = named.into_parts();
+        if let Err(fault) = procedures.add(alloc, &name, procedure) {
+            return Err(fault);
+        }
+    }
+    Ok(procedures)
+}
+
+/// A core of the tree with a script's procedures, and then `more`. Otherwise what is wrong with the first procedure that has a fault: its
+/// text, its code or its name. 290, 490 or 690 if memory is refused.
+pub fn core_of(
+    alloc: Global,
+    tree: Tree,
+    texts: &[ProcedureText],
+    more: Vec<NamedProcedure>,
+) -> Result<Core, CliFault>
+    ensures registered { IfOk result (λ core. AreRegistered (map procedure_form texts.now) more.items core.seen.procedures) }
+    ensures ok { IfOk result (λ core. core.seen ≡ core_with tree core.seen.procedures) }
+    ensures fault { IfErr result (λ e. status_of e ≢ 4 → (f : RegisterFault) × (e ≡ Register f) × IsUnregistered (map procedure_form texts.now) more.items f) }
+{
+    let own = match register_all(alloc, texts) {
+        Ok(own) => own,
         Err(fault) => return Err(CliFault::Register(fault)),
+    };
+    let procedures = match add_all(alloc, own, more) {
+        Ok(procedures) => procedures,
+        Err(fault) => return Err(CliFault::Register(RegisterFault::Name(fault))),
     };
     match Core::with_procedures(alloc, tree, procedures, MAX_EVENTS) {
         Ok(core) => Ok(core),

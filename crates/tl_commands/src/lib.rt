@@ -33,7 +33,7 @@ pub use generations::{
     Generation, close_generation, end_generation, keep_generation, next_engine, open_generations,
     take_generation,
 };
-pub use inputs::tree_of_file;
+pub use inputs::{Inputs, tree_of_file};
 pub use procedures::{asm_cmd, dis_cmd, migrate_cmd, verify_cmd};
 pub use running::{run_cmd, run_with_trail_cmd};
 pub use script::{RunScript, Script, read_calls, read_moves};

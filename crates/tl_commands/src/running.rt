@@ -7,13 +7,13 @@ ghost use Rattle.tl_workers.specs.Kept.{SessionValue, Gains};
 ghost use Rattle.tl_workers.specs.Matching.{Matches};
 ghost use Rattle.tl_commands.specs.Faults.{status_of};
 ghost use Rattle.tl_commands.specs.Run.{AnswersBatches, AreAnswered, AreInEpochs, IsInEpoch, kept_of, IsLeftOpen, IsRun, IsBrokenOff, Runs, RunsToTrail, IsFirstRunFault, batches_of, answers_of, batch_lines, PrintsRun};
-ghost use Rattle.tl_commands.specs.Script.{has_epochs};
+ghost use Rattle.tl_commands.specs.Script.{beside, has_epochs};
 ghost use Rattle.tl_commands.specs.Sinks.{IsSinkFault};
 
 use crate::answers::batch_to_value;
 use crate::closing::closing_lines;
 use crate::fault::CliFault;
-use crate::inputs::{core_of, tree_of_file};
+use crate::inputs::{Inputs, core_of, tree_of_file};
 use crate::outputs::put_trails;
 use crate::script::read_calls;
 use crate::sink::TrailSink;
@@ -153,28 +153,32 @@ fn run_batches<R: Threads + Wait + Sync, G: Gate + Sync>(
     }
 }
 
-// Carries out a script on a tree.
+// Carries out a script on its inputs.
 fn run_script<R: Threads + Wait + Sync, G: Gate + Sync>(
     rt: &R,
     alloc: Global,
-    tree: &[u8],
-    script: &[u8],
+    inputs: Inputs<'_>,
     workers: usize,
     gate: &G,
-    limit: u16,
 ) -> Result<Ran, CliFault>
     requires one { 1 ≤ workers }
     requires workers { workers ≤ MAX_WORKERS }
-    ensures ok { IfOk result (λ r. IsRun limit tree.now script.now (answers_of r.answers.items) r.chain.items) }
-    ensures epochs { IfOk result (λ r. r.has_epochs ≡ has_epochs script.now) }
-    ensures fault { IfErr result (λ e. IsFirstRunFault limit tree.now script.now e) }
+    ensures ok { IfOk result (λ r. IsRun inputs.entry.limit inputs.entry.tree.now inputs.entry.script.now inputs.entry.procedures.items (answers_of r.answers.items) r.chain.items) }
+    ensures epochs { IfOk result (λ r. r.has_epochs ≡ has_epochs (beside inputs.entry.procedures.items) inputs.entry.script.now) }
+    ensures fault { IfErr result (λ e. IsFirstRunFault inputs.entry.limit inputs.entry.tree.now inputs.entry.script.now inputs.entry.procedures.items e) }
 {
+    let Inputs {
+        tree,
+        script,
+        procedures,
+        limit,
+    } = inputs;
     let tree = match tree_of_file(alloc, tree, limit) {
         Ok(tree) => tree,
         Err(fault) => return Err(CliFault::Tree(fault)),
     };
-    let asked = read_calls(alloc, script)?;
-    let core = core_of(alloc, tree, &asked.script.procedures)?;
+    let asked = read_calls(alloc, script, &procedures)?;
+    let core = core_of(alloc, tree, &asked.script.procedures, procedures)?;
     let engine = Engine::of_core(alloc, core)?;
     let (answers, chain) = run_batches(rt, alloc, engine, &asked.script.tasks, workers, gate)?;
     Ok(Ran {
@@ -201,30 +205,27 @@ fn lines(alloc: Global, ran: &Ran) -> Result<String, CliFault>
     Ok(text)
 }
 
-/// Runs the calls of a script on a tree, on up to `workers` threads, and returns the lines to print: for each batch the
+/// Runs the calls of a script on its tree, on up to `workers` threads, and returns the lines to print: for each batch the
 /// answer to each request; the order of the calls, or, for a script of epochs, the order in each; and the resulting tree.
-/// Takes the bytes of the tree's file and those of the script. If the script has several lists of calls, the table is
-/// sealed between two.
+/// If the script has several lists of calls, the table is sealed between two.
 ///
-/// The first fault, in this order: 106 (also if the tree isn't UTF-8), 101 to 105, where the tree may have `limit` nodes; 731; then for each procedure the
-/// assembler's 251 to 254, the verifier's 301 to 307 and 401 to 409, and 612, 611, 613; 606 or 808 if the table isn't sealed
-/// between two lists; 821; 831 if the engine that ran the calls doesn't close, or has a call in another epoch than that of
+/// The first fault, in this order: 106 (also if the tree isn't UTF-8), 101 to 105, where the tree may have `limit` nodes; 731; then for each procedure of the script the
+/// assembler's 251 to 254, the verifier's 301 to 307 and 401 to 409, and 612, 611, 613; then for each other procedure 612, 611, 613; 606
+/// or 808 if the table isn't sealed between two lists; 821; 831 if the engine that ran the calls doesn't close, or has a call in another epoch than that of
 /// its list. If memory was refused, 190, 290, 490, 690, 890 or 990.
 pub fn run_cmd<R: Threads + Wait + Sync, G: Gate + Sync>(
     rt: &R,
     alloc: Global,
-    tree: &[u8],
-    script: &[u8],
+    inputs: Inputs<'_>,
     workers: usize,
     gate: &G,
-    limit: u16,
 ) -> Result<String, CliFault>
     requires one { 1 ≤ workers }
     requires workers { workers ≤ MAX_WORKERS }
-    ensures printed { IfOk result (λ s. Runs limit tree.now script.now (string_bytes s)) }
-    ensures fault { IfErr result (λ e. IsFirstRunFault limit tree.now script.now e) }
+    ensures printed { IfOk result (λ s. Runs inputs.entry.limit inputs.entry.tree.now inputs.entry.script.now inputs.entry.procedures.items (string_bytes s)) }
+    ensures fault { IfErr result (λ e. IsFirstRunFault inputs.entry.limit inputs.entry.tree.now inputs.entry.script.now inputs.entry.procedures.items e) }
 {
-    let ran = run_script(rt, alloc, tree, script, workers, gate, limit)?;
+    let ran = run_script(rt, alloc, inputs, workers, gate)?;
     lines(alloc, &ran)
 }
 
@@ -233,20 +234,18 @@ pub fn run_cmd<R: Threads + Wait + Sync, G: Gate + Sync>(
 pub fn run_with_trail_cmd<R: Threads + Wait + Sync, G: Gate + Sync, S: TrailSink>(
     rt: &R,
     alloc: Global,
-    tree: &[u8],
-    script: &[u8],
+    inputs: Inputs<'_>,
     workers: usize,
     gate: &G,
     sink: &mut S,
-    limit: u16,
 ) -> Result<String, CliFault>
     requires one { 1 ≤ workers }
     requires workers { workers ≤ MAX_WORKERS }
-    ensures printed { IfOk result (λ s. RunsToTrail limit tree.now script.now (string_bytes s) (S.text sink.old) (S.text sink.new)) }
+    ensures printed { IfOk result (λ s. RunsToTrail inputs.entry.limit inputs.entry.tree.now inputs.entry.script.now inputs.entry.procedures.items (string_bytes s) (S.text sink.old) (S.text sink.new)) }
     ensures fine { OnOk result (S.failures sink.new ≡ S.failures sink.old) }
-    ensures fault { IfErr result (λ e. IsSinkFault (S.failures sink.old) (S.failures sink.new) (IsFirstRunFault limit tree.now script.now e) e) }
+    ensures fault { IfErr result (λ e. IsSinkFault (S.failures sink.old) (S.failures sink.new) (IsFirstRunFault inputs.entry.limit inputs.entry.tree.now inputs.entry.script.now inputs.entry.procedures.items e) e) }
 {
-    let ran = run_script(rt, alloc, tree, script, workers, gate, limit)?;
+    let ran = run_script(rt, alloc, inputs, workers, gate)?;
     let text = lines(alloc, &ran)?;
     put_trails(alloc, &ran.chain, sink)?;
     Ok(text)

@@ -8,6 +8,7 @@ use std::test::Fail;
 use tl_audit::Silent;
 use tl_commands::{CliFault, alone_cmd, asm_cmd, audit_cmd};
 use tl_instr::{CodeFault, decode, encode};
+use tl_sources::Source;
 use tl_tree::USUAL_NODES;
 
 /// How often each number was reported; 0 counts the files without a fault.
@@ -71,7 +72,15 @@ fn wrong_with(alloc: Global, container: &[u8]) -> Result<u64, Fail> {
         }
         Err(fault) => return Ok(first_number(CliFault::Code(fault))),
     }
-    match alone_cmd(alloc, ONE_NODE.as_bytes(), container, "[0,3]", USUAL_NODES) {
+    let source = Source::Container(container);
+    match alone_cmd(
+        alloc,
+        ONE_NODE.as_bytes(),
+        source,
+        None,
+        "[0,3]",
+        USUAL_NODES,
+    ) {
         Ok(_) => Ok(0),
         Err(fault) => Ok(first_number(fault)),
     }

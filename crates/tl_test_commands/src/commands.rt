@@ -9,9 +9,10 @@ use std::test::Fail;
 use std::thread::Threads;
 use tl_audit::Silent;
 use tl_commands::{
-    CliFault, alone_cmd, asm_cmd, audit_cmd, check_cmd, dis_cmd, drive_cmd, drive_with_trail_cmd,
-    run_cmd, run_with_trail_cmd, verify_cmd,
+    CliFault, Inputs, alone_cmd, asm_cmd, audit_cmd, check_cmd, dis_cmd, drive_cmd,
+    drive_with_trail_cmd, run_cmd, run_with_trail_cmd, verify_cmd,
 };
+use tl_sources::Source;
 use tl_tree::USUAL_NODES;
 use tl_workers::NoGate;
 
@@ -77,18 +78,29 @@ fn verified(alloc: Global, text: &str) -> Result<String, CliFault> {
     Ok(if is_same { checked } else { String::new(alloc) })
 }
 
+// What a script is carried out on, without other procedures than its own.
+fn inputs<'a>(alloc: Global, tree: &'a str, script: &'a [u8]) -> Inputs<'a> {
+    Inputs {
+        tree: tree.as_bytes(),
+        script,
+        procedures: Vec::new(alloc),
+        limit: USUAL_NODES,
+    }
+}
+
 fn done_alone(alloc: Global, tree: &str, text: &str, args: &str) -> Result<String, CliFault> {
     alone_cmd(
         alloc,
         tree.as_bytes(),
-        &container_of(alloc, text)?,
+        Source::Container(&container_of(alloc, text)?),
+        None,
         args,
         USUAL_NODES,
     )
 }
 
 fn trail_of(alloc: Global, tree: &str, script: &str) -> Result<String, CliFault> {
-    let (_, trail) = drive_with_trail_cmd(alloc, tree.as_bytes(), script.as_bytes(), USUAL_NODES)?;
+    let (_, trail) = drive_with_trail_cmd(alloc, inputs(alloc, tree, script.as_bytes()))?;
     Ok(trail)
 }
 
@@ -104,17 +116,8 @@ fn trails_of<R: Threads + Wait + Sync + AllocGlobal>(
 ) -> Result<String, CliFault> {
     let alloc = rt.alloc();
     let mut trails = String::new(alloc);
-    let (tree, script) = (tree.as_bytes(), script.as_bytes());
-    run_with_trail_cmd(
-        rt,
-        alloc,
-        tree,
-        script,
-        1,
-        &NoGate,
-        &mut trails,
-        USUAL_NODES,
-    )?;
+    let inputs = inputs(alloc, tree, script.as_bytes());
+    run_with_trail_cmd(rt, alloc, inputs, 1, &NoGate, &mut trails)?;
     Ok(trails)
 }
 
@@ -161,18 +164,10 @@ fn printed<R: Threads + Wait + Sync + AllocGlobal>(
         Command::Dis(_) => dis_cmd(alloc, bytes),
         Command::Bounds(_) => verify_cmd(alloc, bytes),
         Command::Alone(tree, text, args) => done_alone(alloc, tree, text, args),
-        Command::Drive(tree, _) => drive_cmd(alloc, tree.as_bytes(), bytes, USUAL_NODES),
+        Command::Drive(tree, _) => drive_cmd(alloc, inputs(alloc, tree, bytes)),
         Command::Trail(tree, _) => trail_of(alloc, tree, file),
         Command::DriveAudit(tree, _) => audited(alloc, tree, file),
-        Command::Run(tree, _) => run_cmd(
-            rt,
-            alloc,
-            tree.as_bytes(),
-            bytes,
-            1,
-            &NoGate,
-            USUAL_NODES,
-        ),
+        Command::Run(tree, _) => run_cmd(rt, alloc, inputs(alloc, tree, bytes), 1, &NoGate),
         Command::RunTrail(tree, _) => trails_of(rt, tree, file),
         Command::RunAudit(tree, _) => chain_audited(rt, tree, file),
         Command::Audit(_) => audit_cmd(alloc, bytes, &mut Silent, USUAL_NODES),

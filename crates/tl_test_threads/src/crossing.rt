@@ -5,7 +5,7 @@ use std::process::Abort;
 use std::sync::Wait;
 use std::test::Fail;
 use std::thread::Threads;
-use tl_commands::run_cmd;
+use tl_commands::{Inputs, run_cmd};
 use tl_table::Receipt;
 use tl_test_data::{FORK, LOOK};
 use tl_test_engines::{Asked, Ended, Signal, batch, with_engine_on_threads, with_one_session};
@@ -266,7 +266,13 @@ fn two_workers_of_a_run_cross<R: Threads + Wait + Abort + Sync>(
     point: Point,
 ) -> Result<(), Fail> {
     let gate = Crossing::new(point);
-    let printed = run_cmd(rt, alloc, FORK.as_bytes(), SCRIPT, 2, &gate, USUAL_NODES)?;
+    let inputs = Inputs {
+        tree: FORK.as_bytes(),
+        script: SCRIPT,
+        procedures: Vec::new(alloc),
+        limit: USUAL_NODES,
+    };
+    let printed = run_cmd(rt, alloc, inputs, 2, &gate)?;
     assert_eq!(rt; printed.as_str(), PRINTED);
     assert!(rt; gate.came_in_time());
     Ok(())

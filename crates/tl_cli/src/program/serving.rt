@@ -3,7 +3,6 @@
 use crate::archive::{Finish, Trails};
 use crate::failure::Failure;
 use crate::program::{Program, printed};
-use crate::script::NamedText;
 use crate::trail_file::TrailFile;
 use crate::{CliFault, conclude_engine, conclude_engine_with_trail, open_engine, open_generations};
 use std::net::{Net, TcpListener, TcpStream};
@@ -14,12 +13,13 @@ use std::time::{Clock, Duration};
 use tl_arguments::{LastingOptions, Outputs, Sealing, ServeOptions};
 use tl_file_journal::{End, Opening};
 use tl_generations::Succession;
-use tl_json::{RegisterFault, procedure_of_text};
+use tl_json::RegisterFault;
 use tl_procedures::Procedures;
 use tl_server::{
     Address, Control, Journal, Keeper, LastingServer, ListenFault, NoJournal, Relay, Server,
     ask_status, ask_to_stop,
 };
+use tl_verify::Proc;
 use tl_workers::{Engine, Session};
 
 // Why the program doesn't listen there.
@@ -27,6 +27,14 @@ fn not_bound<'p>(address: Address<'p>, fault: ListenFault) -> Failure<'p> {
     match fault {
         ListenFault::NoPort => Failure::NotOpened { address },
         ListenFault::Memory => Failure::Refused(CliFault::Memory),
+    }
+}
+
+// Whether there is a procedure under this name and with this code.
+fn is_known(known: &Procedures, name: &str, procedure: &Proc) -> bool {
+    match known.number_of(name) {
+        Some(number) => known.get(number).is(procedure),
+        None => false,
     }
 }
 
@@ -264,35 +272,18 @@ where
         &self,
         engine: &Engine,
         known: &Procedures,
-        procedures: &[&'p str],
+        names: &[&'p str],
     ) -> Result<(), Failure<'p>> {
-        for named in procedures {
-            for text in self.named_texts(named)? {
-                if let Err(fault) = self.register_text(engine, known, &text) {
-                    let NamedText { name, text } = text;
-                    let _shown = eprintln!(self.rt; "treedb: the procedure {name}");
-                    return Err(self.misread(&name, text.as_bytes(), CliFault::Register(fault)));
-                }
+        for named in self.all_named_procedures(names)? {
+            let (name, procedure) = named.into_parts();
+            if is_known(known, &name, &procedure) {
+                continue;
+            }
+            if let Err(fault) = engine.register(self.rt, self.rt.alloc(), &name, procedure) {
+                let _shown = eprintln!(self.rt; "treedb: the procedure {name}");
+                return Err(Failure::Refused(CliFault::Register(RegisterFault::Name(fault))));
             }
         }
-        Ok(())
-    }
-
-    // Registers a procedure, unless it is known.
-    fn register_text(
-        &self,
-        engine: &Engine,
-        known: &Procedures,
-        named: &NamedText,
-    ) -> Result<(), RegisterFault> {
-        let alloc = self.rt.alloc();
-        let procedure = procedure_of_text(alloc, &named.text)?;
-        if let Some(number) = known.number_of(&named.name) {
-            if known.get(number).is(&procedure) {
-                return Ok(());
-            }
-        }
-        engine.register(self.rt, alloc, &named.name, procedure)?;
         Ok(())
     }
 

@@ -1,48 +1,45 @@
-use Rattle.std.proofs.Common.{◌≡◌, ap, ap₂, rules, ◌∙◌, sym, refl, length, string_bytes}
+use Rattle.std.proofs.Common.{◌≡◌, ap, ap₂, ◌∙◌, sym, refl, length, string_bytes, ℕ, List, Option, option_map, Bor}
 use Rattle.tl_machine.specs.Alone.{alone}
 use Rattle.tl_machine.specs.Outcomes.{outcome_of}
 use Rattle.tl_commands.proofs.AloneLines.{printed_from}
 use Rattle.std.specs.Arc.{arc_value}
-use Rattle.tl_commands.specs.Alone.{Inputs, printed, IsTreeFile}
+use Rattle.tl_commands.specs.Alone.{AloneInputs, printed}
 use Rattle.tl_commands.proofs.alone.alone_cmd.Goals as goal
 
-pub returns-in_err-procedure-clause-fault : goal.returns-in_err-procedure-clause-fault
-returns-in_err-procedure-clause-fault c =
-    let file : IsTreeFile c.args.limit c.args.tree.now = record { tree = c.in-Ok.tree; same = c.in-Ok.ensures.ok } in
-    let at = c.in_err-procedure.ensures.fault c.args.limit c.args.tree.now c.args.args.now file in
-    search rules
+pub returns-in-Err-procedure_of-clause-fault : goal.returns-in-Err-procedure_of-clause-fault
+returns-in-Err-procedure_of-clause-fault c = λ known. (record { tree = c.in-Ok.tree; same = c.in-Ok.ensures.ok }, c.in-Err-procedure_of.ensures.fault known)
 
 pub returns-in_default-alone-clause-fault : goal.returns-in_default-alone-clause-fault
 returns-in_default-alone-clause-fault c =
-    let inputs : Inputs c.args.limit c.args.tree.now c.args.procedure.now c.args.args.now =
+    let name : Option (List ℕ) = option_map (λ (n : Bor (List ℕ)). n.now) c.args.name in
+    let inputs : AloneInputs c.args.limit c.args.tree.now c.args.source name c.args.args.now =
     record {
       tree = c.in-Ok.tree;
-      code = c.in_ok-procedure.procedure;
+      code = c.in-Ok-procedure_of.procedure;
       args = c.in_ok-args.args.items;
       tree_is = c.in-Ok.ensures.ok;
-      code_is = c.in_ok-procedure.ensures.spelled;
-      accepted = c.in_ok-procedure.ensures.accepted;
+      code_is = c.in-Ok-procedure_of.ensures.ok;
       args_are = c.in_ok-args.ensures.ok;
     }
     in
-    let code : arc_value c.in-Ok-new.procedure ≡ c.in_ok-procedure.procedure = c.in-Ok-new.ensures.ok in
+    let code : arc_value c.in-Ok-new.procedure ≡ c.in-Ok-procedure_of.procedure = c.in-Ok-new.ensures.ok in
     (inputs, λ arity. cc (c.in_default-alone.ensures.wrong.1 (ap length c.deref.ensures.value ∙ arity ∙ sym (ap (λ p. p.arity) code))))
 
 pub returns-in-Ok-append_lines-clause-printed : goal.returns-in-Ok-append_lines-clause-printed
 returns-in-Ok-append_lines-clause-printed c =
-    let inputs : Inputs c.args.limit c.args.tree.now c.args.procedure.now c.args.args.now =
+    let name : Option (List ℕ) = option_map (λ (n : Bor (List ℕ)). n.now) c.args.name in
+    let inputs : AloneInputs c.args.limit c.args.tree.now c.args.source name c.args.args.now =
     record {
       tree = c.in-Ok.tree;
-      code = c.in_ok-procedure.procedure;
+      code = c.in-Ok-procedure_of.procedure;
       args = c.in_ok-args.args.items;
       tree_is = c.in-Ok.ensures.ok;
-      code_is = c.in_ok-procedure.ensures.spelled;
-      accepted = c.in_ok-procedure.ensures.accepted;
+      code_is = c.in-Ok-procedure_of.ensures.ok;
       args_are = c.in_ok-args.ensures.ok;
     }
     in
     let p = arc_value c.in-Ok-new.procedure in
-    let code : p ≡ c.in_ok-procedure.procedure = c.in-Ok-new.ensures.ok in
+    let code : p ≡ c.in-Ok-procedure_of.procedure = c.in-Ok-new.ensures.ok in
     let args : c.deref.result.now ≡ c.in_ok-args.args.items = c.deref.ensures.value in
     let arity : length c.deref.result.now ≡ p.arity = c.in-Ok-alone.ensures.wrong.0 refl in
     let o = outcome_of (alone p.instrs c.in-Ok.tree.parents c.deref.result.now c.in-Ok.tree.records) in

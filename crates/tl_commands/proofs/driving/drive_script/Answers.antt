@@ -1,7 +1,36 @@
+use Rattle.std.proofs.Common.{subst, ap, map}
+use Rattle.std.proofs.lemmas.Result.{err_from_is_err_and}
+use Rattle.tl_json.specs.Procedures.{procedure_form}
+use Rattle.tl_commands.specs.Drive.{IsFirstDriveFault}
+use Rattle.tl_commands.specs.Script.{IsScript, beside, move_view, script_view, script_of_moves}
 use Rattle.tl_commands.proofs.DriveLemmas.{driven}
+use Rattle.tl_commands.proofs.InputLemmas.{no_script, no_procedures}
 use Rattle.tl_commands.proofs.driving.drive_script.Goals as goal
+
+pub returns-in_err-script-clause-fault : goal.returns-in_err-script-clause-fault
+returns-in_err-script-clause-fault c =
+    let i = c.args.inputs in
+    let e = c.in_err-script.field-0.0 in
+    let p = err_from_is_err_and c.from_residual.result c.from_residual.ensures.1 in
+    let wrong : IsFirstDriveFault i.limit i.tree.now i.script.now i.procedures.items e =
+    no_script i.limit script_of_moves i.tree.now i.script.now i.procedures.items e c.in-Ok.tree c.in-Ok.ensures.ok c.deref.result.now c.deref.ensures.value c.in_err-script.ensures.fault in
+    rw (p.1, p.2) wrong
+
+pub returns-in_err-core-clause-fault : goal.returns-in_err-core-clause-fault
+returns-in_err-core-clause-fault c =
+    let i = c.args.inputs in
+    let e = c.in_err-core.field-0.0 in
+    let script = c.in_ok-script.script in
+    let p = err_from_is_err_and c.from_residual-in_err-core.result c.from_residual-in_err-core.ensures.1 in
+    let wrong : IsFirstDriveFault i.limit i.tree.now i.script.now i.procedures.items e =
+    no_procedures i.limit script_of_moves i.tree.now i.script.now i.procedures.items e c.in-Ok.tree c.in-Ok.ensures.ok c.deref.result.now c.deref.ensures.value (script_view move_view script)
+    c.in_ok-script.ensures.ok c.deref-2.result.now (ap (map procedure_form) c.deref-2.ensures.value) c.in_err-core.ensures.fault in
+    rw (p.1, p.2) wrong
 
 pub returns-in-Ok-drive-clause-ok : goal.returns-in-Ok-drive-clause-ok
 returns-in-Ok-drive-clause-ok c =
-    driven c.args.limit c.args.tree.now c.args.script.now c.in-Ok.tree c.in_ok-script.script c.in_ok-core.core.seen c.drive.new.self.seen c.deref.result.now c.deref-2.result.now c.in-Ok-drive.trace.items
-    c.in-Ok.ensures.ok c.in_ok-script.ensures.ok c.deref.ensures.value c.in_ok-core.ensures.taken c.in_ok-core.ensures.ok c.deref-2.ensures.value c.in-Ok-drive.ensures.traced c.in-Ok-drive.ensures.after
+    let s = c.args.inputs.script.now in
+    let script = c.in_ok-script.script in
+    let is = subst (λ ps. IsScript (script_of_moves (beside ps)) s (script_view move_view script)) c.deref.ensures.value c.in_ok-script.ensures.ok in
+    driven c.args.inputs.limit c.args.inputs.tree.now s c.args.inputs.procedures.items c.in-Ok.tree script c.in_ok-core.core.seen c.drive.new.self.seen c.deref-2.result.now c.deref-3.result.now c.in-Ok-drive.trace.items
+    c.in-Ok.ensures.ok is c.deref-2.ensures.value c.in_ok-core.ensures.registered c.in_ok-core.ensures.ok c.deref-3.ensures.value c.in-Ok-drive.ensures.traced c.in-Ok-drive.ensures.after

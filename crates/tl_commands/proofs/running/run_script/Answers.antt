@@ -1,15 +1,25 @@
-use Rattle.std.proofs.Common.{inr}
+use Rattle.std.proofs.Common.{inr, inl, All, subst, sym, ap, map, ◌≤◌, length}
+use Rattle.std.specs.Prelude.{Vec}
+use Rattle.std.specs.declared.alloc.Global.{Global}
+use Rattle.tl_procedures.specs.declared.request.Request.{Request}
+use Rattle.tl_workers.specs.declared.batch.TheConstants.{MAX_REQUESTS}
+use Rattle.tl_json.specs.Procedures.{procedure_form}
+use Rattle.tl_commands.specs.Script.{IsScript, beside, batch_form, script_view, script_of_run}
 use Rattle.std.proofs.lemmas.Result.{err_from_is_err_and}
 use Rattle.tl_commands.specs.Run.{IsFirstRunFault, batches_of}
+use Rattle.tl_commands.proofs.InputLemmas.{no_script, no_procedures}
 use Rattle.tl_commands.proofs.RunLemmas.{ready}
 use Rattle.tl_commands.proofs.running.run_script.Goals as goal
 
 pub returns-clause-ok : goal.returns-clause-ok
 returns-clause-ok g c =
-    let t = c.args.tree.now in
-    let s = c.args.script.now in
-    let batches = c.deref-2.result.now in
-    let is = ready c.args.limit t s c.in-Ok.tree c.in_ok-asked.asked.script c.in_ok-core.core.seen c.deref.result.now batches c.in-Ok.ensures.ok c.in_ok-asked.ensures.ok c.deref.ensures.value c.in_ok-core.ensures.taken c.deref-2.ensures.value in
+    let t = c.args.inputs.tree.now in
+    let s = c.args.inputs.script.now in
+    let more = c.args.inputs.procedures.items in
+    let batches = c.deref-3.result.now in
+    let script = c.in_ok-asked.asked.script in
+    let script_is = subst (λ ps. IsScript (script_of_run (beside ps)) s (script_view batch_form script)) c.deref.ensures.value c.in_ok-asked.ensures.ok in
+    let is = ready c.args.inputs.limit t s more c.in-Ok.tree script c.in_ok-core.core.seen c.deref-2.result.now batches c.in-Ok.ensures.ok script_is c.deref-2.ensures.value c.in_ok-core.ensures.registered c.deref-3.ensures.value in
     let done = c.in_ok-answers.ensures.ok in
     record {
       batches = batches_of batches;
@@ -24,10 +34,37 @@ returns-clause-ok g c =
 
 pub returns-in_err-answers-clause-fault : goal.returns-in_err-answers-clause-fault
 returns-in_err-answers-clause-fault g c =
-    let t = c.args.tree.now in
-    let s = c.args.script.now in
-    let batches = c.deref-2.result.now in
-    let is = ready c.args.limit t s c.in-Ok.tree c.in_ok-asked.asked.script c.in_ok-core.core.seen c.deref.result.now batches c.in-Ok.ensures.ok c.in_ok-asked.ensures.ok c.deref.ensures.value c.in_ok-core.ensures.taken c.deref-2.ensures.value in
+    let t = c.args.inputs.tree.now in
+    let s = c.args.inputs.script.now in
+    let more = c.args.inputs.procedures.items in
+    let batches = c.deref-3.result.now in
+    let script = c.in_ok-asked.asked.script in
+    let script_is = subst (λ ps. IsScript (script_of_run (beside ps)) s (script_view batch_form script)) c.deref.ensures.value c.in_ok-asked.ensures.ok in
+    let is = ready c.args.inputs.limit t s more c.in-Ok.tree script c.in_ok-core.core.seen c.deref-2.result.now batches c.in-Ok.ensures.ok script_is c.deref-2.ensures.value c.in_ok-core.ensures.registered c.deref-3.ensures.value in
     let p = err_from_is_err_and c.from_residual-in_err-answers.result c.from_residual-in_err-answers.ensures.1 in
-    let wrong : IsFirstRunFault c.args.limit t s c.in_err-answers.field-0.0 = λ known. inr (batches_of batches, is, c.in_err-answers.ensures.fault known) in
+    let wrong : IsFirstRunFault c.args.inputs.limit t s more c.in_err-answers.field-0.0 = λ known. inr (batches_of batches, is, c.in_err-answers.ensures.fault known) in
     rw (p.1, p.2) wrong
+
+pub returns-in_err-asked-clause-fault : goal.returns-in_err-asked-clause-fault
+returns-in_err-asked-clause-fault g c =
+    let i = c.args.inputs in
+    let e = c.in_err-asked.field-0.0 in
+    let p = err_from_is_err_and c.from_residual.result c.from_residual.ensures.1 in
+    let wrong : IsFirstRunFault i.limit i.tree.now i.script.now i.procedures.items e =
+    λ known. inl (no_script i.limit script_of_run i.tree.now i.script.now i.procedures.items e c.in-Ok.tree c.in-Ok.ensures.ok c.deref.result.now c.deref.ensures.value c.in_err-asked.ensures.fault known) in
+    rw (p.1, p.2) wrong
+
+pub returns-in_err-core-clause-fault : goal.returns-in_err-core-clause-fault
+returns-in_err-core-clause-fault g c =
+    let i = c.args.inputs in
+    let e = c.in_err-core.field-0.0 in
+    let script = c.in_ok-asked.asked.script in
+    let p = err_from_is_err_and c.from_residual-in_err-core.result c.from_residual-in_err-core.ensures.1 in
+    let wrong : IsFirstRunFault i.limit i.tree.now i.script.now i.procedures.items e =
+    λ known. inl (no_procedures i.limit script_of_run i.tree.now i.script.now i.procedures.items e c.in-Ok.tree c.in-Ok.ensures.ok c.deref.result.now c.deref.ensures.value (script_view batch_form script)
+    c.in_ok-asked.ensures.ok c.deref-2.result.now (ap (map procedure_form) c.deref-2.ensures.value) c.in_err-core.ensures.fault known) in
+    rw (p.1, p.2) wrong
+
+pub run_batches-requires-clause-each : goal.run_batches-requires-clause-each
+run_batches-requires-clause-each g c = λ κs lives.
+    subst (All (λ (b : Vec Request Global). (1 ≤ length b.items) × (length b.items ≤ MAX_REQUESTS))) (sym c.deref-3.ensures.value) c.in_ok-asked.ensures.each

@@ -19,22 +19,24 @@ returns-clause-printed g c =
 
 pub returns-in_err-ran-clause-fault : goal.returns-in_err-ran-clause-fault
 returns-in_err-ran-clause-fault g c =
-    let t = c.args.tree.now in
-    let s = c.args.script.now in
+    let t = c.args.inputs.tree.now in
+    let s = c.args.inputs.script.now in
+    let more = c.args.inputs.procedures.items in
     let failures = g.S.TrailSink.failures c.args.sink.now in
     let p = err_from_is_err_and c.from_residual.result c.from_residual.ensures.1 in
     let e = c.in_err-ran.field-0.0 in
-    let fault : IsFirstRunFault c.args.limit t s e = c.in_err-ran.ensures.fault in
-    let own : IsSinkFault failures failures (IsFirstRunFault c.args.limit t s e) e = inr (fault, run_fault c.args.limit t s e fault, refl) in
+    let fault : IsFirstRunFault c.args.inputs.limit t s more e = c.in_err-ran.ensures.fault in
+    let own : IsSinkFault failures failures (IsFirstRunFault c.args.inputs.limit t s more e) e = inr (fault, run_fault c.args.inputs.limit t s more e fault, refl) in
     rw (p.1, p.2) own
 
 pub returns-in_err-text-clause-fault : goal.returns-in_err-text-clause-fault
 returns-in_err-text-clause-fault g c =
-    let t = c.args.tree.now in
-    let s = c.args.script.now in
+    let t = c.args.inputs.tree.now in
+    let s = c.args.inputs.script.now in
+    let more = c.args.inputs.procedures.items in
     let failures = g.S.TrailSink.failures c.args.sink.now in
     let p = err_from_is_err_and c.from_residual-in_err-text.result c.from_residual-in_err-text.ensures.1 in
     let e = c.in_err-text.field-0.0 in
     let memory : status_of e ≡ 4 = c.in_err-text.ensures.err in
-    let own : IsSinkFault failures failures (IsFirstRunFault c.args.limit t s e) e = inr ((λ other. absurd (other memory)), memory_fault e memory, refl) in
+    let own : IsSinkFault failures failures (IsFirstRunFault c.args.inputs.limit t s more e) e = inr ((λ other. absurd (other memory)), memory_fault e memory, refl) in
     rw (p.1, p.2) own
