@@ -236,6 +236,7 @@ def test_options(tests):
 
 def test_sources(tests):
     """`--proc` takes a text of the procedure language, an assembler text or a container, as the file's name says."""
+    before(tests)
     stock = ["alone", "--tree", "examples/stock/tree.json", "--args", "[10,5,0,1]", "--proc"]
     tests.run("compile", "examples/stock/stock.tdb", "shift.tlp", "--proc", "shift")
     compiled = tests.run(*stock, "shift.tlp")
@@ -251,8 +252,8 @@ def test_sources(tests):
     tests.path("bytes.tdb").write_bytes(b"\xff")
     on_one = ["alone", "--tree", "examples/one-node.json", "--proc"]
     tests.path("only.tdb").write_text("proc only() { emit 1; }")
-    tests.answers("alone of the only procedure", on_one + ["only.tdb"], 0, '{"reply":[1],"steps":2}\n' + ONE_NODE_OUT, "")
-    tests.answers("alone of the second procedure", on_one + ["two.tdb", "--name", "two"], 0, '{"reply":[2],"steps":2}\n' + ONE_NODE_OUT, "")
+    tests.answers("alone of the only procedure", on_one + ["only.tdb"], 0, '{"reply":[1],"steps":3}\n' + ONE_NODE_OUT, "")
+    tests.answers("alone of the second procedure", on_one + ["two.tdb", "--name", "two"], 0, '{"reply":[2],"steps":3}\n' + ONE_NODE_OUT, "")
     for name, words, numbers in [("two procedures", ["two.tdb"], [289]), ("no procedure of the name", ["two.tdb", "--name", "three"], [289]),
                                  ("a text for an assembler text", ["two.asm"], [251, 1]), ("an assembler text without UTF-8", ["bytes.asm"], [255]),
                                  ("a text without UTF-8", ["bytes.tdb"], [255])]:
@@ -260,16 +261,14 @@ def test_sources(tests):
     tests.answers("the tree is judged before the procedure", ["alone", "--tree", "examples/add.asm", "--proc", "two.tdb"], 1, error_line([106]),
                   re.compile("^(?s:.*)treedb: "))
     tests.path("wrong.tdb").write_text("proc one() {\n    emit 1 + ;\n}")
-    tests.answers("a fault of a text of alone is shown", on_one + ["wrong.tdb"], 1, re.compile(r'^{"error":\[\d+,2,\d+\]}\n\Z'),
-                  re.compile(r"^wrong.tdb:2:\d+\n    .+\n.+\^\ntreedb: the text: "))
+    tests.answers("a fault of a text of alone is shown", on_one + ["wrong.tdb"], 1, error_line([273, 2, 14]),
+                  re.compile(r"^wrong.tdb:2:14\n        emit 1 \+ ;\n {17}\^\ntreedb: the text: "))
     bare = RUN_WITH_PROCEDURE[:-3]
-    for name, words in [("a container", ["look=examples/look.tlp"]), ("a file of another name", ["look=look"])]:
-        if name == "a container":
-            tests.run("asm", "examples/look.asm", "look.tlp")
-            words = ["look=look.tlp"]
-        else:
-            tests.path("look").write_bytes(tests.bytes("examples/look.asm"))
-        tests.answers(f"run with {name}", bare + ["--proc", *words, "bare.json"], 0, tests.run(*RUN_WITH_PROCEDURE).out, "")
+    tests.run("asm", "examples/look.asm", "look.tlp")
+    tests.path("look").write_bytes(tests.bytes("examples/look.asm"))
+    looked = tests.run(*RUN_WITH_PROCEDURE).out
+    for name, word in [("a container", "look=look.tlp"), ("a file of another name", "look=look")]:
+        tests.answers(f"run with {name}", bare + ["--proc", word, "bare.json"], 0, looked, "")
     tests.path("twos.json").write_text('{"calls":[["two",[]],["one",[]]]}')
     out = '{"batch":[{"call":0,"reply":[2]},{"call":1,"reply":[1]}]}\n{"order":[0,1]}\n' + ONE_NODE_OUT
     tests.answers("run with all of a text", bare + ["--proc", "two.tdb", "twos.json"], 0, out, "")
