@@ -78,8 +78,8 @@ fn verified(alloc: Global, text: &str) -> Result<String, CliFault> {
     Ok(if is_same { checked } else { String::new(alloc) })
 }
 
-// What a script is carried out on, without other procedures than its own.
-fn inputs<'a>(alloc: Global, tree: &'a str, script: &'a [u8]) -> Inputs<'a> {
+/// What a script is carried out on, without other procedures than its own.
+pub fn inputs<'a>(alloc: Global, tree: &'a str, script: &'a [u8]) -> Inputs<'a> {
     Inputs {
         tree: tree.as_bytes(),
         script,

@@ -1,7 +1,7 @@
 //! What the command `run` prints.
 
 use crate::commands::Command::Run;
-use crate::commands::Row;
+use crate::commands::{Row, inputs};
 use crate::texts::{ONE_NODE, SWEEP_ALONE, ZEROS};
 use std::test::Fail;
 use tl_audit::Silent;
@@ -83,18 +83,9 @@ fn two_sweeps_run_at_once(rt: HostRuntime) -> Result<(), Fail> {
     let alloc = rt.alloc();
     let calls = "[\"sweep\",[1]],[\"sweep\",[10]]],\"procs\":[";
     let script = [CALLS, calls, SWEEP_ALONE, "]}"].concat(alloc)?;
-    let (tree, script) = (ZEROS.as_bytes(), script.as_bytes());
+    let inputs = inputs(alloc, ZEROS, script.as_bytes());
     let mut trail = String::new(alloc);
-    let lines = run_with_trail_cmd(
-        &rt,
-        alloc,
-        tree,
-        script,
-        2,
-        &NoGate,
-        &mut trail,
-        USUAL_NODES,
-    )?;
+    let lines = run_with_trail_cmd(&rt, alloc, inputs, 2, &NoGate, &mut trail)?;
     let order = audit_cmd(alloc, trail.as_bytes(), &mut Silent, USUAL_NODES)?;
     let is_first = order.as_str() == "{\"order\":[0,1]}\n";
     assert!(rt; is_first || order.as_str() == "{\"order\":[1,0]}\n");
