@@ -259,7 +259,7 @@ def test_sources(tests):
                                  ("a text without UTF-8", ["bytes.tdb"], [255])]:
         tests.answers(f"alone of {name}", on_one + words, 1, error_line(numbers), re.compile(r"^(two.asm:1\n.+\n.+\n)?treedb: .+\n\Z"))
     tests.answers("the tree is judged before the procedure", ["alone", "--tree", "examples/add.asm", "--proc", "two.tdb"], 1, error_line([106]),
-                  re.compile("^(?s:.*)treedb: "))
+                  re.compile(r"^(examples/add.asm:1:1\n.+\n.+\n)?treedb: the tree: .+\n\Z"))
     tests.path("wrong.tdb").write_text("proc one() {\n    emit 1 + ;\n}")
     tests.answers("a fault of a text of alone is shown", on_one + ["wrong.tdb"], 1, error_line([273, 2, 14]),
                   re.compile(r"^wrong.tdb:2:14\n        emit 1 \+ ;\n {17}\^\ntreedb: the text: "))
@@ -276,11 +276,13 @@ def test_sources(tests):
     tests.answers("run with one of a text", bare + ["--proc", "two=two.tdb", "twos.json"], 0, out, "")
     tests.answers("run with another name than the text has", bare + ["--proc", "three=two.tdb", "twos.json"], 1, error_line([289]), re.compile("^treedb: "))
     tests.answers("run with a text twice", bare + ["--proc", "two.tdb", "--proc", "two=two.tdb", "twos.json"], 1, error_line([611]), re.compile("^treedb: "))
-    tests.answers("run with a container that is none", bare + ["--proc", "two=wrong.tlp", "twos.json"], 3, error_line([31]), re.compile("^treedb: "))
+    tests.path("wrong.tlp").write_text(two)
+    tests.answers("run with a container that is none", bare + ["--proc", "two=wrong.tlp", "twos.json"], 1, error_line([201]), re.compile(r"^treedb: .+\n\Z"))
+    tests.answers("run with a file that isn't there", bare + ["--proc", "two=none.tlp", "twos.json"], 3, error_line([31]), re.compile("^treedb: none.tlp can't be read"))
     tests.path("moves.json").write_text('{"moves":[["two",[]],0,0]}')
     run = tests.run("drive", "--tree", "examples/one-node.json", "--proc", "two.tdb", "moves.json")
     tests.check("drive with a text", run.status == 0 and run.out.startswith('{"trace":[["a",0],'), run)
-    tests.answers("drive without procedures", ["drive", "--tree", "examples/one-node.json", "moves.json"], 1, error_line([731]), re.compile("^"))
+    tests.answers("drive without procedures", ["drive", "--tree", "examples/one-node.json", "moves.json"], 1, error_line([731]), re.compile(r"^treedb: .+\n\Z"))
 
 
 # ---- files
