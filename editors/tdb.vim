@@ -12,6 +12,7 @@ syntax keyword tdbLeave break return fail require
 syntax keyword tdbOutput emit
 syntax keyword tdbWord and or not
 syntax match tdbSoft /\<\(each\|of\|at most\|to\)\>/
+syntax match tdbChoice /\<while\>\(\s*\([+-]\?=\|\.\)\)\@!/
 syntax match tdbDeclaration /\<atomic\ze\s\+proc\>/
 syntax match tdbNumber /\<\d\+\(_\d\+\)*\>/
 syntax match tdbName /\<proc\s\+\zs\h\w*/

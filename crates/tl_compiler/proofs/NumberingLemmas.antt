@@ -17,7 +17,7 @@ use Rattle.tl_lowering.specs.declared.program.Statement.{Statement}
 use Rattle.tl_lowering.specs.declared.program.Statement.TheVariants as S
 use Rattle.tl_lowering.specs.Names.{Names, with_values, with_place}
 use Rattle.tl_lowering.specs.Naming.{opposite, calculated, then, IsHalved, none, one, more, AreEmits, no_emits, next_emit, AreWritten, all_computed, next_computed, IsWritten, one_write, several_writes, IsAction, assigns, writes, emits, requires, descends, takes, frees, breaks, returns, fails}
-use Rattle.tl_lowering.specs.Reading.{IsAtOffset, at, IsTried, tried, IsVisiting, visiting, IsBlock, block, AreStatements, no_more, next, let_rest, let_else, lock_rest, lock_else, IsStatement, act, act_else, try, if, if_lock, repeat, repeat_up_to, for_each, IsBody, IsProcedure, AreDeclared, none_declared, next_field, next_constant, next_procedure, IsProgram}
+use Rattle.tl_lowering.specs.Reading.{IsAtOffset, at, IsTried, tried, IsVisiting, visiting, IsBlock, block, AreStatements, no_more, next, let_rest, let_else, lock_rest, lock_else, IsStatement, act, act_else, try, if, if_lock, repeat, repeat_up_to, for_each, block_alone, IsBody, IsProcedure, AreDeclared, none_declared, next_field, next_constant, next_procedure, IsProgram}
 use Rattle.tl_lowering.specs.Sound.{IsInOrder}
 use Rattle.tl_compiler.specs.Rooms.{IsNumbered, IsReady}
 
@@ -91,6 +91,7 @@ mutual
   in_statement (repeat xs deep c a) = in_block a
   in_statement (repeat_up_to xs deep n has turn c a) = in_block a
   in_statement {names} (for_each xs deep new room has e c a v) = walk names.values (in_block a) v
+  in_statement (block_alone xs a) = in_block a
 
 in_body : {names : Names} {text : TextProcedure} {s : Statement} → IsBody names text s → IsNumbered s names.values
 in_body {names} b = handled names.values (handled names.values (in_block b.body_is) (in_block b.handler_is) b.handled_is) tt b.whole_is
@@ -114,7 +115,7 @@ in_declared : (spellings : List (List ℕ)) (names : Names) (ds : List Declarati
 in_declared spellings names ds ps z none_declared = All-nil (λ (p : Procedure). IsNumbered p.body p.arity)
 in_declared spellings names ds ps z (next_field {later = later} {rest = rest} f others) =
     in_declared spellings later rest ps (ap (λ (n : Names). n.values) f.later_is ∙ z) others
-in_declared spellings names ds ps z (next_constant {rest = rest} new others) = in_declared spellings _ rest ps z others
+in_declared spellings names ds ps z (next_constant {rest = rest} new is others) = in_declared spellings _ rest ps z others
 in_declared spellings names ds ps z (next_procedure {text = text} {p = p} {rest = rest} {ps = later} new is others) =
     All-cons (λ (p : Procedure). IsNumbered p.body p.arity) p later (in_procedure spellings _ text p z is) (in_declared spellings _ rest later z others)
 

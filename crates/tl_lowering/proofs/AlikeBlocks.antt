@@ -13,7 +13,7 @@ use Rattle.tl_syntax.specs.declared.parsed.Declaration.{Declaration}
 use Rattle.tl_syntax.specs.Alike as T
 use Rattle.tl_syntax.specs.Alike.{AlikeAction, AlikeForm, AlikePlace, AlikeQuestion, AlikeStatements, AlikeStatementForm, AlikeProcedure, AlikeDeclaration}
 use Rattle.tl_syntax.proofs.AlikeForms.{form_of}
-use Rattle.tl_syntax.proofs.AlikeParts.{alike_itself, question_itself, same_action_rank, let_of, lock_of, act_of, else_needed, no_else_needed, act_else_of, try_of, if_of, repeat_of, repeat_at_most_of, most_needed, no_most_needed, for_each_of, same_statement_rank, Paired, paired_none, paired_more, paired, statement_before, PairedDeclarations, paired_declaration, paired_declarations, same_declaration_rank, field_of, constant_of, procedure_of}
+use Rattle.tl_syntax.proofs.AlikeParts.{alike_itself, question_itself, same_action_rank, let_of, lock_of, act_of, else_needed, no_else_needed, act_else_of, try_of, if_of, repeat_of, repeat_at_most_of, most_needed, no_most_needed, for_each_of, block_of, same_statement_rank, Paired, paired_none, paired_more, paired, statement_before, PairedDeclarations, paired_declaration, paired_declarations, same_declaration_rank, field_of, constant_of, procedure_of}
 use Rattle.tl_syntax.specs.Tokens.{AreTokens}
 use Rattle.tl_syntax.specs.Declarations.{IsFile}
 use Rattle.tl_syntax.proofs.NamesOnce.{names_once}
@@ -25,8 +25,8 @@ use Rattle.tl_lowering.specs.Alike.{same_constant, same_value, same_children, sa
 use Rattle.tl_lowering.specs.Drafts.{opens}
 use Rattle.tl_lowering.specs.Names.{Names, stands_for, in_loop, with_constant, with_field, with_procedure, with_index, with_value, with_values, with_node, without_meaning}
 use Rattle.tl_lowering.specs.Naming.{calculated, opposite, IsAction, assigns, writes, emits, requires, descends, takes, frees, breaks, returns, fails, then, declares}
-use Rattle.tl_lowering.specs.Reading.{IsAtOffset, at, IsTried, tried, IsVisiting, visiting, IsBlock, block, AreStatements, no_more, next, let_rest, let_else, lock_rest, lock_else, IsStatement, act, act_else, try, if, if_lock, repeat, repeat_up_to, for_each, IsBody, IsProcedure, IsProgram, IsWithField, AreDeclared, none_declared, next_field, next_constant, next_procedure}
-use Rattle.tl_lowering.proofs.AlikeLemmas.{alike_number, alike_condition, alike_count, alike_place, same_names, alike_halved, alike_action}
+use Rattle.tl_lowering.specs.Reading.{IsAtOffset, at, IsTried, tried, IsVisiting, visiting, IsBlock, block, AreStatements, no_more, next, let_rest, let_else, lock_rest, lock_else, IsStatement, act, act_else, try, if, if_lock, repeat, repeat_up_to, for_each, block_alone, IsBody, IsProcedure, IsProgram, IsWithField, AreDeclared, none_declared, next_field, next_constant, next_procedure}
+use Rattle.tl_lowering.proofs.AlikeLemmas.{alike_number, alike_condition, alike_constant, alike_count, alike_place, same_names, alike_halved, alike_action}
 
 -- ---- a text that has a core form is like itself
 
@@ -53,6 +53,7 @@ mutual
   form_itself (repeat xs deep c a) = T.repeat xs xs (alike_itself _) (block_itself a)
   form_itself (repeat_up_to xs deep n has turn c a) = T.repeat_at_most xs xs (alike_itself _) (alike_itself _) (block_itself a)
   form_itself (for_each xs deep new room has e c a v) = T.for_each xs xs (alike_itself _) (block_itself a)
+  form_itself (block_alone xs a) = T.block_alone xs xs (block_itself a)
 
 -- ---- parts of blocks
 
@@ -90,6 +91,7 @@ no_statement (if_lock xs ys place a b) e = cc
 no_statement (repeat xs deep c a) e = cc
 no_statement (repeat_up_to xs deep n has turn c a) e = cc
 no_statement (for_each xs deep new room has e c a v) f = cc
+no_statement (block_alone xs a) e = cc
 
 same_declares : {a b : Action} → AlikeAction a b → declares a ≡ declares b
 same_declares T.same_action = refl
@@ -109,6 +111,7 @@ same_opens (T.if a b c d q x y) = refl
 same_opens (T.repeat a b x y) = refl
 same_opens (T.repeat_at_most a b x m y) = refl
 same_opens (T.for_each a b x y) = refl
+same_opens (T.block_alone a b x) = refl
 
 -- a statement that declares names for the rest of its block isn't like one that doesn't
 left_opens : {names : Names} {f g form : StatementForm} {a : Statement} → AlikeStatementForm f g → f ≡ form → opens form ≡ true → IsStatement names g a → ⊥
@@ -214,6 +217,7 @@ mutual
       let called : IsBlock (with_node (with_index (in_loop names) place') name) vs.items body = subst (λ z. IsBlock (with_node (with_index (in_loop names) place') z) vs.items body) (sym same.0) b in
       visiting_of (cc) (alike_count same.3 c d)
       (alike_block same.4 a (subst (λ z. IsBlock (with_node (with_index (in_loop names) z) name) vs.items body) (sym same.1) called)) v w
+  alike_statement s (block_alone xs a) (block_alone vs b) = alike_block (block_of xs vs s refl refl) a b
   alike_statement s x y = absurd (omega (arith, same_statement_rank s))
 
 -- ---- procedures
@@ -247,10 +251,10 @@ alike_procedures {spellings} {names} {qs = qs} (paired_declaration {es = rest} x
     let first : IsWithField names n w later = subst (λ z. IsWithField names z w later) (sym same.0) k in
     let other : IsWithField names n v later = subst (λ z. IsWithField names n z later) (sym same.1) first in
     alike_procedures s g (subst (λ n. AreDeclared spellings n rest qs) (sym (same_later f other)) h)
-alike_procedures {spellings} {names} {qs = qs} (paired_declaration {es = rest} x s) (next_constant {name = n} {number = v} f g) (next_constant {name = m} {number = w} k h) =
+alike_procedures {spellings} {names} {qs = qs} (paired_declaration {es = rest} x s) (next_constant {name = n} {number = v} f i g) (next_constant {name = m} {number = w} k j h) =
     let same = constant_of x in
     let first : AreDeclared spellings (with_constant names n w) rest qs = subst (λ z. AreDeclared spellings (with_constant names z w) rest qs) (sym same.0) h in
-    alike_procedures s g (subst (λ z. AreDeclared spellings (with_constant names n z) rest qs) (sym same.1) first)
+    alike_procedures s g (subst (λ z. AreDeclared spellings (with_constant names n z) rest qs) (sym (alike_constant same.1 i j)) first)
 alike_procedures {spellings} {names} (paired_declaration {es = rest} x s) (next_procedure {text = text} fresh f g) (next_procedure {text = other} {p = q} {ps = qs} again k h) =
     let same = procedure_of (procedure_itself f) x in
     let one : IsProcedure spellings (with_procedure names text.name) other q = subst (λ n. IsProcedure spellings (with_procedure names n) other q) (sym same.name) k in

@@ -1,7 +1,8 @@
 -- Alike numbers, conditions, places and actions of a text have the same core form, except for the memory that its parts occupy.
-use Rattle.std.proofs.Common.{◌≡◌, ◌∙◌, ℕ, zero, suc, ◌/◌, List, [], ◌∷◌, ◌++◌, length, take, drop, refl, sym, ap, subst, arith}
+use Rattle.std.proofs.Common.{◌≡◌, ◌∙◌, ℕ, zero, suc, ◌/◌, List, [], ◌∷◌, ◌++◌, length, take, drop, Option, Some, ℤ, pos, refl, sym, ap, ap₂, subst, arith}
 use Rattle.std.proofs.lemmas.List.{same_from_push}
 use Rattle.tl_syntax.specs.declared.operator.Operator.{Operator}
+use Rattle.tl_syntax.specs.declared.operator.Operator.TheVariants as O
 use Rattle.tl_syntax.specs.declared.parsed.Comparison.{Comparison}
 use Rattle.tl_syntax.specs.declared.parsed.Comparison.TheVariants as K
 use Rattle.tl_syntax.specs.declared.parsed.Change.{Change}
@@ -23,7 +24,7 @@ use Rattle.tl_lowering.specs.declared.program.Place.{Place}
 use Rattle.tl_lowering.specs.declared.program.Statement.{Statement}
 use Rattle.tl_lowering.specs.Alike.{SameNumber, same_constant, same_value, same_field, same_children, same_operation, SameCondition, same_less, same_greater, same_equal, same_not, same_and, SamePlace, same_node, same_child, same_pair, SameStatement, same_skip, same_sequence, same_assign, same_write, same_emit, same_free, same_descend, same_take, same_break, same_return, same_fail, same_if, same_let, AllSame, none_same, more_same}
 use Rattle.tl_lowering.specs.Names.{Names, stands_for, field_named, with_node, with_place}
-use Rattle.tl_lowering.specs.Naming.{IsCalculated, calculated, IsNumber, number, constant, value, index, field, children, negated, operation, IsCount, count, constant_count, IsNot, opposite, IsBoth, together, IsComparison, IsCondition, comparison, negation, conjunction, disjunction, IsPlace, node, child, pair, IsThen, then, IsHalved, none, one, more, IsChanged, AreEmits, no_emits, next_emit, IsUpdate, AreWritten, all_computed, next_computed, IsWritten, one_write, several_writes, IsAction, assigns, writes, emits, requires, descends, takes, frees, breaks, returns, fails}
+use Rattle.tl_lowering.specs.Naming.{IsCalculated, calculated, IsNumber, number, constant, value, index, field, children, negated, operation, folded, IsConstant, written, known, opposed, combined, IsCount, count, constant_count, IsNot, opposite, IsBoth, together, IsComparison, IsCondition, comparison, negation, conjunction, disjunction, IsPlace, node, child, pair, IsThen, then, IsHalved, none, one, more, IsChanged, AreEmits, no_emits, next_emit, IsUpdate, AreWritten, all_computed, next_computed, IsWritten, one_write, several_writes, IsAction, assigns, writes, emits, requires, descends, takes, frees, breaks, returns, fails}
 
 -- ---- numbers and conditions
 
@@ -84,6 +85,18 @@ alike_condition s (conjunction a b o) (conjunction c d q) = both_of (alike_condi
 alike_condition s (disjunction a b m n o w) (disjunction c d u v q z) =
     not_of (both_of (not_of (alike_condition (same_first s) a c) m u) (not_of (alike_condition (same_second s) b d) n v) o q) w z
 alike_condition s x y = absurd (omega (arith, same_rank s))
+
+some_same : {v w : ℤ} {o : Option ℤ} → o ≡ Some v → o ≡ Some w → v ≡ w
+some_same e f = cc
+
+pub alike_constant : {names : Names} {form other : Form} {v w : ℤ} → AlikeForm form other → IsConstant names form v → IsConstant names other w → v ≡ w
+alike_constant s written written = let same = same_plain (omega arith) s in cc
+alike_constant {names} s (known {name = x} g) (known {name = y} h) =
+    let same = same_plain (omega arith) s in let n : x ≡ y = cc in let w = sym g ∙ ap (stands_for names) n ∙ h in cc
+alike_constant s (opposed i e) (opposed j f) = some_same e (ap (folded O.Subtract (pos 0)) (alike_constant (same_first s) i j) ∙ f)
+alike_constant s (combined {operator = o} {u = u} {v = v} i k e) (combined {operator = r} {u = x} {v = y} j l f) =
+    some_same e (ap (λ z. folded z u v) (same_operator s) ∙ ap₂ (folded r) (alike_constant (same_first s) i j) (alike_constant (same_second s) k l) ∙ f)
+alike_constant s x y = absurd (omega (arith, same_rank s))
 
 pub alike_count : {names : Names} {form other : Form} {w v : ℕ} → AlikeForm form other → IsCount names form w → IsCount names other v → w ≡ v
 alike_count s (count a b) (count c d) = let same = same_plain (omega arith) s in cc

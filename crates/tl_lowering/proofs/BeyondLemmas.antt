@@ -25,7 +25,7 @@ use Rattle.tl_lowering.specs.Names.{Names, names_in, AreFresh, in_loop, with_ind
 use Rattle.tl_lowering.specs.Naming.{IsPlace, node, child, pair, IsAction, assigns, writes, emits, requires, descends, takes, frees, breaks, returns, fails, then, IsHalved, none, one, more, calculated, opposite}
 use Rattle.tl_lowering.specs.Passing.{walks, registers}
 use Rattle.tl_lowering.specs.Paths.{bits, passed_of}
-use Rattle.tl_lowering.specs.Reading.{IsAtOffset, at, tried, IsVisiting, visiting, IsBlock, block, AreStatements, no_more, next, let_rest, let_else, lock_rest, lock_else, IsStatement, act, act_else, try, if, if_lock, repeat, repeat_up_to, for_each}
+use Rattle.tl_lowering.specs.Reading.{IsAtOffset, at, tried, IsVisiting, visiting, IsBlock, block, AreStatements, no_more, next, let_rest, let_else, lock_rest, lock_else, IsStatement, act, act_else, try, if, if_lock, repeat, repeat_up_to, for_each, block_alone}
 use Rattle.tl_lowering.specs.Repeating.{IsRepetition}
 use Rattle.tl_lowering.specs.Scopes.{View, meaning_of, IsBelow, IsInUse}
 use Rattle.tl_lowering.specs.Sets.{Nodes, holds, minus}
@@ -172,6 +172,7 @@ mutual
   statement_beyond n named le (repeat_up_to xs deep num has turn c a) = block_beyond n (named_loop named) le a
   statement_beyond {names} n named le (for_each {child = name} {index = index} xs {a = body} deep fresh room has is c a v) =
       walk_beyond n (own_or_above body names.nodes n le (λ above. block_beyond n (named_inside name index named) above a)) v
+  statement_beyond n named le (block_alone xs a) = block_beyond n named le a
 
 -- ---- where a loop begins
 

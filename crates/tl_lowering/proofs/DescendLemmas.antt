@@ -27,7 +27,7 @@ use Rattle.tl_lowering.specs.declared.scope.Meaning.TheVariants as M
 use Rattle.tl_lowering.specs.Descending.{locks_in, descends_from, descend_from, node_in, is_in, Knows, IsDescending, here, declared, declared_else, IsElseDescending, no_else, some_else}
 use Rattle.tl_lowering.specs.Names.{Names, IsNew, AreFresh, in_loop, with_index, with_value, with_node, with_place}
 use Rattle.tl_lowering.specs.Naming.{declares, IsPlace, node, child, pair, AreEmits, no_emits, next_emit, AreWritten, all_computed, next_computed, IsWritten, one_write, several_writes, IsAction, assigns, writes, emits, requires, descends, takes, frees, breaks, returns, fails, then, IsHalved, none, one, more, calculated, opposite}
-use Rattle.tl_lowering.specs.Reading.{IsAtOffset, at, tried, IsVisiting, visiting, IsBlock, block, AreStatements, no_more, next, let_rest, let_else, lock_rest, lock_else, IsStatement, act, act_else, try, if, if_lock, repeat, repeat_up_to, for_each}
+use Rattle.tl_lowering.specs.Reading.{IsAtOffset, at, tried, IsVisiting, visiting, IsBlock, block, AreStatements, no_more, next, let_rest, let_else, lock_rest, lock_else, IsStatement, act, act_else, try, if, if_lock, repeat, repeat_up_to, for_each, block_alone}
 use Rattle.tl_lowering.specs.Scopes.{View}
 use Rattle.tl_lowering.specs.Sets.{Nodes, holds}
 use Rattle.tl_lowering.proofs.JoinLemmas.{same_action, same_else}
@@ -320,6 +320,7 @@ open_first (O.Try xs ys) = xs.items
 open_first (O.If q xs ys) = xs.items
 open_first (O.Repeat count most xs) = xs.items
 open_first (O.ForEach name index parent most xs) = xs.items
+open_first (O.Block xs) = xs.items
 
 abbrev open_second : {A B : Type 0} → StatementForm-F A B TextStatement → List TextStatement
 open_second (O.Act action o) = []
@@ -327,6 +328,7 @@ open_second (O.Try xs ys) = ys.items
 open_second (O.If q xs ys) = ys.items
 open_second (O.Repeat count most xs) = []
 open_second (O.ForEach name index parent most xs) = []
+open_second (O.Block xs) = []
 
 abbrev first_block : StatementForm → List TextStatement
 first_block f = open_first (out-StatementForm f)
@@ -355,6 +357,7 @@ try_here n lt {names} k {a = a} xs ys e f g (if_lock us vs c b d) = cc
 try_here n lt {names} k {a = a} xs ys e f g (repeat us h c b) = cc
 try_here n lt {names} k {a = a} xs ys e f g (repeat_up_to us h i r m c b) = cc
 try_here n lt {names} k {a = a} xs ys e f g (for_each us h i r m p c b v) = cc
+try_here n lt {names} k {a = a} xs ys e f g (block_alone us b) = cc
 
 if_here : {outer : View} (n : ℕ) (lt : n < outer.nodes) {names : Names} (k : Knows outer names) {form : StatementForm} {a : Statement} {x y : Bool} (q : Question) (xs ys : Vec TextStatement Global) → form ≡ T.If q xs ys → Says outer n xs.items x → Says outer n ys.items y → IsStatement names form a → (x || y) ≡ descends_from a n
 unfolding roll-StatementForm denote.Hole.Carrier.roll
@@ -375,6 +378,7 @@ if_here n lt {names} k {a = a} q xs ys e f g (if_lock {text = text} us vs {place
 if_here n lt {names} k {a = a} q xs ys e f g (repeat us h c b) = cc
 if_here n lt {names} k {a = a} q xs ys e f g (repeat_up_to us h i r m c b) = cc
 if_here n lt {names} k {a = a} q xs ys e f g (for_each us h i r m p c b v) = cc
+if_here n lt {names} k {a = a} q xs ys e f g (block_alone us b) = cc
 
 repeat_here : {outer : View} (n : ℕ) (lt : n < outer.nodes) {names : Names} (k : Knows outer names) {form : StatementForm} {a : Statement} {x : Bool} (count : TextExpression) (most : Option TextExpression) (xs : Vec TextStatement Global) → form ≡ T.Repeat count most xs → Says outer n xs.items x → IsStatement names form a → x ≡ descends_from a n
 unfolding roll-StatementForm denote.Hole.Carrier.roll
@@ -388,6 +392,7 @@ repeat_here n lt {names} k {a = a} count most xs e f (repeat {count = times} us 
 repeat_here n lt {names} k {a = a} count most xs e f (repeat_up_to {number = times} {most = limit} us {a = body} h i r m c b) =
     let p : us.items ≡ xs.items = sym (ap open_first (out-roll-StatementForm (O.Repeat times (Some limit) us))) ∙ ap first_block e ∙ ap open_first (out-roll-StatementForm (O.Repeat count most xs)) in f (in_loop names) body (knows_loop k) (subst (λ z. IsBlock (in_loop names) z body) p b)
 repeat_here n lt {names} k {a = a} count most xs e f (for_each us h i r m p c b v) = cc
+repeat_here n lt {names} k {a = a} count most xs e f (block_alone us b) = cc
 
 walk_descends : {index child parent turns : ℕ} {body whole : Statement} (n : ℕ) → n < child → IsVisiting index child parent turns body whole → descends_from body n ≡ descends_from whole n
 walk_descends {child = m} {body = body} n less (visiting opposite calculated then then) = sym (locking (descends_from body n) false (nat_eq m n) (other_register m n less))
@@ -406,6 +411,21 @@ each_here n lt {names} k {a = a} of there parent most xs e f (for_each {child = 
     let le = k.more in
     f (with_node (with_index (in_loop names) place) name) body (knows_child name place k fresh) (subst (λ z. IsBlock (with_node (with_index (in_loop names) place) name) z body) q b)
     ∙ walk_descends n (omega arith) v
+each_here n lt {names} k {a = a} of there parent most xs e f (block_alone us b) = cc
+
+block_here : {outer : View} (n : ℕ) {names : Names} (k : Knows outer names) {form : StatementForm} {a : Statement} {x : Bool} (xs : Vec TextStatement Global) → form ≡ T.Block xs → Says outer n xs.items x → IsStatement names form a → x ≡ descends_from a n
+unfolding roll-StatementForm denote.Hole.Carrier.roll
+block_here n {names} k {a = a} xs e f (act is) = cc
+block_here n {names} k {a = a} xs e f (act_else is b t) = cc
+block_here n {names} k {a = a} xs e f (try us vs b c tried) = cc
+block_here n {names} k {a = a} xs e f (if us vs c b d) = cc
+block_here n {names} k {a = a} xs e f (if_lock us vs c b d) = cc
+block_here n {names} k {a = a} xs e f (repeat us h c b) = cc
+block_here n {names} k {a = a} xs e f (repeat_up_to us h i r m c b) = cc
+block_here n {names} k {a = a} xs e f (for_each us h i r m p c b v) = cc
+block_here n {names} k {a = a} xs e f (block_alone us b) =
+    let p : us.items ≡ xs.items = sym (ap open_first (out-roll-StatementForm (O.Block us))) ∙ ap first_block e ∙ ap open_first (out-roll-StatementForm (O.Block xs)) in
+    f names a k (subst (λ z. IsBlock names z a) p b)
 
 act_here : {outer : View} (n : ℕ) (lt : n < outer.nodes) {names : Names} (k : Knows outer names) {form : StatementForm} {a : Statement} {x y : Bool} (action : Action) (o : Option Otherwise) → form ≡ T.Act action o → ((a : Statement) → IsAction names action a → x ≡ descends_from a n)
     → ((b : Bool) → IsElseDescending names n o b → y ≡ b) → IsStatement names form a → (x || y) ≡ descends_from a n
@@ -423,6 +443,7 @@ act_here n lt {names} k {a = a} action o e f g (if_lock us vs c b d) = cc
 act_here n lt {names} k {a = a} action o e f g (repeat us h c b) = cc
 act_here n lt {names} k {a = a} action o e f g (repeat_up_to us h i r m c b) = cc
 act_here n lt {names} k {a = a} action o e f g (for_each us h i r m p c b v) = cc
+act_here n lt {names} k {a = a} action o e f g (block_alone us b) = cc
 
 pub try_descending : {outer : View} (n : ℕ) (lt : n < outer.nodes) {names : Names} (k : Knows outer names) {form : StatementForm} {b : Bool} {x y : Bool} (xs ys : Vec TextStatement Global) → form ≡ T.Try xs ys → Says outer n xs.items x → Says outer n ys.items y → IsDescending names n form b → (x || y) ≡ b
 try_descending n lt {names} k xs ys e f g (here is) = try_here n lt k xs ys e f g is
@@ -443,6 +464,11 @@ pub each_descending : {outer : View} (n : ℕ) (lt : n < outer.nodes) {names : N
 each_descending n lt {names} k of there parent most xs e f (here is) = each_here n lt k of there parent most xs e f is
 each_descending n lt {names} k of there parent most xs e f (declared d) = cc
 each_descending n lt {names} k of there parent most xs e f (declared_else d c) = cc
+
+pub block_descending : {outer : View} (n : ℕ) {names : Names} (k : Knows outer names) {form : StatementForm} {b : Bool} {x : Bool} (xs : Vec TextStatement Global) → form ≡ T.Block xs → Says outer n xs.items x → IsDescending names n form b → x ≡ b
+block_descending n {names} k xs e f (here is) = block_here n k xs e f is
+block_descending n {names} k xs e f (declared d) = cc
+block_descending n {names} k xs e f (declared_else d c) = cc
 
 pub act_descending : {outer : View} (n : ℕ) (lt : n < outer.nodes) {names : Names} (k : Knows outer names) {form : StatementForm} {b : Bool} {x y : Bool} (action : Action) (o : Option Otherwise) → form ≡ T.Act action o → (declares action ≡ true → x ≡ false) → ((a : Statement) → IsAction names action a → x ≡ descends_from a n)
     → ((b : Bool) → IsElseDescending names n o b → y ≡ b) → IsDescending names n form b → (x || y) ≡ b

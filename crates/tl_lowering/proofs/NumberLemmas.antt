@@ -27,7 +27,7 @@ use Rattle.tl_lowering.specs.Names.{Names, stands_for, IsNew, HasNode, with_node
 use Rattle.tl_syntax.specs.declared.parsed.Action.TheVariants as A
 use Rattle.tl_lowering.specs.declared.program.Statement.{Statement}
 use Rattle.tl_lowering.specs.declared.program.Statement.TheVariants as S
-use Rattle.tl_lowering.specs.Naming.{IsAction, AreEmits, no_emits, next_emit, Emits, emits, requires, Locks, IsPlace, node, child, pair, IsCalculated, calculated, IsNumber, IsCount, count, constant_count, IsNot, opposite, IsBoth, together, IsCompared, IsCondition}
+use Rattle.tl_lowering.specs.Naming.{IsAction, AreEmits, no_emits, next_emit, Emits, emits, requires, Locks, IsPlace, node, child, pair, IsCalculated, calculated, IsNumber, IsConstant, IsCount, count, constant_count, IsNot, opposite, IsBoth, together, IsCompared, IsCondition}
 use Rattle.tl_syntax.specs.declared.parsed.Comparison.{Comparison}
 
 pub calculated_of : {p q : _} {o : Operator} {l r a b : Expression} → l ≡ a → r ≡ b → IsCalculated o a b (E.Calculated' o p l q r)
@@ -43,6 +43,9 @@ both_of {p} {q} {a} {b} {c} {d} e f =
 
 pub number_at : {names : Names} {a b : TextExpression} {e : Expression} → a ≡ b → IsNumber names a.form e → IsNumber names b.form e
 number_at {names} {e = e} h = subst (λ (z : TextExpression). IsNumber names z.form e) h
+
+pub constant_at : {names : Names} {a b : TextExpression} {w : ℤ} → a ≡ b → IsConstant names a.form w → IsConstant names b.form w
+constant_at {names} {w = w} h = subst (λ (z : TextExpression). IsConstant names z.form w) h
 
 pub condition_at : {names : Names} {a b : TextExpression} {c : Condition} → a ≡ b → IsCondition names a.form c → IsCondition names b.form c
 condition_at {names} {c = c} h = subst (λ (z : TextExpression). IsCondition names z.form c) h

@@ -4,12 +4,14 @@ use Rattle.std.specs.Prelude.{slice_get}
 use Rattle.std.specs.Borrow.{Bor}
 use Rattle.std.proofs.lemmas.List.{take_more}
 use Rattle.tl_syntax.specs.declared.parsed.Name.{Name}
+use Rattle.tl_syntax.specs.declared.parsed.Expression.{Expression as TextExpression}
 use Rattle.tl_syntax.specs.declared.parsed.Declaration.{Declaration}
 use Rattle.tl_syntax.specs.declared.parsed.Declaration.TheVariants as D
 use Rattle.tl_syntax.specs.declared.parsed.Procedure.{Procedure as TextProcedure}
 use Rattle.tl_syntax.specs.Tokens.{spellings}
 use Rattle.tl_lowering.specs.declared.program.Procedure.{Procedure}
 use Rattle.tl_lowering.specs.Names.{Names, IsNew, AreNew, is_procedure, with_procedure, with_constant, with_value, with_values}
+use Rattle.tl_lowering.specs.Naming.{IsConstant}
 use Rattle.tl_lowering.specs.Reading.{IsWithField, IsProcedure, AreDeclared, none_declared, next_field, next_constant, next_procedure}
 
 -- ---- arguments
@@ -59,10 +61,11 @@ module _ {spellings : List (List ℕ)} {names old : Names} (new : Names) (ps : L
   field_more e g rest more h =
       one_more xs i x rest (ps ++ more) lt f (part (x ∷ rest) more (subst (λ d. AreDeclared spellings old (d ∷ rest) more) (sym e) (next_field g h)))
 
-  pub constant_more : {name : Name} {number : ℤ} → x ≡ D.Constant name number → IsNew old name → new ≡ with_constant old name number → AreSoFar spellings names (take (i + 1) xs) ps new
-  constant_more e fresh g rest more h =
+  pub constant_more : {name : Name} {value : TextExpression} {number : ℤ} → x ≡ D.Constant name value → IsNew old name → IsConstant old value.form number → new ≡ with_constant old name number
+      → AreSoFar spellings names (take (i + 1) xs) ps new
+  constant_more e fresh is g rest more h =
       one_more xs i x rest (ps ++ more) lt f
-      (part (x ∷ rest) more (subst (λ d. AreDeclared spellings old (d ∷ rest) more) (sym e) (next_constant fresh (subst (λ n. AreDeclared spellings n rest more) g h))))
+      (part (x ∷ rest) more (subst (λ d. AreDeclared spellings old (d ∷ rest) more) (sym e) (next_constant fresh is (subst (λ n. AreDeclared spellings n rest more) g h))))
 
   pub procedure_more : {text : TextProcedure} {p : Procedure} (qs : List Procedure) → x ≡ D.Procedure text → is_procedure old text.name ≡ false
       → IsProcedure spellings (with_procedure old text.name) text p → new ≡ with_procedure old text.name → qs ≡ ps ++ p ∷ [] → AreSoFar spellings names (take (i + 1) xs) qs new

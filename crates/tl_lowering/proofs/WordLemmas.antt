@@ -81,7 +81,7 @@ at_token (token b t rest) (suc i) s e = at_token rest i s e
 -- the name of a procedure is a word
 abbrev pub IsNamed : List (List ℕ) → Declaration → Type 0
 IsNamed names (D.Field n w offset) = Unit {0}
-IsNamed names (D.Constant n w) = Unit {0}
+IsNamed names (D.Constant n e) = Unit {0}
 IsNamed names (D.Procedure text) = IsWord (get_or names text.name.symbol.0 [])
 
 module _ {names : List (List ℕ)} {text : List ℕ} {tokens : List Token} (read : AreTokens names 0 text tokens) where
@@ -105,7 +105,7 @@ declared : {spellings : List (List ℕ)} {names : Names} {ds : List Declaration}
     → All (λ (p : Procedure). IsWord p.name.items) ps
 declared none_declared h = All-nil _
 declared {spellings} (next_field {name = n} {number = w} {offset = offset} {rest = rest} f more) h = declared more (All-tail (IsNamed spellings) (D.Field n w offset) rest h)
-declared {spellings} (next_constant {name = n} {number = w} {rest = rest} fresh more) h = declared more (All-tail (IsNamed spellings) (D.Constant n w) rest h)
+declared {spellings} (next_constant {name = n} {value = e} {rest = rest} fresh is more) h = declared more (All-tail (IsNamed spellings) (D.Constant n e) rest h)
 declared {spellings} (next_procedure {text = text} {p = p} {rest = rest} {ps = ps} fresh is more) h =
     All-cons (λ (p : Procedure). IsWord p.name.items) p ps (subst IsWord (sym is.name) (All-head (IsNamed spellings) (D.Procedure text) rest h))
     (declared more (All-tail (IsNamed spellings) (D.Procedure text) rest h))

@@ -1,5 +1,6 @@
 -- The core forms of a text's numbers, conditions, places and actions, in which names are replaced by registers and fields.
-use Rattle.std.specs.Prelude.{◌≡◌, ◌<◌, ◌≤◌, ℕ, ◌+◌, ◌/◌, List, [], ◌∷◌, ◌++◌, length, take, drop, Bool, true, false, Option, None, Some, ℤ, pos}
+use Rattle.std.specs.Prelude.{◌≡◌, ◌<◌, ◌≤◌, ℕ, ◌+◌, ◌/◌, List, [], ◌∷◌, ◌++◌, length, take, drop, Bool, true, false, Option, None, Some, ℤ, pos, negsuc, ◌+ℤ◌, ◌-ℤ◌, ◌*ℤ◌, int_div, ◌^◌, nat_lt, if◌then◌else◌}
+use Rattle.std.specs.Ordering.{int_eq}
 use Rattle.std.specs.declared.vec.Vec.{Vec}
 use Rattle.std.specs.declared.boxed.Box.{Box}
 use Rattle.std.specs.declared.alloc.Global.{Global}
@@ -54,6 +55,26 @@ pub data IsNumber (names : Names) : Form → Expression → Type 0 where
       IsCalculated O.Subtract (E.Constant (pos 0)) b c → IsNumber names (F.Negated a) c
   operation : {operator : Operator} {a b : Box TextExpression Global} {c d e : Expression} → IsNumber names a.value.form c →
       IsNumber names b.value.form d → IsCalculated operator c d e → IsNumber names (F.Calculated operator a b) e
+
+-- the number, if it has 32 bits
+abbrev pub narrow : ℤ → Option ℤ
+narrow (pos n) = if nat_lt n (2 ^ 31) then Some (pos n) else None
+narrow (negsuc n) = if nat_lt n (2 ^ 31) then Some (negsuc n) else None
+
+-- the result of an operation on two constants; None if it doesn't have 32 bits, or if the divisor is 0
+abbrev pub folded : Operator → ℤ → ℤ → Option ℤ
+folded O.Add x y = narrow (x +ℤ y)
+folded O.Subtract x y = narrow (x -ℤ y)
+folded O.Multiply x y = narrow (x *ℤ y)
+folded O.Divide x y = if int_eq y (pos 0) then None else narrow (int_div x y)
+
+-- the number of a constant: it and each number on the way have 32 bits
+pub data IsConstant (names : Names) : Form → ℤ → Type 0 where
+  written : {w : ℤ} → IsConstant names (F.Number w) w
+  known : {name : Name} {w : ℤ} → stands_for names name ≡ M.Constant w → IsConstant names (F.Named name) w
+  opposed : {a : Box TextExpression Global} {v w : ℤ} → IsConstant names a.value.form v → folded O.Subtract (pos 0) v ≡ Some w → IsConstant names (F.Negated a) w
+  combined : {operator : Operator} {a b : Box TextExpression Global} {u v w : ℤ} → IsConstant names a.value.form u → IsConstant names b.value.form v →
+      folded operator u v ≡ Some w → IsConstant names (F.Calculated operator a b) w
 
 -- the largest number of turns of a loop, from 1 to 65,535
 pub data IsCount (names : Names) : Form → ℕ → Type 0 where

@@ -34,7 +34,7 @@ use Rattle.tl_lowering.specs.Outcomes.{after}
 use Rattle.tl_lowering.specs.Sets.{Nodes}
 use Rattle.tl_lowering.specs.Registers.{behind, HasTemporaries, HasRegisters}
 use Rattle.tl_lowering.specs.Names.{Names, without_meaning, stands_for, IsNew, HasNode, HasValue, HasLoop, in_loop, with_constant, with_field, is_procedure, with_procedure, with_index, with_value, with_values, AreNew, AreFresh, field_named, with_node, with_place}
-use Rattle.tl_lowering.specs.Naming.{IsCalculated, IsNumber, IsCount, IsNot, IsCondition, IsPlace, IsAction, IsThen, IsHalved}
+use Rattle.tl_lowering.specs.Naming.{IsCalculated, IsNumber, IsConstant, IsCount, IsNot, IsCondition, IsPlace, IsAction, IsThen, IsHalved}
 
 -- a statement with its offset in the text
 pub data IsAtOffset (offset : ℕ) (a : Statement) : Statement → Type 0 where
@@ -112,6 +112,7 @@ mutual
         {a whole : Statement} → HasLoop names → AreFresh names child index → HasNode names → names.values + 2 ≤ VALUE_REGISTERS → stands_for names parent ≡ M.Node n →
         IsCount names most.form turns → IsBlock (with_node (with_index (in_loop names) index) child) xs.items a → IsVisiting names.values names.nodes n turns a whole →
         IsStatement names (T.ForEach child index parent most xs) whole
+    block_alone : {names : Names} (xs : Vec TextStatement Global) {a : Statement} → IsBlock names xs.items a → IsStatement names (T.Block xs) a
 
 -- A failure that the procedure's `else` doesn't handle ends the procedure. Where an atomic procedure comes to its `else`, or its call ends by a failure, nothing has been written.
 pub record IsBody (names : Names) (text : TextProcedure) (whole : Statement) : Type 0 where
@@ -147,8 +148,9 @@ pub data AreDeclared (spellings : List (List ℕ)) : Names → List Declaration 
   next_field : {names later : Names} {name : Name} {number : ℤ} {offset : ℕ} {rest : List Declaration} {ps : List Procedure} →
       IsWithField names name number later → AreDeclared spellings later rest ps →
       AreDeclared spellings names (D.Field name number offset ∷ rest) ps
-  next_constant : {names : Names} {name : Name} {number : ℤ} {rest : List Declaration} {ps : List Procedure} →
-      IsNew names name → AreDeclared spellings (with_constant names name number) rest ps → AreDeclared spellings names (D.Constant name number ∷ rest) ps
+  next_constant : {names : Names} {name : Name} {value : TextExpression} {number : ℤ} {rest : List Declaration} {ps : List Procedure} →
+      IsNew names name → IsConstant names value.form number → AreDeclared spellings (with_constant names name number) rest ps →
+      AreDeclared spellings names (D.Constant name value ∷ rest) ps
   -- no other procedure has its name
   next_procedure : {names : Names} {text : TextProcedure} {p : Procedure} {rest : List Declaration} {ps : List Procedure} →
       is_procedure names text.name ≡ false → IsProcedure spellings (with_procedure names text.name) text p →

@@ -63,6 +63,7 @@ impl Scope {
             }
             StatementForm::Repeat { body, .. } => self.descended(body),
             StatementForm::ForEach { body, .. } => self.descended(body),
+            StatementForm::Block(body) => self.descended(body),
         }
     }
 

@@ -409,6 +409,7 @@ impl Lowering {
                 let repetition = self.visit(names, at_most, offset, held)?;
                 self.turns(repetition, body, offset, held)
             }
+            StatementForm::Block(body) => self.block(body, held),
         }
     }
 

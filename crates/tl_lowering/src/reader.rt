@@ -125,9 +125,10 @@ impl Lowering {
                     number,
                     offset,
                 } => self.declare_field(*name, *number, *offset)?,
-                Declaration::Constant { name, number } => {
+                Declaration::Constant { name, value } => {
                     self.scope.check_new(*name)?;
-                    self.scope.declare_constant(*name, *number);
+                    let number = self.scope.constant(value)?;
+                    self.scope.declare_constant(*name, number);
                 }
                 Declaration::Procedure(procedure) => {
                     procedures.push(self.procedure(procedure, names)?)?;

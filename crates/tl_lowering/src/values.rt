@@ -1,9 +1,9 @@
 // Numbers and conditions, with registers in place of names.
 
-ghost use Rattle.std.specs.Prelude.{◌≡◌, ◌≤◌, ◌-◌, ◌^◌, ℕ, min, true, IfOk, OnOk};
+ghost use Rattle.std.specs.Prelude.{◌≡◌, ◌≤◌, ◌-◌, ◌^◌, ℕ, min, true, Some, IfOk, OnOk};
 ghost use Rattle.tl_instr.specs.declared.operand.TheConstants.{VALUE_REGISTERS};
 ghost use Rattle.tl_lowering.specs.Names.{names_of};
-ghost use Rattle.tl_lowering.specs.Naming.{IsCalculated, IsNumber, IsCount, IsNot, IsBoth, IsComparison, IsCompared, IsCondition};
+ghost use Rattle.tl_lowering.specs.Naming.{IsCalculated, IsNumber, folded as folded_lem, IsConstant, IsCount, IsNot, IsBoth, IsComparison, IsCompared, IsCondition};
 ghost use Rattle.tl_lowering.specs.Outcomes.{may_fail as may_fail_lem, condition_may_fail as condition_may_fail_lem};
 ghost use Rattle.tl_lowering.specs.Paths.{nodes_of};
 ghost use Rattle.tl_lowering.specs.Registers.{HasRegisters, behind as behind_lem, registers_of as registers_of_lem, registers_for as registers_for_lem};
@@ -96,6 +96,19 @@ pub fn calculated(
     let left = Box::new(alloc, left)?;
     let right = Box::new(alloc, right)?;
     Ok(Expression::Calculated(operator, left, right))
+}
+
+// The result of an operation on two constants. 271 at the offset if it doesn't have 32 bits, or if the divisor is 0.
+fn folded(operator: Operator, left: i32, right: i32, offset: usize) -> Result<i32, SyntaxFault>
+    ensures { IfOk result (λ n. folded_lem operator left right ≡ Some n) }
+{
+    let fault = SyntaxFault::at(Wrong::Number, offset);
+    match operator {
+        Operator::Add => left.checked_add(right).ok_or(fault),
+        Operator::Subtract => left.checked_sub(right).ok_or(fault),
+        Operator::Multiply => left.checked_mul(right).ok_or(fault),
+        Operator::Divide => left.checked_div(right).ok_or(fault),
+    }
 }
 
 pub fn negated(alloc: Global, condition: Condition) -> Result<Condition, SyntaxFault>
@@ -261,6 +274,37 @@ impl Scope {
                 negated(alloc, both(alloc, first, second)?)
             }
             _ => Err(SyntaxFault::at(Wrong::NoCondition, expression.offset)),
+        }
+    }
+
+    // The number of the constant that a name stands for.
+    fn known_constant(&self, name: Name, offset: usize) -> Result<i32, SyntaxFault>
+        ensures { IfOk result (IsConstant (names_of self.now) (Named name)) }
+    {
+        match self.known(name)? {
+            Meaning::Constant(number) => Ok(number),
+            _ => Err(SyntaxFault::at(Wrong::NoNumber, offset)),
+        }
+    }
+
+    /// The number of a constant. 275 or 277 at the first name or part that is wrong, 271 at the first token of an operation whose result
+    /// doesn't have 32 bits, or that divides by 0.
+    pub fn constant(&self, expression: &parsed::Expression) -> Result<i32, SyntaxFault>
+        ensures { IfOk result (IsConstant (names_of self.now) expression.now.form) }
+    {
+        match &expression.form {
+            Form::Number(number) => Ok(*number),
+            Form::Named(name) => self.known_constant(*name, expression.offset),
+            Form::Negated(operand) => {
+                let operand = self.constant(operand)?;
+                folded(Operator::Subtract, 0, operand, expression.offset)
+            }
+            Form::Calculated(operator, left, right) => {
+                let left = self.constant(left)?;
+                let right = self.constant(right)?;
+                folded(*operator, left, right, expression.offset)
+            }
+            _ => Err(SyntaxFault::at(Wrong::NoNumber, expression.offset)),
         }
     }
 

@@ -140,6 +140,9 @@ opened_for_each : (child : Name) (place : Option Name) (parent : Name) (most : E
     out-StatementForm (S.ForEach child place parent most xs) ≡ Y.ForEach child place parent most xs
 opened_for_each child place parent most xs = search the_lemmas
 
+opened_block : (xs : Vec Statement Global) → out-StatementForm (S.Block xs) ≡ Y.Block xs
+opened_block xs = search the_lemmas
+
 same_act : {a b : Action} (o p : Option Otherwise) → S.Act a o ≡ S.Act b p → (a ≡ b) × (o ≡ p)
 same_act {a} {b} o p e = let same = sym (opened_act a o) ∙ ap out-StatementForm e ∙ opened_act b p in (cc, cc)
 
@@ -167,6 +170,9 @@ same_for_each : {child child' parent parent' : Name} {place place' : Option Name
 same_for_each {child} {child'} {parent} {parent'} {place} {place'} {most} {most'} {xs} {vs} e =
     let same = sym (opened_for_each child place parent most xs) ∙ ap out-StatementForm e ∙ opened_for_each child' place' parent' most' vs in (cc, cc, cc, cc, cc)
 
+same_block : {xs vs : Vec Statement Global} → S.Block xs ≡ S.Block vs → xs ≡ vs
+same_block {xs} {vs} e = let same = sym (opened_block xs) ∙ ap out-StatementForm e ∙ opened_block vs in cc
+
 -- ---- statements
 
 -- the number of the form's variant
@@ -176,6 +182,7 @@ statement_rank (S.Try' p xs q ys) = 1
 statement_rank (S.If' r p xs q ys) = 2
 statement_rank (S.Repeat' e most p xs) = 3
 statement_rank (S.ForEach' c i d e p xs) = 4
+statement_rank (S.Block' p xs) = 5
 
 pub same_statement_rank : {f g : StatementForm} → AlikeStatementForm f g → statement_rank f ≡ statement_rank g
 same_statement_rank (A.act x) = refl
@@ -185,6 +192,7 @@ same_statement_rank (A.if a b c d q x y) = refl
 same_statement_rank (A.repeat a b x y) = refl
 same_statement_rank (A.repeat_at_most a b x m y) = refl
 same_statement_rank (A.for_each a b x y) = refl
+same_statement_rank (A.block_alone a b x) = refl
 
 blocks_of : {xs ys vs ws : Vec Statement Global} → xs ≡ ys → vs ≡ ws → AlikeStatements xs.items vs.items → AlikeStatements ys.items ws.items
 blocks_of {ys = ys} {vs = vs} e f h =
@@ -266,6 +274,10 @@ for_each_of xs vs (A.for_each a b x y) e f =
     (sym first.0 ∙ second.0, sym first.1 ∙ second.1, sym first.2 ∙ second.2, alike_by first.3 second.3 x, blocks_of first.4 second.4 y)
 for_each_of xs vs x e f = cc
 
+pub block_of : {f g : StatementForm} (xs vs : Vec Statement Global) → AlikeStatementForm f g → f ≡ S.Block xs → g ≡ S.Block vs → AlikeStatements xs.items vs.items
+block_of xs vs (A.block_alone a b x) e f = blocks_of (same_block e) (same_block f) x
+block_of xs vs x e f = cc
+
 -- ---- lists, from the first item on
 
 pub data Paired : List Statement → List Statement → Type 0 where
@@ -301,18 +313,20 @@ paired_declarations (A.next_declaration h x) = push_declaration x (paired_declar
 -- the number of the declaration's variant
 abbrev pub declaration_rank : Declaration → ℕ
 declaration_rank (D.Field name number offset) = 0
-declaration_rank (D.Constant name number) = 1
+declaration_rank (D.Constant name value) = 1
 declaration_rank (D.Procedure p) = 2
 
 pub same_declaration_rank : {d e : Declaration} → AlikeDeclaration d e → declaration_rank d ≡ declaration_rank e
 same_declaration_rank A.same_declaration = refl
+same_declaration_rank (A.constants x) = refl
 same_declaration_rank (A.procedures x) = refl
 
 pub field_of : {n m : Name} {v w : ℤ} {o p : ℕ} → AlikeDeclaration (D.Field n v o) (D.Field m w p) → (n ≡ m) × (v ≡ w)
 field_of A.same_declaration = (refl, refl)
 
-pub constant_of : {n m : Name} {v w : ℤ} → AlikeDeclaration (D.Constant n v) (D.Constant m w) → (n ≡ m) × (v ≡ w)
-constant_of A.same_declaration = (refl, refl)
+pub constant_of : {n m : Name} {e f : Expression} → AlikeDeclaration (D.Constant n e) (D.Constant m f) → (n ≡ m) × AlikeForm e.form f.form
+constant_of A.same_declaration = (refl, A.same_form)
+constant_of (A.constants x) = (refl, form_of x)
 
 pub procedure_of : {p q : Procedure} → AlikeProcedure p p → AlikeDeclaration (D.Procedure p) (D.Procedure q) → AlikeProcedure p q
 procedure_of itself A.same_declaration = itself

@@ -9,30 +9,15 @@ use Rattle.tl_syntax.specs.declared.parsed.Procedure.{Procedure}
 use Rattle.tl_syntax.specs.declared.parsed.Declaration.{Declaration}
 use Rattle.tl_syntax.specs.declared.parsed.Declaration.TheVariants as V
 use Rattle.tl_syntax.specs.declared.parser.TheConstants.{MAX_LEVELS}
-use Rattle.tl_syntax.specs.Grammar.{kind_at, offset_at, Stands, IsName, IsNumber, IsNegative}
+use Rattle.tl_syntax.specs.Grammar.{kind_at, offset_at, Stands, IsName, IsNumber, IsExpression, Disjunction}
 use Rattle.tl_syntax.specs.Statements.{IsBlock}
 use Rattle.tl_syntax.specs.Declarations as D
-use Rattle.tl_syntax.specs.Declarations.{IsConstant, AreNames, AreArguments, IsMark, IsProcedure, IsDeclaration, AreDeclarations, IsFile}
+use Rattle.tl_syntax.specs.Declarations.{AreNames, AreArguments, IsMark, IsProcedure, IsDeclaration, AreDeclarations, IsFile}
 use Rattle.tl_syntax.specs.Alike as A
 use Rattle.tl_syntax.specs.Alike.{AlikeStatements, AlikeProcedure, AlikeDeclaration, AlikeDeclarations}
 use Rattle.tl_syntax.proofs.ListsOnce.{Rest, done, append, Compared, within, another_compared, list_end}
-use Rattle.tl_syntax.proofs.ExpressionsOnce.{same_end, differ, same_name, same_number, same_negative}
-use Rattle.tl_syntax.proofs.StatementsOnce.{at, NoComma, some_comma, comma, NoElse, some_else, no_else, block_once}
-
--- ---- constants
-
-abbrev sign : TokenKind → ℕ
-sign K.Minus = 1
-sign (K.Number n) = 2
-sign kind = 0
-
-constant_once : {tokens : List Token} {i j k : ℕ} {n m : ℤ} → IsConstant tokens i j n → IsConstant tokens i k m → (j ≡ k) × (n ≡ m)
-constant_once (D.positive n) (D.positive m) = (same_end n.stands m.stands, same_number n m)
-constant_once (D.positive n) (D.negative s m) = differ sign s.kind_is n.stands.kind_is (omega arith)
-constant_once (D.negative s n) (D.positive m) = differ sign s.kind_is m.stands.kind_is (omega arith)
-constant_once {tokens} {k = end} (D.negative {j = a1} s n) (D.negative {n = y} t m) =
-    let m' : IsNegative tokens a1 end y = at (λ z. IsNegative tokens z end y) (same_end s t) m in
-    (same_end n.stands m'.stands, same_negative n m')
+use Rattle.tl_syntax.proofs.ExpressionsOnce.{same_end, differ, same_name, same_number, once}
+use Rattle.tl_syntax.proofs.StatementsOnce.{at, ends, NoComma, some_comma, comma, NoElse, some_else, no_else, block_once}
 
 -- ---- names
 
@@ -212,13 +197,13 @@ declaration_once {tokens} {k = end} (D.field {j = a1} {k = a2} {l = a3} {m = a4}
       subst (λ z. AlikeDeclaration (V.Field x v o1) (V.Field z w o2)) (same_name n n2')
           (subst₂ (λ z q. AlikeDeclaration (V.Field x v o1) (V.Field x z q)) (same_number m m2') offsets A.same_declaration),
     )
-declaration_once {tokens} {k = end} (D.constant {j = a1} {k = a2} {l = a3} {m = a4} {n = x} {number = v} s n t m u) f (D.constant {k = b2} {l = b3} {m = b4} {n = y} {number = w} s2 n2 t2 m2 u2) g =
+declaration_once {tokens} {k = end} (D.constant {j = a1} {k = a2} {l = a3} {m = a4} {n = x} {value = v} s n t m u) f (D.constant {k = b2} {l = b3} {m = b4} {n = y} {value = w} s2 n2 t2 m2 u2) g =
     let n2' : IsName tokens a1 b2 y = at (λ z. IsName tokens z b2 y) (same_end s s2) n2 in
     let t2' : Stands tokens K.Assign a2 b3 = at (λ z. Stands tokens K.Assign z b3) (same_end n.stands n2'.stands) t2 in
-    let m2' : IsConstant tokens a3 b4 w = at (λ z. IsConstant tokens z b4 w) (same_end t t2') m2 in
-    let same = constant_once m m2' in
+    let m2' : IsExpression tokens MAX_LEVELS Disjunction a3 b4 w = at (λ z. IsExpression tokens MAX_LEVELS Disjunction z b4 w) (same_end t t2') m2 in
+    let same = once m (ends u.kind_is refl) MAX_LEVELS b4 w m2' (ends u2.kind_is refl) in
     let u2' : Stands tokens K.Semicolon a4 end = at (λ z. Stands tokens K.Semicolon z end) same.0 u2 in
-    (same_end u u2', subst₂ (λ z q. AlikeDeclaration (V.Constant x v) (V.Constant z q)) (same_name n n2') same.1 A.same_declaration)
+    (same_end u u2', subst (λ z. AlikeDeclaration (V.Constant x v) (V.Constant z w)) (same_name n n2') (A.constants same.1))
 declaration_once (D.procedures p) f (D.procedures q) g = let same = procedure_once p f q g in (same.0, A.procedures same.1)
 declaration_once x f y g = absurd (omega (arith, rank_is x, rank_is y))
 

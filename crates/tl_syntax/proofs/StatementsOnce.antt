@@ -1,6 +1,8 @@
 -- Tokens denote only one statement.
 use Rattle.std.proofs.Common.{◌≡◌, ◌≢◌, ℕ, ◌<◌, ◌≤◌, List, [], ◌∷◌, ◌++◌, Option, Some, refl, sym, ap, subst, ◌∙◌, arith}
 use Rattle.std.proofs.Math.Path.{subst₂}
+use Rattle.std.specs.declared.vec.Vec.{Vec}
+use Rattle.std.specs.declared.alloc.Global.{Global}
 use Rattle.tl_syntax.specs.declared.token.Token.{Token}
 use Rattle.tl_syntax.specs.declared.token.TokenKind.{TokenKind}
 use Rattle.tl_syntax.specs.declared.token.TokenKind.TheVariants as K
@@ -26,7 +28,7 @@ use Rattle.tl_syntax.specs.declared.parsed.StatementForm.TheVariants as S
 use Rattle.tl_syntax.specs.Grammar as G
 use Rattle.tl_syntax.specs.Grammar.{kind_at, offset_at, Stands, IsName, IsNumber, Disjunction, Rule, IsPlain, IsExpression, IsChain}
 use Rattle.tl_syntax.specs.Statements as R
-use Rattle.tl_syntax.specs.Statements.{word_at, word_most, word_each, word_of, word_to, IsLeave, IsChange, IsArgument, IsChild, IsPlace, AreExpressions, IsWrite, AreMoreWrites, IsAction, IsQuestion, IsCount, IsIndex, IsLeaving, IsBlock, AreStatements, IsStatement, IsForm, IsOther, IsOtherwise}
+use Rattle.tl_syntax.specs.Statements.{word_at, word_most, word_each, word_of, word_to, word_while, IsLeave, IsChange, IsArgument, IsChild, IsPlace, AreExpressions, IsWrite, AreMoreWrites, IsAction, IsQuestion, IsCount, IsIndex, IsLeaving, IsBlock, AreStatements, IsStatement, IsForm, IsOnly, AreTwo, IsBoundedLoop, RequiresNot, MayEnd, IsOther, IsOtherwise}
 use Rattle.tl_syntax.specs.Alike as A
 use Rattle.tl_syntax.specs.Alike.{Alike, AlikeForm, AreAlike, AlikeChild, AlikePlace, AlikeWrite, AlikeWrites, AlikeAction, AlikeQuestion, AlikeStatements, AlikeStatement, AlikeStatementForm, AlikeOtherwise}
 use Rattle.tl_syntax.proofs.ListsOnce.{Rest, done, step, append, Compared, within, another_compared, list_end}
@@ -495,6 +497,7 @@ starting K.Try = 2
 starting K.If = 3
 starting K.Repeat = 4
 starting K.For = 5
+starting K.LeftBrace = 6
 starting kind = 0
 
 abbrev form_rank : {tokens : List Token} {n i j : ℕ} {f : StatementForm} → IsForm tokens n i j f → ℕ
@@ -506,6 +509,8 @@ form_rank (R.if_else body other s q b t c) = 3
 form_rank (R.repeat body s e b) = 4
 form_rank (R.repeat_at_most body s e a m c b) = 4
 form_rank (R.for_each body s t c n x u p v w m b) = 5
+form_rank (R.block_alone body b) = 6
+form_rank (R.while body all s e t u m b r c d) = 1
 
 leave_starting : (tokens : List Token) (l : Leave) (i j : ℕ) → IsLeave tokens i j l → starting (kind_at tokens i) ≡ 1
 leave_starting tokens L.Break i j s = ap starting s.kind_is
@@ -524,6 +529,9 @@ action_starting (R.takes s n t m) = ap starting s.kind_is
 action_starting (R.frees s n) = ap starting s.kind_is
 action_starting {tokens} (R.leaves {i = i} {j = j} {l = l} x) = leave_starting tokens l i j x
 
+block_starts : {tokens : List Token} {n i j : ℕ} {ss : List Statement} → IsBlock tokens n i j ss → kind_at tokens i ≡ K.LeftBrace
+block_starts (R.block s a t) = s.kind_is
+
 form_is : {tokens : List Token} {n i j : ℕ} {f : StatementForm} (x : IsForm tokens n i j f) → starting (kind_at tokens i) ≡ form_rank x
 form_is (R.act a s) = action_starting a
 form_is (R.act_else a e o) = action_starting a
@@ -533,6 +541,8 @@ form_is (R.if_else body other s q b t c) = ap starting s.kind_is
 form_is (R.repeat body s e b) = ap starting s.kind_is
 form_is (R.repeat_at_most body s e a m c b) = ap starting s.kind_is
 form_is (R.for_each body s t c n x u p v w m b) = ap starting s.kind_is
+form_is (R.block_alone body b) = ap starting (block_starts b)
+form_is (R.while body all s e t u m b r c d) = ap starting s.kind_is
 
 some_rank : {tokens : List Token} {n i j : ℕ} {f : StatementForm} (x : IsForm tokens n i j f) → 1 ≤ form_rank x
 some_rank (R.act a s) = omega arith
@@ -543,6 +553,8 @@ some_rank (R.if_else body other s q b t c) = omega arith
 some_rank (R.repeat body s e b) = omega arith
 some_rank (R.repeat_at_most body s e a m c b) = omega arith
 some_rank (R.for_each body s t c n x u p v w m b) = omega arith
+some_rank (R.block_alone body b) = omega arith
+some_rank (R.while body all s e t u m b r c d) = omega arith
 
 statement_starts : {tokens : List Token} {n i j : ℕ} {s : Statement} → IsStatement tokens n i j s → 1 ≤ starting (kind_at tokens i)
 statement_starts (R.statement x o) = omega (arith, form_is x, some_rank x)
@@ -567,15 +579,51 @@ item_no_else tokens j k s h = record { is = λ e. omega (arith, statement_starts
 no_item : {tokens : List Token} {i j : ℕ} → Stands tokens K.RightBrace i j → (k : ℕ) (s : Statement) → StatementItem tokens i k s → ⊥
 no_item e k s h = omega (arith, statement_starts h.is, ap starting e.kind_is)
 
+-- no action begins as a `while` does
+change_begins : (tokens : List Token) (c : Change) (i j : ℕ) → IsChange tokens i j c → begins (kind_at tokens i) ≡ 0
+change_begins tokens C.Set i j s = ap begins s.kind_is
+change_begins tokens C.Add i j s = ap begins s.kind_is
+change_begins tokens C.Subtract i j s = ap begins s.kind_is
+
+no_while : {A : Type 0} {tokens : List Token} {n m i j k l : ℕ} {a : Action} {e : Expression} → IsAction tokens n i j a → Stands tokens word_while i k →
+    IsExpression tokens m Disjunction k l e → A
+no_while {tokens = tokens} (R.assigns {j = a1} {k = a2} {c = c} n s h) t e =
+    absurd (omega (arith, change_begins tokens c a1 a2 s, at (λ z. begins (kind_at tokens z) ≡ 1) (same_end n.stands t) (expression_begins e)))
+no_while {tokens = tokens} (R.writes (R.write n d f c e) others) t h =
+    absurd (omega (arith, ap begins d.kind_is, at (λ z. begins (kind_at tokens z) ≡ 1) (same_end n.stands t) (expression_begins h)))
+no_while x t e = absurd (omega (arith, action_is x, ap heading t.kind_is))
+
+only_alike : {offset : ℕ} {f g : StatementForm} {ss ts : List Statement} → IsOnly offset f ss → IsOnly offset g ts → AlikeStatementForm f g → AlikeStatements ss ts
+only_alike (R.only a b) (R.only c d) x = A.next_statement A.no_statements (A.statement (b ∙ sym d) (subst₂ AlikeStatementForm (sym a) (sym c) x))
+
+two_alike : {offset : ℕ} {f g h k : StatementForm} {ss ts : List Statement} → AreTwo offset f g ss → AreTwo offset h k ts → AlikeStatementForm f h → AlikeStatementForm g k →
+    AlikeStatements ss ts
+two_alike (R.two a b c d) (R.two e f g h) x y =
+    A.next_statement (A.next_statement A.no_statements (A.statement (b ∙ sym f) (subst₂ AlikeStatementForm (sym a) (sym e) x)))
+    (A.statement (d ∙ sym h) (subst₂ AlikeStatementForm (sym c) (sym g) y))
+
+loop_alike : {offset : ℕ} {c d m n : Expression} {xs ys : Vec Statement Global} {f g : StatementForm} → Alike c d → Alike m n → AlikeStatements xs.items ys.items →
+    IsBoundedLoop offset c m xs f → IsBoundedLoop offset d n ys g → AlikeStatementForm f g
+loop_alike {xs = xs} {ys = ys} x y h (R.bounded other turn a b) (R.bounded other2 turn2 c d) =
+    A.repeat turn turn2 y (only_alike b d (A.if xs other ys other2 (A.condition x) h (only_alike a c (A.act A.same_action))))
+
+requires_not_once : {tokens : List Token} {n m i offset : ℕ} {f g : StatementForm} → RequiresNot tokens n i offset f → RequiresNot tokens m i offset g → AlikeStatementForm f g
+requires_not_once {m = m} (R.requires_not x s form o) (R.requires_not {j = end} {a = b} y t form2 o2) =
+    let same = once x (ends s.kind_is refl) m end b.value y (ends t.kind_is refl) in
+    A.act (A.requires (A.alike (o ∙ sym o2) (subst₂ AlikeForm (sym form) (sym form2) (A.not same.1))))
+
+may_end_once : {tokens : List Token} {i j k : ℕ} → MayEnd tokens i j → MayEnd tokens i k → j ≡ k
+may_end_once (R.no_semicolon n) (R.no_semicolon m) = refl
+may_end_once (R.no_semicolon n) (R.semicolon s) = absurd (n s.kind_is)
+may_end_once (R.semicolon s) (R.no_semicolon n) = absurd (n s.kind_is)
+may_end_once (R.semicolon s) (R.semicolon t) = same_end s t
+
 statements_rest : {tokens : List Token} {n i k : ℕ} {ss : List Statement} → AreStatements tokens n i k ss → Rest (StatementItem tokens) i [] k ss
 statements_rest R.no_more = done
 statements_rest {n = n} (R.next a h) = append (statements_rest a) (record { levels = n; is = h })
 
-block_starts : {tokens : List Token} {n i j : ℕ} {ss : List Statement} → IsBlock tokens n i j ss → kind_at tokens i ≡ K.LeftBrace
-block_starts (R.block s a t) = s.kind_is
-
 otherwise_starts : {tokens : List Token} {n i j : ℕ} {o : Otherwise} → IsOtherwise tokens n i j o → kind_at tokens i ≡ K.Else
-otherwise_starts (R.block_else {o = o} s b p) = s.kind_is
+otherwise_starts (R.block_else {o = o} s b e p) = s.kind_is
 otherwise_starts (R.leave_else {o = o} s b p) = s.kind_is
 
 leaving_starts : {tokens : List Token} {i j : ℕ} {ss : List Statement} → IsLeaving tokens i j ss → starting (kind_at tokens i) ≡ 1
@@ -729,6 +777,23 @@ mutual
       let alike : AlikeStatementForm (S.ForEach x z1 y most1 body) (S.ForEach x z2 y most2 body2) =
       subst (λ z. AlikeStatementForm (S.ForEach x z1 y most1 body) (S.ForEach x z y most2 body2)) place.1 (A.for_each body body2 most.1 first.1) in
       (first.0, subst₂ (λ z w. AlikeStatementForm (S.ForEach x z1 y most1 body) (S.ForEach z z2 w most2 body2)) (same_name n1 m1') (same_name n2 m2') alike)
+  form_once (R.block_alone body b) f (R.block_alone body2 c) g = let same = block_once b c in (same.0, A.block_alone body body2 same.1)
+  form_once (R.act x s) f (R.while body all t e u v m b r c d) g = no_while x t e
+  form_once (R.act_else x e o) f (R.while body all t h u v m b r c d) g = no_while x t h
+  form_once (R.while body all t e u v m b r c d) f (R.act x s) g = no_while x t e
+  form_once (R.while body all t h u v m b r c d) f (R.act_else x e o) g = no_while x t h
+  form_once {tokens} {i = i} {k = end} (R.while {j = a1} {k = a2} {l = a3} {m = a4} {n = a5} {check = check1} body all s e t u c b r q w) f
+      (R.while {levels = m} {j = b1} {k = b2} {l = b3} {m = b4} {n = b5} {condition = e2} {most = most2} {check = check2} body2 all2 s2 h2 t2 u2 c2 b' r2 q2 w2) g =
+      let h2' : IsExpression tokens m Disjunction a1 b2 e2 = at (λ z. IsExpression tokens m Disjunction z b2 e2) (same_end s s2) h2 in
+      let asked = once e (ends t.kind_is refl) m b2 e2 h2' (ends t2.kind_is refl) in
+      let t2' : Stands tokens word_at a2 b3 = at (λ z. Stands tokens word_at z b3) asked.0 t2 in
+      let u2' : Stands tokens word_most a3 b4 = at (λ z. Stands tokens word_most z b4) (same_end t t2') u2 in
+      let c2' : IsCount tokens a4 b5 most2 = at (λ z. IsCount tokens z b5 most2) (same_end u u2') c2 in
+      let most = count_once c c2' in
+      let d2 : IsBlock tokens m a5 end body2.items = at (λ z. IsBlock tokens m z end body2.items) most.0 b' in
+      let first = block_once b d2 in
+      let q2' : RequiresNot tokens m a1 (offset_at tokens i) check2 = at (λ z. RequiresNot tokens m z (offset_at tokens i) check2) (same_end s s2) q2 in
+      (first.0, A.block_alone all all2 (two_alike w w2 (loop_alike asked.1 most.1 first.1 r r2) (requires_not_once q q2')))
   form_once x f y g = absurd (omega (arith, form_is x, form_is y))
 
   other_once : {tokens : List Token} {n m i j k : ℕ} {ss ts : List Statement} → IsOther tokens n i j ss → NoElse tokens j → IsOther tokens m i k ts → NoElse tokens k →
@@ -739,14 +804,14 @@ mutual
   other_once (R.other_if e s) f (R.other_if e2 t) g = let same = statement_once s f t g in (same.0, A.next_statement A.no_statements same.1)
 
   otherwise_once : {tokens : List Token} {n m i j k : ℕ} {o p : Otherwise} → IsOtherwise tokens n i j o → IsOtherwise tokens m i k p → (j ≡ k) × AlikeOtherwise o p
-  otherwise_once {tokens} {m = m} {k = end} (R.block_else {j = a1} {o = o} s b x) (R.block_else {o = p} s2 b2 y) =
-      let b2' : IsBlock tokens m a1 end (out-Otherwise p).body.items = at (λ z. IsBlock tokens m z end (out-Otherwise p).body.items) (same_end s s2) b2 in
-      let same = block_once b b2' in
-      (same.0, A.otherwise {o = o} {p = p} (x ∙ sym y) same.1)
-  otherwise_once {tokens} (R.block_else {j = a1} {o = o} s b x) (R.leave_else {j = b1} {o = p} s2 l y) =
+  otherwise_once {tokens} {m = m} {k = end} (R.block_else {j = a1} {k = a2} {o = o} s b e x) (R.block_else {k = b2} {o = p} s2 c e2 y) =
+      let c' : IsBlock tokens m a1 b2 (out-Otherwise p).body.items = at (λ z. IsBlock tokens m z b2 (out-Otherwise p).body.items) (same_end s s2) c in
+      let same = block_once b c' in
+      (may_end_once e (at (λ z. MayEnd tokens z end) same.0 e2), A.otherwise {o = o} {p = p} (x ∙ sym y) same.1)
+  otherwise_once {tokens} (R.block_else {j = a1} {o = o} s b e x) (R.leave_else {j = b1} {o = p} s2 l y) =
       let there : starting (kind_at tokens a1) ≡ 1 = at (λ z. starting (kind_at tokens z) ≡ 1) (same_end s s2) (leaving_starts l) in
       absurd (omega (arith, there, ap starting (block_starts b)))
-  otherwise_once {tokens} (R.leave_else {j = a1} {o = o} s l x) (R.block_else {j = b1} {o = p} s2 b y) =
+  otherwise_once {tokens} (R.leave_else {j = a1} {o = o} s l x) (R.block_else {j = b1} {o = p} s2 b e y) =
       let there : kind_at tokens a1 ≡ K.LeftBrace = at (λ z. kind_at tokens z ≡ K.LeftBrace) (same_end s s2) (block_starts b) in
       absurd (omega (arith, leaving_starts l, ap starting there))
   otherwise_once {tokens} {k = end} (R.leave_else {j = a1} {o = o} s l x) (R.leave_else {o = p} s2 l2 y) =

@@ -99,6 +99,7 @@ mutual
         AlikeStatements body.items body'.items → AlikeStatementForm (S.Repeat e (Some most) body) (S.Repeat f (Some most') body')
     for_each : {child parent : Name} {place : Option Name} {most most' : Expression} (body body' : Vec Statement Global) → Alike most most' →
         AlikeStatements body.items body'.items → AlikeStatementForm (S.ForEach child place parent most body) (S.ForEach child place parent most' body')
+    block_alone : (body body' : Vec Statement Global) → AlikeStatements body.items body'.items → AlikeStatementForm (S.Block body) (S.Block body')
 
   pub data AlikeOtherwise : Otherwise → Otherwise → Type 0 where
     otherwise : {o p : Otherwise} → (out-Otherwise o).offset ≡ (out-Otherwise p).offset →
@@ -113,6 +114,7 @@ pub record AlikeProcedure (p q : Procedure) : Type 0 where
 
 pub data AlikeDeclaration : Declaration → Declaration → Type 0 where
   same_declaration : {d : Declaration} → AlikeDeclaration d d
+  constants : {n : Name} {e f : Expression} → Alike e f → AlikeDeclaration (D.Constant n e) (D.Constant n f)
   procedures : {p q : Procedure} → AlikeProcedure p q → AlikeDeclaration (D.Procedure p) (D.Procedure q)
 
 pub data AlikeDeclarations : List Declaration → List Declaration → Type 0 where

@@ -4,17 +4,13 @@ use Rattle.tl_syntax.specs.declared.token.Token.{Token}
 use Rattle.tl_syntax.specs.declared.token.TokenKind.{TokenKind}
 use Rattle.tl_syntax.specs.declared.token.TokenKind.TheVariants as K
 use Rattle.tl_syntax.specs.declared.parsed.Name.{Name}
+use Rattle.tl_syntax.specs.declared.parsed.Expression.{Expression}
 use Rattle.tl_syntax.specs.declared.parsed.Procedure.{Procedure}
 use Rattle.tl_syntax.specs.declared.parsed.Declaration.{Declaration}
 use Rattle.tl_syntax.specs.declared.parsed.Declaration.TheVariants as D
 use Rattle.tl_syntax.specs.declared.parser.TheConstants.{MAX_LEVELS}
-use Rattle.tl_syntax.specs.Grammar.{kind_at, offset_at, Stands, IsName, IsNumber, IsNegative}
+use Rattle.tl_syntax.specs.Grammar.{kind_at, offset_at, Stands, IsName, IsNumber, IsExpression, Disjunction}
 use Rattle.tl_syntax.specs.Statements.{IsBlock}
-
--- the number of a constant
-pub data IsConstant (tokens : List Token) : ℕ → ℕ → ℤ → Type 0 where
-  positive : {i j : ℕ} {n : ℤ} → IsNumber tokens i j n → IsConstant tokens i j n
-  negative : {i j k : ℕ} {n : ℤ} → Stands tokens K.Minus i j → IsNegative tokens j k n → IsConstant tokens i k n
 
 -- one or more names, separated by commas
 pub data AreNames (tokens : List Token) : ℕ → ℕ → List Name → Type 0 where
@@ -47,8 +43,8 @@ pub data IsDeclaration (tokens : List Token) : ℕ → ℕ → Declaration → T
   -- the offset is that of the number
   field : {i j k l m o offset : ℕ} {n : Name} {number : ℤ} → Stands tokens K.Field i j → IsName tokens j k n → Stands tokens K.Assign k l →
       IsNumber tokens l m number → Stands tokens K.Semicolon m o → offset ≡ offset_at tokens l → IsDeclaration tokens i o (D.Field n number offset)
-  constant : {i j k l m o : ℕ} {n : Name} {number : ℤ} → Stands tokens K.Const i j → IsName tokens j k n → Stands tokens K.Assign k l →
-      IsConstant tokens l m number → Stands tokens K.Semicolon m o → IsDeclaration tokens i o (D.Constant n number)
+  constant : {i j k l m o : ℕ} {n : Name} {value : Expression} → Stands tokens K.Const i j → IsName tokens j k n → Stands tokens K.Assign k l →
+      IsExpression tokens MAX_LEVELS Disjunction l m value → Stands tokens K.Semicolon m o → IsDeclaration tokens i o (D.Constant n value)
   procedures : {i j : ℕ} {p : Procedure} → IsProcedure tokens i j p → IsDeclaration tokens i j (D.Procedure p)
 
 pub data AreDeclarations (tokens : List Token) : ℕ → ℕ → List Declaration → Type 0 where

@@ -1,5 +1,6 @@
 -- The grammar of statements. Each rule says what the tokens from i up to but not including j denote.
-use Rattle.std.specs.Prelude.{◌≡◌, ℕ, suc, List, [], ◌∷◌, ◌++◌, Bool, true, false, Option, None, Some}
+use Rattle.std.specs.Prelude.{◌≡◌, ◌≢◌, ℕ, suc, List, [], ◌∷◌, ◌++◌, Bool, true, false, Option, None, Some}
+use Rattle.std.specs.declared.boxed.Box.{Box}
 use Rattle.std.specs.declared.vec.Vec.{Vec}
 use Rattle.std.specs.declared.alloc.Global.{Global}
 use Rattle.tl_syntax.specs.declared.token.Token.{Token}
@@ -41,6 +42,9 @@ word_of = K.Name (record { 0 = 3 })
 
 abbrev pub word_to : TokenKind
 word_to = K.Name (record { 0 = 4 })
+
+abbrev pub word_while : TokenKind
+word_while = K.Name (record { 0 = 6 })
 
 abbrev pub IsLeave : List Token → ℕ → ℕ → Leave → Type 0
 IsLeave tokens i j L.Break = Stands tokens K.Break i j
@@ -131,7 +135,31 @@ pub data IsLeaving (tokens : List Token) : ℕ → ℕ → List Statement → Ty
   leaving : {i j k : ℕ} {l : Leave} {s : Statement} → IsLeave tokens i j l → Stands tokens K.Semicolon j k → s.form ≡ S.Act (A.Leave l) None →
       s.offset ≡ offset_at tokens i → IsLeaving tokens i k (s ∷ [])
 
--- `levels` is the number of levels that may still be opened. A block opens one, and an `if` opens one for its condition and its blocks.
+-- the only statement, which begins at this offset
+pub data IsOnly (offset : ℕ) (form : StatementForm) : List Statement → Type 0 where
+  only : {s : Statement} → s.form ≡ form → s.offset ≡ offset → IsOnly offset form (s ∷ [])
+
+-- two statements, which both begin at this offset
+pub data AreTwo (offset : ℕ) (first second : StatementForm) : List Statement → Type 0 where
+  two : {s t : Statement} → s.form ≡ first → s.offset ≡ offset → t.form ≡ second → t.offset ≡ offset → AreTwo offset first second (s ∷ t ∷ [])
+
+-- in each turn the body, or a `break` if the condition doesn't hold
+pub data IsBoundedLoop (offset : ℕ) (condition most : Expression) (body : Vec Statement Global) : StatementForm → Type 0 where
+  bounded : (other turn : Vec Statement Global) → IsOnly offset (S.Act (A.Leave L.Break) None) other.items →
+      IsOnly offset (S.If (Q.Condition condition) body other) turn.items → IsBoundedLoop offset condition most body (S.Repeat most None turn)
+
+-- a statement that fails if the condition holds, which begins at i and ends at the word `at`
+pub data RequiresNot (tokens : List Token) (levels i offset : ℕ) : StatementForm → Type 0 where
+  requires_not : {j k : ℕ} {e : Expression} {a : Box Expression Global} → IsExpression tokens levels Disjunction i j a.value → Stands tokens word_at j k →
+      e.form ≡ F.Not a → e.offset ≡ offset → RequiresNot tokens levels i offset (S.Act (A.Require e) None)
+
+-- a semicolon, or nothing where no semicolon stands
+pub data MayEnd (tokens : List Token) : ℕ → ℕ → Type 0 where
+  no_semicolon : {i : ℕ} → kind_at tokens i ≢ K.Semicolon → MayEnd tokens i i
+  semicolon : {i j : ℕ} → Stands tokens K.Semicolon i j → MayEnd tokens i j
+
+-- `levels` is the number of levels that may still be opened. A block opens one, and an `if` or a `while` opens one for its condition and its
+-- blocks.
 mutual
   pub data IsBlock (tokens : List Token) : ℕ → ℕ → ℕ → List Statement → Type 0 where
     block : {levels i j k l : ℕ} {all : List Statement} → Stands tokens K.LeftBrace i j → AreStatements tokens levels j k all →
@@ -165,6 +193,12 @@ mutual
         Stands tokens word_each j k → Stands tokens K.Child k l → IsName tokens l m child → IsIndex tokens m n place → Stands tokens word_of n o →
         IsName tokens o p parent → Stands tokens word_at p q → Stands tokens word_most q r → IsCount tokens r s most → IsBlock tokens levels s t body.items →
         IsForm tokens levels i t (S.ForEach child place parent most body)
+    block_alone : {levels i j : ℕ} (body : Vec Statement Global) → IsBlock tokens levels i j body.items → IsForm tokens levels i j (S.Block body)
+    -- behind the loop the condition doesn't hold
+    while : {levels i j k l m n o : ℕ} {condition most : Expression} {repetition check : StatementForm} (body all : Vec Statement Global) → Stands tokens word_while i j →
+        IsExpression tokens levels Disjunction j k condition → Stands tokens word_at k l → Stands tokens word_most l m → IsCount tokens m n most →
+        IsBlock tokens levels n o body.items → IsBoundedLoop (offset_at tokens i) condition most body repetition →
+        RequiresNot tokens levels j (offset_at tokens i) check → AreTwo (offset_at tokens i) repetition check all.items → IsForm tokens (suc levels) i o (S.Block all)
 
   -- what follows the `else` of an `if`
   pub data IsOther (tokens : List Token) : ℕ → ℕ → ℕ → List Statement → Type 0 where
@@ -173,8 +207,8 @@ mutual
 
   -- the offset is that of the word `else`
   pub data IsOtherwise (tokens : List Token) : ℕ → ℕ → ℕ → Otherwise → Type 0 where
-    block_else : {levels i j k : ℕ} {o : Otherwise} → Stands tokens K.Else i j → IsBlock tokens levels j k (out-Otherwise o).body.items →
-        (out-Otherwise o).offset ≡ offset_at tokens i → IsOtherwise tokens levels i k o
+    block_else : {levels i j k l : ℕ} {o : Otherwise} → Stands tokens K.Else i j → IsBlock tokens levels j k (out-Otherwise o).body.items →
+        MayEnd tokens k l → (out-Otherwise o).offset ≡ offset_at tokens i → IsOtherwise tokens levels i l o
     leave_else : {levels i j k : ℕ} {o : Otherwise} → Stands tokens K.Else i j → IsLeaving tokens j k (out-Otherwise o).body.items →
         (out-Otherwise o).offset ≡ offset_at tokens i → IsOtherwise tokens levels i k o
 

@@ -2,7 +2,6 @@
 
 ghost use Rattle.std.specs.Prelude.{IfOk};
 ghost use Rattle.tl_syntax.specs.Declarations.{
-  IsConstant,
   AreNames,
   AreArguments,
   IsMark,
@@ -40,21 +39,9 @@ impl<'a> Parser<'a> {
         let at = self.skip(at, TokenKind::Const)?;
         let (name, at) = self.name(at)?;
         let at = self.skip(at, TokenKind::Assign)?;
-        let (number, at) = self.constant_number(at)?;
+        let (value, at) = self.expression(at, MAX_LEVELS)?;
         let at = self.skip(at, TokenKind::Semicolon)?;
-        Ok((Declaration::Constant { name, number }, at))
-    }
-
-    fn constant_number(&self, at: usize) -> Parsed<i32>
-        ensures { IfOk result (λ read. IsConstant self.now.tokens.now at read.1 read.0) }
-    {
-        let Some(next) = self.skip_if(at, TokenKind::Minus) else {
-            return self.number(at);
-        };
-        match self.negative(next)? {
-            Some((number, after)) => Ok((number, after)),
-            None => Err(self.misplaced(next)),
-        }
+        Ok((Declaration::Constant { name, value }, at))
     }
 
     // One name or more, with commas between them.

@@ -21,6 +21,21 @@ pub enum Wrong {
     /// 273: a token that can't stand here.
     #[error("this can't stand here")]
     Misplaced,
+    /// 273: a statement that doesn't end.
+    #[error("`;` is wanted here")]
+    NoSemicolon,
+    /// 273: no block where one is needed.
+    #[error("a block is wanted here, in braces")]
+    NoBlock,
+    /// 273: a parenthesis that isn't closed.
+    #[error("`)` is wanted here")]
+    Unclosed,
+    /// 273: a `try` without an `else`.
+    #[error("`else` is wanted here: what is done where the block before it fails")]
+    NoElse,
+    /// 273: a loop without a bound.
+    #[error("`at most` is wanted here, with the most turns of the loop")]
+    NoBound,
     /// 274: more than 64 nested levels.
     #[error("more than 64 levels in one another")]
     TooDeep,
@@ -103,7 +118,12 @@ impl Wrong {
             Wrong::Character => 270,
             Wrong::Number => 271,
             Wrong::LongName => 272,
-            Wrong::Misplaced => 273,
+            Wrong::Misplaced
+            | Wrong::NoSemicolon
+            | Wrong::NoBlock
+            | Wrong::Unclosed
+            | Wrong::NoElse
+            | Wrong::NoBound => 273,
             Wrong::TooDeep => 274,
             Wrong::Unknown => 275,
             Wrong::Twice => 276,

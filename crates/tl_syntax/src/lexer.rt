@@ -98,6 +98,7 @@ impl<'a> Lexed<'a> {
         names.insert(b"of".as_slice())?;
         names.insert(b"to".as_slice())?;
         names.insert(b"atomic".as_slice())?;
+        names.insert(b"while".as_slice())?;
         Ok(Lexed {
             tokens: Vec::new(alloc),
             names,

@@ -163,6 +163,8 @@ pub enum StatementForm {
         at_most: Expression,
         body: Vec<Statement>,
     },
+    /// A block of its own.
+    Block(Vec<Statement>),
 }
 
 /// A procedure. One that is marked by `atomic` promises that it has written nothing where it fails.
@@ -185,7 +187,7 @@ pub enum Declaration {
     },
     Constant {
         name: Name,
-        number: i32,
+        value: Expression,
     },
     Procedure(Procedure),
 }

@@ -57,6 +57,19 @@ impl<'a> Parser<'a> {
         SyntaxFault::at(Wrong::Misplaced, self.offset(at))
     }
 
+    // 273 at the token: another one of that kind is wanted.
+    fn wanted(&self, at: usize, kind: TokenKind) -> SyntaxFault {
+        let wrong = match kind {
+            TokenKind::Semicolon => Wrong::NoSemicolon,
+            TokenKind::LeftBrace => Wrong::NoBlock,
+            TokenKind::RightParenthesis => Wrong::Unclosed,
+            TokenKind::Else => Wrong::NoElse,
+            TokenKind::Name(word) if word == Symbol::AT || word == Symbol::MOST => Wrong::NoBound,
+            _ => Wrong::Misplaced,
+        };
+        SyntaxFault::at(wrong, self.offset(at))
+    }
+
     /// The index after the token, if the token is of that kind.
     pub fn skip_if(&self, at: usize, kind: TokenKind) -> Option<usize>
         ensures { IfSome result (λ next. Stands self.now.tokens.now kind at next) }
@@ -77,7 +90,7 @@ impl<'a> Parser<'a> {
     {
         match self.skip_if(at, kind) {
             Some(next) => Ok(next),
-            None => Err(self.misplaced(at)),
+            None => Err(self.wanted(at, kind)),
         }
     }
 

@@ -21,10 +21,14 @@ ghost use Rattle.tl_syntax.specs.Statements.{
   IsForm,
   IsTail,
   IsLeaving,
+  IsOnly,
+  IsBoundedLoop,
+  RequiresNot,
+  MayEnd,
   IsOther,
 };
 
-use crate::fault::SyntaxFault;
+use crate::fault::{SyntaxFault, Wrong};
 use crate::parsed::{
     Action, Change, Child, Expression, Form, Leave, Name, Otherwise, Place, Question, Statement,
     StatementForm, Write,
@@ -261,6 +265,15 @@ impl<'a> Parser<'a> {
         }
     }
 
+    // A statement alone.
+    fn only(&self, offset: usize, form: StatementForm) -> Result<Vec<Statement>, SyntaxFault>
+        ensures { IfOk result (λ all. IsOnly offset form all.items) }
+    {
+        let mut all = Vec::new(self.alloc);
+        all.push(Statement { offset, form })?;
+        Ok(all)
+    }
+
     // `break;`, `return;` or `fail;` as the only statement of an `else`.
     fn leaving(&self, at: usize) -> Parsed<Vec<Statement>>
         ensures { IfOk result (λ read. IsLeaving self.now.tokens.now at read.1 read.0.items) }
@@ -269,12 +282,8 @@ impl<'a> Parser<'a> {
             return Err(self.misplaced(at));
         };
         let after = self.skip(next, TokenKind::Semicolon)?;
-        let mut body = Vec::new(self.alloc);
-        body.push(Statement {
-            offset: self.offset(at),
-            form: StatementForm::Act(Action::Leave(leave), None),
-        })?;
-        Ok((body, after))
+        let form = StatementForm::Act(Action::Leave(leave), None);
+        Ok((self.only(self.offset(at), form)?, after))
     }
 
     /// A block, which opens a level.
@@ -314,8 +323,25 @@ impl<'a> Parser<'a> {
             TokenKind::If => self.choice(at, levels),
             TokenKind::Repeat => self.repetition(at, levels),
             TokenKind::For => self.visit(at, levels),
+            TokenKind::LeftBrace => {
+                let (body, after) = self.block(at, levels)?;
+                Ok((StatementForm::Block(body), after))
+            }
+            _ if self.begins_while(at) => self.conditional_loop(at, levels),
             _ => self.act(at, levels),
         }
+    }
+
+    // Whether the word `while` stands here and is no name that is assigned or written.
+    fn begins_while(&self, at: usize) -> bool {
+        self.kind(at) == TokenKind::Name(Symbol::WHILE)
+            && !matches!(
+                self.kind(self.behind(at)),
+                TokenKind::Assign
+                    | TokenKind::AddAssign
+                    | TokenKind::SubtractAssign
+                    | TokenKind::Dot
+            )
     }
 
     #[cycle(statements)]
@@ -339,10 +365,14 @@ impl<'a> Parser<'a> {
         if let Some(next) = self.skip_if(at, TokenKind::Semicolon) {
             return Ok((None, next));
         }
+        if self.kind(at) != TokenKind::Else {
+            return Err(SyntaxFault::at(Wrong::NoSemicolon, self.offset(at)));
+        }
         let next = self.skip(at, TokenKind::Else)?;
         let offset = self.offset(at);
         if self.kind(next) == TokenKind::LeftBrace {
             let (body, after) = self.block(next, levels)?;
+            let after = self.may_end(after);
             return Ok((Some(Otherwise { offset, body }), after));
         }
         let (body, after) = self.leaving(next)?;
@@ -396,11 +426,19 @@ impl<'a> Parser<'a> {
         if self.kind(at) == TokenKind::If {
             let offset = self.offset(at);
             let (form, after) = self.choice(at, levels)?;
-            let mut otherwise = Vec::new(self.alloc);
-            otherwise.push(Statement { offset, form })?;
-            return Ok((otherwise, after));
+            return Ok((self.only(offset, form)?, after));
         }
         self.block(at, levels)
+    }
+
+    // The index after a semicolon, if one stands there.
+    fn may_end(&self, at: usize) -> usize
+        ensures { MayEnd self.now.tokens.now at result }
+    {
+        match self.kind(at) {
+            TokenKind::Semicolon => self.behind(at),
+            _ => at,
+        }
     }
 
     // A number or the name of a constant.
@@ -442,6 +480,67 @@ impl<'a> Parser<'a> {
             body,
         };
         Ok((form, after))
+    }
+
+    // A loop that turns as long as the condition holds, as often as the count says at most.
+    fn bounded_loop(
+        &self,
+        offset: usize,
+        condition: Expression,
+        count: Expression,
+        body: Vec<Statement>,
+    ) -> Result<StatementForm, SyntaxFault>
+        ensures { IfOk result (IsBoundedLoop offset condition count body) }
+    {
+        let leave = StatementForm::Act(Action::Leave(Leave::Break), None);
+        let otherwise = self.only(offset, leave)?;
+        let choice = StatementForm::If(Question::Condition(condition), body, otherwise);
+        let turn = self.only(offset, choice)?;
+        Ok(StatementForm::Repeat {
+            turns: count,
+            at_most: None,
+            body: turn,
+        })
+    }
+
+    // A statement that fails if the condition that begins here holds. The word `at` follows the condition.
+    fn requires_not(
+        &self,
+        at: usize,
+        levels: u32,
+        offset: usize,
+    ) -> Result<StatementForm, SyntaxFault>
+        ensures { IfOk result (RequiresNot self.now.tokens.now levels at offset) }
+    {
+        let (condition, at) = self.expression(at, levels)?;
+        let _behind = self.skip_word(at, Symbol::AT)?;
+        let boxed = Box::new(self.alloc, condition)?;
+        let form = Form::Not(boxed);
+        let negation = Expression { offset, form };
+        Ok(StatementForm::Act(Action::Require(negation), None))
+    }
+
+    // A `while`, which opens a level: a block of the loop, and of a statement that fails if the condition holds behind it.
+    #[cycle(statements)]
+    fn conditional_loop(&self, at: usize, levels: u32) -> Parsed<StatementForm>
+        ensures { IfOk result (λ read. IsForm self.now.tokens.now levels at read.1 read.0) }
+    {
+        let offset = self.offset(at);
+        let levels = self.open(at, levels)?;
+        let start = self.skip_word(at, Symbol::WHILE)?;
+        let (condition, at) = self.expression(start, levels)?;
+        let at = self.skip_word(at, Symbol::AT)?;
+        let at = self.skip_word(at, Symbol::MOST)?;
+        let (count, at) = self.count(at)?;
+        let (body, after) = self.block(at, levels)?;
+        let repetition = self.bounded_loop(offset, condition, count, body)?;
+        let check = self.requires_not(start, levels, offset)?;
+        let mut all = self.only(offset, repetition)?;
+        all.push(Statement {
+            offset,
+            form: check,
+        })?;
+        Ok((StatementForm::Block(all), after))
     }
 
     // The name of a child's place, in parentheses, if it has one.

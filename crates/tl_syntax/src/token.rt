@@ -17,6 +17,8 @@ impl Symbol {
     pub const TO: Symbol = Symbol(4);
 
     pub const ATOMIC: Symbol = Symbol(5);
+
+    pub const WHILE: Symbol = Symbol(6);
 }
 
 /// The kind of a token. The reserved words come first.

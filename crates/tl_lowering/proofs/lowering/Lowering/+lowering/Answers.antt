@@ -11,7 +11,7 @@ use Rattle.tl_lowering.specs.Scopes.{View, view_of, IsAt, IsLowered}
 use Rattle.tl_lowering.specs.Sound.{IsWellFormed}
 use Rattle.tl_lowering.proofs.BeyondLemmas.{turns_begin, block_is_no_break, block_is_no_walk}
 use Rattle.tl_lowering.proofs.BodyLemmas.{on_ok, then_flow, same_draft, same_behind, back, loop_back, at_known}
-use Rattle.tl_lowering.proofs.DepthLemmas.{falls_in_try, falls_in_handler, falls_in_first, falls_in_second, falls_in_visit}
+use Rattle.tl_lowering.proofs.DepthLemmas.{falls_in_try, falls_in_handler, falls_in_first, falls_in_second, falls_in_visit, falls_in_block}
 use Rattle.tl_lowering.proofs.DraftLemmas.{none_read, none_behind, extended_paths, extended_draft, opened_paths, opened_draft, block_lowered}
 use Rattle.tl_lowering.proofs.LoweringLemmas.{at_exactly, at_behind, at_handler, extends_self}
 use Rattle.std.proofs.lemmas.List.{take_all}
@@ -24,7 +24,7 @@ use Rattle.tl_syntax.specs.declared.parsed.Expression.{Expression as TextExpress
 use Rattle.tl_syntax.specs.declared.parsed.StatementForm.TheVariants as T
 use Rattle.tl_lowering.specs.Choosing.{IsRepeated}
 use Rattle.tl_lowering.specs.Drafts.{no_else, one_else}
-use Rattle.tl_lowering.specs.Reading.{IsBlock, act}
+use Rattle.tl_lowering.specs.Reading.{IsBlock, act, block_alone}
 use Rattle.tl_lowering.proofs.PathLemmas.{ok_more}
 use Rattle.tl_lowering.proofs.PartLemmas.{none_part, more_part, whole_part, plain_extended, opened_extended, opens_at, tried_statement, handled_statement, chosen_statement, repeated_statement, visited_statement, forms_of, loop_at, block_at}
 use Rattle.tl_lowering.proofs.lowering.Lowering.+lowering.Goals as goal
@@ -183,6 +183,10 @@ statement-turns-requires-in-ForEach t c =
       (c.requires, (c.in_ok-repetition-in-ForEach.ensures.repetition, (c.in_ok-repetition-in-ForEach.ensures.depth, c.in_ok-repetition-in-ForEach.ensures.fresh))),
     )
 
+pub statement-block-requires-in-Block : goal.statement-block-requires-in-Block
+statement-block-requires-in-Block t c =
+    (falls_in_block t 1 c.args.form.now c.in-Block.body c.deref-in-Block.result.now c.decreases c.deref-in-Block.ensures.value (omega arith) c.in-Block.is, c.requires)
+
 pub turns-repeated-requires-clause-at : goal.turns-repeated-requires-clause-at
 turns-repeated-requires-clause-at t c =
     let mark = c.mark-mark.ensures in
@@ -273,6 +277,10 @@ statement-returns-in_ok-repetition-in-ForEach-clause-named t c =
     rw c.in-ForEach.is
     (ok_more c.turns-in-ForEach.result _ _ c.turns-in-ForEach.ensures.named
     (λ l h plain. visited_statement c.in-ForEach.body c.in_ok-repetition-in-ForEach.ensures.named (loop_at c.deref-in-ForEach.ensures.value h)))
+
+pub statement-returns-in-Block-clause-named : goal.statement-returns-in-Block-clause-named
+statement-returns-in-Block-clause-named t c =
+    rw c.in-Block.is (ok_more c.block-in-Block.result _ _ c.block-in-Block.ensures.named (λ l h plain. block_alone c.in-Block.body (block_at refl c.deref-in-Block.ensures.value h)))
 
 pub statement-returns-in-None-clause-named : goal.statement-returns-in-None-clause-named
 statement-returns-in-None-clause-named t c =

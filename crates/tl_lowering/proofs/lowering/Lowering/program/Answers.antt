@@ -10,7 +10,7 @@ use Rattle.tl_lowering.specs.Names.{names_of, with_constant}
 use Rattle.tl_lowering.specs.Reading.{IsWithField, AreDeclared}
 use Rattle.tl_lowering.specs.Sound.{IsInOrder}
 use Rattle.tl_lowering.proofs.TextLemmas.{field_more, constant_more, procedure_more, all_so_far}
-use Rattle.tl_lowering.proofs.lowering.Lowering.program.Goals.{in-Field+in_ok-declare_field-in-Field, in-Constant+in_ok-check_new-in-Constant, in-Procedure+in_ok-procedure-in-Procedure+in_ok-push-in-Procedure}
+use Rattle.tl_lowering.proofs.lowering.Lowering.program.Goals.{in-Field+in_ok-declare_field-in-Field, in-Constant+in_ok-check_new-in-Constant+in_ok-number-in-Constant, in-Procedure+in_ok-procedure-in-Procedure+in_ok-push-in-Procedure}
 use Rattle.tl_lowering.proofs.lowering.Lowering.program.Goals as goal
 
 pub loop-declaration-preserved : goal.loop-declaration-preserved
@@ -29,11 +29,9 @@ loop-declaration-preserved c =
             bare = w.in_ok-declare_field-in-Field.ensures.bare;
             procedures = so_far.procedures;
           })
-      | in-Constant+in_ok-check_new-in-Constant w ↦
-          let same : to_z w32 (of_z w32 w.in-Constant.number) ≡ w.in-Constant.number = search rules in
-          let constant = subst (λ n. names_of w.declare_constant.new.self ≡ with_constant (names_of c.loop-declaration.self.scope) w.in-Constant.name n) same w.declare_constant.ensures.named in
+      | in-Constant+in_ok-check_new-in-Constant+in_ok-number-in-Constant w ↦
           rw (w.self-is, w.procedures-is) (record {
-            named = constant_more (names_of w.declare_constant.new.self) ps xs i x (omega arith) c.declaration-item.is so_far.named w.in-Constant.is w.in_ok-check_new-in-Constant.ensures constant;
+            named = constant_more (names_of w.declare_constant.new.self) ps xs i x (omega arith) c.declaration-item.is so_far.named w.in-Constant.is w.in_ok-check_new-in-Constant.ensures w.in_ok-number-in-Constant.ensures w.declare_constant.ensures.named;
             bare = record {
               names = w.declare_constant.ensures.in_use so_far.bare.names;
               values = w.declare_constant.ensures.values ∙ so_far.bare.values;

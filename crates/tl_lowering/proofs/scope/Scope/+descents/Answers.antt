@@ -5,7 +5,7 @@ use Rattle.tl_lowering.specs.Paths.{bits}
 use Rattle.tl_lowering.specs.Sets.{holds}
 use Rattle.tl_lowering.specs.Scopes.{view_of}
 use Rattle.tl_lowering.proofs.BitLemmas.{no_bit, either_bits}
-use Rattle.tl_lowering.proofs.DescendLemmas.{HasDescended, none_descended, one_descended, all_descended, says_block, try_descending, if_descending, repeat_descending, each_descending, act_descending, some_descending, none_descending, nothing_left}
+use Rattle.tl_lowering.proofs.DescendLemmas.{HasDescended, none_descended, one_descended, all_descended, says_block, try_descending, if_descending, repeat_descending, each_descending, block_descending, act_descending, some_descending, none_descending, nothing_left}
 use Rattle.tl_lowering.proofs.scope.Scope.+descents.Goals as goal
 
 pub descended_else-returns-in-Some : goal.descended_else-returns-in-Some
@@ -64,6 +64,14 @@ descended_in-returns-in-ForEach t c = record {
   nodes = λ names n b k lt is.
       each_descending n lt k c.in-ForEach.child c.in-ForEach.index c.in-ForEach.parent c.in-ForEach.at_most c.in-ForEach.body c.in-ForEach.is
       (says_block (bits c.descended-in-ForEach.result) n lt c.deref-in-ForEach.ensures.value (λ m parts i k lt are. c.descended-in-ForEach.ensures.nodes m parts i k lt are)) is;
+}
+
+pub descended_in-returns-in-Block : goal.descended_in-returns-in-Block
+descended_in-returns-in-Block t c = record {
+  beyond = λ known n le. c.descended-in-Block.ensures.beyond known n le;
+  nodes = λ names n b k lt is.
+      block_descending n k c.in-Block.body c.in-Block.is
+      (says_block (bits c.descended-in-Block.result) n lt c.deref-in-Block.ensures.value (λ m parts i k lt are. c.descended-in-Block.ensures.nodes m parts i k lt are)) is;
 }
 
 pub descended-loop-statement-init : goal.descended-loop-statement-init

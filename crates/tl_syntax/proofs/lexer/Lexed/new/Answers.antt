@@ -24,7 +24,10 @@ returns-clause-names c =
     let now6 : c.as_slice-6.result.now ≡ codes "atomic" = search rules in
     let with6 : spellings c.insert-6.new.self.keys ≡ codes "at" ∷ codes "each" ∷ codes "most" ∷ codes "of" ∷ codes "to" ∷ codes "atomic" ∷ [] =
     inserted_last c.insert-5.new.self.keys c.insert-6.new.self.keys c.as_slice-6.result (codes "atomic") (codes "at" ∷ codes "each" ∷ codes "most" ∷ codes "of" ∷ codes "to" ∷ []) with5 now6 refl c.in_ok-insert-6.ensures.keys in
-    with6
+    let now7 : c.as_slice-7.result.now ≡ codes "while" = search rules in
+    let with7 : spellings c.insert-7.new.self.keys ≡ codes "at" ∷ codes "each" ∷ codes "most" ∷ codes "of" ∷ codes "to" ∷ codes "atomic" ∷ codes "while" ∷ [] =
+    inserted_last c.insert-6.new.self.keys c.insert-7.new.self.keys c.as_slice-7.result (codes "while") (codes "at" ∷ codes "each" ∷ codes "most" ∷ codes "of" ∷ codes "to" ∷ codes "atomic" ∷ []) with6 now7 refl c.in_ok-insert-7.ensures.keys in
+    with7
 
 pub returns-clause-distinct : goal.returns-clause-distinct
-returns-clause-distinct c = distinct_spellings c.insert-6.new.self.keys c.in_ok-insert-6.ensures.unique
+returns-clause-distinct c = distinct_spellings c.insert-7.new.self.keys c.in_ok-insert-7.ensures.unique

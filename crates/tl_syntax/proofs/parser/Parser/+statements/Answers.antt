@@ -1,10 +1,10 @@
 use Rattle.std.proofs.Common.{rules, sym, ◌∙◌}
 use Rattle.std.proofs.lemmas.Result.{IfOk-weaker}
 use Rattle.tl_syntax.specs.declared.token.TokenKind.TheVariants as K
-use Rattle.tl_syntax.specs.Statements.{IsBlock, IsOther, block, statement, act, try, if, if_else, repeat, repeat_at_most, for_each, other_block}
+use Rattle.tl_syntax.specs.Statements.{IsBlock, IsOther, block, statement, act, try, if, if_else, repeat, repeat_at_most, for_each, block_alone, while, other_block}
 use Rattle.tl_syntax.specs.declared.parsed.Otherwise.{Otherwise, roll-Otherwise, out-roll-Otherwise}
 use Rattle.tl_syntax.proofs.KindLemmas.{same_kind}
-use Rattle.tl_syntax.proofs.StatementLemmas.{no_statements, next_statement, act_tail, other_pushed, tail_block, tail_leaving}
+use Rattle.tl_syntax.proofs.StatementLemmas.{no_statements, next_statement, act_tail, other_only, two_pushed, tail_block, tail_leaving}
 use Rattle.tl_syntax.proofs.parser.Parser.+statements.Goals as goal
 
 pub attempt-returns : goal.attempt-returns
@@ -43,7 +43,7 @@ block-returns-in-Some t c = rw c.loop.invariant.room (block c.loop.invariant.beg
 
 pub other-returns-then-eq : goal.other-returns-then-eq
 other-returns-then-eq t c =
-    other_pushed c.in_ok-push.ensures.items (search rules) (sym c.kind.ensures ∙ same_kind c.kind.result K.If (sym c.eq.ensures ∙ c.if-eq.true))
+    other_only c.in_ok-only.ensures (sym c.kind.ensures ∙ same_kind c.kind.result K.If (sym c.eq.ensures ∙ c.if-eq.true))
     c.in_ok-form.ensures c.offset-offset.ensures
 
 pub other-returns : goal.other-returns
@@ -54,7 +54,7 @@ other-returns t c =
 pub tail-returns-then-eq : goal.tail-returns-then-eq
 tail-returns-then-eq t c =
     let o : Otherwise = roll-Otherwise (record { offset = c.offset-offset.result; body = c.in_ok-body.body }) in
-    tail_block o c.in_ok-body.body (rw out-roll-Otherwise) (rw out-roll-Otherwise) c.in_ok-next.ensures c.in_ok-body.ensures c.offset-offset.ensures
+    tail_block o c.in_ok-body.body (rw out-roll-Otherwise) (rw out-roll-Otherwise) c.in_ok-next.ensures c.in_ok-body.ensures c.may_end.ensures c.offset-offset.ensures
 
 pub tail-returns : goal.tail-returns
 tail-returns t c =
@@ -66,3 +66,13 @@ act-returns-then-may_have_else t c = act_tail c.in_ok-otherwise.otherwise c.in_o
 
 pub act-returns : goal.act-returns
 act-returns t c = act c.in_ok-action.ensures c.in_ok-at.ensures
+
+pub form-returns-in_ok-body-in-LeftBrace : goal.form-returns-in_ok-body-in-LeftBrace
+form-returns-in_ok-body-in-LeftBrace t c = block_alone c.in_ok-body-in-LeftBrace.body c.in_ok-body-in-LeftBrace.ensures
+
+pub conditional_loop-returns : goal.conditional_loop-returns
+conditional_loop-returns t c =
+    rw c.in_ok-levels.ensures
+    (while c.in_ok-body.body c.push.new.self c.in_ok-start.ensures c.in_ok-condition.ensures c.in_ok-at.ensures c.in_ok-at-2.ensures c.in_ok-count.ensures c.in_ok-body.ensures
+    (rw c.offset-offset.ensures at c.in_ok-repetition.ensures) (rw c.offset-offset.ensures at c.in_ok-check.ensures)
+    (two_pushed c.in_ok-push.ensures.items c.in_ok-all.ensures refl c.offset-offset.ensures refl))

@@ -41,3 +41,6 @@ decreases-act l = 10 * l.levels + 7
 
 abbrev pub decreases-other : goal.decreases-other
 decreases-other l = 10 * l.levels + 6
+
+abbrev pub decreases-conditional_loop : goal.decreases-conditional_loop
+decreases-conditional_loop l = 10 * l.levels + 5
