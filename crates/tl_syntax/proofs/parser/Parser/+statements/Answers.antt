@@ -1,4 +1,4 @@
-use Rattle.std.proofs.Common.{rules, sym, ◌∙◌}
+use Rattle.std.proofs.Common.{rules, refl, sym, ◌∙◌}
 use Rattle.std.proofs.lemmas.Result.{IfOk-weaker}
 use Rattle.tl_syntax.specs.declared.token.TokenKind.TheVariants as K
 use Rattle.tl_syntax.specs.Statements.{IsBlock, IsOther, block, statement, act, try, if, if_else, repeat, repeat_at_most, for_each, block_alone, while, other_block}
@@ -54,7 +54,7 @@ other-returns t c =
 pub tail-returns-then-eq : goal.tail-returns-then-eq
 tail-returns-then-eq t c =
     let o : Otherwise = roll-Otherwise (record { offset = c.offset-offset.result; body = c.in_ok-body.body }) in
-    tail_block o c.in_ok-body.body (rw out-roll-Otherwise) (rw out-roll-Otherwise) c.in_ok-next.ensures c.in_ok-body.ensures c.may_end.ensures c.offset-offset.ensures
+    tail_block o c.in_ok-body.body (rw out-roll-Otherwise) (rw out-roll-Otherwise) c.in_ok-next.ensures c.in_ok-body.ensures c.may_end-after.ensures c.offset-offset.ensures
 
 pub tail-returns : goal.tail-returns
 tail-returns t c =
