@@ -30,8 +30,11 @@ loop-declaration-preserved c =
             procedures = so_far.procedures;
           })
       | in-Constant+in_ok-check_new-in-Constant+in_ok-number-in-Constant w ↦
+          let number = w.in_ok-number-in-Constant.number in
+          let same : to_z w32 (of_z w32 number) ≡ number = search rules in
+          let constant = subst (λ n. names_of w.declare_constant.new.self ≡ with_constant (names_of c.loop-declaration.self.scope) w.in-Constant.name n) same w.declare_constant.ensures.named in
           rw (w.self-is, w.procedures-is) (record {
-            named = constant_more (names_of w.declare_constant.new.self) ps xs i x (omega arith) c.declaration-item.is so_far.named w.in-Constant.is w.in_ok-check_new-in-Constant.ensures w.in_ok-number-in-Constant.ensures w.declare_constant.ensures.named;
+            named = constant_more (names_of w.declare_constant.new.self) ps xs i x (omega arith) c.declaration-item.is so_far.named w.in-Constant.is w.in_ok-check_new-in-Constant.ensures w.in_ok-number-in-Constant.ensures constant;
             bare = record {
               names = w.declare_constant.ensures.in_use so_far.bare.names;
               values = w.declare_constant.ensures.values ∙ so_far.bare.values;

@@ -15,10 +15,17 @@ returns-in-Named t c = rw c.in-Named.is c.known_constant.ensures
 
 pub returns-in_ok-operand-in-Negated : goal.returns-in_ok-operand-in-Negated
 returns-in_ok-operand-in-Negated t c =
-    rw c.in-Negated.is (ok_more c.folded.result _ _ c.folded.ensures (λ n h. opposed (constant_at c.deref.ensures c.in_ok-operand-in-Negated.ensures) h))
+    let operand = c.in_ok-operand-in-Negated.operand in
+    let same : to_z w32 (of_z w32 operand) ≡ operand = search rules in
+    rw c.in-Negated.is (ok_more c.folded.result _ _ c.folded.ensures (λ n h. opposed (constant_at c.deref.ensures c.in_ok-operand-in-Negated.ensures) (rw same at h)))
 
 pub returns-in_ok-right-in-Calculated : goal.returns-in_ok-right-in-Calculated
 returns-in_ok-right-in-Calculated t c =
+    let left = c.in_ok-left-in-Calculated.left in
+    let right = c.in_ok-right-in-Calculated.right in
+    let same_left : to_z w32 (of_z w32 left) ≡ left = search rules in
+    let same_right : to_z w32 (of_z w32 right) ≡ right = search rules in
     rw c.in-Calculated.is
     (ok_more c.folded-in-Calculated.result _ _ c.folded-in-Calculated.ensures
-    (λ n h. combined (constant_at c.deref-in-Calculated.ensures c.in_ok-left-in-Calculated.ensures) (constant_at c.deref-in-Calculated-2.ensures c.in_ok-right-in-Calculated.ensures) h))
+    (λ n h. combined (constant_at c.deref-in-Calculated.ensures c.in_ok-left-in-Calculated.ensures) (constant_at c.deref-in-Calculated-2.ensures c.in_ok-right-in-Calculated.ensures)
+    (rw (same_left, same_right) at h)))
