@@ -32,8 +32,9 @@ fn settle<K: Sink>(reader: &Reader, outbox: &mut Outbox, sink: &mut K)
 /// to the sink, in order. Returns how many lines were answered.
 ///
 /// An answer is a line of JSON: `{"bounds":{"emits":e,"locks":l,"steps":s}}` for a procedure that was registered,
-/// `{"call":c,"reply":[..]}` for a call, `{"batch":[..]}` for many calls, with the result of each, `{"closed":true}`, and
-/// `{"error":[numbers]}` for a line that is no request, or for a refusal. If memory is refused while a line is read, its
+/// `{"call":c,"reply":[..]}` for a call, with its epoch from the second one on, `{"batch":[..]}` for many calls, with the
+/// result of each, `{"sealed":e}`, `{"grown":n}`, `{"closed":true}`, and `{"error":[numbers]}` for a line that is no
+/// request, or for a refusal. If memory is refused while a line is read, its
 /// answer is `{"error":[990]}`, nothing was done, and the next line is read. Answers take no memory.
 ///
 /// 911 if the source fails: each line that was read whole was answered. 912 if the sink fails: it has a beginning of the

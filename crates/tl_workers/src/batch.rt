@@ -57,10 +57,10 @@ struct Batch<'a, R, G> {
 }
 
 impl Engine {
-    /// Runs the requests on at most `workers` threads, one of which is the caller's, and answers each: its receipt, or why it was
+    /// Runs the requests on the caller's thread, which asks for `workers` less one to help, and answers each: its receipt, or why it was
     /// refused. They are admitted in their order. If 64 calls are open, a request waits until a call of the batch has
     /// ended, and is refused with 604 only if none of the batch's calls is unfinished. The other threads help only while that pays, or
-    /// while the caller's thread is held up: they are of the engine's crew, if that has members, and are started otherwise. If a thread can't be started, the batch runs with fewer. 990 if there is no memory for the answers and for what the session keeps; then nothing was admitted.
+    /// while the caller's thread is held up: they are of the engine's crew, if that has members, which helps with all batches under way, and are started otherwise. If a thread can't be started, the batch runs with fewer. 990 if there is no memory for the answers and for what the session keeps; then nothing was admitted.
     pub fn batch<R: Threads + Wait + Sync, G: Gate + Sync>(
         &self,
         rt: &R,
