@@ -7,7 +7,7 @@ use std::time::Duration;
 use super::verifier::Bounds;
 
 /// From so many instructions a turn on, another worker is a gain.
-const MANY: u64 = 400;
+const MANY: u64 = 500;
 
 /// After this time in which no call of the batch was taken, another worker helps in any case.
 const PATIENCE: Duration = Duration::from_micros(200);

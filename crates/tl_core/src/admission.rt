@@ -10,7 +10,9 @@ use crate::call::{Call, OpenCall, Progress, begin};
 use crate::fault::CoreFault;
 use crate::interleaving::{Core, MAX_OPEN};
 use std::alloc::Global;
+use std::sync::Arc;
 use tl_history::MAX_CALLS;
+use tl_machine::copied;
 use tl_procedures::NamingFault;
 use tl_tree_locking::Event;
 use tl_verify::Proc;
@@ -40,8 +42,8 @@ impl Core {
         ensures err { OnErr result (self.new ≡ self.old) }
     {
         let (procedure, places) = self.place_for(name, args)?;
-        let proc = self.procedures.get(procedure);
-        let (args, turn) = begin(proc, self.opening.shape(), args)?;
+        let proc = Arc::try_clone(self.procedures.get(procedure))?;
+        let shape = Arc::try_clone(self.opening.shape())?;
         let call = self.calls.len();
         self.calls.reserve(1)?;
         let Ok(()) = self.history.reserve(alloc, places) else {
@@ -51,13 +53,13 @@ impl Core {
         let slot = self.slots.len();
         self.calls.push_reserved(Call {
             procedure,
-            args,
+            args: copied(args),
             progress: Progress::Open { slot },
         });
         self.slots.push_reserved(OpenCall {
             call: call as u32,
             places: places - 1,
-            turn,
+            turn: begin(proc, shape, args),
         });
         Ok(call as u32)
     }

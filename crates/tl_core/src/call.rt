@@ -1,16 +1,14 @@
 // What a core keeps of a call.
 
-ghost use Rattle.std.specs.Prelude.{◌≡◌, length, IfOk, IfErr, option_copied};
+ghost use Rattle.std.specs.Prelude.{◌≡◌, length, option_copied};
 ghost use Rattle.std.specs.Arc.{arc_value};
 ghost use Rattle.tl_core.specs.Begun.{Begins};
-ghost use Rattle.tl_core.specs.declared.fault.CoreFault.TheVariants as fault;
 ghost use Rattle.tl_core.specs.Stored.{slot_of, reply_in};
 
-use crate::fault::CoreFault;
 use arrayvec::ArrayVec;
 use std::sync::Arc;
 use tl_instr::MAX_ARGS;
-use tl_machine::{Reply, Turn, copied};
+use tl_machine::{Reply, Turn};
 use tl_tree::Shape;
 use tl_verify::Proc;
 
@@ -65,21 +63,15 @@ impl Call {
     }
 }
 
-// The arguments as a core keeps them, and the turn of a call at its start. 690 if memory is refused.
-pub(crate) fn begin(
-    proc: &Arc<Proc>,
-    shape: &Arc<Shape>,
-    args: &[i64],
-) -> Result<(ArrayVec<i64, MAX_ARGS>, Turn), CoreFault>
-    requires { length args.now ≡ (arc_value proc.now).arity }
-    ensures begins { IfOk result (λ r. Begins (arc_value proc.now) (arc_value shape.now) args.now r.0.items r.1) }
-    ensures err { IfErr result (λ e. e ≡ fault.Memory) }
+// The turn of a call at its start. It is built where it will be kept: a turn is large, and each move would copy it.
+#[inline(always)]
+pub(crate) fn begin(procedure: Arc<Proc>, shape: Arc<Shape>, args: &[i64]) -> Turn
+    requires { length args.now ≡ (arc_value procedure).arity }
+    ensures { Begins (arc_value procedure) (arc_value shape) args.now args.now result }
 {
     // The code was accepted, so it takes at most eight arguments.
-    let _fact = proc.code().arity();
-    let proc = Arc::try_clone(proc)?;
-    let shape = Arc::try_clone(shape)?;
-    let turn = Turn::at_start(proc, shape, args);
+    let _fact = procedure.code().arity();
+    let turn = Turn::at_start(procedure, shape, args);
     let _fact = turn.call();
-    Ok((copied(args), turn))
+    turn
 }

@@ -12,6 +12,7 @@ use tl_tree::Shape;
 use tl_verify::Proc;
 
 /// The state of a call at its start: the arguments are in the first registers, and everything else is 0 or empty.
+#[inline(always)]
 pub fn at_start(procedure: &Proc, shape: &Shape, args: &[i64]) -> CallState
     requires { length args.now ≡ procedure.now.arity }
     ensures start { IsStart args.now result }

@@ -64,6 +64,7 @@ impl Turn {
     }
 
     /// The same for a caller that already knows that the procedure takes that many arguments.
+    #[inline(always)]
     pub fn at_start(procedure: Arc<Proc>, shape: Arc<Shape>, args: &[i64]) -> Turn
         requires { length args.now ≡ (arc_value procedure).arity }
         ensures code { result.code ≡ arc_value procedure }

@@ -7,7 +7,7 @@ use tl_table::Table;
 
 // From so many instructions a turn on, another worker is a gain. With fewer, the time in which the table's lock goes from one processor
 // to another is more than what two workers save.
-const MANY: u64 = 400;
+const MANY: u64 = 500;
 
 // After so many microseconds in which no call of the batch was taken, another worker helps in any case.
 const PATIENCE: u64 = 200;
