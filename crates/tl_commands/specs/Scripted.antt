@@ -7,7 +7,7 @@ use Rattle.tl_tree.specs.Writing.{tree_text}
 use Rattle.tl_tree.specs.declared.fault.TreeFault.{TreeFault}
 use Rattle.tl_tree_locking.specs.History.{records_now}
 use Rattle.tl_history.specs.declared.history.TheConstants.{MAX_EVENTS}
-use Rattle.tl_procedures.specs.Names.{Named, naming_refusal, AreFreeAfter}
+use Rattle.tl_procedures.specs.Names.{Named, AreFreeAfter, IsFirstRefused}
 use Rattle.tl_procedures.specs.declared.fault.NamingFault.{NamingFault}
 use Rattle.tl_core.specs.Cores.{CoreValue}
 use Rattle.tl_json.specs.Registering.{TakenUp, IsFirstUnfit}
@@ -46,15 +46,6 @@ pub record AreRegistered (texts : List (List ℕ × List ℕ)) (more all : List 
   pub taken_up : TakenUp [] texts own
   pub free : AreFreeAfter own more
   pub same : all ≡ own ++ more
-
--- The name of one of `more` is refused, and none before it was.
-pub record IsFirstRefused (before more : List Named) (f : NamingFault) : Type 0 where
-  pub first : List Named
-  pub one : Named
-  pub rest : List Named
-  pub split : more ≡ first ++ one ∷ rest
-  pub free : AreFreeAfter before first
-  pub refused : naming_refusal (before ++ first) one.name ≡ Some f
 
 -- why not all can be registered: the first fault of the texts, or otherwise of the names of `more`
 abbrev pub IsUnregistered : List (List ℕ × List ℕ) → List Named → RegisterFault → Type 0

@@ -2,22 +2,19 @@
 
 ghost use Rattle.std.specs.Prelude.{◌≡◌, ◌≢◌, ◌++◌, [], map, IfOk, IfErr, Ok};
 ghost use Rattle.tl_tree.specs.Reading.{tree_of_text};
-ghost use Rattle.tl_procedures.specs.Names.{AreFreeAfter};
-ghost use Rattle.tl_procedures.specs.declared.fault.NamingFault.TheVariants as naming;
 ghost use Rattle.tl_json.specs.Procedures.{procedure_form};
 ghost use Rattle.tl_json.specs.declared.fault.RegisterFault.{RegisterFault};
 ghost use Rattle.tl_commands.specs.declared.fault.CliFault.TheVariants.{Register};
 ghost use Rattle.tl_commands.specs.Alone.{IsTreeFault};
 ghost use Rattle.tl_commands.specs.Faults.{status_of};
-ghost use Rattle.tl_commands.specs.Scripted.{core_with, AreRegistered, IsFirstRefused, IsUnregistered};
+ghost use Rattle.tl_commands.specs.Scripted.{core_with, AreRegistered, IsUnregistered};
 
 use crate::fault::CliFault;
 use std::alloc::Global;
 use tl_core::Core;
 use tl_history::MAX_EVENTS;
 use tl_json::{ProcedureText, RegisterFault, register_all};
-use tl_procedures::{NamingFault, Procedures};
-use tl_sources::NamedProcedure;
+use tl_procedures::NamedProcedure;
 use tl_tree::{Tree, TreeFault, read_tree};
 
 /// What a script is carried out on: the bytes of the tree's file and of the script's, procedures that are registered after the script's own,
@@ -41,26 +38,6 @@ pub fn tree_of_file(alloc: Global, bytes: &[u8], limit: u16) -> Result<Tree, Tre
     }
 }
 
-// The same procedures and these after them, or the fault of the first name that is refused: 612, 611 or 613; 690 if memory is refused.
-fn add_all(
-    alloc: Global,
-    before: Procedures,
-    more: Vec<NamedProcedure>,
-) -> Result<Procedures, NamingFault>
-    ensures free { IfOk result (λ _. AreFreeAfter before more.items) }
-    ensures added { IfOk result (λ all. all ≡ before ++ more.items) }
-    ensures fault { IfErr result (λ e. e ≢ naming.Memory → IsFirstRefused before more.items e) }
-{
-    let mut procedures = before;
-    for named in more {
-        let (name, procedure) = named.into_parts();
-        if let Err(fault) = procedures.add(alloc, &name, procedure) {
-            return Err(fault);
-        }
-    }
-    Ok(procedures)
-}
-
 /// A core of the tree with a script's procedures, and then `more`. Otherwise what is wrong with the first procedure that has a fault: its
 /// text, its code or its name. 290, 490 or 690 if memory is refused.
 pub fn core_of(
@@ -77,7 +54,7 @@ pub fn core_of(
         Ok(own) => own,
         Err(fault) => return Err(CliFault::Register(fault)),
     };
-    let procedures = match add_all(alloc, own, more) {
+    let procedures = match own.and_all(alloc, more) {
         Ok(procedures) => procedures,
         Err(fault) => return Err(CliFault::Register(RegisterFault::Name(fault))),
     };

@@ -12,7 +12,7 @@ use serde_json::Value;
 use std::alloc::{AllocError, Global};
 use tl_core::Move;
 use tl_json::{FromValue, ProcedureText, Request, each_of, parse};
-use tl_sources::NamedProcedure;
+use tl_procedures::NamedProcedure;
 use tl_table::MAX_EPOCHS;
 use tl_workers::MAX_REQUESTS;
 

@@ -81,21 +81,21 @@ module _ (v : CoreValue) (more : List Named) (now : TreeValue) (calls : List Cal
   }
 
 -- a refusal adds no procedure
-pub added : (result : Result ℕ NamingFault) (before after : List Named) (one : Named) → OnOk result (after ≡ before ++ one ∷ []) → OnErr result (after ≡ before)
-    → (more : List Named) × (after ≡ before ++ more)
-added (Ok number) before after one last same = (one ∷ [], last)
-added (Err fault) before after one last same = ([], same ∙ sym (append-nil before))
+pub added : {X : Type 0} (result : Result X NamingFault) (before after more : List Named) → OnOk result (after ≡ before ++ more) → OnErr result (after ≡ before)
+    → (all : List Named) × (after ≡ before ++ all)
+added (Ok x) before after more last same = (more, last)
+added (Err fault) before after more last same = ([], same ∙ sym (append-nil before))
 
 -- the core then as callers see it
-pub seen_added : (v : CoreValue) (now : TreeValue) (calls : List Call) (slots : List OpenCall) (holders : List (Option ℕ)) (reserved capacity : ℕ) → IsWholeCore v now calls slots holders reserved capacity
-    → (result : Result ℕ NamingFault) (after : List Named) (one : Named) → OnOk result (after ≡ v.procedures ++ one ∷ [])
-    → OnOk result (record v { procedures = after; calls = map (seen_call after slots) calls } ≡ record v { procedures = v.procedures ++ one ∷ [] })
-seen_added v now calls slots holders reserved capacity w (Ok number) after one last =
+pub seen_added : {X : Type 0} (v : CoreValue) (now : TreeValue) (calls : List Call) (slots : List OpenCall) (holders : List (Option ℕ)) (reserved capacity : ℕ) → IsWholeCore v now calls slots holders reserved capacity
+    → (result : Result X NamingFault) (after more : List Named) → OnOk result (after ≡ v.procedures ++ more)
+    → OnOk result (record v { procedures = after; calls = map (seen_call after slots) calls } ≡ record v { procedures = v.procedures ++ more })
+seen_added v now calls slots holders reserved capacity w (Ok x) after more last =
     ap (λ ps. record v { procedures = ps; calls = map (seen_call ps slots) calls }) last
-    ∙ ap (λ l. record v { procedures = v.procedures ++ one ∷ []; calls = l }) (still_seen v (one ∷ []) now calls slots holders reserved capacity w)
-seen_added v now calls slots holders reserved capacity w (Err fault) after one last = tt
+    ∙ ap (λ l. record v { procedures = v.procedures ++ more; calls = l }) (still_seen v more now calls slots holders reserved capacity w)
+seen_added v now calls slots holders reserved capacity w (Err fault) after more last = tt
 
 -- the same with the turns
-pub state_added : (v2 v3 : CoreValue) (turns : List (Option TurnValue)) (result : Result ℕ NamingFault) → OnOk result (v2 ≡ v3) → OnOk result (◌≡◌ {A = CoreState} (record { seen = v2; turns = turns }) (record { seen = v3; turns = turns }))
-state_added v2 v3 turns (Ok number) same = λ i. record { seen = same i; turns = turns }
+pub state_added : {X : Type 0} (v2 v3 : CoreValue) (turns : List (Option TurnValue)) (result : Result X NamingFault) → OnOk result (v2 ≡ v3) → OnOk result (◌≡◌ {A = CoreState} (record { seen = v2; turns = turns }) (record { seen = v3; turns = turns }))
+state_added v2 v3 turns (Ok x) same = λ i. record { seen = same i; turns = turns }
 state_added v2 v3 turns (Err fault) same = tt

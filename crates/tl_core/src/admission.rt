@@ -1,19 +1,18 @@
 // What a core takes in: procedures, and calls of them.
 
 ghost use Rattle.std.specs.Prelude.{◌≡◌, ◌≢◌, ◌+◌, ◌<◌, ◌≤◌, [], ◌∷◌, ◌++◌, length, IfOk, OnOk, OnErr, IfErr, None, Some};
-ghost use Rattle.tl_procedures.specs.Names.{number_of, naming_refusal};
+ghost use Rattle.tl_procedures.specs.Names.{number_of, naming_refusal, AreFreeAfter, IsFirstRefused};
 ghost use Rattle.tl_procedures.specs.declared.fault.NamingFault.TheVariants as naming;
 ghost use Rattle.tl_core.specs.Cores.{places, room, open_calls};
 ghost use Rattle.tl_core.specs.Entries.{admission_refusal, procedure_at, Admits, IsAdmissionFault};
 
-use crate::call::{Call, OpenCall, Progress, begin};
+use crate::call::{Call, OpenCall, Progress, begin, kept};
 use crate::fault::CoreFault;
 use crate::interleaving::{Core, MAX_OPEN};
 use std::alloc::Global;
 use std::sync::Arc;
 use tl_history::MAX_CALLS;
-use tl_machine::copied;
-use tl_procedures::NamingFault;
+use tl_procedures::{NamedProcedure, NamingFault};
 use tl_tree_locking::Event;
 use tl_verify::Proc;
 
@@ -30,6 +29,21 @@ impl Core {
         ensures err { OnErr result (self.new ≡ self.old) }
     {
         self.procedures.add(alloc, name, proc)
+    }
+
+    /// Adds these procedures in their order, or none of them. The fault of the first name that is refused: 612, 611 or 613; 690 if
+    /// memory is refused.
+    pub fn add_procs(
+        &mut self,
+        alloc: Global,
+        procedures: Vec<NamedProcedure>,
+    ) -> Result<(), NamingFault>
+        ensures free { IfOk result (λ _. AreFreeAfter self.old.seen.procedures procedures.items) }
+        ensures added { OnOk result (self.new ≡ record self.old { seen = record self.old.seen { procedures = self.old.seen.procedures ++ procedures.items } }) }
+        ensures fault { IfErr result (λ e. e ≢ naming.Memory → IsFirstRefused self.old.seen.procedures procedures.items e) }
+        ensures err { OnErr result (self.new ≡ self.old) }
+    {
+        self.procedures.add_all(alloc, procedures)
     }
 
     /// Admits a call of the procedure of that name with these arguments, and returns its number. Errors, the first that
@@ -53,7 +67,7 @@ impl Core {
         let slot = self.slots.len();
         self.calls.push_reserved(Call {
             procedure,
-            args: copied(args),
+            args: kept(&proc, args),
             progress: Progress::Open { slot },
         });
         self.slots.push_reserved(OpenCall {

@@ -8,7 +8,7 @@ ghost use Rattle.tl_core.specs.Stored.{slot_of, reply_in};
 use arrayvec::ArrayVec;
 use std::sync::Arc;
 use tl_instr::MAX_ARGS;
-use tl_machine::{Reply, Turn};
+use tl_machine::{Reply, Turn, copied};
 use tl_tree::Shape;
 use tl_verify::Proc;
 
@@ -63,14 +63,24 @@ impl Call {
     }
 }
 
+// The arguments as a core keeps them.
+pub(crate) fn kept(procedure: &Proc, args: &[i64]) -> ArrayVec<i64, MAX_ARGS>
+    requires { length args.now ≡ procedure.now.arity }
+    ensures { result.items ≡ args.now }
+{
+    // The code was accepted, so it takes at most eight arguments.
+    let _fact = procedure.code().arity();
+    copied(args)
+}
+
 // The turn of a call at its start. It is built where it will be kept: a turn is large, and each move would copy it.
 #[inline(always)]
 pub(crate) fn begin(procedure: Arc<Proc>, shape: Arc<Shape>, args: &[i64]) -> Turn
     requires { length args.now ≡ (arc_value procedure).arity }
     ensures { Begins (arc_value procedure) (arc_value shape) args.now args.now result }
 {
-    // The code was accepted, so it takes at most eight arguments.
-    let _fact = procedure.code().arity();
+    // The code was accepted.
+    let _fact = procedure.code();
     let turn = Turn::at_start(procedure, shape, args);
     let _fact = turn.call();
     turn

@@ -1,2 +1,3 @@
+pub mod AddingAll
 pub mod Naming
 pub mod Prefixes

@@ -46,3 +46,12 @@ naming_refusal procedures name =
 abbrev pub AreFreeAfter : List Named → List Named → Type 0
 AreFreeAfter before [] = Unit {0}
 AreFreeAfter before (p ∷ ps) = (naming_refusal before p.name ≡ None) × AreFreeAfter (before ++ p ∷ []) ps
+
+-- The name of one of `more` is refused after the procedures `before`, and none before it was.
+pub record IsFirstRefused (before more : List Named) (f : NamingFault) : Type 0 where
+  pub first : List Named
+  pub one : Named
+  pub rest : List Named
+  pub split : more ≡ first ++ one ∷ rest
+  pub free : AreFreeAfter before first
+  pub refused : naming_refusal (before ++ first) one.name ≡ Some f

@@ -5,9 +5,11 @@
 #![tactic(auto)]
 
 mod fault;
+mod named;
 mod procedures;
 mod request;
 
 pub use fault::NamingFault;
+pub use named::NamedProcedure;
 pub use procedures::{MAX_NAME, MAX_PROCEDURES, Procedures};
 pub use request::Request;

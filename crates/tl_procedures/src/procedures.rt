@@ -2,10 +2,11 @@
 
 ghost use Rattle.std.specs.Prelude.{◌≡◌, ◌≢◌, ◌≤◌, ◌<◌, ◌∷◌, ◌++◌, [], length, None, Some, IfOk, OnOk, OnErr, IfErr, slice_get, option_map, IsTrue, ◌↔◌, get_or};
 ghost use Rattle.std.specs.Arc.{arc_value};
-ghost use Rattle.tl_procedures.specs.Names.{number_of, is_name, naming_refusal, no_procedure, AreFreeAfter, BeginsWith};
+ghost use Rattle.tl_procedures.specs.Names.{number_of, is_name, naming_refusal, no_procedure, AreFreeAfter, BeginsWith, IsFirstRefused};
 ghost use Rattle.tl_procedures.specs.declared.fault.NamingFault.TheVariants as fault;
 
 use crate::fault::NamingFault;
+use crate::named::NamedProcedure;
 use indexmap::IndexMap;
 use std::alloc::{AllocError, Global};
 use std::marker::Model;
@@ -120,6 +121,37 @@ impl Procedures {
     {
         self.find_free(name)?;
         self.put_last(alloc, name, Arc::try_clone(procedure)?)
+    }
+
+    /// These procedures and then `more`, in their order; or the fault of the first name that is refused: 612, 611 or 613; 690 if memory is
+    /// refused.
+    pub fn and_all(
+        self,
+        alloc: Global,
+        more: Vec<NamedProcedure>,
+    ) -> Result<Procedures, NamingFault>
+        ensures free { IfOk result (λ _. AreFreeAfter self more.items) }
+        ensures added { IfOk result (λ all. all ≡ self ++ more.items) }
+        ensures fault { IfErr result (λ e. e ≢ fault.Memory → IsFirstRefused self more.items e) }
+    {
+        let mut procedures = self;
+        for named in more {
+            let (name, procedure) = named.into_parts();
+            procedures.add(alloc, &name, procedure)?;
+        }
+        Ok(procedures)
+    }
+
+    /// Adds all of `more`, in their order, or none. Otherwise the fault of the first name that is refused: 612, 611 or 613; 690 if memory is
+    /// refused.
+    pub fn add_all(&mut self, alloc: Global, more: Vec<NamedProcedure>) -> Result<(), NamingFault>
+        ensures free { IfOk result (λ _. AreFreeAfter self.old more.items) }
+        ensures added { OnOk result (self.new ≡ self.old ++ more.items) }
+        ensures fault { IfErr result (λ e. e ≢ fault.Memory → IsFirstRefused self.old more.items e) }
+        ensures err { OnErr result (self.new ≡ self.old) }
+    {
+        *self = self.copy(alloc)?.and_all(alloc, more)?;
+        Ok(())
     }
 
     /// The same procedures under the same names. No name is refused, since each was free when it was added.

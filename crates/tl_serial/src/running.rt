@@ -8,7 +8,7 @@ ghost use Rattle.tl_tree_locking.specs.Alone.{serial};
 ghost use Rattle.tl_tree_locking.specs.History.{AllDone, admits, records_now, IsLegalHistory};
 ghost use Rattle.tl_tree_locking.specs.Order.{placed, Agrees};
 ghost use Rattle.tl_tree_locking.specs.World.{reply_of, past_after};
-ghost use Rattle.tl_procedures.specs.Names.{naming_refusal};
+ghost use Rattle.tl_procedures.specs.Names.{naming_refusal, AreFreeAfter, IsFirstRefused};
 ghost use Rattle.tl_procedures.specs.declared.fault.NamingFault.TheVariants as naming;
 ghost use Rattle.tl_core.specs.Cores.{CoreState, world_of, opened_after, IsSealFault, kept_turn, IsLeastUnfinished};
 ghost use Rattle.tl_core.specs.Entries.{Admits, IsAdmissionFault, StepsTo};
@@ -26,7 +26,7 @@ use std::marker::Model;
 use tl_core::{Core, CoreFault, Followed, Stepped, TurnOutcome};
 use tl_history::MAX_CALLS;
 use tl_machine::{LentTurn, Segment, Stop};
-use tl_procedures::NamingFault;
+use tl_procedures::{NamedProcedure, NamingFault};
 use tl_serial_order::{KeptOrder, Order, SerialFault};
 use tl_tree::Shape;
 use tl_tree_locking::Action;
@@ -116,6 +116,20 @@ impl Running {
         ensures err { OnErr result (self.new ≡ self.old) }
     {
         self.core.add_proc(alloc, name, proc)
+    }
+
+    /// Adds these procedures or none of them, as the core does: 612, 611, 613, 690.
+    pub fn add_procs(
+        &mut self,
+        alloc: Global,
+        procedures: Vec<NamedProcedure>,
+    ) -> Result<(), NamingFault>
+        ensures free { IfOk result (λ _. AreFreeAfter self.old.seen.procedures procedures.items) }
+        ensures added { OnOk result (self.new ≡ record self.old { seen = record self.old.seen { procedures = self.old.seen.procedures ++ procedures.items } }) }
+        ensures fault { IfErr result (λ e. e ≢ naming.Memory → IsFirstRefused self.old.seen.procedures procedures.items e) }
+        ensures err { OnErr result (self.new ≡ self.old) }
+    {
+        self.core.add_procs(alloc, procedures)
     }
 
     /// Admits a call, as the core does: 601, 501, 603, 604, 605, 690. The order stays as it is.

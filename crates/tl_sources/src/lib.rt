@@ -2,9 +2,7 @@
 #![tactic(auto)]
 
 mod fault;
-mod named;
 mod source;
 
 pub use fault::SourceFault;
-pub use named::NamedProcedure;
 pub use source::{Source, procedure_of, procedures_of};

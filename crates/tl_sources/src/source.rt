@@ -8,12 +8,12 @@ ghost use Rattle.tl_sources.specs.Sources.{made, ProvidesAll, IsProcedureOf, IsP
 ghost use Rattle.tl_sources.specs.declared.source.Source.TheVariants.{Language, Assembler, Container};
 
 use crate::fault::SourceFault;
-use crate::named::NamedProcedure;
 use std::alloc::{AllocError, Global};
 use tl_asm::assemble;
 use tl_compiler::{CompileFault, Compiled, compile, one_of};
 use tl_instr::{Code, decode};
 use tl_meaning::laws;
+use tl_procedures::NamedProcedure;
 use tl_verify::{Proc, verify};
 
 /// The bytes of a file of procedures, and how they are read.

@@ -56,13 +56,13 @@ pub admission_same : (v w : CoreValue) (name : List ℕ) (args : List ℤ) → w
 admission_same v w name args is = admitted_same v w args (number_of v.procedures name) is
 
 -- registered procedures are appended
-pub added_goes_on : {N E : Type 0} (r : Result N E) (t : EpochValue) (w : CoreState) (p : Named)
-    → OnOk r (w ≡ record t.core { seen = record t.core.seen { procedures = t.core.seen.procedures ++ p ∷ [] } }) → OnErr r (w ≡ t.core)
+pub added_goes_on : {N E : Type 0} (r : Result N E) (t : EpochValue) (w : CoreState) (more : List Named)
+    → OnOk r (w ≡ record t.core { seen = record t.core.seen { procedures = t.core.seen.procedures ++ more } }) → OnErr r (w ≡ t.core)
     → GoesOn t (record { number = t.number; core = w; sessions = t.sessions; owners = t.owners })
-added_goes_on (Ok n) t w p ok err = record {
+added_goes_on (Ok n) t w more ok err = record {
   number = refl;
   parents = ap (λ (u : CoreState). u.seen.parents) ok;
   opening = ap (λ (u : CoreState). u.seen.opening) ok;
-  procedures = (p ∷ [], ap (λ (u : CoreState). u.seen.procedures) ok);
+  procedures = (more, ap (λ (u : CoreState). u.seen.procedures) ok);
 }
-added_goes_on (Err e) t w p ok err = same_core t _ refl err
+added_goes_on (Err e) t w more ok err = same_core t _ refl err

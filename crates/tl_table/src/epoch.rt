@@ -5,7 +5,7 @@ ghost use Rattle.tl_instr.specs.declared.operand.TheConstants.{MAX_ARGS};
 ghost use Rattle.tl_tree_locking.specs.History.{is_done, IsOpen};
 ghost use Rattle.tl_tree_locking.specs.Order.{placed};
 ghost use Rattle.tl_tree_locking.specs.Holders.{holder_of};
-ghost use Rattle.tl_procedures.specs.Names.{naming_refusal};
+ghost use Rattle.tl_procedures.specs.Names.{naming_refusal, AreFreeAfter, IsFirstRefused};
 ghost use Rattle.tl_procedures.specs.declared.fault.NamingFault.TheVariants as naming;
 ghost use Rattle.tl_procedures.specs.declared.procedures.TheConstants.{MAX_NAME};
 ghost use Rattle.tl_core.specs.declared.fault.CoreFault.TheVariants as core_fault;
@@ -28,7 +28,7 @@ use std::marker::Model;
 use tl_core::{Core, CoreFault, TurnOutcome};
 use tl_history::MAX_CALLS;
 use tl_machine::{LentTurn, Reply, Segment, Turn, copied};
-use tl_procedures::NamingFault;
+use tl_procedures::{NamedProcedure, NamingFault};
 use tl_serial::Running;
 use tl_serial_order::Order;
 use tl_verify::Proc;
@@ -152,6 +152,21 @@ impl Epoch {
         ensures err { OnErr result (self.new ≡ self.old) }
     {
         self.running.add_proc(alloc, name, proc)
+    }
+
+    /// Adds these procedures or none of them, as the core does: 612, 611, 613, 690.
+    pub fn add_procs(
+        &mut self,
+        alloc: Global,
+        procedures: Vec<NamedProcedure>,
+    ) -> Result<(), NamingFault>
+        ensures free { IfOk result (λ _. AreFreeAfter (seen self.old).procedures procedures.items) }
+        ensures added { OnOk result (self.new ≡ record self.old { core = record self.old.core { seen = record (seen self.old) { procedures = (seen self.old).procedures ++ procedures.items } } }) }
+        ensures goes_on { GoesOn self.old self.new }
+        ensures fault { IfErr result (λ e. e ≢ naming.Memory → IsFirstRefused (seen self.old).procedures procedures.items e) }
+        ensures err { OnErr result (self.new ≡ self.old) }
+    {
+        self.running.add_procs(alloc, procedures)
     }
 
     /// Admits a call for a session, and returns its number. 803 if no session of that number was given; then the core's

@@ -4,7 +4,7 @@ ghost use Rattle.std.specs.Prelude.{◌≡◌, ◌≢◌, ◌+◌, ◌<◌, ◌�
 ghost use Rattle.tl_instr.specs.declared.operand.TheConstants.{MAX_ARGS};
 ghost use Rattle.tl_tree_locking.specs.History.{is_done, IsOpen};
 ghost use Rattle.tl_tree_locking.specs.Holders.{holder_of};
-ghost use Rattle.tl_procedures.specs.Names.{naming_refusal};
+ghost use Rattle.tl_procedures.specs.Names.{naming_refusal, AreFreeAfter, IsFirstRefused};
 ghost use Rattle.tl_procedures.specs.declared.fault.NamingFault.TheVariants as naming;
 ghost use Rattle.tl_procedures.specs.declared.procedures.TheConstants.{MAX_NAME};
 ghost use Rattle.tl_core.specs.declared.fault.CoreFault.TheVariants as core_fault;
@@ -27,7 +27,7 @@ use std::marker::Model;
 use std::mem;
 use tl_core::{Core, CoreFault, TurnOutcome};
 use tl_machine::{LentTurn, Segment, Turn};
-use tl_procedures::NamingFault;
+use tl_procedures::{NamedProcedure, NamingFault};
 use tl_serial::Running;
 use tl_verify::Proc;
 
@@ -139,6 +139,22 @@ impl Table {
         ensures sealed { self.new.sealed ≡ self.old.sealed }
     {
         self.current.add_proc(alloc, name, proc)
+    }
+
+    /// Adds these procedures or none of them, as the core does: 612, 611, 613, 690.
+    pub fn add_procs(
+        &mut self,
+        alloc: Global,
+        procedures: Vec<NamedProcedure>,
+    ) -> Result<(), NamingFault>
+        ensures free { IfOk result (λ _. AreFreeAfter (seen self.old.current).procedures procedures.items) }
+        ensures added { OnOk result (self.new.current ≡ record self.old.current { core = record self.old.current.core { seen = record (seen self.old.current) { procedures = (seen self.old.current).procedures ++ procedures.items } } }) }
+        ensures goes_on { GoesOn self.old.current self.new.current }
+        ensures fault { IfErr result (λ e. e ≢ naming.Memory → IsFirstRefused (seen self.old.current).procedures procedures.items e) }
+        ensures err { OnErr result (self.new.current ≡ self.old.current) }
+        ensures sealed { self.new.sealed ≡ self.old.sealed }
+    {
+        self.current.add_procs(alloc, procedures)
     }
 
     /// Admits a call for a session, and returns its number. 803 if no session of that number was given; then the core's

@@ -1,8 +1,8 @@
 // A table that threads share.
 
 ghost use Rattle.std.specs.Prelude.{◌≡◌, ◌↔◌, ◌⊎◌, ◌+◌, ◌<◌, [], true, false, IsTrue, IfOk, OnOk, IfErr, All};
-ghost use Rattle.tl_procedures.specs.Names.{is_name};
-ghost use Rattle.tl_procedures.specs.declared.fault.NamingFault.TheVariants.{BadName};
+ghost use Rattle.tl_procedures.specs.Names.{Named, is_name, AreFreeAfter, IsFirstRefused};
+ghost use Rattle.tl_procedures.specs.declared.fault.NamingFault.TheVariants.{BadName, Memory};
 ghost use Rattle.tl_table.specs.declared.fault.TableFault.TheVariants as fault;
 ghost use Rattle.tl_workers.specs.declared.refusal.Refusal.TheVariants as refusal;
 ghost use Rattle.std.specs.Fn.{FnOnceReturnsAt};
@@ -22,7 +22,7 @@ use std::alloc::Global;
 use std::marker::Model;
 use std::sync::{Arc, Condvar, Mutex, Wait};
 use tl_core::Core;
-use tl_procedures::NamingFault;
+use tl_procedures::{NamedProcedure, NamingFault};
 use tl_ready::Ready;
 use tl_table::{Closed, Table, TableFault};
 use tl_tree::Tree;
@@ -174,6 +174,21 @@ impl Engine {
             .lock(rt)
             .table
             .add_proc(alloc, name, procedure)
+    }
+
+    /// Registers these procedures in their order, or none of them. The fault of the first name that is refused: 612, 611 or 613; 690 if
+    /// memory is refused. Each name has to be one that is allowed; no clause says when a name is taken (611), since the lock hides the other
+    /// procedures.
+    pub fn register_all(
+        &self,
+        rt: &impl Wait,
+        alloc: Global,
+        procedures: Vec<NamedProcedure>,
+    ) -> Result<(), NamingFault>
+        ensures free { IfOk result (λ _. (before : List Named) × AreFreeAfter before procedures.items) }
+        ensures fault { IfErr result (λ e. e ≢ Memory → (before : List Named) × IsFirstRefused before procedures.items e) }
+    {
+        self.turnstile.lock(rt).table.add_procs(alloc, procedures)
     }
 
     /// Seals the current epoch of the table and answers its number. 606, 808, 690, 890. It waits only for the lock, or, if the

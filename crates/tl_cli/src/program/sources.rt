@@ -4,7 +4,8 @@ use crate::CliFault;
 use crate::failure::Failure;
 use crate::program::Program;
 use std::rt::Files;
-use tl_sources::{NamedProcedure, Source, procedure_of, procedures_of};
+use tl_procedures::NamedProcedure;
+use tl_sources::{Source, procedure_of, procedures_of};
 
 /// The bytes of a file of procedures, read as the file's name says: `.tdb` is for texts of the procedure language, `.asm` for assembler texts,
 /// and `.tlp` for containers. `None` for any other name.
