@@ -7,8 +7,9 @@ use std::test::Fail;
 use std::thread::Threads;
 use tl_audit::Silent;
 use tl_commands::{CliFault, audit_cmd, conclude_engine, conclude_engine_with_trail, open_engine};
+use tl_procedures::{NamedProcedure, NamingFault};
 use tl_table::{Receipt, Table};
-use tl_test_data::{ADD, ONE_NODE};
+use tl_test_data::{ADD, ONE_NODE, procedure_of};
 use tl_test_engines::{
     Ended, batch, end_exchanged, end_opened, with_engine_on_threads, with_exchanged_sessions,
     with_one_session,
@@ -72,6 +73,52 @@ fn calls_and_a_batch_are_kept_by_their_session(rt: HostRuntime) -> Result<(), Fa
         |engine, session| five_calls(&rt, rt.alloc(), engine, session),
         |_, ended| {
             ends_at(&rt, ended, 10);
+            Ok(())
+        },
+    )
+}
+
+// ---- several procedures at once
+
+/// Procedures with these names, each of which adds to a node.
+fn named(alloc: Global, names: &[&str]) -> Result<Vec<NamedProcedure>, Fail> {
+    let mut all = Vec::new(alloc);
+    for name in names {
+        let procedure = procedure_of(alloc, ADD)?;
+        all.push(NamedProcedure::new(String::from_str(alloc, name)?, procedure))?;
+    }
+    Ok(all)
+}
+
+/// The second of two names is taken, so neither procedure is there; then two names are free.
+fn all_or_none<R: Threads + Wait + Abort + Sync>(
+    rt: &R,
+    alloc: Global,
+    engine: &Engine,
+    session: &mut Session,
+) -> Result<(), Fail> {
+    let refused = engine.register_all(rt, alloc, named(alloc, &["first", "add"])?);
+    assert_eq!(rt; refused, Err(NamingFault::NameTaken));
+    let unknown = engine.call(rt, alloc, session, "first", &[0, 1], &NoGate);
+    assert!(rt; unknown.is_err());
+    engine.register_all(rt, alloc, named(alloc, &["first", "second"])?)?;
+    let call = engine.call(rt, alloc, session, "first", &[0, 1], &NoGate)?;
+    assert_eq!(rt; call.reply.as_slice(), [6].as_slice());
+    let call = engine.call(rt, alloc, session, "second", &[0, 2], &NoGate)?;
+    assert_eq!(rt; call.reply.as_slice(), [8].as_slice());
+    Ok(())
+}
+
+#[test]
+fn several_procedures_are_registered_or_none(rt: HostRuntime) -> Result<(), Fail> {
+    with_one_session(
+        &rt,
+        rt.alloc(),
+        ONE_NODE,
+        &PROCEDURES,
+        |engine, session| all_or_none(&rt, rt.alloc(), engine, session),
+        |_, ended| {
+            ends_at(&rt, ended, 8);
             Ok(())
         },
     )
