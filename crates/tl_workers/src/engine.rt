@@ -1,6 +1,6 @@
 // A table that threads share.
 
-ghost use Rattle.std.specs.Prelude.{◌≡◌, ◌↔◌, ◌⊎◌, ◌+◌, ◌<◌, [], true, false, IsTrue, IfOk, OnOk, IfErr, All};
+ghost use Rattle.std.specs.Prelude.{◌≡◌, ◌≢◌, ◌↔◌, ◌⊎◌, ◌+◌, ◌<◌, List, [], true, false, IsTrue, IfOk, OnOk, IfErr, All};
 ghost use Rattle.tl_procedures.specs.Names.{Named, is_name, AreFreeAfter, IsFirstRefused};
 ghost use Rattle.tl_procedures.specs.declared.fault.NamingFault.TheVariants.{BadName, Memory};
 ghost use Rattle.tl_table.specs.declared.fault.TableFault.TheVariants as fault;
