@@ -29,13 +29,6 @@ impl NamedProcedure {
         NamedProcedure { name, procedure }
     }
 
-    /// Its name.
-    pub fn name(&self) -> &str
-        ensures { result.now ≡ self.now.name }
-    {
-        self.name.as_str()
-    }
-
     /// Its name and the procedure.
     pub fn into_parts(self) -> (String, Proc)
         ensures name { string_bytes result.0 ≡ self.name }
