@@ -122,8 +122,8 @@ pub fn place_of(alloc: Global, text: &str, fault: &CliFault) -> Option<Place> {
 /// The place of the fault of a text of the procedure language, if the fault is at one place.
 pub fn place_in_language(fault: &LanguageFault) -> Option<Place> {
     match fault {
-        LanguageFault::Compile(fault) => place_of_compiling(fault),
-        LanguageFault::Code(_) | LanguageFault::Memory => None,
+        LanguageFault::Source(SourceFault::Compile(fault)) => place_of_compiling(fault),
+        LanguageFault::Source(_) | LanguageFault::Code(_) | LanguageFault::Memory => None,
     }
 }
 

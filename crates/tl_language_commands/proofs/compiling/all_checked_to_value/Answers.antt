@@ -1,20 +1,8 @@
-use Rattle.std.proofs.Common.{map, ap, arith, ◌∙◌}
-use Rattle.std.proofs.lemmas.List.{take_all}
-use Rattle.serde_json.specs.View.{view}
-use Rattle.serde_json.proofs.Views.{view-Array}
-use Rattle.tl_tree.proofs.Items.{views_more}
-use Rattle.tl_compiler.specs.declared.compiler.Compiled.{Compiled}
-use Rattle.tl_json.specs.Lists.{list_data}
-use Rattle.tl_language_commands.specs.Compiling.{checked_data, made}
+use Rattle.tl_language_commands.specs.Compiling.{checked_data}
+use Rattle.tl_language_commands.proofs.CompilingLemmas.{pushed}
 use Rattle.tl_language_commands.proofs.compiling.all_checked_to_value.Goals as goal
 
-pub loop-compiled-preserved : goal.loop-compiled-preserved
-loop-compiled-preserved c =
-    ap (map view) c.in_ok-push.ensures.items
-    ∙ views_more (λ (x : Compiled). checked_data (made x)) c.loop-compiled.items.items c.in_ok-checked_to_value.field-0 c.args.procedures.now c.loop-compiled.compiled-index c.compiled-item.result
-    (omega (arith, c.loop-compiled-test.true)) c.loop-compiled.invariant (c.in_ok-checked_to_value.ensures ∙ ap (λ (x : Compiled). checked_data (made x)) c.compiled-item.is)
-
-pub returns : goal.returns
-returns c =
-    view-Array c.loop-compiled.items
-    ∙ ap list_data (c.loop-compiled.invariant ∙ ap (map (λ (x : Compiled). checked_data (made x))) (take_all c.loop-compiled.compiled-index c.args.procedures.now c.loop-compiled-test.false))
+pub loop-one-preserved : goal.loop-one-preserved
+loop-one-preserved c =
+    pushed checked_data c.loop-one.items.items c.push.new.self.items c.in_ok-checked_to_value.field-0 c.loop-one.yielded c.in-Some.one c.in_ok-push.ensures.items c.loop-one.invariant
+    c.in_ok-checked_to_value.ensures

@@ -1,27 +1,13 @@
-use Rattle.std.proofs.Common.{◌≡◌, ◌∙◌, List, [], ◌∷◌, ◌++◌, map, ap}
-use Rattle.serde_json.specs.View.{view}
+use Rattle.std.proofs.Common.{◌∙◌, [], ◌∷◌, ◌++◌, ap}
 use Rattle.serde_json.specs.Written.{has_float, compact_text}
-use Rattle.tl_json.specs.Lists.{list_data}
-use Rattle.tl_compiler.specs.declared.compiler.Compiled.{Compiled}
-use Rattle.tl_json.specs.Procedures.{procedure_data}
-use Rattle.tl_language_commands.specs.Compiling.{made}
-use Rattle.tl_language_commands.proofs.CompilingLemmas.{procedures_whole, lines_of_sources, all_accepted, all_do_calls}
+use Rattle.tl_language_commands.proofs.CompilingLemmas.{procedures_whole}
 use Rattle.tl_language_commands.proofs.compiling.procs_cmd.Goals as goal
 
 pub returns-clause-printed : goal.returns-clause-printed
-returns-clause-printed c =
-    let text = c.in_ok-compiled.ensures.compiled in
-    let cs : List Compiled = c.in_ok-compiled.compiled.items in
-    let is : view c.in_ok-list.list ≡ list_data (map (λ (x : Compiled). procedure_data (made x)) cs) =
-    c.in_ok-list.ensures ∙ ap (λ (xs : List Compiled). list_data (map (λ (x : Compiled). procedure_data (made x)) xs)) c.deref.ensures.value in
-    record {
-      utf8 = text.utf8;
-      sources = text.sources;
-      program = text.program;
-      in_order = text.in_order;
-      accepted = all_accepted text.sources cs text.each;
-      does = all_do_calls text.sources cs text.in_order text.each c.in_ok-compiled.ensures.codes;
-      same =
-          c.in_ok-line_of.ensures (ap has_float is ∙ procedures_whole cs)
-          ∙ ap (λ d. compact_text d ++ 10 ∷ []) (is ∙ ap list_data (lines_of_sources procedure_data text.sources cs text.each));
-    }
+returns-clause-printed c = record {
+  procedures = c.in_ok-procedures.procedures.items;
+  provided = c.in_ok-procedures.ensures.ok;
+  same =
+      c.in_ok-line_of.ensures (ap has_float c.in_ok-list.ensures ∙ procedures_whole c.in_ok-procedures.procedures.items)
+      ∙ ap (λ d. compact_text d ++ 10 ∷ []) c.in_ok-list.ensures;
+}
