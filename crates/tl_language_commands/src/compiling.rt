@@ -15,7 +15,8 @@ use std::alloc::{AllocError, Global};
 use tl_asm::disassemble;
 use tl_instr::encode;
 use tl_lines::{bounds_to_value, line_of};
-use tl_sources::{NamedProcedure, Source, procedure_of, procedures_of};
+use tl_procedures::NamedProcedure;
+use tl_sources::{Source, procedure_of, procedures_of};
 use tl_verify::Proc;
 
 fn compiled_to_value(
