@@ -6,6 +6,7 @@ mod exporting;
 mod serving;
 mod sources;
 mod storing;
+mod watching;
 
 use crate::archive::{Finish, Trails};
 use crate::failure::Failure;
@@ -147,7 +148,8 @@ impl<'a, R: Files + Print + Eprint + AllocGlobal> Program<'a, R> {
         }
     }
 
-    fn check<'p>(&self, path: &'p str) -> Result<String, Failure<'p>> {
+    /// What `check` prints of a file.
+    pub(crate) fn check<'p>(&self, path: &'p str) -> Result<String, Failure<'p>> {
         let file = self.read_file(path)?;
         if has_language(path) {
             let line = match check_procs_cmd(self.rt.alloc(), &file) {
@@ -372,7 +374,14 @@ where
     fn answer_files<'p>(&self, command: FileCommand<'p>) -> Result<String, Failure<'p>> {
         match command {
             FileCommand::Assemble { text, container } => self.assemble(text, container),
-            FileCommand::Check { file } => self.check(file),
+            FileCommand::Check {
+                file,
+                is_watched: false,
+            } => self.check(file),
+            FileCommand::Check {
+                file,
+                is_watched: true,
+            } => self.watch(file),
             FileCommand::Compile {
                 text,
                 container,
