@@ -402,6 +402,27 @@ fn audit_command<'a>(alloc: Global) -> Result<Command<'a>, AllocError> {
     )
 }
 
+fn check_command<'a>(alloc: Global) -> Result<Command<'a>, AllocError> {
+    command_of(
+        alloc,
+        "check",
+        "Says what a procedure does at most, or shows where its text is wrong",
+        CHECK_HELP,
+        &[
+            Row::option(
+                "watch",
+                "",
+                "Checks the file again whenever it changes, until a signal ends the program",
+            )
+            .as_a(Reading::Flag),
+            Row::file(
+                "FILE",
+                "The file of a text of the procedure language, whose name ends with `.tdb`, of an assembler text, or of a container",
+            ),
+        ],
+    )
+}
+
 fn compile_command<'a>(alloc: Global) -> Result<Command<'a>, AllocError> {
     command_of(
         alloc,
@@ -494,16 +515,7 @@ fn command_named<'a>(alloc: Global, name: Name) -> Result<Command<'a>, AllocErro
                 ),
             ],
         ),
-        Name::Check => reading_command(
-            alloc,
-            "check",
-            "Says what a procedure does at most, or shows where its text is wrong",
-            CHECK_HELP,
-            Row::file(
-                "FILE",
-                "The file of a text of the procedure language, whose name ends with `.tdb`, of an assembler text, or of a container",
-            ),
-        ),
+        Name::Check => check_command(alloc),
         Name::Compile => compile_command(alloc),
         Name::Procs => reading_command(
             alloc,

@@ -100,9 +100,10 @@ pub enum FileCommand<'a> {
         text: &'a str,
         container: &'a str,
     },
-    /// Say what a procedure does at most, or where its text is wrong.
+    /// Say what a procedure does at most, or where its text is wrong. If it is watched, again whenever the file changes.
     Check {
         file: &'a str,
+        is_watched: bool,
     },
     /// Write the container of a procedure of a text; if the text has several, of the one of that name.
     Compile {
@@ -318,6 +319,7 @@ fn file_command<'a>(name: &str, words: &ArgMatches<'a>) -> Option<FileCommand<'a
         }),
         "check" => Some(FileCommand::Check {
             file: words.get_str("FILE")?,
+            is_watched: words.get_flag("watch"),
         }),
         "compile" => Some(FileCommand::Compile {
             text: words.get_str("IN")?,

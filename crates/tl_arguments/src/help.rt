@@ -22,6 +22,8 @@ Example: treedb check walk.asm
 prints {\"bounds\":{\"emits\":1,\"locks\":13,\"steps\":54}} of a procedure's assembler text or container, whatever the arguments and the
 tree. Of a file whose name ends with .tdb, a text of the procedure language, it prints [[\"shift\",{\"bounds\":{..}}],..], each procedure.
 For a text that is refused the line is shown, with a caret under the place; so is the instruction that the verifier refuses.
+What a text of the procedure language doesn't need is shown in the same way, as a warning.
+With --watch the file is checked again whenever it changes; standard error says where each check begins and ends.
 Exit status: 0 done, 1 refused, 2 a mistake on the command line, 3 a file that can't be read, 4 memory.";
 
 pub const AUDIT_HELP: &str = "\

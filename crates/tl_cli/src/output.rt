@@ -6,9 +6,10 @@ use std::alloc::Global;
 use std::io;
 use tl_asm::{AsmFault, instruction_lines};
 use tl_commands::CliFault;
-use tl_compiler::{CompileFault, Position};
+use tl_compiler::CompileFault;
 use tl_language_commands::LanguageFault;
 use tl_sources::SourceFault;
+use tl_syntax::Position;
 use tl_trail::TrailFault;
 use tl_tree::TreeFault;
 
@@ -88,13 +89,18 @@ fn place_in_assembler(fault: &AsmFault) -> Option<Place> {
     }
 }
 
-// The place of the fault of a text of the procedure language, if the fault is at one place.
-fn place_of_compiling(fault: &CompileFault) -> Option<Place> {
-    let Position { line, column } = fault.position()?;
-    Some(Place {
+/// The place at a position.
+pub fn place_at(position: Position) -> Place {
+    let Position { line, column } = position;
+    Place {
         line,
         column: Some(column),
-    })
+    }
+}
+
+// The place of the fault of a text of the procedure language, if the fault is at one place.
+fn place_of_compiling(fault: &CompileFault) -> Option<Place> {
+    Some(place_at(fault.position()?))
 }
 
 /// The place of a text's fault, if the fault is at one place. For a position in the code this is the line of that
@@ -140,7 +146,7 @@ fn bytes_before(line: &str, column: Option<u64>) -> usize {
     }
 }
 
-/// Shows the refused line of a text on standard error, under the file's name, with a caret under the place. What can't be
+/// Shows a line of a text on standard error, under the file's name, with a caret under the place. What can't be
 /// shown is left out.
 pub fn point_at<R: Eprint>(rt: &R, path: &str, text: &str, place: Place) {
     let Place { line, column } = place;

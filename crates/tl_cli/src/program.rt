@@ -6,6 +6,7 @@ mod exporting;
 mod serving;
 mod sources;
 mod storing;
+mod watching;
 
 use crate::archive::{Finish, Trails};
 use crate::failure::Failure;
@@ -31,7 +32,9 @@ use tl_generations::Succession;
 use tl_server::{Journal, Keeper};
 use tl_sources::Source;
 use tl_store_file::FileFault;
+use tl_syntax::Position;
 use tl_tree::Tree;
+use tl_warnings::{Warning, warnings};
 use tl_workers::{MAX_WORKERS, NoGate};
 
 // A file that was read: its path, and its bytes.
@@ -130,11 +133,31 @@ impl<'a, R: Files + Print + Eprint + AllocGlobal> Program<'a, R> {
         Ok(line)
     }
 
-    fn check<'p>(&self, path: &'p str) -> Result<String, Failure<'p>> {
+    // Shows people what a text of the procedure language doesn't need.
+    fn warn(&self, path: &str, text: &[u8]) {
+        let Ok(found) = warnings(self.rt.alloc(), text) else {
+            return;
+        };
+        let Ok(words) = std::str::from_utf8(text) else {
+            return;
+        };
+        for Warning { needless, offset } in &found {
+            let position = Position::of(text, *offset);
+            output::point_at(self.rt, path, words, output::place_at(position));
+            let _shown = eprintln!(self.rt; "treedb: warning: {position}: {needless}");
+        }
+    }
+
+    /// What `check` prints of a file.
+    pub(crate) fn check<'p>(&self, path: &'p str) -> Result<String, Failure<'p>> {
         let file = self.read_file(path)?;
         if has_language(path) {
-            let checked = check_procs_cmd(self.rt.alloc(), &file);
-            return checked.map_err(|fault| self.misread_language(path, &file, fault));
+            let line = match check_procs_cmd(self.rt.alloc(), &file) {
+                Ok(line) => line,
+                Err(fault) => return Err(self.misread_language(path, &file, fault)),
+            };
+            self.warn(path, &file);
+            return Ok(line);
         }
         let checked = check_cmd(self.rt.alloc(), &file);
         checked.map_err(|fault| self.misread(path, &file, fault))
@@ -351,7 +374,14 @@ where
     fn answer_files<'p>(&self, command: FileCommand<'p>) -> Result<String, Failure<'p>> {
         match command {
             FileCommand::Assemble { text, container } => self.assemble(text, container),
-            FileCommand::Check { file } => self.check(file),
+            FileCommand::Check {
+                file,
+                is_watched: false,
+            } => self.check(file),
+            FileCommand::Check {
+                file,
+                is_watched: true,
+            } => self.watch(file),
             FileCommand::Compile {
                 text,
                 container,

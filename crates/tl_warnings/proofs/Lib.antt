@@ -1,0 +1,4 @@
+pub mod ListLemmas
+pub mod ReadingLemmas
+pub mod FailingLemmas
+pub mod FindingLemmas

@@ -1,0 +1,50 @@
+use Rattle.std.proofs.Common.{refl, arith}
+use Rattle.std.proofs.lemmas.Result.{on_ok_weaker}
+use Rattle.tl_warnings.specs.Finding.{act, try, if, repeat, for_each, block_alone, no_else, some_else}
+use Rattle.tl_warnings.proofs.FailingLemmas.{block_at as fails_at}
+use Rattle.tl_warnings.proofs.FindingLemmas.{block_at, named_at, block_next, block_end}
+use Rattle.tl_warnings.proofs.ListLemmas.{all_left}
+use Rattle.tl_warnings.proofs.finding.+finding.Goals as goal
+
+pub else_of-returns-in_ok-unless-in-Some : goal.else_of-returns-in_ok-unless-in-Some
+else_of-returns-in_ok-unless-in-Some t c =
+    rw c.in-Some.is (on_ok_weaker c.block.result (λ w. some_else (block_at c.deref.ensures.value c.in_ok-unless-in-Some.ensures w)) c.block.ensures)
+
+pub else_of-returns-in-None : goal.else_of-returns-in-None
+else_of-returns-in-None t c = rw c.in-None.is no_else
+
+pub statement-returns-in_ok-named-in-Act : goal.statement-returns-in_ok-named-in-Act
+statement-returns-in_ok-named-in-Act t c =
+    rw c.in-Act.is (on_ok_weaker c.else_of.result (λ w. act (named_at refl c.declared.ensures c.in_ok-named-in-Act.ensures) c.action_may_fail.ensures w) c.else_of.ensures)
+
+pub statement-returns-in_ok-block-in-Try : goal.statement-returns-in_ok-block-in-Try
+statement-returns-in_ok-block-in-Try t c =
+    rw c.in-Try.is (on_ok_weaker c.block-in-Try.result (λ w.
+    try c.in-Try.body c.in-Try.handler (fails_at c.deref.ensures.value c.block_may_fail-may_fail.ensures)
+    (block_at c.deref-in-Try.ensures.value c.in_ok-unless-in-Try.ensures c.in_ok-block-in-Try.ensures) (block_at c.deref-in-Try-2.ensures.value refl w)) c.block-in-Try.ensures)
+
+pub statement-returns-in_ok-block-in-If : goal.statement-returns-in_ok-block-in-If
+statement-returns-in_ok-block-in-If t c =
+    rw c.in-If.is (on_ok_weaker c.block-in-If-2.result (λ w.
+    if c.in-If.body c.in-If.otherwise (block_at c.deref-in-If.ensures.value refl c.in_ok-block-in-If.ensures) (block_at c.deref-in-If-2.ensures.value refl w)) c.block-in-If-2.ensures)
+
+pub statement-returns-in-Repeat : goal.statement-returns-in-Repeat
+statement-returns-in-Repeat t c =
+    rw c.in-Repeat.is (on_ok_weaker c.block-in-Repeat.result (λ w. repeat c.in-Repeat.body (block_at c.deref-in-Repeat.ensures.value refl w)) c.block-in-Repeat.ensures)
+
+pub statement-returns-in_ok-named-in-ForEach : goal.statement-returns-in_ok-named-in-ForEach
+statement-returns-in_ok-named-in-ForEach t c =
+    rw c.in-ForEach.is (on_ok_weaker c.block-in-ForEach.result (λ w.
+    for_each c.in-ForEach.body (named_at c.deref-in-ForEach.ensures.value refl c.in_ok-named-in-ForEach.ensures) (block_at c.deref-in-ForEach-2.ensures.value refl w)) c.block-in-ForEach.ensures)
+
+pub statement-returns-in-Block : goal.statement-returns-in-Block
+statement-returns-in-Block t c =
+    rw c.in-Block.is (on_ok_weaker c.block-in-Block.result (λ w. block_alone c.in-Block.body (block_at c.deref-in-Block.ensures.value refl w)) c.block-in-Block.ensures)
+
+pub block-loop-index-preserved : goal.block-loop-index-preserved
+block-loop-index-preserved t c =
+    block_next c.args.statements.now c.loop-index.index c.index-statements-index.result _ (omega arith) c.index-statements-index.is
+    (all_left c.args.statements.now c.loop-index.index) c.in_ok-statement.ensures c.loop-index.invariant
+
+pub block-returns : goal.block-returns
+block-returns t c = block_end c.args.statements.now c.loop-index.index c.loop-index.found.items (omega arith) c.loop-index.invariant

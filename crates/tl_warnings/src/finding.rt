@@ -1,0 +1,200 @@
+// The warnings of a text, in its order.
+
+ghost use Rattle.std.specs.Prelude.{◌≡◌, IfOk, OnOk};
+ghost use Rattle.tl_warnings.specs.Finding.{unless as unless_lem, ValueWarns, NamedWarns, declared as declared_lem, BlockWarns, StatementWarns, ElseWarns, ArgumentWarns, ArgumentsWarn, else_warned, ProcedureWarns, DeclarationWarns, DeclarationsWarn, AreWarnings};
+
+use crate::failing::{action_may_fail, block_may_fail};
+use crate::reading::block_reads;
+use crate::warning::{Needless, Warning};
+use std::alloc::{AllocError, Global};
+use tl_syntax::parsed::{
+    Action, Declaration, Name, Otherwise, Procedure, Statement, StatementForm,
+};
+use tl_syntax::{Syntax, SyntaxFault, parse};
+
+// Warns of what isn't needed.
+fn unless(
+    is_needed: bool,
+    needless: Needless,
+    offset: usize,
+    found: &mut Vec<Warning>,
+) -> Result<(), AllocError>
+    ensures { OnOk result (found.new.items ≡ unless_lem is_needed needless offset found.old.items) }
+{
+    if !is_needed {
+        found.push(Warning { needless, offset })?;
+    }
+    Ok(())
+}
+
+// A value, whose name is known in these statements.
+fn value(name: Name, known: &[Statement], found: &mut Vec<Warning>) -> Result<(), AllocError>
+    ensures { OnOk result (ValueWarns name known.now found.old.items found.new.items) }
+{
+    let is_read = block_reads(name.symbol, known);
+    unless(is_read, Needless::Value, name.offset, found)
+}
+
+// The same, if there is a name.
+fn named(
+    name: Option<Name>,
+    known: &[Statement],
+    found: &mut Vec<Warning>,
+) -> Result<(), AllocError>
+    ensures { OnOk result (NamedWarns known.now found.old.items name found.new.items) }
+{
+    match name {
+        Some(name) => value(name, known, found),
+        None => Ok(()),
+    }
+}
+
+// The name of the value that an action declares for the rest of its block.
+fn declared(action: &Action) -> Option<Name>
+    ensures { result ≡ declared_lem action.now }
+{
+    match action {
+        Action::Let { name, .. } => Some(*name),
+        _ => None,
+    }
+}
+
+#[cycle(finding)]
+fn block(statements: &[Statement], found: &mut Vec<Warning>) -> Result<(), AllocError>
+    ensures { OnOk result (BlockWarns statements.now found.old.items found.new.items) }
+{
+    for (index, one) in statements.iter().enumerate() {
+        statement(one, &statements[index + 1..], found)?;
+    }
+    Ok(())
+}
+
+#[cycle(finding)]
+fn statement(
+    statement: &Statement,
+    rest: &[Statement],
+    found: &mut Vec<Warning>,
+) -> Result<(), AllocError>
+    ensures { OnOk result (StatementWarns statement.now.offset statement.now.form rest.now found.old.items found.new.items) }
+{
+    match &statement.form {
+        StatementForm::Act(action, otherwise) => {
+            named(declared(action), rest, found)?;
+            else_of(action_may_fail(action), otherwise, found)
+        }
+        StatementForm::Try(body, handler) => {
+            let may_fail = block_may_fail(body);
+            unless(may_fail, Needless::Try, statement.offset, found)?;
+            block(body, found)?;
+            block(handler, found)
+        }
+        StatementForm::If(_, body, otherwise) => {
+            block(body, found)?;
+            block(otherwise, found)
+        }
+        StatementForm::Repeat { body, .. } => block(body, found),
+        StatementForm::ForEach { index, body, .. } => {
+            named(*index, body, found)?;
+            block(body, found)
+        }
+        StatementForm::Block(body) => block(body, found),
+    }
+}
+
+// The `else` of an action that may fail or may not.
+#[cycle(finding)]
+fn else_of(
+    may_fail: bool,
+    otherwise: &Option<Otherwise>,
+    found: &mut Vec<Warning>,
+) -> Result<(), AllocError>
+    ensures { OnOk result (ElseWarns may_fail otherwise.now found.old.items found.new.items) }
+{
+    match otherwise {
+        Some(otherwise) => {
+            unless(may_fail, Needless::Else, otherwise.offset, found)?;
+            block(&otherwise.body, found)
+        }
+        None => Ok(()),
+    }
+}
+
+fn argument(procedure: &Procedure, name: Name, found: &mut Vec<Warning>) -> Result<(), AllocError>
+    ensures { OnOk result (ArgumentWarns procedure.now name found.old.items found.new.items) }
+{
+    let body = block_reads(name.symbol, &procedure.body);
+    let otherwise = block_reads(name.symbol, &procedure.otherwise);
+    unless(body | otherwise, Needless::Value, name.offset, found)
+}
+
+fn arguments(
+    procedure: &Procedure,
+    names: &[Name],
+    found: &mut Vec<Warning>,
+) -> Result<(), AllocError>
+    ensures { OnOk result (ArgumentsWarn procedure.now found.old.items names.now found.new.items) }
+{
+    for name in names {
+        argument(procedure, *name, found)?;
+    }
+    Ok(())
+}
+
+// The `else` of a procedure whose body may fail or may not. An absent one is empty.
+fn else_of_procedure(
+    may_fail: bool,
+    otherwise: &[Statement],
+    found: &mut Vec<Warning>,
+) -> Result<(), AllocError>
+    ensures { OnOk result (found.new.items ≡ else_warned may_fail otherwise.now found.old.items) }
+{
+    match otherwise.first() {
+        Some(first) => unless(may_fail, Needless::Else, first.offset, found),
+        None => Ok(()),
+    }
+}
+
+fn procedure(procedure: &Procedure, found: &mut Vec<Warning>) -> Result<(), AllocError>
+    ensures { OnOk result (ProcedureWarns procedure.now found.old.items found.new.items) }
+{
+    arguments(procedure, &procedure.arguments, found)?;
+    block(&procedure.body, found)?;
+    let may_fail = block_may_fail(&procedure.body);
+    else_of_procedure(may_fail, &procedure.otherwise, found)?;
+    block(&procedure.otherwise, found)
+}
+
+fn declaration(declaration: &Declaration, found: &mut Vec<Warning>) -> Result<(), AllocError>
+    ensures { OnOk result (DeclarationWarns found.old.items declaration.now found.new.items) }
+{
+    match declaration {
+        Declaration::Field { .. } => Ok(()),
+        Declaration::Constant { .. } => Ok(()),
+        Declaration::Procedure(one) => procedure(one, found),
+    }
+}
+
+fn declarations(all: &[Declaration], found: &mut Vec<Warning>) -> Result<(), AllocError>
+    ensures { OnOk result (DeclarationsWarn found.old.items all.now found.new.items) }
+{
+    for one in all {
+        declaration(one, found)?;
+    }
+    Ok(())
+}
+
+/// What a text doesn't need, in the order of the text: each argument, value of a `let` and index of a loop that nothing reads; each `else` of a
+/// statement, a declaration or a procedure, and each `try`, where nothing can fail before it.
+///
+/// Otherwise the first fault of the text's tokens or grammar. Names are not looked up.
+pub fn warnings(alloc: Global, text: &[u8]) -> Result<Vec<Warning>, SyntaxFault>
+    ensures { IfOk result (λ found. AreWarnings text.now found.items) }
+{
+    let Syntax {
+        declarations: read,
+        names: _,
+    } = parse(alloc, text)?;
+    let mut found = Vec::new(alloc);
+    declarations(&read, &mut found)?;
+    Ok(found)
+}

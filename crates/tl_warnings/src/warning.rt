@@ -1,0 +1,23 @@
+// Warnings.
+
+use thiserror::Error;
+
+/// What isn't needed.
+#[derive(Clone, Copy, Debug, PartialEq, Eq, Error)]
+pub enum Needless {
+    /// An argument, the value of a `let` or the index of a loop.
+    #[error("nothing reads this value")]
+    Value,
+    /// An `else` of a statement, a declaration or a procedure.
+    #[error("nothing leads to this `else`: what stands before it can't fail")]
+    Else,
+    #[error("this `try` isn't needed: nothing in its block can fail")]
+    Try,
+}
+
+/// What isn't needed, and the offset at which it stands in the text.
+#[derive(Clone, Copy, Debug, PartialEq, Eq)]
+pub struct Warning {
+    pub needless: Needless,
+    pub offset: usize,
+}
