@@ -29,6 +29,20 @@ impl NamedProcedure {
         NamedProcedure { name, procedure }
     }
 
+    /// Its name.
+    pub fn name(&self) -> &str
+        ensures { result.now ≡ self.now.name }
+    {
+        self.name.as_str()
+    }
+
+    /// The procedure.
+    pub fn procedure(&self) -> &Proc
+        ensures { result.now ≡ self.now.code }
+    {
+        &self.procedure
+    }
+
     /// Its name and the procedure.
     pub fn into_parts(self) -> (String, Proc)
         ensures name { string_bytes result.0 ≡ self.name }
