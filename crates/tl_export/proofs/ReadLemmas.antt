@@ -1,8 +1,8 @@
 -- What was read of a store is what it holds.
-use Rattle.std.proofs.Common.{◌≡◌, ℕ, ◌+◌, ◌-◌, ◌<◌, ◌≤◌, List, [], ◌∷◌, length, take, drop, refl, sym, ap, ◌∙◌, arith}
+use Rattle.std.proofs.Common.{◌≡◌, ℕ, ◌+◌, ◌-◌, ◌<◌, ◌≤◌, List, [], ◌∷◌, length, take, drop, refl, sym, ap, ◌∙◌, subst, arith}
 use Rattle.sqlite_value.specs.Order.{Row}
 use Rattle.sqlite_trees.specs.Tree.{Trees}
-use Rattle.tl_ledger.specs.declared.schema.TheConstants.{TABLES}
+use Rattle.tl_ledger.specs.declared.schema.TheConstants.{NAME}
 use Rattle.tl_ledger.specs.Rows.{rows_from}
 use Rattle.tl_ledger.specs.Contents.{Contents, Holds}
 use Rattle.tl_export.specs.Epochs.{between}
@@ -17,14 +17,14 @@ same_columns n (x ∷ xs) (y ∷ ys) e =
     let tails : rows_from (n + 1) xs ≡ rows_from (n + 1) ys = cc in
     ap (λ z. z ∷ xs) heads ∙ ap (λ l. y ∷ l) (same_columns (n + 1) xs ys tails)
 
-pub all_read : (c : Contents) (db old : Trees) (table : ℕ) (items : List Row) → table < TABLES → Holds old c → db ≡ old → db table ≡ rows_from 0 items → c table ≡ items
-all_read c db old table items inside holds same rows = same_columns 0 (c table) items (sym (holds table inside) ∙ ap (λ f. f table) (sym same) ∙ rows)
+pub all_read : (c : Contents) (db old : Trees) (table : ℕ) (items : List Row) → table < NAME → Holds old c → db ≡ old → db table ≡ rows_from 0 items → c table ≡ items
+all_read c db old table items inside holds same rows = same_columns 0 (c table) items (sym (holds.numbered table inside) ∙ ap (λ f. f table) (sym same) ∙ rows)
 
-pub some_read : (c : Contents) (db old : Trees) (table first last count : ℕ) (items : List Row) → table < TABLES → Holds old c → db ≡ old → first ≤ length (c table) → first + count ≡ last
+pub some_read : (c : Contents) (db old : Trees) (table first last count : ℕ) (items : List Row) → table < NAME → Holds old c → db ≡ old → first ≤ length (c table) → first + count ≡ last
     → ((columns : List Row) → db table ≡ rows_from 0 columns → first ≤ length columns → items ≡ take count (drop first columns)) → items ≡ between first last (c table)
 some_read c db old table first last count items inside holds same few counted some =
     let many : count ≡ last - first = omega (arith, counted) in
-    some (c table) (ap (λ f. f table) same ∙ holds table inside) few ∙ ap (λ n. take n (drop first (c table))) many
+    some (c table) (ap (λ f. f table) same ∙ holds.numbered table inside) few ∙ ap (λ n. take n (drop first (c table))) many
 
 pub holds_again : (c : Contents) (db old : Trees) → Holds old c → db ≡ old → Holds db c
-holds_again c db old holds same t inside = ap (λ f. f t) same ∙ holds t inside
+holds_again c db old holds same = subst (λ (trees : Trees). Holds trees c) (sym same) holds

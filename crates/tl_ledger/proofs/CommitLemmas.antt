@@ -10,30 +10,36 @@ use Rattle.tl_ledger.specs.declared.news.News.{News}
 use Rattle.tl_ledger.specs.declared.founding.Founding.{Founding}
 use Rattle.tl_ledger.specs.declared.rows.ChangedRecord.{ChangedRecord}
 use Rattle.tl_ledger.specs.declared.committing.Marks.{Marks}
-use Rattle.tl_ledger.specs.declared.schema.TheConstants.{NODE, RECORD, PROCEDURE, CALL, TURN, REPLY, SEAL, OPENING, TABLES}
+use Rattle.tl_ledger.specs.declared.schema.TheConstants.{NODE, RECORD, PROCEDURE, CALL, TURN, REPLY, SEAL, OPENING, NAME}
 use Rattle.tl_ledger.specs.Rows.{Appends, rows_from}
 use Rattle.tl_ledger.specs.Contents.{Contents, Holds, with_rows, with_more}
 use Rattle.tl_ledger.specs.News.{Changes, Founds, AreEmpty, after_founding, node_columns, record_columns, new_columns, procedure_columns, call_columns, turn_columns, reply_columns, seal_columns, with_changes, with_changed, IsMarked, Adds, after_news}
 use Rattle.tl_ledger.proofs.RowLemmas.{put_row-at, only_again}
 
 -- one table was written, and the others haven't changed
-holds_rows : (old new : Trees) (c : Contents) (table : ℕ) (rows : List Row) → Holds old c → new table ≡ rows_from 0 rows → ((t : ℕ) → t ≢ table → new t ≡ old t)
+holds_rows : (old new : Trees) (c : Contents) (table : ℕ) (rows : List Row) → table < NAME → Holds old c → new table ≡ rows_from 0 rows → ((t : ℕ) → t ≢ table → new t ≡ old t)
     → Holds new (with_rows c table rows)
-holds_rows old new c table rows holds is others t inside = by_cases (cases_eq t table)
+holds_rows old new c table rows below holds is others = record {
+  numbered = λ t inside. by_cases t inside (cases_eq t table);
+  names = rw (ne_eqb NAME table names_other) (others NAME names_other ∙ holds.names);
+}
   where
-    by_cases : (t ≡ table) ⊎ (t ≢ table) → new t ≡ rows_from 0 (with_rows c table rows t)
-    by_cases (inl same) = rw (eq-eqb t table same) (ap new same ∙ is)
-    by_cases (inr other) = rw (ne_eqb t table other) (others t other ∙ holds t inside)
+    names_other : NAME ≢ table
+    names_other same = absurd (omega (arith, same, below))
 
-pub holds_more : (old new : View) (c : Contents) (table first : ℕ) (more : List Row) → table < TABLES → length (c table) ≡ first → Appends old new table first more
+    by_cases : (t : ℕ) → t < NAME → (t ≡ table) ⊎ (t ≢ table) → new t ≡ rows_from 0 (with_rows c table rows t)
+    by_cases t inside (inl same) = rw (eq-eqb t table same) (ap new same ∙ is)
+    by_cases t inside (inr other) = rw (ne_eqb t table other) (others t other ∙ holds.numbered t inside)
+
+pub holds_more : (old new : View) (c : Contents) (table first : ℕ) (more : List Row) → table < NAME → length (c table) ≡ first → Appends old new table first more
     → Holds old.trees c → Holds new.trees (with_more c table more)
 holds_more old new c table first more inside long adds holds =
-    holds_rows old.trees new.trees c table (c table ++ more) holds (adds.tree (c table) long (holds table inside)) adds.others
+    holds_rows old.trees new.trees c table (c table ++ more) inside holds (adds.tree (c table) long (holds.numbered table inside)) adds.others
 
 pub holds_changed : (old new : View) (c : Contents) (nodes : ℕ) (changed : List ChangedRecord) → length (c RECORD) ≡ nodes → Changes old new nodes changed
     → Holds old.trees c → Holds new.trees (with_changed c changed)
 holds_changed old new c nodes changed long changes holds =
-    holds_rows old.trees new.trees c RECORD (with_changes (c RECORD) changed) holds (changes.tree (c RECORD) long (holds RECORD (omega arith))) changes.others
+    holds_rows old.trees new.trees c RECORD (with_changes (c RECORD) changed) (omega arith) holds (changes.tree (c RECORD) long (holds.numbered RECORD (omega arith))) changes.others
 
 longer : (rows more : List Row) (n k : ℕ) → length rows ≡ n → length more ≡ k → length (rows ++ more) ≡ n + k
 longer rows more n k long short = let e = length-append rows more in omega (arith, e, long, short)

@@ -1,10 +1,10 @@
--- The contents of a store's tables: for each table its rows, without their numbers.
+-- The contents of a store's tables: for each table its rows, without their numbers; for the names of nodes, which clients write, with them.
 use Rattle.std.specs.Prelude.{◌≡◌, ℕ, ◌<◌, ◌==◌, false, if◌then◌else◌, List, [], ◌++◌, IsTrue}
 use Rattle.sqlite_value.specs.Order.{Row}
 use Rattle.sqlite_trees.specs.Tree.{Trees}
 use Rattle.sqlite_trees.specs.View.{View}
 use Rattle.sqlite_trees.specs.declared.store.Shape.TheVariants.{Table}
-use Rattle.tl_ledger.specs.declared.schema.TheConstants.{TABLES}
+use Rattle.tl_ledger.specs.declared.schema.TheConstants.{NAME, TABLES}
 use Rattle.tl_ledger.specs.Rows.{rows_from}
 
 abbrev pub Contents : Type 0
@@ -14,9 +14,10 @@ Contents = ℕ → List Row
 abbrev pub no_contents : Contents
 no_contents t = []
 
--- a database has these rows, numbered from 0
-abbrev pub Holds : Trees → Contents → Type 0
-Holds db c = (t : ℕ) → t < TABLES → db t ≡ rows_from 0 (c t)
+-- a database has these rows: each table's are numbered from 0, and the names are those of any nodes
+pub record Holds (db : Trees) (c : Contents) : Type 0 where
+  pub numbered : (t : ℕ) → t < NAME → db t ≡ rows_from 0 (c t)
+  pub names : db NAME ≡ c NAME
 
 -- the contents with the rows of one table replaced
 abbrev pub with_rows : Contents → ℕ → List Row → Contents

@@ -30,7 +30,7 @@ pub const SEAL: u32 = 6;
 /// The record of each node before any call.
 pub const OPENING: u32 = 7;
 
-/// The names of nodes. Only clients read and write them.
+/// The names of nodes, each under its node's number. Only clients read and write them. The rows of the tables before this one are numbered from 0.
 pub const NAME: u32 = 8;
 
 /// How many tables there are.

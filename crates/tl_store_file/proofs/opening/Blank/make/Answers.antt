@@ -3,6 +3,7 @@ use Rattle.sqlite_trees.proofs.Doubt.{clean_of}
 use Rattle.sqlite_store.proofs.ListingLemmas.{named_shape}
 use Rattle.sqlite_store.specs.Catalog.{shape_at}
 use Rattle.sqlite_store.specs.FileStore.{schema_of}
+use Rattle.tl_ledger.specs.declared.schema.TheConstants.{NAME}
 use Rattle.tl_store_file.proofs.opening.Blank.make.Goals as goal
 
 pub invariant_of-result : goal.invariant_of-result
@@ -16,4 +17,7 @@ invariant_of-result g c = record {
 }
 
 pub returns-in-Ok : goal.returns-in-Ok
-returns-in-Ok g c = λ clean t less. c.in-Ok.ensures.empty (clean_of _ clean) t (omega arith)
+returns-in-Ok g c = λ clean. record {
+  numbered = λ t less. c.in-Ok.ensures.empty (clean_of _ clean) t (omega arith);
+  names = c.in-Ok.ensures.empty (clean_of _ clean) NAME (omega arith);
+}
