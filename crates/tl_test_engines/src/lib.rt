@@ -8,6 +8,7 @@
 #![tactic(auto)]
 
 mod asking;
+mod crossing;
 mod ended;
 mod engine;
 mod exchange;
@@ -19,6 +20,7 @@ mod signal;
 mod table;
 
 pub use asking::{Answers, Asked, batch, done};
+pub use crossing::{Crossing, Point};
 pub use ended::Ended;
 pub use engine::{
     use_up_sessions, with_callers, with_engine, with_engine_on_threads, with_engine_that_seals,

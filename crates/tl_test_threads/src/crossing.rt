@@ -5,77 +5,16 @@ use std::process::Abort;
 use std::sync::Wait;
 use std::test::Fail;
 use std::thread::Threads;
-use tl_commands::{Inputs, run_cmd};
 use tl_table::Receipt;
 use tl_test_data::{FORK, LOOK};
-use tl_test_engines::{Asked, Ended, Signal, batch, with_engine_on_threads, with_one_session};
-use tl_tree::USUAL_NODES;
+use tl_test_engines::{
+    Asked, Crossing, Ended, Point, batch, with_engine_on_threads, with_one_session,
+};
 use tl_tree_locking::Event;
-use tl_workers::{Engine, Gate, Refusal, Session};
+use tl_workers::{Engine, Refusal, Session};
 
 /// How often two calls cross.
 const RUNS: u32 = 20;
-
-/// The point of its second turn at which call 0 is held: before the turn, or after its local instructions.
-#[derive(Clone, Copy, Debug, PartialEq, Eq)]
-enum Point {
-    Pass,
-    Ready,
-}
-
-/// Holds call 1 before its first turn until call 0 has reached that point of its second turn. Holds call 0 there until call 1 was
-/// answered.
-#[derive(Drop)]
-struct Crossing {
-    point: Point,
-    has_come: Signal,
-    was_answered: Signal,
-}
-
-impl Crossing {
-    fn new(point: Point) -> Crossing {
-        Crossing {
-            point,
-            has_come: Signal::new(),
-            was_answered: Signal::new(),
-        }
-    }
-
-    // Call 0 has reached a point of its second turn.
-    fn come_to(&self, point: Point) {
-        if point == self.point {
-            self.has_come.tell();
-            self.was_answered.wait();
-        }
-    }
-
-    // Neither call was held for too long.
-    fn came_in_time(&self) -> bool {
-        self.has_come.came_in_time() && self.was_answered.came_in_time()
-    }
-}
-
-impl Gate for Crossing {
-    fn pass(&self, call: u32, turn: u64) {
-        match (call, turn) {
-            (1, 1) => self.has_come.wait(),
-            (0, 2) => self.come_to(Point::Pass),
-            _ => {}
-        }
-    }
-
-    fn ready(&self, call: u32, turn: u64) {
-        if (call, turn) == (0, 2) {
-            self.come_to(Point::Ready);
-        }
-    }
-
-    fn answered(&self, call: u32) {
-        if call == 1 {
-            self.was_answered.tell();
-        }
-    }
-}
 
 /// Locks, frees and ends, each with its call: call 1 locks, frees and ends while call 0 holds its node.
 const CROSSED: [(char, u32); 6] = [('l', 0), ('l', 1), ('f', 1), ('d', 1), ('f', 0), ('d', 0)];
@@ -247,41 +186,6 @@ fn a_gate_shows_two_calls_on_threads(rt: HostRuntime) -> Result<(), Fail> {
 fn a_gate_shows_local_parts_of_two_calls(rt: HostRuntime) -> Result<(), Fail> {
     for _ in 0..RUNS {
         two_calls_cross(&rt, rt.alloc(), Point::Ready)?;
-    }
-    Ok(())
-}
-
-/// The two looks as a script.
-const SCRIPT: &[u8] =
-    b"{\"calls\":[[\"look\",[1]],[\"look\",[2]]],\"procs\":[[\"look\",\"arity 1\\nfirst n0 v0 else L4\\nget v1 n0 0\\nemit v1\\nrel n0\\nL4:\\nret\"]]}";
-
-/// What its run prints.
-const PRINTED: &str =
-    "{\"batch\":[{\"call\":0,\"reply\":[10]},{\"call\":1,\"reply\":[20]}]}\n{\"order\":[0,1]}\n{\"parents\":[0,0,0],\"records\":[[0,0,0,0,0,0,0,0],[10,0,0,0,0,0,0,0],[20,0,0,0,0,0,0,0]]}\n";
-
-/// Two workers run one look each of the script.
-fn two_workers_of_a_run_cross<R: Threads + Wait + Abort + Sync>(
-    rt: &R,
-    alloc: Global,
-    point: Point,
-) -> Result<(), Fail> {
-    let gate = Crossing::new(point);
-    let inputs = Inputs {
-        tree: FORK.as_bytes(),
-        script: SCRIPT,
-        procedures: Vec::new(alloc),
-        limit: USUAL_NODES,
-    };
-    let printed = run_cmd(rt, alloc, inputs, 2, &gate)?;
-    assert_eq!(rt; printed.as_str(), PRINTED);
-    assert!(rt; gate.came_in_time());
-    Ok(())
-}
-
-#[test]
-fn a_gate_shows_two_workers_of_a_run(rt: HostRuntime) -> Result<(), Fail> {
-    for _ in 0..RUNS {
-        two_workers_of_a_run_cross(&rt, rt.alloc(), Point::Pass)?;
     }
     Ok(())
 }

@@ -8,8 +8,6 @@ mod crossing;
 #[cfg(test)]
 mod engines;
 #[cfg(test)]
-mod generations;
-#[cfg(test)]
 mod limits;
 #[cfg(test)]
 mod places;
