@@ -96,10 +96,64 @@ def test_reading(tests, server):
 
 
 def test_texts_of_the_language(tests, server):
-    with treedb.Client(port=server(tree="examples/stock/tree.json", connections=1).port, timeout=60) as db:
-        bounds = db.register_all(tests.path("examples/stock/stock.tdb"), str(tests.program))
+    async def run(port):
+        async with await treedb.AsyncClient.connect(port=port, timeout=60) as db:
+            return [*await db.register_text("proc one() { emit 1; }")], (await db.call("one")).reply
+
+    it = server(tree="examples/stock/tree.json", connections=None)
+    with treedb.Client(port=it.port, timeout=60) as db:
+        bounds = db.register_file(tests.path("examples/stock/stock.tdb"))
         tests.same("the locks", {name: each.locks for name, each in bounds.items()}, {"shift": 5, "transfer": 9, "visit": 4, "stock": 2113})
         tests.same("a reply", db.call("shift", 10, 5, 0, 1).reply, [10])
+        with raises(treedb.Refused, r"\[281, 2, 10\] the node isn't held.*\(line 2, column 10\)"):
+            db.register_text("field pieces = 0; proc two(at) { lock n = node(at); free n;\n    emit n.pieces; }")
+    tests.same("asyncio's", asyncio.run(run(it.port)), (["one"], [1]))
+    with treedb.Client(port=server(connections=1).port, timeout=60) as db, raises(treedb.Refused, r"\[901\]"):
+        db.register_file(tests.path("examples/stock/stock.tdb"))
+
+
+EVERY = """version 2
+arity 8
+set v0 -2147483648
+copy v15 v0
+add v1 v2 v3 else end
+sub v1 v2 v3 else end
+mul v1 v2 v3 else end
+div v1 v2 v3 else end
+jlt v0 v1 next
+jeq v0 v1 next
+next:
+rep 3
+repv v0 65535
+end
+end
+jmp on
+on:
+first n7 v0 else end
+child n0 n7 v0 else end
+move n1 n0
+get v0 n1 7
+put n1 7 v0
+kids v0 n1
+emit v0
+rel n1
+end:
+ret
+"""
+
+
+def test_files_of_procedures(tests, server):
+    """A container is sent as the text that the program makes of it."""
+    tests.path("every.asm").write_text(EVERY)
+    tests.path("last.asm").write_text("arity 0\njmp end\nend:\n")
+    for name in ("every", "last"):
+        tests.run("asm", f"{name}.asm", f"{name}.tlp")
+    for name in ("every.tlp", "last.tlp", "examples/add.tlp", "examples/walk.tlp"):
+        tests.same(f"the text of {name}", treedb.texts.assembler_text(tests.bytes(name)), tests.run("dis", name).out)
+    with treedb.Client(port=server(tree=THREE, connections=1).port, timeout=60) as db:
+        tests.same("a container", db.register_file(tests.path("examples/add.tlp")), {"add": treedb.Bounds(steps=7, locks=1, emits=1)})
+        tests.same("an assembler text", [*db.register_file(tests.path("examples/add.asm"), "more")], ["more"])
+        tests.same("calls", db.batch([("add", 2, 1), ("more", 2, 1)]).replies(), [[8], [9]])
 
 
 def test_a_client_that_seals_on_a_server_that_lasts(tests, server):
@@ -232,6 +286,38 @@ def test_the_client_for_node_on_a_server(tests, server):
     tests.same("what it says", said_on_a_server(server, tests.folder), SAID)
 
 
+# What a server that lasts is asked by the client for Node.js, and the texts of these containers.
+FILES_ON_A_SERVER = """
+import { Client } from "treedb-client";
+const [, , port, ...files] = process.argv;
+const db = await Client.connect({ port: Number(port), timeout: 60_000 });
+const said = [];
+for (const file of files) said.push(Object.keys(await db.registerFile(file)));
+said.push((await db.call("shift", 10, 5, 0, 1)).reply.map(String));
+try { await db.registerText("proc"); } catch (refused) { said.push(refused.numbers); }
+await db.close();
+console.log(JSON.stringify(said));
+"""
+
+
+def test_files_of_procedures_in_node(tests, server):
+    needed("node")
+    tests.path("node_modules").mkdir(exist_ok=True)
+    if not tests.path("node_modules/treedb-client").exists():
+        tests.path("node_modules/treedb-client").symlink_to(JAVASCRIPT)
+    tests.path("every.asm").write_text(EVERY)
+    tests.run("asm", "every.asm", "every.tlp")
+    shown = subprocess.run(["node", "--input-type=module", "-e", f"""
+        import {{ readFileSync }} from "node:fs";
+        import {{ assemblerText }} from "{JAVASCRIPT}/containers.mjs";
+        process.stdout.write(assemblerText(readFileSync("every.tlp")));"""], cwd=tests.folder, capture_output=True, text=True, timeout=120, check=False)
+    tests.same("the text of a container", shown.stdout, tests.run("dis", "every.tlp").out)
+    tests.path("files.mjs").write_text(FILES_ON_A_SERVER)
+    files = ["examples/stock/stock.tdb", "examples/add.asm", "examples/walk.tlp"]
+    done = subprocess.run(["node", "files.mjs", str(server(tree="examples/stock/tree.json", connections=None).port), *files], cwd=tests.folder, capture_output=True, text=True, timeout=120, check=False)
+    tests.same("what it says", done.stdout, json.dumps([["shift", "transfer", "visit", "stock"], ["add"], ["walk"], ["10"], [273, 1, 5]], separators=(",", ":")) + "\n")
+
+
 # ---- packages: they install into an empty environment and an empty folder, without an index and without a registry
 
 # An index and a registry that nobody serves.
@@ -303,7 +389,7 @@ def test_the_archive(tests, server, packages):
     folder.mkdir()
     packages.done("npm", "install", "--offline", "--no-audit", "--no-fund", packages.archive, folder=folder)
     tests.same("its files", sorted(it.name for it in (folder / "node_modules/treedb-client").iterdir()),
-               ["LICENSE-APACHE", "LICENSE-MIT", "README.md", "faults.mjs", "package.json", "treedb.d.mts", "treedb.mjs"])
+               ["LICENSE-APACHE", "LICENSE-MIT", "README.md", "containers.mjs", "faults.mjs", "package.json", "treedb.d.mts", "treedb.mjs"])
     tests.same("what it says", said_on_a_server(server, folder), SAID)
 
 

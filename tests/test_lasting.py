@@ -14,6 +14,17 @@ from serving import ADD, CALL, LONG, Peer, serving
 QUO = json.dumps({"op": "register", "name": "quo", "asm": "arity 2\ndiv v2 v0 v1 else L\nemit v2\nL:\nret\n"})
 QUOTIENT = ["quo", [6, 3]]
 SEAL = json.dumps({"op": "seal"})
+TEXT = """field pieces = 0;
+proc put(at, amount) {
+    lock n = node(at);
+    n.pieces += amount;
+    emit n.pieces;
+}
+proc look(at) {
+    lock n = node(at);
+    emit n.pieces;
+}
+"""
 
 
 def lines(*values):
@@ -409,6 +420,62 @@ def test_unknown_growth(tests):
             peer.close()
             run = server.end()
         tests.check(f"growth of a server {name}", told == [lines({"error": [901]})] * 2 and run.status == 0, (told, run))
+
+
+def text(source):
+    return json.dumps({"op": "register", "text": source})
+
+
+def call(procedure, *arguments):
+    return json.dumps({"op": "call", "proc": procedure, "args": arguments})
+
+
+def test_texts(tests):
+    """All procedures of a text are registered, in its order, and do what they say."""
+    tests.path("text.tdb").write_text(TEXT)
+    checked = json.loads(tests.run("check", "text.tdb").out)
+    with one_connection(tests, "texts") as server:
+        peer = Peer(server.port)
+        told = peer.ask(text(TEXT))
+        wanted = [{"bounds": each["bounds"], "name": name} for name, each in checked]
+        tests.check("a text: its procedures", told == lines({"registered": wanted}) and [it["name"] for it in wanted] == ["put", "look"], (told, checked))
+        told = [peer.ask(call("put", 0, 7)), peer.ask(call("look", 0))]
+        tests.check("a text: what they do", told == [lines(answer(0, 0, 12)), lines(answer(1, 0, 12))], told)
+        peer.close()
+        run = server.end()
+    tests.check("a text: the end", (run.status, run.out) == (0, lines({"generations": 1}, tree(12))), run)
+    tests.answers("a text: the audit", ["audit", "texts"], 0, lines({"orders": [[0, 1]]}), "")
+
+
+def test_refused_texts(tests):
+    """For the first fault of the text, with its place, or of a name; then none of its procedures is registered."""
+    other = TEXT.replace("proc put", "proc other")
+    faults = [("that no parser knows", other + "prok", [273, 11, 1]), ("with a node that isn't held", other.replace("    emit n.pieces;\n}\n", "    free n; emit n.pieces;\n}\n"), [281, 5, 18]),
+              ("with a fault behind a procedure", other.replace("lock n = node(at);\n    emit", "lock n = node(it);\n    emit"), [275, 8, 19]),
+              ("of two procedures of one name", other.replace("look", "other"), [276, 7, 6]), ("of which a name is taken", other, [611])]
+    with one_connection(tests, "refused") as server:
+        peer = Peer(server.port)
+        peer.ask(text(TEXT))
+        for name, source, numbers in faults:
+            told = [peer.ask(text(source)), peer.ask(call("other", 0, 1))]
+            tests.check(f"a text {name}", told == [lines({"error": numbers}), lines({"error": [601]})], told)
+        told = peer.ask(text(other.replace("look", "another")))
+        tests.check("its names are free after that", [it["name"] for it in json.loads(told)["registered"]] == ["other", "another"], told)
+        told = [peer.ask(json.dumps({"op": "register", **more})) for more in ({"text": ""}, {"text": 1}, {"text": TEXT, "name": "all"}, {"asm": "ret"})]
+        tests.check("a text without a procedure, and what is no registration", told == [lines({"registered": []})] + [lines({"error": [901]})] * 3, told)
+        peer.close()
+        server.end()
+
+
+def test_texts_of_other_servers(tests):
+    """A server whose trail is one file takes texts too; one whose clients seal doesn't know them."""
+    for name, words, wanted in (("in one file", ["--seal", "itself", "--trail", "texts.json"], True), ("by hand", [], False)):
+        with serving(tests, *words, connections=1) as server:
+            peer = Peer(server.port)
+            told = peer.ask(text(TEXT))
+            peer.close()
+            run = server.end()
+        tests.check(f"a text of a server {name}", (told.startswith('{"registered":[{') if wanted else told == lines({"error": [901]})) and run.status == 0, (told, run))
 
 
 def grow_often(port, count, numbers):

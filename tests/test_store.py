@@ -181,6 +181,25 @@ def test_registered(tests):
     tests.answers("another procedure of that name", ["serve", "--port", str(free_port()), "--store", "named.db", "--proc", "add=examples/walk.asm"], 1, lines({"error": [611]}))
 
 
+def test_texts(tests):
+    """The procedures of a text are stored, in its order, before it is answered."""
+    source = "field pieces = 0; proc add(at, amount) { lock n = node(at); n.pieces += amount; emit n.pieces; } proc one() { emit 1; }"
+    with made(tests, "texts.db") as server:
+        peer = Peer(server.port)
+        told = peer.ask(json.dumps({"op": "register", "text": source}))
+        kill(server)
+    tests.check("a text with a store", [it["name"] for it in json.loads(told)["registered"]] == ["add", "one"], told)
+    with again(tests, "texts.db") as server:
+        peer = Peer(server.port)
+        told = [peer.ask(call(0, 1)), peer.ask(json.dumps({"op": "call", "proc": "one", "args": []})), peer.ask(json.dumps({"op": "register", "text": source}))]
+        peer.close()
+        server.stop()
+        server.end()
+    tests.check("a text after a kill", told == [reply(0, 6), reply(1, 1), lines({"error": [611]})], told)
+    found = stored(tests, "texts.db", "select number, name from procedure")
+    tests.check("its procedures are stored", found == [(0, "add"), (1, "one")], found)
+
+
 def test_growth(tests):
     """Nodes that are appended are stored, with the epoch at whose beginning they were there first."""
     name = "grown.db"

@@ -71,6 +71,10 @@ export class Client {
   static connect(port: number, host?: string): Promise<Client>;
   /** Registers a procedure's assembler text under a name. */
   register(name: string, asm: string): Promise<Bounds>;
+  /** Registers all procedures of a text of the procedure language, or none. */
+  registerText(text: string): Promise<Record<string, Bounds>>;
+  /** Registers the procedures of a file: all of a `.tdb`; the one of a `.tlp` or of an assembler text, under `name` or the file's name without its ending. */
+  registerFile(path: string | URL, name?: string): Promise<Record<string, Bounds>>;
   /** Runs a call to its end. */
   call(procedure: string, ...args: Integer[]): Promise<Answer>;
   /** Runs 1 to 256 calls, on 1 to 16 threads at once. */

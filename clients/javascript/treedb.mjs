@@ -3,14 +3,18 @@
 //     import { Client } from "treedb-client";
 //
 //     const db = await Client.connect({ port: 7878 });
-//     await db.register("add", "arity 2\n..");
-//     console.log((await db.call("add", 0, 3n)).reply);
+//     await db.registerFile("stock.tdb");
+//     console.log((await db.call("stock", 1n)).reply);
 //     await db.close();
 //
 // Numbers of records are signed 64-bit integers, which a JavaScript number can't hold: arguments may be BigInts, or numbers that are safe integers,
 // and replies are BigInts. `docs/use/server.md` has the lines that go to and fro, `docs/use/faults.md` all numbers of refusals.
 
+import { readFile } from "node:fs/promises";
 import net from "node:net";
+import { parse } from "node:path";
+import { fileURLToPath } from "node:url";
+import { assemblerText } from "./containers.mjs";
 import { FAULTS } from "./faults.mjs";
 
 export { FAULTS };
@@ -25,7 +29,7 @@ export class TreedbError extends Error {
 
 /**
  * The server refused a request, and nothing was changed. `numbers` are the fault's number and then its parts, as [405, 3, 1]; `number` is the first, `meaning`
- * says when it is answered, and `advice` what to do.
+ * says when it is answered, and `advice` what to do. Of a text of the procedure language that has a fault, the numbers end with its line and its column.
  */
 export class Refused extends TreedbError {
   constructor(numbers) {
@@ -105,6 +109,8 @@ function answerOf(line) {
   return JSON.parse(line.replace(/"(?:[^"\\]|\\.)*"|-?\d{16,}/g, (it) => (it.startsWith('"') ? it : `"${it}"`)));
 }
 
+const utf8 = new TextDecoder("utf-8", { fatal: true });
+
 const callOf = ({ call, reply, epoch = 0 }) => ({ call, reply: reply.map(BigInt), epoch });
 
 export class Client {
@@ -152,6 +158,30 @@ export class Client {
   /** Registers a procedure's assembler text under a name. Answers its bounds: `{ steps, locks, emits }`. */
   async register(name, asm) {
     return (await this.#ask(`{"op":"register","name":${text(name)},"asm":${text(asm)}}`)).bounds;
+  }
+
+  /**
+   * Registers all procedures of a text of the procedure language, or none. Answers the bounds of each by its name. A server with `--connections` doesn't take such
+   * texts: 901.
+   */
+  async registerText(written) {
+    const { registered } = await this.#ask(`{"op":"register","text":${text(written)}}`);
+    return Object.fromEntries(registered.map(({ name, bounds }) => [name, bounds]));
+  }
+
+  /**
+   * Registers the procedures of a file. Answers the bounds of each by its name. Of a file `.tdb` they are those of its text, as `registerText` has it. A container
+   * (`.tlp`), and an assembler text in any other file, has one procedure, which is registered under `name`, or else the file's name without its ending.
+   */
+  async registerFile(path, name) {
+    const bytes = await readFile(path);
+    const file = parse(path instanceof URL ? fileURLToPath(path) : path);
+    if (file.ext === ".tdb") {
+      if (name !== undefined) throw new TypeError("a text of the procedure language names its procedures itself");
+      return this.registerText(utf8.decode(bytes));
+    }
+    const own = name ?? file.name;
+    return Object.fromEntries([[own, await this.register(own, file.ext === ".tlp" ? assemblerText(bytes) : utf8.decode(bytes))]]);
   }
 
   /** Runs a call to its end. Answers `{ call, reply, epoch }`. */

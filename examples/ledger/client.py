@@ -10,7 +10,7 @@ BRANCH = 1
 DONE = 1
 
 with Client(port=int(sys.argv[1]), timeout=60) as db:
-    db.register_all(LEDGER)
+    db.register_file(LEDGER)
 
     # Two hundred postings at once, on four threads: to and fro between the same two accounts.
     batch = db.batch([("post", 1, BRANCH, 0, 1), ("post", 1, BRANCH, 1, 0)] * 100, workers=4)

@@ -8,7 +8,7 @@ from treedb import Client
 QUOTA = pathlib.Path(__file__).resolve().parent / "quota.tdb"
 
 with Client(port=int(sys.argv[1]), timeout=60) as db:
-    db.register_all(QUOTA)
+    db.register_file(QUOTA)
 
     # Both files of the first directory, into the same free place of the second one, at once: one of them is too large for it.
     batch = db.batch([("move_file", 0, 0, 1, 1), ("move_file", 0, 1, 1, 1)], workers=2)

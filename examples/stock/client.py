@@ -10,18 +10,17 @@ HERE = pathlib.Path(__file__).resolve().parent
 NAME_TAKEN = 611
 
 
-def register(db, name):
+def register(db):
     try:
-        bounds = db.register_file(name, HERE / "stock.tdb")
-        print(f"{name} locks at most {bounds.locks} nodes")
+        for name, bounds in db.register_file(HERE / "stock.tdb").items():
+            print(f"{name} locks at most {bounds.locks} nodes")
     except Refused as refusal:
         if refusal.number != NAME_TAKEN:
             raise
 
 
 with Client(port=int(sys.argv[1]), timeout=60) as db:
-    for procedure in ("transfer", "shift", "visit", "stock"):
-        register(db, procedure)
+    register(db)
 
     # Eight calls at once, on four threads.
     batch = db.batch(

@@ -1,11 +1,12 @@
 // The package's own tests, which need no server: `npm test`. `tests/test_clients.py` tries the package on a server.
 
 import assert from "node:assert/strict";
-import { readFileSync, mkdtempSync, rmSync } from "node:fs";
+import { readFileSync, mkdtempSync, rmSync, writeFileSync } from "node:fs";
 import net from "node:net";
 import { tmpdir } from "node:os";
 import { join } from "node:path";
 import test from "node:test";
+import { pathToFileURL } from "node:url";
 import * as treedb from "../treedb.mjs";
 
 const { Batch, Client, Disconnected, FAULTS, MissingNode, Refused, TimedOut, TreedbError } = treedb;
@@ -115,6 +116,41 @@ test("records are read", async () => {
     await db.close();
   });
   assert.deepEqual(lines.map((line) => JSON.parse(line).op), ["register", "batch", "batch", "batch", "close"]);
+});
+
+test("texts and files of procedures", async () => {
+  const bounds = { emits: 1, locks: 2, steps: 3 };
+  const registered = { registered: [{ bounds, name: "two" }, { bounds, name: "__proto__" }] };
+  const folder = mkdtempSync(join(tmpdir(), "treedb-"));
+  const file = (name, content) => {
+    writeFileSync(join(folder, name), content);
+    return join(folder, name);
+  };
+  try {
+    const [, lines] = await serving(inTurn(registered, registered, { bounds }, { bounds }, { bounds }, { error: [281, 13, 18] }), async (to) => {
+      const db = await Client.connect(to);
+      assert.deepEqual(Object.entries(await db.registerText("proc é")), [["two", bounds], ["__proto__", bounds]]);
+      assert.deepEqual(Object.keys(await db.registerFile(file("more.tdb", "proc"))), ["two", "__proto__"]);
+      assert.deepEqual(await db.registerFile(file("turn.asm", "ret\n")), { turn: bounds });
+      assert.deepEqual(await db.registerFile(pathToFileURL(file("turn.asm", "ret\n")), "other"), { other: bounds });
+      assert.deepEqual(await db.registerFile(file("add.tlp", Buffer.from("544c5032020000011400000000000000", "hex"))), { add: bounds });
+      await assert.rejects(db.registerFile(file("more.tdb", "proc")), { number: 281, numbers: [281, 13, 18] });
+      await assert.rejects(db.registerFile(file("more.tdb", "proc"), "more"), TypeError);
+      await assert.rejects(db.registerFile(file("more.tdb", Buffer.from([255]))), TypeError);
+      await assert.rejects(db.registerFile(join(folder, "none.tdb")), { code: "ENOENT" });
+      for (const broken of ["", "TLP1", "TLP3\0\0\0\0", "TLP1\0\0\0\u0001ret", Buffer.from("544c5031000000011600000000000000", "hex")]) {
+        await assert.rejects(db.registerFile(file("wrong.tlp", broken)), RangeError);
+      }
+      await db.close();
+    });
+    assert.deepEqual(lines.map((line) => JSON.parse(line)), [
+      { op: "register", text: "proc é" }, { op: "register", text: "proc" }, { op: "register", name: "turn", asm: "ret\n" },
+      { op: "register", name: "other", asm: "ret\n" }, { op: "register", name: "add", asm: "version 2\narity 2\nret\n" },
+      { op: "register", text: "proc" }, { op: "close" },
+    ]);
+  } finally {
+    rmSync(folder, { recursive: true });
+  }
 });
 
 test("growth and seals", async () => {

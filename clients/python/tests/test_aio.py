@@ -6,7 +6,7 @@ import tempfile
 import threading
 import unittest
 
-from treedb import Answer, AsyncClient, Disconnected, MissingNode, Names, Refused, TimedOut
+from treedb import Answer, AsyncClient, Bounds, Disconnected, MissingNode, Names, Refused, TimedOut
 
 from .fake import END, answers, echo, serving
 
@@ -113,6 +113,19 @@ class Async(unittest.IsolatedAsyncioTestCase):
                 with self.assertRaises(MissingNode):
                     await db.read(5)
         self.assertEqual([request["op"] for request in server.heard], ["register", "batch", "batch", "batch", "close"])
+
+    async def test_texts(self):
+        bounds = {"emits": 1, "locks": 2, "steps": 3}
+        with serving(answers({"registered": [{"bounds": bounds, "name": "one"}]}, {"bounds": bounds}, {"error": [273, 2, 5]})) as server, \
+                tempfile.TemporaryDirectory() as folder:
+            file = pathlib.Path(folder, "two.asm")
+            file.write_text("ret\n")
+            async with await AsyncClient.connect(port=server.port) as db:
+                self.assertEqual(await db.register_text("proc"), {"one": Bounds(3, 2, 1)})
+                self.assertEqual(await db.register_file(file), {"two": Bounds(3, 2, 1)})
+                with self.assertRaisesRegex(Refused, "line 2, column 5"):
+                    await db.register_text("proc")
+        self.assertEqual(server.heard[1], {"op": "register", "name": "two", "asm": "ret\n"})
 
     async def test_growth(self):
         names = Names([0], [""])

@@ -125,7 +125,7 @@ class Batches(unittest.TestCase):
 class Failures(unittest.TestCase):
     def test_all_are_errors(self):
         for kind, other in ((Refused, Exception), (Disconnected, ConnectionError), (TimedOut, TimeoutError), (MissingNode, IndexError),
-                            (Exhausted, Exception), (treedb.Unreadable, Exception)):
+                            (Exhausted, Exception)):
             self.assertTrue(issubclass(kind, Error) and issubclass(kind, other), kind)
 
     def test_the_server_ends_the_connection(self):

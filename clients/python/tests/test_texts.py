@@ -1,24 +1,17 @@
 from __future__ import annotations
 
 import json
-import os
 import pathlib
 import tempfile
 import unittest
-from unittest import mock
 
 import treedb
-from treedb import Client, Refused, Status, Unreadable
+from treedb import Bounds, Client, Refused, Status
 
 from .fake import answers, serving
 
-# In the place of the program: it knows one text, and refuses any other.
-PROGRAM = """#!/bin/sh
-case "$2" in
-*good.tdb) echo '[["one","arity 0\\\\nret\\\\n"],["two","arity 1\\\\nret\\\\n"]]' ;;
-*) echo "bad.tdb:1:1" >&2; exit 1 ;;
-esac
-"""
+BOUNDS = {"emits": 1, "locks": 2, "steps": 3}
+REGISTERED = {"registered": [{"bounds": BOUNDS, "name": "two"}, {"bounds": BOUNDS, "name": "one"}]}
 
 
 class Texts(unittest.TestCase):
@@ -26,42 +19,52 @@ class Texts(unittest.TestCase):
         folder = tempfile.TemporaryDirectory()
         self.addCleanup(folder.cleanup)
         self.folder = pathlib.Path(folder.name)
-        self.program = self.folder / "treedb"
-        self.program.write_text(PROGRAM)
-        self.program.chmod(0o755)
 
-    def on_path(self):
-        return mock.patch.dict(os.environ, {"PATH": f"{self.folder}{os.pathsep}{os.environ['PATH']}"})
+    def file(self, name, content):
+        path = self.folder / name
+        path.write_bytes(content.encode() if isinstance(content, str) else content)
+        return path
 
-    def test_the_program_is_on_the_path(self):
-        with self.on_path():
-            self.assertEqual(treedb.procedures_of("good.tdb"), {"one": "arity 0\nret\n", "two": "arity 1\nret\n"})
-            self.assertEqual(treedb.text_of("two", pathlib.Path("good.tdb")), "arity 1\nret\n")
+    def test_a_text(self):
+        with serving(answers(REGISTERED)) as server, Client(port=server.port) as db:
+            found = db.register_text("proc é")
+        self.assertEqual(list(found.items()), [("two", Bounds(3, 2, 1)), ("one", Bounds(3, 2, 1))])
+        self.assertEqual(server.heard[0], {"op": "register", "text": "proc é"})
 
-    def test_a_program_by_its_name(self):
-        self.assertEqual(list(treedb.procedures_of("good.tdb", str(self.program))), ["one", "two"])
+    def test_files(self):
+        text, assembler, container = self.file("more.tdb", "proc"), self.file("turn.asm", "arity 0\nret\n"), self.file("add.tlp", bytes.fromhex("544c503200000001 1400000000000000"))
+        told = {"bounds": BOUNDS}
+        with serving(answers(REGISTERED, told, told, told)) as server, Client(port=server.port) as db:
+            found = [db.register_file(text), db.register_file(str(assembler)), db.register_file(assembler, "other"), db.register_file(container)]
+        self.assertEqual([list(each) for each in found], [["two", "one"], ["turn"], ["other"], ["add"]])
+        self.assertEqual(found[1]["turn"], Bounds(3, 2, 1))
+        self.assertEqual(server.heard[:-1], [{"op": "register", "text": "proc"}, {"op": "register", "name": "turn", "asm": "arity 0\nret\n"},
+                                             {"op": "register", "name": "other", "asm": "arity 0\nret\n"},
+                                             {"op": "register", "name": "add", "asm": "version 2\narity 0\nret\n"}])
 
-    def test_there_is_no_program(self):
-        with mock.patch.dict(os.environ, {"PATH": "/nowhere"}), mock.patch("os.access", return_value=False), self.assertRaisesRegex(FileNotFoundError, "path"):
-            treedb.procedures_of("good.tdb")
+    def test_files_that_are_not_sent(self):
+        broken = [b"", b"TLP1", b"TLP3\0\0\0\0", b"TLP1\0\0\0\1ret", bytes.fromhex("544c503100000001 1600000000000000")]
+        with serving(answers()) as server, Client(port=server.port) as db:
+            for content in broken:
+                with self.assertRaisesRegex(ValueError, "no container"):
+                    db.register_file(self.file("wrong.tlp", content))
+            with self.assertRaisesRegex(ValueError, "itself"):
+                db.register_file(self.file("more.tdb", "proc"), "more")
+            with self.assertRaises(UnicodeDecodeError):
+                db.register_file(self.file("more.tdb", b"\xff"))
+            with self.assertRaises(FileNotFoundError):
+                db.register_file(self.folder / "none.tdb")
+        self.assertEqual(server.heard, [{"op": "close"}])
 
-    def test_texts_that_are_refused(self):
-        with self.on_path():
-            with self.assertRaisesRegex(Unreadable, "bad.tdb:1:1"):
-                treedb.procedures_of("bad.tdb")
-            with self.assertRaisesRegex(Unreadable, "no procedure three"):
-                treedb.text_of("three", "good.tdb")
-
-    def test_a_text_of_instructions_needs_no_program(self):
-        file = self.folder / "add.asm"
-        file.write_text("arity 2\n")
-        self.assertEqual(treedb.text_of("add", file), "arity 2\n")
-
-    def test_all_procedures_of_a_text(self):
-        bounds = {"bounds": {"emits": 0, "locks": 0, "steps": 1}}
-        with self.on_path(), serving(answers(bounds, bounds)) as server, Client(port=server.port) as db:
-            self.assertEqual(list(db.register_all("good.tdb")), ["one", "two"])
-        self.assertEqual([request.get("name") for request in server.heard], ["one", "two", None])
+    def test_a_refused_text_has_its_place(self):
+        with serving(answers({"error": [281, 13, 18]}, {"error": [611]}, {"error": [901]})) as server, Client(port=server.port) as db:
+            with self.assertRaisesRegex(Refused, r"\[281, 13, 18\].*\(line 13, column 18\)") as refused:
+                db.register_text("")
+            self.assertEqual((refused.exception.line, refused.exception.column), (13, 18))
+            for number in (611, 901):
+                with self.assertRaisesRegex(Refused, rf"\[{number}\]") as refused:
+                    db.register_file(self.file("more.tdb", "proc"))
+                self.assertIsNone(refused.exception.line)
 
     def test_a_script(self):
         made = treedb.script({"one": "arity 0\nret\n"}, [("one",), ("one", 1, 2)])

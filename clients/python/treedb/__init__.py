@@ -3,7 +3,7 @@
     from treedb import Client, Refused
 
     with Client("127.0.0.1", 7878) as db:
-        db.register_file("transfer", "examples/stock/stock.tdb")
+        db.register_file("examples/stock/stock.tdb")
         answer = db.call("transfer", 5, 0, 0, 0, 1, 0, 0)
         print(answer.call, answer.reply)
         print(db.batch([("transfer", 5, 0, 0, 0, 1, 0, 0), ("transfer", 3, 2, 1, 0, 0, 0, 1)], workers=2).replies())
@@ -21,13 +21,13 @@ language can do the same; `docs/use/faults.md` has all numbers.
 from .aio import AsyncClient
 from .client import Client
 from .control import Status, status, stop
-from .errors import Disconnected, Error, Exhausted, MissingNode, Refused, TimedOut, Unreadable
+from .errors import Disconnected, Error, Exhausted, MissingNode, Refused, TimedOut
 from .faults import FAULTS
 from .names import Names
 from .protocol import Answer, Batch, Bounds
 from .stores import write_names
-from .texts import procedures_of, script, text_of
+from .texts import script
 
 __all__ = ["FAULTS", "Answer", "AsyncClient", "Batch", "Bounds", "Client", "Disconnected", "Error", "Exhausted", "MissingNode", "Names", "Refused", "Status",
-           "TimedOut", "Unreadable", "procedures_of", "script", "status", "stop", "text_of", "write_names"]
+           "TimedOut", "script", "status", "stop", "write_names"]
 __version__ = "0.1.0"

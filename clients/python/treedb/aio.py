@@ -12,9 +12,9 @@ from typing import Any
 from .connection import LOOPBACK, address_of, spoken
 from .errors import Disconnected, Refused, TimedOut
 from .names import Names
-from .protocol import (MAX_BATCH, NAME_TAKEN, READER, READER_TEXT, Answer, Batch, Bounds, Call, answer_of, batch_in, batch_request, bounds_in, call_in,
-                       call_request, grow_request, line_of, records_in, register_request, wanted, with_line)
-from .texts import procedures_of, text_of
+from .protocol import (MAX_BATCH, NAME_TAKEN, READER, READER_TEXT, Answer, Batch, Bounds, Call, answer_of, batch_in, batch_request, call_in, call_request,
+                       grow_request, line_of, records_in, register_request, registered_in, text_request, wanted, with_place)
+from .texts import file_request
 
 __all__ = ["AsyncClient"]
 
@@ -62,18 +62,15 @@ class AsyncClient:
 
     async def register(self, name: str, text: str) -> Bounds:
         """Registers an assembler text under a name, and returns its `Bounds`."""
-        try:
-            return bounds_in(await self._ask(register_request(name, text)))
-        except Refused as refusal:
-            raise with_line(refusal, text) from None
+        return (await self._register(register_request(name, text)))[name]
 
-    async def register_file(self, name: str, path: str | os.PathLike[str], program: str | None = None) -> Bounds:
-        """Registers the text of a file under a name, as `Client.register_file` does."""
-        return await self.register(name, await _in_thread(text_of, name, path, program))
+    async def register_text(self, text: str) -> dict[str, Bounds]:
+        """Registers all procedures of a text of the procedure language, or none, as `Client.register_text` does."""
+        return await self._register(text_request(text))
 
-    async def register_all(self, path: str | os.PathLike[str], program: str | None = None) -> dict[str, Bounds]:
-        """Registers all procedures of a file `.tdb`, as `Client.register_all` does."""
-        return {name: await self.register(name, text) for name, text in (await _in_thread(procedures_of, path, program)).items()}
+    async def register_file(self, path: str | os.PathLike[str], name: str | None = None) -> dict[str, Bounds]:
+        """Registers the procedures of a file, as `Client.register_file` does."""
+        return await self._register(await _in_thread(file_request, path, name))
 
     async def call(self, procedure: str, *arguments: int) -> Answer:
         """Runs a call to its end, and returns its `Answer`."""
@@ -123,6 +120,12 @@ class AsyncClient:
             await self.close()
         else:
             await self._hang_up()
+
+    async def _register(self, request: dict[str, Any]) -> dict[str, Bounds]:
+        try:
+            return registered_in(request, await self._ask(request))
+        except Refused as refusal:
+            raise with_place(refusal, request) from None
 
     async def _register_reader(self) -> None:
         # Tasks that read at the same time wait for the same registration.

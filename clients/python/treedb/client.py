@@ -11,9 +11,9 @@ from typing import Any
 from .connection import LOOPBACK, address_of, connected
 from .errors import Disconnected, Exhausted, Refused, TimedOut
 from .names import Names
-from .protocol import (MAX_BATCH, NAME_TAKEN, READER, READER_TEXT, Answer, Batch, Bounds, Call, Outcome, answer_of, batch_in, batch_request, bounds_in,
-                       call_in, call_request, grow_request, line_of, records_in, register_request, wanted, with_line)
-from .texts import procedures_of, text_of
+from .protocol import (MAX_BATCH, NAME_TAKEN, READER, READER_TEXT, Answer, Batch, Bounds, Call, Outcome, answer_of, batch_in, batch_request, call_in,
+                       call_request, grow_request, line_of, records_in, register_request, registered_in, text_request, wanted, with_place)
+from .texts import file_request
 
 __all__ = ["Client"]
 
@@ -46,21 +46,22 @@ class Client:
 
     def register(self, name: str, text: str) -> Bounds:
         """Registers an assembler text under a name, and returns its `Bounds`."""
-        try:
-            return bounds_in(self._ask(register_request(name, text)))
-        except Refused as refusal:
-            raise with_line(refusal, text) from None
+        return self._register(register_request(name, text))[name]
 
-    def register_file(self, name: str, path: str | os.PathLike[str], program: str | None = None) -> Bounds:
-        """Registers the text of a file under a name, and returns its `Bounds`.
+    def register_text(self, text: str) -> dict[str, Bounds]:
+        """Registers all procedures of a text of the procedure language, or none, and returns their `Bounds` by name, in the order of the text.
 
-        Of a file `.tdb` it is the procedure of that name, which the program `treedb` compiles; any other file has an assembler text.
+        A server with `--connections` doesn't take such texts: 901.
         """
-        return self.register(name, text_of(name, path, program))
+        return self._register(text_request(text))
 
-    def register_all(self, path: str | os.PathLike[str], program: str | None = None) -> dict[str, Bounds]:
-        """Registers all procedures of a file `.tdb`, which the program `treedb` compiles, and returns their `Bounds` by name."""
-        return {name: self.register(name, text) for name, text in procedures_of(path, program).items()}
+    def register_file(self, path: str | os.PathLike[str], name: str | None = None) -> dict[str, Bounds]:
+        """Registers the procedures of a file, and returns their `Bounds` by name.
+
+        Of a file `.tdb` they are those of its text, as `register_text` has it. A container (`.tlp`), and an assembler text in any other file, has one procedure,
+        which is registered under `name`, or else the file's name without its ending.
+        """
+        return self._register(file_request(path, name))
 
     def call(self, procedure: str, *arguments: int) -> Answer:
         """Runs a call to its end, and returns its `Answer`."""
@@ -153,6 +154,12 @@ class Client:
             self.close()
         else:
             self._hang_up()
+
+    def _register(self, request: dict[str, Any]) -> dict[str, Bounds]:
+        try:
+            return registered_in(request, self._ask(request))
+        except Refused as refusal:
+            raise with_place(refusal, request) from None
 
     def _register_reader(self) -> None:
         if self._reads:

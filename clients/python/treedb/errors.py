@@ -6,7 +6,7 @@ from collections.abc import Iterable
 
 from .faults import FAULTS
 
-__all__ = ["Disconnected", "Error", "Exhausted", "MissingNode", "Refused", "TimedOut", "Unreadable"]
+__all__ = ["Disconnected", "Error", "Exhausted", "MissingNode", "Refused", "TimedOut"]
 
 
 class Error(Exception):
@@ -17,23 +17,19 @@ class Refused(Error):
     """The server refused a request, and nothing was changed.
 
     `numbers` are the fault's number and then its parts, as `[405, 3, 1]`; `number` is the first, `meaning` says when it is answered, and `advice` what
-    to do. Where a text was refused, `line` is the number of its line, from 1.
+    to do. Where a text was refused, `line` is the number of its line, from 1, and of the procedure language `column` the place in it.
     """
 
-    def __init__(self, numbers: Iterable[int], line: int | None = None) -> None:
+    def __init__(self, numbers: Iterable[int], line: int | None = None, column: int | None = None) -> None:
         self.numbers = list(numbers)
         self.number = self.numbers[0]
         fault = FAULTS.get(self.number)
         self.meaning = fault.meaning if fault else "a number that this client doesn't know"
         self.advice = fault.advice if fault else "see docs/use/faults.md of the server's version"
-        self.line = line
+        self.line, self.column = line, column
         parts = "".join(f", {part}" for part in self.numbers[1:])
-        where = "" if line is None else f" (line {line})"
+        where = "" if line is None else f" (line {line})" if column is None else f" (line {line}, column {column})"
         super().__init__(f"[{self.number}{parts}] {self.meaning}{where}")
-
-
-class Unreadable(Error):
-    """A text of the procedure language that is refused, with its line and a caret under the place, or one that lacks a procedure."""
 
 
 class Exhausted(Error):

@@ -87,6 +87,10 @@ def register_request(name: str, text: str) -> dict[str, Any]:
     return {"op": "register", "name": name, "asm": text}
 
 
+def text_request(text: str) -> dict[str, Any]:
+    return {"op": "register", "text": text}
+
+
 def call_request(procedure: str, arguments: Iterable[Any]) -> dict[str, Any]:
     return {"op": "call", "proc": procedure, "args": arguments_of(arguments)}
 
@@ -104,9 +108,11 @@ def grow_request(parents: list[int]) -> dict[str, Any]:
     return {"op": "grow", "parents": parents}
 
 
-def bounds_in(answer: dict[str, Any]) -> Bounds:
-    bounds = answer["bounds"]
-    return Bounds(bounds["steps"], bounds["locks"], bounds["emits"])
+def registered_in(request: dict[str, Any], answer: dict[str, Any]) -> dict[str, Bounds]:
+    """The procedures that were registered, by their names."""
+    if "text" in request:
+        return {each["name"]: _bounds(each["bounds"]) for each in answer["registered"]}
+    return {request["name"]: _bounds(answer["bounds"])}
 
 
 def call_in(answer: dict[str, Any]) -> Answer:
@@ -127,9 +133,12 @@ def records_in(nodes: Iterable[int], answers: Iterable[Answer]) -> list[list[int
     return records
 
 
-def with_line(refusal: Refused, text: str) -> Refused:
-    """The refusal of an assembler text, with the line that it names by its number, or by the position of its instruction."""
-    return Refused(refusal.numbers, _line(text, refusal.numbers))
+def with_place(refusal: Refused, request: dict[str, Any]) -> Refused:
+    """The refusal of a registration, with the place that it names. Of a text of the procedure language it is a line and a column; of an assembler text a line, by
+    its number or by the position of its instruction."""
+    if "text" in request:
+        return Refused(refusal.numbers, *refusal.numbers[1:])
+    return Refused(refusal.numbers, _line(request["asm"], refusal.numbers))
 
 
 def _line(text: str, numbers: list[int]) -> int | None:
@@ -140,6 +149,10 @@ def _line(text: str, numbers: list[int]) -> int | None:
     said = [line.partition(";")[0].split() for line in text.split("\n")]
     instructions = [number for number, words in enumerate(said, 1) if words and words[0] not in ("version", "arity") and not words[0].endswith(":")]
     return instructions[numbers[1]] if numbers[1] < len(instructions) else None
+
+
+def _bounds(told: dict[str, int]) -> Bounds:
+    return Bounds(told["steps"], told["locks"], told["emits"])
 
 
 def _answered(outcome: Outcome) -> Answer:

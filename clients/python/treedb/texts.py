@@ -1,49 +1,70 @@
-"""Texts of procedures, and scripts. Texts of the procedure language are compiled by the program `treedb`."""
+"""Files of procedures, and scripts."""
 
 from __future__ import annotations
 
 import json
 import os
-import shutil
-import subprocess
+import pathlib
+import struct
 from collections.abc import Iterable
+from typing import Any
 
-from .errors import Unreadable
-from .protocol import Call, wanted
+from .protocol import Call, register_request, text_request, wanted
 
-__all__ = ["procedures_of", "script", "text_of"]
+__all__ = ["script"]
 
-
-def program_of(program: str | None) -> str:
-    """The program to compile with: the one that is named, `treedb` on the path, or the `./treedb` of a checkout."""
-    found = program or shutil.which("treedb") or shutil.which("./treedb")
-    if found is None:
-        raise FileNotFoundError("there is no program `treedb` on the path, which compiles texts of the procedure language; name one by program=..")
-    return found
-
-
-def procedures_of(path: str | os.PathLike[str], program: str | None = None) -> dict[str, str]:
-    """The procedures of a file in the procedure language as {name: assembler text}, as `treedb procs` prints them. A text that is refused
-    raises `Unreadable`, whose message has the line and a caret under the place."""
-    done = subprocess.run([program_of(program), "procs", os.fspath(path)], capture_output=True, encoding="utf-8", check=False)
-    if done.returncode != 0:
-        raise Unreadable(done.stderr.rstrip("\n"))
-    return dict(json.loads(done.stdout))
-
-
-def text_of(name: str, path: str | os.PathLike[str], program: str | None = None) -> str:
-    """The assembler text of a procedure: the one of that name of a file `.tdb`, or the whole text of another file."""
-    if not os.fspath(path).endswith(".tdb"):
-        with open(path, encoding="utf-8") as file:
-            return file.read()
-    procedures = procedures_of(path, program)
-    if name not in procedures:
-        raise Unreadable(f"{os.fspath(path)}: no procedure {name}")
-    return procedures[name]
+# The texts of a container's instructions by their opcodes. `docs/use/formats.md` has the operands x, y, z and w.
+INSTRUCTIONS = {
+    1: "set v{x} {w}",
+    2: "copy v{x} v{y}",
+    3: "add v{x} v{y} v{z} else L{w}",
+    4: "sub v{x} v{y} v{z} else L{w}",
+    5: "mul v{x} v{y} v{z} else L{w}",
+    6: "div v{x} v{y} v{z} else L{w}",
+    7: "jmp L{w}",
+    8: "jlt v{x} v{y} L{w}",
+    9: "jeq v{x} v{y} L{w}",
+    10: "rep {w}",
+    11: "end",
+    12: "first n{x} v{y} else L{w}",
+    13: "child n{x} n{y} v{z} else L{w}",
+    14: "move n{x} n{y}",
+    15: "rel n{x}",
+    16: "get v{x} n{y} {z}",
+    17: "put n{x} {y} v{z}",
+    18: "kids v{x} n{y}",
+    19: "emit v{x}",
+    20: "ret",
+    21: "repv v{x} {w}",
+}
+HEADS = {b"TLP1": "", b"TLP2": "version 2\n"}
 
 
-def script(procedures: dict[str, str] | str | os.PathLike[str], calls: Iterable[Call], program: str | None = None) -> str:
-    """The text of a script for `treedb run`: procedures as {name: text} or as the path of a file `.tdb`, calls as
-    [(procedure, argument, ..), ..]."""
-    texts = procedures if isinstance(procedures, dict) else procedures_of(procedures, program)
-    return json.dumps({"calls": wanted(calls), "procs": list(texts.items())}, indent=2) + "\n"
+def file_request(path: str | os.PathLike[str], name: str | None) -> dict[str, Any]:
+    """The request that registers the procedures of a file."""
+    file = pathlib.Path(path)
+    if file.suffix == ".tdb":
+        if name is not None:
+            raise ValueError(f"{file}: a text of the procedure language names its procedures itself")
+        return text_request(file.read_text(encoding="utf-8"))
+    text = assembler_text(file.read_bytes()) if file.suffix == ".tlp" else file.read_text(encoding="utf-8")
+    return register_request(file.stem if name is None else name, text)
+
+
+def assembler_text(container: bytes) -> str:
+    """The assembler text of a container, whose targets are positions of its instructions. What has another form is a `ValueError`."""
+    if container[:4] not in HEADS or len(container) < 8 or len(container) % 8 != 0:
+        raise ValueError("no container of a procedure")
+    code = [(opcode, {"x": x, "y": y, "z": z, "w": w}) for opcode, x, y, z, w in struct.iter_unpack(">4Bi", container[8:])]
+    if not all(opcode in INSTRUCTIONS for opcode, _ in code):
+        raise ValueError("no container of a procedure")
+    targets = {operands["w"] for opcode, operands in code if "L{w}" in INSTRUCTIONS[opcode]}
+    lines = [INSTRUCTIONS[opcode].format(**operands) + "\n" for opcode, operands in code] + [""]
+    labelled = [f"L{position}:\n{line}" if position in targets else line for position, line in enumerate(lines)]
+    return f"{HEADS[container[:4]]}arity {container[4]}\n" + "".join(labelled)
+
+
+def script(procedures: dict[str, str], calls: Iterable[Call]) -> str:
+    """The text of a script for `treedb run`: procedures as {name: assembler text}, calls as [(procedure, argument, ..), ..]. With
+    `--proc FILE.tdb` it needs none."""
+    return json.dumps({"calls": wanted(calls), "procs": list(procedures.items())}, indent=2) + "\n"

@@ -9,6 +9,7 @@ mod program;
 mod progress;
 mod refused;
 mod store_files;
+mod texts;
 mod trail_file;
 
 use archive::{Archive, Finish, Trails};
@@ -33,7 +34,7 @@ use tl_file_export::{Epochs, open_epochs};
 use tl_file_journal::{End, StoreRefusal, Stored, open_stored};
 use tl_generations::Succession;
 pub use tl_language_commands::{LanguageFault, check_procs_cmd, compile_cmd, procs_cmd};
-use tl_server::{Journal, Keeper};
+use tl_server::{Journal, Keeper, Texts};
 use tl_store_file::FileFault;
 use tl_tree::Tree;
 
@@ -89,7 +90,7 @@ where
         + Clone
         + Drop
         + Sync,
-    K: Keeper + Finish + Send + Drop,
+    K: Keeper + Texts + Finish + Send + Drop,
     F: FnOnce(Trails, Succession, u16) -> K + Drop,
     J: Journal + End + Sync + Drop,
     O: FnOnce(&str, Option<Tree>) -> Result<Stored<J>, StoreRefusal> + Drop,

@@ -29,7 +29,7 @@ use tl_arguments::{CallCommand, FileCommand, Outputs, Request, ScriptFiles};
 use tl_file_export::Epochs;
 use tl_file_journal::{End, StoreRefusal, Stored};
 use tl_generations::Succession;
-use tl_server::{Journal, Keeper};
+use tl_server::{Journal, Keeper, Texts};
 use tl_sources::Source;
 use tl_store_file::FileFault;
 use tl_syntax::Position;
@@ -346,7 +346,7 @@ where
         archive: F,
     ) -> Result<String, Failure<'p>>
     where
-        K: Keeper + Finish + Send + Drop,
+        K: Keeper + Texts + Finish + Send + Drop,
         F: FnOnce(Trails, Succession, u16) -> K + Drop,
         requires { F.IsAlwaysCallable archive }
     {
@@ -408,7 +408,7 @@ where
         epochs: X,
     ) -> Result<String, Failure<'p>>
     where
-        K: Keeper + Finish + Send + Drop,
+        K: Keeper + Texts + Finish + Send + Drop,
         F: FnOnce(Trails, Succession, u16) -> K + Drop,
         J: Journal + End + Sync + Drop,
         O: FnOnce(&str, Option<Tree>) -> Result<Stored<J>, StoreRefusal> + Drop,
@@ -461,7 +461,7 @@ where
         epochs: X,
     ) -> u8
     where
-        K: Keeper + Finish + Send + Drop,
+        K: Keeper + Texts + Finish + Send + Drop,
         F: FnOnce(Trails, Succession, u16) -> K + Drop,
         J: Journal + End + Sync + Drop,
         O: FnOnce(&str, Option<Tree>) -> Result<Stored<J>, StoreRefusal> + Drop,

@@ -13,7 +13,7 @@ use Rattle.tl_workers.specs.Refusals.{AreCallRefusals}
 use Rattle.tl_server.specs.declared.fault.LineFault.{LineFault}
 use Rattle.tl_server.specs.Answers.{line_text, error_text, batch_text}
 use Rattle.tl_server.specs.Faults.{numbers_of}
-use Rattle.tl_server.specs.Requests.{LineValue, Registers, Calls, Batches, Grows, Seals, Closes, IsRequest, IsLineFault}
+use Rattle.tl_server.specs.Requests.{LineValue, Registers, RegistersText, Calls, Batches, Grows, Seals, Closes, IsRequest, IsLineFault}
 use Rattle.tl_server.specs.Served.{Ways, CallOutcome, AnswersRequest, AnswersLine, IsAnswer}
 use Rattle.tl_server.specs.Runs.{AllGot, GainsWholeCalls}
 use Rattle.tl_server.proofs.Goings.{Laws}
@@ -94,6 +94,7 @@ batch_whole requests answers each a h = ⊎_elim
 
 request_whole : (ways : Ways) (may_seal : ℕ → Type 0) (r : LineValue) (gained : List Did) (out : List ℕ) → AnswersRequest ways may_seal r gained out → AllGot gained
 request_whole ways may_seal (Registers name text) gained out h = nothing gained h.0
+request_whole ways may_seal (RegistersText text) gained out h = nothing gained h.0
 request_whole ways may_seal (Calls name args) gained out h = call_whole ways.seals (name, args) gained h.0 h.1
 request_whole ways may_seal (Batches calls workers) gained out h = ⊎_elim
     (λ (refused : (gained ≡ []) × (out ≡ line_text (error_text (990 ∷ [])))). nothing gained refused.0)

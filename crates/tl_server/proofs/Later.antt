@@ -1,5 +1,5 @@
 -- The result of a request and its answer, where `base` epochs precede the engine's first.
-use Rattle.std.proofs.Common.{◌≡◌, ◌∙◌, ℕ, ℤ, List, [], ◌∷◌, ◌++◌, map, refl, sym, ap, subst, inl, inr, Bool, true, false, ◌≤◌, arith}
+use Rattle.std.proofs.Common.{◌≡◌, ◌+◌, ◌∙◌, ℕ, ℤ, List, [], ◌∷◌, ◌++◌, map, refl, sym, ap, subst, inl, inr, Bool, true, false, ◌≤◌, arith}
 use Rattle.std.specs.Prelude.{Result, Ok, Err, Option, Some, None, IfSome, Vec, codes, string_bytes}
 use Rattle.std.proofs.lemmas.List.{map-append}
 use Rattle.std.specs.declared.alloc.Global.{Global}
@@ -14,16 +14,19 @@ use Rattle.tl_workers.specs.declared.session.Did.{Did}
 use Rattle.tl_workers.specs.declared.session.Did.TheVariants.{Asked, Got}
 use Rattle.tl_workers.specs.Kept.{asking, AnswersEach, asked_of, gots_of}
 use Rattle.tl_workers.specs.Refusals.{AreCallRefusals, numbers_of}
-use Rattle.tl_server.specs.Answers.{line_text, error_text, one_text, batch_text, register_text, growth_text, seal_text}
-use Rattle.tl_server.specs.Requests.{LineValue, Registers, Calls, Batches, Grows, Seals, Closes, line_view}
+use Rattle.tl_server.specs.Answers.{line_text, error_text, one_text, batch_text, register_text, text_register_text, growth_text, seal_text}
+use Rattle.tl_server.specs.Requests.{LineValue, Registers, RegistersText, Calls, Batches, Grows, Seals, Closes, line_view}
 use Rattle.tl_server.specs.declared.request.LineRequest.{LineRequest}
-use Rattle.tl_server.specs.declared.request.LineRequest.TheVariants.{Register, Call, Batch, Grow, Seal, Close}
+use Rattle.tl_server.specs.declared.request.LineRequest.TheVariants.{Register, RegisterText, Call, Batch, Grow, Seal, Close}
 use Rattle.tl_server.specs.Gaining.{later_all}
 use Rattle.tl_server.specs.declared.outcome.Done.{Done}
-use Rattle.tl_server.specs.Served.{Ways, CallOutcome, SealOutcome, IsSealable, IsBatchAnswer, IsGrowthAnswer, AnswersRequest}
-use Rattle.tl_server.specs.declared.outcome.RequestOutcome.TheVariants.{Registered, Called, Batched, Grown, Unknown, Sealed}
+use Rattle.tl_server.specs.Served.{Ways, TextReader, TextReading, NoTexts, ReadBy, IsTextAnswer, CallOutcome, SealOutcome, IsSealable, IsBatchAnswer, IsGrowthAnswer, AnswersRequest}
+use Rattle.tl_server.specs.declared.outcome.RequestOutcome.TheVariants.{Registered, RegisteredAll, Called, Batched, Grown, Unknown, Sealed}
 use Rattle.tl_server.specs.declared.outcome.RequestOutcome.{RequestOutcome}
-use Rattle.tl_server.specs.Outcomes.{BatchOutcome, IsGrowth, CameOf, later, later_answer, later_seal, later_did, IsSealableAt, GoesOnFrom}
+use Rattle.tl_server.specs.declared.texts.NamedBounds.{NamedBounds}
+use Rattle.tl_server.specs.declared.texts.TextFault.{TextFault}
+use Rattle.tl_server.proofs.Goings.{may_line}
+use Rattle.tl_server.specs.Outcomes.{BatchOutcome, IsProvided, IsUnknown, IsRegisteredText, IsGrowth, outcome_text, CameOf, later, later_answer, later_seal, later_did, IsSealableAt, GoesOnFrom}
 
 map_both : {A B C : Type 0} (f : B → C) (g : A → B) (xs : List A) → map (λ a. f (g a)) xs ≡ map f (map g xs)
 map_both f g [] = refl
@@ -80,36 +83,65 @@ seal_later seals base (Err e) h = h
 
 -- ---- the answer to each request
 
-pub registered : (ways : Ways) (r : LineValue) (own : List Did) (base : ℕ) (a : Result Bounds RegisterFault) → CameOf ways r own (Registered a)
+-- of a text there is no other outcome than that of its registration, or that the request isn't known
+neither : (reads : TextReading) (text : List ℕ) (own : List Did) (o : RequestOutcome) → ((reader : TextReader) → IsProvided reader text own o → ⊥) → (IsUnknown own o → ⊥) → IsRegisteredText reads text own o → ⊥
+neither (ReadBy reader) text own o read unread w = read reader w
+neither NoTexts text own o read unread w = unread w
+
+text_registered : (reads : TextReading) (text : List ℕ) (own : List Did) (base : ℕ) (a : Result (Vec NamedBounds Global) TextFault) → IsRegisteredText reads text own (RegisteredAll a)
+    → (map (later_did base) own ≡ []) × IsTextAnswer reads text (line_text (text_register_text a))
+text_registered (ReadBy reader) text own base a w = (ap (map (later_did base)) w.0, (a, w.1, refl))
+text_registered NoTexts text own base a w = absurd w
+
+text_unknown : (reads : TextReading) (text : List ℕ) (own : List Did) (base : ℕ) → IsRegisteredText reads text own Unknown
+    → (map (later_did base) own ≡ []) × IsTextAnswer reads text (line_text (error_text (901 ∷ [])))
+text_unknown (ReadBy reader) text own base w = absurd w
+text_unknown NoTexts text own base w = (ap (map (later_did base)) w, refl)
+
+registered : (ways : Ways) (r : LineValue) (own : List Did) (base : ℕ) (a : Result Bounds RegisterFault) → CameOf ways r own (Registered a)
     → AnswersRequest ways (IsSealableAt base) r (map (later_did base) own) (line_text (register_text a))
 registered ways (Registers name text) own base a w = (ap (map (later_did base)) w.0, (a, w.1, refl))
+registered ways (RegistersText text) own base a w = absurd (neither ways.reads text own (Registered a) (λ reader v. v) (λ v. v) w)
 registered ways (Calls name args) own base a w = absurd w
 registered ways (Batches calls workers) own base a w = absurd w
 registered ways (Grows parents) own base a w = absurd w
 registered ways Seals own base a w = absurd w
 registered ways Closes own base a w = absurd w
 
-pub called : (ways : Ways) (r : LineValue) (own : List Did) (base : ℕ) (a : Result Receipt Refusal) → CameOf ways r own (Called a)
+registered_all : (ways : Ways) (r : LineValue) (own : List Did) (base : ℕ) (a : Result (Vec NamedBounds Global) TextFault) → CameOf ways r own (RegisteredAll a)
+    → AnswersRequest ways (IsSealableAt base) r (map (later_did base) own) (line_text (text_register_text a))
+registered_all ways (Registers name text) own base a w = absurd w
+registered_all ways (RegistersText text) own base a w = text_registered ways.reads text own base a w
+registered_all ways (Calls name args) own base a w = absurd w
+registered_all ways (Batches calls workers) own base a w = absurd w
+registered_all ways (Grows parents) own base a w = absurd w
+registered_all ways Seals own base a w = absurd w
+registered_all ways Closes own base a w = absurd w
+
+called : (ways : Ways) (r : LineValue) (own : List Did) (base : ℕ) (a : Result Receipt Refusal) → CameOf ways r own (Called a)
     → AnswersRequest ways (IsSealableAt base) r (map (later_did base) own) (line_text (one_text (later_answer base a)))
 called ways (Registers name text) own base a w = absurd w
+called ways (RegistersText text) own base a w = absurd (neither ways.reads text own (Called a) (λ reader v. v) (λ v. v) w)
 called ways (Calls name args) own base a w = (later_answer base a, call_later ways.seals base (name, args) own a w, refl)
 called ways (Batches calls workers) own base a w = absurd w
 called ways (Grows parents) own base a w = absurd w
 called ways Seals own base a w = absurd w
 called ways Closes own base a w = absurd w
 
-pub batched : (ways : Ways) (r : LineValue) (own : List Did) (base : ℕ) (v : Vec (Result Receipt Refusal) Global) → CameOf ways r own (Batched (Ok v))
+batched : (ways : Ways) (r : LineValue) (own : List Did) (base : ℕ) (v : Vec (Result Receipt Refusal) Global) → CameOf ways r own (Batched (Ok v))
     → AnswersRequest ways (IsSealableAt base) r (map (later_did base) own) (line_text (batch_text (map (later_answer base) v.items)))
 batched ways (Registers name text) own base v w = absurd w
+batched ways (RegistersText text) own base v w = absurd (neither ways.reads text own (Batched (Ok v)) (λ reader v. v) (λ v. v) w)
 batched ways (Calls name args) own base v w = absurd w
 batched ways (Batches calls workers) own base v w = (w.0, w.1, batch_later ways.seals base w.0 own v w.2)
 batched ways (Grows parents) own base v w = absurd w
 batched ways Seals own base v w = absurd w
 batched ways Closes own base v w = absurd w
 
-pub unbatched : (ways : Ways) (r : LineValue) (own : List Did) (base : ℕ) (e : Refusal) → CameOf ways r own (Batched (Err e))
+unbatched : (ways : Ways) (r : LineValue) (own : List Did) (base : ℕ) (e : Refusal) → CameOf ways r own (Batched (Err e))
     → AnswersRequest ways (IsSealableAt base) r (map (later_did base) own) (line_text (error_text (numbers_of e)))
 unbatched ways (Registers name text) own base e w = absurd w
+unbatched ways (RegistersText text) own base e w = absurd (neither ways.reads text own (Batched (Err e)) (λ reader v. v) (λ v. v) w)
 unbatched ways (Calls name args) own base e w = absurd w
 unbatched ways (Batches calls workers) own base e w =
     (w.0, w.1, inl (ap (map (later_did base)) w.2.0, ap (λ f. line_text (error_text (numbers_of f))) w.2.1))
@@ -117,18 +149,20 @@ unbatched ways (Grows parents) own base e w = absurd w
 unbatched ways Seals own base e w = absurd w
 unbatched ways Closes own base e w = absurd w
 
-pub sealed : (ways : Ways) (r : LineValue) (own : List Did) (base : ℕ) (a : Result ℕ Refusal) → CameOf ways r own (Sealed a)
+sealed : (ways : Ways) (r : LineValue) (own : List Did) (base : ℕ) (a : Result ℕ Refusal) → CameOf ways r own (Sealed a)
     → AnswersRequest ways (IsSealableAt base) r (map (later_did base) own) (line_text (seal_text (later_seal base a)))
 sealed ways (Registers name text) own base a w = absurd w
+sealed ways (RegistersText text) own base a w = absurd (neither ways.reads text own (Sealed a) (λ reader v. v) (λ v. v) w)
 sealed ways (Calls name args) own base a w = absurd w
 sealed ways (Batches calls workers) own base a w = absurd w
 sealed ways (Grows parents) own base a w = absurd w
 sealed ways Seals own base a w = (ap (map (later_did base)) w.0, (later_seal base a, seal_later ways.seals base a w.1, refl))
 sealed ways Closes own base a w = absurd w
 
-pub grown : (ways : Ways) (r : LineValue) (own : List Did) (base : ℕ) (a : Result ℕ GrowthFault) → CameOf ways r own (Grown a)
+grown : (ways : Ways) (r : LineValue) (own : List Did) (base : ℕ) (a : Result ℕ GrowthFault) → CameOf ways r own (Grown a)
     → AnswersRequest ways (IsSealableAt base) r (map (later_did base) own) (line_text (growth_text a))
 grown ways (Registers name text) own base a w = absurd w
+grown ways (RegistersText text) own base a w = absurd (neither ways.reads text own (Grown a) (λ reader v. v) (λ v. v) w)
 grown ways (Calls name args) own base a w = absurd w
 grown ways (Batches calls workers) own base a w = absurd w
 grown ways (Grows parents) own base a w =
@@ -136,9 +170,10 @@ grown ways (Grows parents) own base a w =
 grown ways Seals own base a w = absurd w
 grown ways Closes own base a w = absurd w
 
-pub unknown : (ways : Ways) (r : LineValue) (own : List Did) (base : ℕ) → CameOf ways r own Unknown
+unknown : (ways : Ways) (r : LineValue) (own : List Did) (base : ℕ) → CameOf ways r own Unknown
     → AnswersRequest ways (IsSealableAt base) r (map (later_did base) own) (line_text (error_text (901 ∷ [])))
 unknown ways (Registers name text) own base w = absurd w
+unknown ways (RegistersText text) own base w = text_unknown ways.reads text own base w
 unknown ways (Calls name args) own base w = absurd w
 unknown ways (Batches calls workers) own base w = absurd w
 unknown ways (Grows parents) own base w =
@@ -146,29 +181,49 @@ unknown ways (Grows parents) own base w =
 unknown ways Seals own base w = absurd w
 unknown ways Closes own base w = absurd w
 
+answered : (ways : Ways) (r : LineValue) (own : List Did) (base : ℕ) (o : RequestOutcome) → CameOf ways r own o
+    → AnswersRequest ways (IsSealableAt base) r (map (later_did base) own) (line_text (outcome_text base o))
+answered ways r own base (Registered a) w = registered ways r own base a w
+answered ways r own base (RegisteredAll a) w = registered_all ways r own base a w
+answered ways r own base (Called a) w = called ways r own base a w
+answered ways r own base (Batched (Ok v)) w = batched ways r own base v w
+answered ways r own base (Batched (Err e)) w = unbatched ways r own base e w
+answered ways r own base (Grown a) w = grown ways r own base a w
+answered ways r own base Unknown w = unknown ways r own base w
+answered ways r own base (Sealed a) w = sealed ways r own base a w
+
+-- so it is for a visitor who may seal what the engine may
+pub answered_for : (ways : Ways) (may : ℕ → Type 0) (r : LineValue) (own : List Did) (base : ℕ) (o : RequestOutcome) → CameOf ways r own o → ((n : ℕ) → IsSealable n → may (base + n))
+    → AnswersRequest ways may r (map (later_did base) own) (line_text (outcome_text base o))
+answered_for ways may r own base o came sealable =
+    may_line ways (IsSealableAt base) may r (map (later_did base) own) (line_text (outcome_text base o))
+    (λ n is. subst may (sym is.2) (sealable is.0 is.1)) (answered ways r own base o came)
+
 -- what an engine does for a request other than growth doesn't depend on whether nodes can be appended
-pub grows_too : (seals grows : Bool) (r : LineValue) (own : List Did) (o : RequestOutcome) → ((parents : List ℤ) → r ≡ Grows parents → grows ≡ false)
-    → CameOf (record { seals = seals; grows = false }) r own o → CameOf (record { seals = seals; grows = grows }) r own o
-grows_too seals grows (Registers name text) own o other w = w
-grows_too seals grows (Calls name args) own o other w = w
-grows_too seals grows (Batches calls workers) own o other w = w
-grows_too seals grows (Grows parents) own o other w = subst (λ b. IsGrowth b parents own o) (sym (other parents refl)) w
-grows_too seals grows Seals own o other w = w
-grows_too seals grows Closes own o other w = w
+pub grows_too : (seals grows : Bool) (reads : TextReading) (r : LineValue) (own : List Did) (o : RequestOutcome) → ((parents : List ℤ) → r ≡ Grows parents → grows ≡ false)
+    → CameOf (record { seals = seals; grows = false; reads = reads }) r own o → CameOf (record { seals = seals; grows = grows; reads = reads }) r own o
+grows_too seals grows reads (Registers name text) own o other w = w
+grows_too seals grows reads (RegistersText text) own o other w = w
+grows_too seals grows reads (Calls name args) own o other w = w
+grows_too seals grows reads (Batches calls workers) own o other w = w
+grows_too seals grows reads (Grows parents) own o other w = subst (λ b. IsGrowth b parents own o) (sym (other parents refl)) w
+grows_too seals grows reads Seals own o other w = w
+grows_too seals grows reads Closes own o other w = w
 
 -- the same for a relay that uses one of its engines
-pub performed : (grows : Bool) (r : LineValue) (old new : ℕ) (o : Option Done) → ((parents : List ℤ) → r ≡ Grows parents → grows ≡ false)
-    → IfSome o (λ d. (own : List Did) × CameOf (record { seals = true; grows = false }) r own d.outcome) → IfSome o (λ d. (old ≤ d.base) × (new ≡ d.base))
-    → IfSome o (λ d. (own : List Did) × CameOf (record { seals = true; grows = grows }) r own d.outcome × GoesOnFrom old new (map (later_did d.base) own))
-performed grows r old new None other came later = tt
-performed grows r old new (Some d) other came later =
+pub performed : (grows : Bool) (reads : TextReading) (r : LineValue) (old new : ℕ) (o : Option Done) → ((parents : List ℤ) → r ≡ Grows parents → grows ≡ false)
+    → IfSome o (λ d. (own : List Did) × CameOf (record { seals = true; grows = false; reads = reads }) r own d.outcome) → IfSome o (λ d. (old ≤ d.base) × (new ≡ d.base))
+    → IfSome o (λ d. (own : List Did) × CameOf (record { seals = true; grows = grows; reads = reads }) r own d.outcome × GoesOnFrom old new (map (later_did d.base) own))
+performed grows reads r old new None other came later = tt
+performed grows reads r old new (Some d) other came later =
     let (own, done) = came in
     let from = later.0 in
-    (own, grows_too true grows r own d.outcome other done, (omega (arith, from, later.1), later_all old d.base own from))
+    (own, grows_too true grows reads r own d.outcome other done, (omega (arith, from, later.1), later_all old d.base own from))
 
 -- a request of another kind doesn't append nodes
 pub no_growth : (q : LineRequest) → ((parents : Vec ℤ Global) → q ≡ Grow parents → ⊥) → (parents : List ℤ) → line_view q ≡ Grows parents → ⊥
 no_growth (Register p) other parents is = cc
+no_growth (RegisterText text) other parents is = cc
 no_growth (Call q) other parents is = cc
 no_growth (Batch b) other parents is = cc
 no_growth (Grow ps) other parents is = other ps refl

@@ -6,3 +6,4 @@ pub mod Lists
 pub mod LineAnswers
 pub mod Goings
 pub mod Later
+pub mod TextLemmas

@@ -1,5 +1,6 @@
 -- The texts of answers.
-use Rattle.std.specs.Prelude.{ℕ, ◌==◌, List, [], ◌++◌, codes, decimal, Result, Ok, Err, if◌then◌else◌}
+use Rattle.std.specs.Prelude.{ℕ, ◌==◌, List, [], ◌++◌, codes, decimal, string_bytes, Result, Ok, Err, Vec, if◌then◌else◌}
+use Rattle.std.specs.declared.alloc.Global.{Global}
 use Rattle.std.specs.Fmt.{signed_decimal}
 use Rattle.tl_tree.specs.Writing.{list_text}
 use Rattle.tl_table.specs.declared.receipt.Receipt.{Receipt}
@@ -10,6 +11,9 @@ use Rattle.tl_generations.specs.declared.growth.GrowthFault.{GrowthFault}
 use Rattle.tl_generations.specs.Growth.{numbers_of as growth_numbers_of}
 use Rattle.tl_workers.specs.declared.refusal.Refusal.{Refusal}
 use Rattle.tl_workers.specs.Refusals.{numbers_of}
+use Rattle.tl_server.specs.Faults.{text_numbers_of}
+use Rattle.tl_server.specs.declared.texts.NamedBounds.{NamedBounds}
+use Rattle.tl_server.specs.declared.texts.TextFault.{TextFault}
 
 -- the text and a line feed
 abbrev pub line_text : List ℕ → List ℕ
@@ -40,12 +44,20 @@ batch_text answers = codes "{\"batch\":" ++ list_text one_text answers ++ codes 
 
 abbrev pub bounds_text : Bounds → List ℕ
 bounds_text b =
-    codes "{\"bounds\":{\"emits\":" ++ decimal b.emits ++ codes ",\"locks\":" ++ decimal b.locks ++ codes ",\"steps\":" ++ decimal b.steps ++ codes "}}"
+    codes "{\"emits\":" ++ decimal b.emits ++ codes ",\"locks\":" ++ decimal b.locks ++ codes ",\"steps\":" ++ decimal b.steps ++ codes "}"
 
 -- the answer to a registration
 abbrev pub register_text : Result Bounds RegisterFault → List ℕ
-register_text (Ok b) = bounds_text b
+register_text (Ok b) = codes "{\"bounds\":" ++ bounds_text b ++ codes "}"
 register_text (Err e) = error_text (register_numbers_of e)
+
+abbrev pub named_bounds_text : NamedBounds → List ℕ
+named_bounds_text b = codes "{\"bounds\":" ++ bounds_text b.bounds ++ codes ",\"name\":\"" ++ string_bytes b.name ++ codes "\"}"
+
+-- the answer to the registration of a text's procedures
+abbrev pub text_register_text : Result (Vec NamedBounds Global) TextFault → List ℕ
+text_register_text (Ok v) = codes "{\"registered\":" ++ list_text named_bounds_text v.items ++ codes "}"
+text_register_text (Err e) = error_text (text_numbers_of e)
 
 -- the answer to a seal
 abbrev pub seal_text : Result ℕ Refusal → List ℕ

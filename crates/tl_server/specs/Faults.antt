@@ -1,5 +1,8 @@
 -- The faults of a server, as numbers.
 use Rattle.std.specs.Prelude.{ℕ, List, [], ◌∷◌}
+use Rattle.tl_procedures.specs.Faults.{numbers_of as name_numbers_of}
+use Rattle.tl_server.specs.declared.texts.TextFault.{TextFault}
+use Rattle.tl_server.specs.declared.texts.TextFault.TheVariants as text
 use Rattle.tl_server.specs.declared.fault.ServeFault.{ServeFault}
 use Rattle.tl_server.specs.declared.fault.ServeFault.TheVariants as serve
 use Rattle.tl_server.specs.declared.fault.ListenFault.{ListenFault}
@@ -13,6 +16,12 @@ numbers_of NotRequest = 901 ∷ []
 numbers_of TooLong = 902 ∷ []
 numbers_of NotUtf8 = 903 ∷ []
 numbers_of Memory = 990 ∷ []
+
+-- the numbers of the reason why the procedures of a text aren't registered
+abbrev pub text_numbers_of : TextFault → List ℕ
+text_numbers_of (text.Text numbers) = numbers.items
+text_numbers_of (text.Name f) = name_numbers_of f
+text_numbers_of text.Memory = 990 ∷ []
 
 -- the number of the reason why a server stops
 abbrev pub serve_numbers_of : ServeFault → List ℕ

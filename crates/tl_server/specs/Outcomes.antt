@@ -11,14 +11,19 @@ use Rattle.tl_workers.specs.declared.session.Did.{Did}
 use Rattle.tl_workers.specs.declared.session.Did.TheVariants.{Asked, Got}
 use Rattle.tl_workers.specs.Kept.{AnswersEach, asked_of, gots_of}
 use Rattle.tl_workers.specs.Refusals.{AreCallRefusals}
-use Rattle.tl_server.specs.Requests.{LineValue, Registers, Calls, Batches, Grows, Seals, Closes}
-use Rattle.tl_server.specs.Served.{Ways, RegisterOutcome, CallOutcome, GrowthOutcome, SealOutcome, IsSealable}
+use Rattle.tl_server.specs.Requests.{LineValue, Registers, RegistersText, Calls, Batches, Grows, Seals, Closes}
+use Rattle.tl_workers.specs.Refusals.{numbers_of as refusal_numbers_of}
+use Rattle.tl_server.specs.declared.fault.LineFault.TheVariants.{NotRequest}
+use Rattle.tl_server.specs.Faults.{numbers_of}
+use Rattle.tl_server.specs.Answers.{one_text, error_text, batch_text, register_text, text_register_text, growth_text, seal_text}
+use Rattle.tl_server.specs.Served.{Ways, TextReader, TextReading, NoTexts, ReadBy, RegisterOutcome, TextOutcome, CallOutcome, GrowthOutcome, SealOutcome, IsSealable}
 use Rattle.tl_server.specs.declared.outcome.RequestOutcome.{RequestOutcome}
-use Rattle.tl_server.specs.declared.outcome.RequestOutcome.TheVariants.{Registered, Called, Batched, Grown, Unknown, Sealed}
+use Rattle.tl_server.specs.declared.outcome.RequestOutcome.TheVariants.{Registered, RegisteredAll, Called, Batched, Grown, Unknown, Sealed}
 
 -- a request that an engine carries out
 abbrev pub IsAsked : LineValue → Type 0
 IsAsked (Registers name text) = Unit {0}
+IsAsked (RegistersText text) = Unit {0}
 IsAsked (Calls name args) = Unit {0}
 IsAsked (Batches calls workers) = Unit {0}
 IsAsked (Grows parents) = Unit {0}
@@ -30,6 +35,20 @@ IsAsked Closes = ⊥
 abbrev pub IsRegistered : List ℕ → List ℕ → List Did → RequestOutcome → Type 0
 IsRegistered name text gained (Registered answer) = (gained ≡ []) × RegisterOutcome (name, text) answer
 IsRegistered name text gained _ = ⊥
+
+abbrev pub IsProvided : TextReader → List ℕ → List Did → RequestOutcome → Type 0
+IsProvided reader text gained (RegisteredAll answer) = (gained ≡ []) × TextOutcome reader text answer
+IsProvided reader text gained _ = ⊥
+
+-- the service doesn't know the request
+abbrev pub IsUnknown : List Did → RequestOutcome → Type 0
+IsUnknown gained Unknown = gained ≡ []
+IsUnknown gained _ = ⊥
+
+-- the procedures of a text, if the service reads texts
+abbrev pub IsRegisteredText : TextReading → List ℕ → List Did → RequestOutcome → Type 0
+IsRegisteredText (ReadBy reader) text gained outcome = IsProvided reader text gained outcome
+IsRegisteredText NoTexts text gained outcome = IsUnknown gained outcome
 
 abbrev pub IsCalled : Bool → List ℕ → List ℤ → List Did → RequestOutcome → Type 0
 IsCalled seals name args gained (Called answer) = CallOutcome seals (name, args) gained answer
@@ -56,6 +75,7 @@ IsSealed seals gained _ = ⊥
 
 abbrev pub CameOf : Ways → LineValue → List Did → RequestOutcome → Type 0
 CameOf ways (Registers name text) gained outcome = IsRegistered name text gained outcome
+CameOf ways (RegistersText text) gained outcome = IsRegisteredText ways.reads text gained outcome
 CameOf ways (Calls name args) gained outcome = IsCalled ways.seals name args gained outcome
 CameOf ways (Batches calls workers) gained outcome = IsBatched ways.seals calls gained outcome
 CameOf ways (Grows parents) gained outcome = IsGrowth ways.grows parents gained outcome
@@ -74,6 +94,22 @@ later_answer base (Err e) = Err e
 abbrev pub later_seal : ℕ → Result ℕ Refusal → Result ℕ Refusal
 later_seal base (Ok epoch) = Ok (base + epoch)
 later_seal base (Err e) = Err e
+
+-- ---- the answer
+
+-- the answers to the requests of a batch, or why all were refused
+abbrev pub batch_answer_text : ℕ → Result (Vec (Result Receipt Refusal) Global) Refusal → List ℕ
+batch_answer_text base (Ok v) = batch_text (map (later_answer base) v.items)
+batch_answer_text base (Err e) = error_text (refusal_numbers_of e)
+
+abbrev pub outcome_text : ℕ → RequestOutcome → List ℕ
+outcome_text base (Registered answer) = register_text answer
+outcome_text base (RegisteredAll answer) = text_register_text answer
+outcome_text base (Called answer) = one_text (later_answer base answer)
+outcome_text base (Batched answer) = batch_answer_text base answer
+outcome_text base (Grown answer) = growth_text answer
+outcome_text base Unknown = error_text (numbers_of NotRequest)
+outcome_text base (Sealed answer) = seal_text (later_seal base answer)
 
 abbrev pub later_did : ℕ → Did → Did
 later_did base (Asked a) = Asked (record a { epoch = base + a.epoch })

@@ -11,14 +11,15 @@ use Rattle.tl_json.specs.Requests.{request_form, request_of}
 use Rattle.tl_workers.specs.declared.batch.TheConstants.{MAX_REQUESTS, MAX_WORKERS}
 use Rattle.tl_server.specs.declared.request.TheConstants.{MAX_LINE}
 use Rattle.tl_server.specs.declared.request.LineRequest.{LineRequest}
-use Rattle.tl_server.specs.declared.request.LineRequest.TheVariants.{Register, Call, Batch, Grow, Seal, Close}
+use Rattle.tl_server.specs.declared.request.LineRequest.TheVariants.{Register, RegisterText, Call, Batch, Grow, Seal, Close}
 use Rattle.tl_server.specs.declared.fault.LineFault.{LineFault}
 use Rattle.tl_server.specs.declared.fault.LineFault.TheVariants as fault
 
--- the name and the text of a procedure; the name and the arguments of a call; several calls and their number of threads;
+-- the name and the text of a procedure; the text of several procedures; the name and the arguments of a call; several calls and their number of threads;
 -- the parents of nodes to append to the tree; the seal of an epoch; or the end of the connection
 pub data LineValue : Type 0 where
   Registers : List ℕ → List ℕ → LineValue
+  RegistersText : List ℕ → LineValue
   Calls : List ℕ → List ℤ → LineValue
   Batches : List (List ℕ × List ℤ) → ℕ → LineValue
   Grows : List ℤ → LineValue
@@ -27,13 +28,14 @@ pub data LineValue : Type 0 where
 
 abbrev pub line_view : LineRequest → LineValue
 line_view (Register p) = Registers (string_bytes p.name) (string_bytes p.text)
+line_view (RegisterText text) = RegistersText (string_bytes text)
 line_view (Call q) = Calls (string_bytes q.name) q.args.items
 line_view (Batch b) = Batches (map request_form b.requests.items) b.workers
 line_view (Grow parents) = Grows parents.items
 line_view Seal = Seals
 line_view Close = Closes
 
--- ---- the six forms
+-- ---- the seven forms
 
 -- the value is an object with `count` members
 abbrev pub has_members : ℕ → Data → Bool
@@ -43,10 +45,13 @@ has_members count d = unwrap_or (option_map (λ ms. members_len ms == count) (as
 abbrev pub text_at : List ℕ → Data → Option (List ℕ)
 text_at key d = option_and_then as_str (get key d)
 
+abbrev pub register_text_of : Data → Option LineValue
+register_text_of d = if has_members 2 d then option_map RegistersText (text_at (codes "text") d) else None
+
 abbrev pub register_of : Data → Option LineValue
 register_of d = if has_members 3 d
     then option_map (λ x. Registers x.0 x.1) (both (text_at (codes "name") d) (text_at (codes "asm") d))
-    else None
+    else register_text_of d
 
 abbrev pub call_of : Data → Option LineValue
 call_of d = if has_members 3 d

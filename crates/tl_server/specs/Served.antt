@@ -1,13 +1,15 @@
 -- How lines are answered, and what a session gains by them.
-use Rattle.std.specs.Prelude.{◌≡◌, ◌≢◌, ◌↔◌, ◌⊎◌, ◌+◌, ◌<◌, ℕ, ℤ, List, map, [], ◌∷◌, ◌++◌, length, Bool, true, false, Result, Ok, Err}
+use Rattle.std.specs.Prelude.{◌≡◌, ◌≢◌, ◌↔◌, ◌⊎◌, ◌+◌, ◌<◌, ℕ, ℤ, List, map, [], ◌∷◌, ◌++◌, length, Bool, true, false, Result, Ok, Err, Vec, string_bytes}
+use Rattle.std.specs.declared.alloc.Global.{Global}
 use Rattle.tl_instr.specs.Codes.{CodeValue}
 use Rattle.tl_budget.specs.declared.limits.Bounds.{Bounds}
 use Rattle.tl_verify.specs.Procedure.{AreBounds}
-use Rattle.tl_procedures.specs.Names.{is_name}
+use Rattle.tl_procedures.specs.Names.{Named, is_name, AreFreeAfter, IsFirstRefused}
+use Rattle.tl_procedures.specs.declared.fault.NamingFault.TheVariants as naming
 use Rattle.tl_procedures.specs.declared.fault.NamingFault.TheVariants.{BadName}
 use Rattle.tl_procedures.specs.declared.request.Request.{Request}
 use Rattle.tl_json.specs.Faults.{is_memory}
-use Rattle.tl_json.specs.Registering.{IsCodeText, IsTextFault}
+use Rattle.tl_json.specs.Registering.{IsCodeText, IsTextFault as IsAssemblyFault}
 use Rattle.tl_json.specs.Requests.{request_form}
 use Rattle.tl_json.specs.declared.fault.RegisterFault.{RegisterFault}
 use Rattle.tl_json.specs.declared.fault.RegisterFault.TheVariants.{Text, Name}
@@ -21,23 +23,67 @@ use Rattle.tl_generations.specs.Generations.{LegacyValue, IsGrown}
 use Rattle.tl_generations.specs.Growth.{IsGrowthFault}
 use Rattle.tl_generations.specs.declared.growth.GrowthFault.{GrowthFault}
 use Rattle.tl_generations.specs.declared.growth.GrowthFault.TheVariants as growth
+use Rattle.tl_server.specs.declared.texts.NamedBounds.{NamedBounds}
+use Rattle.tl_server.specs.declared.texts.TextFault.{TextFault}
+use Rattle.tl_server.specs.declared.texts.TextFault.TheVariants as fault
 use Rattle.tl_server.specs.declared.fault.LineFault.{LineFault}
 use Rattle.tl_server.specs.declared.fault.LineFault.TheVariants.{NotRequest}
 use Rattle.tl_server.specs.Faults.{numbers_of}
-use Rattle.tl_server.specs.Requests.{LineValue, Registers, Calls, Batches, Grows, Seals, Closes, IsRequest, IsLineFault}
-use Rattle.tl_server.specs.Answers.{one_text, error_text, batch_text, register_text, growth_text, seal_text, closed_text, line_text}
+use Rattle.tl_server.specs.Requests.{LineValue, Registers, RegistersText, Calls, Batches, Grows, Seals, Closes, IsRequest, IsLineFault}
+use Rattle.tl_server.specs.Answers.{one_text, error_text, batch_text, register_text, text_register_text, growth_text, seal_text, closed_text, line_text}
 
 -- ---- a registration
 
 -- why a procedure isn't registered: its text has a fault, or its name is refused; the fault is BadName exactly if it isn't a valid name
 abbrev pub IsRegisterFault : List ℕ × List ℕ → RegisterFault → Type 0
-IsRegisterFault p (Text f) = IsTextFault p.1 f
+IsRegisterFault p (Text f) = IsAssemblyFault p.1 f
 IsRegisterFault p (Name f) = ((code : CodeValue) × IsCodeText p.1 code) × ((f ≡ BadName) ↔ (is_name p.0 ≡ false))
 
 -- a procedure's name and text, and the result of its registration
 abbrev pub RegisterOutcome : List ℕ × List ℕ → Result Bounds RegisterFault → Type 0
 RegisterOutcome p (Ok bounds) = ((code : CodeValue) × IsCodeText p.1 code × AreBounds code.instrs bounds) × (is_name p.0 ≡ true)
 RegisterOutcome p (Err e) = is_memory e ≡ false → IsRegisterFault p e
+
+-- ---- the registration of a text's procedures
+
+-- who reads texts: which procedures a text has, and the numbers of the first fault of one that has none
+pub record TextReader : Type 1 where
+  pub has : List ℕ → List Named → Type 0
+  pub lacks : List ℕ → List ℕ → Type 0
+
+-- whether somebody reads texts, and who
+pub data TextReading : Type 1 where
+  NoTexts : TextReading
+  ReadBy : TextReader → TextReading
+
+-- these are the names and the bounds of these procedures
+abbrev pub AreBoundsOf : List Named → List NamedBounds → Type 0
+AreBoundsOf [] [] = Unit {0}
+AreBoundsOf [] (b ∷ bs) = ⊥
+AreBoundsOf (p ∷ ps) [] = ⊥
+AreBoundsOf (p ∷ ps) (b ∷ bs) = (string_bytes b.name ≡ p.name) × AreBounds p.code.instrs b.bounds × AreBoundsOf ps bs
+
+-- why the procedures of a text can't be read: its first fault, or a lack of memory
+abbrev pub IsUnreadable : (List ℕ → List ℕ → Type 0) → List ℕ → TextFault → Type 0
+IsUnreadable lacks text (fault.Text numbers) = lacks text numbers.items
+IsUnreadable lacks text (fault.Name f) = ⊥
+IsUnreadable lacks text fault.Memory = Unit {0}
+
+-- why the procedures of a text aren't registered: the text has a fault, or the name of one is refused
+abbrev pub IsTextFault : TextReader → List ℕ → TextFault → Type 0
+IsTextFault reader text (fault.Text numbers) = reader.lacks text numbers.items
+IsTextFault reader text (fault.Name f) = f ≢ naming.Memory → (all : List Named) × reader.has text all × ((before : List Named) × IsFirstRefused before all f)
+IsTextFault reader text fault.Memory = Unit {0}
+
+-- a text, and the result of the registration: all its procedures, with these bounds, under names that were free, or none of them
+abbrev pub TextOutcome : TextReader → List ℕ → Result (Vec NamedBounds Global) TextFault → Type 0
+TextOutcome reader text (Ok bounds) = (all : List Named) × reader.has text all × AreBoundsOf all bounds.items × ((before : List Named) × AreFreeAfter before all)
+TextOutcome reader text (Err e) = IsTextFault reader text e
+
+-- the result, if texts are read; otherwise the answer to a line that is no request
+abbrev pub IsTextAnswer : TextReading → List ℕ → List ℕ → Type 0
+IsTextAnswer (ReadBy reader) text out = (answer : Result (Vec NamedBounds Global) TextFault) × TextOutcome reader text answer × (out ≡ line_text (text_register_text answer))
+IsTextAnswer NoTexts text out = out ≡ line_text (error_text (numbers_of NotRequest))
 
 -- ---- calls
 
@@ -88,15 +134,18 @@ IsGrowthAnswer false parents out = out ≡ line_text (error_text (numbers_of Not
 
 -- ---- lines, where the epochs with such numbers may be sealed
 
--- what the server can do: whether its engines seal their epochs by themselves, and whether nodes can be appended to its tree
-pub record Ways : Type 0 where
+-- what the server can do: whether its engines seal their epochs by themselves, whether nodes can be appended to its tree, and who reads
+-- texts of procedures
+pub record Ways : Type 1 where
   pub seals : Bool
   pub grows : Bool
+  pub reads : TextReading
 
 -- the answer to a request after which reading goes on, and what the session gained by it
 abbrev pub AnswersRequest : Ways → (ℕ → Type 0) → LineValue → List Did → List ℕ → Type 0
 AnswersRequest ways may_seal (Registers name text) gained out =
     (gained ≡ []) × ((answer : Result Bounds RegisterFault) × RegisterOutcome (name, text) answer × (out ≡ line_text (register_text answer)))
+AnswersRequest ways may_seal (RegistersText text) gained out = (gained ≡ []) × IsTextAnswer ways.reads text out
 AnswersRequest ways may_seal (Calls name args) gained out = IsCallAnswer ways.seals (name, args) gained out
 AnswersRequest ways may_seal (Batches calls workers) gained out = (requests : List Request) × (map request_form requests ≡ calls) × IsBatchAnswer ways.seals requests gained out
 AnswersRequest ways may_seal (Grows parents) gained out = (gained ≡ []) × IsGrowthAnswer ways.grows parents out

@@ -5,10 +5,11 @@ ghost use Rattle.std.specs.Fmt.{signed_decimal};
 ghost use Rattle.tl_tree.specs.Writing.{list_text};
 ghost use Rattle.tl_server.specs.Sending.{sending, Writes};
 ghost use Rattle.tl_server.specs.Outcomes.{later, later_answer};
-ghost use Rattle.tl_server.specs.Answers.{comma_before, epoch_text, call_text, error_text, one_text, batch_text, bounds_text, closed_text, line_text};
+ghost use Rattle.tl_server.specs.Answers.{comma_before, epoch_text, call_text, error_text, one_text, batch_text, closed_text, line_text};
 
 use crate::device::Sink;
 use crate::outbox::Outbox;
+use crate::texts::{NamedBounds, TextFault};
 use itoa::{Buffer, Integer};
 use tl_budget::Bounds;
 use tl_generations::GrowthFault;
@@ -45,6 +46,39 @@ impl Part for i64 {
     }
 }
 
+/// `{"emits":e,"locks":l,"steps":s}`
+impl Part for Bounds {
+    ghost use Rattle.tl_server.specs.Answers.{bounds_text};
+
+    ghost text = { λ _ bounds. bounds_text bounds };
+
+    fn put<K: Sink>(&self, outbox: &mut Outbox, sink: &mut K, _base: u32) {
+        outbox.put(sink, b"{\"emits\":");
+        put_number(outbox, sink, self.emits);
+        outbox.put(sink, b",\"locks\":");
+        put_number(outbox, sink, self.locks);
+        outbox.put(sink, b",\"steps\":");
+        put_number(outbox, sink, self.steps);
+        outbox.put(sink, b"}");
+    }
+}
+
+/// `{"bounds":{"emits":e,"locks":l,"steps":s},"name":name}`
+impl Part for NamedBounds {
+    ghost use Rattle.tl_server.specs.Answers.{named_bounds_text};
+
+    ghost text = { λ _ named. named_bounds_text named };
+
+    fn put<K: Sink>(&self, outbox: &mut Outbox, sink: &mut K, base: u32) {
+        outbox.put(sink, b"{\"bounds\":");
+        self.bounds.put(outbox, sink, base);
+        outbox.put(sink, b",\"name\":\"");
+        // It has letters, digits and `_` alone.
+        outbox.put(sink, self.name.as_bytes());
+        outbox.put(sink, b"\"}");
+    }
+}
+
 impl Part for Result<Receipt, Refusal> {
     ghost use Rattle.tl_server.specs.Answers.{one_text};
     ghost use Rattle.tl_server.specs.Outcomes.{later_answer};
@@ -64,10 +98,44 @@ impl Part for Result<Bounds, RegisterFault> {
 
     ghost text = { λ _ answer. register_text answer };
 
-    fn put<K: Sink>(&self, outbox: &mut Outbox, sink: &mut K, _base: u32) {
+    fn put<K: Sink>(&self, outbox: &mut Outbox, sink: &mut K, base: u32) {
         match self {
-            Ok(bounds) => put_bounds(outbox, sink, bounds),
+            Ok(bounds) => {
+                outbox.put(sink, b"{\"bounds\":");
+                bounds.put(outbox, sink, base);
+                outbox.put(sink, b"}");
+            }
             Err(fault) => put_error(outbox, sink, fault.numbers().as_slice()),
+        }
+    }
+}
+
+impl Part for Result<Vec<NamedBounds>, TextFault> {
+    ghost use Rattle.tl_server.specs.Answers.{text_register_text};
+
+    ghost text = { λ _ answer. text_register_text answer };
+
+    fn put<K: Sink>(&self, outbox: &mut Outbox, sink: &mut K, base: u32) {
+        match self {
+            Ok(bounds) => {
+                outbox.put(sink, b"{\"registered\":");
+                put_list(outbox, sink, base, bounds.as_slice());
+                outbox.put(sink, b"}");
+            }
+            Err(fault) => put_error(outbox, sink, fault.numbers().as_slice()),
+        }
+    }
+}
+
+impl Part for Result<Vec<Result<Receipt, Refusal>>, Refusal> {
+    ghost use Rattle.tl_server.specs.Outcomes.{batch_answer_text};
+
+    ghost text = { λ base answer. batch_answer_text base answer };
+
+    fn put<K: Sink>(&self, outbox: &mut Outbox, sink: &mut K, base: u32) {
+        match self {
+            Ok(answers) => put_batch(outbox, sink, base, answers.as_slice()),
+            Err(refusal) => put_error(outbox, sink, refusal.numbers().as_slice()),
         }
     }
 }
@@ -168,20 +236,21 @@ fn put_error<K: Sink>(outbox: &mut Outbox, sink: &mut K, numbers: &[u64])
     outbox.put(sink, b"}");
 }
 
-// `{"bounds":{"emits":e,"locks":l,"steps":s}}`
-fn put_bounds<K: Sink>(outbox: &mut Outbox, sink: &mut K, bounds: &Bounds)
-    ensures { Writes (sending (K.output sink.old) (K.failures sink.old) outbox.old) (sending (K.output sink.new) (K.failures sink.new) outbox.new) (bounds_text bounds.now) }
+// `{"batch":[..]}`
+fn put_batch<K: Sink>(
+    outbox: &mut Outbox,
+    sink: &mut K,
+    base: u32,
+    answers: &[Result<Receipt, Refusal>],
+)
+    ensures { Writes (sending (K.output sink.old) (K.failures sink.old) outbox.old) (sending (K.output sink.new) (K.failures sink.new) outbox.new) (batch_text (map (later_answer base) answers.now)) }
 {
-    outbox.put(sink, b"{\"bounds\":{\"emits\":");
-    put_number(outbox, sink, bounds.emits);
-    outbox.put(sink, b",\"locks\":");
-    put_number(outbox, sink, bounds.locks);
-    outbox.put(sink, b",\"steps\":");
-    put_number(outbox, sink, bounds.steps);
-    outbox.put(sink, b"}}");
+    outbox.put(sink, b"{\"batch\":");
+    put_list(outbox, sink, base, answers);
+    outbox.put(sink, b"}");
 }
 
-/// The line for the result of a call, a registration, a growth or a seal.
+/// The line for the result of a request.
 pub(crate) fn put_line<T: Part, K: Sink>(outbox: &mut Outbox, sink: &mut K, base: u32, answer: &T)
     ensures { Writes (sending (K.output sink.old) (K.failures sink.old) outbox.old) (sending (K.output sink.new) (K.failures sink.new) outbox.new) (line_text (T.text base answer.now)) }
 {
@@ -194,21 +263,6 @@ pub(crate) fn put_error_line<K: Sink>(outbox: &mut Outbox, sink: &mut K, numbers
     ensures { Writes (sending (K.output sink.old) (K.failures sink.old) outbox.old) (sending (K.output sink.new) (K.failures sink.new) outbox.new) (line_text (error_text numbers.now)) }
 {
     put_error(outbox, sink, numbers);
-    outbox.put(sink, b"\n");
-}
-
-/// The line for the results of a batch.
-pub(crate) fn put_batch_line<K: Sink>(
-    outbox: &mut Outbox,
-    sink: &mut K,
-    base: u32,
-    answers: &[Result<Receipt, Refusal>],
-)
-    ensures { Writes (sending (K.output sink.old) (K.failures sink.old) outbox.old) (sending (K.output sink.new) (K.failures sink.new) outbox.new) (line_text (batch_text (map (later_answer base) answers.now))) }
-{
-    outbox.put(sink, b"{\"batch\":");
-    put_list(outbox, sink, base, answers);
-    outbox.put(sink, b"}");
     outbox.put(sink, b"\n");
 }
 

@@ -14,6 +14,7 @@ use crate::serving::serve;
 use crate::socket::{SocketSink, SocketSource};
 use crate::stored_sink::StoredSink;
 use crate::stream::{Address, Stream};
+use crate::texts::Texts;
 use std::alloc::Global;
 use std::net::{Net, TcpListener, TcpStream};
 use std::rt::Files;
@@ -31,7 +32,7 @@ struct Room<'a, K, J> {
 }
 
 // Serves a connection to its end.
-fn visit<R, K: Keeper, J: Journal>(
+fn visit<R, K: Keeper + Texts, J: Journal>(
     rt: &R,
     alloc: Global,
     room: &Room<'_, K, J>,
@@ -57,7 +58,7 @@ where
 }
 
 // Serves the connections that come through the door, while threads stay that help with batches.
-fn serve_all<R, K: Keeper + Send, J: Journal + Sync>(
+fn serve_all<R, K: Keeper + Texts + Send, J: Journal + Sync>(
     rt: &R,
     alloc: Global,
     door: Door<'_>,
@@ -81,7 +82,7 @@ where
 
 // Serves the connections that come through the door, each on a thread of its own if one can be started, otherwise on this
 // one.
-fn serve_each<R, K: Keeper + Send, J: Journal + Sync>(
+fn serve_each<R, K: Keeper + Texts + Send, J: Journal + Sync>(
     rt: &R,
     alloc: Global,
     door: Door<'_>,
@@ -118,7 +119,11 @@ where
 
 // A hall for so many connections at once, which are ended if what was done can't be stored. If memory is refused for that, each is ended
 // when it is to be answered.
-fn hall_for<K: Keeper, J: Journal>(alloc: Global, relay: &Relay<K, J>, places: u16) -> Hall {
+fn hall_for<K: Keeper + Texts, J: Journal>(
+    alloc: Global,
+    relay: &Relay<K, J>,
+    places: u16,
+) -> Hall {
     if relay.stores() {
         if let Ok(hall) = Hall::that_stops(alloc, Vec::new(alloc), places) {
             return hall;
@@ -181,7 +186,7 @@ impl<'a> LastingServer<'a> {
     /// Serves its connections until there were as many as it serves. A failed attempt to accept a connection counts as one. A
     /// connection that fails is ended, and the others go on; but if what was done can't be stored, no more connections are accepted, and
     /// those that are open are ended. In the end the socket's file is removed.
-    pub fn serve<R, K: Keeper + Send, J: Journal + Sync>(
+    pub fn serve<R, K: Keeper + Texts + Send, J: Journal + Sync>(
         self,
         rt: &R,
         alloc: Global,
@@ -209,7 +214,7 @@ impl<'a> LastingServer<'a> {
     /// Serves its connections as `serve` does, until it is asked to stop at the control. Then it accepts no more
     /// connections. On those that are open, each line that was read whole is answered, and then they are ended. 990 if memory is
     /// refused before the first connection.
-    pub fn serve_until_stopped<R, K: Keeper + Send, J: Journal + Sync>(
+    pub fn serve_until_stopped<R, K: Keeper + Texts + Send, J: Journal + Sync>(
         self,
         rt: &R,
         alloc: Global,

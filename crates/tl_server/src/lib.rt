@@ -1,6 +1,6 @@
 //! A server that takes one request per line.
 //!
-//! A line is a JSON object: it registers a procedure, runs a call or a batch of calls, appends nodes to the tree, seals the current epoch,
+//! A line is a JSON object: it registers a procedure, or all of a text, runs a call or a batch of calls, appends nodes to the tree, seals the current epoch,
 //! or closes the connection. Each is answered by one line, in order.
 #![tactic(auto)]
 
@@ -28,6 +28,7 @@ mod socket_file;
 mod status;
 mod stored_sink;
 mod stream;
+mod texts;
 
 pub use batch::BatchRequest;
 pub use control::{Control, ask_status, ask_to_stop};
@@ -46,3 +47,4 @@ pub use socket::{SocketSink, SocketSource};
 pub use status::Status;
 pub use stored_sink::StoredSink;
 pub use stream::{Address, Stream};
+pub use texts::{NamedBounds, TextFault, Texts};

@@ -7,7 +7,7 @@ ghost use Rattle.tl_server.specs.Requests.{line_view};
 ghost use Rattle.tl_generations.specs.Growth.{IsGrowthFault};
 ghost use Rattle.tl_generations.specs.declared.growth.GrowthFault.TheVariants as growth;
 ghost use Rattle.tl_server.specs.Outcomes.{IsAsked, CameOf};
-ghost use Rattle.tl_server.specs.Served.{GrowthOutcome};
+ghost use Rattle.tl_server.specs.Served.{GrowthOutcome, ReadBy};
 
 use crate::journal::{Journal, Unstored};
 use crate::outcome::{Done, RequestOutcome};
@@ -15,6 +15,7 @@ use crate::request::LineRequest;
 use crate::seats::Seats;
 use crate::service::{Service, act};
 use crate::status::{Reporter, Status, Tally};
+use crate::texts::{Texts, register_text};
 use std::alloc::Global;
 use std::marker::Model;
 use std::mem;
@@ -90,6 +91,25 @@ impl Place {
     }
 }
 
+// Does what a request asks for, in a session of the engine, for which K reads texts.
+fn act_or_read<K: Texts, R: Threads + Wait + Sync>(
+    rt: &R,
+    alloc: Global,
+    engine: &Engine,
+    session: &mut Session,
+    request: &LineRequest,
+) -> RequestOutcome
+    requires { IsAsked (line_view request.now) }
+    ensures { (own : List Did) × CameOf (record { seals = engine.now.seals; grows = false; reads = ReadBy (record { has = K.has; lacks = K.lacks }) }) (line_view request.now) own result }
+{
+    match request {
+        LineRequest::RegisterText(text) => {
+            RequestOutcome::RegisteredAll(register_text::<K>(rt, alloc, engine, text))
+        }
+        request => act(rt, alloc, engine, session, request),
+    }
+}
+
 // Why nothing is done yet.
 #[derive(Clone, Copy, Debug)]
 enum Pause {
@@ -130,7 +150,7 @@ impl Stage {
     }
 
     // Does what a request asks for, if an engine has room for it.
-    fn perform<R: Threads + Wait + Sync>(
+    fn perform<K: Texts, R: Threads + Wait + Sync>(
         &self,
         rt: &R,
         alloc: Global,
@@ -140,7 +160,7 @@ impl Stage {
         request: &LineRequest,
     ) -> Result<Done, Pause>
         requires { IsAsked (line_view request.now) }
-        ensures came { IfOk result (λ d. (own : List Did) × CameOf (record { seals = true; grows = false }) (line_view request.now) own d.outcome) }
+        ensures came { IfOk result (λ d. (own : List Did) × CameOf (record { seals = true; grows = false; reads = ReadBy (record { has = K.has; lacks = K.lacks }) }) (line_view request.now) own d.outcome) }
         ensures later { IfOk result (λ d. (place.old ≤ d.base) × (place.new ≡ d.base)) }
         ensures same { OnErr result (place.new ≡ place.old) }
     {
@@ -156,7 +176,7 @@ impl Stage {
         }
         let (seat, session) = self.session(rt, alloc, seats, engine, place)?;
         let mut session = session;
-        let outcome = act(rt, alloc, engine, &mut session, request);
+        let outcome = act_or_read::<K, R>(rt, alloc, engine, &mut session, request);
         seats.lock(rt).put(seat, session);
         *place = Place {
             base: self.base,
@@ -249,7 +269,7 @@ pub struct Relay<K, J> {
     crew: Option<Arc<Crew>>,
 }
 
-impl<K: Keeper, J: Journal> Relay<K, J> {
+impl<K: Keeper + Texts, J: Journal> Relay<K, J> {
     /// A relay that begins with this engine, which has no sessions yet and seals its epochs by itself. The next one takes over after
     /// so many epochs, at least one.
     pub fn new(alloc: Global, engine: Engine, keeper: K, journal: J, epochs: u32) -> Relay<K, J>
@@ -378,12 +398,12 @@ impl<K: Keeper, J: Journal> Relay<K, J> {
         request: &LineRequest,
     ) -> Result<Done, Pause>
         requires { IsAsked (line_view request.now) }
-        ensures came { IfOk result (λ d. (own : List Did) × CameOf (record { seals = true; grows = false }) (line_view request.now) own d.outcome) }
+        ensures came { IfOk result (λ d. (own : List Did) × CameOf (record { seals = true; grows = false; reads = ReadBy (record { has = K.has; lacks = K.lacks }) }) (line_view request.now) own d.outcome) }
         ensures later { IfOk result (λ d. (place.old ≤ d.base) × (place.new ≡ d.base)) }
         ensures same { OnErr result (place.new ≡ place.old) }
     {
         let stage = self.stage.read(rt);
-        stage.perform(rt, alloc, &self.seats, self.epochs, place, request)
+        stage.perform::<K, R>(rt, alloc, &self.seats, self.epochs, place, request)
     }
 
     // Lets the next engine take over as soon as no line is at work: from the one with so many epochs before it, if it is still there,
@@ -411,7 +431,7 @@ impl<K: Keeper, J: Journal> Relay<K, J> {
     }
 }
 
-impl<K: Keeper, J: Journal> Relay<K, J> {
+impl<K: Keeper + Texts, J: Journal> Relay<K, J> {
     // Does what a request asks for by an engine that has room for it. `None` if memory is refused.
     fn perform_by_engine<R: Threads + Wait + Sync>(
         &self,
@@ -421,7 +441,7 @@ impl<K: Keeper, J: Journal> Relay<K, J> {
         request: &LineRequest,
     ) -> Option<Done>
         requires { IsAsked (line_view request.now) }
-        ensures came { IfSome result (λ d. (own : List Did) × CameOf (record { seals = true; grows = false }) (line_view request.now) own d.outcome) }
+        ensures came { IfSome result (λ d. (own : List Did) × CameOf (record { seals = true; grows = false; reads = ReadBy (record { has = K.has; lacks = K.lacks }) }) (line_view request.now) own d.outcome) }
         ensures later { IfSome result (λ d. (place.old ≤ d.base) × (place.new ≡ d.base)) }
         ensures same { result ≡ None → place.new ≡ place.old }
     {
@@ -490,16 +510,17 @@ fn known(grown: Result<u16, GrowthFault>) -> Option<Result<u16, GrowthFault>>
 }
 
 /// A relay serves each connection by sessions of its engines, one after another. The numbers of epochs go on from one to the next.
-impl<K: Keeper, J: Journal> Service for Relay<K, J> {
+impl<K: Keeper + Texts, J: Journal> Service for Relay<K, J> {
     type Visitor = Place;
 
     ghost use Rattle.std.specs.Prelude.{◌≤◌, true};
+    ghost use Rattle.tl_server.specs.Served.{ReadBy};
     ghost use Rattle.tl_server.specs.Outcomes.{GoesOnFrom};
     ghost use Rattle.tl_server.specs.Gaining.{goes_on_nothing, goes_on_both, seals_from};
 
     ghost gains = { GoesOnFrom };
 
-    ghost ways = { λ r. record { seals = true; grows = r.grows } };
+    ghost ways = { λ r. record { seals = true; grows = r.grows; reads = ReadBy (record { has = K.has; lacks = K.lacks }) } };
 
     ghost may_seal = { λ base n. base ≤ n };
 
@@ -533,7 +554,7 @@ impl<K: Keeper, J: Journal> Service for Relay<K, J> {
 }
 
 /// A relay counts what it answers.
-impl<K: Keeper, J: Journal> Reporter for Relay<K, J> {
+impl<K: Keeper + Texts, J: Journal> Reporter for Relay<K, J> {
     fn status(&self, rt: &impl Wait, connections: u64) -> Option<Status> {
         let stage = self.stage.read(rt);
         Some(Status {

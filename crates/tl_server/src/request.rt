@@ -4,7 +4,7 @@ ghost use Rattle.std.specs.Prelude.{◌≡◌, ◌≢◌, ◌≤◌, option_map,
 ghost use Rattle.tl_workers.specs.declared.batch.TheConstants.{MAX_REQUESTS, MAX_WORKERS};
 ghost use Rattle.serde_json.specs.View.{view};
 ghost use Rattle.tl_tree.specs.Reading.{integer_of, integers_of};
-ghost use Rattle.tl_server.specs.Requests.{line_view, text_at, has_members, register_of, call_of, workers_of, batch_of, grow_of, request_with, line_request_of, IsRequest, IsLineFault};
+ghost use Rattle.tl_server.specs.Requests.{line_view, text_at, has_members, register_text_of, register_of, call_of, workers_of, batch_of, grow_of, request_with, line_request_of, IsRequest, IsLineFault};
 
 use crate::batch::BatchRequest;
 use crate::fault::LineFault;
@@ -23,6 +23,8 @@ pub const MAX_LINE: usize = 65_536;
 pub enum LineRequest {
     /// To register a procedure under its name.
     Register(ProcedureText),
+    /// To register all procedures of a text of the procedure language.
+    RegisterText(String),
     /// To run a call.
     Call(Request),
     /// To run many calls.
@@ -52,12 +54,25 @@ fn text_at<'v>(value: &'v Value, key: &str) -> Option<&'v str>
     value.get(key)?.as_str()
 }
 
-// `{"asm":text,"name":name,"op":"register"}`
+// `{"op":"register","text":text}`
+fn register_text_of_value(alloc: Global, value: &Value) -> Result<Option<LineRequest>, AllocError>
+    ensures { IfOk result (λ found. option_map line_view found ≡ register_text_of (view value.now)) }
+{
+    if !has_members(value, 2) {
+        return Ok(None);
+    }
+    let Some(text) = text_at(value, "text") else {
+        return Ok(None);
+    };
+    Ok(Some(LineRequest::RegisterText(String::from_str(alloc, text)?)))
+}
+
+// `{"asm":text,"name":name,"op":"register"}`, or the other form of a registration
 fn register_of_value(alloc: Global, value: &Value) -> Result<Option<LineRequest>, AllocError>
     ensures { IfOk result (λ found. option_map line_view found ≡ register_of (view value.now)) }
 {
     if !has_members(value, 3) {
-        return Ok(None);
+        return register_text_of_value(alloc, value);
     }
     let Some(name) = text_at(value, "name") else {
         return Ok(None);
@@ -185,7 +200,7 @@ fn request_of_value(alloc: Global, value: &Value) -> Result<Option<LineRequest>,
 }
 
 /// What a line, without its LF, asks for. It is a JSON object with the members shown and no others:
-/// `{"asm":text,"name":name,"op":"register"}`, `{"args":args,"op":"call","proc":name}`,
+/// `{"asm":text,"name":name,"op":"register"}`, `{"op":"register","text":text}`, `{"args":args,"op":"call","proc":name}`,
 /// `{"calls":[[name,args],..],"op":"batch","workers":w}` with 1 to 256 calls and 1 to 16 workers,
 /// `{"op":"grow","parents":parents}` with one parent at least, `{"op":"seal"}`, or `{"op":"close"}`. The arguments and the parents are
 /// lists of signed 64-bit integers.

@@ -54,6 +54,7 @@ fn receipts(outcome: &RequestOutcome) -> u64
         }
         RequestOutcome::Batched(Err(_))
         | RequestOutcome::Registered(_)
+        | RequestOutcome::RegisteredAll(_)
         | RequestOutcome::Sealed(_)
         | RequestOutcome::Grown(_)
         | RequestOutcome::Unknown => 0,
@@ -66,7 +67,9 @@ fn registered(outcome: &RequestOutcome) -> u64
 {
     match outcome {
         RequestOutcome::Registered(answer) => u64::from(answer.is_ok()),
-        RequestOutcome::Called(_)
+        RequestOutcome::RegisteredAll(Ok(all)) => all.len() as u64,
+        RequestOutcome::RegisteredAll(Err(_))
+        | RequestOutcome::Called(_)
         | RequestOutcome::Batched(_)
         | RequestOutcome::Sealed(_)
         | RequestOutcome::Grown(_)

@@ -5,6 +5,7 @@ ghost use Rattle.std.specs.Prelude.{◌≡◌, ◌+◌};
 use crate::device::{Failure, Sink};
 use crate::journal::Journal;
 use crate::relay::{Keeper, Relay};
+use crate::texts::Texts;
 use std::alloc::Global;
 use std::sync::Wait;
 
@@ -32,7 +33,7 @@ pub struct StoredSink<'a, R, K, J, S> {
     failed: u64,
 }
 
-impl<'a, R: Wait, K: Keeper, J: Journal, S: Sink> StoredSink<'a, R, K, J, S> {
+impl<'a, R: Wait, K: Keeper + Texts, J: Journal, S: Sink> StoredSink<'a, R, K, J, S> {
     /// Writes to this sink.
     pub fn new(
         rt: &'a R,
@@ -60,7 +61,7 @@ impl<'a, R: Wait, K: Keeper, J: Journal, S: Sink> StoredSink<'a, R, K, J, S> {
     }
 }
 
-impl<'a, R: Wait, K: Keeper, J: Journal, S: Sink> Sink for StoredSink<'a, R, K, J, S> {
+impl<'a, R: Wait, K: Keeper + Texts, J: Journal, S: Sink> Sink for StoredSink<'a, R, K, J, S> {
     ghost use Rattle.std.specs.Prelude.{◌+◌};
 
     ghost output = { λ s. S.output s.sink };

@@ -16,7 +16,7 @@ use tl_generations::Succession;
 use tl_json::RegisterFault;
 use tl_procedures::Procedures;
 use tl_server::{
-    Address, Control, Journal, Keeper, LastingServer, ListenFault, NoJournal, Relay, Server,
+    Address, Control, Journal, Keeper, LastingServer, ListenFault, NoJournal, Relay, Server, Texts,
     ask_status, ask_to_stop,
 };
 use tl_verify::Proc;
@@ -139,7 +139,7 @@ where
         archive: F,
     ) -> Result<String, Failure<'p>>
     where
-        K: Keeper + Finish + Send + Drop,
+        K: Keeper + Texts + Finish + Send + Drop,
         F: FnOnce(Trails, Succession, u16) -> K + Drop,
         requires { F.IsAlwaysCallable archive }
     {
@@ -184,7 +184,7 @@ where
         archive: F,
     ) -> Result<String, Failure<'p>>
     where
-        K: Keeper + Finish + Send + Drop,
+        K: Keeper + Texts + Finish + Send + Drop,
         F: FnOnce(Trails, Succession, u16) -> K + Drop,
         requires { F.IsAlwaysCallable archive }
     {
@@ -214,7 +214,7 @@ where
         archive: F,
     ) -> Result<String, Failure<'p>>
     where
-        K: Keeper + Finish + Send + Drop,
+        K: Keeper + Texts + Finish + Send + Drop,
         F: FnOnce(Trails, Succession, u16) -> K + Drop,
         J: Journal + End + Sync + Drop,
         requires { F.IsAlwaysCallable archive }
@@ -252,7 +252,7 @@ where
         outputs: Outputs<'p>,
     ) -> Result<String, Failure<'p>>
     where
-        K: Keeper + Finish + Send + Drop,
+        K: Keeper + Texts + Finish + Send + Drop,
         J: Journal + End + Sync + Drop,
     {
         self.serve_connections(&relay, options, connections)?;
@@ -304,7 +304,7 @@ where
     }
 
     // Serves connections until there were as many as were asked for, or until the server is asked to stop.
-    fn serve_connections<'p, K: Keeper + Send, J: Journal + Sync>(
+    fn serve_connections<'p, K: Keeper + Texts + Send, J: Journal + Sync>(
         &self,
         relay: &Relay<K, J>,
         options: ServeOptions<'p>,
@@ -322,7 +322,7 @@ where
     }
 
     // The same, where the server can be asked to stop at that control.
-    fn serve_until_stopped<'p, K: Keeper + Send, J: Journal + Sync>(
+    fn serve_until_stopped<'p, K: Keeper + Texts + Send, J: Journal + Sync>(
         &self,
         relay: &Relay<K, J>,
         options: ServeOptions<'p>,

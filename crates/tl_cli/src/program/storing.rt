@@ -13,7 +13,7 @@ use std::time::Clock;
 use tl_arguments::{Outputs, Sealing, ServeOptions};
 use tl_file_journal::{End, StoreRefusal, Stored};
 use tl_generations::Succession;
-use tl_server::{Journal, Keeper};
+use tl_server::{Journal, Keeper, Texts};
 use tl_store_commands::Retaken;
 use tl_tree::Tree;
 
@@ -90,7 +90,7 @@ where
         opens: O,
     ) -> Result<String, Failure<'p>>
     where
-        K: Keeper + Finish + Send + Drop,
+        K: Keeper + Texts + Finish + Send + Drop,
         F: FnOnce(Trails, Succession, u16) -> K + Drop,
         J: Journal + End + Sync + Drop,
         O: FnOnce(&str, Option<Tree>) -> Result<Stored<J>, StoreRefusal> + Drop,

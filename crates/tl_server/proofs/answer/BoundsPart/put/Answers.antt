@@ -1,5 +1,5 @@
 use Rattle.tl_server.proofs.Sending.{writes_then}
-use Rattle.tl_server.proofs.answer.put_bounds.Goals as goal
+use Rattle.tl_server.proofs.answer.BoundsPart.put.Goals as goal
 
 pub returns : goal.returns
 returns g c =
