@@ -280,6 +280,6 @@ def test_no_text_is_left_out(tests):
     here = pathlib.Path(__file__).read_text()
     for path in sorted((TOP / "examples/cookbook").glob("*.tdb")):
         tests.check(f"{path.name}: it has a test", f"def test_{path.stem}(tests" in here, path.stem)
-        procedures = re.findall(r"^proc (\w+)", path.read_text(), re.MULTILINE)
+        procedures = re.findall(r"^(?:atomic )?proc (\w+)", path.read_text(), re.MULTILINE)
         tests.check(f"{path.name}: it has procedures", procedures != [], procedures)
         tests.same(f"{path.name}: its procedures that aren't called", [name for name in procedures if f'("{name}", ' not in here], [])

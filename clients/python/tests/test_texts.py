@@ -94,6 +94,18 @@ class ControlPorts(unittest.TestCase):
             self.assertIsNone(treedb.stop(port=server.port))
         self.assertEqual(server.heard, [b"stop\n"])
 
+    def test_snapshot(self):
+        with serving(lambda line: {"snapshot": "monday.db"}) as server:
+            self.assertIsNone(treedb.snapshot("monday.db", port=server.port))
+        self.assertEqual(server.heard, [b"snapshot monday.db\n"])
+
+    def test_a_name_that_is_refused(self):
+        with serving(lambda line: {"error": [1010]}) as server, self.assertRaisesRegex(Refused, "1010"):
+            treedb.snapshot("monday", port=server.port)
+        with serving(lambda line: {"stopping": True}) as server, self.assertRaises(ValueError):
+            treedb.snapshot("monday.db\nstop", port=server.port)
+        self.assertEqual(server.heard, [])
+
     def test_no_answer(self):
         with serving(lambda line: b"") as server, self.assertRaises(treedb.Disconnected):
             treedb.stop(port=server.port)

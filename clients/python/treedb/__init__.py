@@ -20,7 +20,7 @@ language can do the same; `docs/use/faults.md` has all numbers.
 
 from .aio import AsyncClient
 from .client import Client
-from .control import Status, status, stop
+from .control import Status, snapshot, status, stop
 from .errors import Disconnected, Error, Exhausted, MissingNode, Refused, TimedOut
 from .faults import FAULTS
 from .names import Names
@@ -29,5 +29,5 @@ from .stores import write_names
 from .texts import script
 
 __all__ = ["FAULTS", "Answer", "AsyncClient", "Batch", "Bounds", "Client", "Disconnected", "Error", "Exhausted", "MissingNode", "Names", "Refused", "Status",
-           "TimedOut", "script", "status", "stop", "write_names"]
+           "TimedOut", "script", "snapshot", "status", "stop", "write_names"]
 __version__ = "0.1.0"

@@ -1,4 +1,4 @@
-"""The control port of a server: what it says of itself, and how it is ended."""
+"""The control port of a server: what it says of itself, how it is ended, and how its store is copied."""
 
 from __future__ import annotations
 
@@ -10,7 +10,7 @@ from .connection import LOOPBACK, Address, address_of, connected
 from .errors import Disconnected, TimedOut
 from .protocol import answer_of
 
-__all__ = ["Status", "status", "stop"]
+__all__ = ["Status", "snapshot", "status", "stop"]
 
 # An answer has fewer bytes.
 MAX_ANSWER = 4_096
@@ -37,6 +37,14 @@ def status(host: str = LOOPBACK, port: int | None = None, *, path: str | os.Path
     """What a server that lasts says of itself, asked on its control port or control socket. Any other server refuses with 901."""
     answer = _told("status", address_of(host, port, path), timeout)
     return Status(**{field: answer[field] for field in Status._fields})
+
+
+def snapshot(name: str, host: str = LOOPBACK, port: int | None = None, *, path: str | os.PathLike[str] | None = None, timeout: float | None = None) -> None:
+    """Has a server with a store copy it into the file of that name, in the folder of its `--snapshots`: 1 to 64 ASCII letters, digits, `_` or `-`, and then `.db`. The copy is whole when
+    this returns. A name that isn't such, or that a file has, is refused with 1010, and a server that makes no copies with 901."""
+    if "\n" in name:
+        raise ValueError("a copy's name is one line")
+    _told(f"snapshot {name}", address_of(host, port, path), timeout)
 
 
 def stop(host: str = LOOPBACK, port: int | None = None, *, path: str | os.PathLike[str] | None = None, timeout: float | None = None) -> None:

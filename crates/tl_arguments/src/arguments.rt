@@ -2,8 +2,8 @@
 
 use crate::help::{
     ALONE_HELP, ASM_HELP, AUDIT_HELP, CHECK_HELP, COMPILE_HELP, DIS_HELP, DRIVE_HELP, EXPLAIN_HELP,
-    EXPORT_HELP, HELP, MIGRATE_HELP, PROCS_HELP, RUN_HELP, SERVE_HELP, STATUS_HELP, STOP_HELP,
-    VERIFY_HELP, WIDEN_HELP,
+    EXPORT_HELP, HELP, MIGRATE_HELP, PROCS_HELP, RUN_HELP, SERVE_HELP, SNAPSHOT_HELP, STATUS_HELP,
+    STOP_HELP, VERIFY_HELP, WIDEN_HELP,
 };
 use crate::rows::{Reading, Row};
 use clap::{Arg, ArgAction, Command, value_parser};
@@ -156,6 +156,7 @@ enum Name {
     Run,
     Serve,
     Status,
+    Snapshot,
     Stop,
     Audit,
     Export,
@@ -170,12 +171,13 @@ enum Name {
     Explain,
 }
 
-const NAMES: [Name; 17] = [
+const NAMES: [Name; 18] = [
     Name::Alone,
     Name::Drive,
     Name::Run,
     Name::Serve,
     Name::Status,
+    Name::Snapshot,
     Name::Stop,
     Name::Audit,
     Name::Export,
@@ -254,7 +256,7 @@ fn run_command<'a>(alloc: Global) -> Result<Command<'a>, AllocError> {
 }
 
 // What a server begins with.
-fn store_rows() -> [Row; 4] {
+fn store_rows() -> [Row; 5] {
     [
         Row::option(
             "tree",
@@ -266,6 +268,11 @@ fn store_rows() -> [Row; 4] {
             "store",
             "FILE",
             "The file that the tree, the procedures and the calls are stored in: what was answered is found again after a crash",
+        ),
+        Row::option(
+            "snapshots",
+            "FOLDER",
+            "The folder that `treedb snapshot` has copies of the store written to",
         ),
         procedures(
             "Procedures to register first: all of a text of the procedure language, or as NAME the one of a `.tdb`, `.tlp` or assembler file; of a server that seals itself",
@@ -375,6 +382,20 @@ fn control_command<'a>(
         &[
             port("The server's control port"),
             socket("The file of the server's control socket"),
+        ],
+    )
+}
+
+fn snapshot_command<'a>(alloc: Global) -> Result<Command<'a>, AllocError> {
+    command_of(
+        alloc,
+        "snapshot",
+        "Has a server of this machine copy its store into a file",
+        SNAPSHOT_HELP,
+        &[
+            port("The server's control port"),
+            socket("The file of the server's control socket"),
+            Row::file("NAME", "The copy's name, as in monday.db"),
         ],
     )
 }
@@ -495,6 +516,7 @@ fn command_named<'a>(alloc: Global, name: Name) -> Result<Command<'a>, AllocErro
             "Prints what a server of this machine that lasts says of itself",
             STATUS_HELP,
         ),
+        Name::Snapshot => snapshot_command(alloc),
         Name::Stop => control_command(
             alloc,
             "stop",

@@ -147,6 +147,8 @@ pub enum Request<'a> {
     Store {
         store: &'a str,
         tree: Option<&'a str>,
+        /// The folder of the store's copies.
+        copies: Option<&'a str>,
         options: ServeOptions<'a>,
         procedures: Vec<&'a str>,
         save: Option<&'a str>,
@@ -162,6 +164,11 @@ pub enum Request<'a> {
     Export {
         store: &'a str,
         folder: &'a str,
+    },
+    /// Ask the server with this control port or socket to copy its store into a file of that name.
+    Copy {
+        control: Address<'a>,
+        name: &'a str,
     },
     /// Ask the server with this control port or socket to stop.
     Stop {
@@ -305,6 +312,7 @@ fn store_request<'a>(alloc: Global, words: &ArgMatches<'a>) -> Option<Request<'a
     Some(Request::Store {
         store: words.get_str("store")?,
         tree: words.get_str("tree"),
+        copies: words.get_str("snapshots"),
         options: serve_options(words)?,
         procedures: all_of(alloc, words, "proc")?,
         save: words.get_str("save"),
@@ -378,6 +386,9 @@ fn asked_of<'a>(alloc: Global, matches: &ArgMatches<'a>) -> Option<Asked<'a>> {
                 "--trail is for one generation, and a store has many: --trails FOLDER",
             ));
         }
+        if words.contains_id("snapshots") && !words.contains_id("store") {
+            return Some(Asked::Mistaken("--snapshots is for a store: --store"));
+        }
     }
     Some(Asked::Request {
         request: request_of(alloc, name, words)?,
@@ -390,6 +401,12 @@ fn request_of<'a>(alloc: Global, name: &str, words: &ArgMatches<'a>) -> Option<R
     if name == "stop" {
         return Some(Request::Stop {
             control: address_of(words, "port", "socket")?,
+        });
+    }
+    if name == "snapshot" {
+        return Some(Request::Copy {
+            control: address_of(words, "port", "socket")?,
+            name: words.get_str("NAME")?,
         });
     }
     if name == "status" {

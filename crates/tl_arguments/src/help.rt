@@ -104,7 +104,7 @@ treedb stop --port 7879 ends it: each line that was read is answered, the connec
 it is. After G epochs a new generation begins. With --trails FOLDER a file there has what the calls of a generation did, 0.json,
 1.json and so on, which is written while lines are answered; treedb audit FOLDER checks them.
 With --store FILE all is stored before it is answered: the first start makes FILE of the tree, and later ones, without --tree, go on
-with what it has, also after a crash.
+with what it has, also after a crash. With --snapshots FOLDER, treedb snapshot has it copied there.
 With --connections C it ends by itself after so many connections, and clients seal full epochs: after 4,096 calls each call
 is refused until one does. Then this prints {\"order\":[..]}, the order in which the calls would do the same alone, or
 {\"orders\":[..]}, the order in each epoch, and the tree. With --trail what the calls did and the records in the end are
@@ -115,6 +115,14 @@ Every user of the machine reaches a port. With --socket PATH in the place of --p
 660 for the group too. The file of a server that is no more is replaced, any other stays.
 Exit status: 0 done, 1 refused, 2 a mistake on the command line, 3 a file that can't be read or written, or a port
 or socket that can't be opened, 4 memory.";
+
+pub const SNAPSHOT_HELP: &str = "\
+Example: treedb snapshot --port 7879 monday.db
+asks the server that was started with --control 7879, --store and --snapshots FOLDER to copy its store into FOLDER/monday.db, and
+prints {\"snapshot\":\"monday.db\"} once the copy is whole: one file, which sqlite3 opens and treedb serve --store takes up, with all that was
+answered before. Meanwhile no call is answered. The name is 1 to 64 ASCII letters, digits, _ or -, and then .db; a file that is there isn't
+replaced. With --socket PATH it asks the server with --control-socket PATH.
+Exit status: 0 copied, 1 refused, 2 a mistake on the command line, 3 nobody answers there, or the copy can't be written, 4 memory.";
 
 pub const STATUS_HELP: &str = "\
 Example: treedb status --port 7879

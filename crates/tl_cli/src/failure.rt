@@ -6,11 +6,11 @@ use tl_commands::CliFault;
 use tl_export::ExportFault;
 use tl_file_journal::StoreRefusal;
 use tl_language_commands::LanguageFault;
-use tl_server::Address;
+use tl_server::{Address, CopyRefusal};
 use tl_store::StoreFault;
 use tl_store_file::FileFault;
 
-/// The fault of a command, or of a command on a text of the procedure language; a store that can't be used, or not be exported; a file that can't be read or
+/// The fault of a command, or of a command on a text of the procedure language; a store that can't be used, not be exported, or not be copied; a file that can't be read or
 /// written, with the system's reason; a port or a socket that can't be opened; or a server that isn't there.
 #[derive(Drop)]
 pub enum Failure<'a> {
@@ -18,6 +18,7 @@ pub enum Failure<'a> {
     RefusedText(LanguageFault),
     Unstored(StoreRefusal),
     Unexported(ExportFault),
+    Uncopied(CopyRefusal),
     Unreadable {
         path: &'a str,
         reason: io::Error,
@@ -43,6 +44,8 @@ pub enum Fault {
     Store(StoreRefusal),
     /// 1007: a record of a store isn't that of the calls taken again.
     Record(ExportFault),
+    /// A server makes no copy of its store.
+    Copy(CopyRefusal),
 }
 
 // The fault that stands for one of an export.
@@ -63,6 +66,7 @@ impl Failure<'_> {
             Failure::RefusedText(fault) => Fault::Text(*fault),
             Failure::Unstored(refusal) => Fault::Store(*refusal),
             Failure::Unexported(fault) => of_export(*fault),
+            Failure::Uncopied(refusal) => Fault::Copy(*refusal),
             Failure::Unreadable { .. } => Fault::Command(CliFault::Unreadable),
             Failure::Unwritable { .. } => Fault::Command(CliFault::Unwritable),
             Failure::NotOpened { .. } | Failure::NoServer { .. } => {
@@ -78,6 +82,7 @@ impl Failure<'_> {
             Fault::Text(fault) => fault.status(),
             Fault::Store(refusal) => refusal.status(),
             Fault::Record(_) => 1,
+            Fault::Copy(refusal) => refusal.status(),
         }
     }
 }
@@ -125,6 +130,7 @@ impl fmt::Display for Failure<'_> {
             Failure::RefusedText(fault) => write!(f, "{fault}"),
             Failure::Unstored(refusal) => write!(f, "{refusal}"),
             Failure::Unexported(fault) => write!(f, "{fault}"),
+            Failure::Uncopied(refusal) => write!(f, "{refusal}"),
             Failure::Unreadable { path, reason } => write!(f, "{path} can't be read: {reason}"),
             Failure::Unwritable { path, reason } => write!(f, "{path} can't be written: {reason}"),
             Failure::NotOpened { address } => match address {

@@ -93,7 +93,7 @@ where
     K: Keeper + Texts + Finish + Send + Drop,
     F: FnOnce(Trails, Succession, u16) -> K + Drop,
     J: Journal + End + Sync + Drop,
-    O: FnOnce(&str, Option<Tree>) -> Result<Stored<J>, StoreRefusal> + Drop,
+    O: FnOnce(&str, Option<Tree>, Option<&str>) -> Result<Stored<J>, StoreRefusal> + Drop,
     E: Epochs + Drop,
     X: FnOnce(&str) -> Result<E, FileFault> + Drop,
     requires archive { F.IsAlwaysCallable archive }
@@ -123,7 +123,7 @@ fn main(rt: HostRuntime) -> ExitCode {
             &words,
             rt.stderr().is_terminal(),
             |trails, succession, nodes| Archive::new(rt, trails, succession, nodes),
-            |path, tree| open_stored(&rt, path, tree),
+            |path, tree, copies| open_stored(&rt, path, tree, copies),
             |path| open_epochs(&rt, path),
         ),
         Err(status) => status,

@@ -38,6 +38,7 @@ pub fn print_failure<R: Print + Eprint>(rt: &R, failure: &Failure<'_>) -> io::Re
         Fault::Text(fault) => print_numbers(rt, fault.numbers().as_slice()),
         Fault::Store(refusal) => print_numbers(rt, refusal.numbers().as_slice()),
         Fault::Record(fault) => print_numbers(rt, fault.numbers().as_slice()),
+        Fault::Copy(refusal) => print_numbers(rt, refusal.numbers().as_slice()),
     }
 }
 

@@ -411,7 +411,7 @@ where
         K: Keeper + Texts + Finish + Send + Drop,
         F: FnOnce(Trails, Succession, u16) -> K + Drop,
         J: Journal + End + Sync + Drop,
-        O: FnOnce(&str, Option<Tree>) -> Result<Stored<J>, StoreRefusal> + Drop,
+        O: FnOnce(&str, Option<Tree>, Option<&str>) -> Result<Stored<J>, StoreRefusal> + Drop,
         E: Epochs + Drop,
         X: FnOnce(&str) -> Result<E, FileFault> + Drop,
         requires archive { F.IsAlwaysCallable archive }
@@ -427,6 +427,7 @@ where
             Request::Store {
                 store,
                 tree,
+                copies,
                 options,
                 procedures,
                 save,
@@ -434,6 +435,7 @@ where
                 let files = StoreFiles {
                     store,
                     tree: *tree,
+                    copies: *copies,
                     save: *save,
                 };
                 let lines = self.serve_store(files, *options, procedures, archive, opens)?;
@@ -445,6 +447,7 @@ where
             Request::Files(command) => self.answer_files(*command),
             Request::Audit { trails, explains } => self.audit(trails, *explains, epochs),
             Request::Export { store, folder } => self.export(store, folder, epochs),
+            Request::Copy { control, name } => self.copy(*control, name),
             Request::Stop { control } => self.stop(*control),
             Request::Status { control } => self.status(*control),
         }
@@ -464,7 +467,7 @@ where
         K: Keeper + Texts + Finish + Send + Drop,
         F: FnOnce(Trails, Succession, u16) -> K + Drop,
         J: Journal + End + Sync + Drop,
-        O: FnOnce(&str, Option<Tree>) -> Result<Stored<J>, StoreRefusal> + Drop,
+        O: FnOnce(&str, Option<Tree>, Option<&str>) -> Result<Stored<J>, StoreRefusal> + Drop,
         E: Epochs + Drop,
         X: FnOnce(&str) -> Result<E, FileFault> + Drop,
         requires archive { F.IsAlwaysCallable archive }

@@ -1,12 +1,15 @@
 // What comes of the trails of a store: files of a folder, or lines.
 
+ghost use Rattle.std.specs.Prelude.{◌≡◌, ◌+◌, IfOk, OnOk};
+ghost use Rattle.tl_file_export.specs.Filed.{AreSoMany, HasExported};
+
 use serde_json::Value;
 use std::alloc::Global;
 use std::io::Write;
 use std::rt::Files;
 use std::{fs, io, mem};
 use tl_export::ExportFault;
-use tl_file_export::TrailFiles;
+use tl_file_export::{Epochs, TrailFiles};
 use tl_json::{calls_to_value, orders_to_value};
 use tl_lines::line_of;
 use tl_serial_order::Order;
@@ -25,7 +28,9 @@ pub struct FolderFiles<'a, R: Files> {
 }
 
 impl<'a, R: Files + Eprint> FolderFiles<'a, R> {
-    pub fn new(rt: &'a R, folder: &'a str) -> FolderFiles<'a, R> {
+    pub fn new(rt: &'a R, folder: &'a str) -> FolderFiles<'a, R>
+        ensures { (result.files ≡ 0) × (result.epochs ≡ 0) }
+    {
         FolderFiles {
             rt,
             folder,
@@ -33,16 +38,6 @@ impl<'a, R: Files + Eprint> FolderFiles<'a, R> {
             files: 0,
             epochs: 0,
         }
-    }
-
-    /// How many epochs' trails were written.
-    pub fn epochs(&self) -> u64 {
-        self.epochs
-    }
-
-    /// How many files were written.
-    pub fn files(&self) -> u64 {
-        self.files
     }
 
     // The name of the last file, once it is whole.
@@ -58,8 +53,15 @@ impl<'a, R: Files + Eprint> FolderFiles<'a, R> {
     }
 
     // Makes the next file.
-    fn make(&mut self, alloc: Global) -> Result<(), ExportFault> {
-        self.files = self.files.saturating_add(1);
+    fn make(&mut self, alloc: Global) -> Result<(), ExportFault>
+        ensures files { OnOk result (self.new.files ≡ self.old.files + 1) }
+        ensures epochs { self.new.epochs ≡ self.old.epochs }
+    {
+        // No run counts this far.
+        let Some(files) = self.files.checked_add(1) else {
+            return Err(ExportFault::Untaken);
+        };
+        self.files = files;
         let path = self.path(alloc)?;
         let part = format!(in alloc; "{path}.part")?;
         match fs::create(self.rt, part.as_str()) {
@@ -72,7 +74,10 @@ impl<'a, R: Files + Eprint> FolderFiles<'a, R> {
     }
 
     // Writes a piece after those before it.
-    fn put(&mut self, alloc: Global, piece: &str) -> Result<(), ExportFault> {
+    fn put(&mut self, alloc: Global, piece: &str) -> Result<(), ExportFault>
+        ensures files { self.new.files ≡ self.old.files }
+        ensures epochs { self.new.epochs ≡ self.old.epochs }
+    {
         let Some(file) = &mut self.open else {
             return Err(ExportFault::Untaken);
         };
@@ -86,22 +91,29 @@ impl<'a, R: Files + Eprint> FolderFiles<'a, R> {
     }
 
     // Writes a trail behind that.
-    fn put_trail(&mut self, alloc: Global, before: &str, trail: &Trail) -> Result<(), ExportFault> {
+    fn put_trail(&mut self, alloc: Global, before: &str, trail: &Trail) -> Result<(), ExportFault>
+        ensures files { self.new.files ≡ self.old.files }
+        ensures epochs { OnOk result (self.new.epochs ≡ self.old.epochs + 1) }
+    {
         let Ok(text) = write_trail(alloc, trail) else {
             return Err(ExportFault::Store(StoreFault::Memory));
         };
         self.put(alloc, before)?;
         self.put(alloc, text.as_str())?;
-        self.epochs = self.epochs.saturating_add(1);
+        // No run counts this far.
+        let Some(epochs) = self.epochs.checked_add(1) else {
+            return Err(ExportFault::Untaken);
+        };
+        self.epochs = epochs;
         Ok(())
     }
 }
 
 impl<R: Files + Eprint> TrailFiles for FolderFiles<'_, R> {
-    ghost use Rattle.std.specs.Prelude.{None};
+    ghost use Rattle.tl_file_export.specs.Filed.{AreSoMany};
 
-    // No contract can say what is in a file.
-    ghost files = { λ _. None };
+    // No contract can say what is in a file: only how many files there are, and how many trails in all.
+    ghost files = { λ s. AreSoMany s.files s.epochs };
 
     fn begin(&mut self, alloc: Global, trail: &Trail, _order: &Order) -> Result<(), ExportFault> {
         self.end(alloc)?;
@@ -128,6 +140,29 @@ impl<R: Files + Eprint> TrailFiles for FolderFiles<'_, R> {
     }
 }
 
+/// How much an export has written: how many trails, one for each epoch, and how many files.
+#[derive(Clone, Copy, Debug)]
+pub struct Written {
+    pub epochs: u64,
+    pub files: u64,
+}
+
+/// Takes all epochs again, and writes their trails into the folder.
+pub fn write_trails<R: Files + Eprint + Drop, E: Epochs>(
+    rt: &R,
+    alloc: Global,
+    epochs: &mut E,
+    folder: &str,
+) -> Result<Written, ExportFault>
+    ensures { IfOk result (λ w. HasExported (AreSoMany w.files w.epochs) (E.is_clean epochs.new) (E.holds epochs.old)) }
+{
+    let written = epochs.export(alloc, FolderFiles::new(rt, folder))?;
+    Ok(Written {
+        epochs: written.epochs,
+        files: written.files,
+    })
+}
+
 /// Prints a line for the trails that would be in one file: the orders of their calls, as `audit` does.
 #[derive(Drop)]
 pub struct PrintedOrders<'a, R> {
@@ -151,10 +186,8 @@ impl<'a, R: Print> PrintedOrders<'a, R> {
 }
 
 impl<R: Print> TrailFiles for PrintedOrders<'_, R> {
-    ghost use Rattle.std.specs.Prelude.{None};
-
     // Trails are printed by their orders alone.
-    ghost files = { λ _. None };
+    ghost files = { λ _ _. Unit {0} };
 
     fn begin(&mut self, alloc: Global, _trail: &Trail, order: &Order) -> Result<(), ExportFault> {
         self.end(alloc)?;

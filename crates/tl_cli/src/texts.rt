@@ -7,7 +7,8 @@ use tl_server::{TextFault, Texts};
 use tl_sources::procedures_of;
 
 impl<R> Texts for Archive<R> {
-    ghost use Rattle.tl_sources.specs.Sources.{ProvidesAll, AreProgramFaultNumbers};
+    ghost use Rattle.tl_cli.specs.Texts.{AreProgramFaultNumbers};
+    ghost use Rattle.tl_sources.specs.Sources.{ProvidesAll};
 
     ghost has = { ProvidesAll };
 

@@ -8,11 +8,8 @@ use Rattle.tl_export.specs.declared.plan.Plan.{Plan}
 use Rattle.tl_export.specs.Epochs.{IsTrailOf}
 use Rattle.tl_export.specs.Exported.{TookMore, files_of, EachIsOf, IsAlong}
 
-pub took_then : (old now new : Option (List TrailValue)) (xs ys : List TrailValue) → TookMore old xs now → TookMore now ys new → TookMore old (xs ++ ys) new
-took_then None now new xs ys first then = tt
-took_then (Some old) now new xs ys first then =
-    let e : new ≡ Some ((old ++ xs) ++ ys) = subst (λ o. TookMore o ys new) first then in
-    e ∙ ap Some (append_assoc old xs ys)
+pub took_then : (old now new : List TrailValue → Type 0) (xs ys : List TrailValue) → TookMore old xs now → TookMore now ys new → TookMore old (xs ++ ys) new
+took_then old now new xs ys first then before is = subst new (append_assoc before xs ys) (then (before ++ xs) (first before is))
 
 -- the next trail continues the last one
 clean_more : (before : Option TrailValue) (trails : List TrailValue) (last next : TrailValue) → AreCleanFiles before (files_of trails) → last_trail before trails ≡ Some last

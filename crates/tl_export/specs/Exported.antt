@@ -1,5 +1,5 @@
 -- The trails of a store.
-use Rattle.std.specs.Prelude.{◌≡◌, ℕ, ◌+◌, List, [], ◌∷◌, ◌++◌, length, map, slice_get, Option, Some, None}
+use Rattle.std.specs.Prelude.{◌≡◌, ℕ, ◌+◌, List, [], ◌∷◌, ◌++◌, length, map, slice_get, Some, None}
 use Rattle.tl_trail.specs.Trails.{TrailValue}
 use Rattle.tl_audit.specs.Chains.{AreCleanFiles, last_trail, opening_of}
 use Rattle.tl_ledger.specs.Contents.{Contents}
@@ -8,10 +8,9 @@ use Rattle.tl_export.specs.declared.plan.Plan.{Plan}
 use Rattle.tl_export.specs.Plans.{IsPlanOf}
 use Rattle.tl_export.specs.Epochs.{IsTrailOf}
 
--- these trails were taken as well; nothing is said if it isn't known what was taken before
-abbrev pub TookMore : Option (List TrailValue) → List TrailValue → Option (List TrailValue) → Type 0
-TookMore None trails new = Unit {0}
-TookMore (Some old) trails new = new ≡ Some (old ++ trails)
+-- whatever trails were taken before, these are taken behind them
+abbrev pub TookMore : (List TrailValue → Type 0) → List TrailValue → (List TrailValue → Type 0) → Type 0
+TookMore old trails new = (before : List TrailValue) → old before → new (before ++ trails)
 
 -- each trail in a file of its own
 abbrev pub files_of : List TrailValue → List (List TrailValue)

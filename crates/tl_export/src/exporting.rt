@@ -32,14 +32,12 @@ fn hand_over<S: Store, K: TrailTaker>(
     before: Option<&Trail>,
     taker: &mut K,
 ) -> Result<Trail, ExportFault>
-    requires tables { IsClean (S.Store.view store.old) → AreTables (S.Store.view store.old) }
-    requires ready { K.IsReady taker.old }
+    requires { IsClean (S.Store.view store.old) → AreTables (S.Store.view store.old) }
     ensures epoch { IfOk result (λ t. IsClean (S.Store.view store.new) → (c : Contents) → Holds (S.Store.view store.old).trees c → IsPlanOf c plan.now
         → IsTrailOf c plan.now epoch t) }
     ensures opening { option_copied before.entry ≡ None → IfOk result (λ t. t.opening ≡ map fields_in plan.now.opening.items) }
     ensures clean { IfOk result (λ t. CleanAfter (after_file (option_copied before.entry)) (t ∷ [])) }
     ensures taken { IfOk result (λ t. TookMore (K.taken taker.old) (t ∷ []) (K.taken taker.new)) }
-    ensures ready { OnOk result (K.IsReady taker.new) }
     ensures reads { OnOk result (IsClean (S.Store.view store.new) → OnlyReads (S.Store.view store.old) (S.Store.view store.new)) }
     ensures schema { KeepsSchema (S.Store.view store.old) (S.Store.view store.new) }
     ensures quiet { IsQuiet S.Store.view S.Store.faults S.Store.recovers S.Store.is_shielded store.old store.new }
@@ -56,12 +54,11 @@ fn hand_over_all<S: Store, K: TrailTaker>(
     plan: &Plan,
     taker: &mut K,
 ) -> Result<Trail, ExportFault>
-    requires tables { IsClean (S.Store.view store.old) → AreTables (S.Store.view store.old) }
-    requires ready { K.IsReady taker.old }
+    requires { IsClean (S.Store.view store.old) → AreTables (S.Store.view store.old) }
     ensures trails { IfOk result (λ last. (trails : List TrailValue) × TookMore (K.taken taker.old) trails (K.taken taker.new)
         × IsAlong plan.now (length plan.now.seals.items) trails last
         × (IsClean (S.Store.view store.new) → (c : Contents) → Holds (S.Store.view store.old).trees c → IsPlanOf c plan.now → EachIsOf c plan.now trails)) }
-    ensures ready { OnOk result (K.IsReady taker.new) }
+    ensures schema { KeepsSchema (S.Store.view store.old) (S.Store.view store.new) }
     ensures quiet { IsQuiet S.Store.view S.Store.faults S.Store.recovers S.Store.is_shielded store.old store.new }
 {
     let mut last = hand_over(alloc, store, plan, 0, None, taker)?;
@@ -93,11 +90,11 @@ pub fn export<S: Store, K: TrailTaker>(
     store: &mut S,
     taker: &mut K,
 ) -> Result<(), ExportFault>
-    requires tables { IsClean (S.Store.view store.old) → AreTables (S.Store.view store.old) }
-    requires ready { K.IsReady taker.old }
+    requires { IsClean (S.Store.view store.old) → AreTables (S.Store.view store.old) }
     ensures trails { OnOk result ((trails : List TrailValue) × TookMore (K.taken taker.old) trails (K.taken taker.new) × AreClean trails
         × (IsClean (S.Store.view store.new) → (c : Contents) → Holds (S.Store.view store.old).trees c → AreTrailsOf c trails)) }
-    ensures ready { OnOk result (K.IsReady taker.new) }
+    ensures schema { KeepsSchema (S.Store.view store.old) (S.Store.view store.new) }
+    ensures quiet { IsQuiet S.Store.view S.Store.faults S.Store.recovers S.Store.is_shielded store.old store.new }
 {
     let plan = read_plan(alloc, store)?;
     if count_nodes(&plan.nodes, plan.seals.len()) != plan.nodes.len() {

@@ -1,6 +1,6 @@
 // Who takes the trails of an export.
 
-ghost use Rattle.std.specs.Prelude.{◌≡◌, ◌∷◌, [], List, Option, OnOk};
+ghost use Rattle.std.specs.Prelude.{◌≡◌, ◌∷◌, [], List, OnOk};
 ghost use Rattle.tl_audit.specs.Chains.{order_of};
 ghost use Rattle.tl_trail.specs.Trails.{TrailValue};
 ghost use Rattle.tl_export.specs.Exported.{TookMore};
@@ -12,16 +12,11 @@ use tl_trail::Trail;
 
 /// Takes trails, one after another, and keeps of them what it wants.
 pub trait TrailTaker {
-    // The trails that it took, if they are known.
-    ghost taken: { Self → Option (List TrailValue) };
-
-    // What holds of it between two trails.
-    ghost IsReady: { Self → Type 0 };
+    // Whether it took these trails, as far as it tells.
+    ghost taken: { Self → List TrailValue → Type 0 };
 
     /// Takes the next trail, and the order of its calls that the auditor found. 32 if what it wants to keep can't be written, 1090 if memory is refused.
     fn take(&mut self, alloc: Global, trail: &Trail, order: &Order) -> Result<(), ExportFault>
-        requires ready { IsReady self.old }
-        requires order { order.now.calls ≡ order_of trail.now }
-        ensures taken { OnOk result (TookMore (taken self.old) (trail.now ∷ []) (taken self.new)) }
-        ensures ready { OnOk result (IsReady self.new) };
+        requires { order.now.calls ≡ order_of trail.now }
+        ensures { OnOk result (TookMore (taken self.old) (trail.now ∷ []) (taken self.new)) };
 }

@@ -1,10 +1,10 @@
 -- Clean trails, each in a file of its own, are clean in files of trees of as many nodes.
-use Rattle.std.proofs.Common.{◌≡◌, ℕ, ◌+◌, List, [], ◌∷◌, ◌++◌, length, replicate, Option, Some, None, option_map, IfSome, refl, sym, ap, ◌∙◌, subst, arith}
+use Rattle.std.proofs.Common.{◌≡◌, ℕ, ◌+◌, List, [], ◌∷◌, ◌++◌, length, replicate, Option, Some, sym, ap, ◌∙◌, arith}
 use Rattle.std.proofs.lemmas.List.{append-nil, length-append, nil_from_length}
 use Rattle.tl_trail.specs.Trails.{TrailValue}
 use Rattle.tl_audit.specs.Chains.{TakesOver, TakesOverGrown, CleanAfter, AfterTrail, AreCleanFiles, after_file, last_trail, trails_of, zero_record}
-use Rattle.tl_export.specs.Exported.{TookMore, AreClean, files_of}
-use Rattle.tl_file_export.specs.Filed.{nodes_of, AreOf, IsFile, AreSplit, AreInFiles}
+use Rattle.tl_export.specs.Exported.{files_of}
+use Rattle.tl_file_export.specs.Filed.{FileList, nodes_of, AreOf, IsFile, AreSplit}
 
 -- no node was appended
 not_grown : (t u : TrailValue) → nodes_of u ≡ nodes_of t → TakesOverGrown t u → TakesOver t u
@@ -33,29 +33,9 @@ one_file n before (t ∷ us) rest file clean =
     let later = rest_of_file n t us rest file.same.0 file.same.1 clean.1 in
     ((clean.0.0, clean.0.1, later.0), later.1)
 
-all_files : (n c : ℕ) (before : Option TrailValue) (fs : List (List TrailValue)) → AreSplit n c fs → AreCleanFiles before (files_of (trails_of fs)) → AreCleanFiles before fs
+pub all_files : (n c : ℕ) (before : Option TrailValue) (fs : FileList) → AreSplit n c fs → AreCleanFiles before (files_of (trails_of fs)) → AreCleanFiles before fs
 all_files n c before [] split clean = tt
 all_files n c before (ts ∷ []) split clean = ((one_file n before ts [] split.0 clean).0, tt)
 all_files n c before (ts ∷ us ∷ fs) split clean =
     let first = one_file split.0.nodes before ts (trails_of (us ∷ fs)) split.0.file clean in
     (first.0, all_files n c (last_trail before ts) (us ∷ fs) split.1 first.1)
-
--- where there are no files, none has a trail
-pub ready_first : (n : ℕ) (files : Option (List (List TrailValue))) → IfSome files (λ fs. fs ≡ []) → IfSome files (AreSplit n 0)
-ready_first n None none = tt
-ready_first n (Some fs) none = subst (AreSplit n 0) (sym none) refl
-
--- what was put into files, where there were none before
-in_some : (n c : ℕ) (trails : List TrailValue) (new : Option (List (List TrailValue))) (P : List TrailValue → Type 0) → option_map trails_of new ≡ Some trails → IfSome new (AreSplit n c)
-    → AreClean trails → P trails → (fs : List (List TrailValue)) × (new ≡ Some fs) × AreInFiles fs × AreCleanFiles None fs × P (trails_of fs)
-in_some n c trails None P took split clean holds = absurd cc
-in_some n c trails (Some fs) P took split clean holds =
-    let both : Some (trails_of fs) ≡ Some trails = took in
-    let e : trails_of fs ≡ trails = cc in
-    (fs, refl, (n, c, split), all_files n c None fs split (subst AreClean (sym e) clean), subst P (sym e) holds)
-
-pub put_in : (n c : ℕ) (trails : List TrailValue) (old new : Option (List (List TrailValue))) (P : List TrailValue → Type 0) → IfSome old (λ fs. fs ≡ [])
-    → TookMore (option_map trails_of old) trails (option_map trails_of new) → IfSome new (AreSplit n c) → AreClean trails → P trails
-    → IfSome old (λ _. (fs : List (List TrailValue)) × (new ≡ Some fs) × AreInFiles fs × AreCleanFiles None fs × P (trails_of fs))
-put_in n c trails None new P none took split clean holds = tt
-put_in n c trails (Some fs) new P none took split clean holds = in_some n c trails new P (took ∙ ap (λ xs. Some (trails_of xs ++ trails)) none) split clean holds

@@ -1,11 +1,11 @@
 -- A trail more in files.
-use Rattle.std.proofs.Common.{◌≡◌, ◌<◌, ℕ, ◌+◌, List, [], ◌∷◌, ◌++◌, length, Option, Some, None, option_map, IfSome, refl, sym, ap, ◌∙◌, subst, append_assoc, arith}
+use Rattle.std.proofs.Common.{◌≡◌, ◌<◌, ℕ, suc, ◌+◌, List, [], ◌∷◌, ◌++◌, length, refl, sym, ap, ◌∙◌, append_assoc, arith}
 use Rattle.std.proofs.lemmas.List.{append-nil, length-append}
 use Rattle.tl_trail.specs.Trails.{TrailValue}
 use Rattle.tl_trail.specs.declared.chain.TheConstants.{MAX_TRAILS}
 use Rattle.tl_audit.specs.Chains.{trails_of}
 use Rattle.tl_export.specs.Exported.{TookMore}
-use Rattle.tl_file_export.specs.Filed.{Became, begun, with_more, nodes_of, AreOf, IsFile, IsFollowed, AreSplit}
+use Rattle.tl_file_export.specs.Filed.{FileList, Became, GotMore, begun, with_more, nodes_of, AreOf, IsFile, IsFollowed, AreSplit, AreKept, AreSoMany}
 
 -- ---- what is in them
 
@@ -17,17 +17,6 @@ trails_more : (t : TrailValue) (fs : List (List TrailValue)) → trails_of (with
 trails_more t [] = refl
 trails_more t (ts ∷ []) = append-nil (ts ++ t ∷ []) ∙ ap (λ xs. xs ++ t ∷ []) (sym (append-nil ts))
 trails_more t (ts ∷ us ∷ fs) = ap (λ xs. ts ++ xs) (trails_more t (us ∷ fs)) ∙ sym (append_assoc ts (trails_of (us ∷ fs)) (t ∷ []))
-
-took_more : (f : List (List TrailValue) → List (List TrailValue)) (t : TrailValue) → ((fs : List (List TrailValue)) → trails_of (f fs) ≡ trails_of fs ++ t ∷ [])
-    → (old new : Option (List (List TrailValue))) → Became f old new → TookMore (option_map trails_of old) (t ∷ []) (option_map trails_of new)
-took_more f t same None new became = tt
-took_more f t same (Some fs) new became = ap (option_map trails_of) became ∙ ap Some (same fs)
-
-pub took_begun : (t : TrailValue) (old new : Option (List (List TrailValue))) → Became (begun t) old new → TookMore (option_map trails_of old) (t ∷ []) (option_map trails_of new)
-took_begun t old new became = took_more (begun t) t (trails_begun t) old new became
-
-pub took_with_more : (t : TrailValue) (old new : Option (List (List TrailValue))) → Became (with_more t) old new → TookMore (option_map trails_of old) (t ∷ []) (option_map trails_of new)
-took_with_more t old new became = took_more (with_more t) t (trails_more t) old new became
 
 -- ---- how they are split
 
@@ -67,16 +56,35 @@ split_more n c t (ts ∷ []) split some room same = more_in_last n c t ts split.
 split_more n c t (ts ∷ us ∷ []) split some room same = (followed_more ts us t split.0, more_in_last n c t us split.1.0 split.1.1 room same)
 split_more n c t (ts ∷ us ∷ vs ∷ fs) split some room same = (split.0, split_more n c t (us ∷ vs ∷ fs) split.1 some room same)
 
--- what is known of files and holds of them still
-still : (P Q : List (List TrailValue) → Type 0) (f : List (List TrailValue) → List (List TrailValue)) → ((fs : List (List TrailValue)) → P fs → Q (f fs))
-    → (old new : Option (List (List TrailValue))) → Became f old new → IfSome old P → IfSome new Q
-still P Q f step None new became holds = subst (λ o. IfSome o Q) (sym became) tt
-still P Q f step (Some fs) new became holds = subst (λ o. IfSome o Q) (sym became) (step fs holds)
+-- ---- a trail more
 
-pub ready_begun : (n c : ℕ) (t : TrailValue) (old new : Option (List (List TrailValue))) → Became (begun t) old new → IfSome old (AreSplit n c) → (0 < c → c < MAX_TRAILS → n ≡ nodes_of t → ⊥)
-    → IfSome new (AreSplit (nodes_of t) 1)
-ready_begun n c t old new became ready ends = still (AreSplit n c) (AreSplit (nodes_of t) 1) (begun t) (λ fs split. split_begun n c t fs split ends) old new became ready
+pub kept_begun : (old new : FileList → Type 0) (n c : ℕ) (t : TrailValue) → Became (begun t) old new → (0 < c → c < MAX_TRAILS → n ≡ nodes_of t → ⊥)
+    → TookMore (AreKept old n c) (t ∷ []) (AreKept new (nodes_of t) 1)
+kept_begun old new n c t became ends before is =
+    (begun t is.0, became is.0 is.1, split_begun n c t is.0 is.2 ends, trails_begun t is.0 ∙ ap (λ xs. xs ++ t ∷ []) is.3)
 
-pub ready_more : (n c : ℕ) (t : TrailValue) (old new : Option (List (List TrailValue))) → Became (with_more t) old new → IfSome old (AreSplit n c) → 0 < c → c < MAX_TRAILS → n ≡ nodes_of t
-    → IfSome new (AreSplit n (c + 1))
-ready_more n c t old new became ready some room same = still (AreSplit n c) (AreSplit n (c + 1)) (with_more t) (λ fs split. split_more n c t fs split some room same) old new became ready
+pub kept_more : (old new : FileList → Type 0) (n c : ℕ) (t : TrailValue) → GotMore t old new → 0 < c → c < MAX_TRAILS → n ≡ nodes_of t
+    → TookMore (AreKept old n c) (t ∷ []) (AreKept new n (c + 1))
+kept_more old new n c t got some room same before is = go is.0 is.1 is.2 is.3
+  where
+    go : (files : FileList) → old files → AreSplit n c files → trails_of files ≡ before → AreKept new n (c + 1) (before ++ t ∷ [])
+    go [] has split e = absurd (omega (arith, split, some))
+    go (ts ∷ files) has split e =
+        (with_more t (ts ∷ files), got ts files has, split_more n c t (ts ∷ files) split some room same, trails_more t (ts ∷ files) ∙ ap (λ xs. xs ++ t ∷ []) e)
+
+-- ---- how many there are
+
+same_count : (t : TrailValue) (ts : List TrailValue) (files : FileList) → length (with_more t (ts ∷ files)) ≡ length (ts ∷ files)
+same_count t ts [] = refl
+same_count t ts (us ∷ files) = ap suc (same_count t us files)
+
+one_longer : (t : TrailValue) (ts us : List TrailValue) (k : ℕ) → ts ≡ us ++ t ∷ [] → length us ≡ k → length ts ≡ k + 1
+one_longer t ts us k is long = let e = length-append us (t ∷ []) in let l = ap length is in omega (arith, e, l, long)
+
+pub so_many_begun : (count trails : ℕ) (t : TrailValue) → Became (begun t) (AreSoMany count trails) (AreSoMany (count + 1) (trails + 1))
+so_many_begun count trails t files are =
+    ((let e = length-append files ((t ∷ []) ∷ []) in omega (arith, e, are.0)), one_longer t (trails_of (begun t files)) (trails_of files) trails (trails_begun t files) are.1)
+
+pub so_many_more : (count trails : ℕ) (t : TrailValue) → GotMore t (AreSoMany count trails) (AreSoMany count (trails + 1))
+so_many_more count trails t ts files are =
+    (same_count t ts files ∙ are.0, one_longer t (trails_of (with_more t (ts ∷ files))) (trails_of (ts ∷ files)) trails (trails_more t (ts ∷ files)) are.1)

@@ -1,2 +1,2 @@
-mod FiledLemmas
+pub mod FiledLemmas
 mod CleanLemmas

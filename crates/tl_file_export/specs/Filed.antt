@@ -1,21 +1,31 @@
 -- Trails in files one after another.
-use Rattle.std.specs.Prelude.{◌≡◌, ◌≤◌, ◌<◌, ℕ, List, [], ◌∷◌, ◌++◌, length, Option, option_map}
+use Rattle.std.specs.Prelude.{◌≡◌, ◌≤◌, ◌<◌, ℕ, List, [], ◌∷◌, ◌++◌, length, None}
+use Rattle.tl_audit.specs.Chains.{AreCleanFiles, trails_of}
+use Rattle.tl_export.specs.Exported.{AreTrailsOf}
+use Rattle.tl_ledger.specs.Contents.{Contents}
 use Rattle.tl_trail.specs.Trails.{TrailValue}
 use Rattle.tl_trail.specs.declared.chain.TheConstants.{MAX_TRAILS}
 
--- what is known of the files became this
-abbrev pub Became : (List (List TrailValue) → List (List TrailValue)) → Option (List (List TrailValue)) → Option (List (List TrailValue)) → Type 0
-Became f old new = new ≡ option_map f old
+abbrev pub FileList : Type 0
+FileList = List (List TrailValue)
+
+-- whatever files there were, they became this
+abbrev pub Became : (FileList → FileList) → (FileList → Type 0) → (FileList → Type 0) → Type 0
+Became f old new = (files : FileList) → old files → new (f files)
 
 -- the files, and one more that begins with the trail
-abbrev pub begun : TrailValue → List (List TrailValue) → List (List TrailValue)
+abbrev pub begun : TrailValue → FileList → FileList
 begun t files = files ++ (t ∷ []) ∷ []
 
 -- the files with the trail behind the last one's; a file of its own if there is none
-abbrev pub with_more : TrailValue → List (List TrailValue) → List (List TrailValue)
+abbrev pub with_more : TrailValue → FileList → FileList
 with_more t [] = (t ∷ []) ∷ []
 with_more t (ts ∷ []) = (ts ++ t ∷ []) ∷ []
 with_more t (ts ∷ us ∷ files) = ts ∷ with_more t (us ∷ files)
+
+-- whatever files there were, one at least, the last of them got the trail
+abbrev pub GotMore : TrailValue → (FileList → Type 0) → (FileList → Type 0) → Type 0
+GotMore t old new = (ts : List TrailValue) (files : FileList) → old (ts ∷ files) → new (with_more t (ts ∷ files))
 
 -- how many nodes the tree has
 abbrev pub nodes_of : TrailValue → ℕ
@@ -39,11 +49,24 @@ pub record IsFollowed (ts us : List TrailValue) : Type 0 where
   pub reason : length ts < MAX_TRAILS → AreOf nodes us → ⊥
 
 -- each file is followed by the next one, and the last has so many trails, of trees of so many nodes
-abbrev pub AreSplit : ℕ → ℕ → List (List TrailValue) → Type 0
+abbrev pub AreSplit : ℕ → ℕ → FileList → Type 0
 AreSplit nodes count [] = count ≡ 0
 AreSplit nodes count (ts ∷ []) = IsFile nodes ts × (length ts ≡ count)
 AreSplit nodes count (ts ∷ us ∷ files) = IsFollowed ts us × AreSplit nodes count (us ∷ files)
 
 -- the files are as few as that allows, whatever the last one has
-abbrev pub AreInFiles : List (List TrailValue) → Type 0
+abbrev pub AreInFiles : FileList → Type 0
 AreInFiles files = (nodes count : ℕ) × AreSplit nodes count files
+
+-- the trails are those of all these files, of which the last has so many, of trees of so many nodes
+abbrev pub AreKept : (FileList → Type 0) → ℕ → ℕ → List TrailValue → Type 0
+AreKept has nodes count trails = (files : FileList) × has files × AreSplit nodes count files × (trails_of files ≡ trails)
+
+-- so many files, of so many trails in all
+abbrev pub AreSoMany : ℕ → ℕ → FileList → Type 0
+AreSoMany count trails files = (length files ≡ count) × (length (trails_of files) ≡ trails)
+
+-- All trails of a store are in the files, where the store is clean: whatever its tables hold, they are the trails of that. An auditor finds the files
+-- clean, and that each continues the one before.
+abbrev pub HasExported : (FileList → Type 0) → Type 0 → (Contents → Type 0) → Type 0
+HasExported has clean holds = (files : FileList) × has files × AreInFiles files × AreCleanFiles None files × (clean → (c : Contents) → holds c → AreTrailsOf c (trails_of files))

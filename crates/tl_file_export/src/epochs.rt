@@ -1,31 +1,49 @@
 // The epochs of a store in a file.
 
-ghost use Rattle.std.specs.Prelude.{◌≡◌, [], IfSome};
+ghost use Rattle.std.specs.Prelude.{[], IfOk};
+ghost use Rattle.sqlite_store.specs.FileStore.{view};
+ghost use Rattle.sqlite_trees.specs.View.{IsClean};
+ghost use Rattle.tl_file_export.specs.Filed.{HasExported};
+ghost use Rattle.tl_ledger.specs.Contents.{Contents, AreTables};
 
 use crate::exporting::export_files;
 use crate::files::TrailFiles;
 use sqlite_std_file::File;
+use sqlite_store::FileStore;
 use std::alloc::Global;
 use tl_export::ExportFault;
 use tl_store_file::{FileFault, Found, Rested};
 
 /// Epochs whose trails can be put into files.
 pub trait Epochs {
+    // Whether no wrong answer of the disk was taken as true so far.
+    ghost is_clean: { Self → Type 0 };
+
+    // Whether the tables of their store hold this.
+    ghost holds: { Self → Contents → Type 0 };
+
     /// Takes all epochs again, and puts their trails into files, as `export_files` does.
-    fn export<F: TrailFiles + Drop>(self, alloc: Global, files: F) -> Result<F, ExportFault>
-        requires { IfSome (F.files files) (λ fs. fs ≡ []) };
+    fn export<F: TrailFiles + Drop>(&mut self, alloc: Global, files: F) -> Result<F, ExportFault>
+        requires { F.files files [] }
+        ensures { IfOk result (λ kept. HasExported (F.files kept) (is_clean self.new) (holds self.old)) };
 }
 
 /// The epochs of a store in a file. As a type of its own it hides the types of the file: what exports is proved without them.
 #[derive(Drop)]
 pub struct FileEpochs {
-    rested: Rested<File>,
+    store: FileStore<File>,
+    ghost tables: { IsClean (view store) → AreTables (view store) },
 }
 
 impl Epochs for FileEpochs {
-    fn export<F: TrailFiles + Drop>(self, alloc: Global, files: F) -> Result<F, ExportFault> {
-        let mut rested = self.rested;
-        export_files(alloc, &mut rested.store, files)
+    ghost use Rattle.tl_ledger.specs.Contents.{Holds};
+
+    ghost is_clean = { λ e. IsClean (view e.store) };
+
+    ghost holds = { λ e. Holds (view e.store).trees };
+
+    fn export<F: TrailFiles + Drop>(&mut self, alloc: Global, files: F) -> Result<F, ExportFault> {
+        export_files(alloc, &mut self.store, files)
     }
 }
 
@@ -33,7 +51,10 @@ impl Epochs for FileEpochs {
 /// all faults of `tl_store_file::open`. As long as it is open, others find it locked.
 pub fn open_epochs(rt: &HostRuntime, path: &str) -> Result<FileEpochs, FileFault> {
     match tl_store_file::open(rt, path)? {
-        Found::Store(rested) => Ok(FileEpochs { rested }),
+        Found::Store(rested) => {
+            let Rested { store } = rested;
+            Ok(FileEpochs { store })
+        }
         Found::Blank(_) => Err(FileFault::NotStore),
     }
 }

@@ -1,12 +1,9 @@
 // The trails of a store, in files.
 
-ghost use Rattle.std.specs.Prelude.{◌≡◌, [], Some, None, List, IfSome, IfOk};
-ghost use Rattle.sqlite_trees.specs.View.{IsClean};
-ghost use Rattle.tl_audit.specs.Chains.{AreCleanFiles, trails_of};
-ghost use Rattle.tl_export.specs.Exported.{AreTrailsOf};
-ghost use Rattle.tl_file_export.specs.Filed.{AreInFiles};
-ghost use Rattle.tl_ledger.specs.Contents.{Contents, Holds, AreTables};
-ghost use Rattle.tl_trail.specs.Trails.{TrailValue};
+ghost use Rattle.std.specs.Prelude.{[], IfOk};
+ghost use Rattle.sqlite_trees.specs.View.{IsClean, IsQuiet, KeepsSchema};
+ghost use Rattle.tl_file_export.specs.Filed.{HasExported};
+ghost use Rattle.tl_ledger.specs.Contents.{Holds, AreTables};
 
 use crate::files::TrailFiles;
 use crate::splitting::Splitting;
@@ -23,9 +20,10 @@ pub fn export_files<S: Store, F: TrailFiles + Drop>(
     files: F,
 ) -> Result<F, ExportFault>
     requires tables { IsClean (S.Store.view store.old) → AreTables (S.Store.view store.old) }
-    requires none { IfSome (F.files files) (λ fs. fs ≡ []) }
-    ensures { IfOk result (λ kept. IfSome (F.files files) (λ _. (fs : List (List TrailValue)) × (F.files kept ≡ Some fs) × AreInFiles fs × AreCleanFiles None fs
-        × (IsClean (S.Store.view store.new) → (c : Contents) → Holds (S.Store.view store.old).trees c → AreTrailsOf c (trails_of fs)))) }
+    requires none { F.files files [] }
+    ensures trails { IfOk result (λ kept. HasExported (F.files kept) (IsClean (S.Store.view store.new)) (Holds (S.Store.view store.old).trees)) }
+    ensures schema { KeepsSchema (S.Store.view store.old) (S.Store.view store.new) }
+    ensures quiet { IsQuiet S.Store.view S.Store.faults S.Store.recovers S.Store.is_shielded store.old store.new }
 {
     let mut splitting = Splitting::new(files);
     export(alloc, store, &mut splitting)?;

@@ -1,9 +1,8 @@
 // Who keeps trails in files.
 
-ghost use Rattle.std.specs.Prelude.{◌≡◌, List, Option, OnOk};
+ghost use Rattle.std.specs.Prelude.{◌≡◌, OnOk};
 ghost use Rattle.tl_audit.specs.Chains.{order_of};
-ghost use Rattle.tl_trail.specs.Trails.{TrailValue};
-ghost use Rattle.tl_file_export.specs.Filed.{Became, begun, with_more};
+ghost use Rattle.tl_file_export.specs.Filed.{FileList, Became, GotMore, begun};
 
 use std::alloc::Global;
 use tl_export::ExportFault;
@@ -12,8 +11,8 @@ use tl_trail::Trail;
 
 /// Keeps trails in files that are written one after another.
 pub trait TrailFiles {
-    // The trails of each file, if they are known. The last file may get more.
-    ghost files: { Self → Option (List (List TrailValue)) };
+    // Whether these are the files, each with its trails, as far as it tells. The last file may get more.
+    ghost files: { Self → FileList → Type 0 };
 
     /// Ends the file before, if there is one, and begins the next with this trail, whose calls have that order. 32 if it can't be written, 1090 if
     /// memory is refused.
@@ -24,9 +23,9 @@ pub trait TrailFiles {
     /// Appends this trail to the file that was begun last. 32 if it can't be written, 1090 if memory is refused.
     fn add(&mut self, alloc: Global, trail: &Trail, order: &Order) -> Result<(), ExportFault>
         requires { order.now.calls ≡ order_of trail.now }
-        ensures { OnOk result (Became (with_more trail.now) (files self.old) (files self.new)) };
+        ensures { OnOk result (GotMore trail.now (files self.old) (files self.new)) };
 
     /// Ends the file that was begun last. 32 if it can't be written, 1090 if memory is refused.
     fn end(&mut self, alloc: Global) -> Result<(), ExportFault>
-        ensures { OnOk result (files self.new ≡ files self.old) };
+        ensures { OnOk result (Became (λ files. files) (files self.old) (files self.new)) };
 }

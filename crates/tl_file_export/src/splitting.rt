@@ -48,15 +48,10 @@ fn count_nodes(trail: &Trail) -> u64
 }
 
 impl<F: TrailFiles> TrailTaker for Splitting<F> {
-    ghost use Rattle.std.specs.Prelude.{IfSome, option_map};
-    ghost use Rattle.tl_audit.specs.Chains.{trails_of};
-    ghost use Rattle.tl_file_export.specs.Filed.{AreSplit};
+    ghost use Rattle.tl_file_export.specs.Filed.{AreKept};
 
-    ghost taken = { λ s. option_map trails_of (F.files s.kept) };
+    ghost taken = { λ s. AreKept (F.files s.kept) s.nodes s.count };
 
-    ghost IsReady = { λ s. IfSome (F.files s.kept) (AreSplit s.nodes s.count) };
-
-    #[tactic(auto, using(crate::proofs::FiledLemmas::took_begun, crate::proofs::FiledLemmas::took_with_more))]
     fn take(&mut self, alloc: Global, trail: &Trail, order: &Order) -> Result<(), ExportFault> {
         let nodes = count_nodes(trail);
         if self.goes_on(nodes) {

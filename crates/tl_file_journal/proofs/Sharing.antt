@@ -9,6 +9,11 @@ use Rattle.sqlite_disk.specs.contracts.start.UnknownStart.TheImpl as start
 use Rattle.sqlite_std_file.specs.contracts.host.Host as Host
 use Rattle.sqlite_std_file.specs.contracts.host.HostCalls.TheImpl as calls
 use Rattle.sqlite_store.proofs.store.FileStore.TheSendSync as stores
+use Rattle.std.proofs.option.Option.TheSendSync as options
+use Rattle.std.specs.contracts.alloc.Global as Global
+use Rattle.std.specs.contracts.impls.GlobalAllocator.TheImpl as allocator
+use Rattle.std.proofs.string.String.TheSendSync as strings
+use Rattle.std.specs.contracts.string.String as String
 use Rattle.sqlite_store.specs.contracts.store.FileStore as FileStore
 use Rattle.tl_file_journal.specs.contracts.journal.FileJournal.{the_type, the_row}
 use Rattle.tl_journal.proofs.journal.LedgerJournal.TheSendSync as ledgers
@@ -20,11 +25,17 @@ file = Files.the_row Host.the_row Unknown.the_row calls.ghosts start.ghosts
 abbrev store : RattleType
 store = FileStore.the_row file (disk.ghosts Host.the_row Unknown.the_row calls.ghosts disk.no_dict start.ghosts disk.no_dict disk.no_dict)
 
+abbrev string : RattleType
+string = String.the_row Global.the_row allocator.ghosts
+
 file_send : IsSend file
 file_send = search sendable depth 30
 
 store_send : IsSend store
 store_send = stores.the_send file (disk.ghosts Host.the_row Unknown.the_row calls.ghosts disk.no_dict start.ghosts disk.no_dict disk.no_dict) file_send
 
+string_sync : IsSync string
+string_sync = strings.the_sync Global.the_row allocator.ghosts (search sendable depth 30)
+
 pub journal_sync : IsSync the_row
-journal_sync = declared_sync the_type (ledgers.the_sync store _ store_send, tt)
+journal_sync = declared_sync the_type (ledgers.the_sync store _ store_send, (search sendable depth 30, (options.the_sync string string_sync, tt)))

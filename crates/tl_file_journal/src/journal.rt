@@ -1,12 +1,16 @@
 // The journal of a store in a file.
 
+ghost use Rattle.std.specs.Prelude.{◌≡◌};
+ghost use Rattle.tl_file_journal.specs.Copying.{refusal_of};
+
 use sqlite_std_file::File;
 use sqlite_store::FileStore;
 use sqlite_trees::store::Store;
 use std::alloc::Global;
 use std::sync::Wait;
+use tl_file_snapshot::{SnapshotFault, write_snapshot};
 use tl_journal::{JournalParts, LedgerJournal};
-use tl_server::{Journal, NoJournal, Unstored};
+use tl_server::{CopyRefusal, Journal, NoJournal, Unstored};
 use tl_store::StoreFault;
 use tl_workers::Engine;
 
@@ -14,6 +18,22 @@ use tl_workers::Engine;
 #[derive(Drop)]
 pub struct FileJournal {
     pub(crate) ledger: LedgerJournal<FileStore<File>>,
+    // Where the files are, and the folder of the copies.
+    pub(crate) files: HostRuntime,
+    pub(crate) copies: Option<String>,
+}
+
+// Why there is no copy, as the server says it.
+fn refusal_of(fault: SnapshotFault) -> CopyRefusal
+    ensures { result ≡ refusal_of fault }
+{
+    match fault {
+        SnapshotFault::BadName | SnapshotFault::Taken => CopyRefusal::BadName,
+        SnapshotFault::Unwritten => CopyRefusal::Unwritten,
+        SnapshotFault::Counts => CopyRefusal::OtherCounts,
+        SnapshotFault::Source(_) => CopyRefusal::Broken,
+        SnapshotFault::Memory => CopyRefusal::Memory,
+    }
 }
 
 /// A journal that can be ended.
@@ -51,6 +71,19 @@ impl Journal for FileJournal {
 
     fn settle(&self, rt: &impl Wait, alloc: Global) -> Result<(), Unstored> {
         self.ledger.settle(rt, alloc)
+    }
+
+    fn copy(&self, rt: &impl Wait, _alloc: Global, name: &str) -> Result<(), CopyRefusal> {
+        let Some(folder) = &self.copies else {
+            return Err(CopyRefusal::NoCopies);
+        };
+        let Some(ledger) = self.ledger.borrow(rt) else {
+            return Err(CopyRefusal::Broken);
+        };
+        let mut ledger = ledger;
+        let written = write_snapshot(&self.files, &mut ledger, folder.as_str(), name);
+        self.ledger.give_back(rt, ledger);
+        written.map_err(refusal_of)
     }
 }
 

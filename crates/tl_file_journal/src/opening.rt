@@ -67,8 +67,12 @@ fn opening_of<S: Store + Drop>(
     })
 }
 
-// The same opening, whose journal is known to be on a file.
-fn on_file(opening: Opening<LedgerJournal<FileStore<File>>>) -> Opening<FileJournal> {
+// The same opening, whose journal is known to be on a file, and writes its copies into that folder.
+fn on_file(
+    opening: Opening<LedgerJournal<FileStore<File>>>,
+    files: HostRuntime,
+    copies: Option<String>,
+) -> Opening<FileJournal> {
     let Opening {
         engine,
         journal,
@@ -77,7 +81,11 @@ fn on_file(opening: Opening<LedgerJournal<FileStore<File>>>) -> Opening<FileJour
     } = opening;
     Opening {
         engine,
-        journal: FileJournal { ledger: journal },
+        journal: FileJournal {
+            ledger: journal,
+            files,
+            copies,
+        },
         succession,
         known,
     }
@@ -130,20 +138,25 @@ fn begin_in<D: Disk + Drop>(
     }
 }
 
-/// What a server on the store of that path opens with: what the store holds, or the tree where there is none yet. 1008 if there is neither,
-/// 1009 if there are both; 1001 to 1006, and 1011 to 1013.
+/// What a server on the store of that path opens with: what the store holds, or the tree where there is none yet. Its copies are written into the
+/// folder, if one is named. 1008 if there is neither store nor tree, 1009 if there are both; 1001 to 1006, and 1011 to 1013.
 pub fn open_stored(
     rt: &HostRuntime,
     path: &str,
     tree: Option<Tree>,
+    copies: Option<&str>,
 ) -> Result<Stored<FileJournal>, StoreRefusal>
     ensures retaken { IfOk result (λ s. IsSome s.retaken ↔ (tree ≡ None)) }
     ensures no_tree { result ≡ Err NoTree → tree ≡ None }
     ensures has_tree { result ≡ Err HasTree → IsSome tree }
 {
     let (begun, retaken) = begin_in(rt.alloc(), tl_store_file::open(rt, path)?, tree)?;
+    let copies = match copies {
+        Some(folder) => Some(String::from_str(rt.alloc(), folder)?),
+        None => None,
+    };
     Ok(Stored {
-        opening: on_file(opening_of(rt.alloc(), begun)?),
+        opening: on_file(opening_of(rt.alloc(), begun)?, *rt, copies),
         retaken,
     })
 }

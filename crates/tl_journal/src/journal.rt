@@ -1,6 +1,6 @@
 // Who stores what engines do: leader and followers.
 
-ghost use Rattle.std.specs.Prelude.{◌≡◌, false};
+ghost use Rattle.std.specs.Prelude.{◌≡◌, false, IfSome};
 
 use crate::desk::Desk;
 use crate::pending::Pending;
@@ -10,7 +10,7 @@ use std::alloc::Global;
 use std::sync::{Condvar, Mutex, Wait};
 use tl_ledger::{Ledger, Marks, News};
 use tl_news::news_since;
-use tl_server::{Journal, Unstored};
+use tl_server::{CopyRefusal, Journal, Unstored};
 use tl_tree::Record;
 use tl_workers::Engine;
 
@@ -86,6 +86,30 @@ impl<S: Store + Drop> LedgerJournal<S> {
                 pending,
             },
         }
+    }
+
+    /// Takes the ledger as soon as nobody stores anything, so that it can be read at rest: all that was answered is stored. Nothing more is stored
+    /// before `give_back`. `None` if nothing more is stored anyway.
+    pub fn borrow(&self, rt: &impl Wait) -> Option<Ledger<S>>
+        ensures { IfSome result (λ l. l.is_shut ≡ false) }
+    {
+        let mut desk = self.desk.lock(rt);
+        for _ in rt.forever() {
+            if let Some(ledger) = desk.take() {
+                return Some(ledger);
+            }
+            if desk.fault().is_some() {
+                return None;
+            }
+            desk = self.moved.wait(rt, desk);
+        }
+        unreachable!()
+    }
+
+    /// Puts the ledger back. If it is shut, nothing more is stored.
+    pub fn give_back(&self, rt: &impl Wait, ledger: Ledger<S>) {
+        self.desk.lock(rt).put(ledger, None);
+        self.moved.notify_all();
     }
 
     // Takes over what came of the engine's table.
@@ -181,5 +205,10 @@ impl<S: Store + Drop> Journal for LedgerJournal<S> {
             return self.lead(rt, alloc, ledger, &wanted);
         }
         unreachable!()
+    }
+
+    // Who knows the file copies it.
+    fn copy(&self, _rt: &impl Wait, _alloc: Global, _name: &str) -> Result<(), CopyRefusal> {
+        Err(CopyRefusal::NoCopies)
     }
 }

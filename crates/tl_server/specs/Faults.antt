@@ -7,6 +7,8 @@ use Rattle.tl_server.specs.declared.fault.ServeFault.{ServeFault}
 use Rattle.tl_server.specs.declared.fault.ServeFault.TheVariants as serve
 use Rattle.tl_server.specs.declared.fault.ListenFault.{ListenFault}
 use Rattle.tl_server.specs.declared.fault.ListenFault.TheVariants as listen
+use Rattle.tl_server.specs.declared.copying.CopyRefusal.{CopyRefusal}
+use Rattle.tl_server.specs.declared.copying.CopyRefusal.TheVariants as copy
 use Rattle.tl_server.specs.declared.fault.LineFault.{LineFault}
 use Rattle.tl_server.specs.declared.fault.LineFault.TheVariants.{NotRequest, TooLong, NotUtf8, Memory}
 
@@ -33,3 +35,21 @@ serve_numbers_of serve.Memory = 990 ∷ []
 abbrev pub listen_numbers_of : ListenFault → List ℕ
 listen_numbers_of listen.NoPort = 33 ∷ []
 listen_numbers_of listen.Memory = 990 ∷ []
+
+-- the number of the reason why there is no copy
+abbrev pub copy_number : CopyRefusal → ℕ
+copy_number copy.NoCopies = 901
+copy_number copy.BadName = 1010
+copy_number copy.Unwritten = 32
+copy_number copy.OtherCounts = 1014
+copy_number copy.Broken = 1011
+copy_number copy.Memory = 1090
+
+-- the program's exit status then
+abbrev pub copy_status : CopyRefusal → ℕ
+copy_status copy.NoCopies = 1
+copy_status copy.BadName = 1
+copy_status copy.Unwritten = 3
+copy_status copy.OtherCounts = 1
+copy_status copy.Broken = 3
+copy_status copy.Memory = 4

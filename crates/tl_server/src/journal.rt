@@ -2,6 +2,7 @@
 
 ghost use Rattle.std.specs.Prelude.{◌≡◌, Bool, false, IsOk};
 
+use crate::copying::CopyRefusal;
 use std::alloc::Global;
 use std::sync::Wait;
 use tl_workers::Engine;
@@ -33,6 +34,9 @@ pub trait Journal {
     /// Waits until all that it took over is stored. An error if it isn't and won't be.
     fn settle(&self, rt: &impl Wait, alloc: Global) -> Result<(), Unstored>
         ensures { is_storing self.now ≡ false → IsOk result };
+
+    /// Copies all that is stored into a file of that name, which isn't there yet. All that was answered is in it.
+    fn copy(&self, rt: &impl Wait, alloc: Global, name: &str) -> Result<(), CopyRefusal>;
 }
 
 /// The journal of a server that stores nothing: there is nothing to wait for.
@@ -56,5 +60,9 @@ impl Journal for NoJournal {
 
     fn settle(&self, _rt: &impl Wait, _alloc: Global) -> Result<(), Unstored> {
         Ok(())
+    }
+
+    fn copy(&self, _rt: &impl Wait, _alloc: Global, _name: &str) -> Result<(), CopyRefusal> {
+        Err(CopyRefusal::NoCopies)
     }
 }

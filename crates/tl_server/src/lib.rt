@@ -6,8 +6,10 @@
 
 mod answer;
 mod answering;
+mod asking;
 mod batch;
 mod control;
+mod copying;
 mod device;
 mod entrance;
 mod fault;
@@ -29,9 +31,12 @@ mod status;
 mod stored_sink;
 mod stream;
 mod texts;
+mod wish;
 
+pub use asking::{ask_for_copy, ask_status, ask_to_stop};
 pub use batch::BatchRequest;
-pub use control::{Control, ask_status, ask_to_stop};
+pub use control::Control;
+pub use copying::CopyRefusal;
 pub use device::{Bytes, Failure, Sink, Source};
 pub use fault::{LineFault, ListenFault, ServeFault};
 pub use hall::{MAX_CONNECTIONS, MAX_PLACES};

@@ -9,6 +9,7 @@ ghost use Rattle.tl_generations.specs.declared.growth.GrowthFault.TheVariants as
 ghost use Rattle.tl_server.specs.Outcomes.{IsAsked, CameOf};
 ghost use Rattle.tl_server.specs.Served.{GrowthOutcome, ReadBy};
 
+use crate::copying::CopyRefusal;
 use crate::journal::{Journal, Unstored};
 use crate::outcome::{Done, RequestOutcome};
 use crate::request::LineRequest;
@@ -553,7 +554,7 @@ impl<K: Keeper + Texts, J: Journal> Service for Relay<K, J> {
     ghost seals_on = { seals_from };
 }
 
-/// A relay counts what it answers.
+/// A relay counts what it answers, and its journal copies what it stores.
 impl<K: Keeper + Texts, J: Journal> Reporter for Relay<K, J> {
     fn status(&self, rt: &impl Wait, connections: u64) -> Option<Status> {
         let stage = self.stage.read(rt);
@@ -565,5 +566,9 @@ impl<K: Keeper + Texts, J: Journal> Reporter for Relay<K, J> {
             nodes: u64::from(stage.nodes),
             procedures: self.tally.procedures(),
         })
+    }
+
+    fn copy(&self, rt: &impl Wait, alloc: Global, name: &str) -> Result<(), CopyRefusal> {
+        self.journal.copy(rt, alloc, name)
     }
 }

@@ -6,9 +6,11 @@ ghost use Rattle.tl_server.specs.Reports.{receipts_of, registered_of, status_tex
 ghost use Rattle.tl_server.specs.Sending.{sending, Writes};
 
 use crate::answer::put_number;
+use crate::copying::CopyRefusal;
 use crate::device::Sink;
 use crate::outbox::Outbox;
 use crate::outcome::RequestOutcome;
+use std::alloc::Global;
 use std::sync::Wait;
 use std::sync::atomic::{AtomicU64, Ordering};
 use tl_workers::Engine;
@@ -30,16 +32,23 @@ pub struct Status {
     pub procedures: u64,
 }
 
-/// Who says how far a server is.
+/// Who says how far a server is, and copies what it stores.
 pub trait Reporter {
     /// How far it is, with so many connections open. `None` if it doesn't say.
     fn status(&self, rt: &impl Wait, connections: u64) -> Option<Status>;
+
+    /// Copies what is stored, as `Journal::copy` does.
+    fn copy(&self, rt: &impl Wait, alloc: Global, name: &str) -> Result<(), CopyRefusal>;
 }
 
-/// An engine alone doesn't say.
+/// An engine alone doesn't say, and stores nothing.
 impl Reporter for Engine {
     fn status(&self, _rt: &impl Wait, _connections: u64) -> Option<Status> {
         None
+    }
+
+    fn copy(&self, _rt: &impl Wait, _alloc: Global, _name: &str) -> Result<(), CopyRefusal> {
+        Err(CopyRefusal::NoCopies)
     }
 }
 

@@ -1,8 +1,8 @@
 // All that a ledger has stored, copied.
 
-ghost use Rattle.std.specs.Prelude.{◌≡◌, ◌⊎◌, false, true, Err, IsTrue, IfOk, OnOk};
+ghost use Rattle.std.specs.Prelude.{◌≡◌, ◌⊎◌, ◌≤◌, false, true, Err, IsTrue, IfOk, OnOk};
 ghost use Rattle.sqlite_trees.specs.Tree.{Trees};
-ghost use Rattle.sqlite_trees.specs.View.{IsClean, IsQuiet, KeepsSchema};
+ghost use Rattle.sqlite_trees.specs.View.{IsClean, IsQuiet, KeepsSchema, doubt};
 ghost use Rattle.sqlite_trees.specs.declared.error.StoreError.{StoreError as Failure};
 ghost use Rattle.tl_ledger.specs.Contents.{Contents, OnlyReads, IsAtRest, AreTables, Holds, no_contents};
 ghost use Rattle.tl_ledger.specs.News.{IsMarked};
@@ -53,6 +53,7 @@ pub fn copy_ledger<S: Store, T: Store>(
     ensures stored { ledger.new.is_shut ≡ false → IsClean (S.Store.view ledger.new.store) → (S.Store.view ledger.new.store).committed ≡ (S.Store.view ledger.old.store).committed }
     ensures marks { ledger.new.marks ≡ ledger.old.marks }
     ensures quiet { IsQuiet S.Store.view S.Store.faults S.Store.recovers S.Store.is_shielded ledger.old.store ledger.new.store }
+    ensures clean { doubt (T.Store.view to.old).is_clean ≤ doubt (T.Store.view to.new).is_clean }
 {
     ledger.is_shut = true;
     match copy_store(alloc, &mut ledger.store, to) {

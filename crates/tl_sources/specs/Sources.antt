@@ -1,5 +1,5 @@
 -- Procedures as people give them: which procedures a file stands for, and why it stands for none.
-use Rattle.std.specs.Prelude.{◌≡◌, ◌⊎◌, ℕ, ℤ, List, Option, length, map, All, IsUtf8, string_bytes, false}
+use Rattle.std.specs.Prelude.{◌≡◌, ◌⊎◌, ℕ, ℤ, List, Option, length, map, All, IsUtf8, string_bytes}
 use Rattle.tl_tree.specs.Records.{Records}
 use Rattle.tl_instr.specs.Codes.{CodeValue}
 use Rattle.tl_instr.specs.Spelling.{Spelled}
@@ -18,7 +18,6 @@ use Rattle.tl_compiler.specs.declared.fault.CompileFault.TheVariants.{NotOne}
 use Rattle.tl_compiler.specs.Compiled.{code_of_procedure, IsMeant, source_name}
 use Rattle.tl_compiler.specs.Faults.{IsCompileFault}
 use Rattle.tl_meaning.specs.Calls.{DoesCall}
-use Rattle.tl_sources.specs.Faults.{numbers_of, is_memory}
 use Rattle.tl_sources.specs.declared.fault.SourceFault.{SourceFault}
 use Rattle.tl_sources.specs.declared.fault.SourceFault.TheVariants.{Compile, NotUtf8, Asm, Code, Verify}
 use Rattle.tl_sources.specs.declared.source.Source.{Source}
@@ -81,10 +80,6 @@ IsProcedureOf (Container bytes) name code = Spelled bytes.now code × Acceptable
 -- the fault of a text of the language
 abbrev pub IsProgramFault : List ℕ → SourceFault → Type 0
 IsProgramFault text e = (f : CompileFault) × (e ≡ Compile f) × IsCompileFault text f
-
--- these are the numbers of the first fault of a text of the language
-abbrev pub AreProgramFaultNumbers : List ℕ → List ℕ → Type 0
-AreProgramFaultNumbers text numbers = (e : SourceFault) × (is_memory e ≡ false) × IsProgramFault text e × (numbers ≡ numbers_of e)
 
 -- why a file stands for no procedure: its first fault, or the verifier's, or that none is meant
 abbrev pub IsSourceFault : Source → Option (List ℕ) → SourceFault → Type 0

@@ -20,11 +20,7 @@ struct Texts {
 }
 
 impl TrailTaker for Texts {
-    ghost use Rattle.std.specs.Prelude.{None};
-
-    ghost taken = { λ _. None };
-
-    ghost IsReady = { λ _. Unit {0} };
+    ghost taken = { λ _ _. Unit {0} };
 
     fn take(&mut self, alloc: Global, trail: &Trail, _order: &Order) -> Result<(), ExportFault> {
         match write_trail(alloc, trail) {

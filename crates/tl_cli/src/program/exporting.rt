@@ -3,7 +3,7 @@
 use crate::CliFault;
 use crate::failure::Failure;
 use crate::program::Program;
-use crate::store_files::{FolderFiles, PrintedOrders};
+use crate::store_files::{PrintedOrders, Written, write_trails};
 use std::fs;
 use std::io::{ErrorKind, Read};
 use std::rt::Files;
@@ -79,13 +79,12 @@ impl<'a, R: Files + Print + Eprint + AllocGlobal + Clone + Drop> Program<'a, R> 
         requires { X.IsAlwaysCallable opens }
     {
         self.check_folder(folder)?;
-        let epochs = self.open_epochs(store, opens)?;
+        let mut opened = self.open_epochs(store, opens)?;
         let alloc = self.rt.alloc();
-        let written = match epochs.export(alloc, FolderFiles::new(self.rt, folder)) {
+        let Written { epochs, files } = match write_trails(self.rt, alloc, &mut opened, folder) {
             Ok(written) => written,
             Err(fault) => return Err(Failure::Unexported(fault)),
         };
-        let (epochs, files) = (written.epochs(), written.files());
         Ok(format!(in alloc; "{{\"epochs\":{epochs},\"files\":{files}}}\n")?)
     }
 
@@ -100,9 +99,9 @@ impl<'a, R: Files + Print + Eprint + AllocGlobal + Clone + Drop> Program<'a, R> 
         X: FnOnce(&str) -> Result<E, FileFault> + Drop,
         requires { X.IsAlwaysCallable opens }
     {
-        let epochs = self.open_epochs(store, opens)?;
+        let mut opened = self.open_epochs(store, opens)?;
         let alloc = self.rt.alloc();
-        match epochs.export(alloc, PrintedOrders::new(self.rt, alloc)) {
+        match opened.export(alloc, PrintedOrders::new(self.rt, alloc)) {
             Ok(_) => Ok(String::new(alloc)),
             Err(fault) => Err(Failure::Unexported(fault)),
         }

@@ -17,7 +17,7 @@ use tl_json::RegisterFault;
 use tl_procedures::Procedures;
 use tl_server::{
     Address, Control, Journal, Keeper, LastingServer, ListenFault, NoJournal, Relay, Server, Texts,
-    ask_status, ask_to_stop,
+    ask_for_copy, ask_status, ask_to_stop,
 };
 use tl_verify::Proc;
 use tl_workers::{Engine, Session};
@@ -382,6 +382,20 @@ where
     pub(crate) fn stop<'p>(&self, control: Address<'p>) -> Result<String, Failure<'p>> {
         match ask_to_stop(self.rt, control) {
             Ok(()) => Ok(String::from_str(self.rt.alloc(), "{\"stopping\":true}\n")?),
+            Err(reason) => Err(Failure::NoServer { control, reason }),
+        }
+    }
+
+    /// What `snapshot` prints, once there is a copy.
+    pub(crate) fn copy<'p>(
+        &self,
+        control: Address<'p>,
+        name: &'p str,
+    ) -> Result<String, Failure<'p>> {
+        let alloc = self.rt.alloc();
+        match ask_for_copy(self.rt, alloc, control, name) {
+            Ok(Ok(())) => Ok(format!(in alloc; "{{\"snapshot\":\"{name}\"}}\n")?),
+            Ok(Err(refusal)) => Err(Failure::Uncopied(refusal)),
             Err(reason) => Err(Failure::NoServer { control, reason }),
         }
     }

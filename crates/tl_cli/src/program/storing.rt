@@ -17,11 +17,12 @@ use tl_server::{Journal, Keeper, Texts};
 use tl_store_commands::Retaken;
 use tl_tree::Tree;
 
-/// The store of a server, the tree that it is made of, and where the tree is saved in the end.
+/// The store of a server, the tree that it is made of, the folder of its copies, and where the tree is saved in the end.
 #[derive(Clone, Copy, Debug)]
 pub struct StoreFiles<'p> {
     pub store: &'p str,
     pub tree: Option<&'p str>,
+    pub copies: Option<&'p str>,
     pub save: Option<&'p str>,
 }
 
@@ -93,7 +94,7 @@ where
         K: Keeper + Texts + Finish + Send + Drop,
         F: FnOnce(Trails, Succession, u16) -> K + Drop,
         J: Journal + End + Sync + Drop,
-        O: FnOnce(&str, Option<Tree>) -> Result<Stored<J>, StoreRefusal> + Drop,
+        O: FnOnce(&str, Option<Tree>, Option<&str>) -> Result<Stored<J>, StoreRefusal> + Drop,
         requires archive { F.IsAlwaysCallable archive }
         requires opens { O.IsAlwaysCallable opens }
     {
@@ -103,7 +104,7 @@ where
         };
         let trails = self.trails_of(lasting, None)?;
         let tree = self.tree_for(files.store, files.tree)?;
-        let Stored { opening, retaken } = opens(files.store, tree)?;
+        let Stored { opening, retaken } = opens(files.store, tree, files.copies)?;
         self.show_retaken(files.store, retaken);
         let outputs = Outputs {
             trail: None,

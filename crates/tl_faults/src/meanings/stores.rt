@@ -2,7 +2,7 @@
 
 use crate::meanings::Meaning;
 
-pub fn from_1001_to_1090(number: u16) -> Option<Meaning> {
+pub fn from_1001_to_1014(number: u16) -> Option<Meaning> {
     match number {
         1001 => Some(Meaning {
             parts: "",
@@ -58,6 +58,12 @@ pub fn from_1001_to_1090(number: u16) -> Option<Meaning> {
             when: "there is a store, which has a tree, and `--tree` names another",
             advice: "leave out `--tree`, or name another file",
         }),
+        1010 => Some(Meaning {
+            parts: "",
+            name: "no copy's name",
+            when: "a copy can't have that name, or there is a file of that name; of `snapshot`",
+            advice: "1 to 64 ASCII letters, digits, `_` or `-`, and then `.db`; another name for each copy",
+        }),
         1011 => Some(Meaning {
             parts: "",
             name: "disk failed",
@@ -76,6 +82,18 @@ pub fn from_1001_to_1090(number: u16) -> Option<Meaning> {
             when: "a page of the store's file isn't what was written",
             advice: "take a copy from before",
         }),
+        1014 => Some(Meaning {
+            parts: "",
+            name: "other copy",
+            when: "a copy doesn't have as many rows as the store counts, and isn't there; of `snapshot`",
+            advice: "look at the disks: one of them gave back what wasn't written",
+        }),
+        _ => None,
+    }
+}
+
+pub fn from_1090_to_1090(number: u16) -> Option<Meaning> {
+    match number {
         1090 => Some(Meaning {
             parts: "",
             name: "memory, store",

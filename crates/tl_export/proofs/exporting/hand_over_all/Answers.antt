@@ -14,7 +14,6 @@ loop-epoch-init g c =
       search rules,
       search rules,
       search rules,
-      search rules,
     )
 
 pub loop-epoch-preserved : goal.loop-epoch-preserved
@@ -24,10 +23,13 @@ loop-epoch-preserved g c =
     let last = c.loop-epoch.last in
     let next = c.in_ok-last-2.last in
     let is = c.in_ok-last-2.ensures in
-    let handed = c.loop-epoch.invariant.0 in (
+    let handed = c.loop-epoch.invariant.0 in
+    let taken_before = g.K.TrailTaker.taken c.args.taker.now in
+    let taken_now = g.K.TrailTaker.taken c.loop-epoch.taker in
+    let taken_then = g.K.TrailTaker.taken c.hand_over-in-loop-epoch.new.taker in (
       (
         handed.0 ++ next ∷ [],
-        took_then _ _ _ handed.0 (next ∷ []) handed.1 is.taken,
+        took_then taken_before taken_now taken_then handed.0 (next ∷ []) handed.1 is.taken,
         along_next p c.loop-epoch.epoch handed.0 last next handed.2 is.clean,
         (λ clean contents holds is_plan.
             let before : IsClean (g.S.Store.view c.loop-epoch.store) = omega (arith, clean, c.hand_over-in-loop-epoch.ensures.quiet.clean) in
@@ -37,6 +39,5 @@ loop-epoch-preserved g c =
       ),
       search rules,
       search rules,
-      search rules,
-      quiet_then c.loop-epoch.invariant.4 c.hand_over-in-loop-epoch.ensures.quiet,
+      quiet_then c.loop-epoch.invariant.3 c.hand_over-in-loop-epoch.ensures.quiet,
     )

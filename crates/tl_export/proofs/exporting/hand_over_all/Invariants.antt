@@ -13,5 +13,4 @@ invariant-loop-epoch g l =
     × (IsClean (g.S.Store.view l.store) → (c : Contents) → Holds (g.S.Store.view l.fn.store).trees c → IsPlanOf c l.plan → EachIsOf c l.plan trails))
     × (IsClean (g.S.Store.view l.store) → OnlyReads (g.S.Store.view l.fn.store) (g.S.Store.view l.store))
     × KeepsSchema (g.S.Store.view l.fn.store) (g.S.Store.view l.store)
-    × g.K.TrailTaker.IsReady l.taker
     × IsQuiet g.S.Store.view g.S.Store.faults g.S.Store.recovers g.S.Store.is_shielded l.fn.store l.store

@@ -1,0 +1,97 @@
+// What is asked of a server at its control, by another program.
+
+use crate::copying::CopyRefusal;
+use crate::stream::{Address, Stream};
+use crate::wish::{COPY, COPY_END, STATUS, STATUS_END, STOP};
+use std::alloc::Global;
+use std::io;
+use std::io::{Read, Write};
+use std::net::{Net, TcpListener, TcpStream};
+
+/// The answer to the request to stop.
+pub(crate) const STOPPING: &[u8] = b"{\"stopping\":true}\n";
+
+// How the answer to the request for the status begins, and how many bytes it has at most: six names, and six numbers of at most 20 digits.
+const STATUS_BEGIN: &str = "{\"epoch\":";
+
+const MAX_STATUS: u64 = 256;
+
+/// How the answer to the request for a copy begins, up to its name, and how it ends.
+pub(crate) const COPIED: &str = "{\"snapshot\":\"";
+
+pub(crate) const COPIED_END: &str = "\"}\n";
+
+// How a refusal begins, and how it ends.
+const REFUSED: &str = "{\"error\":[";
+
+const REFUSED_END: &str = "]}\n";
+
+fn not_understood() -> io::Error {
+    io::Error::from(io::ErrorKind::InvalidData)
+}
+
+/// Asks the server with this control port or socket to stop. An error if nobody is there, or another program.
+pub fn ask_to_stop<R: Net<Listener = TcpListener, Stream = TcpStream>>(
+    rt: &R,
+    control: Address<'_>,
+) -> io::Result<()> {
+    let stream = Stream::connect(rt, control)?;
+    let mut peer = &stream;
+    peer.write_all(STOP)?;
+    let mut answer = [0u8; 18];
+    peer.read_exact(&mut answer)?;
+    if answer.as_slice() == STOPPING {
+        Ok(())
+    } else {
+        Err(not_understood())
+    }
+}
+
+/// Asks the server with this control port or socket how far it is: a line of JSON, with its LF. An error if nobody is there, or another
+/// program, or a server that doesn't say.
+pub fn ask_status<R: Net<Listener = TcpListener, Stream = TcpStream>>(
+    rt: &R,
+    alloc: Global,
+    control: Address<'_>,
+) -> io::Result<String> {
+    let stream = Stream::connect(rt, control)?;
+    let mut peer = &stream;
+    peer.write_all(STATUS)?;
+    peer.write_all(STATUS_END)?;
+    let line = io::read_to_string(alloc, peer.take(MAX_STATUS))?;
+    if line.starts_with(STATUS_BEGIN) && line.ends_with('\n') {
+        Ok(line)
+    } else {
+        Err(not_understood())
+    }
+}
+
+// Why the server made no copy, by its answer.
+fn refusal_in(line: &str) -> Option<CopyRefusal> {
+    let number = line.strip_prefix(REFUSED)?.strip_suffix(REFUSED_END)?;
+    CopyRefusal::of_number(number.parse().ok()?)
+}
+
+/// Asks the server with this control port or socket to copy what it stores into a file of that name, in the folder that it was given for copies. The
+/// server's refusal if there is no such copy. An error if nobody is there, or another program.
+pub fn ask_for_copy<R: Net<Listener = TcpListener, Stream = TcpStream>>(
+    rt: &R,
+    alloc: Global,
+    control: Address<'_>,
+    name: &str,
+) -> io::Result<Result<(), CopyRefusal>> {
+    let stream = Stream::connect(rt, control)?;
+    let mut peer = &stream;
+    peer.write_all(COPY)?;
+    peer.write_all(COPY_END)?;
+    peer.write_all(name.as_bytes())?;
+    peer.write_all(b"\n")?;
+    let line = io::read_to_string(alloc, peer.take(MAX_STATUS))?;
+    if line.starts_with(COPIED) && line.ends_with(COPIED_END) {
+        return Ok(Ok(()));
+    }
+    match refusal_in(line.as_str()) {
+        Some(refusal) => Ok(Err(refusal)),
+        None => Err(not_understood()),
+    }
+}
