@@ -14,8 +14,9 @@ syntax keyword tdbWord and or not
 syntax match tdbSoft /\<\(each\|of\|at most\|to\)\>/
 syntax match tdbChoice /\<while\>\(\s*\([+-]\?=\|\.\)\)\@!/
 syntax match tdbDeclaration /\<atomic\ze\s\+proc\>/
+syntax match tdbDeclaration /\<part\ze\s\+\h\w*\s*(/
 syntax match tdbNumber /\<\d\+\(_\d\+\)*\>/
-syntax match tdbName /\<proc\s\+\zs\h\w*/
+syntax match tdbName /\<\(proc\|part\)\s\+\zs\h\w*/
 syntax match tdbField /\.\zs\h\w*/
 syntax match tdbComment "//.*$" contains=@Spell
 

@@ -5,6 +5,7 @@ use Rattle.std.proofs.lemmas.List.Elements.{All-nil, All-cons, All-head, All-tai
 use Rattle.tl_syntax.specs.declared.parsed.Name.{Name}
 use Rattle.tl_syntax.specs.declared.parsed.Write.{Write}
 use Rattle.tl_syntax.specs.declared.parsed.Action.{Action}
+use Rattle.tl_syntax.specs.declared.parsed.Parameter.{Parameter}
 use Rattle.tl_syntax.specs.declared.parsed.Declaration.{Declaration}
 use Rattle.tl_syntax.specs.declared.parsed.Expression.{Expression as TextExpression}
 use Rattle.tl_syntax.specs.declared.parsed.Place.{Place as TextPlace}
@@ -17,7 +18,7 @@ use Rattle.tl_lowering.specs.declared.program.Statement.{Statement}
 use Rattle.tl_lowering.specs.declared.program.Statement.TheVariants as S
 use Rattle.tl_lowering.specs.Names.{Names, with_values, with_place}
 use Rattle.tl_lowering.specs.Naming.{opposite, calculated, then, IsHalved, none, one, more, AreEmits, no_emits, next_emit, AreWritten, all_computed, next_computed, IsWritten, one_write, several_writes, IsAction, assigns, writes, emits, requires, descends, takes, frees, breaks, returns, fails}
-use Rattle.tl_lowering.specs.Reading.{IsAtOffset, at, IsTried, tried, IsVisiting, visiting, IsBlock, block, AreStatements, no_more, next, let_rest, let_else, lock_rest, lock_else, IsStatement, act, act_else, try, if, if_lock, repeat, repeat_up_to, for_each, block_alone, IsBody, IsProcedure, AreDeclared, none_declared, next_field, next_constant, next_procedure, IsProgram}
+use Rattle.tl_lowering.specs.Reading.{IsAtOffset, at, IsTried, tried, IsVisiting, visiting, IsBlock, block, AreStatements, no_more, next, let_rest, let_else, lock_rest, lock_else, IsStatement, IsActed, plain, used, IsGiven, all_given, node_given, value_given, act, act_else, try, if, if_lock, repeat, repeat_up_to, for_each, block_alone, IsBody, IsProcedure, AreDeclared, none_declared, next_field, next_constant, next_procedure, next_part, IsProgram}
 use Rattle.tl_lowering.specs.Sound.{IsInOrder}
 use Rattle.tl_compiler.specs.Rooms.{IsNumbered, IsReady}
 
@@ -66,35 +67,45 @@ beside names (T.Child c) a n = n
 beside names (T.Pair c d) a n = n
 
 mutual
-  in_block : {names : Names} {xs : List TextStatement} {s : Statement} → IsBlock names xs s → IsNumbered s names.values
-  in_block {names} (block are j) = halved names.values j (in_statements are)
+  in_block : {before : List Declaration} {names : Names} {xs : List TextStatement} {s : Statement} → IsBlock before names xs s → IsNumbered s names.values
+  in_block {before} {names} (block are j) = halved names.values j (in_statements are)
 
-  in_statements : {names : Names} {xs : List TextStatement} {parts : List Statement} → AreStatements names xs parts → All (λ s. IsNumbered s names.values) parts
-  in_statements {names} no_more = All-nil (λ s. IsNumbered s names.values)
-  in_statements {names} (next {b = b} {parts = parts} s a rest reached) =
+  in_statements : {before : List Declaration} {names : Names} {xs : List TextStatement} {parts : List Statement} → AreStatements before names xs parts → All (λ s. IsNumbered s names.values) parts
+  in_statements {before} {names} no_more = All-nil (λ s. IsNumbered s names.values)
+  in_statements {before} {names} (next {b = b} {parts = parts} s a rest reached) =
       All-cons (λ s. IsNumbered s names.values) b parts (placed names.values (in_statement s) a) (in_statements rest)
-  in_statements {names} (let_rest {a = a} f new room n has body o) =
+  in_statements {before} {names} (let_rest {a = a} f new room n has body o) =
       All-cons (λ s. IsNumbered s names.values) a [] (placed names.values (refl, in_block body) o) (All-nil (λ s. IsNumbered s names.values))
-  in_statements {names} (let_else {a = a} f new room n has other leaves body o) =
+  in_statements {before} {names} (let_else {a = a} f new room n has other leaves body o) =
       All-cons (λ s. IsNumbered s names.values) a [] (placed names.values (refl, in_block body, in_block other) o) (All-nil (λ s. IsNumbered s names.values))
-  in_statements {names} (lock_rest {text = text} {body = body} {a = a} f place b o) =
+  in_statements {before} {names} (lock_rest {text = text} {body = body} {a = a} f place b o) =
       All-cons (λ s. IsNumbered s names.values) a [] (placed names.values (beside names text body (in_block b), tt) o) (All-nil (λ s. IsNumbered s names.values))
-  in_statements {names} (lock_else {text = text} {body = body} {a = a} f place other leaves b o) =
+  in_statements {before} {names} (lock_else {text = text} {body = body} {a = a} f place other leaves b o) =
       All-cons (λ s. IsNumbered s names.values) a [] (placed names.values (beside names text body (in_block b), in_block other) o) (All-nil (λ s. IsNumbered s names.values))
 
-  in_statement : {names : Names} {form : StatementForm} {s : Statement} → IsStatement names form s → IsNumbered s names.values
-  in_statement (act a) = action a
-  in_statement {names} (act_else a h t) = handled names.values (action a) (in_block h) t
-  in_statement {names} (try xs ys a b t) = handled names.values (in_block a) (in_block b) t
+  in_statement : {before : List Declaration} {names : Names} {form : StatementForm} {s : Statement} → IsStatement before names form s → IsNumbered s names.values
+  in_statement (act a) = in_acted a
+  in_statement {before} {names} (act_else a h t) = handled names.values (in_acted a) (in_block h) t
+  in_statement {before} {names} (try xs ys a b t) = handled names.values (in_block a) (in_block b) t
   in_statement (if xs ys c a b) = (in_block a, in_block b)
-  in_statement {names} (if_lock {text = text} xs ys {a = a} place x y) = (beside names text a (in_block x), in_block y)
+  in_statement {before} {names} (if_lock {text = text} xs ys {a = a} place x y) = (beside names text a (in_block x), in_block y)
   in_statement (repeat xs deep c a) = in_block a
   in_statement (repeat_up_to xs deep n has turn c a) = in_block a
-  in_statement {names} (for_each xs deep new room has e c a v) = walk names.values (in_block a) v
+  in_statement {before} {names} (for_each xs deep new room has e c a v) = walk names.values (in_block a) v
   in_statement (block_alone xs a) = in_block a
 
-in_body : {names : Names} {text : TextProcedure} {s : Statement} → IsBody names text s → IsNumbered s names.values
-in_body {names} b = handled names.values (handled names.values (in_block b.body_is) (in_block b.handler_is) b.handled_is) tt b.whole_is
+  in_acted : {before : List Declaration} {names : Names} {a : Action} {s : Statement} → IsActed before names a s → IsNumbered s names.values
+  in_acted (plain a) = action a
+  in_acted (used arguments index part given nests) = in_given given
+
+  in_given : {before : List Declaration} {outer names : Names} {ps : List Parameter} {args : List TextExpression} {body : List TextStatement} {s : Statement} → IsGiven before outer names ps args body s →
+      IsNumbered s names.values
+  in_given (all_given b) = in_block b
+  in_given (node_given {a = a} argument g rest) = subst (λ (n : Names). IsNumbered a n.values) g.later_is (in_given rest)
+  in_given (value_given {a = a} argument g rest) = (refl, subst (λ (n : Names). IsNumbered a n.values) g.later_is (in_given rest))
+
+in_body : {before : List Declaration} {names : Names} {text : TextProcedure} {s : Statement} → IsBody before names text s → IsNumbered s names.values
+in_body {before} {names} b = handled names.values (handled names.values (in_block b.body_is) (in_block b.handler_is) b.handled_is) tt b.whole_is
 
 -- ---- procedures
 
@@ -102,7 +113,8 @@ many_values : (names : Names) (args : List Name) → (with_values names args).va
 many_values names [] = omega arith
 many_values names (name ∷ others) = let h = many_values (with_values names (name ∷ [])) others in omega (arith, h)
 
-in_procedure : (spellings : List (List ℕ)) (names : Names) (text : TextProcedure) (p : Procedure) → names.values ≡ 0 → IsProcedure spellings names text p → IsNumbered p.body p.arity
+in_procedure : (spellings : List (List ℕ)) {before : List Declaration} (names : Names) (text : TextProcedure) (p : Procedure) → names.values ≡ 0 → IsProcedure spellings before names text p →
+    IsNumbered p.body p.arity
 in_procedure spellings names text p z is =
     let args = text.arguments.items in
     let many = many_values names args in
@@ -110,12 +122,13 @@ in_procedure spellings names text p z is =
     let same : (with_values names args).values ≡ p.arity = omega (arith, many, arity, z) in
     subst (IsNumbered p.body) same (in_body is.body)
 
-in_declared : (spellings : List (List ℕ)) (names : Names) (ds : List Declaration) (ps : List Procedure) → names.values ≡ 0 → AreDeclared spellings names ds ps
+in_declared : (spellings : List (List ℕ)) {before : List Declaration} (names : Names) (ds : List Declaration) (ps : List Procedure) → names.values ≡ 0 → AreDeclared spellings before names ds ps
     → All (λ (p : Procedure). IsNumbered p.body p.arity) ps
 in_declared spellings names ds ps z none_declared = All-nil (λ (p : Procedure). IsNumbered p.body p.arity)
 in_declared spellings names ds ps z (next_field {later = later} {rest = rest} f others) =
     in_declared spellings later rest ps (ap (λ (n : Names). n.values) f.later_is ∙ z) others
 in_declared spellings names ds ps z (next_constant {rest = rest} new is others) = in_declared spellings _ rest ps z others
+in_declared spellings names ds ps z (next_part {rest = rest} new others) = in_declared spellings _ rest ps z others
 in_declared spellings names ds ps z (next_procedure {text = text} {p = p} {rest = rest} {ps = later} new is others) =
     All-cons (λ (p : Procedure). IsNumbered p.body p.arity) p later (in_procedure spellings _ text p z is) (in_declared spellings _ rest later z others)
 

@@ -1,5 +1,6 @@
--- Texts with alike declarations have the same program, except for the memory that its parts occupy.
-use Rattle.std.proofs.Common.{◌≡◌, ◌∙◌, ℕ, ℤ, pos, List, [], ◌∷◌, length, get_or, true, refl, sym, ap, subst, arith}
+-- Alike blocks have the same core form, except for the memory that its parts occupy.
+use Rattle.std.proofs.Common.{◌≡◌, ◌∙◌, ℕ, zero, suc, ◌<◌, pos, List, [], ◌∷◌, ◌++◌, take, true, Some, refl, sym, ap, subst, arith}
+use Rattle.std.specs.Prelude.{slice_get}
 use Rattle.tl_syntax.specs.declared.parsed.Name.{Name}
 use Rattle.tl_syntax.specs.declared.parsed.Expression.{Expression as TextExpression}
 use Rattle.tl_syntax.specs.declared.parsed.Place.{Place as TextPlace}
@@ -8,33 +9,31 @@ use Rattle.tl_syntax.specs.declared.parsed.Action.TheVariants as A
 use Rattle.tl_syntax.specs.declared.parsed.Question.TheVariants as Q
 use Rattle.tl_syntax.specs.declared.parsed.Statement.{Statement as TextStatement}
 use Rattle.tl_syntax.specs.declared.parsed.StatementForm.{StatementForm}
-use Rattle.tl_syntax.specs.declared.parsed.Procedure.{Procedure as TextProcedure}
+use Rattle.tl_syntax.specs.declared.parsed.Form.TheVariants as F
+use Rattle.tl_syntax.specs.declared.parsed.Parameter.{Parameter}
+use Rattle.tl_syntax.specs.declared.parsed.Part.{Part}
 use Rattle.tl_syntax.specs.declared.parsed.Declaration.{Declaration}
+use Rattle.tl_syntax.specs.declared.parsed.Declaration.TheVariants as D
 use Rattle.tl_syntax.specs.Alike as T
-use Rattle.tl_syntax.specs.Alike.{AlikeAction, AlikeForm, AlikePlace, AlikeQuestion, AlikeStatements, AlikeStatementForm, AlikeProcedure, AlikeDeclaration}
-use Rattle.tl_syntax.proofs.AlikeForms.{form_of}
-use Rattle.tl_syntax.proofs.AlikeParts.{alike_itself, question_itself, same_action_rank, let_of, lock_of, act_of, else_needed, no_else_needed, act_else_of, try_of, if_of, repeat_of, repeat_at_most_of, most_needed, no_most_needed, for_each_of, block_of, same_statement_rank, Paired, paired_none, paired_more, paired, statement_before, PairedDeclarations, paired_declaration, paired_declarations, same_declaration_rank, field_of, constant_of, procedure_of}
-use Rattle.tl_syntax.specs.Tokens.{AreTokens}
-use Rattle.tl_syntax.specs.Declarations.{IsFile}
-use Rattle.tl_syntax.proofs.NamesOnce.{names_once}
-use Rattle.tl_syntax.proofs.TokensOnce.{tokens_once}
-use Rattle.tl_syntax.proofs.DeclarationsOnce.{file_once}
-use Rattle.tl_lowering.specs.declared.program.Procedure.{Procedure}
+use Rattle.tl_syntax.specs.Alike.{AreAlike, AlikePart, AlikeAction, AlikeForm, AlikePlace, AlikeQuestion, AlikeStatements, AlikeStatementForm}
+use Rattle.tl_syntax.proofs.AlikeForms.{form_of, same_plain}
+use Rattle.tl_syntax.proofs.AlikeParts.{alike_itself, question_itself, action_rank, same_action_rank, let_of, lock_of, use_of, act_of, else_needed, no_else_needed, act_else_of, try_of, if_of, repeat_of, repeat_at_most_of, most_needed, no_most_needed, for_each_of, block_of, same_statement_rank, Paired, paired_none, paired_more, paired, statement_before}
 use Rattle.tl_lowering.specs.declared.program.Statement.{Statement}
-use Rattle.tl_lowering.specs.Alike.{same_constant, same_value, same_children, same_operation, same_greater, same_not, same_child, SameStatement, same_skip, same_sequence, same_assign, same_break, same_fail, same_if, same_let, same_let_else, same_lock, same_try, same_repeat, same_repeat_up_to, same_at, AllSame, none_same, more_same, SameProcedure, SameProcedures, no_procedures, more_procedures}
+use Rattle.tl_lowering.specs.Alike.{same_constant, same_value, same_children, same_operation, same_greater, same_not, same_child, SameStatement, same_skip, same_sequence, same_assign, same_break, same_fail, same_if, same_let, same_let_else, same_lock, same_try, same_repeat, same_repeat_up_to, same_at, AllSame, none_same, more_same}
 use Rattle.tl_lowering.specs.Drafts.{opens}
-use Rattle.tl_lowering.specs.Names.{Names, stands_for, in_loop, with_constant, with_field, with_procedure, with_index, with_value, with_values, with_node, without_meaning}
+use Rattle.tl_lowering.specs.Giving.{IsNodeGiven}
+use Rattle.tl_lowering.specs.Names.{Names, stands_for, index_of, inside, with_alias, in_loop, with_index, with_value, with_node}
 use Rattle.tl_lowering.specs.Naming.{calculated, opposite, IsAction, assigns, writes, emits, requires, descends, takes, frees, breaks, returns, fails, then, declares}
-use Rattle.tl_lowering.specs.Reading.{IsAtOffset, at, IsTried, tried, IsVisiting, visiting, IsBlock, block, AreStatements, no_more, next, let_rest, let_else, lock_rest, lock_else, IsStatement, act, act_else, try, if, if_lock, repeat, repeat_up_to, for_each, block_alone, IsBody, IsProcedure, IsProgram, IsWithField, AreDeclared, none_declared, next_field, next_constant, next_procedure}
-use Rattle.tl_lowering.proofs.AlikeLemmas.{alike_number, alike_condition, alike_constant, alike_count, alike_place, same_names, alike_halved, alike_action}
+use Rattle.tl_lowering.specs.Reading.{IsAtOffset, at, IsTried, tried, IsVisiting, visiting, IsBlock, block, AreStatements, no_more, next, let_rest, let_else, lock_rest, lock_else, IsStatement, IsActed, plain, used, IsGiven, all_given, node_given, value_given, act, act_else, try, if, if_lock, repeat, repeat_up_to, for_each, block_alone}
+use Rattle.tl_lowering.proofs.AlikeLemmas.{alike_number, alike_condition, alike_count, alike_place, same_names, alike_halved, alike_action}
 
 -- ---- a text that has a core form is like itself
 
 mutual
-  block_itself : {names : Names} {ss : List TextStatement} {a : Statement} → IsBlock names ss a → AlikeStatements ss ss
+  pub block_itself : {before : List Declaration} {names : Names} {ss : List TextStatement} {a : Statement} → IsBlock before names ss a → AlikeStatements ss ss
   block_itself (block g i) = statements_itself g
 
-  statements_itself : {names : Names} {ss : List TextStatement} {xs : List Statement} → AreStatements names ss xs → AlikeStatements ss ss
+  statements_itself : {before : List Declaration} {names : Names} {ss : List TextStatement} {xs : List Statement} → AreStatements before names ss xs → AlikeStatements ss ss
   statements_itself no_more = T.no_statements
   statements_itself (next s i r m) = statement_before (T.statement refl (form_itself s)) (statements_itself r)
   statements_itself (let_rest f b c n d e g) = statement_before (T.statement refl (subst (λ z. AlikeStatementForm z z) (sym f) (T.act T.same_action))) (block_itself e)
@@ -44,7 +43,7 @@ mutual
   statements_itself (lock_else {o = o} f p h l e g) =
       statement_before (T.statement refl (subst (λ z. AlikeStatementForm z z) (sym f) (T.act_else T.same_action (T.otherwise {o = o} {p = o} refl (block_itself h))))) (block_itself e)
 
-  form_itself : {names : Names} {form : StatementForm} {a : Statement} → IsStatement names form a → AlikeStatementForm form form
+  form_itself : {before : List Declaration} {names : Names} {form : StatementForm} {a : Statement} → IsStatement before names form a → AlikeStatementForm form form
   form_itself (act x) = T.act T.same_action
   form_itself (act_else {o = o} x h t) = T.act_else T.same_action (T.otherwise {o = o} {p = o} refl (block_itself h))
   form_itself (try xs ys a b t) = T.try xs ys xs ys (block_itself a) (block_itself b)
@@ -55,12 +54,61 @@ mutual
   form_itself (for_each xs deep new room has e c a v) = T.for_each xs xs (alike_itself _) (block_itself a)
   form_itself (block_alone xs a) = T.block_alone xs xs (block_itself a)
 
+given_itself : {before : List Declaration} {outer names : Names} {ps : List Parameter} {args : List TextExpression} {body : List TextStatement} {a : Statement} → IsGiven before outer names ps args body a
+    → AlikeStatements body body
+given_itself (all_given b) = block_itself b
+given_itself (node_given argument g rest) = given_itself rest
+given_itself (value_given argument g rest) = given_itself rest
+
+-- ---- parts
+
+-- the parts of two texts, one by one, where the first one's part is like itself
+abbrev pub AlikeBefore : List Declaration → List Declaration → Type 0
+AlikeBefore ds es = (k : ℕ) (p q : Part) → slice_get ds k ≡ Some (D.Part p) → slice_get es k ≡ Some (D.Part q) → AlikePart p p → AlikePart p q
+
+pub before_itself : (ds : List Declaration) → AlikeBefore ds ds
+before_itself ds k p q e f itself = let both = sym e ∙ f in let same : p ≡ q = cc in subst (AlikePart p) same itself
+
+get_taken : (ds : List Declaration) (n k : ℕ) (d : Declaration) → slice_get (take n ds) k ≡ Some d → slice_get ds k ≡ Some d
+get_taken [] zero k d e = e
+get_taken [] (suc n) k d e = e
+get_taken (x ∷ ds) zero zero d e = cc
+get_taken (x ∷ ds) zero (suc k) d e = cc
+get_taken (x ∷ ds) (suc n) zero d e = e
+get_taken (x ∷ ds) (suc n) (suc k) d e = get_taken ds n k d e
+
+taken_alike : (ds es : List Declaration) (n : ℕ) → AlikeBefore ds es → AlikeBefore (take n ds) (take n es)
+taken_alike ds es n parts k p q e f itself = parts k p q (get_taken ds n k (D.Part p) e) (get_taken es n k (D.Part q) f) itself
+
+-- numbers from the first one on
+data PairedValues : List TextExpression → List TextExpression → Type 0 where
+  no_values : PairedValues [] []
+  more_values : {es fs : List TextExpression} {e f : TextExpression} → AlikeForm e.form f.form → PairedValues es fs → PairedValues (e ∷ es) (f ∷ fs)
+
+push_value : {es fs : List TextExpression} (e f : TextExpression) → AlikeForm e.form f.form → PairedValues es fs → PairedValues (es ++ e ∷ []) (fs ++ f ∷ [])
+push_value e f x no_values = more_values {e = e} {f = f} x no_values
+push_value e f x (more_values {e = a} {f = b} y h) = more_values {e = a} {f = b} y (push_value e f x h)
+
+paired_values : {es fs : List TextExpression} → AreAlike es fs → PairedValues es fs
+paired_values T.none = no_values
+paired_values (T.next h x) = push_value _ _ (form_of x) (paired_values h)
+
+-- a node that is given is the same
+same_given : {outer names a b : Names} {name : Name} {e f : TextExpression} → AlikeForm e.form f.form → IsNodeGiven outer names name e a → IsNodeGiven outer names name f b → a ≡ b
+same_given {outer} {names} {name = name} {e = e} {f = f} s g h =
+    let forms : AlikeForm (F.Named g.called) (F.Named h.called) = subst (AlikeForm (F.Named g.called)) h.form_is (subst (λ z. AlikeForm z f.form) g.form_is s) in
+    let same = same_plain (omega arith) forms in
+    let called : g.called ≡ h.called = cc in
+    let meanings = sym g.node_is ∙ ap (stands_for outer) called ∙ h.node_is in
+    let registers : g.register ≡ h.register = cc in
+    g.later_is ∙ ap (with_alias names name) registers ∙ sym h.later_is
+
 -- ---- parts of blocks
 
 at_of : {i j : ℕ} {a b c d : Statement} → i ≡ j → SameStatement a c → IsAtOffset i a b → IsAtOffset j c d → SameStatement b d
 at_of e x at at = same_at e x
 
-tried_of : {a b c d e f : Statement} → SameStatement a c → SameStatement b d → IsTried a b e → IsTried c d f → SameStatement e f
+pub tried_of : {a b c d e f : Statement} → SameStatement a c → SameStatement b d → IsTried a b e → IsTried c d f → SameStatement e f
 tried_of x y tried tried = same_try x y
 
 visiting_of : {i k m n w v : ℕ} {a b e f : Statement} → m ≡ n → w ≡ v → SameStatement a b → IsVisiting i k m w a e → IsVisiting i k n v b f → SameStatement e f
@@ -82,9 +130,25 @@ no_action (breaks a) e = cc
 no_action returns e = cc
 no_action fails e = cc
 
-no_statement : {names : Names} {form : StatementForm} {a : Statement} → IsStatement names form a → opens form ≡ true → ⊥
-no_statement (act x) e = no_action x e
-no_statement (act_else x h t) e = no_action x e
+no_use : {names : Names} {action : Action} {a : Statement} → IsAction names action a → action_rank action < 10
+no_use (assigns g n c has) = omega arith
+no_use (writes w) = omega arith
+no_use (emits h) = omega arith
+no_use (requires c) = omega arith
+no_use (descends a g n has) = omega arith
+no_use (takes g i) = omega arith
+no_use (frees g) = omega arith
+no_use (breaks a) = omega arith
+no_use returns = omega arith
+no_use fails = omega arith
+
+no_opening : {before : List Declaration} {names : Names} {action : Action} {a : Statement} → IsActed before names action a → declares action ≡ true → ⊥
+no_opening (plain x) e = no_action x e
+no_opening (used args i p g d) e = cc
+
+no_statement : {before : List Declaration} {names : Names} {form : StatementForm} {a : Statement} → IsStatement before names form a → opens form ≡ true → ⊥
+no_statement (act x) e = no_opening x e
+no_statement (act_else x h t) e = no_opening x e
 no_statement (try xs ys a b t) e = cc
 no_statement (if xs ys c a b) e = cc
 no_statement (if_lock xs ys place a b) e = cc
@@ -102,6 +166,7 @@ same_declares (T.emits x) = refl
 same_declares (T.requires x) = refl
 same_declares (T.locks x) = refl
 same_declares (T.descends x) = refl
+same_declares (T.uses x) = refl
 
 same_opens : {f g : StatementForm} → AlikeStatementForm f g → opens f ≡ opens g
 same_opens (T.act x) = same_declares x
@@ -114,10 +179,10 @@ same_opens (T.for_each a b x y) = refl
 same_opens (T.block_alone a b x) = refl
 
 -- a statement that declares names for the rest of its block isn't like one that doesn't
-left_opens : {names : Names} {f g form : StatementForm} {a : Statement} → AlikeStatementForm f g → f ≡ form → opens form ≡ true → IsStatement names g a → ⊥
+left_opens : {before : List Declaration} {names : Names} {f g form : StatementForm} {a : Statement} → AlikeStatementForm f g → f ≡ form → opens form ≡ true → IsStatement before names g a → ⊥
 left_opens x e o s = no_statement s (sym (same_opens x) ∙ ap opens e ∙ o)
 
-right_opens : {names : Names} {f g form : StatementForm} {a : Statement} → AlikeStatementForm f g → g ≡ form → opens form ≡ true → IsStatement names f a → ⊥
+right_opens : {before : List Declaration} {names : Names} {f g form : StatementForm} {a : Statement} → AlikeStatementForm f g → g ≡ form → opens form ≡ true → IsStatement before names f a → ⊥
 right_opens x e o s = no_statement s (same_opens x ∙ ap opens e ∙ o)
 
 let_or_lock : {a : Name} {x : TextExpression} {b : TextPlace} → AlikeAction (A.Let a x) (A.Lock b) → ⊥
@@ -148,125 +213,105 @@ alone x = more_same x none_same
 -- ---- blocks
 
 mutual
-  alike_block : {names : Names} {ss ts : List TextStatement} {a b : Statement} → AlikeStatements ss ts → IsBlock names ss a → IsBlock names ts b → SameStatement a b
-  alike_block s (block g i) (block h j) = alike_halved (alike_statements (paired s) g h) i j
+  pub alike_block : {before later : List Declaration} {names : Names} {ss ts : List TextStatement} {a b : Statement} → AlikeBefore before later → AlikeStatements ss ts → IsBlock before names ss a → IsBlock later names ts b → SameStatement a b
+  alike_block parts s (block g i) (block h j) = alike_halved (alike_statements parts (paired s) g h) i j
 
-  alike_statements : {names : Names} {ss ts : List TextStatement} {xs ys : List Statement} → Paired ss ts → AreStatements names ss xs → AreStatements names ts ys → AllSame xs ys
-  alike_statements paired_none no_more no_more = none_same
-  alike_statements (paired_more o x k) (next s i r m) (next t j q n) = more_same (at_of o (alike_statement x s t) i j) (alike_statements k r q)
-  alike_statements (paired_more o x k) (next s i r m) (let_rest f b c n d e g) = absurd (right_opens x f refl s)
-  alike_statements (paired_more o x k) (next s i r m) (let_else f b c n d e l h g) = absurd (right_opens x f refl s)
-  alike_statements (paired_more o x k) (next s i r m) (lock_rest f p e g) = absurd (right_opens x f refl s)
-  alike_statements (paired_more o x k) (next s i r m) (lock_else f p e l h g) = absurd (right_opens x f refl s)
-  alike_statements (paired_more o x k) (let_rest f b c n d e g) (next t j q m) = absurd (left_opens x f refl t)
-  alike_statements (paired_more o x k) (let_else f b c n d e l h g) (next t j q m) = absurd (left_opens x f refl t)
-  alike_statements (paired_more o x k) (lock_rest f p e g) (next t j q m) = absurd (left_opens x f refl t)
-  alike_statements (paired_more o x k) (lock_else f p e l h g) (next t j q m) = absurd (left_opens x f refl t)
-  alike_statements {names} (paired_more {ts = rest} o s k) (let_rest f b c n d e g) (let_rest {body = body} h u v m w x y) =
+  alike_statements : {before later : List Declaration} {names : Names} {ss ts : List TextStatement} {xs ys : List Statement} → AlikeBefore before later → Paired ss ts → AreStatements before names ss xs → AreStatements later names ts ys → AllSame xs ys
+  alike_statements parts paired_none no_more no_more = none_same
+  alike_statements parts (paired_more o x k) (next s i r m) (next t j q n) = more_same (at_of o (alike_statement parts x s t) i j) (alike_statements parts k r q)
+  alike_statements parts (paired_more o x k) (next s i r m) (let_rest f b c n d e g) = absurd (right_opens x f refl s)
+  alike_statements parts (paired_more o x k) (next s i r m) (let_else f b c n d e l h g) = absurd (right_opens x f refl s)
+  alike_statements parts (paired_more o x k) (next s i r m) (lock_rest f p e g) = absurd (right_opens x f refl s)
+  alike_statements parts (paired_more o x k) (next s i r m) (lock_else f p e l h g) = absurd (right_opens x f refl s)
+  alike_statements parts (paired_more o x k) (let_rest f b c n d e g) (next t j q m) = absurd (left_opens x f refl t)
+  alike_statements parts (paired_more o x k) (let_else f b c n d e l h g) (next t j q m) = absurd (left_opens x f refl t)
+  alike_statements parts (paired_more o x k) (lock_rest f p e g) (next t j q m) = absurd (left_opens x f refl t)
+  alike_statements parts (paired_more o x k) (lock_else f p e l h g) (next t j q m) = absurd (left_opens x f refl t)
+  alike_statements {before} {later} {names} parts (paired_more {ts = rest} o s k) (let_rest f b c n d e g) (let_rest {body = body} h u v m w x y) =
       let same = let_of (act_of s f h) in
-      alone (at_of o (same_let refl (alike_number same.1 n m) (alike_block (rest_of k) e (subst (λ z. IsBlock (with_value names z) rest body) (sym same.0) x))) g y)
-  alike_statements (paired_more o s k) (let_rest f b c n d e g) (let_else h u v m w x l i y) = absurd (no_else_needed s f h)
-  alike_statements (paired_more o s k) (let_else f b c n d e l i g) (let_rest h u v m w x y) = absurd (else_needed s f h)
-  alike_statements {names} (paired_more {ts = rest} o s k) (let_else f b c n d e l h g) (let_else {body = body} i u v m w x q j y) =
+      alone (at_of o (same_let refl (alike_number same.1 n m) (alike_block parts (rest_of k) e (subst (λ z. IsBlock later (with_value names z) rest body) (sym same.0) x))) g y)
+  alike_statements parts (paired_more o s k) (let_rest f b c n d e g) (let_else h u v m w x l i y) = absurd (no_else_needed s f h)
+  alike_statements parts (paired_more o s k) (let_else f b c n d e l i g) (let_rest h u v m w x y) = absurd (else_needed s f h)
+  alike_statements {before} {later} {names} parts (paired_more {ts = rest} o s k) (let_else f b c n d e l h g) (let_else {body = body} i u v m w x q j y) =
       let both = act_else_of s f i in
       let same = let_of both.0 in
-      alone (at_of o (same_let_else refl (alike_number same.1 n m) (alike_block (rest_of k) h (subst (λ z. IsBlock (with_value names z) rest body) (sym same.0) j))
-      (alike_block both.1 e x)) g y)
-  alike_statements (paired_more o s k) (let_rest f b c n d e g) (lock_rest h p x y) = absurd (let_or_lock (act_of s f h))
-  alike_statements (paired_more o s k) (let_rest f b c n d e g) (lock_else h p x l i y) = absurd (no_else_needed s f h)
-  alike_statements (paired_more o s k) (let_else f b c n d e l h g) (lock_rest i p x y) = absurd (else_needed s f i)
-  alike_statements (paired_more o s k) (let_else f b c n d e l h g) (lock_else i p x q j y) = absurd (let_or_lock (act_else_of s f i).0)
-  alike_statements (paired_more o s k) (lock_rest f p x y) (let_rest h b c n d e g) = absurd (lock_or_let (act_of s f h))
-  alike_statements (paired_more o s k) (lock_rest f p x y) (let_else i b c n d e l h g) = absurd (no_else_needed s f i)
-  alike_statements (paired_more o s k) (lock_else f p x i j y) (let_rest h b c n d e g) = absurd (else_needed s f h)
-  alike_statements (paired_more o s k) (lock_else f p x i j y) (let_else q b c n d e l h g) = absurd (lock_or_let (act_else_of s f q).0)
-  alike_statements {names} (paired_more {ts = rest} o s k) (lock_rest f p e g) (lock_rest {body = body} h q x y) =
+      alone (at_of o (same_let_else refl (alike_number same.1 n m) (alike_block parts (rest_of k) h (subst (λ z. IsBlock later (with_value names z) rest body) (sym same.0) j))
+      (alike_block parts both.1 e x)) g y)
+  alike_statements parts (paired_more o s k) (let_rest f b c n d e g) (lock_rest h p x y) = absurd (let_or_lock (act_of s f h))
+  alike_statements parts (paired_more o s k) (let_rest f b c n d e g) (lock_else h p x l i y) = absurd (no_else_needed s f h)
+  alike_statements parts (paired_more o s k) (let_else f b c n d e l h g) (lock_rest i p x y) = absurd (else_needed s f i)
+  alike_statements parts (paired_more o s k) (let_else f b c n d e l h g) (lock_else i p x q j y) = absurd (let_or_lock (act_else_of s f i).0)
+  alike_statements parts (paired_more o s k) (lock_rest f p x y) (let_rest h b c n d e g) = absurd (lock_or_let (act_of s f h))
+  alike_statements parts (paired_more o s k) (lock_rest f p x y) (let_else i b c n d e l h g) = absurd (no_else_needed s f i)
+  alike_statements parts (paired_more o s k) (lock_else f p x i j y) (let_rest h b c n d e g) = absurd (else_needed s f h)
+  alike_statements parts (paired_more o s k) (lock_else f p x i j y) (let_else q b c n d e l h g) = absurd (lock_or_let (act_else_of s f q).0)
+  alike_statements {before} {later} {names} parts (paired_more {ts = rest} o s k) (lock_rest f p e g) (lock_rest {body = body} h q x y) =
       let same = lock_of (act_of s f h) in
-      alone (at_of o (same_lock (alike_place same p q) (alike_block (rest_of k) e (subst (λ z. IsBlock z rest body) (sym (same_names names same)) x)) same_fail) g y)
-  alike_statements (paired_more o s k) (lock_rest f p e g) (lock_else h q x l i y) = absurd (no_else_needed s f h)
-  alike_statements (paired_more o s k) (lock_else f p e l h g) (lock_rest i q x y) = absurd (else_needed s f i)
-  alike_statements {names} (paired_more {ts = rest} o s k) (lock_else f p e l h g) (lock_else {body = body} i q x m j y) =
+      alone (at_of o (same_lock (alike_place same p q) (alike_block parts (rest_of k) e (subst (λ z. IsBlock later z rest body) (sym (same_names names same)) x)) same_fail) g y)
+  alike_statements parts (paired_more o s k) (lock_rest f p e g) (lock_else h q x l i y) = absurd (no_else_needed s f h)
+  alike_statements parts (paired_more o s k) (lock_else f p e l h g) (lock_rest i q x y) = absurd (else_needed s f i)
+  alike_statements {before} {later} {names} parts (paired_more {ts = rest} o s k) (lock_else f p e l h g) (lock_else {body = body} i q x m j y) =
       let both = act_else_of s f i in
       let same = lock_of both.0 in
-      alone (at_of o (same_lock (alike_place same p q) (alike_block (rest_of k) h (subst (λ z. IsBlock z rest body) (sym (same_names names same)) j)) (alike_block both.1 e x)) g y)
+      alone (at_of o (same_lock (alike_place same p q) (alike_block parts (rest_of k) h (subst (λ z. IsBlock later z rest body) (sym (same_names names same)) j)) (alike_block parts both.1 e x)) g y)
 
-  alike_statement : {names : Names} {form other : StatementForm} {a b : Statement} → AlikeStatementForm form other → IsStatement names form a → IsStatement names other b → SameStatement a b
-  alike_statement s (act x) (act y) = alike_action (act_of s refl refl) x y
-  alike_statement s (act_else x g i) (act_else y h j) = let same = act_else_of s refl refl in tried_of (alike_action same.0 x y) (alike_block same.1 g h) i j
-  alike_statement s (act x) (act_else y h j) = absurd (no_else_needed s refl refl)
-  alike_statement s (act_else x g i) (act y) = absurd (else_needed s refl refl)
-  alike_statement s (try xs ys a b t) (try vs ws c d u) =
-      let same = try_of xs ys vs ws s refl refl in tried_of (alike_block same.0 a c) (alike_block same.1 b d) t u
-  alike_statement s (if xs ys c a b) (if vs ws d x y) =
-      let same = if_of xs ys vs ws s refl refl in same_if (alike_condition (asks_condition same.0) c d) (alike_block same.1 a x) (alike_block same.2 b y)
-  alike_statement s (if xs ys c a b) (if_lock vs ws p x y) = absurd (condition_or_lock (if_of xs ys vs ws s refl refl).0)
-  alike_statement s (if_lock xs ys p a b) (if vs ws d x y) = absurd (lock_or_condition (if_of xs ys vs ws s refl refl).0)
-  alike_statement {names} s (if_lock xs ys p a b) (if_lock vs ws {a = c} q x y) =
+  alike_statement : {before later : List Declaration} {names : Names} {form other : StatementForm} {a b : Statement} → AlikeBefore before later → AlikeStatementForm form other → IsStatement before names form a → IsStatement later names other b → SameStatement a b
+  alike_statement parts s (act x) (act y) = alike_acted parts (act_of s refl refl) x y
+  alike_statement parts s (act_else x g i) (act_else y h j) = let same = act_else_of s refl refl in tried_of (alike_acted parts same.0 x y) (alike_block parts same.1 g h) i j
+  alike_statement parts s (act x) (act_else y h j) = absurd (no_else_needed s refl refl)
+  alike_statement parts s (act_else x g i) (act y) = absurd (else_needed s refl refl)
+  alike_statement parts s (try xs ys a b t) (try vs ws c d u) =
+      let same = try_of xs ys vs ws s refl refl in tried_of (alike_block parts same.0 a c) (alike_block parts same.1 b d) t u
+  alike_statement parts s (if xs ys c a b) (if vs ws d x y) =
+      let same = if_of xs ys vs ws s refl refl in same_if (alike_condition (asks_condition same.0) c d) (alike_block parts same.1 a x) (alike_block parts same.2 b y)
+  alike_statement parts s (if xs ys c a b) (if_lock vs ws p x y) = absurd (condition_or_lock (if_of xs ys vs ws s refl refl).0)
+  alike_statement parts s (if_lock xs ys p a b) (if vs ws d x y) = absurd (lock_or_condition (if_of xs ys vs ws s refl refl).0)
+  alike_statement {before} {later} {names} parts s (if_lock xs ys p a b) (if_lock vs ws {a = c} q x y) =
       let same = if_of xs ys vs ws s refl refl in
       let place = asks_lock same.0 in
-      same_lock (alike_place place p q) (alike_block same.1 a (subst (λ z. IsBlock z vs.items c) (sym (same_names names place)) x)) (alike_block same.2 b y)
-  alike_statement s (repeat xs deep c a) (repeat vs deeper d b) =
-      let same = repeat_of xs vs s refl refl in same_repeat (alike_count same.0 c d) (alike_block same.1 a b)
-  alike_statement s (repeat_up_to xs deep n has turn c a) (repeat_up_to vs deeper m its turns d b) =
-      let same = repeat_at_most_of xs vs s refl refl in same_repeat_up_to (alike_number same.0 n m) (alike_count same.1 c d) (alike_block same.2 a b)
-  alike_statement s (repeat xs deep c a) (repeat_up_to vs deeper m its turns d b) = absurd (no_most_needed xs vs s refl refl)
-  alike_statement s (repeat_up_to xs deep n has turn c a) (repeat vs deeper d b) = absurd (most_needed xs vs s refl refl)
-  alike_statement {names} s (for_each {child = name} {index = place} xs deep new room has e c a v) (for_each {child = name'} {index = place'} vs {a = body} deeper fresh space its f d b w) =
+      same_lock (alike_place place p q) (alike_block parts same.1 a (subst (λ z. IsBlock later z vs.items c) (sym (same_names names place)) x)) (alike_block parts same.2 b y)
+  alike_statement parts s (repeat xs deep c a) (repeat vs deeper d b) =
+      let same = repeat_of xs vs s refl refl in same_repeat (alike_count same.0 c d) (alike_block parts same.1 a b)
+  alike_statement parts s (repeat_up_to xs deep n has turn c a) (repeat_up_to vs deeper m its turns d b) =
+      let same = repeat_at_most_of xs vs s refl refl in same_repeat_up_to (alike_number same.0 n m) (alike_count same.1 c d) (alike_block parts same.2 a b)
+  alike_statement parts s (repeat xs deep c a) (repeat_up_to vs deeper m its turns d b) = absurd (no_most_needed xs vs s refl refl)
+  alike_statement parts s (repeat_up_to xs deep n has turn c a) (repeat vs deeper d b) = absurd (most_needed xs vs s refl refl)
+  alike_statement {before} {later} {names} parts s (for_each {child = name} {index = place} xs deep new room has e c a v) (for_each {child = name'} {index = place'} vs {a = body} deeper fresh space its f d b w) =
       let same = for_each_of xs vs s refl refl in
       let node = sym e ∙ ap (stands_for names) same.2 ∙ f in
-      let called : IsBlock (with_node (with_index (in_loop names) place') name) vs.items body = subst (λ z. IsBlock (with_node (with_index (in_loop names) place') z) vs.items body) (sym same.0) b in
+      let called : IsBlock later (with_node (with_index (in_loop names) place') name) vs.items body = subst (λ z. IsBlock later (with_node (with_index (in_loop names) place') z) vs.items body) (sym same.0) b in
       visiting_of (cc) (alike_count same.3 c d)
-      (alike_block same.4 a (subst (λ z. IsBlock (with_node (with_index (in_loop names) z) name) vs.items body) (sym same.1) called)) v w
-  alike_statement s (block_alone xs a) (block_alone vs b) = alike_block (block_of xs vs s refl refl) a b
-  alike_statement s x y = absurd (omega (arith, same_statement_rank s))
+      (alike_block parts same.4 a (subst (λ z. IsBlock later (with_node (with_index (in_loop names) z) name) vs.items body) (sym same.1) called)) v w
+  alike_statement parts s (block_alone xs a) (block_alone vs b) = alike_block parts (block_of xs vs s refl refl) a b
+  alike_statement parts s x y = absurd (omega (arith, same_statement_rank s))
 
--- ---- procedures
+  alike_acted : {before later : List Declaration} {names : Names} {a b : Action} {x y : Statement} → AlikeBefore before later → AlikeAction a b → IsActed before names a x → IsActed later names b y →
+      SameStatement x y
+  alike_acted parts s (plain x) (plain y) = alike_action s x y
+  alike_acted parts s (plain x) (used bs j f h c) = absurd (omega (arith, same_action_rank s, no_use x))
+  alike_acted parts s (used args i e g d) (plain y) = absurd (omega (arith, same_action_rank s, no_use y))
+  alike_acted {before} {later} {names} {y = y} parts s (used args {k = k} {p = p} i e g d) (used bs {k = l} {p = q} j f h c) =
+      let same = use_of s in
+      let indices = sym i ∙ ap (index_of names) same.0 ∙ j in
+      let index : k ≡ l = cc in
+      let there : slice_get later k ≡ Some (D.Part q) = subst (λ z. slice_get later z ≡ Some (D.Part q)) (sym index) f in
+      let part : AlikePart p q = parts k p q e there (record { name = refl; parameters = refl; body = given_itself g; size = refl }) in
+      let first : IsGiven (take k later) names (inside names) q.parameters.items bs.items q.body.items y =
+      subst (λ z. IsGiven (take z later) names (inside names) q.parameters.items bs.items q.body.items y) (sym index) h in
+      let second : IsGiven (take k later) names (inside names) p.parameters.items bs.items q.body.items y =
+      subst (λ z. IsGiven (take k later) names (inside names) z bs.items q.body.items y) (sym part.parameters) first in
+      alike_given (taken_alike before later k parts) (paired_values same.1) part.body g second
 
-alike_body : {names : Names} {text other : TextProcedure} {a b : Statement} → AlikeProcedure text other → IsBody names text a → IsBody names other b → SameStatement a b
-alike_body s g h = tried_of (tried_of (alike_block s.body g.body_is h.body_is) (alike_block s.otherwise g.handler_is h.handler_is) g.handled_is h.handled_is) same_skip g.whole_is h.whole_is
+  alike_given : {before later : List Declaration} {outer names : Names} {ps : List Parameter} {args bs : List TextExpression} {body other : List TextStatement} {a b : Statement} → AlikeBefore before later →
+      PairedValues args bs → AlikeStatements body other → IsGiven before outer names ps args body a → IsGiven later outer names ps bs other b → SameStatement a b
+  alike_given parts no_values s (all_given g) (all_given h) = alike_block parts s g h
+  alike_given {later = after} {outer} parts (more_values x k) s (node_given {later = m} {parameters = ps} {a = a} argument g rest) (node_given {later = n} {arguments = bs} {body = body} {a = b} argument2 h more) =
+      let same : IsGiven after outer m ps bs body b = subst (λ z. IsGiven after outer z ps bs body b) (sym (same_given x g h)) more in
+      alike_given parts k s rest same
+  alike_given {later = after} {outer} parts (more_values x k) s (value_given {later = m} {parameters = ps} argument g rest) (value_given {later = n} {arguments = bs} {body = body} {a = b} argument2 h more) =
+      let same : IsGiven after outer m ps bs body b = subst (λ z. IsGiven after outer z ps bs body b) (sym (g.later_is ∙ sym h.later_is)) more in
+      same_let refl (alike_number x g.number_is h.number_is) (alike_given parts k s rest same)
 
-same_later : {names a b : Names} {name : Name} {w : ℤ} → IsWithField names name w a → IsWithField names name w b → a ≡ b
-same_later {names} {name = name} g h =
-    let w = sym g.number_is ∙ h.number_is in
-    let same : g.field ≡ h.field = cc in
-    g.later_is ∙ ap (with_field names name) same ∙ sym h.later_is
-
-alike_procedure : {spellings : List (List ℕ)} {names : Names} {text other : TextProcedure} {p q : Procedure} → AlikeProcedure text other → IsProcedure spellings names text p →
-    IsProcedure spellings names other q → SameProcedure p q
-alike_procedure {spellings} {names} {other = other} {q = q} s f k = record {
-  name = f.name ∙ ap (λ (n : Name). get_or spellings n.symbol.0 []) s.name ∙ sym k.name;
-  offset = f.offset ∙ ap (λ (n : Name). n.offset) s.name ∙ sym k.offset;
-  arity = f.arity ∙ ap length s.arguments ∙ sym k.arity;
-  body = alike_body s f.body (subst (λ n. IsBody (with_values names n) other q.body) (sym s.arguments) k.body);
-}
-
-procedure_itself : {spellings : List (List ℕ)} {names : Names} {text : TextProcedure} {p : Procedure} → IsProcedure spellings names text p → AlikeProcedure text text
-procedure_itself f = record { mark = refl; name = refl; arguments = refl; body = block_itself f.body.body_is; otherwise = block_itself f.body.handler_is }
-
-pub alike_procedures : {spellings : List (List ℕ)} {names : Names} {ds es : List Declaration} {ps qs : List Procedure} → PairedDeclarations ds es →
-    AreDeclared spellings names ds ps → AreDeclared spellings names es qs → SameProcedures ps qs
-alike_procedures s none_declared none_declared = no_procedures
-alike_procedures {spellings} {names} {qs = qs} (paired_declaration {es = rest} x s) (next_field {name = n} {number = v} f g) (next_field {later = later} {name = m} {number = w} k h) =
-    let same = field_of x in
-    let first : IsWithField names n w later = subst (λ z. IsWithField names z w later) (sym same.0) k in
-    let other : IsWithField names n v later = subst (λ z. IsWithField names n z later) (sym same.1) first in
-    alike_procedures s g (subst (λ n. AreDeclared spellings n rest qs) (sym (same_later f other)) h)
-alike_procedures {spellings} {names} {qs = qs} (paired_declaration {es = rest} x s) (next_constant {name = n} {number = v} f i g) (next_constant {name = m} {number = w} k j h) =
-    let same = constant_of x in
-    let first : AreDeclared spellings (with_constant names n w) rest qs = subst (λ z. AreDeclared spellings (with_constant names z w) rest qs) (sym same.0) h in
-    alike_procedures s g (subst (λ z. AreDeclared spellings (with_constant names n z) rest qs) (sym (alike_constant same.1 i j)) first)
-alike_procedures {spellings} {names} (paired_declaration {es = rest} x s) (next_procedure {text = text} fresh f g) (next_procedure {text = other} {p = q} {ps = qs} again k h) =
-    let same = procedure_of (procedure_itself f) x in
-    let one : IsProcedure spellings (with_procedure names text.name) other q = subst (λ n. IsProcedure spellings (with_procedure names n) other q) (sym same.name) k in
-    let others : AreDeclared spellings (with_procedure names text.name) rest qs = subst (λ n. AreDeclared spellings (with_procedure names n) rest qs) (sym same.name) h in
-    more_procedures (alike_procedure same f one) (alike_procedures s g others)
-alike_procedures (paired_declaration x s) a b = absurd (omega (arith, same_declaration_rank x))
-
-pub one_program : {text : List ℕ} {ps qs : List Procedure} → IsProgram text ps → IsProgram text qs → SameProcedures ps qs
-one_program {text} {qs = qs} x y =
-    let words : x.names ≡ y.names = names_once x.read.words y.read.words x.read.distinct y.read.distinct x.read.read y.read.read x.read.numbered y.read.numbered in
-    let read : AreTokens x.names 0 text y.read.tokens = subst (λ l. AreTokens l 0 text y.read.tokens) (sym words) y.read.read in
-    let spelled : IsFile x.read.tokens y.declarations = subst (λ z. IsFile z y.declarations) (sym (tokens_once x.read.distinct x.read.read read)) y.read.spelled in
-    let declared : AreDeclared x.names (without_meaning (length x.names)) y.declarations qs =
-    subst (λ l. AreDeclared l (without_meaning (length l)) y.declarations qs) (sym words) y.declared in
-    alike_procedures (paired_declarations (file_once x.read.spelled spelled)) x.declared declared
+-- blocks of one text have one core form
+pub block_once : {before : List Declaration} {names : Names} {ss : List TextStatement} {a b : Statement} → IsBlock before names ss a → IsBlock before names ss b → SameStatement a b
+block_once {before} g h = alike_block (before_itself before) (block_itself g) g h

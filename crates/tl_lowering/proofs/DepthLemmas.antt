@@ -1,13 +1,29 @@
--- The blocks of a statement are smaller than the statement.
-use Rattle.std.proofs.Common.{◌≡◌, ℕ, ◌+◌, ◌*◌, ◌<◌, List, Option, Vec, Global, sym, subst, arith}
+-- The blocks of a statement are smaller than the statement, and a part weighs less than all that stand before its use.
+use Rattle.std.proofs.Common.{◌≡◌, ℕ, zero, suc, ◌+◌, ◌*◌, ◌<◌, ◌≤◌, List, [], ◌∷◌, length, take, Option, Some, Vec, Global, sym, ap, subst, refl, arith}
+use Rattle.std.specs.Prelude.{slice_get}
 use Rattle.tl_syntax.specs.declared.parsed.Name.{Name}
 use Rattle.tl_syntax.specs.declared.parsed.Expression.{Expression}
 use Rattle.tl_syntax.specs.declared.parsed.Question.{Question}
 use Rattle.tl_syntax.specs.declared.parsed.Statement.{Statement}
-use Rattle.tl_syntax.specs.declared.parsed.StatementForm.{StatementForm, Try, If, ForEach, Block, the_lemmas}
+use Rattle.tl_syntax.specs.declared.parsed.StatementForm.{StatementForm, Act, Try, If, Repeat, ForEach, Block, the_lemmas}
+use Rattle.tl_syntax.specs.declared.parsed.Action.{Action}
+use Rattle.tl_syntax.specs.declared.parsed.Otherwise.{Otherwise, out-Otherwise, the_lemmas as otherwise_lemmas}
+use Rattle.tl_syntax.specs.declared.parsed.Parameter.{Parameter}
+use Rattle.tl_syntax.specs.declared.parsed.Part.{Part}
+use Rattle.tl_syntax.specs.declared.parsed.Declaration.{Declaration}
+use Rattle.tl_syntax.specs.declared.parsed.Declaration.TheVariants as D
 use Rattle.tl_syntax.proofs.parsed.StatementForm.TheLaws as form
 use Rattle.tl_syntax.proofs.parsed.Statement.TheLaws as statement
 use denote.Param.Weighed.{most}
+
+in_act : (f : StatementForm) (a : Action) (other : Option Otherwise) (o : Otherwise) → f ≡ Act a other → other ≡ Some o → most statement.the_size (out-Otherwise o).body.items < form.the_size f
+in_act f a other o e is = grind (arith, the_lemmas, otherwise_lemmas)
+
+in_else : (f : StatementForm) (a : Action) (o : Otherwise) → f ≡ Act a (Some o) → most statement.the_size (out-Otherwise o).body.items < form.the_size f
+in_else f a o e = in_act f a (Some o) o e refl
+
+in_repeat : (f : StatementForm) (turns : Expression) (at_most : Option Expression) (body : Vec Statement Global) → f ≡ Repeat turns at_most body → most statement.the_size body.items < form.the_size f
+in_repeat f turns at_most body e = grind (arith, the_lemmas)
 
 in_try : (f : StatementForm) (body handler : Vec Statement Global) → f ≡ Try body handler → most statement.the_size body.items < form.the_size f
 in_try f body handler e = grind (arith, the_lemmas)
@@ -27,25 +43,58 @@ in_visit f child index parent at_most body e = grind (arith, the_lemmas)
 in_block : (f : StatementForm) (body : Vec Statement Global) → f ≡ Block body → most statement.the_size body.items < form.the_size f
 in_block f body e = grind (arith, the_lemmas)
 
--- a call for a smaller part has a smaller measure
-falls : (t k : ℕ) (f : StatementForm) (block items : List Statement) → 3 * form.the_size f + 0 ≡ t → block ≡ items → k < 3 → most statement.the_size items < form.the_size f → 3 * most statement.the_size block + k < t
-falls t k f block items e is few lt = let same : most statement.the_size block < form.the_size f = subst (λ x. most statement.the_size x < form.the_size f) (sym is) lt in omega arith
+-- ---- the measure
 
-pub falls_in_try : (t k : ℕ) (f : StatementForm) (body handler : Vec Statement Global) (block : List Statement) → 3 * form.the_size f + 0 ≡ t → block ≡ body.items → k < 3 → f ≡ Try body handler → 3 * most statement.the_size block + k < t
-falls_in_try t k f body handler block e is few at = falls t k f block body.items e is few (in_try f body handler at)
+-- what reading the body of a part takes at most, without the parts that it uses
+abbrev cost : Declaration → ℕ
+cost (D.Field name number offset) = 0
+cost (D.Constant name value) = 0
+cost (D.Procedure p) = 0
+cost (D.Part p) = 4 * most statement.the_size p.body.items + length p.parameters.items + 2
 
-pub falls_in_handler : (t k : ℕ) (f : StatementForm) (body handler : Vec Statement Global) (block : List Statement) → 3 * form.the_size f + 0 ≡ t → block ≡ handler.items → k < 3 → f ≡ Try body handler → 3 * most statement.the_size block + k < t
-falls_in_handler t k f body handler block e is few at = falls t k f block handler.items e is few (in_handler f body handler at)
+-- what reading the bodies of all these parts takes at most
+abbrev pub weight : List Declaration → ℕ
+weight [] = 0
+weight (d ∷ ds) = cost d + weight ds
 
-pub falls_in_first : (t k : ℕ) (f : StatementForm) (q : Question) (body otherwise : Vec Statement Global) (block : List Statement) → 3 * form.the_size f + 0 ≡ t → block ≡ body.items → k < 3 → f ≡ If q body otherwise → 3 * most statement.the_size block + k < t
-falls_in_first t k f q body otherwise block e is few at = falls t k f block body.items e is few (in_first f q body otherwise at)
+-- a part weighs less with those before it than with those up to it
+pub weight_falls : (ds : List Declaration) (k : ℕ) (p : Part) → slice_get ds k ≡ Some (D.Part p) →
+    4 * most statement.the_size p.body.items + length p.parameters.items + 2 + weight (take k ds) ≤ weight ds
+weight_falls [] k p e = cc
+weight_falls (d ∷ ds) zero p e = let same : d ≡ D.Part p = cc in let c = ap cost same in omega arith
+weight_falls (d ∷ ds) (suc k) p e = let rest = weight_falls ds k p e in omega arith
 
-pub falls_in_second : (t k : ℕ) (f : StatementForm) (q : Question) (body otherwise : Vec Statement Global) (block : List Statement) → 3 * form.the_size f + 0 ≡ t → block ≡ otherwise.items → k < 3 → f ≡ If q body otherwise → 3 * most statement.the_size block + k < t
-falls_in_second t k f q body otherwise block e is few at = falls t k f block otherwise.items e is few (in_second f q body otherwise at)
+-- a call for a smaller block has a smaller measure
+falls : (t k w : ℕ) (f : StatementForm) (block items : List Statement) → 4 * form.the_size f + 3 + w ≡ t → block ≡ items → k < 4 → most statement.the_size items < form.the_size f → 4 * most statement.the_size block + k + w < t
+falls t k w f block items e is few lt = let same : most statement.the_size block < form.the_size f = subst (λ x. most statement.the_size x < form.the_size f) (sym is) lt in omega arith
 
-pub falls_in_visit : (t k : ℕ) (f : StatementForm) (child : Name) (index : Option Name) (parent : Name) (at_most : Expression) (body : Vec Statement Global) (block : List Statement) → 3 * form.the_size f + 0 ≡ t → block ≡ body.items → k < 3 → f ≡ ForEach child index parent at_most body
-    → 3 * most statement.the_size block + k < t
-falls_in_visit t k f child index parent at_most body block e is few at = falls t k f block body.items e is few (in_visit f child index parent at_most body at)
+pub falls_in_else : (t k w : ℕ) (f : StatementForm) (a : Action) (o : Otherwise) (block : List Statement) → 4 * form.the_size f + 3 + w ≡ t → block ≡ (out-Otherwise o).body.items → k < 4 → f ≡ Act a (Some o) → 4 * most statement.the_size block + k + w < t
+falls_in_else t k w f a o block e is few at = falls t k w f block (out-Otherwise o).body.items e is few (in_else f a o at)
 
-pub falls_in_block : (t k : ℕ) (f : StatementForm) (body : Vec Statement Global) (block : List Statement) → 3 * form.the_size f + 0 ≡ t → block ≡ body.items → k < 3 → f ≡ Block body → 3 * most statement.the_size block + k < t
-falls_in_block t k f body block e is few at = falls t k f block body.items e is few (in_block f body at)
+pub falls_in_try : (t k w : ℕ) (f : StatementForm) (body handler : Vec Statement Global) (block : List Statement) → 4 * form.the_size f + 3 + w ≡ t → block ≡ body.items → k < 4 → f ≡ Try body handler → 4 * most statement.the_size block + k + w < t
+falls_in_try t k w f body handler block e is few at = falls t k w f block body.items e is few (in_try f body handler at)
+
+pub falls_in_handler : (t k w : ℕ) (f : StatementForm) (body handler : Vec Statement Global) (block : List Statement) → 4 * form.the_size f + 3 + w ≡ t → block ≡ handler.items → k < 4 → f ≡ Try body handler → 4 * most statement.the_size block + k + w < t
+falls_in_handler t k w f body handler block e is few at = falls t k w f block handler.items e is few (in_handler f body handler at)
+
+pub falls_in_first : (t k w : ℕ) (f : StatementForm) (q : Question) (body otherwise : Vec Statement Global) (block : List Statement) → 4 * form.the_size f + 3 + w ≡ t → block ≡ body.items → k < 4 → f ≡ If q body otherwise → 4 * most statement.the_size block + k + w < t
+falls_in_first t k w f q body otherwise block e is few at = falls t k w f block body.items e is few (in_first f q body otherwise at)
+
+pub falls_in_second : (t k w : ℕ) (f : StatementForm) (q : Question) (body otherwise : Vec Statement Global) (block : List Statement) → 4 * form.the_size f + 3 + w ≡ t → block ≡ otherwise.items → k < 4 → f ≡ If q body otherwise → 4 * most statement.the_size block + k + w < t
+falls_in_second t k w f q body otherwise block e is few at = falls t k w f block otherwise.items e is few (in_second f q body otherwise at)
+
+pub falls_in_repeat : (t k w : ℕ) (f : StatementForm) (turns : Expression) (at_most : Option Expression) (body : Vec Statement Global) (block : List Statement) → 4 * form.the_size f + 3 + w ≡ t → block ≡ body.items → k < 4 → f ≡ Repeat turns at_most body
+    → 4 * most statement.the_size block + k + w < t
+falls_in_repeat t k w f turns at_most body block e is few at = falls t k w f block body.items e is few (in_repeat f turns at_most body at)
+
+pub falls_in_visit : (t k w : ℕ) (f : StatementForm) (child : Name) (index : Option Name) (parent : Name) (at_most : Expression) (body : Vec Statement Global) (block : List Statement) → 4 * form.the_size f + 3 + w ≡ t → block ≡ body.items → k < 4 → f ≡ ForEach child index parent at_most body
+    → 4 * most statement.the_size block + k + w < t
+falls_in_visit t k w f child index parent at_most body block e is few at = falls t k w f block body.items e is few (in_visit f child index parent at_most body at)
+
+pub falls_in_block : (t k w : ℕ) (f : StatementForm) (body : Vec Statement Global) (block : List Statement) → 4 * form.the_size f + 3 + w ≡ t → block ≡ body.items → k < 4 → f ≡ Block body → 4 * most statement.the_size block + k + w < t
+falls_in_block t k w f body block e is few at = falls t k w f block body.items e is few (in_block f body at)
+
+-- a part has a smaller measure than its use
+pub falls_in_part : (t : ℕ) (ds earlier : List Declaration) (k : ℕ) (p : Part) (body : List Statement) (ps : List Parameter) → weight ds + 1 ≡ t → slice_get ds k ≡ Some (D.Part p) → earlier ≡ take k ds → body ≡ p.body.items
+    → ps ≡ p.parameters.items → 4 * most statement.the_size body + length ps + 2 + weight earlier < t
+falls_in_part t ds earlier k p body ps is at e f g = rw (e, f, g) (let w = weight_falls ds k p at in omega arith)

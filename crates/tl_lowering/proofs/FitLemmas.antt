@@ -11,6 +11,8 @@ use Rattle.tl_syntax.specs.declared.parsed.Comparison.TheVariants as K
 use Rattle.tl_syntax.specs.declared.parsed.Form.{Form}
 use Rattle.tl_syntax.specs.declared.parsed.Expression.{Expression as TextExpression}
 use Rattle.tl_syntax.specs.declared.parsed.Action.{Action}
+use Rattle.tl_syntax.specs.declared.parsed.Declaration.{Declaration}
+use Rattle.tl_syntax.specs.declared.parsed.Parameter.{Parameter}
 use Rattle.tl_syntax.specs.declared.parsed.Write.{Write}
 use Rattle.tl_syntax.specs.declared.parsed.Place.{Place as TextPlace}
 use Rattle.tl_syntax.specs.declared.parsed.Place.TheVariants as T
@@ -24,11 +26,11 @@ use Rattle.tl_lowering.specs.declared.program.Procedure.{Procedure}
 use Rattle.tl_lowering.specs.declared.program.Statement.{Statement}
 use Rattle.tl_lowering.specs.declared.program.Statement.TheVariants as S
 use Rattle.tl_lowering.specs.Fit.{loops, AllTurn, AllSlots, HasBoth, IsWord, HasConditionRoom, HasRoom}
-use Rattle.tl_lowering.specs.Names.{Names, names_in, HasNode, in_loop, with_node, with_index, with_place}
+use Rattle.tl_lowering.specs.Names.{Names, names_in, HasNode, in_loop, with_node, with_index, with_value, with_alias, with_place}
 use Rattle.tl_lowering.specs.Naming.{IsCount, count, constant_count, IsPlace, node, child, pair, calculated, opposite, together, IsComparison, IsCondition, comparison, negation, conjunction, disjunction, then, IsHalved, none, one, more, AreEmits, no_emits, next_emit, AreWritten, all_computed, next_computed, IsWritten, one_write, several_writes, IsAction, assigns, writes, emits, requires, descends, takes, frees, breaks, returns, fails}
 use Rattle.tl_lowering.specs.Outcomes.{fails as failures}
 use Rattle.tl_lowering.specs.Passing.{nothing_before, EntersOnce}
-use Rattle.tl_lowering.specs.Reading.{IsAtOffset, at, IsTried, tried, IsVisiting, visiting, IsBlock, block, AreStatements, no_more, next, let_rest, let_else, lock_rest, lock_else, IsStatement, act, act_else, try, if, if_lock, repeat, repeat_up_to, for_each, block_alone, IsBody}
+use Rattle.tl_lowering.specs.Reading.{IsAtOffset, at, IsTried, tried, IsVisiting, visiting, IsBlock, block, AreStatements, no_more, next, let_rest, let_else, lock_rest, lock_else, IsStatement, IsActed, plain, used, IsGiven, all_given, node_given, value_given, act, act_else, try, if, if_lock, repeat, repeat_up_to, for_each, block_alone, IsBody}
 use Rattle.tl_lowering.specs.Scopes.{View, is_in_loop}
 use Rattle.tl_lowering.specs.Sets.{none_held}
 use Rattle.tl_lowering.specs.Sound.{IsWellFormed, IsInOrder}
@@ -151,30 +153,30 @@ failing : {names : Names} → names.loops ≤ MAX_DEPTH → Fits names S.Fail
 failing le = record { turns = tt; slots = tt; depth = omega arith; room = tt }
 
 mutual
-  in_block : {names : Names} {xs : List TextStatement} {s : Statement} → names.loops ≤ MAX_DEPTH → IsBlock names xs s → Fits names s
+  in_block : {before : List Declaration} {names : Names} {xs : List TextStatement} {s : Statement} → names.loops ≤ MAX_DEPTH → IsBlock before names xs s → Fits names s
   in_block le (block are j) = halved le j (in_statements le are)
 
-  in_statements : {names : Names} {xs : List TextStatement} {parts : List Statement} → names.loops ≤ MAX_DEPTH → AreStatements names xs parts → All (Fits names) parts
-  in_statements {names} le no_more = All-nil (Fits names)
-  in_statements {names} le (next {b = b} {parts = parts} s a rest reached) = All-cons (Fits names) b parts (at_offset (in_statement le s) a) (in_statements le rest)
-  in_statements {names} le (let_rest {a = a} f new room n has body o) =
+  in_statements : {before : List Declaration} {names : Names} {xs : List TextStatement} {parts : List Statement} → names.loops ≤ MAX_DEPTH → AreStatements before names xs parts → All (Fits names) parts
+  in_statements {before} {names} le no_more = All-nil (Fits names)
+  in_statements {before} {names} le (next {b = b} {parts = parts} s a rest reached) = All-cons (Fits names) b parts (at_offset (in_statement le s) a) (in_statements le rest)
+  in_statements {before} {names} le (let_rest {a = a} f new room n has body o) =
       let x = in_block le body in
       All-cons (Fits names) a [] (at_offset (record { turns = x.turns; slots = x.slots; depth = x.depth; room = (has, x.room) }) o) (All-nil (Fits names))
-  in_statements {names} le (let_else {a = a} f new room n has other leaves body o) =
+  in_statements {before} {names} le (let_else {a = a} f new room n has other leaves body o) =
       let x = in_block le body in
       let y = in_block le other in
       All-cons (Fits names) a [] (at_offset (record { turns = (x.turns, y.turns); slots = (x.slots, y.slots); depth = omega (arith, x.depth, y.depth); room = (has, x.room, y.room) }) o) (All-nil (Fits names))
-  in_statements {names} le (lock_rest {text = text} {a = a} f place body o) =
+  in_statements {before} {names} le (lock_rest {text = text} {a = a} f place body o) =
       All-cons (Fits names) a [] (at_offset (locking place (in_block (beside names text le) body) (failing le)) o) (All-nil (Fits names))
-  in_statements {names} le (lock_else {text = text} {a = a} f place other leaves body o) =
+  in_statements {before} {names} le (lock_else {text = text} {a = a} f place other leaves body o) =
       All-cons (Fits names) a [] (at_offset (locking place (in_block (beside names text le) body) (in_block le other)) o) (All-nil (Fits names))
 
-  in_statement : {names : Names} {form : StatementForm} {s : Statement} → names.loops ≤ MAX_DEPTH → IsStatement names form s → Fits names s
-  in_statement le (act a) = action le a
-  in_statement le (act_else a h t) = handled (action le a) (in_block le h) t
+  in_statement : {before : List Declaration} {names : Names} {form : StatementForm} {s : Statement} → names.loops ≤ MAX_DEPTH → IsStatement before names form s → Fits names s
+  in_statement le (act a) = in_acted le a
+  in_statement le (act_else a h t) = handled (in_acted le a) (in_block le h) t
   in_statement le (try xs ys a b t) = handled (in_block le a) (in_block le b) t
   in_statement le (if xs ys c a b) = choice (tested c) (in_block le a) (in_block le b)
-  in_statement {names} le (if_lock {text = text} xs ys place a b) = locking place (in_block (beside names text le) a) (in_block le b)
+  in_statement {before} {names} le (if_lock {text = text} xs ys place a b) = locking place (in_block (beside names text le) a) (in_block le b)
   in_statement le (repeat xs deep c a) = let x = in_block (omega (arith, deep)) a in record { turns = (may_turn c, x.turns); slots = x.slots; depth = omega (arith, x.depth); room = x.room }
   in_statement le (repeat_up_to xs deep n has turn c a) =
       let x = in_block (omega (arith, deep)) a in
@@ -182,13 +184,32 @@ mutual
   in_statement le (for_each {child = called} {index = index} xs deep new room has e c a v) = walk called index room has (may_turn c) (in_block (omega (arith, deep)) a) v
   in_statement le (block_alone xs a) = in_block le a
 
+  in_acted : {before : List Declaration} {names : Names} {a : Action} {s : Statement} → names.loops ≤ MAX_DEPTH → IsActed before names a s → Fits names s
+  in_acted le (plain a) = action le a
+  in_acted le (used arguments index part given nests) =
+      let x = in_given (omega arith) given in record { turns = x.turns; slots = x.slots; depth = omega (arith, nests); room = x.room }
+
+  in_given : {before : List Declaration} {outer names : Names} {ps : List Parameter} {args : List TextExpression} {body : List TextStatement} {s : Statement} → names.loops ≤ MAX_DEPTH →
+      IsGiven before outer names ps args body s → Fits names s
+  in_given le (all_given b) = in_block le b
+  in_given {names = names} le (node_given {later = later} {name = name} {a = a} argument g rest) =
+      let later_is : later ≡ with_alias names name g.register = g.later_is in
+      let x = in_given (subst (λ n. n.loops ≤ MAX_DEPTH) (sym later_is) le) rest in
+      let y : Fits (with_alias names name g.register) a = subst (λ n. Fits n a) later_is x in
+      record { turns = y.turns; slots = y.slots; depth = y.depth; room = y.room }
+  in_given {names = names} le (value_given {later = later} {name = name} {a = a} argument g rest) =
+      let later_is : later ≡ with_value names name = g.later_is in
+      let x = in_given (subst (λ n. n.loops ≤ MAX_DEPTH) (sym later_is) le) rest in
+      let y : Fits (with_value names name) a = subst (λ n. Fits n a) later_is x in
+      record { turns = y.turns; slots = y.slots; depth = y.depth; room = (g.fits, y.room) }
+
 -- ---- procedures
 
-in_body : {names : Names} {text : TextProcedure} {s : Statement} → names.loops ≤ MAX_DEPTH → IsBody names text s → Fits names s
+in_body : {before : List Declaration} {names : Names} {text : TextProcedure} {s : Statement} → names.loops ≤ MAX_DEPTH → IsBody before names text s → Fits names s
 in_body le b = handled (handled (in_block le b.body_is) (in_block le b.handler_is) b.handled_is) (record { turns = tt; slots = tt; depth = omega arith; room = tt }) b.whole_is
 
-pub in_order : (scope : View) (text : TextProcedure) (p : Procedure) → p.arity ≡ scope.values → scope.values ≤ MAX_ARGS → scope.nodes ≡ 0 → scope.loops ≡ 0
-    → IsBody (names_in scope) text p.body → IsWellFormed p.body scope.values scope.nodes none_held (is_in_loop scope) → failures p.body none_held ≡ [] → EntersOnce p.body nothing_before → IsWord p.name.items → IsInOrder p
+pub in_order : {before : List Declaration} (scope : View) (text : TextProcedure) (p : Procedure) → p.arity ≡ scope.values → scope.values ≤ MAX_ARGS → scope.nodes ≡ 0 → scope.loops ≡ 0
+    → IsBody before (names_in scope) text p.body → IsWellFormed p.body scope.values scope.nodes none_held (is_in_loop scope) → failures p.body none_held ≡ [] → EntersOnce p.body nothing_before → IsWord p.name.items → IsInOrder p
 in_order scope text p arity few nodes loops body sound handled enters name =
     let outside : scope.loops ≤ MAX_DEPTH = omega arith in
     let f = in_body outside body in

@@ -1,6 +1,6 @@
 pub mod AlikeBlocks
 pub mod AlikeLemmas
-pub mod BeyondLemmas
+pub mod AlikeTexts
 pub mod BitLemmas
 pub mod BlockLemmas
 pub mod BodyLemmas
@@ -9,6 +9,7 @@ pub mod DescendLemmas
 pub mod DraftLemmas
 pub mod EnterLemmas
 pub mod FitLemmas
+pub mod GivenLemmas
 pub mod JoinLemmas
 pub mod LeaveLemmas
 pub mod LoopLemmas
@@ -18,6 +19,7 @@ pub mod NumberLemmas
 pub mod OpeningLemmas
 pub mod PartLemmas
 pub mod PathLemmas
+pub mod PutLemmas
 pub mod RegisterLemmas
 pub mod Rows
 pub mod ScopeLemmas

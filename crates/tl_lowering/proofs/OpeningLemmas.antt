@@ -2,6 +2,7 @@
 use Rattle.std.proofs.Common.{◌≡◌, ◌∙◌, ℕ, ℤ, pos, List, [], ◌∷◌, Option, None, Some, sym, ap, subst}
 use Rattle.std.specs.Prelude.{neg_ℤ}
 use Rattle.tl_syntax.specs.declared.parsed.Name.{Name}
+use Rattle.tl_syntax.specs.declared.parsed.Declaration.{Declaration}
 use Rattle.tl_syntax.specs.declared.parsed.Statement.{Statement as TextStatement}
 use Rattle.tl_syntax.specs.declared.parsed.StatementForm.{StatementForm}
 use Rattle.tl_syntax.specs.declared.parsed.StatementForm.TheVariants as T
@@ -39,29 +40,29 @@ chooses_lock {p} {q} l {a} {b} {first} {second} e f =
 
 -- ---- a declaration with its `else`
 
-pub value_opens : {names later : Names} {form : StatementForm} {name : Name} {x : ℕ} {e : Expression} → later ≡ with_value names name
-    → IsOpening names form (H.Value name x e) → IsElse names form None → Opens names form (B.Value x e) later
-value_opens {names} {form = form} {x = x} {e = e} l (opening_value o f g new room n has) (no_else h) =
-    subst (Opens names form (B.Value x e)) (sym l) (opens_value (f ∙ ap (T.Act _) (same_else _ _ o None (sym f ∙ h))) g new room n has)
+pub value_opens : {before : List Declaration} {names later : Names} {form : StatementForm} {name : Name} {x : ℕ} {e : Expression} → later ≡ with_value names name
+    → IsOpening names form (H.Value name x e) → IsElse before names form None → Opens before names form (B.Value x e) later
+value_opens {before} {names} {form = form} {x = x} {e = e} l (opening_value o f g new room n has) (no_else h) =
+    subst (Opens before names form (B.Value x e)) (sym l) (opens_value (f ∙ ap (T.Act _) (same_else _ _ o None (sym f ∙ h))) g new room n has)
 
-pub value_else_opens : {names later : Names} {form : StatementForm} {name : Name} {x : ℕ} {e : Expression} {a : Statement} {flow : Flow} → later ≡ with_value names name → Leaves a
-    → IsOpening names form (H.Value name x e) → IsElse names form (Some (a, flow)) → Opens names form (B.ValueElse x e a) later
-value_else_opens {names} {form = form} {x = x} {e = e} {a = a} l leaves (opening_value o f g new room n has) (one_else {o = other} h b) =
-    subst (Opens names form (B.ValueElse x e a)) (sym l) (opens_value_else (f ∙ ap (T.Act _) (same_else _ _ o (Some other) (sym f ∙ h))) g new room n has b leaves)
+pub value_else_opens : {before : List Declaration} {names later : Names} {form : StatementForm} {name : Name} {x : ℕ} {e : Expression} {a : Statement} {flow : Flow} → later ≡ with_value names name → Leaves a
+    → IsOpening names form (H.Value name x e) → IsElse before names form (Some (a, flow)) → Opens before names form (B.ValueElse x e a) later
+value_else_opens {before} {names} {form = form} {x = x} {e = e} {a = a} l leaves (opening_value o f g new room n has) (one_else {o = other} h b) =
+    subst (Opens before names form (B.ValueElse x e a)) (sym l) (opens_value_else (f ∙ ap (T.Act _) (same_else _ _ o (Some other) (sym f ∙ h))) g new room n has b leaves)
 
-pub nodes_opens : {names later : Names} {form : StatementForm} {l : Locking} {a : Statement} (other : Option (Statement × Flow)) → later ≡ with_locking names l
-    → a ≡ other_of other → Leaves a → IsOpening names form (H.Nodes l) → IsElse names form other → Opens names form (B.Nodes l.place a) later
-nodes_opens {names} {later} {form} {l} {a} None e g leaves (opening_nodes o {text = w} f k) (no_else h) =
-    subst (Opens names form (B.Nodes l.place a)) (sym (e ∙ k.names_are))
-    (subst (λ z. Opens names form (B.Nodes l.place z) (with_place names w)) (sym g) (opens_nodes (f ∙ ap (T.Act _) (same_else _ _ o None (sym f ∙ h))) k.place_is))
-nodes_opens {names} {later} {form} {l} {a} (Some (s, flow)) e g leaves (opening_nodes o {text = w} f k) (one_else {o = other} h b) =
-    subst (Opens names form (B.Nodes l.place a)) (sym (e ∙ k.names_are))
-    (subst (λ z. Opens names form (B.Nodes l.place z) (with_place names w)) (sym g) (opens_nodes_else (f ∙ ap (T.Act _) (same_else _ _ o (Some other) (sym f ∙ h))) k.place_is b (subst Leaves g leaves)))
+pub nodes_opens : {before : List Declaration} {names later : Names} {form : StatementForm} {l : Locking} {a : Statement} (other : Option (Statement × Flow)) → later ≡ with_locking names l
+    → a ≡ other_of other → Leaves a → IsOpening names form (H.Nodes l) → IsElse before names form other → Opens before names form (B.Nodes l.place a) later
+nodes_opens {before} {names} {later} {form} {l} {a} None e g leaves (opening_nodes o {text = w} f k) (no_else h) =
+    subst (Opens before names form (B.Nodes l.place a)) (sym (e ∙ k.names_are))
+    (subst (λ z. Opens before names form (B.Nodes l.place z) (with_place names w)) (sym g) (opens_nodes (f ∙ ap (T.Act _) (same_else _ _ o None (sym f ∙ h))) k.place_is))
+nodes_opens {before} {names} {later} {form} {l} {a} (Some (s, flow)) e g leaves (opening_nodes o {text = w} f k) (one_else {o = other} h b) =
+    subst (Opens before names form (B.Nodes l.place a)) (sym (e ∙ k.names_are))
+    (subst (λ z. Opens before names form (B.Nodes l.place z) (with_place names w)) (sym g) (opens_nodes_else (f ∙ ap (T.Act _) (same_else _ _ o (Some other) (sym f ∙ h))) k.place_is b (subst Leaves g leaves)))
 
 -- ---- and with the rest of its block
 
-pub opens_rest : {names inner : Names} {s : TextStatement} {rest : List TextStatement} {b : Binding} {body bound at_offset : Statement} → Opens names s.form b inner
-    → IsBlock inner rest body → Binds b body bound → IsAtOffset s.offset bound at_offset → AreStatements names (s ∷ rest) (at_offset ∷ [])
+pub opens_rest : {before : List Declaration} {names inner : Names} {s : TextStatement} {rest : List TextStatement} {b : Binding} {body bound at_offset : Statement} → Opens before names s.form b inner
+    → IsBlock before inner rest body → Binds b body bound → IsAtOffset s.offset bound at_offset → AreStatements before names (s ∷ rest) (at_offset ∷ [])
 opens_rest {s = s} {body = body} {at_offset = at_offset} (opens_value {e = e} f g new room n has) k (binds_value {p = p}) a =
     let_rest f new room n has k (subst (λ z. IsAtOffset s.offset (S.Let' z e p body) at_offset) g a)
 opens_rest {s = s} {body = body} {at_offset = at_offset} (opens_value_else {e = e} {other = other} f g new room n has o leaves) k (binds_value_else {p = p} {q = q}) a =

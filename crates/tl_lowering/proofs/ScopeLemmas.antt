@@ -1,11 +1,13 @@
 -- Names that are declared and later lose their meanings.
 use Rattle.std.proofs.Common.{◌≡◌, ◌≢◌, ℕ, zero, suc, ◌+◌, ◌<◌, ◌≤◌, List, [], ◌∷◌, ◌++◌, length, length-append, take, drop, ◌⊎◌, inl, inr, refl, sym, ap, ap₂, ◌∙◌, arith, subst}
-use Rattle.std.specs.Prelude.{slice_set, get_or}
+use Rattle.std.specs.Prelude.{slice_set, get_or, map, replicate, Option}
 use Rattle.std.proofs.lemmas.List.{drop-append-le, take-append-le, length-take, length-set, get_or-set_same, get_or-set_other, get_or_past}
 use Rattle.std.proofs.lemmas.Bool.{cases_eq, cases_lt}
 use Rattle.tl_syntax.specs.declared.token.Symbol.{Symbol}
+use Rattle.tl_instr.specs.declared.operand.Field.{Field}
 use Rattle.tl_lowering.specs.declared.scope.Meaning.{Meaning}
 use Rattle.tl_lowering.specs.declared.scope.Meaning.TheVariants as M
+use Rattle.tl_lowering.specs.Names.{Names, constant_only, inside}
 use Rattle.tl_lowering.specs.Scopes.{View, IsBelow, AreInUse, Extends, forget}
 
 pub forget_last : (symbols : List Symbol) (s : Symbol) (ms : List Meaning) → forget (symbols ++ s ∷ []) ms ≡ forget symbols (slice_set ms s.0 M.Nothing)
@@ -61,7 +63,8 @@ more_below t u m k (M.Index x) a b h = omega arith
 more_below t u m k (M.Node n) a b h = omega arith
 
 -- a name gets a meaning that isn't another name's node
-set_in_use : (t u m k : ℕ) (ms : List Meaning) (s : ℕ) (x : Meaning) → t ≤ u → m ≤ k → IsBelow u k x → ((n : ℕ) → x ≡ M.Node n → m ≤ n) → AreInUse t m ms → AreInUse u k (slice_set ms s x)
+set_in_use : (t u m k : ℕ) (ms : List Meaning) (s : ℕ) (x : Meaning) → t ≤ u → m ≤ k → IsBelow u k x → ((n i : ℕ) → x ≡ M.Node n → get_or ms i M.Nothing ≡ M.Node n → ⊥) → AreInUse t m ms
+    → AreInUse u k (slice_set ms s x)
 set_in_use t u m k ms s x a b below new h = record {
   below = λ i. at i (cases_eq i s) (cases_lt s (length ms));
   apart = λ i j n e f. two i j n (cases_eq i s) (cases_eq j s) e f;
@@ -75,33 +78,77 @@ set_in_use t u m k ms s x a b below new h = record {
     old : (i n : ℕ) → i ≢ s → get_or (slice_set ms s x) i M.Nothing ≡ M.Node n → get_or ms i M.Nothing ≡ M.Node n
     old i n ne e = sym (get_or-set_other ms s i x M.Nothing ne) ∙ e
 
-    is_new : (i n : ℕ) → i ≡ s → get_or (slice_set ms s x) i M.Nothing ≡ M.Node n → m ≤ n
-    is_new i n e f = by (cases_lt s (length ms))
+    is_x : (i n : ℕ) → i ≡ s → get_or (slice_set ms s x) i M.Nothing ≡ M.Node n → x ≡ M.Node n
+    is_x i n e f = by (cases_lt s (length ms))
       where
-        by : (s < length ms) ⊎ (length ms ≤ s) → m ≤ n
-        by (inl lt) = new n (sym (get_or-set_same ms s x M.Nothing lt) ∙ ap (λ z. get_or (slice_set ms s x) z M.Nothing) (sym e) ∙ f)
+        by : (s < length ms) ⊎ (length ms ≤ s) → x ≡ M.Node n
+        by (inl lt) = sym (get_or-set_same ms s x M.Nothing lt) ∙ ap (λ z. get_or (slice_set ms s x) z M.Nothing) (sym e) ∙ f
         by (inr le) = let g : M.Nothing ≡ M.Node n = sym (get_or_past (slice_set ms s x) i M.Nothing (omega (arith, length-set ms s x))) ∙ f in cc
-
-    is_old : (j n : ℕ) → j ≢ s → get_or (slice_set ms s x) j M.Nothing ≡ M.Node n → n < m
-    is_old j n ne f = subst (IsBelow t m) (old j n ne f) (h.below j)
 
     two : (i j n : ℕ) → (i ≡ s) ⊎ (i ≢ s) → (j ≡ s) ⊎ (j ≢ s) → get_or (slice_set ms s x) i M.Nothing ≡ M.Node n → get_or (slice_set ms s x) j M.Nothing ≡ M.Node n → i ≡ j
     two i j n (inl a) (inl b) e f = a ∙ sym b
-    two i j n (inl a) (inr b) e f = let g = is_new i n a e in let l = is_old j n b f in absurd (omega arith)
-    two i j n (inr a) (inl b) e f = let g = is_new j n b f in let l = is_old i n a e in absurd (omega arith)
+    two i j n (inl a) (inr b) e f = absurd (new n j (is_x i n a e) (old j n b f))
+    two i j n (inr a) (inl b) e f = absurd (new n i (is_x j n b f) (old i n a e))
     two i j n (inr a) (inr b) e f = h.apart i j n (old i n a e) (old j n b f)
 
 pub constant_in_use : (t m : ℕ) (ms : List Meaning) (s : ℕ) (w : _) → AreInUse t m ms → AreInUse t m (slice_set ms s (M.Constant w))
-constant_in_use t m ms s w h = set_in_use t t m m ms s (M.Constant w) (omega arith) (omega arith) tt (λ n e. cc) h
+constant_in_use t m ms s w h = set_in_use t t m m ms s (M.Constant w) (omega arith) (omega arith) tt (λ n i e f. cc) h
 
 pub value_in_use : (t m : ℕ) (ms : List Meaning) (s x : ℕ) → x ≡ t → AreInUse t m ms → AreInUse (t + 1) m (slice_set ms s (M.Value x))
-value_in_use t m ms s x e h = set_in_use t (t + 1) m m ms s (M.Value x) (omega arith) (omega arith) (omega arith) (λ n e. cc) h
+value_in_use t m ms s x e h = set_in_use t (t + 1) m m ms s (M.Value x) (omega arith) (omega arith) (omega arith) (λ n i e f. cc) h
 
 pub index_in_use : (t m : ℕ) (ms : List Meaning) (s x : ℕ) → x ≡ t → AreInUse t m ms → AreInUse (t + 1) m (slice_set ms s (M.Index x))
-index_in_use t m ms s x e h = set_in_use t (t + 1) m m ms s (M.Index x) (omega arith) (omega arith) (omega arith) (λ n e. cc) h
+index_in_use t m ms s x e h = set_in_use t (t + 1) m m ms s (M.Index x) (omega arith) (omega arith) (omega arith) (λ n i e f. cc) h
 
 pub node_in_use : (t m : ℕ) (ms : List Meaning) (s x : ℕ) → x ≡ m → AreInUse t m ms → AreInUse t (m + 1) (slice_set ms s (M.Node x))
-node_in_use t m ms s x w h = set_in_use t t m (m + 1) ms s (M.Node x) (omega arith) (omega arith) (omega arith) (λ n e. let f : x ≡ n = cc in omega arith) h
+node_in_use t m ms s x w h =
+    set_in_use t t m (m + 1) ms s (M.Node x) (omega arith) (omega arith) (omega arith)
+    (λ n i e f. let same : x ≡ n = cc in let lt : n < m = subst (IsBelow t m) f (h.below i) in absurd (omega arith)) h
+
+-- a node of another name gets a name
+pub alias_in_use : (t m : ℕ) (ms : List Meaning) (s x : ℕ) → x < m → ((i : ℕ) → get_or ms i M.Nothing ≢ M.Node x) → AreInUse t m ms → AreInUse t m (slice_set ms s (M.Node x))
+alias_in_use t m ms s x lt free h =
+    set_in_use t t m m ms s (M.Node x) (omega arith) (omega arith) lt (λ n i e f. let same : x ≡ n = cc in absurd (free i (f ∙ ap M.Node (sym same)))) h
+
+-- of names that stand for nodes or values none is known in a part
+pub inside_in_use : (t m i : ℕ) (ms : List Meaning) → IsBelow t m (get_or (map constant_only ms) i M.Nothing)
+inside_in_use t m i [] = tt
+inside_in_use t m zero (M.Nothing ∷ ms) = tt
+inside_in_use t m zero (M.Constant w ∷ ms) = tt
+inside_in_use t m zero (M.Value x ∷ ms) = tt
+inside_in_use t m zero (M.Index x ∷ ms) = tt
+inside_in_use t m zero (M.Node n ∷ ms) = tt
+inside_in_use t m (suc i) (x ∷ ms) = inside_in_use t m i ms
+
+pub inside_no_node : (n i : ℕ) (ms : List Meaning) → get_or (map constant_only ms) i M.Nothing ≢ M.Node n
+inside_no_node n i [] e = cc
+inside_no_node n zero (M.Nothing ∷ ms) e = cc
+inside_no_node n zero (M.Constant w ∷ ms) e = cc
+inside_no_node n zero (M.Value x ∷ ms) e = cc
+inside_no_node n zero (M.Index x ∷ ms) e = cc
+inside_no_node n zero (M.Node k ∷ ms) e = cc
+inside_no_node n (suc i) (x ∷ ms) e = inside_no_node n i ms e
+
+pub are_inside : (t m : ℕ) (ms ns : List Meaning) → ns ≡ map constant_only ms → AreInUse t m ns
+are_inside t m ms ns e =
+    subst (AreInUse t m) (sym e) (record { below = λ i. inside_in_use t m i ms; apart = λ i j n f g. absurd (inside_no_node n i ms f) })
+
+pub inside_names : (names : Names) (ms : List Meaning) (fs : List (Option Field)) (ps : List (Option ℕ)) → ms ≡ map constant_only names.meanings → fs ≡ names.fields → ps ≡ names.procedures
+    → record { meanings = ms; fields = fs; procedures = ps; values = names.values; nodes = names.nodes; loops = 0 } ≡ inside names
+inside_names names ms fs ps e f g = rw (e, f, g) refl
+
+nothing_in : (n i : ℕ) → get_or (replicate n M.Nothing) i M.Nothing ≡ M.Nothing
+nothing_in zero i = refl
+nothing_in (suc n) zero = refl
+nothing_in (suc n) (suc i) = nothing_in n i
+
+no_node : (n : ℕ) → M.Nothing ≡ M.Node n → ⊥
+no_node n e = cc
+
+-- names without a meaning
+pub none_in_use : (ms : List Meaning) (n : ℕ) → ms ≡ replicate n M.Nothing → AreInUse 0 0 ms
+none_in_use ms n e =
+    subst (AreInUse 0 0) (sym e) (record { below = λ i. subst (IsBelow 0 0) (sym (nothing_in n i)) tt; apart = λ i j k f g. absurd (no_node k (sym (nothing_in n i) ∙ f)) })
 
 pub same_numbers : (t m u k : ℕ) (ms ns : List Meaning) → AreInUse t m ms → u ≡ t → k ≡ m → ns ≡ ms → AreInUse u k ns
 same_numbers t m u k ms ns h e f g = rw (e, f, g) h

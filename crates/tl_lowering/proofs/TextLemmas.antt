@@ -1,18 +1,19 @@
 -- The declarations of a text, and its procedures.
-use Rattle.std.proofs.Common.{◌≡◌, ◌∙◌, ℕ, zero, suc, ◌+◌, ◌<◌, List, [], ◌∷◌, ◌++◌, length, take, get_or, false, ℤ, None, Some, refl, sym, ap, subst, append-nil, append_assoc, arith}
+use Rattle.std.proofs.Common.{◌≡◌, ◌∙◌, ℕ, zero, suc, ◌+◌, ◌<◌, List, [], ◌∷◌, ◌++◌, length, length-take, take, get_or, ℤ, None, Some, refl, sym, ap, subst, append-nil, append_assoc, arith}
 use Rattle.std.specs.Prelude.{slice_get}
 use Rattle.std.specs.Borrow.{Bor}
 use Rattle.std.proofs.lemmas.List.{take_more}
 use Rattle.tl_syntax.specs.declared.parsed.Name.{Name}
 use Rattle.tl_syntax.specs.declared.parsed.Expression.{Expression as TextExpression}
+use Rattle.tl_syntax.specs.declared.parsed.Part.{Part}
 use Rattle.tl_syntax.specs.declared.parsed.Declaration.{Declaration}
 use Rattle.tl_syntax.specs.declared.parsed.Declaration.TheVariants as D
 use Rattle.tl_syntax.specs.declared.parsed.Procedure.{Procedure as TextProcedure}
 use Rattle.tl_syntax.specs.Tokens.{spellings}
 use Rattle.tl_lowering.specs.declared.program.Procedure.{Procedure}
-use Rattle.tl_lowering.specs.Names.{Names, IsNew, AreNew, is_procedure, with_procedure, with_constant, with_value, with_values}
+use Rattle.tl_lowering.specs.Names.{Names, IsNew, AreNew, index_of, with_procedure, with_constant, with_value, with_values}
 use Rattle.tl_lowering.specs.Naming.{IsConstant}
-use Rattle.tl_lowering.specs.Reading.{IsWithField, IsProcedure, AreDeclared, none_declared, next_field, next_constant, next_procedure}
+use Rattle.tl_lowering.specs.Reading.{IsWithField, IsProcedure, AreDeclared, none_declared, next_field, next_constant, next_procedure, next_part}
 
 -- ---- arguments
 
@@ -43,40 +44,57 @@ count_values names (x ∷ xs) = let h = count_values (with_value names x) xs in 
 
 -- for any declarations that follow, those that were read declare these procedures
 abbrev pub AreSoFar : List (List ℕ) → Names → List Declaration → List Procedure → Names → Type 0
-AreSoFar spellings names before ps now =
-    (rest : List Declaration) (more : List Procedure) → AreDeclared spellings now rest more → AreDeclared spellings names (before ++ rest) (ps ++ more)
+AreSoFar spellings names read ps now =
+    (rest : List Declaration) (more : List Procedure) → AreDeclared spellings read now rest more → AreDeclared spellings [] names (read ++ rest) (ps ++ more)
 
 pub none_so_far : {spellings : List (List ℕ)} {names : Names} {ps : List Procedure} → ps ≡ [] → AreSoFar spellings names [] ps names
-none_so_far {spellings} {names} e rest more h = subst (λ z. AreDeclared spellings names rest (z ++ more)) (sym e) h
+none_so_far {spellings} {names} e rest more h = subst (λ z. AreDeclared spellings [] names rest (z ++ more)) (sym e) h
+
+another : (xs : List Declaration) (i : ℕ) (x : Declaration) → i < length xs → x ≡ get_or xs i x → take (i + 1) xs ≡ take i xs ++ x ∷ []
+another xs i x lt f = take_more xs i x lt ∙ ap (λ z. take i xs ++ z ∷ []) (sym f)
 
 one_more : {spellings : List (List ℕ)} {names : Names} (xs : List Declaration) (i : ℕ) (x : Declaration) (rest : List Declaration) (all : List Procedure) → i < length xs → x ≡ get_or xs i x
-    → AreDeclared spellings names (take i xs ++ x ∷ rest) all → AreDeclared spellings names (take (i + 1) xs ++ rest) all
+    → AreDeclared spellings [] names (take i xs ++ x ∷ rest) all → AreDeclared spellings [] names (take (i + 1) xs ++ rest) all
 one_more {spellings} {names} xs i x rest all lt f h =
-    let e : take (i + 1) xs ≡ take i xs ++ x ∷ [] = take_more xs i x lt ∙ ap (λ z. take i xs ++ z ∷ []) (sym f) in
-    subst (λ z. AreDeclared spellings names z all) (sym (ap (λ z. z ++ rest) e ∙ append_assoc (take i xs) (x ∷ []) rest)) h
+    subst (λ z. AreDeclared spellings [] names z all) (sym (ap (λ z. z ++ rest) (another xs i x lt f) ∙ append_assoc (take i xs) (x ∷ []) rest)) h
 
 module _ {spellings : List (List ℕ)} {names old : Names} (new : Names) (ps : List Procedure) (xs : List Declaration) (i : ℕ) (x : Declaration) (lt : i < length xs) (f : x ≡ get_or xs i x)
     (part : AreSoFar spellings names (take i xs) ps old) where
+  -- what is declared behind x
+  behind : (d : Declaration) {now : Names} {rest : List Declaration} {more : List Procedure} → x ≡ d → new ≡ now → AreDeclared spellings (take (i + 1) xs) new rest more →
+      AreDeclared spellings (take i xs ++ d ∷ []) now rest more
+  behind d {now} {rest} {more} e g h =
+      subst (λ z. AreDeclared spellings (take i xs ++ z ∷ []) now rest more) e
+      (subst (λ n. AreDeclared spellings (take i xs ++ x ∷ []) n rest more) g (subst (λ l. AreDeclared spellings l new rest more) (another xs i x lt f) h))
+
   pub field_more : {name : Name} {number : ℤ} {offset : ℕ} → x ≡ D.Field name number offset → IsWithField old name number new → AreSoFar spellings names (take (i + 1) xs) ps new
-  field_more e g rest more h =
-      one_more xs i x rest (ps ++ more) lt f (part (x ∷ rest) more (subst (λ d. AreDeclared spellings old (d ∷ rest) more) (sym e) (next_field g h)))
+  field_more {name} {number} {offset} e g rest more h =
+      one_more xs i x rest (ps ++ more) lt f
+      (part (x ∷ rest) more (subst (λ d. AreDeclared spellings (take i xs) old (d ∷ rest) more) (sym e) (next_field g (behind (D.Field name number offset) e refl h))))
 
   pub constant_more : {name : Name} {value : TextExpression} {number : ℤ} → x ≡ D.Constant name value → IsNew old name → IsConstant old value.form number → new ≡ with_constant old name number
       → AreSoFar spellings names (take (i + 1) xs) ps new
-  constant_more e fresh is g rest more h =
+  constant_more {name} {value} e fresh is g rest more h =
       one_more xs i x rest (ps ++ more) lt f
-      (part (x ∷ rest) more (subst (λ d. AreDeclared spellings old (d ∷ rest) more) (sym e) (next_constant fresh is (subst (λ n. AreDeclared spellings n rest more) g h))))
+      (part (x ∷ rest) more (subst (λ d. AreDeclared spellings (take i xs) old (d ∷ rest) more) (sym e) (next_constant fresh is (behind (D.Constant name value) e g h))))
 
-  pub procedure_more : {text : TextProcedure} {p : Procedure} (qs : List Procedure) → x ≡ D.Procedure text → is_procedure old text.name ≡ false
-      → IsProcedure spellings (with_procedure old text.name) text p → new ≡ with_procedure old text.name → qs ≡ ps ++ p ∷ [] → AreSoFar spellings names (take (i + 1) xs) qs new
-  procedure_more {p = p} qs e fresh g k q rest more h =
+  pub procedure_more : {text : TextProcedure} {p : Procedure} (qs : List Procedure) → x ≡ D.Procedure text → index_of old text.name ≡ None
+      → IsProcedure spellings (take i xs) (with_procedure old text.name (length (take i xs))) text p → new ≡ with_procedure old text.name (length (take i xs)) → qs ≡ ps ++ p ∷ []
+      → AreSoFar spellings names (take (i + 1) xs) qs new
+  procedure_more {text} {p = p} qs e fresh g k q rest more h =
       one_more xs i x rest (qs ++ more) lt f
-      (subst (AreDeclared spellings names (take i xs ++ x ∷ rest)) (sym (ap (λ z. z ++ more) q ∙ append_assoc ps (p ∷ []) more))
-      (part (x ∷ rest) (p ∷ more) (subst (λ d. AreDeclared spellings old (d ∷ rest) (p ∷ more)) (sym e) (next_procedure fresh g (subst (λ n. AreDeclared spellings n rest more) k h)))))
+      (subst (AreDeclared spellings [] names (take i xs ++ x ∷ rest)) (sym (ap (λ z. z ++ more) q ∙ append_assoc ps (p ∷ []) more))
+      (part (x ∷ rest) (p ∷ more) (subst (λ d. AreDeclared spellings (take i xs) old (d ∷ rest) (p ∷ more)) (sym e) (next_procedure fresh g (behind (D.Procedure text) e k h)))))
 
-pub all_so_far : {spellings : List (List ℕ)} {names now : Names} {before : List Declaration} {ps : List Procedure} → AreSoFar spellings names before ps now → AreDeclared spellings names before ps
-all_so_far {spellings} {names} {before = before} {ps = ps} part =
-    subst (λ z. AreDeclared spellings names z ps) (append-nil before) (subst (AreDeclared spellings names (before ++ [])) (append-nil ps) (part [] [] none_declared))
+  pub part_more : {p : Part} → x ≡ D.Part p → index_of old p.name ≡ None → new ≡ with_procedure old p.name i → AreSoFar spellings names (take (i + 1) xs) ps new
+  part_more {p} e fresh g rest more h =
+      let count : i ≡ length (take i xs) = omega (arith, length-take i xs) in
+      one_more xs i x rest (ps ++ more) lt f
+      (part (x ∷ rest) more (subst (λ d. AreDeclared spellings (take i xs) old (d ∷ rest) more) (sym e) (next_part fresh (behind (D.Part p) e (g ∙ ap (with_procedure old p.name) count) h))))
+
+pub all_so_far : {spellings : List (List ℕ)} {names now : Names} {read : List Declaration} {ps : List Procedure} → AreSoFar spellings names read ps now → AreDeclared spellings [] names read ps
+all_so_far {spellings} {names} {read = read} {ps = ps} part =
+    subst (λ z. AreDeclared spellings [] names z ps) (append-nil read) (subst (AreDeclared spellings [] names (read ++ [])) (append-nil ps) (part [] [] none_declared))
 
 -- ---- the spelling of a name
 

@@ -12,14 +12,14 @@ use Rattle.tl_syntax.specs.declared.parsed.Name.{Name}
 use Rattle.tl_syntax.specs.declared.token.Symbol.{Symbol}
 use Rattle.tl_syntax.specs.declared.token.Token.{Token}
 use Rattle.tl_syntax.specs.declared.token.TokenKind.TheVariants as K
-use Rattle.tl_syntax.specs.Declarations.{IsProcedure as IsText, procedure, procedure_else, IsDeclaration, field, constant, procedures, AreDeclarations, no_more, next}
+use Rattle.tl_syntax.specs.Declarations.{IsProcedure as IsText, procedure, procedure_else, IsDeclaration, field, constant, procedures, parts, AreDeclarations, no_more, next}
 use Rattle.tl_syntax.specs.Grammar.{kind_at, IsName}
 use Rattle.tl_syntax.specs.Tokens.{stays_word, starts_word, word_left, IsReserved, IsLongSign, IsShortSign, Begins, blank, comment, word, digits, long, short, IsToken, reserved, name, sign, AreTokens, end, token}
 use Rattle.tl_syntax.specs.Text.{IsText as IsSpelled}
 use Rattle.tl_lowering.specs.declared.program.Procedure.{Procedure}
 use Rattle.tl_lowering.specs.Fit.{IsWord}
 use Rattle.tl_lowering.specs.Names.{Names}
-use Rattle.tl_lowering.specs.Reading.{AreDeclared, none_declared, next_field, next_constant, next_procedure}
+use Rattle.tl_lowering.specs.Reading.{AreDeclared, none_declared, next_field, next_constant, next_procedure, next_part}
 
 yes : (b : Bool) → not b ≡ false → IsTrue b
 yes true e = refl
@@ -83,6 +83,7 @@ abbrev pub IsNamed : List (List ℕ) → Declaration → Type 0
 IsNamed names (D.Field n w offset) = Unit {0}
 IsNamed names (D.Constant n e) = Unit {0}
 IsNamed names (D.Procedure text) = IsWord (get_or names text.name.symbol.0 [])
+IsNamed names (D.Part p) = Unit {0}
 
 module _ {names : List (List ℕ)} {text : List ℕ} {tokens : List Token} (read : AreTokens names 0 text tokens) where
   of_name : {i j : ℕ} {n : Name} → IsName tokens i j n → IsWord (get_or names n.symbol.0 [])
@@ -96,20 +97,22 @@ module _ {names : List (List ℕ)} {text : List ℕ} {tokens : List Token} (read
   of_declaration (field f n a m s o) = tt
   of_declaration (constant c n a m s) = tt
   of_declaration (procedures p) = of_procedure p
+  of_declaration (parts p) = tt
 
   of_declarations : {i j : ℕ} {ds : List Declaration} → AreDeclarations tokens i j ds → All (IsNamed names) ds
   of_declarations no_more = All-nil (IsNamed names)
   of_declarations (next {ds = ds} {d = d} before d_is) = All-push (IsNamed names) ds d (of_declarations before) (of_declaration d_is)
 
-declared : {spellings : List (List ℕ)} {names : Names} {ds : List Declaration} {ps : List Procedure} → AreDeclared spellings names ds ps → All (IsNamed spellings) ds
+declared : {spellings : List (List ℕ)} {before : List Declaration} {names : Names} {ds : List Declaration} {ps : List Procedure} → AreDeclared spellings before names ds ps → All (IsNamed spellings) ds
     → All (λ (p : Procedure). IsWord p.name.items) ps
 declared none_declared h = All-nil _
 declared {spellings} (next_field {name = n} {number = w} {offset = offset} {rest = rest} f more) h = declared more (All-tail (IsNamed spellings) (D.Field n w offset) rest h)
 declared {spellings} (next_constant {name = n} {value = e} {rest = rest} fresh is more) h = declared more (All-tail (IsNamed spellings) (D.Constant n e) rest h)
+declared {spellings} (next_part {part = p} {rest = rest} fresh more) h = declared more (All-tail (IsNamed spellings) (D.Part p) rest h)
 declared {spellings} (next_procedure {text = text} {p = p} {rest = rest} {ps = ps} fresh is more) h =
     All-cons (λ (p : Procedure). IsWord p.name.items) p ps (subst IsWord (sym is.name) (All-head (IsNamed spellings) (D.Procedure text) rest h))
     (declared more (All-tail (IsNamed spellings) (D.Procedure text) rest h))
 
-pub are_words : {text : List ℕ} {names : List (List ℕ)} {known : Names} {ds es : List Declaration} {ps : List Procedure} → IsSpelled text names ds → es ≡ ds → AreDeclared names known es ps
+pub are_words : {text : List ℕ} {names : List (List ℕ)} {known : Names} {ds es : List Declaration} {ps : List Procedure} → IsSpelled text names ds → es ≡ ds → AreDeclared names [] known es ps
     → All (λ (p : Procedure). IsWord p.name.items) ps
-are_words {names = names} {known = known} {ps = ps} h e d = declared (subst (λ z. AreDeclared names known z ps) e d) (of_declarations h.read h.spelled.declarations)
+are_words {names = names} {known = known} {ps = ps} h e d = declared (subst (λ z. AreDeclared names [] known z ps) e d) (of_declarations h.read h.spelled.declarations)

@@ -5,6 +5,7 @@ use Rattle.tl_syntax.specs.declared.parsed.Name.{Name}
 use Rattle.tl_syntax.specs.declared.parsed.Form.{Form}
 use Rattle.tl_syntax.specs.declared.parsed.Expression.{Expression as TextExpression}
 use Rattle.tl_syntax.specs.declared.parsed.Place.{Place as TextPlace}
+use Rattle.tl_syntax.specs.declared.parsed.Declaration.{Declaration}
 use Rattle.tl_syntax.specs.declared.parsed.Question.{Question}
 use Rattle.tl_syntax.specs.declared.parsed.Question.TheVariants as Q
 use Rattle.tl_syntax.specs.declared.parsed.Statement.{Statement as TextStatement}
@@ -69,7 +70,7 @@ pub data IsTurning (body : Statement) : Repetition → Statement → Type 0 wher
   turning_children : {v : Visit} {whole : Statement} → IsVisiting v.index v.child v.parent v.turns body whole →
       IsTurning body (R.Children v) whole
 
-pub record IsLoop (names : Names) (repetition : Repetition) (block : List TextStatement) (whole : Statement) : Type 0 where
+pub record IsLoop (before : List Declaration) (names : Names) (repetition : Repetition) (block : List TextStatement) (whole : Statement) : Type 0 where
   pub body : Statement
-  pub body_is : IsBlock (names_within names repetition) block body
+  pub body_is : IsBlock before (names_within names repetition) block body
   pub whole_is : IsTurning body repetition whole

@@ -1,10 +1,14 @@
 -- The part of a block that has been read, and what the whole block is lowered to.
-use Rattle.std.specs.Prelude.{◌≡◌, ℕ, List, [], ◌∷◌, ◌++◌, Bool, false, Option, None, Some, reverse}
+use Rattle.std.specs.Prelude.{◌≡◌, ℕ, ◌+◌, ◌≤◌, List, [], ◌∷◌, ◌++◌, Bool, false, Option, None, Some, reverse, take, slice_get}
+use Rattle.tl_budget.specs.declared.limits.TheConstants.{MAX_DEPTH}
 use Rattle.tl_syntax.specs.declared.parsed.Name.{Name}
 use Rattle.tl_syntax.specs.declared.parsed.Expression.{Expression as TextExpression}
 use Rattle.tl_syntax.specs.declared.parsed.Place.{Place as TextPlace}
 use Rattle.tl_syntax.specs.declared.parsed.Action.{Action}
 use Rattle.tl_syntax.specs.declared.parsed.Action.TheVariants as A
+use Rattle.tl_syntax.specs.declared.parsed.Declaration.{Declaration}
+use Rattle.tl_syntax.specs.declared.parsed.Declaration.TheVariants as D
+use Rattle.tl_syntax.specs.declared.parsed.Part.{Part}
 use Rattle.tl_syntax.specs.declared.parsed.Otherwise.{Otherwise, out-Otherwise}
 use Rattle.tl_syntax.specs.declared.parsed.Statement.{Statement as TextStatement}
 use Rattle.tl_syntax.specs.declared.parsed.StatementForm.{StatementForm}
@@ -22,10 +26,11 @@ use Rattle.tl_lowering.specs.declared.program.Place.{Place}
 use Rattle.tl_lowering.specs.declared.program.Statement.{Statement}
 use Rattle.tl_lowering.specs.declared.program.Statement.TheVariants as S
 use Rattle.tl_lowering.specs.Registers.{HasTemporaries}
-use Rattle.tl_lowering.specs.Names.{Names, IsNew, HasValue, with_value, with_place}
+use Rattle.tl_lowering.specs.Fit.{loops}
+use Rattle.tl_lowering.specs.Names.{Names, index_of, inside, IsNew, HasValue, with_value, with_place}
 use Rattle.tl_lowering.specs.Naming.{IsNumber, IsPlace, Locks, IsHalved, declares}
 use Rattle.tl_lowering.specs.Paths.{known}
-use Rattle.tl_lowering.specs.Reading.{Leaves, IsAtOffset, IsTried, IsBlock, AreStatements}
+use Rattle.tl_lowering.specs.Reading.{Leaves, IsAtOffset, IsTried, IsBlock, AreStatements, IsGiven}
 
 -- ---- a declaration
 
@@ -48,13 +53,13 @@ IsHeadOf names form None = opens form ≡ false
 IsHeadOf names form (Some head) = IsOpening names form head
 
 -- the `else` of a declaration, if there is one
-pub data IsElse (names : Names) (form : StatementForm) : Option (Statement × Flow) → Type 0 where
-  no_else : {action : Action} → form ≡ T.Act action None → IsElse names form None
+pub data IsElse (before : List Declaration) (names : Names) (form : StatementForm) : Option (Statement × Flow) → Type 0 where
+  no_else : {action : Action} → form ≡ T.Act action None → IsElse before names form None
   one_else : {action : Action} {o : Otherwise} {a : Statement} {flow : Flow} → form ≡ T.Act action (Some o) →
-      IsBlock names (out-Otherwise o).body.items a → IsElse names form (Some (a, flow))
+      IsBlock before names (out-Otherwise o).body.items a → IsElse before names form (Some (a, flow))
 
-abbrev pub IsElseOf : Names → StatementForm → Option (Statement × Flow) → Type 0
-IsElseOf names form other = (action : Action) (o : Option Otherwise) → form ≡ T.Act action o → IsElse names form other
+abbrev pub IsElseOf : List Declaration → Names → StatementForm → Option (Statement × Flow) → Type 0
+IsElseOf before names form other = (action : Action) (o : Option Otherwise) → form ≡ T.Act action o → IsElse before names form other
 
 -- a missing `else` fails
 abbrev pub other_of : Option (Statement × Flow) → Statement
@@ -62,17 +67,17 @@ other_of None = S.Fail
 other_of (Some other) = other.0
 
 -- a declaration with its `else`, and the meanings of names after it
-pub data Opens (names : Names) (form : StatementForm) : Binding → Names → Type 0 where
+pub data Opens (before : List Declaration) (names : Names) (form : StatementForm) : Binding → Names → Type 0 where
   opens_value : {name : Name} {number : TextExpression} {x : ℕ} {e : Expression} → form ≡ T.Act (A.Let name number) None →
-      x ≡ names.values → IsNew names name → HasValue names → IsNumber names number.form e → HasTemporaries e names.values → Opens names form (B.Value x e) (with_value names name)
+      x ≡ names.values → IsNew names name → HasValue names → IsNumber names number.form e → HasTemporaries e names.values → Opens before names form (B.Value x e) (with_value names name)
   opens_value_else : {name : Name} {number : TextExpression} {o : Otherwise} {x : ℕ} {e : Expression} {other : Statement} →
       form ≡ T.Act (A.Let name number) (Some o) → x ≡ names.values → IsNew names name → HasValue names → IsNumber names number.form e → HasTemporaries e names.values →
-      IsBlock names (out-Otherwise o).body.items other → Leaves other → Opens names form (B.ValueElse x e other) (with_value names name)
+      IsBlock before names (out-Otherwise o).body.items other → Leaves other → Opens before names form (B.ValueElse x e other) (with_value names name)
   opens_nodes : {text : TextPlace} {place : Place} → form ≡ T.Act (A.Lock text) None → IsPlace names text place →
-      Opens names form (B.Nodes place S.Fail) (with_place names text)
+      Opens before names form (B.Nodes place S.Fail) (with_place names text)
   opens_nodes_else : {text : TextPlace} {o : Otherwise} {place : Place} {other : Statement} → form ≡ T.Act (A.Lock text) (Some o) →
-      IsPlace names text place → IsBlock names (out-Otherwise o).body.items other → Leaves other →
-      Opens names form (B.Nodes place other) (with_place names text)
+      IsPlace names text place → IsBlock before names (out-Otherwise o).body.items other → Leaves other →
+      Opens before names form (B.Nodes place other) (with_place names text)
 
 -- the declaration with the rest of its block
 pub data Binds : Binding → Statement → Statement → Type 0 where
@@ -113,13 +118,23 @@ abbrev pub MayFollow : Flow → List TextStatement → Type 0
 MayFollow flow rest = known flow.after ≡ None → rest ≡ []
 
 -- the block is still lowered to `all` if s and then the rest follow the part that was read
-pub record IsExtended (names : Names) (s : TextStatement) (rest : List TextStatement) (draft : Draft) (all : List Statement) : Type 0 where
+pub record IsExtended (before : List Declaration) (names : Names) (s : TextStatement) (rest : List TextStatement) (draft : Draft) (all : List Statement) : Type 0 where
   pub items : List Statement
-  pub are : AreStatements names (s ∷ rest) items
+  pub are : AreStatements before names (s ∷ rest) items
   pub becomes : Becomes draft items all
 
 -- a statement with the block of its `else`
-pub record IsHandled (names : Names) (body : Statement) (handler : List TextStatement) (whole : Statement) : Type 0 where
+pub record IsHandled (before : List Declaration) (names : Names) (body : Statement) (handler : List TextStatement) (whole : Statement) : Type 0 where
   pub other : Statement
-  pub block : IsBlock names handler other
+  pub block : IsBlock before names handler other
   pub tried : IsTried body other whole
+
+-- ---- a part where it is used
+
+pub record IsUsed (before : List Declaration) (names : Names) (name : Name) (arguments : List TextExpression) (whole : Statement) : Type 0 where
+  pub index : ℕ
+  pub part : Part
+  pub index_is : index_of names name ≡ Some index
+  pub part_is : slice_get before index ≡ Some (D.Part part)
+  pub given : IsGiven (take index before) names (inside names) part.parameters.items arguments part.body.items whole
+  pub nests : names.loops + loops whole ≤ MAX_DEPTH

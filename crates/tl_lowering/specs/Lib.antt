@@ -4,10 +4,10 @@ pub mod Blocks
 pub mod Choosing
 pub mod Computing
 pub mod Declaring
-pub mod Descending
 pub mod Drafts
 pub mod Entering
 pub mod Fit
+pub mod Giving
 pub mod Lowering
 pub mod Names
 pub mod Naming

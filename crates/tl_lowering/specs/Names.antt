@@ -1,5 +1,5 @@
 -- The meanings of a text's names at a position.
-use Rattle.std.specs.Prelude.{◌≡◌, ℕ, ◌+◌, ◌<◌, List, [], ◌∷◌, Bool, true, false, Option, Some, None, slice_set, get_or, replicate, ℤ}
+use Rattle.std.specs.Prelude.{◌≡◌, ◌≢◌, ℕ, ◌+◌, ◌<◌, List, [], ◌∷◌, map, Option, Some, None, slice_set, get_or, replicate, ℤ}
 use Rattle.tl_budget.specs.declared.limits.TheConstants.{MAX_DEPTH}
 use Rattle.tl_instr.specs.declared.operand.Field.{Field}
 use Rattle.tl_instr.specs.declared.operand.TheConstants.{VALUE_REGISTERS, NODE_REGISTERS}
@@ -11,12 +11,12 @@ use Rattle.tl_syntax.specs.declared.parsed.Name.{Name}
 use Rattle.tl_syntax.specs.declared.parsed.Place.{Place}
 use Rattle.tl_syntax.specs.declared.parsed.Place.TheVariants as P
 
--- the lists have, at the index of a symbol, its meaning, its field and whether it names a procedure; the numbers count
--- value registers in use, node registers in use, and loops around the position
+-- the lists have, at the index of a symbol, its meaning, its field and the index of the declaration of the procedure or the part
+-- that it names; the numbers count value registers in use, node registers in use, and loops around the position
 pub record Names : Type 0 where
   pub meanings : List Meaning
   pub fields : List (Option Field)
-  pub procedures : List Bool
+  pub procedures : List (Option ℕ)
   pub values : ℕ
   pub nodes : ℕ
   pub loops : ℕ
@@ -29,7 +29,7 @@ names_of scope = names_in (view_of scope)
 
 -- `count` names without a meaning
 abbrev pub without_meaning : ℕ → Names
-without_meaning count = record { meanings = replicate count M.Nothing; fields = replicate count None; procedures = replicate count false; values = 0; nodes = 0; loops = 0 }
+without_meaning count = record { meanings = replicate count M.Nothing; fields = replicate count None; procedures = replicate count None; values = 0; nodes = 0; loops = 0 }
 
 abbrev pub stands_for : Names → Name → Meaning
 stands_for names name = get_or names.meanings name.symbol.0 M.Nothing
@@ -52,8 +52,9 @@ HasLoop names = names.loops < MAX_DEPTH
 abbrev pub field_named : Names → Name → Option Field
 field_named names name = get_or names.fields name.symbol.0 None
 
-abbrev pub is_procedure : Names → Name → Bool
-is_procedure names name = get_or names.procedures name.symbol.0 false
+-- the index of the declaration of the procedure or the part of that name
+abbrev pub index_of : Names → Name → Option ℕ
+index_of names name = get_or names.procedures name.symbol.0 None
 
 -- from here on the name has this meaning
 abbrev pub with_meaning : Names → Name → Meaning → Names
@@ -65,9 +66,29 @@ with_constant names name number = with_meaning names name (M.Constant number)
 abbrev pub with_field : Names → Name → Field → Names
 with_field names name field = record names { fields = slice_set names.fields name.symbol.0 (Some field) }
 
--- the name is also the name of a procedure
-abbrev pub with_procedure : Names → Name → Names
-with_procedure names name = record names { procedures = slice_set names.procedures name.symbol.0 true }
+-- the name is also the name of a procedure or a part, which the declaration with this index declares
+abbrev pub with_procedure : Names → Name → ℕ → Names
+with_procedure names name index = record names { procedures = slice_set names.procedures name.symbol.0 (Some index) }
+
+-- in a part of all names only constants are known
+abbrev pub constant_only : Meaning → Meaning
+constant_only M.Nothing = M.Nothing
+constant_only (M.Constant w) = M.Constant w
+constant_only (M.Value x) = M.Nothing
+constant_only (M.Index x) = M.Nothing
+constant_only (M.Node n) = M.Nothing
+
+-- in a part that is used where names have these meanings; its loops are counted from 0
+abbrev pub inside : Names → Names
+inside names = record names { meanings = map constant_only names.meanings; loops = 0 }
+
+-- no name denotes this node register
+abbrev pub IsUnnamed : Names → ℕ → Type 0
+IsUnnamed names n = (i : ℕ) → get_or names.meanings i M.Nothing ≢ M.Node n
+
+-- the name denotes the node in this register
+abbrev pub with_alias : Names → Name → ℕ → Names
+with_alias names name n = with_meaning names name (M.Node n)
 
 -- the name, if it is given, denotes the index of a loop's child: a value that can't be assigned, in the next register
 abbrev pub meanings_with : Names → Option Name → List Meaning

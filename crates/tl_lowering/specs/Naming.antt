@@ -206,7 +206,12 @@ declares (A.Let name e) = true
 declares (A.Lock p) = true
 declares action = false
 
--- an action that declares nothing
+-- whether the action uses a part
+abbrev pub uses : Action → Bool
+uses (A.Use name arguments) = true
+uses action = false
+
+-- an action that declares nothing and uses no part
 pub data IsAction (names : Names) : Action → Statement → Type 0 where
   assigns : {name : Name} {change : Change} {a : TextExpression} {x : ℕ} {e f : Expression} → stands_for names name ≡ M.Value x →
       IsNumber names a.form e → IsChanged (E.Value x) change e f → HasTemporaries f names.values →

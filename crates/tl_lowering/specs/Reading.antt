@@ -1,5 +1,6 @@
 -- The core forms of blocks, procedures and texts.
-use Rattle.std.specs.Prelude.{◌≡◌, ◌≤◌, ◌+◌, ℕ, List, [], ◌∷◌, true, false, Option, Some, None, length, get_or, ℤ, pos, neg_ℤ}
+use Rattle.std.specs.Prelude.{◌≡◌, ◌≤◌, ◌+◌, ℕ, List, [], ◌∷◌, ◌++◌, true, Option, Some, None, length, take, get_or, slice_get, ℤ, pos, neg_ℤ}
+use Rattle.tl_budget.specs.declared.limits.TheConstants.{MAX_DEPTH}
 use Rattle.std.specs.declared.vec.Vec.{Vec}
 use Rattle.std.specs.declared.alloc.Global.{Global}
 use Rattle.tl_syntax.specs.declared.operator.Operator.TheVariants as O
@@ -14,6 +15,9 @@ use Rattle.tl_syntax.specs.declared.parsed.Statement.{Statement as TextStatement
 use Rattle.tl_syntax.specs.declared.parsed.StatementForm.{StatementForm}
 use Rattle.tl_syntax.specs.declared.parsed.StatementForm.TheVariants as T
 use Rattle.tl_syntax.specs.declared.parsed.Procedure.{Procedure as TextProcedure}
+use Rattle.tl_syntax.specs.declared.parsed.Parameter.{Parameter}
+use Rattle.tl_syntax.specs.declared.parsed.Parameter.TheVariants as G
+use Rattle.tl_syntax.specs.declared.parsed.Part.{Part}
 use Rattle.tl_syntax.specs.declared.parsed.Declaration.{Declaration}
 use Rattle.tl_syntax.specs.declared.parsed.Declaration.TheVariants as D
 use Rattle.tl_syntax.specs.Text.{IsText}
@@ -30,10 +34,12 @@ use Rattle.tl_lowering.specs.declared.program.Statement.TheVariants as S
 use Rattle.tl_lowering.specs.declared.program.Procedure.{Procedure}
 use Rattle.tl_lowering.specs.declared.scope.Meaning.TheVariants as M
 use Rattle.tl_lowering.specs.Atomic.{IsAtomic}
+use Rattle.tl_lowering.specs.Fit.{loops}
+use Rattle.tl_lowering.specs.Giving.{IsNodeGiven, IsValueGiven}
 use Rattle.tl_lowering.specs.Outcomes.{after}
 use Rattle.tl_lowering.specs.Sets.{Nodes}
 use Rattle.tl_lowering.specs.Registers.{behind, HasTemporaries, HasRegisters}
-use Rattle.tl_lowering.specs.Names.{Names, without_meaning, stands_for, IsNew, HasNode, HasValue, HasLoop, in_loop, with_constant, with_field, is_procedure, with_procedure, with_index, with_value, with_values, AreNew, AreFresh, field_named, with_node, with_place}
+use Rattle.tl_lowering.specs.Names.{Names, without_meaning, stands_for, IsNew, HasNode, HasValue, HasLoop, in_loop, with_constant, with_field, index_of, inside, with_procedure, with_index, with_value, with_values, AreNew, AreFresh, field_named, with_node, with_place}
 use Rattle.tl_lowering.specs.Naming.{IsCalculated, IsNumber, IsConstant, IsCount, IsNot, IsCondition, IsPlace, IsAction, IsThen, IsHalved}
 
 -- a statement with its offset in the text
@@ -58,81 +64,102 @@ pub data IsVisiting (index child parent turns : ℕ) (body : Statement) : Statem
       IsVisiting index child parent turns body whole
 
 mutual
-  pub data IsBlock : Names → List TextStatement → Statement → Type 0 where
-    block : {names : Names} {statements : List TextStatement} {parts : List Statement} {whole : Statement} →
-        AreStatements names statements parts → IsHalved whole parts → IsBlock names statements whole
+  pub data IsBlock : List Declaration → Names → List TextStatement → Statement → Type 0 where
+    block : {before : List Declaration} {names : Names} {statements : List TextStatement} {parts : List Statement} {whole : Statement} →
+        AreStatements before names statements parts → IsHalved whole parts → IsBlock before names statements whole
 
   -- the rest of the block after a `let` or a `lock` is the body of that declaration; its `else` leaves the block
-  pub data AreStatements : Names → List TextStatement → List Statement → Type 0 where
-    no_more : {names : Names} → AreStatements names [] []
+  pub data AreStatements : List Declaration → Names → List TextStatement → List Statement → Type 0 where
+    no_more : {before : List Declaration} {names : Names} → AreStatements before names [] []
     -- no statement follows one that leaves the block
-    next : {names : Names} {s : TextStatement} {rest : List TextStatement} {a b : Statement} {parts : List Statement} →
-        IsStatement names s.form a → IsAtOffset s.offset a b → AreStatements names rest parts → (Leaves a → rest ≡ []) →
-        AreStatements names (s ∷ rest) (b ∷ parts)
-    let_rest : {names : Names} {s : TextStatement} {rest : List TextStatement} {name : Name} {number : TextExpression} {e : Expression}
+    next : {before : List Declaration} {names : Names} {s : TextStatement} {rest : List TextStatement} {a b : Statement} {parts : List Statement} →
+        IsStatement before names s.form a → IsAtOffset s.offset a b → AreStatements before names rest parts → (Leaves a → rest ≡ []) →
+        AreStatements before names (s ∷ rest) (b ∷ parts)
+    let_rest : {before : List Declaration} {names : Names} {s : TextStatement} {rest : List TextStatement} {name : Name} {number : TextExpression} {e : Expression}
         {p : _} {body a : Statement} → s.form ≡ T.Act (A.Let name number) None → IsNew names name → HasValue names →
-        IsNumber names number.form e → HasTemporaries e names.values → IsBlock (with_value names name) rest body → IsAtOffset s.offset (S.Let' names.values e p body) a →
-        AreStatements names (s ∷ rest) (a ∷ [])
-    let_else : {names : Names} {s : TextStatement} {rest : List TextStatement} {name : Name} {number : TextExpression} {o : Otherwise}
+        IsNumber names number.form e → HasTemporaries e names.values → IsBlock before (with_value names name) rest body → IsAtOffset s.offset (S.Let' names.values e p body) a →
+        AreStatements before names (s ∷ rest) (a ∷ [])
+    let_else : {before : List Declaration} {names : Names} {s : TextStatement} {rest : List TextStatement} {name : Name} {number : TextExpression} {o : Otherwise}
         {e : Expression} {p q : _} {body other a : Statement} → s.form ≡ T.Act (A.Let name number) (Some o) →
         IsNew names name → HasValue names → IsNumber names number.form e → HasTemporaries e names.values →
-        IsBlock names (out-Otherwise o).body.items other → Leaves other → IsBlock (with_value names name) rest body →
-        IsAtOffset s.offset (S.LetElse' names.values e p body q other) a → AreStatements names (s ∷ rest) (a ∷ [])
+        IsBlock before names (out-Otherwise o).body.items other → Leaves other → IsBlock before (with_value names name) rest body →
+        IsAtOffset s.offset (S.LetElse' names.values e p body q other) a → AreStatements before names (s ∷ rest) (a ∷ [])
     -- a missing `else` fails
-    lock_rest : {names : Names} {s : TextStatement} {rest : List TextStatement} {text : TextPlace} {place : Place} {p q : _}
+    lock_rest : {before : List Declaration} {names : Names} {s : TextStatement} {rest : List TextStatement} {text : TextPlace} {place : Place} {p q : _}
         {body a : Statement} → s.form ≡ T.Act (A.Lock text) None → IsPlace names text place →
-        IsBlock (with_place names text) rest body → IsAtOffset s.offset (S.Lock' place p body q S.Fail) a →
-        AreStatements names (s ∷ rest) (a ∷ [])
-    lock_else : {names : Names} {s : TextStatement} {rest : List TextStatement} {text : TextPlace} {o : Otherwise} {place : Place} {p q : _}
+        IsBlock before (with_place names text) rest body → IsAtOffset s.offset (S.Lock' place p body q S.Fail) a →
+        AreStatements before names (s ∷ rest) (a ∷ [])
+    lock_else : {before : List Declaration} {names : Names} {s : TextStatement} {rest : List TextStatement} {text : TextPlace} {o : Otherwise} {place : Place} {p q : _}
         {body other a : Statement} → s.form ≡ T.Act (A.Lock text) (Some o) → IsPlace names text place →
-        IsBlock names (out-Otherwise o).body.items other → Leaves other → IsBlock (with_place names text) rest body →
-        IsAtOffset s.offset (S.Lock' place p body q other) a → AreStatements names (s ∷ rest) (a ∷ [])
+        IsBlock before names (out-Otherwise o).body.items other → Leaves other → IsBlock before (with_place names text) rest body →
+        IsAtOffset s.offset (S.Lock' place p body q other) a → AreStatements before names (s ∷ rest) (a ∷ [])
 
   -- a statement that declares nothing for the rest of its block
-  pub data IsStatement : Names → StatementForm → Statement → Type 0 where
-    act : {names : Names} {action : Action} {a : Statement} → IsAction names action a → IsStatement names (T.Act action None) a
-    act_else : {names : Names} {action : Action} {o : Otherwise} {a handler whole : Statement} → IsAction names action a →
-        IsBlock names (out-Otherwise o).body.items handler → IsTried a handler whole → IsStatement names (T.Act action (Some o)) whole
-    try : {names : Names} (xs ys : Vec TextStatement Global) {body handler whole : Statement} → IsBlock names xs.items body →
-        IsBlock names ys.items handler → IsTried body handler whole → IsStatement names (T.Try xs ys) whole
-    if : {names : Names} {question : TextExpression} (xs ys : Vec TextStatement Global) {c : Condition} {p q : _} {a b : Statement} →
-        IsCondition names question.form c → IsBlock names xs.items a → IsBlock names ys.items b →
-        IsStatement names (T.If (Q.Condition question) xs ys) (S.If' c p a q b)
-    if_lock : {names : Names} {text : TextPlace} (xs ys : Vec TextStatement Global) {place : Place} {p q : _} {a b : Statement} →
-        IsPlace names text place → IsBlock (with_place names text) xs.items a → IsBlock names ys.items b →
-        IsStatement names (T.If (Q.Lock text) xs ys) (S.Lock' place p a q b)
-    repeat : {names : Names} {count : TextExpression} (xs : Vec TextStatement Global) {turns : ℕ} {p : _} {a : Statement} →
-        HasLoop names → IsCount names count.form turns → IsBlock (in_loop names) xs.items a → IsStatement names (T.Repeat count None xs) (S.Repeat' turns p a)
-    repeat_up_to : {names : Names} {number most : TextExpression} (xs : Vec TextStatement Global) {e : Expression} {turns : ℕ} {p : _}
+  pub data IsStatement : List Declaration → Names → StatementForm → Statement → Type 0 where
+    act : {before : List Declaration} {names : Names} {action : Action} {a : Statement} → IsActed before names action a → IsStatement before names (T.Act action None) a
+    act_else : {before : List Declaration} {names : Names} {action : Action} {o : Otherwise} {a handler whole : Statement} → IsActed before names action a →
+        IsBlock before names (out-Otherwise o).body.items handler → IsTried a handler whole → IsStatement before names (T.Act action (Some o)) whole
+    try : {before : List Declaration} {names : Names} (xs ys : Vec TextStatement Global) {body handler whole : Statement} → IsBlock before names xs.items body →
+        IsBlock before names ys.items handler → IsTried body handler whole → IsStatement before names (T.Try xs ys) whole
+    if : {before : List Declaration} {names : Names} {question : TextExpression} (xs ys : Vec TextStatement Global) {c : Condition} {p q : _} {a b : Statement} →
+        IsCondition names question.form c → IsBlock before names xs.items a → IsBlock before names ys.items b →
+        IsStatement before names (T.If (Q.Condition question) xs ys) (S.If' c p a q b)
+    if_lock : {before : List Declaration} {names : Names} {text : TextPlace} (xs ys : Vec TextStatement Global) {place : Place} {p q : _} {a b : Statement} →
+        IsPlace names text place → IsBlock before (with_place names text) xs.items a → IsBlock before names ys.items b →
+        IsStatement before names (T.If (Q.Lock text) xs ys) (S.Lock' place p a q b)
+    repeat : {before : List Declaration} {names : Names} {count : TextExpression} (xs : Vec TextStatement Global) {turns : ℕ} {p : _} {a : Statement} →
+        HasLoop names → IsCount names count.form turns → IsBlock before (in_loop names) xs.items a → IsStatement before names (T.Repeat count None xs) (S.Repeat' turns p a)
+    repeat_up_to : {before : List Declaration} {names : Names} {number most : TextExpression} (xs : Vec TextStatement Global) {e : Expression} {turns : ℕ} {p : _}
         {a : Statement} → HasLoop names → IsNumber names number.form e → HasRegisters e names.values →
-        behind e names.values + 1 ≤ VALUE_REGISTERS → IsCount names most.form turns → IsBlock (in_loop names) xs.items a →
-        IsStatement names (T.Repeat number (Some most) xs) (S.RepeatUpTo' e turns p a)
+        behind e names.values + 1 ≤ VALUE_REGISTERS → IsCount names most.form turns → IsBlock before (in_loop names) xs.items a →
+        IsStatement before names (T.Repeat number (Some most) xs) (S.RepeatUpTo' e turns p a)
     -- the child's index is in the next value register, whether it has a name or not
-    for_each : {names : Names} {child parent : Name} {index : Option Name} {most : TextExpression} (xs : Vec TextStatement Global) {n turns : ℕ}
+    for_each : {before : List Declaration} {names : Names} {child parent : Name} {index : Option Name} {most : TextExpression} (xs : Vec TextStatement Global) {n turns : ℕ}
         {a whole : Statement} → HasLoop names → AreFresh names child index → HasNode names → names.values + 2 ≤ VALUE_REGISTERS → stands_for names parent ≡ M.Node n →
-        IsCount names most.form turns → IsBlock (with_node (with_index (in_loop names) index) child) xs.items a → IsVisiting names.values names.nodes n turns a whole →
-        IsStatement names (T.ForEach child index parent most xs) whole
-    block_alone : {names : Names} (xs : Vec TextStatement Global) {a : Statement} → IsBlock names xs.items a → IsStatement names (T.Block xs) a
+        IsCount names most.form turns → IsBlock before (with_node (with_index (in_loop names) index) child) xs.items a → IsVisiting names.values names.nodes n turns a whole →
+        IsStatement before names (T.ForEach child index parent most xs) whole
+    block_alone : {before : List Declaration} {names : Names} (xs : Vec TextStatement Global) {a : Statement} → IsBlock before names xs.items a → IsStatement before names (T.Block xs) a
+
+  -- an action that declares nothing, where a part is expanded
+  pub data IsActed : List Declaration → Names → Action → Statement → Type 0 where
+    plain : {before : List Declaration} {names : Names} {action : Action} {a : Statement} → IsAction names action a → IsActed before names action a
+    -- the part's body knows the declarations before the part; its loops nest in those around its use
+    used : {before : List Declaration} {names : Names} {name : Name} (arguments : Vec TextExpression Global) {k : ℕ} {p : Part} {a : Statement} →
+        index_of names name ≡ Some k → slice_get before k ≡ Some (D.Part p) →
+        IsGiven (take k before) names (inside names) p.parameters.items arguments.items p.body.items a → names.loops + loops a ≤ MAX_DEPTH →
+        IsActed before names (A.Use name arguments) a
+
+  -- the body of a part, with what is given for each of its names: a node, or a number in a `let`
+  pub data IsGiven : List Declaration → Names → Names → List Parameter → List TextExpression → List TextStatement → Statement → Type 0 where
+    all_given : {before : List Declaration} {outer names : Names} {body : List TextStatement} {a : Statement} → IsBlock before names body a →
+        IsGiven before outer names [] [] body a
+    node_given : {before : List Declaration} {outer names later : Names} {name : Name} {parameters : List Parameter} {arguments : List TextExpression}
+        {body : List TextStatement} {a : Statement} (argument : TextExpression) → IsNodeGiven outer names name argument later →
+        IsGiven before outer later parameters arguments body a → IsGiven before outer names (G.Node name ∷ parameters) (argument ∷ arguments) body a
+    value_given : {before : List Declaration} {outer names later : Names} {name : Name} {parameters : List Parameter} {arguments : List TextExpression}
+        {body : List TextStatement} {e : Expression} {p : _} {a : Statement} (argument : TextExpression) → IsValueGiven outer names name argument e later →
+        IsGiven before outer later parameters arguments body a →
+        IsGiven before outer names (G.Value name ∷ parameters) (argument ∷ arguments) body (S.Let' names.values e p a)
 
 -- A failure that the procedure's `else` doesn't handle ends the procedure. Where an atomic procedure comes to its `else`, or its call ends by a failure, nothing has been written.
-pub record IsBody (names : Names) (text : TextProcedure) (whole : Statement) : Type 0 where
+pub record IsBody (before : List Declaration) (names : Names) (text : TextProcedure) (whole : Statement) : Type 0 where
   pub body : Statement
   pub handler : Statement
   pub handled : Statement
-  pub body_is : IsBlock names text.body.items body
-  pub handler_is : IsBlock names text.otherwise.items handler
+  pub body_is : IsBlock before names text.body.items body
+  pub handler_is : IsBlock before names text.otherwise.items handler
   pub handled_is : IsTried body handler handled
   pub whole_is : IsTried handled S.Skip whole
   pub atomic : text.is_atomic ≡ true → IsAtomic body
   pub atomic_else : text.is_atomic ≡ true → IsAtomic handled
 
 -- a procedure's arguments are its first values
-pub record IsProcedure (spellings : List (List ℕ)) (names : Names) (text : TextProcedure) (procedure : Procedure) : Type 0 where
+pub record IsProcedure (spellings : List (List ℕ)) (before : List Declaration) (names : Names) (text : TextProcedure) (procedure : Procedure) : Type 0 where
   pub name : procedure.name.items ≡ get_or spellings text.name.symbol.0 []
   pub offset : procedure.offset ≡ text.name.offset
   pub arity : procedure.arity ≡ length text.arguments.items
   pub arguments : AreNew names text.arguments.items
-  pub body : IsBody (with_values names text.arguments.items) text procedure.body
+  pub body : IsBody before (with_values names text.arguments.items) text procedure.body
 
 -- the name, which isn't yet that of a field, becomes the name of the field with this number, from 0 to 7
 pub record IsWithField (names : Names) (name : Name) (number : ℤ) (later : Names) : Type 0 where
@@ -142,24 +169,28 @@ pub record IsWithField (names : Names) (name : Name) (number : ℤ) (later : Nam
   pub number_is : number ≡ pos field
   pub later_is : later ≡ with_field names name field
 
--- the procedures among these declarations
-pub data AreDeclared (spellings : List (List ℕ)) : Names → List Declaration → List Procedure → Type 0 where
-  none_declared : {names : Names} → AreDeclared spellings names [] []
-  next_field : {names later : Names} {name : Name} {number : ℤ} {offset : ℕ} {rest : List Declaration} {ps : List Procedure} →
-      IsWithField names name number later → AreDeclared spellings later rest ps →
-      AreDeclared spellings names (D.Field name number offset ∷ rest) ps
-  next_constant : {names : Names} {name : Name} {value : TextExpression} {number : ℤ} {rest : List Declaration} {ps : List Procedure} →
-      IsNew names name → IsConstant names value.form number → AreDeclared spellings (with_constant names name number) rest ps →
-      AreDeclared spellings names (D.Constant name value ∷ rest) ps
-  -- no other procedure has its name
-  next_procedure : {names : Names} {text : TextProcedure} {p : Procedure} {rest : List Declaration} {ps : List Procedure} →
-      is_procedure names text.name ≡ false → IsProcedure spellings (with_procedure names text.name) text p →
-      AreDeclared spellings (with_procedure names text.name) rest ps →
-      AreDeclared spellings names (D.Procedure text ∷ rest) (p ∷ ps)
+-- the procedures among these declarations, which stand behind others
+pub data AreDeclared (spellings : List (List ℕ)) : List Declaration → Names → List Declaration → List Procedure → Type 0 where
+  none_declared : {before : List Declaration} {names : Names} → AreDeclared spellings before names [] []
+  next_field : {before : List Declaration} {names later : Names} {name : Name} {number : ℤ} {offset : ℕ} {rest : List Declaration} {ps : List Procedure} →
+      IsWithField names name number later → AreDeclared spellings (before ++ D.Field name number offset ∷ []) later rest ps →
+      AreDeclared spellings before names (D.Field name number offset ∷ rest) ps
+  next_constant : {before : List Declaration} {names : Names} {name : Name} {value : TextExpression} {number : ℤ} {rest : List Declaration} {ps : List Procedure} →
+      IsNew names name → IsConstant names value.form number →
+      AreDeclared spellings (before ++ D.Constant name value ∷ []) (with_constant names name number) rest ps →
+      AreDeclared spellings before names (D.Constant name value ∷ rest) ps
+  -- no other procedure and no part has its name
+  next_procedure : {before : List Declaration} {names : Names} {text : TextProcedure} {p : Procedure} {rest : List Declaration} {ps : List Procedure} →
+      index_of names text.name ≡ None → IsProcedure spellings before (with_procedure names text.name (length before)) text p →
+      AreDeclared spellings (before ++ D.Procedure text ∷ []) (with_procedure names text.name (length before)) rest ps →
+      AreDeclared spellings before names (D.Procedure text ∷ rest) (p ∷ ps)
+  next_part : {before : List Declaration} {names : Names} {part : Part} {rest : List Declaration} {ps : List Procedure} →
+      index_of names part.name ≡ None → AreDeclared spellings (before ++ D.Part part ∷ []) (with_procedure names part.name (length before)) rest ps →
+      AreDeclared spellings before names (D.Part part ∷ rest) ps
 
 -- the procedures of a text
 pub record IsProgram (text : List ℕ) (procedures : List Procedure) : Type 0 where
   pub names : List (List ℕ)
   pub declarations : List Declaration
   pub read : IsText text names declarations
-  pub declared : AreDeclared names (without_meaning (length names)) declarations procedures
+  pub declared : AreDeclared names [] (without_meaning (length names)) declarations procedures

@@ -1,5 +1,5 @@
 -- The meanings of names, and what returning to a mark undoes.
-use Rattle.std.specs.Prelude.{◌≡◌, ℕ, ◌<◌, List, [], ◌∷◌, Bool, Option, length, get_or, slice_set, take, drop, nat_lt}
+use Rattle.std.specs.Prelude.{◌≡◌, ℕ, ◌<◌, List, [], ◌∷◌, Bool, Option, None, Some, length, get_or, slice_set, take, drop, nat_lt}
 use Rattle.tl_syntax.specs.declared.token.Symbol.{Symbol}
 use Rattle.tl_instr.specs.declared.operand.Field.{Field}
 use Rattle.tl_lowering.specs.declared.paths.Flow.{Flow}
@@ -20,11 +20,19 @@ IsBelow t m (M.Value x) = x < t
 IsBelow t m (M.Index x) = x < t
 IsBelow t m (M.Node n) = n < m
 
+-- the register of the node that a name denotes, if it denotes a node
+abbrev pub node_in : Meaning → Option ℕ
+node_in M.Nothing = None
+node_in (M.Constant w) = None
+node_in (M.Value x) = None
+node_in (M.Index x) = None
+node_in (M.Node n) = Some n
+
 -- a scope by value
 pub record View : Type 0 where
   pub meanings : List Meaning
   pub fields : List (Option Field)
-  pub procedures : List Bool
+  pub procedures : List (Option ℕ)
   pub local : List Symbol
   pub values : ℕ
   pub nodes : ℕ
@@ -32,7 +40,7 @@ pub record View : Type 0 where
 
 abbrev pub view_of : Scope → View
 view_of scope =
-    record { meanings = scope.meanings.items; fields = scope.fields.items; procedures = scope.is_procedure.items; local = scope.local.items; values = scope.values; nodes = scope.nodes; loops = scope.loops }
+    record { meanings = scope.meanings.items; fields = scope.fields.items; procedures = scope.procedures.items; local = scope.local.items; values = scope.values; nodes = scope.nodes; loops = scope.loops }
 
 -- the meaning of a name
 abbrev pub meaning_of : View → Symbol → Meaning

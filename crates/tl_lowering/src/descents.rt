@@ -1,79 +1,142 @@
-// The nodes that the body of a loop descends from.
+// The nodes from which statements descend.
 
-ghost use Rattle.std.specs.Prelude.{◌≡◌, ℕ, ◌<◌, ◌≤◌, Bool, List, true, false};
-ghost use Rattle.tl_lowering.specs.declared.program.Statement.{Statement as CoreStatement};
-ghost use Rattle.tl_lowering.specs.Descending.{descends_from, descend_from, node_in, is_in, Knows, IsDescending, IsElseDescending};
-ghost use Rattle.tl_lowering.specs.Names.{Names};
-ghost use Rattle.tl_lowering.specs.Naming.{declares, IsAction};
+ghost use Rattle.std.specs.Prelude.{◌≡◌, ℕ, ◌&&◌, not, nat_eq};
+ghost use Rattle.tl_lowering.specs.Entering.{turn_descends};
+ghost use Rattle.tl_lowering.specs.Passing.{locks_in, descends_from};
 ghost use Rattle.tl_lowering.specs.Paths.{bits};
-ghost use Rattle.tl_lowering.specs.Reading.{AreStatements};
-ghost use Rattle.tl_lowering.specs.Scopes.{view_of, meaning_of, IsInUse};
 ghost use Rattle.tl_lowering.specs.Sets.{holds};
 
+use crate::loops::Repetition;
 use crate::paths::Held;
+use crate::program::{Place, Statement};
 use crate::scope::Scope;
-use tl_syntax::parsed::{Action, Name, Otherwise, Statement, StatementForm};
+use tl_instr::NodeRegister;
+use tl_syntax::parsed::{self, Action, Expression, Form, Name, Otherwise, StatementForm};
 
+fn bit(register: NodeRegister) -> u8
+    ensures { (n : ℕ) → holds (bits result) n ≡ nat_eq register n }
+{
+    Held::NOTHING.with(register).nodes
+}
+
+// The bits of these nodes but for the register's.
+fn without(nodes: u8, register: NodeRegister) -> u8
+    ensures { (n : ℕ) → holds (bits result) n ≡ (holds (bits nodes) n && not (nat_eq register n)) }
+{
+    let all = Held {
+        nodes,
+        ..Held::NOTHING
+    };
+    all.without(register).nodes
+}
+
+// The bits of these nodes but for those that the lock puts in other nodes' place.
+#[tactic(auto, using(crate::proofs::DescendLemmas::neither))]
+fn unlocked(nodes: u8, place: &Place) -> u8
+    ensures { (n : ℕ) → holds (bits result) n ≡ (holds (bits nodes) n && not (locks_in place.now n)) }
+{
+    match place {
+        Place::Node(node, _) | Place::Child(node, _, _) => without(nodes, *node),
+        Place::Pair { first, second, .. } => without(without(nodes, *first), *second),
+    }
+}
+
+/// A bit for each node register from whose node the statement descends.
+#[tactic(auto, using(crate::proofs::BitLemmas::either_bits, crate::proofs::BitLemmas::no_bit))]
+pub fn descended(statement: &Statement) -> u8
+    ensures { (n : ℕ) → holds (bits result) n ≡ descends_from statement.now n }
+{
+    match statement {
+        Statement::Skip
+        | Statement::Assign(_, _)
+        | Statement::Write(_, _, _)
+        | Statement::Emit(_)
+        | Statement::Free(_)
+        | Statement::Break
+        | Statement::Return
+        | Statement::Fail => 0,
+        Statement::Descend(node, _) | Statement::Take(node, _) => bit(*node),
+        Statement::Sequence(first, second)
+        | Statement::If(_, first, second)
+        | Statement::LetElse(_, _, first, second)
+        | Statement::Try(first, second) => descended(first) | descended(second),
+        Statement::Lock(place, body, otherwise) => {
+            unlocked(descended(body), place) | descended(otherwise)
+        }
+        Statement::Let(_, _, body)
+        | Statement::Repeat(_, body)
+        | Statement::RepeatUpTo(_, _, body)
+        | Statement::At(_, body) => descended(body),
+    }
+}
+
+/// The same of a loop's turn: its child belongs to the loop.
+pub fn passed_down(repetition: &Repetition, body: &Statement) -> u8
+    ensures { (n : ℕ) → holds (bits result) n ≡ turn_descends repetition.now body.now n }
+{
+    let nodes = descended(body);
+    match repetition {
+        Repetition::Times(_) | Repetition::UpTo(_, _) => nodes,
+        Repetition::Children(visit) => without(nodes, visit.child),
+    }
+}
+
+// From which nodes a text may descend. It stands on no promise: what is read of the text says which nodes those are.
 impl Scope {
-    fn descends(&self, name: Name) -> u8
-        ensures { (n : ℕ) → holds (bits result) n ≡ is_in (node_in (meaning_of (view_of self.now) name.symbol)) n }
-    {
+    fn node_bit(&self, name: Name) -> u8 {
         match self.register_of(name) {
-            Some(register) => Held::NOTHING.with(register).nodes,
+            Some(register) => bit(register),
             None => 0,
         }
     }
 
-    fn descended_by(&self, action: &Action) -> u8
-        ensures none { declares action.now ≡ true → result ≡ 0 }
-        ensures beyond { IsInUse (view_of self.now) → (n : ℕ) → self.now.nodes ≤ n → holds (bits result) n ≡ false }
-        ensures nodes { (names : Names) (a : CoreStatement) (n : ℕ) → Knows (view_of self.now) names → n < self.now.nodes → IsAction names action.now a → holds (bits result) n ≡ descends_from a n }
-    {
-        match action {
-            Action::Descend { node, .. } | Action::Take { node, .. } => self.descends(*node),
-            _ => 0,
+    // A part may descend from each node that it is given.
+    fn given_bits(&self, arguments: &[Expression]) -> u8 {
+        let mut nodes = 0;
+        for argument in arguments {
+            if let Form::Named(name) = &argument.form {
+                nodes |= self.node_bit(*name);
+            }
         }
+        nodes
     }
 
-    /// A bit for each node register that a `descend` in these statements names.
+    /// A bit for each node register from whose node these statements may descend.
     #[cycle(descents)]
-    pub fn descended(&self, statements: &[Statement]) -> u8
-        ensures beyond { IsInUse (view_of self.now) → (n : ℕ) → self.now.nodes ≤ n → holds (bits result) n ≡ false }
-        ensures nodes { (names : Names) (parts : List CoreStatement) (n : ℕ) → Knows (view_of self.now) names → n < self.now.nodes → AreStatements names statements.now parts → holds (bits result) n ≡ descend_from parts n }
-    {
+    pub fn may_descend(&self, statements: &[parsed::Statement]) -> u8 {
         let mut nodes = 0;
         for statement in statements {
-            nodes |= self.descended_in(statement);
+            nodes |= self.may_descend_in(&statement.form);
         }
         nodes
     }
 
     #[cycle(descents)]
-    fn descended_in(&self, statement: &Statement) -> u8
-        ensures beyond { IsInUse (view_of self.now) → (n : ℕ) → self.now.nodes ≤ n → holds (bits result) n ≡ false }
-        ensures nodes { (names : Names) (n : ℕ) (b : Bool) → Knows (view_of self.now) names → n < self.now.nodes → IsDescending names n statement.now.form b → holds (bits result) n ≡ b }
-    {
-        match &statement.form {
+    fn may_descend_in(&self, form: &StatementForm) -> u8 {
+        match form {
             StatementForm::Act(action, otherwise) => {
-                self.descended_by(action) | self.descended_else(otherwise)
+                let nodes = match action {
+                    Action::Descend { node, .. } | Action::Take { node, .. } => self.node_bit(
+                        *node,
+                    ),
+                    Action::Use { arguments, .. } => self.given_bits(arguments),
+                    _ => 0,
+                };
+                nodes | self.may_descend_else(otherwise)
             }
-            StatementForm::Try(body, handler) => self.descended(body) | self.descended(handler),
-            StatementForm::If(_, body, otherwise) => {
-                self.descended(body) | self.descended(otherwise)
+            StatementForm::Try(first, second) | StatementForm::If(_, first, second) => {
+                self.may_descend(first) | self.may_descend(second)
             }
-            StatementForm::Repeat { body, .. } => self.descended(body),
-            StatementForm::ForEach { body, .. } => self.descended(body),
-            StatementForm::Block(body) => self.descended(body),
+            StatementForm::Repeat { body, .. }
+            | StatementForm::ForEach { body, .. }
+            | StatementForm::Block(body) => self.may_descend(body),
         }
     }
 
     #[cycle(descents)]
-    fn descended_else(&self, otherwise: &Option<Otherwise>) -> u8
-        ensures beyond { IsInUse (view_of self.now) → (n : ℕ) → self.now.nodes ≤ n → holds (bits result) n ≡ false }
-        ensures nodes { (names : Names) (n : ℕ) (b : Bool) → Knows (view_of self.now) names → n < self.now.nodes → IsElseDescending names n otherwise.now b → holds (bits result) n ≡ b }
-    {
+    fn may_descend_else(&self, otherwise: &Option<Otherwise>) -> u8 {
         match otherwise {
-            Some(otherwise) => self.descended(&otherwise.body),
+            Some(otherwise) => self.may_descend(&otherwise.body),
             None => 0,
         }
     }

@@ -7,6 +7,7 @@ pub mod laws;
 mod loops;
 mod lowering;
 mod naming;
+mod parts;
 mod paths;
 mod program;
 mod reader;

@@ -4,22 +4,24 @@ ghost use Rattle.std.specs.Prelude.{◌≡◌, ◌+◌, ◌<◌, ◌≤◌, IfOk
 ghost use Rattle.std.specs.Vec.Iter.{into_iter_items, into_iter_len};
 ghost use Rattle.tl_budget.specs.declared.limits.TheConstants.{MAX_DEPTH};
 ghost use Rattle.tl_lowering.specs.Blocks.{IsSequence, IsSame, IsPair, IsAttempt, IsBinding, IsClosing, Closes, IsWellFormedAt, AreAlike, AreFree, Standing, then_of, binding_paths, values_with, nodes_with};
-ghost use Rattle.tl_lowering.specs.Choosing.{IsEntered, names_behind, IsChosen, IsLoop};
+ghost use Rattle.tl_lowering.specs.Choosing.{IsEntered, names_behind, names_within, IsChosen, IsLoop};
 ghost use Rattle.tl_lowering.specs.Drafts.{opens, IsOpening, IsHeadOf, IsElse, IsElseOf, other_of, Opens, Binds, Encloses, Becomes, IsFinished, MayFollow, IsExtended, IsHandled};
-ghost use Rattle.tl_lowering.specs.Entering.{before_of, entered_of, is_break, IsEntering, IsEnteringHead, IsEnteringBinding, IsEnteringEntrance, entrance_entered, EntersSoFar};
-ghost use Rattle.tl_lowering.specs.Passing.{Before, Entered, then_by};
+ghost use Rattle.tl_lowering.specs.Entering.{before_of, before_body, entered_of, is_break, IsEntering, IsEnteringHead, IsEnteringBinding, IsEnteringEntrance, entrance_entered, EntersSoFar};
+ghost use Rattle.tl_lowering.specs.Passing.{Before, Entered, then_by, KeepsOut};
 ghost use Rattle.tl_lowering.specs.Names.{names_of};
-ghost use Rattle.tl_lowering.specs.Naming.{IsThen, IsHalved};
-ghost use Rattle.tl_lowering.specs.Reading.{IsAtOffset, IsTried, IsBlock, AreStatements, IsStatement};
+ghost use Rattle.tl_lowering.specs.Naming.{IsThen, IsHalved, declares};
+ghost use Rattle.tl_lowering.specs.Reading.{IsAtOffset, IsTried, IsBlock, AreStatements, IsStatement, IsActed};
 ghost use Rattle.tl_lowering.specs.Lowering.{IsHead, IsEntrance, IsInside, IsRefusal, IsDraft, behind_draft, entered, nodes_in};
 ghost use Rattle.tl_lowering.specs.Paths.{nodes_of, passed_of, outcomes, paths_of};
-ghost use Rattle.tl_lowering.specs.Repeating.{IsRepetition, IsUnpassed};
+ghost use Rattle.tl_lowering.specs.Repeating.{IsRepetition, IsTurn, IsUnpassed};
 ghost use Rattle.tl_lowering.specs.Scopes.{View, view_of, IsAt, IsLowered, Extends, is_in_loop};
 ghost use Rattle.tl_lowering.specs.Sets.{Nodes};
 ghost use Rattle.tl_lowering.specs.declared.program.Statement.{Statement as CoreStatement};
+ghost use Rattle.tl_syntax.specs.declared.parsed.Declaration.{Declaration as TextDeclaration};
 ghost use Rattle.tl_syntax.specs.declared.parsed.Statement.{Statement as TextStatement};
 ghost use Rattle.tl_syntax.specs.declared.parsed.StatementForm.{StatementForm as TextForm};
 
+use crate::descents::passed_down;
 use crate::loops::Repetition;
 use crate::naming::{Locking, asked};
 use crate::paths::{Flow, Held};
@@ -29,7 +31,7 @@ use crate::values::may_fail;
 use std::alloc::Global;
 use std::vec::IntoIter;
 use tl_instr::ValueRegister;
-use tl_syntax::parsed::{self, Action, Name, Question, StatementForm};
+use tl_syntax::parsed::{self, Action, Declaration, Name, Question, StatementForm};
 use tl_syntax::{SyntaxFault, Wrong};
 
 /// A statement, and where the paths through it lead.
@@ -40,6 +42,10 @@ pub type Lowered = (Statement, Flow);
 pub struct Lowering {
     pub alloc: Global,
     pub scope: Scope,
+    /// How many words and signs of parts may still be read where they are used.
+    pub part_size: usize,
+    /// How many parts are around the place.
+    pub part_depth: u8,
 }
 
 // What a `let` or a `lock` declares for the rest of its block.
@@ -211,12 +217,13 @@ impl Lowering {
     #[cycle(lowering)]
     pub fn block(
         &mut self,
+        before: &[Declaration],
         statements: &[parsed::Statement],
         held: Held,
     ) -> Result<Lowered, SyntaxFault>
         requires { IsAt (view_of self.old.scope) held }
         ensures scope { OnOk result (view_of self.new.scope ≡ view_of self.old.scope) }
-        ensures named { IfOk result (λ l. IsBlock (names_of self.old.scope) statements.now l.0) }
+        ensures named { IfOk result (λ l. IsBlock before.now (names_of self.old.scope) statements.now l.0) }
         ensures lowered { IfOk result (λ l. IsLowered (view_of self.old.scope) held l.0 l.1) }
         ensures entering { IfOk result (λ l. IsEntering (before_of held) l.0 l.1) }
     {
@@ -230,7 +237,7 @@ impl Lowering {
             let Some(held_here) = draft.flow.after else {
                 return Err(SyntaxFault::at(Wrong::Unreached, statement.offset));
             };
-            let flow = self.extend(&mut draft, statement, held_here)?;
+            let flow = self.extend(before, &mut draft, statement, held_here)?;
             draft.flow = draft.flow.then(flow);
         }
         self.scope.return_to(mark);
@@ -271,7 +278,7 @@ impl Lowering {
         requires entering { IsEnteringHead (before_of held) head }
         requires refused { IfSome otherwise (λ l. IsEntering (before_of held) l.0 l.1) }
         requires block { IfSome otherwise (λ l. is_break l.0 ≡ false) }
-        ensures named { (form : TextForm) → IsOpening (names_of self.old.scope) form head → IsElse (names_of self.old.scope) form otherwise → IfOk result (λ b. Opens (names_of self.old.scope) form b.0 (names_of self.new.scope)) }
+        ensures named { (before : List TextDeclaration) (form : TextForm) → IsOpening (names_of self.old.scope) form head → IsElse before (names_of self.old.scope) form otherwise → IfOk result (λ b. Opens before (names_of self.old.scope) form b.0 (names_of self.new.scope)) }
         ensures binding { IfOk result (λ b. IsBinding b.0 self.old.scope.values self.old.scope.nodes (nodes_of held) (is_in_loop (view_of self.old.scope))) }
         ensures paths { IfOk result (λ b. paths_of b.1 ≡ binding_paths b.0 (nodes_of held)) }
         ensures entering { IfOk result (λ b. IsEnteringBinding (before_of held) b.0 b.1) }
@@ -302,10 +309,15 @@ impl Lowering {
 
     // The `else` of a declaration. 286 if control can reach its end.
     #[cycle(lowering)]
-    fn refusal(&mut self, form: &StatementForm, held: Held) -> Result<Option<Lowered>, SyntaxFault>
+    fn refusal(
+        &mut self,
+        before: &[Declaration],
+        form: &StatementForm,
+        held: Held,
+    ) -> Result<Option<Lowered>, SyntaxFault>
         requires { IsAt (view_of self.old.scope) held }
         ensures scope { OnOk result (view_of self.new.scope ≡ view_of self.old.scope) }
-        ensures named { IfOk result (IsElseOf (names_of self.old.scope) form.now) }
+        ensures named { IfOk result (IsElseOf before.now (names_of self.old.scope) form.now) }
         ensures refusal { IfOk result (λ o. IfSome o (λ l. IsRefusal (view_of self.old.scope) held l.0 l.1)) }
         ensures entering { IfOk result (λ o. IfSome o (λ l. IsEntering (before_of held) l.0 l.1)) }
         ensures block { IfOk result (λ o. IfSome o (λ l. is_break l.0 ≡ false)) }
@@ -316,7 +328,7 @@ impl Lowering {
         let Some(otherwise) = otherwise else {
             return Ok(None);
         };
-        let (statement, flow) = self.block(&otherwise.body, held)?;
+        let (statement, flow) = self.block(before, &otherwise.body, held)?;
         if flow.after.is_some() {
             return Err(SyntaxFault::at(Wrong::ElseEnds, otherwise.offset));
         }
@@ -327,12 +339,13 @@ impl Lowering {
     #[cycle(lowering)]
     fn extend(
         &mut self,
+        before: &[Declaration],
         draft: &mut Draft,
         statement: &parsed::Statement,
         held: Held,
     ) -> Result<Flow, SyntaxFault>
         requires { IsAt (view_of self.old.scope) held }
-        ensures named { IfOk result (λ f. (rest : List TextStatement) (items all : List CoreStatement) → MayFollow f rest → AreStatements (names_of self.new.scope) rest items → Becomes draft.new items all → IsExtended (names_of self.old.scope) statement.now rest draft.old all) }
+        ensures named { IfOk result (λ f. (rest : List TextStatement) (items all : List CoreStatement) → MayFollow f rest → AreStatements before.now (names_of self.new.scope) rest items → Becomes draft.new items all → IsExtended before.now (names_of self.old.scope) statement.now rest draft.old all) }
         ensures draft { (start : Standing) → IsDraft start draft.old (view_of self.old.scope) → (behind_draft start draft.old).after ≡ Some (nodes_of held) → OnOk result (IsDraft start draft.new (view_of self.new.scope)) }
         ensures paths { (start : Standing) → (behind_draft start draft.old).after ≡ Some (nodes_of held) → IfOk result (λ f. behind_draft start draft.new ≡ then_of (behind_draft start draft.old) (λ h. paths_of f)) }
         ensures entering { (e : Before) (x : Entered) → x.after ≡ Some (before_of held) → EntersSoFar e draft.old x → IfOk result (λ f. EntersSoFar e draft.new (then_by x.after x (λ h. entered_of f))) }
@@ -343,11 +356,11 @@ impl Lowering {
     {
         let offset = statement.offset;
         let Some(head) = self.head(&statement.form, held)? else {
-            let (lowered, flow) = self.statement(&statement.form, offset, held)?;
+            let (lowered, flow) = self.statement(before, &statement.form, offset, held)?;
             draft.statements.push(self.at(offset, lowered)?)?;
             return Ok(flow);
         };
-        let otherwise = self.refusal(&statement.form, held)?;
+        let otherwise = self.refusal(before, &statement.form, held)?;
         let (binding, flow) = self.bound(head, otherwise, held)?;
         let earlier = std::mem::replace(&mut draft.statements, Vec::new(self.alloc));
         draft.opened.push(Opened {
@@ -362,32 +375,33 @@ impl Lowering {
     #[cycle(lowering)]
     fn statement(
         &mut self,
+        before: &[Declaration],
         form: &StatementForm,
         offset: usize,
         held: Held,
     ) -> Result<Lowered, SyntaxFault>
         requires { IsAt (view_of self.old.scope) held }
         ensures scope { OnOk result (view_of self.new.scope ≡ view_of self.old.scope) }
-        ensures named { IfOk result (λ l. opens form.now ≡ false → IsStatement (names_of self.old.scope) form.now l.0) }
+        ensures named { IfOk result (λ l. opens form.now ≡ false → IsStatement before.now (names_of self.old.scope) form.now l.0) }
         ensures lowered { IfOk result (λ l. IsLowered (view_of self.old.scope) held l.0 l.1) }
         ensures entering { IfOk result (λ l. IsEntering (before_of held) l.0 l.1) }
     {
         match form {
             StatementForm::Act(action, otherwise) => {
-                let lowered = self.action(action, offset, held)?;
+                let lowered = self.acted(before, action, offset, held)?;
                 match otherwise {
                     None => Ok(lowered),
-                    Some(otherwise) => self.handled(lowered, &otherwise.body, held),
+                    Some(otherwise) => self.handled(before, lowered, &otherwise.body, held),
                 }
             }
             StatementForm::Try(body, handler) => {
-                let lowered = self.block(body, held)?;
-                self.handled(lowered, handler, held)
+                let lowered = self.block(before, body, held)?;
+                self.handled(before, lowered, handler, held)
             }
             StatementForm::If(question, body, otherwise) => {
                 let entrance = self.entrance(question, held)?;
-                let first = self.first_block(&entrance, body, held)?;
-                let second = self.block(otherwise, held)?;
+                let first = self.first_block(before, &entrance, body, held)?;
+                let second = self.block(before, otherwise, held)?;
                 self.chosen(entrance, first, second, held)
             }
             StatementForm::Repeat {
@@ -396,7 +410,7 @@ impl Lowering {
                 body,
             } => {
                 let repetition = self.repetition(turns, at_most.as_ref(), offset, held)?;
-                self.turns(repetition, body, offset, held)
+                self.turns(before, repetition, body, offset, held)
             }
             StatementForm::ForEach {
                 child,
@@ -407,9 +421,9 @@ impl Lowering {
             } => {
                 let names = (*child, *index, *parent);
                 let repetition = self.visit(names, at_most, offset, held)?;
-                self.turns(repetition, body, offset, held)
+                self.turns(before, repetition, body, offset, held)
             }
-            StatementForm::Block(body) => self.block(body, held),
+            StatementForm::Block(body) => self.block(before, body, held),
         }
     }
 
@@ -417,6 +431,7 @@ impl Lowering {
     #[cycle(lowering)]
     pub fn handled(
         &mut self,
+        before: &[Declaration],
         lowered: Lowered,
         handler: &[parsed::Statement],
         held: Held,
@@ -425,12 +440,12 @@ impl Lowering {
         requires lowered { IsLowered (view_of self.old.scope) held lowered.0 lowered.1 }
         requires entering { IsEntering (before_of held) lowered.0 lowered.1 }
         ensures scope { OnOk result (view_of self.new.scope ≡ view_of self.old.scope) }
-        ensures named { IfOk result (λ l. IsHandled (names_of self.old.scope) lowered.0 handler.now l.0) }
+        ensures named { IfOk result (λ l. IsHandled before.now (names_of self.old.scope) lowered.0 handler.now l.0) }
         ensures lowered { IfOk result (λ l. IsLowered (view_of self.old.scope) held l.0 l.1) }
         ensures entering { IfOk result (λ l. IsEntering (before_of held) l.0 l.1) }
     {
         let (statement, flow) = lowered;
-        let (handler, other) = self.block(handler, flow.handled(held))?;
+        let (handler, other) = self.block(before, handler, flow.handled(held))?;
         let attempt = self.attempt(statement, handler)?;
         Ok((attempt, flow.handled_by(other)))
     }
@@ -512,6 +527,7 @@ impl Lowering {
     #[cycle(lowering)]
     fn first_block(
         &mut self,
+        before: &[Declaration],
         entrance: &Entrance,
         body: &[parsed::Statement],
         held: Held,
@@ -519,21 +535,72 @@ impl Lowering {
         requires at { IsAt (view_of self.old.scope) held }
         requires entrance { IsEntrance (view_of self.old.scope) held entrance.now }
         ensures scope { OnOk result (view_of self.new.scope ≡ view_of self.old.scope) }
-        ensures named { IfOk result (λ l. IsBlock (names_behind (names_of self.old.scope) entrance.now) body.now l.0) }
+        ensures named { IfOk result (λ l. IsBlock before.now (names_behind (names_of self.old.scope) entrance.now) body.now l.0) }
         ensures inside { IfOk result (λ l. IsInside (view_of self.old.scope) held entrance.now l.0 l.1) }
         ensures entering { IsEnteringEntrance (before_of held) entrance.now → IfOk result (λ l. IsEntering (entrance_entered entrance.now (before_of held)) l.0 l.1) }
     {
         let mark = self.scope.mark();
         let inside = self.enter(entrance, held)?;
-        let first = self.block(body, inside)?;
+        let first = self.block(before, body, inside)?;
         self.scope.return_to(mark);
         Ok(first)
     }
 
-    // A loop, whose first word stands at the offset.
+    // A statement without blocks of its own that declares nothing, where a part is expanded.
+    #[cycle(lowering)]
+    fn acted(
+        &mut self,
+        before: &[Declaration],
+        action: &Action,
+        offset: usize,
+        held: Held,
+    ) -> Result<Lowered, SyntaxFault>
+        requires { IsAt (view_of self.old.scope) held }
+        ensures scope { OnOk result (view_of self.new.scope ≡ view_of self.old.scope) }
+        ensures named { IfOk result (λ l. declares action.now ≡ false → IsActed before.now (names_of self.old.scope) action.now l.0) }
+        ensures lowered { IfOk result (λ l. IsLowered (view_of self.old.scope) held l.0 l.1) }
+        ensures entering { IfOk result (λ l. IsEntering (before_of held) l.0 l.1) }
+    {
+        match action {
+            Action::Use { part, arguments } => self.used(before, *part, arguments, held),
+            _ => self.action(action, offset, held),
+        }
+    }
+
+    // The body of a loop's turn. `start` holds as it begins.
+    #[cycle(lowering)]
+    fn turn(
+        &mut self,
+        before: &[Declaration],
+        repetition: &Repetition,
+        body: &[parsed::Statement],
+        offset: usize,
+        start: Held,
+    ) -> Result<Lowered, SyntaxFault>
+        requires at { IsAt (view_of self.old.scope) start }
+        requires repetition { IsRepetition (view_of self.old.scope) start repetition.now }
+        requires depth { self.old.scope.loops < MAX_DEPTH }
+        ensures scope { OnOk result (view_of self.new.scope ≡ view_of self.old.scope) }
+        ensures named { IfOk result (λ l. IsBlock before.now (names_within (names_of self.old.scope) repetition.now) body.now l.0) }
+        ensures turn { IfOk result (λ l. IsTurn self.old.scope.values self.old.scope.nodes (nodes_of start) repetition.now l.0 l.1) }
+        ensures entering { IfOk result (λ l. IsEntering (before_body repetition.now (before_of start)) l.0 l.1) }
+        ensures once { IfOk result (λ l. KeepsOut (entered_of l.1).after (before_of start)) }
+    {
+        let mark = self.scope.mark();
+        let inside = self.begin(repetition, start)?;
+        let (body, flow) = self.block(before, body, inside)?;
+        self.scope.return_to(mark);
+        self.scope.loops = self.scope.loops.saturating_sub(1);
+        let flow = self.check_turn(flow, start, offset)?;
+        Ok((body, flow))
+    }
+
+    // A loop, whose first word stands at the offset. From which nodes a turn goes down is known once its body is read; the text tells
+    // it before, but of a part only that it may go down from each node that it is given. Where that isn't so, the turn is read again.
     #[cycle(lowering)]
     fn turns(
         &mut self,
+        before: &[Declaration],
         repetition: Repetition,
         body: &[parsed::Statement],
         offset: usize,
@@ -544,17 +611,17 @@ impl Lowering {
         requires depth { self.old.scope.loops < MAX_DEPTH }
         requires fresh { IsUnpassed (passed_of held) repetition }
         ensures scope { OnOk result (view_of self.new.scope ≡ view_of self.old.scope) }
-        ensures named { IfOk result (λ l. IsLoop (names_of self.old.scope) repetition body.now l.0) }
+        ensures named { IfOk result (λ l. IsLoop before.now (names_of self.old.scope) repetition body.now l.0) }
         ensures lowered { IfOk result (λ l. IsLowered (view_of self.old.scope) held l.0 l.1) }
         ensures entering { IfOk result (λ l. IsEntering (before_of held) l.0 l.1) }
     {
-        let start = held.forgetting(self.scope.descended(body));
-        let mark = self.scope.mark();
-        let inside = self.begin(&repetition, start)?;
-        let (body, flow) = self.block(body, inside)?;
-        self.scope.return_to(mark);
-        self.scope.loops = self.scope.loops.saturating_sub(1);
-        let flow = self.check_turn(flow, start, offset)?;
-        self.repeated(repetition, (body, flow), start, held)
+        let guess = held.forgetting(self.scope.may_descend(body));
+        let first = self.turn(before, &repetition, body, offset, guess)?;
+        let start = held.forgetting(passed_down(&repetition, &first.0));
+        if start.visited == guess.visited {
+            return self.repeated(repetition, first, start, held);
+        }
+        let again = self.turn(before, &repetition, body, offset, start)?;
+        self.repeated(repetition, again, start, held)
     }
 }

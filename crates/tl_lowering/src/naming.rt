@@ -11,7 +11,7 @@ ghost use Rattle.tl_lowering.specs.Declaring.{IsLocking, IsDeclarable, IsNewValu
 ghost use Rattle.tl_lowering.specs.Entering.{before_of, entered_of, IsEntering, IsEnteringPlace};
 ghost use Rattle.tl_lowering.specs.Passing.{failing_entered, nowhere_entered};
 ghost use Rattle.tl_lowering.specs.Names.{names_of};
-ghost use Rattle.tl_lowering.specs.Naming.{IsNumber, IsChanged, IsUpdate, AreWritten, IsWritten, Emits, IsAction, declares, with_locking, Locks};
+ghost use Rattle.tl_lowering.specs.Naming.{IsNumber, IsChanged, IsUpdate, AreWritten, IsWritten, Emits, IsAction, declares, uses, with_locking, Locks};
 ghost use Rattle.tl_lowering.specs.Outcomes.{may_fail as may_fail_lem, condition_may_fail as condition_may_fail_lem};
 ghost use Rattle.tl_lowering.specs.Paths.{nodes_of, paths_of, nowhere, failing_if};
 ghost use Rattle.tl_lowering.specs.Scopes.{View, view_of, IsInUse, IsAt, IsLowered, Extends};
@@ -137,8 +137,8 @@ impl Lowering {
         Ok((register, number, self.then(done, last)?))
     }
 
-    // A number in a register of its own, and what follows. The number may fail.
-    fn let_in(
+    /// A number in a register of its own, and what follows. The number may fail.
+    pub fn let_in(
         &self,
         register: ValueRegister,
         number: Expression,
@@ -310,10 +310,10 @@ impl Lowering {
         }
     }
 
-    /// A statement that declares nothing. Its first word stands at the offset.
+    /// A statement that declares nothing and uses no part. Its first word stands at the offset.
     pub fn action(&self, action: &Action, offset: usize, held: Held) -> Result<Lowered, SyntaxFault>
         requires { IsAt (view_of self.now.scope) held }
-        ensures named { IfOk result (λ l. declares action.now ≡ false → IsAction (names_of self.now.scope) action.now l.0) }
+        ensures named { IfOk result (λ l. declares action.now ≡ false → uses action.now ≡ false → IsAction (names_of self.now.scope) action.now l.0) }
         ensures lowered { IfOk result (λ l. IsLowered (view_of self.now.scope) held l.0 l.1) }
         ensures entering { IfOk result (λ l. IsEntering (before_of held) l.0 l.1) }
     {
@@ -330,7 +330,9 @@ impl Lowering {
             Action::Take { node, from } => self.take(*node, *from, held),
             Action::Free(name) => self.free(*name, held),
             Action::Leave(leave) => self.leave(*leave, offset, held),
-            Action::Let { .. } | Action::Lock(_) => Ok((Statement::Skip, Flow::on(held))),
+            Action::Let { .. } | Action::Lock(_) | Action::Use { .. } => {
+                Ok((Statement::Skip, Flow::on(held)))
+            }
         }
     }
 

@@ -1,10 +1,10 @@
 // From a text to the core forms of its procedures.
 
-ghost use Rattle.std.specs.Prelude.{◌≡◌, [], ◌≤◌, false, IfOk, OnOk};
+ghost use Rattle.std.specs.Prelude.{◌≡◌, [], ◌≤◌, length, None, IfOk, OnOk};
 ghost use Rattle.std.specs.List.{All};
 ghost use Rattle.tl_lowering.specs.declared.program.Procedure.{Procedure as CoreProcedure};
 ghost use Rattle.tl_lowering.specs.Fit.{IsWord};
-ghost use Rattle.tl_lowering.specs.Names.{names_of, is_procedure, with_procedure, with_values, AreNew};
+ghost use Rattle.tl_lowering.specs.Names.{names_of, index_of, with_procedure, with_values, AreNew};
 ghost use Rattle.tl_lowering.specs.Outcomes.{fails};
 ghost use Rattle.tl_lowering.specs.Passing.{nothing_before, EntersOnce};
 ghost use Rattle.tl_lowering.specs.Reading.{IsBody, IsProcedure, IsWithField, AreDeclared, IsProgram};
@@ -15,6 +15,7 @@ ghost use Rattle.tl_syntax.specs.Tokens.{spellings};
 
 use crate::atomic::check_atomic;
 use crate::lowering::Lowering;
+use crate::parts::MAX_PART_SIZE;
 use crate::paths::Held;
 use crate::program::{Procedure, Program, Statement};
 use crate::scope::Scope;
@@ -62,17 +63,21 @@ impl Lowering {
     }
 
     // The body of a procedure. An absent `else` is an empty block.
-    fn body(&mut self, procedure: &parsed::Procedure) -> Result<Statement, SyntaxFault>
+    fn body(
+        &mut self,
+        before: &[Declaration],
+        procedure: &parsed::Procedure,
+    ) -> Result<Statement, SyntaxFault>
         requires { IsAt (view_of self.old.scope) Held.NOTHING }
         ensures scope { OnOk result (view_of self.new.scope ≡ view_of self.old.scope) }
-        ensures named { IfOk result (IsBody (names_of self.old.scope) procedure.now) }
+        ensures named { IfOk result (IsBody before.now (names_of self.old.scope) procedure.now) }
         ensures sound { IfOk result (λ s. IsWellFormed s self.old.scope.values self.old.scope.nodes none_held (is_in_loop (view_of self.old.scope))) }
         ensures handled { IfOk result (λ s. fails s none_held ≡ []) }
         ensures enters { IfOk result (λ s. EntersOnce s nothing_before) }
     {
-        let lowered = self.block(&procedure.body, Held::NOTHING)?;
+        let lowered = self.block(before, &procedure.body, Held::NOTHING)?;
         check_atomic(procedure.is_atomic, &lowered.0, procedure.name.offset)?;
-        let (handled, _flow) = self.handled(lowered, &procedure.otherwise, Held::NOTHING)?;
+        let (handled, _flow) = self.handled(before, lowered, &procedure.otherwise, Held::NOTHING)?;
         check_atomic(procedure.is_atomic, &handled, procedure.name.offset)?;
         let handled = self.boxed(handled)?;
         Ok(Statement::Try(handled, self.boxed(Statement::Skip)?))
@@ -80,21 +85,22 @@ impl Lowering {
 
     fn procedure(
         &mut self,
+        before: &[Declaration],
         procedure: &parsed::Procedure,
         names: &IndexSet<&[u8]>,
     ) -> Result<Procedure, SyntaxFault>
         requires { IsBare (view_of self.old.scope) }
-        ensures fresh { OnOk result (is_procedure (names_of self.old.scope) procedure.now.name ≡ false) }
-        ensures named { IfOk result (IsProcedure (spellings names.now.keys) (with_procedure (names_of self.old.scope) procedure.now.name) procedure.now) }
-        ensures names { OnOk result (names_of self.new.scope ≡ with_procedure (names_of self.old.scope) procedure.now.name) }
+        ensures fresh { OnOk result (index_of (names_of self.old.scope) procedure.now.name ≡ None) }
+        ensures named { IfOk result (IsProcedure (spellings names.now.keys) before.now (with_procedure (names_of self.old.scope) procedure.now.name (length before.now)) procedure.now) }
+        ensures names { OnOk result (names_of self.new.scope ≡ with_procedure (names_of self.old.scope) procedure.now.name (length before.now)) }
         ensures scope { OnOk result (IsBare (view_of self.new.scope)) }
         ensures procedure { IfOk result (λ p. IsWord p.name.items → IsInOrder p) }
     {
-        self.scope.declare_procedure(procedure.name)?;
+        self.scope.declare_procedure(procedure.name, before.len())?;
         let mark = self.scope.mark();
         self.declare_arguments(&procedure.arguments)?;
         let arity = self.scope.values;
-        let body = self.body(procedure)?;
+        let body = self.body(before, procedure)?;
         self.scope.return_to(mark);
         let name = match names.get_index(procedure.name.symbol.0) {
             Some(name) => Vec::from_slice(self.alloc, *name)?,
@@ -114,11 +120,12 @@ impl Lowering {
         names: &IndexSet<&[u8]>,
     ) -> Result<Program, SyntaxFault>
         requires { IsBare (view_of self.old.scope) }
-        ensures named { IfOk result (λ p. AreDeclared (spellings names.now.keys) (names_of self.old.scope) declarations.now p.procedures.items) }
+        ensures named { IfOk result (λ p. AreDeclared (spellings names.now.keys) [] (names_of self.old.scope) declarations.now p.procedures.items) }
         ensures procedures { IfOk result (λ p. All (λ (q : CoreProcedure). IsWord q.name.items → IsInOrder q) p.procedures.items) }
     {
         let mut procedures = Vec::new(self.alloc);
-        for declaration in declarations {
+        for (index, declaration) in declarations.iter().enumerate() {
+            let before = &declarations[..index];
             match declaration {
                 Declaration::Field {
                     name,
@@ -131,8 +138,9 @@ impl Lowering {
                     self.scope.declare_constant(*name, number);
                 }
                 Declaration::Procedure(procedure) => {
-                    procedures.push(self.procedure(procedure, names)?)?;
+                    procedures.push(self.procedure(before, procedure, names)?)?;
                 }
+                Declaration::Part(part) => self.scope.declare_procedure(part.name, index)?,
             }
         }
         Ok(Program { procedures })
@@ -152,6 +160,11 @@ pub fn read(alloc: Global, text: &[u8]) -> Result<Program, SyntaxFault>
         names,
     } = parse(alloc, text)?;
     let scope = Scope::new(alloc, names.len())?;
-    let mut lowering = Lowering { alloc, scope };
+    let mut lowering = Lowering {
+        alloc,
+        scope,
+        part_size: MAX_PART_SIZE,
+        part_depth: 0,
+    };
     lowering.program(&declarations, &names)
 }

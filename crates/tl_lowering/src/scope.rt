@@ -1,13 +1,12 @@
 // What names stand for.
 
-ghost use Rattle.std.specs.Prelude.{◌≡◌, ◌+◌, ◌<◌, length, slice_set, take, drop, true, false, Some, None, IfOk, OnOk, IfSome};
+ghost use Rattle.std.specs.Prelude.{◌≡◌, ◌≢◌, ℕ, ◌+◌, ◌<◌, length, slice_set, get_or, take, drop, true, Some, None, IfOk, OnOk, IfSome};
 ghost use Rattle.tl_instr.specs.declared.operand.TheConstants.{VALUE_REGISTERS, NODE_REGISTERS};
 ghost use Rattle.tl_lowering.specs.declared.scope.Meaning.TheVariants.{Nothing, Value, Node};
-ghost use Rattle.tl_lowering.specs.Names.{names_of, without_meaning, stands_for, field_named, is_procedure, with_constant, with_field, with_procedure, with_unnamed, with_index, with_value, with_node};
-ghost use Rattle.tl_lowering.specs.Descending.{node_in};
+ghost use Rattle.tl_lowering.specs.Names.{names_of, without_meaning, stands_for, field_named, index_of, constant_only, inside, with_alias, with_constant, with_field, with_procedure, with_unnamed, with_index, with_value, with_node};
 ghost use Rattle.tl_lowering.specs.Paths.{nodes_of};
 ghost use Rattle.tl_lowering.specs.Sets.{holds};
-ghost use Rattle.tl_lowering.specs.Scopes.{View, view_of, IsInUse, IsBare, Extends, meaning_of, forget};
+ghost use Rattle.tl_lowering.specs.Scopes.{View, view_of, IsInUse, IsBare, Extends, meaning_of, node_in, forget};
 
 use crate::paths::Held;
 use std::alloc::{AllocError, Global};
@@ -26,12 +25,25 @@ pub enum Meaning {
     Node(NodeRegister),
 }
 
+impl Meaning {
+    // What a name stands for in a part: a constant, or nothing.
+    fn in_a_part(self) -> Meaning
+        ensures { result ≡ constant_only self }
+    {
+        match self {
+            Meaning::Constant(number) => Meaning::Constant(number),
+            _ => Meaning::Nothing,
+        }
+    }
+}
+
 /// What is declared at a place. Nothing is shadowed, so each name stands for one thing.
 #[derive(Drop)]
 pub struct Scope {
     meanings: Vec<Meaning>,
     fields: Vec<Option<Field>>,
-    is_procedure: Vec<bool>,
+    // The index of the declaration of the procedure or the part that has a name.
+    procedures: Vec<Option<usize>>,
     // The names that the open blocks have declared so far, those of the outer blocks first.
     local: Vec<Symbol>,
     /// The number of values, including those without a name.
@@ -59,7 +71,7 @@ impl Scope {
         Ok(Scope {
             meanings: vec![in alloc; Meaning::Nothing; names]?,
             fields: vec![in alloc; None; names]?,
-            is_procedure: vec![in alloc; false; names]?,
+            procedures: vec![in alloc; None; names]?,
             local: Vec::new(alloc),
             values: 0,
             nodes: 0,
@@ -79,7 +91,7 @@ impl Scope {
     fn set(&mut self, symbol: Symbol, meaning: Meaning)
         ensures meanings { self.new.meanings.items ≡ slice_set self.old.meanings.items symbol.0 meaning }
         ensures fields { self.new.fields.items ≡ self.old.fields.items }
-        ensures procedures { self.new.is_procedure.items ≡ self.old.is_procedure.items }
+        ensures procedures { self.new.procedures.items ≡ self.old.procedures.items }
         ensures local { self.new.local.items ≡ self.old.local.items }
         ensures values { self.new.values ≡ self.old.values }
         ensures nodes { self.new.nodes ≡ self.old.nodes }
@@ -119,20 +131,51 @@ impl Scope {
         self.set(name.symbol, Meaning::Constant(number));
     }
 
-    /// Declares a procedure. 276 if one of that name is declared already.
-    pub fn declare_procedure(&mut self, name: Name) -> Result<(), SyntaxFault>
+    /// Declares a procedure or a part. 276 if one of that name is declared already.
+    pub fn declare_procedure(&mut self, name: Name, index: usize) -> Result<(), SyntaxFault>
         ensures bare { OnOk result (IsBare (view_of self.old) → IsBare (view_of self.new)) }
-        ensures fresh { OnOk result (is_procedure (names_of self.old) name ≡ false) }
-        ensures named { OnOk result (names_of self.new ≡ with_procedure (names_of self.old) name) }
+        ensures fresh { OnOk result (index_of (names_of self.old) name ≡ None) }
+        ensures named { OnOk result (names_of self.new ≡ with_procedure (names_of self.old) name index) }
     {
-        let index = name.symbol.0;
-        if self.is_procedure.get(index) == Some(&true) {
+        let symbol = name.symbol.0;
+        if let Some(Some(_)) = self.procedures.get(symbol) {
             return Err(SyntaxFault::at(Wrong::Twice, name.offset));
         }
-        if index < self.is_procedure.len() {
-            self.is_procedure[index] = true;
+        if symbol < self.procedures.len() {
+            self.procedures[symbol] = Some(index);
         }
         Ok(())
+    }
+
+    /// The index of the declaration of the procedure or the part of that name. 275 if there is none.
+    pub fn index(&self, name: Name) -> Result<usize, SyntaxFault>
+        ensures { IfOk result (λ k. index_of (names_of self.now) name ≡ Some k) }
+    {
+        match self.procedures.get(name.symbol.0) {
+            Some(Some(index)) => Ok(*index),
+            _ => Err(SyntaxFault::at(Wrong::Unknown, name.offset)),
+        }
+    }
+
+    /// The scope in a part that is used here: of the names only those of constants and fields are known.
+    pub fn inside(&self, alloc: Global) -> Result<Scope, AllocError>
+        ensures in_use { IfOk result (λ s. IsInUse (view_of s)) }
+        ensures nodes { IfOk result (λ s. (i n : ℕ) → get_or (view_of s).meanings i Nothing ≢ Node n) }
+        ensures named { IfOk result (λ s. names_of s ≡ inside (names_of self.now)) }
+    {
+        let mut meanings = Vec::new(alloc);
+        for meaning in &self.meanings {
+            meanings.push(meaning.in_a_part())?;
+        }
+        Ok(Scope {
+            meanings,
+            fields: Vec::from_slice(alloc, &self.fields)?,
+            procedures: Vec::from_slice(alloc, &self.procedures)?,
+            local: Vec::new(alloc),
+            values: self.values,
+            nodes: self.nodes,
+            loops: 0,
+        })
     }
 
     /// The register of the next value. 291 at `offset` if there is none.
@@ -164,7 +207,7 @@ impl Scope {
         ensures values { OnOk result (self.new.values ≡ self.old.values + 1) }
         ensures nodes { OnOk result (self.new.nodes ≡ self.old.nodes) }
         ensures fields { OnOk result (self.new.fields.items ≡ self.old.fields.items) }
-        ensures procedures { OnOk result (self.new.is_procedure.items ≡ self.old.is_procedure.items) }
+        ensures procedures { OnOk result (self.new.procedures.items ≡ self.old.procedures.items) }
         ensures loops { OnOk result (self.new.loops ≡ self.old.loops) }
         ensures names { OnOk result ((outer : View) → meaning_of (view_of self.old) name.symbol ≡ Nothing → Extends outer (view_of self.old) → Extends outer (view_of self.new)) }
         ensures named { OnOk result (names_of self.new ≡ with_value (names_of self.old) name) }
@@ -208,7 +251,7 @@ impl Scope {
         ensures loops { self.new.loops ≡ self.old.loops }
         ensures meanings { self.new.meanings.items ≡ self.old.meanings.items }
         ensures fields { self.new.fields.items ≡ self.old.fields.items }
-        ensures procedures { self.new.is_procedure.items ≡ self.old.is_procedure.items }
+        ensures procedures { self.new.procedures.items ≡ self.old.procedures.items }
         ensures local { self.new.local.items ≡ self.old.local.items }
         ensures named { names_of self.new ≡ with_unnamed (names_of self.old) }
     {
@@ -223,7 +266,7 @@ impl Scope {
         ensures nodes { OnOk result (self.new.nodes ≡ self.old.nodes + 1) }
         ensures meanings { OnOk result (self.new.meanings.items ≡ slice_set self.old.meanings.items name.symbol.0 (Node register)) }
         ensures fields { OnOk result (self.new.fields.items ≡ self.old.fields.items) }
-        ensures procedures { OnOk result (self.new.is_procedure.items ≡ self.old.is_procedure.items) }
+        ensures procedures { OnOk result (self.new.procedures.items ≡ self.old.procedures.items) }
         ensures loops { OnOk result (self.new.loops ≡ self.old.loops) }
         ensures names { OnOk result ((outer : View) → meaning_of (view_of self.old) name.symbol ≡ Nothing → Extends outer (view_of self.old) → Extends outer (view_of self.new)) }
         ensures named { OnOk result (names_of self.new ≡ with_node (names_of self.old) name) }
@@ -231,6 +274,18 @@ impl Scope {
         self.local.push(name.symbol)?;
         self.set(name.symbol, Meaning::Node(register));
         self.nodes = self.nodes.saturating_add(1);
+        Ok(())
+    }
+
+    /// From here on the name stands for a node that has another name outside of the part.
+    pub fn declare_alias(&mut self, name: Name, register: NodeRegister) -> Result<(), SyntaxFault>
+        ensures values { OnOk result (self.new.values ≡ self.old.values) }
+        ensures nodes { OnOk result (self.new.nodes ≡ self.old.nodes) }
+        ensures loops { OnOk result (self.new.loops ≡ self.old.loops) }
+        ensures named { OnOk result (names_of self.new ≡ with_alias (names_of self.old) name register) }
+    {
+        self.local.push(name.symbol)?;
+        self.set(name.symbol, Meaning::Node(register));
         Ok(())
     }
 
@@ -250,7 +305,7 @@ impl Scope {
     pub fn return_to(&mut self, mark: Mark)
         ensures meanings { self.new.meanings.items ≡ forget (drop mark.local self.old.local.items) self.old.meanings.items }
         ensures fields { self.new.fields.items ≡ self.old.fields.items }
-        ensures procedures { self.new.is_procedure.items ≡ self.old.is_procedure.items }
+        ensures procedures { self.new.procedures.items ≡ self.old.procedures.items }
         ensures local { self.new.local.items ≡ take mark.local self.old.local.items }
         ensures values { self.new.values ≡ mark.values }
         ensures nodes { self.new.nodes ≡ mark.nodes }

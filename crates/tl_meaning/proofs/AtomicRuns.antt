@@ -14,6 +14,7 @@ use Rattle.tl_tree_locking.specs.declared.action.Action.TheVariants as did
 use Rattle.tl_machine.specs.Runs.{Held, State}
 use Rattle.tl_machine.specs.Alone.{node, with_value, with_node, numbered, open_kid, start}
 use Rattle.tl_machine.proofs.Slots.{held_by}
+use Rattle.tl_syntax.specs.declared.parsed.Declaration.{Declaration}
 use Rattle.tl_syntax.specs.declared.parsed.Procedure.{Procedure as TextProcedure}
 use Rattle.tl_lowering.specs.declared.atomic.Ways.{Ways}
 use Rattle.tl_lowering.specs.declared.program.Expression.{Expression}
@@ -670,9 +671,9 @@ nothing_written parents a d args t sound turn atomic failed =
     by Fails e f (Some w) is none = let h : Here w t (behaviour parents a (start args t)).state = subst (λ q. HereBy q t (behaviour parents a (start args t)).state) is e.1 in h.clean none
 
 -- of a procedure's body, and of the body with its `else`
-pub atomic_writes_nothing : {names : Names} {text : TextProcedure} {whole : Statement} (read : IsBody names text whole) → text.is_atomic ≡ true → (arity : ℕ) (parents : List ℕ) (args : List ℤ) (t : Records)
+pub atomic_writes_nothing : {before : List Declaration} {names : Names} {text : TextProcedure} {whole : Statement} (read : IsBody before names text whole) → text.is_atomic ≡ true → (arity : ℕ) (parents : List ℕ) (args : List ℤ) (t : Records)
     → IsWellFormed whole arity 0 none_held false → AllTurn whole → WritesNothing parents read.body args t × WritesNothing parents read.handled args t
-atomic_writes_nothing {text} read marked arity parents args t sound turn =
+atomic_writes_nothing {text = text} read marked arity parents args t sound turn =
     by read.handled_is read.whole_is sound turn (read.atomic marked) (read.atomic_else marked)
   where
     by : {body handler handled whole : Statement} → IsTried body handler handled → IsTried handled S.Skip whole → IsWellFormed whole arity 0 none_held false → AllTurn whole → IsAtomic body → IsAtomic handled

@@ -28,6 +28,7 @@ ghost use Rattle.tl_lowering.specs.Fit.{AllTurn};
 ghost use Rattle.tl_lowering.specs.Naming.{AreWritten};
 ghost use Rattle.tl_lowering.specs.Reading.{IsBody};
 ghost use Rattle.tl_lowering.specs.declared.program.Statement.TheVariants.{Skip};
+ghost use Rattle.tl_syntax.specs.declared.parsed.Declaration.{Declaration};
 ghost use Rattle.tl_syntax.specs.declared.parsed.Procedure.{Procedure as TextProcedure};
 ghost use Rattle.tl_syntax.specs.declared.parsed.Write.{Write};
 
@@ -76,7 +77,7 @@ pub fn calls()
 /// A call of an atomic procedure has written nothing when its body fails and control goes to its `else`; nor has it when
 /// the `else` fails too, which ends the call.
 pub fn writes_nothing()
-    ensures { (names : Names) (text : TextProcedure) (whole : Statement) (arity : ℕ) (parents : List ℕ) (args : List ℤ) (t : Records) (read : IsBody names text whole) → text.is_atomic ≡ true → IsWellFormed whole arity 0 none_held false → AllTurn whole → WritesNothing parents read.body args t × WritesNothing parents read.handled args t }
+    ensures { (before : List Declaration) (names : Names) (text : TextProcedure) (whole : Statement) (arity : ℕ) (parents : List ℕ) (args : List ℤ) (t : Records) (read : IsBody before names text whole) → text.is_atomic ≡ true → IsWellFormed whole arity 0 none_held false → AllTurn whole → WritesNothing parents read.body args t × WritesNothing parents read.handled args t }
 {}
 
 /// A procedure that the verifier accepted, and that has the code of a text, does what a call of the text does: the same locks, writes,

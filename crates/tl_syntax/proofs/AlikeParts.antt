@@ -20,10 +20,11 @@ use Rattle.tl_syntax.specs.declared.parsed.StatementForm.{StatementForm, out-Sta
 use Rattle.tl_syntax.specs.declared.parsed.StatementForm.TheOpen as Y
 use Rattle.tl_syntax.specs.declared.parsed.StatementForm.TheVariants as S
 use Rattle.tl_syntax.specs.declared.parsed.Procedure.{Procedure}
+use Rattle.tl_syntax.specs.declared.parsed.Part.{Part}
 use Rattle.tl_syntax.specs.declared.parsed.Declaration.{Declaration}
 use Rattle.tl_syntax.specs.declared.parsed.Declaration.TheVariants as D
 use Rattle.tl_syntax.specs.Alike as A
-use Rattle.tl_syntax.specs.Alike.{Alike, AlikeForm, AreAlike, AlikeChild, AlikePlace, AlikeWrite, AlikeWrites, AlikeAction, AlikeQuestion, AlikeStatements, AlikeStatement, AlikeStatementForm, AlikeOtherwise, AlikeProcedure, AlikeDeclaration, AlikeDeclarations}
+use Rattle.tl_syntax.specs.Alike.{Alike, AlikeForm, AreAlike, AlikeChild, AlikePlace, AlikeWrite, AlikeWrites, AlikeAction, AlikeQuestion, AlikeStatements, AlikeStatement, AlikeStatementForm, AlikeOtherwise, AlikeProcedure, AlikePart, AlikeDeclaration, AlikeDeclarations}
 use Rattle.tl_syntax.proofs.AlikeForms.{form_of}
 
 -- ---- itself
@@ -57,6 +58,7 @@ action_rank (V.Descend node e) = 6
 action_rank (V.Take node from) = 7
 action_rank (V.Free node) = 8
 action_rank (V.Leave l) = 9
+action_rank (V.Use n es) = 10
 
 pub same_action_rank : {a b : Action} → AlikeAction a b → action_rank a ≡ action_rank b
 same_action_rank A.same_action = refl
@@ -67,6 +69,7 @@ same_action_rank (A.emits x) = refl
 same_action_rank (A.requires x) = refl
 same_action_rank (A.locks x) = refl
 same_action_rank (A.descends x) = refl
+same_action_rank (A.uses x) = refl
 
 pub let_of : {n m : Name} {e f : Expression} → AlikeAction (V.Let n e) (V.Let m f) → (n ≡ m) × AlikeForm e.form f.form
 let_of A.same_action = (refl, A.same_form)
@@ -121,6 +124,10 @@ expressions_itself (e ∷ es) = alike_before (alike_itself e) (expressions_itsel
 pub emit_of : {es fs : Vec Expression Global} → AlikeAction (V.Emit es) (V.Emit fs) → AreAlike es.items fs.items
 emit_of {es} A.same_action = expressions_itself es.items
 emit_of (A.emits x) = x
+
+pub use_of : {n m : Name} {es fs : Vec Expression Global} → AlikeAction (V.Use n es) (V.Use m fs) → (n ≡ m) × AreAlike es.items fs.items
+use_of {es = es} A.same_action = (refl, expressions_itself es.items)
+use_of (A.uses x) = (refl, x)
 
 -- ---- the parts of a statement
 
@@ -300,7 +307,7 @@ pub data PairedDeclarations : List Declaration → List Declaration → Type 0 w
   paired_nothing : PairedDeclarations [] []
   paired_declaration : {d e : Declaration} {ds es : List Declaration} → AlikeDeclaration d e → PairedDeclarations ds es → PairedDeclarations (d ∷ ds) (e ∷ es)
 
-push_declaration : {d e : Declaration} {ds es : List Declaration} → AlikeDeclaration d e → PairedDeclarations ds es → PairedDeclarations (ds ++ d ∷ []) (es ++ e ∷ [])
+pub push_declaration : {d e : Declaration} {ds es : List Declaration} → AlikeDeclaration d e → PairedDeclarations ds es → PairedDeclarations (ds ++ d ∷ []) (es ++ e ∷ [])
 push_declaration x paired_nothing = paired_declaration x paired_nothing
 push_declaration x (paired_declaration y h) = paired_declaration y (push_declaration x h)
 
@@ -315,11 +322,13 @@ abbrev pub declaration_rank : Declaration → ℕ
 declaration_rank (D.Field name number offset) = 0
 declaration_rank (D.Constant name value) = 1
 declaration_rank (D.Procedure p) = 2
+declaration_rank (D.Part p) = 3
 
 pub same_declaration_rank : {d e : Declaration} → AlikeDeclaration d e → declaration_rank d ≡ declaration_rank e
 same_declaration_rank A.same_declaration = refl
 same_declaration_rank (A.constants x) = refl
 same_declaration_rank (A.procedures x) = refl
+same_declaration_rank (A.parts x) = refl
 
 pub field_of : {n m : Name} {v w : ℤ} {o p : ℕ} → AlikeDeclaration (D.Field n v o) (D.Field m w p) → (n ≡ m) × (v ≡ w)
 field_of A.same_declaration = (refl, refl)
@@ -331,3 +340,11 @@ constant_of (A.constants x) = (refl, form_of x)
 pub procedure_of : {p q : Procedure} → AlikeProcedure p p → AlikeDeclaration (D.Procedure p) (D.Procedure q) → AlikeProcedure p q
 procedure_of itself A.same_declaration = itself
 procedure_of itself (A.procedures x) = x
+
+pub part_of : {p q : Part} → AlikePart p p → AlikeDeclaration (D.Part p) (D.Part q) → AlikePart p q
+part_of itself A.same_declaration = itself
+part_of itself (A.parts x) = x
+
+pub part_name : {p q : Part} → AlikeDeclaration (D.Part p) (D.Part q) → p.name ≡ q.name
+part_name A.same_declaration = refl
+part_name (A.parts x) = x.name

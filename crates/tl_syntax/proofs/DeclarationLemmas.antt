@@ -3,10 +3,11 @@ use Rattle.std.proofs.Common.{◌≡◌, ℕ, List, [], ◌∷◌, ◌++◌, sym
 use Rattle.tl_syntax.specs.declared.token.Token.{Token}
 use Rattle.tl_syntax.specs.declared.token.TokenKind.TheVariants as K
 use Rattle.tl_syntax.specs.declared.parsed.Name.{Name}
+use Rattle.tl_syntax.specs.declared.parsed.Parameter.{Parameter}
 use Rattle.tl_syntax.specs.declared.parsed.Declaration.{Declaration}
 use Rattle.tl_syntax.specs.Grammar.{Stands, IsName}
 use Rattle.tl_syntax.specs.Declarations as R
-use Rattle.tl_syntax.specs.Declarations.{AreNames, AreArguments, IsDeclaration, AreDeclarations}
+use Rattle.tl_syntax.specs.Declarations.{AreNames, AreArguments, IsParameter, AreParameters, AreTaken, IsDeclaration, AreDeclarations}
 use Rattle.tl_syntax.proofs.StatementLemmas.{pushed_first}
 
 pub first_name : {tokens : List Token} {i j : ℕ} {n : Name} {old new : List Name} → new ≡ old ++ n ∷ [] → old ≡ [] →
@@ -19,6 +20,17 @@ next_name {tokens} {i} {l = l} p a b h = subst (λ ns. AreNames tokens i l ns) (
 
 pub no_arguments : {tokens : List Token} {i j : ℕ} {ns : List Name} → ns ≡ [] → Stands tokens K.RightParenthesis i j → AreArguments tokens i j ns
 no_arguments {tokens} {i} {j} e h = subst (λ ns. AreArguments tokens i j ns) (sym e) (R.none h)
+
+pub first_parameter : {tokens : List Token} {i j : ℕ} {p : Parameter} {old new : List Parameter} → new ≡ old ++ p ∷ [] → old ≡ [] →
+    IsParameter tokens i j p → AreParameters tokens i j new
+first_parameter {tokens} {i} {j} p o h = subst (λ ps. AreParameters tokens i j ps) (sym (pushed_first p o)) (R.first_parameter h)
+
+pub next_parameter : {tokens : List Token} {i j k l : ℕ} {p : Parameter} {old new : List Parameter} → new ≡ old ++ p ∷ [] →
+    AreParameters tokens i j old → Stands tokens K.Comma j k → IsParameter tokens k l p → AreParameters tokens i l new
+next_parameter {tokens} {i} {l = l} p a b h = subst (λ ps. AreParameters tokens i l ps) (sym p) (R.next_parameter a b h)
+
+pub none_taken : {tokens : List Token} {i j : ℕ} {ps : List Parameter} → ps ≡ [] → Stands tokens K.RightParenthesis i j → AreTaken tokens i j ps
+none_taken {tokens} {i} {j} e h = subst (λ ps. AreTaken tokens i j ps) (sym e) (R.none_taken h)
 
 pub no_declarations : {tokens : List Token} {i : ℕ} {ds : List Declaration} → ds ≡ [] → AreDeclarations tokens i i ds
 no_declarations {tokens} {i} e = subst (λ ds. AreDeclarations tokens i i ds) (sym e) R.no_more

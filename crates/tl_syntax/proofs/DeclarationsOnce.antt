@@ -1,23 +1,28 @@
 -- Tokens denote only one list of declarations.
-use Rattle.std.proofs.Common.{◌≡◌, ℕ, ◌≤◌, ℤ, Bool, List, [], ◌∷◌, ◌++◌, refl, sym, ap, subst, ◌∙◌, arith}
+use Rattle.std.proofs.Common.{◌≡◌, ℕ, ◌-◌, ◌≤◌, Bool, List, [], ◌∷◌, ◌++◌, refl, sym, ap, ap₂, subst, ◌∙◌, arith}
 use Rattle.std.proofs.Math.Path.{subst₂}
+use Rattle.std.specs.Prelude.{nat_eq, if◌then◌else◌}
 use Rattle.tl_syntax.specs.declared.token.Token.{Token}
 use Rattle.tl_syntax.specs.declared.token.TokenKind.{TokenKind}
 use Rattle.tl_syntax.specs.declared.token.TokenKind.TheVariants as K
 use Rattle.tl_syntax.specs.declared.parsed.Name.{Name}
 use Rattle.tl_syntax.specs.declared.parsed.Procedure.{Procedure}
+use Rattle.tl_syntax.specs.declared.parsed.Parameter.{Parameter}
+use Rattle.tl_syntax.specs.declared.parsed.Parameter.TheVariants as P
+use Rattle.tl_syntax.specs.declared.parsed.Part.{Part}
 use Rattle.tl_syntax.specs.declared.parsed.Declaration.{Declaration}
 use Rattle.tl_syntax.specs.declared.parsed.Declaration.TheVariants as V
 use Rattle.tl_syntax.specs.declared.parser.TheConstants.{MAX_LEVELS}
 use Rattle.tl_syntax.specs.Grammar.{kind_at, offset_at, Stands, IsName, IsNumber, IsExpression, Disjunction}
 use Rattle.tl_syntax.specs.Statements.{IsBlock}
 use Rattle.tl_syntax.specs.Declarations as D
-use Rattle.tl_syntax.specs.Declarations.{AreNames, AreArguments, IsMark, IsProcedure, IsDeclaration, AreDeclarations, IsFile}
+use Rattle.tl_syntax.specs.Declarations.{AreNames, AreArguments, IsMark, IsProcedure, IsParameter, AreParameters, AreTaken, IsPart, IsDeclaration, AreDeclarations, IsFile}
 use Rattle.tl_syntax.specs.Alike as A
-use Rattle.tl_syntax.specs.Alike.{AlikeStatements, AlikeProcedure, AlikeDeclaration, AlikeDeclarations}
+use Rattle.tl_syntax.specs.Alike.{AlikeStatements, AlikeProcedure, AlikePart, AlikeDeclaration, AlikeDeclarations}
 use Rattle.tl_syntax.proofs.ListsOnce.{Rest, done, append, Compared, within, another_compared, list_end}
 use Rattle.tl_syntax.proofs.ExpressionsOnce.{same_end, differ, same_name, same_number, once}
-use Rattle.tl_syntax.proofs.StatementsOnce.{at, ends, NoComma, some_comma, comma, NoElse, some_else, no_else, block_once}
+use Rattle.tl_syntax.proofs.ActionsOnce.{at, ends, NoComma, some_comma, comma}
+use Rattle.tl_syntax.proofs.StatementsOnce.{NoElse, some_else, no_else, block_once}
 
 -- ---- names
 
@@ -153,13 +158,100 @@ procedure_once {tokens} {i} {j} {k} {p} {q} (D.procedure_else {i = a0} {j = a1} 
     let other = block_once c c2' in
     (other.0, record { mark = h.marked; name = h.named; arguments = h.arguments; body = h.body; otherwise = other.1 })
 
+-- ---- parts
+
+-- how a parameter begins
+abbrev beginning : TokenKind → ℕ
+beginning K.Node = 1
+beginning (K.Name s) = 2
+beginning kind = 0
+
+abbrev parting : TokenKind → ℕ
+parting K.Node = 1
+parting (K.Name s) = 1
+parting kind = 0
+
+parameter_once : {tokens : List Token} {i j k : ℕ} {p q : Parameter} → IsParameter tokens i j p → IsParameter tokens i k q → (j ≡ k) × (p ≡ q)
+parameter_once {tokens} {k = end} (D.node_parameter {j = a1} s n) (D.node_parameter {n = y} t m) =
+    let m' : IsName tokens a1 end y = at (λ z. IsName tokens z end y) (same_end s t) m in
+    (same_end n.stands m'.stands, ap P.Node (same_name n m'))
+parameter_once (D.node_parameter s n) (D.value_parameter m) = differ beginning s.kind_is m.stands.kind_is (omega arith)
+parameter_once (D.value_parameter n) (D.node_parameter t m) = differ beginning t.kind_is n.stands.kind_is (omega arith)
+parameter_once (D.value_parameter n) (D.value_parameter m) = (same_end n.stands m.stands, ap P.Value (same_name n m))
+
+-- a comma and a parameter
+record IsNextParameter (tokens : List Token) (i k : ℕ) (p : Parameter) : Type 0 where
+  middle : ℕ
+  stands : Stands tokens K.Comma i middle
+  is : IsParameter tokens middle k p
+
+record AreSplit (tokens : List Token) (i k : ℕ) (ps : List Parameter) : Type 0 where
+  middle : ℕ
+  one : Parameter
+  first : IsParameter tokens i middle one
+  rest : Rest (IsNextParameter tokens) middle (one ∷ []) k ps
+
+split : {tokens : List Token} {i k : ℕ} {ps : List Parameter} → AreParameters tokens i k ps → AreSplit tokens i k ps
+split (D.first_parameter {j = j} {p = p} h) = record { middle = j; one = p; first = h; rest = done }
+split (D.next_parameter {k = k} a s h) =
+    let p = split a in record { middle = p.middle; one = p.one; first = p.first; rest = append p.rest (record { middle = k; stands = s; is = h }) }
+
+abbrev SameParameters : List Parameter → List Parameter → Type 0
+SameParameters ps qs = ps ≡ qs
+
+next_parameter_once : (tokens : List Token) (j k : ℕ) (p : Parameter) → IsNextParameter tokens j k p → Anything k → (l : ℕ) (q : Parameter) → IsNextParameter tokens j l q → Anything l →
+    (k ≡ l) × (p ≡ q)
+next_parameter_once tokens j k p x a l q y b =
+    let is : IsParameter tokens x.middle l q = at (λ z. IsParameter tokens z l q) (same_end x.stands y.stands) y.is in parameter_once x.is is
+
+parameter_pushed : (ps qs : List Parameter) (p q : Parameter) → SameParameters ps qs → p ≡ q → SameParameters (ps ++ p ∷ []) (qs ++ q ∷ [])
+parameter_pushed ps qs p q e f = ap (λ l. l ++ p ∷ []) e ∙ ap (λ x. qs ++ x ∷ []) f
+
+parameters_compared : {tokens : List Token} {i j : ℕ} {ps : List Parameter} → AreParameters tokens i j ps → (k : ℕ) (qs : List Parameter) → AreSplit tokens i k qs →
+    Compared (IsNextParameter tokens) SameParameters j ps k qs
+parameters_compared {tokens} (D.first_parameter h) k qs p =
+    let same = parameter_once h p.first in
+    within (at (λ z. Rest (IsNextParameter tokens) z (p.one ∷ []) k qs) same.0 p.rest) (ap (λ n. n ∷ []) same.1)
+parameters_compared {tokens} (D.next_parameter {j = j} {k = m} {l = l} {ps = ps} {p = p} a s h) k qs q =
+    let item : IsNextParameter tokens j l p = record { middle = m; stands = s; is = h } in
+    another_compared (IsNextParameter tokens) (λ x y. x ≡ y) SameParameters Anything (λ j k x h. tt) parameter_pushed j l k ps qs p item (next_parameter_once tokens j l p item) tt tt
+    (parameters_compared a k qs q)
+
+parameters_start : {tokens : List Token} {i j : ℕ} {ps : List Parameter} → AreParameters tokens i j ps → parting (kind_at tokens i) ≡ 1
+parameters_start (D.first_parameter (D.node_parameter s n)) = ap parting s.kind_is
+parameters_start (D.first_parameter (D.value_parameter n)) = ap parting n.stands.kind_is
+parameters_start (D.next_parameter a s h) = parameters_start a
+
+taken_once : {tokens : List Token} {i j k : ℕ} {ps qs : List Parameter} → AreTaken tokens i j ps → AreTaken tokens i k qs → (j ≡ k) × (ps ≡ qs)
+taken_once (D.none_taken s) (D.none_taken t) = (same_end s t, refl)
+taken_once (D.none_taken s) (D.some_taken a t) = absurd (omega (arith, parameters_start a, ap parting s.kind_is))
+taken_once (D.some_taken a s) (D.none_taken t) = absurd (omega (arith, parameters_start a, ap parting t.kind_is))
+taken_once {tokens} {k = end} {ps = ps} {qs = qs} (D.some_taken {j = a1} a s) (D.some_taken {j = b1} b t) =
+    let same = list_end a1 b1 ps qs (parameters_compared a b1 qs (split b)) (λ l y q. some_comma q.stands (no_comma s)) (λ l y q. some_comma q.stands (no_comma t)) in
+    let t' : Stands tokens K.RightParenthesis a1 end = at (λ z. Stands tokens K.RightParenthesis z end) same.0 t in
+    (same_end s t', same.1)
+
+part_once : {tokens : List Token} {i j k : ℕ} {p q : Part} → IsPart tokens i j p → IsPart tokens i k q → (j ≡ k) × AlikePart p q
+part_once {tokens} {k = end} {q = q} (D.part {j = a1} {k = a2} {l = a3} {m = a4} s n t a b r z) (D.part {k = b2} {l = b3} {m = b4} s2 n2 t2 x2 y2 r2 z2) =
+    let n2' : IsName tokens a1 b2 q.name = at (λ z. IsName tokens z b2 q.name) (same_end s s2) n2 in
+    let t2' : Stands tokens K.LeftParenthesis a2 b3 = at (λ z. Stands tokens K.LeftParenthesis z b3) (same_end n.stands n2'.stands) t2 in
+    let x2' : AreTaken tokens a3 b4 q.parameters.items = at (λ z. AreTaken tokens z b4 q.parameters.items) (same_end t t2') x2 in
+    let taken = taken_once a x2' in
+    let y2' : IsBlock tokens MAX_LEVELS a4 end q.body.items = at (λ z. IsBlock tokens MAX_LEVELS z end q.body.items) taken.0 y2 in
+    let body = block_once b y2' in
+    (body.0, record { name = same_name n n2'; parameters = taken.1; body = body.1; size = z ∙ ap₂ (λ x y. x - y) body.0 taken.0 ∙ sym z2 })
+
 -- ---- declarations
+
+-- the word `part` or another word
+abbrev word_rank : ℕ → ℕ
+word_rank s = if nat_eq s 7 then 4 else 3
 
 abbrev declares : TokenKind → ℕ
 declares K.Field = 1
 declares K.Const = 2
 declares K.Proc = 3
-declares (K.Name s) = 3
+declares (K.Name s) = word_rank s.0
 declares kind = 0
 
 mark_starts : {tokens : List Token} {h i a : ℕ} {x : Bool} → IsMark tokens h i x → Stands tokens K.Proc i a → declares (kind_at tokens h) ≡ 3
@@ -174,16 +266,19 @@ abbrev rank : {tokens : List Token} {i j : ℕ} {d : Declaration} → IsDeclarat
 rank (D.field s n t m u o) = 1
 rank (D.constant s n t m u) = 2
 rank (D.procedures p) = 3
+rank (D.parts p) = 4
 
 rank_is : {tokens : List Token} {i j : ℕ} {d : Declaration} (x : IsDeclaration tokens i j d) → declares (kind_at tokens i) ≡ rank x
 rank_is (D.field s n t m u o) = ap declares s.kind_is
 rank_is (D.constant s n t m u) = ap declares s.kind_is
 rank_is (D.procedures p) = procedure_starts p
+rank_is (D.parts (D.part s n t a b r z)) = ap declares s.kind_is
 
 some_rank : {tokens : List Token} {i j : ℕ} {d : Declaration} → IsDeclaration tokens i j d → 1 ≤ declares (kind_at tokens i)
 some_rank (D.field s n t m u o) = omega (arith, ap declares s.kind_is)
 some_rank (D.constant s n t m u) = omega (arith, ap declares s.kind_is)
 some_rank (D.procedures p) = omega (arith, procedure_starts p)
+some_rank (D.parts (D.part s n t a b r z)) = omega (arith, ap declares s.kind_is)
 
 declaration_once : {tokens : List Token} {i j k : ℕ} {d e : Declaration} → IsDeclaration tokens i j d → NoElse tokens j → IsDeclaration tokens i k e → NoElse tokens k →
     (j ≡ k) × AlikeDeclaration d e
@@ -205,6 +300,7 @@ declaration_once {tokens} {k = end} (D.constant {j = a1} {k = a2} {l = a3} {m = 
     let u2' : Stands tokens K.Semicolon a4 end = at (λ z. Stands tokens K.Semicolon z end) same.0 u2 in
     (same_end u u2', subst (λ z. AlikeDeclaration (V.Constant x v) (V.Constant z w)) (same_name n n2') (A.constants same.1))
 declaration_once (D.procedures p) f (D.procedures q) g = let same = procedure_once p f q g in (same.0, A.procedures same.1)
+declaration_once (D.parts p) f (D.parts q) g = let same = part_once p q in (same.0, A.parts same.1)
 declaration_once x f y g = absurd (omega (arith, rank_is x, rank_is y))
 
 -- ---- files

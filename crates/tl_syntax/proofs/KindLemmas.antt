@@ -1,6 +1,7 @@
 -- The comparison of two kinds of tokens: kinds that it finds equal are equal.
-use Rattle.std.proofs.Common.{◌≡◌, true, refl, sym, ap, true≢false}
-use Rattle.std.proofs.lemmas.Bool.{eqb-true}
+use Rattle.std.proofs.Common.{◌≡◌, ◌≢◌, ℕ, true, false, refl, sym, ap, ◌∙◌, true≢false}
+use Rattle.std.specs.Prelude.{nat_eq}
+use Rattle.std.proofs.lemmas.Bool.{eqb-true, eq-eqb}
 use Rattle.tl_syntax.specs.declared.token.TokenKind.{TokenKind}
 use Rattle.tl_syntax.specs.declared.token.TokenKind.TheVariants as K
 use Rattle.tl_syntax.specs.contracts.token.TokenKindPartialEq.TheImpl.{eq-value}
@@ -53,3 +54,12 @@ same_kind K.End K.End e = refl
 same_kind (K.Name s) (K.Name r) e = ap (λ n. K.Name (record { 0 = n })) (eqb-true s.0 r.0 e)
 same_kind (K.Number n) (K.Number m) e = ap K.Number (eqb-true n m e)
 same_kind _ _ e = absurd (true≢false (sym e))
+
+symbol_of : TokenKind → ℕ
+symbol_of (K.Name s) = s.0
+symbol_of kind = 0
+
+-- names of other symbols are other tokens
+pub other_name : (n k : ℕ) → nat_eq n k ≡ false → K.Name (record { 0 = n }) ≢ K.Name (record { 0 = k })
+unfolding symbol_of
+other_name n k e f = true≢false (sym (eq-eqb n n refl) ∙ ap (nat_eq n) (ap symbol_of f) ∙ e)

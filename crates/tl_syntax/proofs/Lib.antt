@@ -1,3 +1,4 @@
+pub mod ActionsOnce
 pub mod AlikeForms
 pub mod AlikeParts
 pub mod DeclarationLemmas

@@ -15,7 +15,7 @@ use Rattle.tl_syntax.specs.declared.parsed.StatementForm.{StatementForm}
 use Rattle.tl_syntax.specs.declared.parsed.StatementForm.TheVariants as S
 use Rattle.tl_syntax.specs.Grammar.{kind_at, offset_at, Stands, IsExpression, Disjunction}
 use Rattle.tl_syntax.specs.Statements as R
-use Rattle.tl_syntax.specs.Statements.{AreExpressions, IsLeave, IsLeaving, IsWrite, AreMoreWrites, IsAction, allows_else, IsTail, IsBlock, IsForm, AreStatements, IsStatement, IsOnly, AreTwo, MayEnd, IsOther}
+use Rattle.tl_syntax.specs.Statements.{AreExpressions, IsLeave, IsLeaving, IsWrite, AreMoreWrites, AreGiven, IsAction, allows_else, IsTail, IsBlock, IsForm, AreStatements, IsStatement, IsOnly, AreTwo, MayEnd, IsOther}
 
 pub pushed_first : {A : Type 0} {old new : List A} {x : A} → new ≡ old ++ x ∷ [] → old ≡ [] → new ≡ x ∷ []
 pushed_first {x = x} e o = e ∙ ap (λ l. l ++ x ∷ []) o
@@ -27,6 +27,9 @@ first_value {tokens} {levels} {i} {j} p o h = subst (λ es. AreExpressions token
 pub next_value : {tokens : List Token} {levels i j k l : ℕ} {e : Expression} {old new : List Expression} → new ≡ old ++ e ∷ [] →
     AreExpressions tokens levels i j old → Stands tokens K.Comma j k → IsExpression tokens levels Disjunction k l e → AreExpressions tokens levels i l new
 next_value {tokens} {levels} {i} {l = l} p a b h = subst (λ es. AreExpressions tokens levels i l es) (sym p) (R.one_more a b h)
+
+pub none_given : {tokens : List Token} {levels i j : ℕ} {es : List Expression} → es ≡ [] → Stands tokens K.RightParenthesis i j → AreGiven tokens levels i j es
+none_given {tokens} {levels} {i} {j} e h = subst (λ es. AreGiven tokens levels i j es) (sym e) (R.none_given h)
 
 pub no_writes : {tokens : List Token} {levels i : ℕ} {ws : List Write} → ws ≡ [] → AreMoreWrites tokens levels i i ws
 no_writes {tokens} {levels} {i} e = subst (λ ws. AreMoreWrites tokens levels i i ws) (sym e) R.no_more_writes

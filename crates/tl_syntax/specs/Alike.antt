@@ -22,6 +22,7 @@ use Rattle.tl_syntax.specs.declared.parsed.Statement.{Statement}
 use Rattle.tl_syntax.specs.declared.parsed.StatementForm.{StatementForm}
 use Rattle.tl_syntax.specs.declared.parsed.StatementForm.TheVariants as S
 use Rattle.tl_syntax.specs.declared.parsed.Procedure.{Procedure}
+use Rattle.tl_syntax.specs.declared.parsed.Part.{Part}
 use Rattle.tl_syntax.specs.declared.parsed.Declaration.{Declaration}
 use Rattle.tl_syntax.specs.declared.parsed.Declaration.TheVariants as D
 use Rattle.tl_syntax.specs.declared.expressions.Join.{Join}
@@ -72,6 +73,7 @@ pub data AlikeAction : Action → Action → Type 0 where
   requires : {e f : Expression} → Alike e f → AlikeAction (A.Require e) (A.Require f)
   locks : {p q : Place} → AlikePlace p q → AlikeAction (A.Lock p) (A.Lock q)
   descends : {n : Name} {e f : Expression} → Alike e f → AlikeAction (A.Descend n e) (A.Descend n f)
+  uses : {n : Name} {es fs : Vec Expression Global} → AreAlike es.items fs.items → AlikeAction (A.Use n es) (A.Use n fs)
 
 pub data AlikeQuestion : Question → Question → Type 0 where
   condition : {e f : Expression} → Alike e f → AlikeQuestion (Q.Condition e) (Q.Condition f)
@@ -112,10 +114,17 @@ pub record AlikeProcedure (p q : Procedure) : Type 0 where
   pub body : AlikeStatements p.body.items q.body.items
   pub otherwise : AlikeStatements p.otherwise.items q.otherwise.items
 
+pub record AlikePart (p q : Part) : Type 0 where
+  pub name : p.name ≡ q.name
+  pub parameters : p.parameters.items ≡ q.parameters.items
+  pub body : AlikeStatements p.body.items q.body.items
+  pub size : p.size ≡ q.size
+
 pub data AlikeDeclaration : Declaration → Declaration → Type 0 where
   same_declaration : {d : Declaration} → AlikeDeclaration d d
   constants : {n : Name} {e f : Expression} → Alike e f → AlikeDeclaration (D.Constant n e) (D.Constant n f)
   procedures : {p q : Procedure} → AlikeProcedure p q → AlikeDeclaration (D.Procedure p) (D.Procedure q)
+  parts : {p q : Part} → AlikePart p q → AlikeDeclaration (D.Part p) (D.Part q)
 
 pub data AlikeDeclarations : List Declaration → List Declaration → Type 0 where
   no_declarations : AlikeDeclarations [] []

@@ -1,11 +1,14 @@
 -- The grammar of declarations. Each rule says what the tokens from i up to but not including j denote.
-use Rattle.std.specs.Prelude.{◌≡◌, ℕ, List, [], ◌∷◌, ◌++◌, Bool, true, false, ℤ}
+use Rattle.std.specs.Prelude.{◌≡◌, ◌≢◌, ℕ, ◌-◌, ◌<◌, ◌≤◌, List, [], ◌∷◌, ◌++◌, Bool, true, false, ℤ}
 use Rattle.tl_syntax.specs.declared.token.Token.{Token}
 use Rattle.tl_syntax.specs.declared.token.TokenKind.{TokenKind}
 use Rattle.tl_syntax.specs.declared.token.TokenKind.TheVariants as K
 use Rattle.tl_syntax.specs.declared.parsed.Name.{Name}
 use Rattle.tl_syntax.specs.declared.parsed.Expression.{Expression}
 use Rattle.tl_syntax.specs.declared.parsed.Procedure.{Procedure}
+use Rattle.tl_syntax.specs.declared.parsed.Parameter.{Parameter}
+use Rattle.tl_syntax.specs.declared.parsed.Parameter.TheVariants as P
+use Rattle.tl_syntax.specs.declared.parsed.Part.{Part}
 use Rattle.tl_syntax.specs.declared.parsed.Declaration.{Declaration}
 use Rattle.tl_syntax.specs.declared.parsed.Declaration.TheVariants as D
 use Rattle.tl_syntax.specs.declared.parser.TheConstants.{MAX_LEVELS}
@@ -39,6 +42,34 @@ pub data IsProcedure (tokens : List Token) : ℕ → ℕ → Procedure → Type 
       AreArguments tokens l m p.arguments.items → IsBlock tokens MAX_LEVELS m n p.body.items → Stands tokens K.Else n o → IsBlock tokens MAX_LEVELS o q p.otherwise.items →
       IsProcedure tokens h q p
 
+abbrev pub word_part : TokenKind
+word_part = K.Name (record { 0 = 7 })
+
+-- a name for a node or a number that a part is given
+pub data IsParameter (tokens : List Token) : ℕ → ℕ → Parameter → Type 0 where
+  node_parameter : {i j k : ℕ} {n : Name} → Stands tokens K.Node i j → IsName tokens j k n → IsParameter tokens i k (P.Node n)
+  value_parameter : {i j : ℕ} {n : Name} → IsName tokens i j n → IsParameter tokens i j (P.Value n)
+
+-- one or more parameters, separated by commas
+pub data AreParameters (tokens : List Token) : ℕ → ℕ → List Parameter → Type 0 where
+  first_parameter : {i j : ℕ} {p : Parameter} → IsParameter tokens i j p → AreParameters tokens i j (p ∷ [])
+  next_parameter : {i j k l : ℕ} {ps : List Parameter} {p : Parameter} → AreParameters tokens i j ps → Stands tokens K.Comma j k →
+      IsParameter tokens k l p → AreParameters tokens i l (ps ++ p ∷ [])
+
+-- a part's parameters and the closing parenthesis
+pub data AreTaken (tokens : List Token) : ℕ → ℕ → List Parameter → Type 0 where
+  none_taken : {i j : ℕ} → Stands tokens K.RightParenthesis i j → AreTaken tokens i j []
+  some_taken : {i j k : ℕ} {ps : List Parameter} → AreParameters tokens i j ps → Stands tokens K.RightParenthesis j k → AreTaken tokens i k ps
+
+-- none of these tokens is the word `return`
+abbrev pub HasNoReturn : List Token → ℕ → ℕ → Type 0
+HasNoReturn tokens i j = (k : ℕ) → i ≤ k → k < j → kind_at tokens k ≢ K.Return
+
+-- a part: its name, its parameters, and a body without `return`, whose size is the number of its tokens
+pub data IsPart (tokens : List Token) : ℕ → ℕ → Part → Type 0 where
+  part : {i j k l m n : ℕ} {p : Part} → Stands tokens word_part i j → IsName tokens j k p.name → Stands tokens K.LeftParenthesis k l →
+      AreTaken tokens l m p.parameters.items → IsBlock tokens MAX_LEVELS m n p.body.items → HasNoReturn tokens m n → p.size ≡ n - m → IsPart tokens i n p
+
 pub data IsDeclaration (tokens : List Token) : ℕ → ℕ → Declaration → Type 0 where
   -- the offset is that of the number
   field : {i j k l m o offset : ℕ} {n : Name} {number : ℤ} → Stands tokens K.Field i j → IsName tokens j k n → Stands tokens K.Assign k l →
@@ -46,6 +77,7 @@ pub data IsDeclaration (tokens : List Token) : ℕ → ℕ → Declaration → T
   constant : {i j k l m o : ℕ} {n : Name} {value : Expression} → Stands tokens K.Const i j → IsName tokens j k n → Stands tokens K.Assign k l →
       IsExpression tokens MAX_LEVELS Disjunction l m value → Stands tokens K.Semicolon m o → IsDeclaration tokens i o (D.Constant n value)
   procedures : {i j : ℕ} {p : Procedure} → IsProcedure tokens i j p → IsDeclaration tokens i j (D.Procedure p)
+  parts : {i j : ℕ} {p : Part} → IsPart tokens i j p → IsDeclaration tokens i j (D.Part p)
 
 pub data AreDeclarations (tokens : List Token) : ℕ → ℕ → List Declaration → Type 0 where
   no_more : {i : ℕ} → AreDeclarations tokens i i []

@@ -90,6 +90,11 @@ pub data AreMoreWrites (tokens : List Token) (levels : ℕ) : ℕ → ℕ → Li
   next_write : {i j k l : ℕ} {ws : List Write} {w : Write} → AreMoreWrites tokens levels i j ws → Stands tokens K.Comma j k →
       IsWrite tokens levels k l w → AreMoreWrites tokens levels i l (ws ++ w ∷ [])
 
+-- what a part is given, and the closing parenthesis
+pub data AreGiven (tokens : List Token) (levels : ℕ) : ℕ → ℕ → List Expression → Type 0 where
+  none_given : {i j : ℕ} → Stands tokens K.RightParenthesis i j → AreGiven tokens levels i j []
+  some_given : {i j k : ℕ} {es : List Expression} → AreExpressions tokens levels i j es → Stands tokens K.RightParenthesis j k → AreGiven tokens levels i k es
+
 -- a statement without blocks, up to the semicolon or `else` that follows it
 pub data IsAction (tokens : List Token) (levels : ℕ) : ℕ → ℕ → Action → Type 0 where
   lets : {i j k l m : ℕ} {n : Name} {e : Expression} → Stands tokens K.Let i j → IsName tokens j k n → Stands tokens K.Assign k l →
@@ -107,6 +112,9 @@ pub data IsAction (tokens : List Token) (levels : ℕ) : ℕ → ℕ → Action 
       IsName tokens l m from → IsAction tokens levels i m (A.Take n from)
   frees : {i j k : ℕ} {n : Name} → Stands tokens K.Free i j → IsName tokens j k n → IsAction tokens levels i k (A.Free n)
   leaves : {i j : ℕ} {l : Leave} → IsLeave tokens i j l → IsAction tokens levels i j (A.Leave l)
+  -- the word `while` before a parenthesis begins a loop
+  uses : {i j k l : ℕ} {n : Name} {es : Vec Expression Global} → IsName tokens i j n → K.Name n.symbol ≢ word_while → Stands tokens K.LeftParenthesis j k →
+      AreGiven tokens levels k l es.items → IsAction tokens levels i l (A.Use n es)
 
 -- whether the statement may have an `else`
 abbrev pub allows_else : Action → Bool
@@ -153,6 +161,16 @@ pub data RequiresNot (tokens : List Token) (levels i offset : ℕ) : StatementFo
   requires_not : {j k : ℕ} {e : Expression} {a : Box Expression Global} → IsExpression tokens levels Disjunction i j a.value → Stands tokens word_at j k →
       e.form ≡ F.Not a → e.offset ≡ offset → RequiresNot tokens levels i offset (S.Act (A.Require e) None)
 
+-- a `while` up to its block: its condition, and how often it turns at most
+pub data IsWhile (tokens : List Token) (levels : ℕ) : ℕ → ℕ → Expression → Expression → Type 0 where
+  heads : {i j k l m : ℕ} {condition most : Expression} → IsExpression tokens levels Disjunction i j condition → Stands tokens word_at j k →
+      Stands tokens word_most k l → IsCount tokens l m most → IsWhile tokens levels i m condition most
+
+-- the loop of a `while`, whose condition begins at i, and a statement behind it that fails if the condition holds
+pub data IsLooped (tokens : List Token) (levels i offset : ℕ) (condition most : Expression) (body : Vec Statement Global) (all : List Statement) : Type 0 where
+  looped : {repetition check : StatementForm} → IsBoundedLoop offset condition most body repetition → RequiresNot tokens levels i offset check →
+      AreTwo offset repetition check all → IsLooped tokens levels i offset condition most body all
+
 -- a semicolon, or nothing where no semicolon stands
 pub data MayEnd (tokens : List Token) : ℕ → ℕ → Type 0 where
   no_semicolon : {i : ℕ} → kind_at tokens i ≢ K.Semicolon → MayEnd tokens i i
@@ -195,10 +213,9 @@ mutual
         IsForm tokens levels i t (S.ForEach child place parent most body)
     block_alone : {levels i j : ℕ} (body : Vec Statement Global) → IsBlock tokens levels i j body.items → IsForm tokens levels i j (S.Block body)
     -- behind the loop the condition doesn't hold
-    while : {levels i j k l m n o : ℕ} {condition most : Expression} {repetition check : StatementForm} (body all : Vec Statement Global) → Stands tokens word_while i j →
-        IsExpression tokens levels Disjunction j k condition → Stands tokens word_at k l → Stands tokens word_most l m → IsCount tokens m n most →
-        IsBlock tokens levels n o body.items → IsBoundedLoop (offset_at tokens i) condition most body repetition →
-        RequiresNot tokens levels j (offset_at tokens i) check → AreTwo (offset_at tokens i) repetition check all.items → IsForm tokens (suc levels) i o (S.Block all)
+    while : {levels i j k l : ℕ} {condition most : Expression} (body all : Vec Statement Global) → Stands tokens word_while i j →
+        IsWhile tokens levels j k condition most → IsBlock tokens levels k l body.items → IsLooped tokens levels j (offset_at tokens i) condition most body all.items →
+        IsForm tokens (suc levels) i l (S.Block all)
 
   -- what follows the `else` of an `if`
   pub data IsOther (tokens : List Token) : ℕ → ℕ → ℕ → List Statement → Type 0 where

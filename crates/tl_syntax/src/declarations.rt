@@ -1,17 +1,22 @@
-// Fields, constants and procedures: each function reads one rule of the grammar.
+// Fields, constants, parts and procedures: each function reads one rule of the grammar.
 
-ghost use Rattle.std.specs.Prelude.{IfOk};
+ghost use Rattle.std.specs.Prelude.{IfOk, OnOk};
 ghost use Rattle.tl_syntax.specs.Declarations.{
   AreNames,
   AreArguments,
   IsMark,
   IsProcedure,
+  IsParameter,
+  AreParameters,
+  AreTaken,
+  HasNoReturn,
+  IsPart,
   IsDeclaration,
   IsFile,
 };
 
-use crate::fault::SyntaxFault;
-use crate::parsed::{Declaration, Name, Procedure};
+use crate::fault::{SyntaxFault, Wrong};
+use crate::parsed::{Declaration, Name, Parameter, Part, Procedure};
 use crate::parser::{MAX_LEVELS, Parsed, Parser};
 use crate::token::{Symbol, TokenKind};
 
@@ -115,12 +120,89 @@ impl<'a> Parser<'a> {
         Ok((procedure, after))
     }
 
+    // A name for what a part is given.
+    fn parameter(&self, at: usize) -> Parsed<Parameter>
+        ensures { IfOk result (λ read. IsParameter self.now.tokens.now at read.1 read.0) }
+    {
+        if let Some(next) = self.skip_if(at, TokenKind::Node) {
+            let (name, at) = self.name(next)?;
+            return Ok((Parameter::Node(name), at));
+        }
+        let (name, at) = self.name(at)?;
+        Ok((Parameter::Value(name), at))
+    }
+
+    // One parameter or more, with commas between them.
+    fn parameters(&self, at: usize) -> Parsed<Vec<Parameter>>
+        ensures { IfOk result (λ read. AreParameters self.now.tokens.now at read.1 read.0.items) }
+    {
+        let mut parameters = Vec::new(self.alloc);
+        let (parameter, mut next) = self.parameter(at)?;
+        parameters.push(parameter)?;
+        for _ in 0..self.tokens.len() {
+            let Some(behind) = self.skip_if(next, TokenKind::Comma) else {
+                break;
+            };
+            let (parameter, after) = self.parameter(behind)?;
+            parameters.push(parameter)?;
+            next = after;
+        }
+        Ok((parameters, next))
+    }
+
+    // The parameters between a part's parentheses, and the closing one.
+    fn taken(&self, at: usize) -> Parsed<Vec<Parameter>>
+        ensures { IfOk result (λ read. AreTaken self.now.tokens.now at read.1 read.0.items) }
+    {
+        if let Some(after) = self.skip_if(at, TokenKind::RightParenthesis) {
+            return Ok((Vec::new(self.alloc), after));
+        }
+        let (parameters, at) = self.parameters(at)?;
+        let at = self.skip(at, TokenKind::RightParenthesis)?;
+        Ok((parameters, at))
+    }
+
+    // 273 at the first `return` among these tokens.
+    fn check_returns(&self, from: usize, to: usize) -> Result<(), SyntaxFault>
+        ensures { OnOk result (HasNoReturn self.now.tokens.now from to) }
+    {
+        for at in from..to {
+            if self.kind(at) == TokenKind::Return {
+                return Err(SyntaxFault::at(Wrong::PartReturns, self.offset(at)));
+            }
+        }
+        Ok(())
+    }
+
+    fn part(&self, at: usize) -> Parsed<Part>
+        ensures { IfOk result (λ read. IsPart self.now.tokens.now at read.1 read.0) }
+    {
+        let at = self.skip_word(at, Symbol::PART)?;
+        let (name, at) = self.name(at)?;
+        let at = self.skip(at, TokenKind::LeftParenthesis)?;
+        let (parameters, at) = self.taken(at)?;
+        let (body, after) = self.block(at, MAX_LEVELS)?;
+        self.check_returns(at, after)?;
+        let size = after.saturating_sub(at);
+        let part = Part {
+            name,
+            parameters,
+            body,
+            size,
+        };
+        Ok((part, after))
+    }
+
     fn declaration(&self, at: usize) -> Parsed<Declaration>
         ensures { IfOk result (λ read. IsDeclaration self.now.tokens.now at read.1 read.0) }
     {
         match self.kind(at) {
             TokenKind::Field => self.field(at),
             TokenKind::Const => self.constant(at),
+            TokenKind::Name(Symbol::PART) => {
+                let (part, after) = self.part(at)?;
+                Ok((Declaration::Part(part), after))
+            }
             _ => {
                 let (procedure, after) = self.procedure(at)?;
                 Ok((Declaration::Procedure(procedure), after))

@@ -36,9 +36,15 @@ pub enum Wrong {
     /// 273: a loop without a bound.
     #[error("`at most` is wanted here, with the most turns of the loop")]
     NoBound,
+    /// 273: a `return` in a part.
+    #[error("a part has no `return`: behind it goes on what used it")]
+    PartReturns,
     /// 274: more than 64 nested levels.
     #[error("more than 64 levels in one another")]
     TooDeep,
+    /// 274: a part in four others.
+    #[error("more than four parts in one another")]
+    PartDepth,
     /// 275: an unknown name or field.
     #[error("no such name is known here")]
     Unknown,
@@ -60,12 +66,18 @@ pub enum Wrong {
     /// 277: a node that descends to itself.
     #[error("another node is wanted here")]
     SameNode,
+    /// 277: the name of a procedure where a part is needed.
+    #[error("a part is wanted here: no procedure uses another")]
+    NoPart,
     /// 278: a field's number above 7.
     #[error("a field's number is above 7")]
     FieldNumber,
     /// 279: the ninth argument of a procedure.
     #[error("a ninth argument")]
     Argument,
+    /// 279: more arguments or fewer than the part has names for.
+    #[error("the part has more names for what it is given, or fewer")]
+    Arguments,
     /// 280: a number of turns that isn't a constant from 1 to 65,535.
     #[error("how often a loop turns is a constant from 1 to 65,535 here: of any other number say the most, as in `repeat n at most 50`")]
     Turns,
@@ -105,6 +117,9 @@ pub enum Wrong {
     /// 293: a fifth loop, nested in four others.
     #[error("more than four loops in one another")]
     LoopDepth,
+    /// 294: parts that are too long where they are used.
+    #[error("with this part, the parts of the text have more than 262144 words and signs where they are used")]
+    PartSize,
 }
 
 impl Wrong {
@@ -123,17 +138,19 @@ impl Wrong {
             | Wrong::NoBlock
             | Wrong::Unclosed
             | Wrong::NoElse
-            | Wrong::NoBound => 273,
-            Wrong::TooDeep => 274,
+            | Wrong::NoBound
+            | Wrong::PartReturns => 273,
+            Wrong::TooDeep | Wrong::PartDepth => 274,
             Wrong::Unknown => 275,
             Wrong::Twice => 276,
             Wrong::NoNumber
             | Wrong::NoCondition
             | Wrong::NoValue
             | Wrong::NoNode
-            | Wrong::SameNode => 277,
+            | Wrong::SameNode
+            | Wrong::NoPart => 277,
             Wrong::FieldNumber => 278,
-            Wrong::Argument => 279,
+            Wrong::Argument | Wrong::Arguments => 279,
             Wrong::Turns => 280,
             Wrong::NotHeld => 281,
             Wrong::EnteredAgain => 282,
@@ -147,6 +164,7 @@ impl Wrong {
             Wrong::Values => 291,
             Wrong::Nodes => 292,
             Wrong::LoopDepth => 293,
+            Wrong::PartSize => 294,
         }
     }
 }

@@ -118,6 +118,11 @@ pub enum Action {
     },
     Free(Name),
     Leave(Leave),
+    /// A part, and what it is given here.
+    Use {
+        part: Name,
+        arguments: Vec<Expression>,
+    },
 }
 
 /// What an `if` tests.
@@ -177,6 +182,22 @@ pub struct Procedure {
     pub otherwise: Vec<Statement>,
 }
 
+/// What a part is given where it is used: a node, or a number.
+#[derive(Clone, Copy)]
+pub enum Parameter {
+    Node(Name),
+    Value(Name),
+}
+
+/// A block that is read where it is used, in the names that it is given there. Its size is the number of its tokens.
+#[derive(Drop)]
+pub struct Part {
+    pub name: Name,
+    pub parameters: Vec<Parameter>,
+    pub body: Vec<Statement>,
+    pub size: usize,
+}
+
 /// A declaration at the top level of a text.
 #[derive(Drop)]
 pub enum Declaration {
@@ -190,4 +211,5 @@ pub enum Declaration {
         value: Expression,
     },
     Procedure(Procedure),
+    Part(Part),
 }

@@ -11,6 +11,7 @@ ghost use Rattle.tl_syntax.specs.Statements.{
   AreExpressions,
   IsWrite,
   AreMoreWrites,
+  AreGiven,
   IsAction,
   IsQuestion,
   IsCount,
@@ -24,6 +25,8 @@ ghost use Rattle.tl_syntax.specs.Statements.{
   IsOnly,
   IsBoundedLoop,
   RequiresNot,
+  IsWhile,
+  IsLooped,
   MayEnd,
   IsOther,
 };
@@ -131,16 +134,19 @@ impl<'a> Parser<'a> {
         Ok((writes, next))
     }
 
-    // An assignment to a value, or writes of fields.
-    fn assignment(&self, at: usize, levels: u32) -> Parsed<Action>
+    // What begins with a name: a part that is used, writes of fields, or an assignment to a value.
+    fn named_action(&self, at: usize, levels: u32) -> Parsed<Action>
         ensures { IfOk result (λ read. IsAction self.now.tokens.now levels at read.1 read.0) }
     {
-        if self.kind(self.behind(at)) != TokenKind::Dot {
-            return self.assign(at, levels);
+        match self.kind(self.behind(at)) {
+            TokenKind::LeftParenthesis => self.using(at, levels),
+            TokenKind::Dot => {
+                let (first, at) = self.write(at, levels)?;
+                let (others, at) = self.more_writes(at, levels)?;
+                Ok((Action::Write(first, others), at))
+            }
+            _ => self.assign(at, levels),
         }
-        let (first, at) = self.write(at, levels)?;
-        let (others, at) = self.more_writes(at, levels)?;
-        Ok((Action::Write(first, others), at))
     }
 
     // One expression or more, with commas between them.
@@ -159,6 +165,31 @@ impl<'a> Parser<'a> {
             next = after;
         }
         Ok((values, next))
+    }
+
+    // What a part is given, and the closing parenthesis.
+    fn given(&self, at: usize, levels: u32) -> Parsed<Vec<Expression>>
+        ensures { IfOk result (λ read. AreGiven self.now.tokens.now levels at read.1 read.0.items) }
+    {
+        if let Some(after) = self.skip_if(at, TokenKind::RightParenthesis) {
+            return Ok((Vec::new(self.alloc), after));
+        }
+        let (values, at) = self.values(at, levels)?;
+        let at = self.skip(at, TokenKind::RightParenthesis)?;
+        Ok((values, at))
+    }
+
+    // A part where it is used. The word `while` before a parenthesis begins a loop.
+    fn using(&self, at: usize, levels: u32) -> Parsed<Action>
+        ensures { IfOk result (λ read. IsAction self.now.tokens.now levels at read.1 read.0) }
+    {
+        let (part, next) = self.name(at)?;
+        if part.symbol == Symbol::WHILE {
+            return Err(self.misplaced(at));
+        }
+        let next = self.skip(next, TokenKind::LeftParenthesis)?;
+        let (arguments, after) = self.given(next, levels)?;
+        Ok((Action::Use { part, arguments }, after))
     }
 
     // A number in parentheses.
@@ -236,7 +267,7 @@ impl<'a> Parser<'a> {
     {
         match self.kind(at) {
             TokenKind::Let => self.let_action(at, levels),
-            TokenKind::Name(_) => self.assignment(at, levels),
+            TokenKind::Name(_) => self.named_action(at, levels),
             TokenKind::Emit => {
                 let at = self.skip(at, TokenKind::Emit)?;
                 let (values, at) = self.values(at, levels)?;
@@ -520,7 +551,40 @@ impl<'a> Parser<'a> {
         Ok(StatementForm::Act(Action::Require(negation), None))
     }
 
-    // A `while`, which opens a level: a block of the loop, and of a statement that fails if the condition holds behind it.
+    // The condition of a `while`, and how often it turns at most.
+    fn while_head(&self, at: usize, levels: u32) -> Parsed<(Expression, Expression)>
+        ensures { IfOk result (λ read. IsWhile self.now.tokens.now levels at read.1 read.0.0 read.0.1) }
+    {
+        let (condition, at) = self.expression(at, levels)?;
+        let at = self.skip_word(at, Symbol::AT)?;
+        let at = self.skip_word(at, Symbol::MOST)?;
+        let (count, at) = self.count(at)?;
+        Ok(((condition, count), at))
+    }
+
+    // The loop of a `while` whose condition begins here, and a statement behind it that fails if the condition holds.
+    fn looped(
+        &self,
+        at: usize,
+        levels: u32,
+        offset: usize,
+        head: (Expression, Expression),
+        body: Vec<Statement>,
+    ) -> Result<Vec<Statement>, SyntaxFault>
+        ensures { IfOk result (λ all. IsLooped self.now.tokens.now levels at offset head.0 head.1 body all.items) }
+    {
+        let (condition, count) = head;
+        let repetition = self.bounded_loop(offset, condition, count, body)?;
+        let check = self.requires_not(at, levels, offset)?;
+        let mut all = self.only(offset, repetition)?;
+        all.push(Statement {
+            offset,
+            form: check,
+        })?;
+        Ok(all)
+    }
+
+    // A `while`, which opens a level.
     #[cycle(statements)]
     fn conditional_loop(&self, at: usize, levels: u32) -> Parsed<StatementForm>
         ensures { IfOk result (λ read. IsForm self.now.tokens.now levels at read.1 read.0) }
@@ -528,18 +592,9 @@ impl<'a> Parser<'a> {
         let offset = self.offset(at);
         let levels = self.open(at, levels)?;
         let start = self.skip_word(at, Symbol::WHILE)?;
-        let (condition, at) = self.expression(start, levels)?;
-        let at = self.skip_word(at, Symbol::AT)?;
-        let at = self.skip_word(at, Symbol::MOST)?;
-        let (count, at) = self.count(at)?;
+        let (head, at) = self.while_head(start, levels)?;
         let (body, after) = self.block(at, levels)?;
-        let repetition = self.bounded_loop(offset, condition, count, body)?;
-        let check = self.requires_not(start, levels, offset)?;
-        let mut all = self.only(offset, repetition)?;
-        all.push(Statement {
-            offset,
-            form: check,
-        })?;
+        let all = self.looped(start, levels, offset, head, body)?;
         Ok((StatementForm::Block(all), after))
     }
 

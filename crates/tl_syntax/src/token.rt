@@ -19,6 +19,8 @@ impl Symbol {
     pub const ATOMIC: Symbol = Symbol(5);
 
     pub const WHILE: Symbol = Symbol(6);
+
+    pub const PART: Symbol = Symbol(7);
 }
 
 /// The kind of a token. The reserved words come first.

@@ -68,6 +68,8 @@ pub data ActionFails : Action → Bool → Type 0 where
   takes : {name from : Name} → ActionFails (A.Take name from) false
   frees : {name : Name} → ActionFails (A.Free name) false
   leaves : {leave : Leave} → ActionFails (A.Leave leave) (is_fail leave)
+  -- any part may
+  uses : {name : Name} {es : Vec Expression Global} → ActionFails (A.Use name es) true
 
 -- what an `if` asks; where a lock doesn't succeed, the second block follows
 pub data QuestionFails : Question → Bool → Type 0 where

@@ -1,5 +1,5 @@
 -- The warnings of a text, in its order. Each definition has the warnings before a part of the text, and those behind it.
-use Rattle.std.specs.Prelude.{ℕ, ℤ, List, [], ◌∷◌, ◌++◌, Bool, true, false, not, ◌||◌, Option, Some, None}
+use Rattle.std.specs.Prelude.{ℕ, ℤ, List, [], ◌∷◌, ◌++◌, Bool, true, false, ◌||◌, Option, Some, None}
 use Rattle.std.specs.declared.vec.Vec.{Vec}
 use Rattle.std.specs.declared.alloc.Global.{Global}
 use Rattle.tl_syntax.specs.declared.parsed.Name.{Name}
@@ -12,6 +12,9 @@ use Rattle.tl_syntax.specs.declared.parsed.Statement.{Statement}
 use Rattle.tl_syntax.specs.declared.parsed.StatementForm.{StatementForm}
 use Rattle.tl_syntax.specs.declared.parsed.StatementForm.TheVariants as T
 use Rattle.tl_syntax.specs.declared.parsed.Procedure.{Procedure}
+use Rattle.tl_syntax.specs.declared.parsed.Parameter.{Parameter}
+use Rattle.tl_syntax.specs.declared.parsed.Parameter.TheVariants as P
+use Rattle.tl_syntax.specs.declared.parsed.Part.{Part}
 use Rattle.tl_syntax.specs.declared.parsed.Declaration.{Declaration}
 use Rattle.tl_syntax.specs.declared.parsed.Declaration.TheVariants as D
 use Rattle.tl_syntax.specs.Text.{IsText}
@@ -90,10 +93,27 @@ pub record ProcedureWarns (p : Procedure) (ws us : List Warning) : Type 0 where
   pub fails : BlockFails p.body.items may_fail
   pub otherwise : BlockWarns p.otherwise.items (else_warned may_fail p.otherwise.items behind_body) us
 
+-- a name for what a part is given; a node that nothing uses is given all the same
+pub data ParameterWarns (p : Part) (ws : List Warning) : Parameter → List Warning → Type 0 where
+  node_parameter : {name : Name} → ParameterWarns p ws (P.Node name) ws
+  value_parameter : {name : Name} {vs : List Warning} → ValueWarns name p.body.items ws vs → ParameterWarns p ws (P.Value name) vs
+
+-- its first parameters
+pub data ParametersWarn (p : Part) (ws : List Warning) : List Parameter → List Warning → Type 0 where
+  no_parameters : ParametersWarn p ws [] ws
+  more_parameters : {names : List Parameter} (name : Parameter) {vs us : List Warning} → ParametersWarn p ws names vs → ParameterWarns p vs name us →
+      ParametersWarn p ws (names ++ name ∷ []) us
+
+pub record PartWarns (p : Part) (ws us : List Warning) : Type 0 where
+  pub behind_parameters : List Warning
+  pub parameters : ParametersWarn p ws p.parameters.items behind_parameters
+  pub body : BlockWarns p.body.items behind_parameters us
+
 pub data DeclarationWarns (ws : List Warning) : Declaration → List Warning → Type 0 where
   field : {name : Name} {number : ℤ} {offset : ℕ} → DeclarationWarns ws (D.Field name number offset) ws
   constant : {name : Name} {value : Expression} → DeclarationWarns ws (D.Constant name value) ws
   procedure : {p : Procedure} {vs : List Warning} → ProcedureWarns p ws vs → DeclarationWarns ws (D.Procedure p) vs
+  part : {p : Part} {vs : List Warning} → PartWarns p ws vs → DeclarationWarns ws (D.Part p) vs
 
 -- the first of a text's declarations
 pub data DeclarationsWarn (ws : List Warning) : List Declaration → List Warning → Type 0 where

@@ -74,6 +74,8 @@ pub data ActionReads (x : ℕ) : Action → Bool → Type 0 where
   takes : {name from : Name} → ActionReads x (A.Take name from) false
   frees : {name : Name} → ActionReads x (A.Free name) false
   leaves : {leave : Leave} → ActionReads x (A.Leave leave) false
+  -- what a part is given
+  uses : {name : Name} {es : Vec Expression Global} {r : Bool} → AnyReads x es.items r → ActionReads x (A.Use name es) r
 
 mutual
   pub data BlockReads (x : ℕ) : List Statement → Bool → Type 0 where

@@ -65,7 +65,7 @@ fn is_fail(leave: Leave) -> bool
     }
 }
 
-/// Whether the action may fail.
+/// Whether the action may fail. Any part may: which one is used is not looked up.
 pub fn action_may_fail(action: &Action) -> bool
     ensures { ActionFails action.now result }
 {
@@ -82,6 +82,7 @@ pub fn action_may_fail(action: &Action) -> bool
         Action::Take { .. } => false,
         Action::Free(_) => false,
         Action::Leave(leave) => is_fail(*leave),
+        Action::Use { .. } => true,
     }
 }
 

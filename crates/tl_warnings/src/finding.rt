@@ -1,14 +1,14 @@
 // The warnings of a text, in its order.
 
 ghost use Rattle.std.specs.Prelude.{◌≡◌, IfOk, OnOk};
-ghost use Rattle.tl_warnings.specs.Finding.{unless as unless_lem, ValueWarns, NamedWarns, declared as declared_lem, BlockWarns, StatementWarns, ElseWarns, ArgumentWarns, ArgumentsWarn, else_warned, ProcedureWarns, DeclarationWarns, DeclarationsWarn, AreWarnings};
+ghost use Rattle.tl_warnings.specs.Finding.{unless as unless_lem, ValueWarns, NamedWarns, declared as declared_lem, BlockWarns, StatementWarns, ElseWarns, ArgumentWarns, ArgumentsWarn, else_warned, ProcedureWarns, ParameterWarns, ParametersWarn, PartWarns, DeclarationWarns, DeclarationsWarn, AreWarnings};
 
 use crate::failing::{action_may_fail, block_may_fail};
 use crate::reading::block_reads;
 use crate::warning::{Needless, Warning};
 use std::alloc::{AllocError, Global};
 use tl_syntax::parsed::{
-    Action, Declaration, Name, Otherwise, Procedure, Statement, StatementForm,
+    Action, Declaration, Name, Otherwise, Parameter, Part, Procedure, Statement, StatementForm,
 };
 use tl_syntax::{Syntax, SyntaxFault, parse};
 
@@ -164,6 +164,32 @@ fn procedure(procedure: &Procedure, found: &mut Vec<Warning>) -> Result<(), Allo
     block(&procedure.otherwise, found)
 }
 
+// A number that a part is given. The name of a node may stay unused.
+fn parameter(part: &Part, parameter: Parameter, found: &mut Vec<Warning>) -> Result<(), AllocError>
+    ensures { OnOk result (ParameterWarns part.now found.old.items parameter found.new.items) }
+{
+    match parameter {
+        Parameter::Node(_) => Ok(()),
+        Parameter::Value(name) => value(name, &part.body, found),
+    }
+}
+
+fn parameters(part: &Part, names: &[Parameter], found: &mut Vec<Warning>) -> Result<(), AllocError>
+    ensures { OnOk result (ParametersWarn part.now found.old.items names.now found.new.items) }
+{
+    for name in names {
+        parameter(part, *name, found)?;
+    }
+    Ok(())
+}
+
+fn part(part: &Part, found: &mut Vec<Warning>) -> Result<(), AllocError>
+    ensures { OnOk result (PartWarns part.now found.old.items found.new.items) }
+{
+    parameters(part, &part.parameters, found)?;
+    block(&part.body, found)
+}
+
 fn declaration(declaration: &Declaration, found: &mut Vec<Warning>) -> Result<(), AllocError>
     ensures { OnOk result (DeclarationWarns found.old.items declaration.now found.new.items) }
 {
@@ -171,6 +197,7 @@ fn declaration(declaration: &Declaration, found: &mut Vec<Warning>) -> Result<()
         Declaration::Field { .. } => Ok(()),
         Declaration::Constant { .. } => Ok(()),
         Declaration::Procedure(one) => procedure(one, found),
+        Declaration::Part(one) => part(one, found),
     }
 }
 
@@ -183,7 +210,7 @@ fn declarations(all: &[Declaration], found: &mut Vec<Warning>) -> Result<(), All
     Ok(())
 }
 
-/// What a text doesn't need, in the order of the text: each argument, value of a `let` and index of a loop that nothing reads; each `else` of a
+/// What a text doesn't need, in the order of the text: each argument, number that a part is given, value of a `let` and index of a loop that nothing reads; each `else` of a
 /// statement, a declaration or a procedure, and each `try`, where nothing can fail before it.
 ///
 /// Otherwise the first fault of the text's tokens or grammar. Names are not looked up.

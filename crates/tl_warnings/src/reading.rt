@@ -85,6 +85,7 @@ fn action_reads(value: Symbol, action: &Action) -> bool
         Action::Take { .. } => false,
         Action::Free(_) => false,
         Action::Leave(_) => false,
+        Action::Use { arguments, .. } => any_reads(value, arguments),
     }
 }
 

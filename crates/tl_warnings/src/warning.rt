@@ -5,7 +5,7 @@ use thiserror::Error;
 /// What isn't needed.
 #[derive(Clone, Copy, Debug, PartialEq, Eq, Error)]
 pub enum Needless {
-    /// An argument, the value of a `let` or the index of a loop.
+    /// An argument, a number that a part is given, the value of a `let` or the index of a loop.
     #[error("nothing reads this value")]
     Value,
     /// An `else` of a statement, a declaration or a procedure.

@@ -151,7 +151,7 @@ pub fn from_205_to_275(number: u16) -> Option<Meaning> {
         271 => Some(Meaning {
             parts: ", line, column",
             name: "bad number",
-            when: "the number has a leading zero or a letter, or is too large",
+            when: "the number has a leading zero or a letter, or is too large; or a constant is, or a number on the way to it, or one there is divided by 0",
             advice: "numbers are decimal, from -2147483648 to 2147483647",
         }),
         272 => Some(Meaning {
@@ -163,19 +163,19 @@ pub fn from_205_to_275(number: u16) -> Option<Meaning> {
         273 => Some(Meaning {
             parts: ", line, column",
             name: "misplaced",
-            when: "the word, number or sign can't stand here",
+            when: "the word, number or sign can't stand here, as a `return` in a part",
             advice: "look at what stands before it; `language.md` has the grammar",
         }),
         274 => Some(Meaning {
             parts: ", line, column",
             name: "too deep",
-            when: "this would open a 65th level of blocks, parentheses and operators",
+            when: "this would open a 65th level of blocks, parentheses and operators, or a fifth part in one another",
             advice: "give a part of the expression a name by `let`, or take blocks apart",
         }),
         275 => Some(Meaning {
             parts: ", line, column",
             name: "unknown name",
-            when: "no such name or field is known here",
+            when: "no such name, field or part is known here",
             advice: "declare it before it is used; a name is known up to the end of its block",
         }),
         _ => None,
@@ -204,9 +204,9 @@ pub fn from_276_to_289(number: u16) -> Option<Meaning> {
         }),
         279 => Some(Meaning {
             parts: ", line, column",
-            name: "ninth argument",
-            when: "the procedure has more than 8 arguments",
-            advice: "a call takes at most 8 arguments",
+            name: "wrong number of arguments",
+            when: "the procedure has more than 8 arguments, or a part is given more or less than it has names for",
+            advice: "a call takes at most 8 arguments, and a part what stands in its parentheses",
         }),
         280 => Some(Meaning {
             parts: ", line, column",
@@ -217,7 +217,7 @@ pub fn from_276_to_289(number: u16) -> Option<Meaning> {
         281 => Some(Meaning {
             parts: ", line, column",
             name: "not held",
-            when: "the node isn't held on every path to here",
+            when: "the node isn't held on every path to here, or to where it is given to a part",
             advice: "lock it on every path, or use it before it is freed",
         }),
         282 => Some(Meaning {
@@ -259,7 +259,7 @@ pub fn from_276_to_289(number: u16) -> Option<Meaning> {
         288 => Some(Meaning {
             parts: ", line, column",
             name: "no loop",
-            when: "`break` stands outside a loop",
+            when: "`break` stands outside a loop, or outside those of its part",
             advice: "use `return` or `fail`",
         }),
         289 => Some(Meaning {
@@ -295,13 +295,13 @@ pub fn from_290_to_299(number: u16) -> Option<Meaning> {
         293 => Some(Meaning {
             parts: ", line, column",
             name: "too many loops",
-            when: "a loop stands in four others",
+            when: "a loop stands in four others, or a part has more loops in one another than there is room for where it is used",
             advice: "take the procedure apart",
         }),
         294 => Some(Meaning {
             parts: ", line, column",
             name: "text too long",
-            when: "the procedure has more than 1,024 instructions; the place is where most of them come from",
+            when: "the procedure has more than 1,024 instructions, and the place is where most of them come from; or the parts of the text have more than 262,144 words and signs, counted at each use",
             advice: "split the procedure",
         }),
         295 => Some(Meaning {

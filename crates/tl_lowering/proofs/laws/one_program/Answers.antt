@@ -1,4 +1,4 @@
-use Rattle.tl_lowering.proofs.AlikeBlocks.{one_program}
+use Rattle.tl_lowering.proofs.AlikeTexts.{one_program}
 use Rattle.tl_lowering.proofs.laws.one_program.Goals as goal
 
 pub returns : goal.returns

@@ -1,4 +1,4 @@
-use Rattle.tl_warnings.specs.Failing.{lets, assigns, writes, emits, requires, locks, descends, takes, frees, leaves}
+use Rattle.tl_warnings.specs.Failing.{lets, assigns, writes, emits, requires, locks, descends, takes, frees, leaves, uses}
 use Rattle.tl_warnings.proofs.FailingLemmas.{any_at, writes_at}
 use Rattle.tl_warnings.proofs.failing.action_may_fail.Goals as goal
 
@@ -31,3 +31,6 @@ returns-in-Free c = rw c.in-Free.is frees
 
 pub returns-in-Leave : goal.returns-in-Leave
 returns-in-Leave c = rw (c.in-Leave.is, c.is_fail.ensures) leaves
+
+pub returns-in-Use : goal.returns-in-Use
+returns-in-Use c = rw c.in-Use.is uses

@@ -1,6 +1,6 @@
 use Rattle.std.proofs.Common.{refl, ◌∙◌, ap, subst}
 use Rattle.std.proofs.lemmas.Result.{on_ok_weaker}
-use Rattle.tl_warnings.specs.Finding.{ArgumentsWarn, else_warned, ProcedureWarns}
+use Rattle.tl_warnings.specs.Finding.{ArgumentsWarn, else_warned}
 use Rattle.tl_warnings.proofs.FailingLemmas.{block_at as fails_at}
 use Rattle.tl_warnings.proofs.FindingLemmas.{block_at}
 use Rattle.tl_warnings.proofs.finding.procedure.Goals as goal

@@ -1,32 +1,38 @@
-use Rattle.std.proofs.Common.{◌≡◌, Some, None, [], refl, sym, ap, ap₂, ◌∙◌, subst, arith, rules}
-use Rattle.std.specs.Prelude.{nat_lt, IfSome}
+use Rattle.std.proofs.Common.{◌≡◌, ◌+◌, ◌<◌, length, Some, None, [], refl, sym, ap, ap₂, ◌∙◌, subst, arith, rules}
+use Rattle.std.specs.Prelude.{nat_lt, IfSome, IfOk}
 use Rattle.tl_lowering.specs.declared.lowering.Draft.{Draft}
 use Rattle.tl_lowering.specs.declared.lowering.Opened.{Opened}
 use Rattle.tl_lowering.specs.declared.paths.Flow.{Flow}
-use Rattle.tl_lowering.specs.Blocks.{Standing, at_start}
+use Rattle.tl_lowering.specs.declared.scope.Scope.{Scope}
+use Rattle.tl_budget.specs.declared.limits.TheConstants.{MAX_DEPTH}
+use Rattle.tl_lowering.specs.Blocks.{AreFree, Standing, at_start}
 use Rattle.tl_lowering.specs.Lowering.{IsDraft, behind_draft}
 use Rattle.tl_lowering.specs.Paths.{Paths, nodes_of, known, paths_of}
 use Rattle.tl_lowering.specs.Repeating.{IsRepetition}
 use Rattle.tl_lowering.specs.Scopes.{View, view_of, IsAt, IsLowered}
 use Rattle.tl_lowering.specs.Sound.{IsWellFormed}
-use Rattle.tl_lowering.proofs.BeyondLemmas.{turns_begin, block_is_no_break, block_is_no_walk}
-use Rattle.tl_lowering.proofs.BodyLemmas.{on_ok, then_flow, same_draft, same_behind, back, loop_back, at_known}
-use Rattle.tl_lowering.proofs.DepthLemmas.{falls_in_try, falls_in_handler, falls_in_first, falls_in_second, falls_in_visit, falls_in_block}
+use Rattle.tl_lowering.proofs.DescendLemmas.{turns_begin, same_turn}
+use Rattle.tl_lowering.proofs.PutLemmas.{block_is_no_break, block_is_no_walk}
+use Rattle.tl_lowering.proofs.BodyLemmas.{on_ok, then_flow, same_draft, same_behind, back, loop_back, at_as, at_known, same_repetition}
+use Rattle.tl_lowering.proofs.DepthLemmas.{weight, falls_in_else, falls_in_repeat, falls_in_try, falls_in_handler, falls_in_first, falls_in_second, falls_in_visit, falls_in_block, falls_in_part}
 use Rattle.tl_lowering.proofs.DraftLemmas.{none_read, none_behind, extended_paths, extended_draft, opened_paths, opened_draft, block_lowered}
 use Rattle.tl_lowering.proofs.LoweringLemmas.{at_exactly, at_behind, at_handler, extends_self}
 use Rattle.std.proofs.lemmas.List.{take_all}
-use Rattle.tl_lowering.specs.Entering.{before_of, entered_at, entered_of, EntersSoFar}
-use Rattle.tl_lowering.specs.Passing.{or_of}
+use Rattle.tl_lowering.specs.Entering.{before_of, before_body, entered_at, entered_of, EntersSoFar}
+use Rattle.tl_lowering.specs.Passing.{or_of, KeepsOut}
 use Rattle.tl_lowering.proofs.EnterLemmas.{none_entered, then_entered, plain_entered, opened_entered, tried_entering, entering_as, finished_entering}
-use Rattle.tl_lowering.specs.Names.{names_in, names_of}
+use Rattle.tl_lowering.specs.Names.{Names, names_in, names_of, inside}
 use Rattle.std.specs.Prelude.{option_map}
 use Rattle.tl_syntax.specs.declared.parsed.Expression.{Expression as TextExpression}
 use Rattle.tl_syntax.specs.declared.parsed.StatementForm.TheVariants as T
-use Rattle.tl_lowering.specs.Choosing.{IsRepeated}
-use Rattle.tl_lowering.specs.Drafts.{no_else, one_else}
-use Rattle.tl_lowering.specs.Reading.{IsBlock, act, block_alone}
-use Rattle.tl_lowering.proofs.PathLemmas.{ok_more}
-use Rattle.tl_lowering.proofs.PartLemmas.{none_part, more_part, whole_part, plain_extended, opened_extended, opens_at, tried_statement, handled_statement, chosen_statement, repeated_statement, visited_statement, forms_of, loop_at, block_at}
+use Rattle.tl_lowering.specs.Choosing.{names_within, IsRepeated}
+use Rattle.tl_lowering.proofs.AlikeBlocks.{block_once}
+use Rattle.tl_lowering.specs.Drafts.{no_else, one_else, IsHandled}
+use Rattle.tl_lowering.specs.Reading.{IsBlock, act, plain as by_itself, block_alone}
+use Rattle.tl_lowering.proofs.PathLemmas.{ok_more, both_ok}
+use Rattle.tl_lowering.proofs.PartLemmas.{none_part, more_part, whole_part, plain_extended, opened_extended, opens_at, tried_statement, handled_statement, chosen_statement, repeated_statement, visited_statement, forms_of, loop_at, block_at, used_action, no_use}
+use Rattle.tl_lowering.proofs.GivenLemmas.{lowered_as, lowered_in_loops, given_none, given_node, given_value, given_at, same_before, turn_as}
+use Rattle.tl_lowering.proofs.WriteLemmas.{computed_lowered, computed_entering}
 use Rattle.tl_lowering.proofs.lowering.Lowering.+lowering.Goals as goal
 
 pub block-loop-statement-init : goal.block-loop-statement-init
@@ -34,7 +40,7 @@ block-loop-statement-init t c =
     let scope : View = view_of c.args.self.now.scope in
     let draft : Draft = record { opened = c.new.result; statements = c.new-2.result; flow = c.on.result } in
     record {
-      named = none_part (names_of c.args.self.now.scope) draft c.new.ensures.items c.new-2.ensures.items;
+      named = none_part c.args.before.now (names_of c.args.self.now.scope) draft c.new.ensures.items c.new-2.ensures.items;
       draft = none_read scope c.args.held draft c.new.ensures.items c.new-2.ensures.items;
       entering = none_entered (before_of c.args.held) draft (entered_of draft.flow) c.new.ensures.items c.new-2.ensures.items c.on.ensures.entered;
       flow = c.on.ensures.paths ∙ sym (none_behind scope c.args.held draft c.new.ensures.items c.new-2.ensures.items);
@@ -152,81 +158,88 @@ pub handled-block-requires : goal.handled-block-requires
 handled-block-requires t c =
     (search rules, at_handler (view_of c.args.self.now.scope) c.args.held c.handled.result (known c.args.lowered.1.fails) c.requires.at c.handled.ensures.nodes)
 
+pub statement-handled-requires : goal.statement-handled-requires
+statement-handled-requires t c =
+    let acted = c.in_ok-lowered-in-Act in
+    let same = sym acted.ensures.scope in
+    let form : c.args.form.now ≡ T.Act c.in-Act.action (Some c.in-Some.otherwise) = c.in-Act.is ∙ ap (T.Act c.in-Act.action) c.in-Some.is in (
+      falls_in_else t 2 (weight c.args.before.now) c.args.form.now c.in-Act.action c.in-Some.otherwise c.deref.result.now c.decreases c.deref.ensures.value (omega arith) form,
+      (subst (λ v. IsAt v c.args.held) same c.requires, (subst (λ v. IsLowered v c.args.held acted.lowered.0 acted.lowered.1) same acted.ensures.lowered, acted.ensures.entering)),
+    )
+
+pub statement-turns-requires : goal.statement-turns-requires
+statement-turns-requires t c =
+    let r = c.in-Repeat in (
+      falls_in_repeat t 3 (weight c.args.before.now) c.args.form.now r.turns r.at_most r.body c.deref-in-Repeat.result.now c.decreases c.deref-in-Repeat.ensures.value (omega arith) r.is,
+      (c.requires, (c.in_ok-repetition-in-Repeat.ensures.repetition, (c.in_ok-repetition-in-Repeat.ensures.depth, c.in_ok-repetition-in-Repeat.ensures.fresh))),
+    )
+
+pub refusal-block-requires : goal.refusal-block-requires
+refusal-block-requires t c =
+    let form : c.args.form.now ≡ T.Act c.in-Act.field-0 (Some c.in-Some.otherwise) = c.in-Act.is ∙ ap (T.Act c.in-Act.field-0) c.in-Some.is in
+    (falls_in_else t 1 (weight c.args.before.now) c.args.form.now c.in-Act.field-0 c.in-Some.otherwise c.deref.result.now c.decreases c.deref.ensures.value (omega arith) form, c.requires)
+
 pub statement-block-requires : goal.statement-block-requires
 statement-block-requires t c =
-    (falls_in_try t 1 c.args.form.now c.in-Try.body c.in-Try.handler c.deref-in-Try.result.now c.decreases c.deref-in-Try.ensures.value (omega arith) c.in-Try.is, c.requires)
+    (falls_in_try t 1 (weight c.args.before.now) c.args.form.now c.in-Try.body c.in-Try.handler c.deref-in-Try.result.now c.decreases c.deref-in-Try.ensures.value (omega arith) c.in-Try.is, c.requires)
 
 pub statement-handled-requires-in-Try : goal.statement-handled-requires-in-Try
 statement-handled-requires-in-Try t c =
     let lowered = c.in_ok-lowered-in-Try.lowered in
     let same = sym c.in_ok-lowered-in-Try.ensures.scope in (
-      falls_in_handler t 2 c.args.form.now c.in-Try.body c.in-Try.handler c.deref-in-Try-2.result.now c.decreases c.deref-in-Try-2.ensures.value (omega arith) c.in-Try.is,
+      falls_in_handler t 2 (weight c.args.before.now) c.args.form.now c.in-Try.body c.in-Try.handler c.deref-in-Try-2.result.now c.decreases c.deref-in-Try-2.ensures.value (omega arith) c.in-Try.is,
       (subst (λ v. IsAt v c.args.held) same c.requires, (subst (λ v. IsLowered v c.args.held lowered.0 lowered.1) same c.in_ok-lowered-in-Try.ensures.lowered, c.in_ok-lowered-in-Try.ensures.entering)),
     )
 
 pub statement-first_block-requires : goal.statement-first_block-requires
 statement-first_block-requires t c = (
-  falls_in_first t 2 c.args.form.now c.in-If.question c.in-If.body c.in-If.otherwise c.deref-in-If.result.now c.decreases c.deref-in-If.ensures.value (omega arith) c.in-If.is,
+  falls_in_first t 2 (weight c.args.before.now) c.args.form.now c.in-If.question c.in-If.body c.in-If.otherwise c.deref-in-If.result.now c.decreases c.deref-in-If.ensures.value (omega arith) c.in-If.is,
   (c.requires, c.in_ok-entrance-in-If.ensures.entrance),
 )
 
 pub statement-block-requires-in-If : goal.statement-block-requires-in-If
 statement-block-requires-in-If t c = (
-  falls_in_second t 1 c.args.form.now c.in-If.question c.in-If.body c.in-If.otherwise c.deref-in-If-2.result.now c.decreases c.deref-in-If-2.ensures.value (omega arith) c.in-If.is,
+  falls_in_second t 1 (weight c.args.before.now) c.args.form.now c.in-If.question c.in-If.body c.in-If.otherwise c.deref-in-If-2.result.now c.decreases c.deref-in-If-2.ensures.value (omega arith) c.in-If.is,
   subst (λ v. IsAt v c.args.held) (sym c.in_ok-first-in-If.ensures.scope) c.requires,
 )
 
 pub statement-turns-requires-in-ForEach : goal.statement-turns-requires-in-ForEach
 statement-turns-requires-in-ForEach t c =
     let v = c.in-ForEach in (
-      falls_in_visit t 2 c.args.form.now v.child v.index v.parent v.at_most v.body c.deref-in-ForEach.result.now c.decreases c.deref-in-ForEach.ensures.value (omega arith) v.is,
+      falls_in_visit t 3 (weight c.args.before.now) c.args.form.now v.child v.index v.parent v.at_most v.body c.deref-in-ForEach.result.now c.decreases c.deref-in-ForEach.ensures.value (omega arith) v.is,
       (c.requires, (c.in_ok-repetition-in-ForEach.ensures.repetition, (c.in_ok-repetition-in-ForEach.ensures.depth, c.in_ok-repetition-in-ForEach.ensures.fresh))),
     )
 
 pub statement-block-requires-in-Block : goal.statement-block-requires-in-Block
 statement-block-requires-in-Block t c =
-    (falls_in_block t 1 c.args.form.now c.in-Block.body c.deref-in-Block.result.now c.decreases c.deref-in-Block.ensures.value (omega arith) c.in-Block.is, c.requires)
+    (falls_in_block t 1 (weight c.args.before.now) c.args.form.now c.in-Block.body c.deref-in-Block.result.now c.decreases c.deref-in-Block.ensures.value (omega arith) c.in-Block.is, c.requires)
 
-pub turns-repeated-requires-clause-at : goal.turns-repeated-requires-clause-at
-turns-repeated-requires-clause-at t c =
-    let mark = c.mark-mark.ensures in
-    let left = c.return_to.ensures in
-    let begun = c.in_ok-inside.ensures in
-    let new : View = record (view_of c.return_to.new.self) { loops = c.saturating_sub-self.result } in
-    let same : new ≡ view_of c.args.self.now.scope =
-    loop_back (view_of c.args.self.now.scope) (view_of c.begin.new.self.scope) (view_of c.block.new.self.scope) (view_of c.return_to.new.self) c.mark-mark.result.local c.saturating_sub-self.result
-    begun.extends c.in_ok-body.ensures.scope mark.local left.meanings left.fields left.procedures left.local (left.values ∙ mark.values) (left.nodes ∙ mark.nodes) left.loops begun.loops (omega arith) in
-    subst (λ v. IsAt v c.args.held) (sym same) c.requires.at
-
-pub turns-repeated-requires-clause-repetition : goal.turns-repeated-requires-clause-repetition
-turns-repeated-requires-clause-repetition t c =
-    let mark = c.mark-mark.ensures in
-    let left = c.return_to.ensures in
-    let begun = c.in_ok-inside.ensures in
-    let new : View = record (view_of c.return_to.new.self) { loops = c.saturating_sub-self.result } in
-    let same : new ≡ view_of c.args.self.now.scope =
-    loop_back (view_of c.args.self.now.scope) (view_of c.begin.new.self.scope) (view_of c.block.new.self.scope) (view_of c.return_to.new.self) c.mark-mark.result.local c.saturating_sub-self.result
-    begun.extends c.in_ok-body.ensures.scope mark.local left.meanings left.fields left.procedures left.local (left.values ∙ mark.values) (left.nodes ∙ mark.nodes) left.loops begun.loops (omega arith) in
-    subst (λ v. IsRepetition v c.args.held c.args.repetition) (sym same) c.requires.repetition
-
-pub turns-returns-clause-scope : goal.turns-returns-clause-scope
-turns-returns-clause-scope t c =
+pub turn-returns-clause-scope : goal.turn-returns-clause-scope
+turn-returns-clause-scope t c =
     let old : View = view_of c.args.self.now.scope in
     let mark = c.mark-mark.ensures in
     let left = c.return_to.ensures in
     let begun = c.in_ok-inside.ensures in
-    let new : View = record (view_of c.return_to.new.self) { loops = c.saturating_sub-self.result } in
-    let same : new ≡ old =
     loop_back old (view_of c.begin.new.self.scope) (view_of c.block.new.self.scope) (view_of c.return_to.new.self) c.mark-mark.result.local c.saturating_sub-self.result
-    begun.extends c.in_ok-body.ensures.scope mark.local left.meanings left.fields left.procedures left.local (left.values ∙ mark.values) (left.nodes ∙ mark.nodes) left.loops begun.loops (omega arith) in
-    on_ok c.repeated.result (new ≡ old) same
+    begun.extends c.in_ok-body.ensures.scope mark.local left.meanings left.fields left.procedures left.local (left.values ∙ mark.values) (left.nodes ∙ mark.nodes) left.loops begun.loops (omega arith)
+
+pub turn-returns-clause-named : goal.turn-returns-clause-named
+turn-returns-clause-named t c = subst (λ n. IsBlock c.args.before.now n c.args.body.now c.in_ok-body.body) c.in_ok-inside.ensures.named c.in_ok-body.ensures.named
+
+pub turn-returns-clause-entering : goal.turn-returns-clause-entering
+turn-returns-clause-entering t c =
+    let inside = c.in_ok-inside.ensures in
+    entering_as (ap₂ (λ e p. record { entered = e; passed = p }) inside.entered inside.passed) c.in_ok-flow.ensures.entered c.in_ok-body.ensures.entering
+
+pub turn-returns-clause-once : goal.turn-returns-clause-once
+turn-returns-clause-once t c = c.in_ok-flow.ensures.once
 
 -- ---- the core forms are those of the text
 
 pub block-returns-clause-named : goal.block-returns-clause-named
 block-returns-clause-named t c =
     let part = c.loop-statement.invariant.named in
-    subst (λ xs. IsBlock (names_of c.args.self.now.scope) xs c.in_ok-finished.field-0) (take_all c.loop-statement.statement-index c.args.statements.now (omega arith))
+    subst (λ xs. IsBlock c.args.before.now (names_of c.args.self.now.scope) xs c.in_ok-finished.field-0) (take_all c.loop-statement.statement-index c.args.statements.now (omega arith))
     (whole_part part c.in_ok-finished.ensures.named)
 
 pub extend-returns-in_default-clause-named : goal.extend-returns-in_default-clause-named
@@ -243,7 +256,7 @@ extend-returns-clause-named t c =
     let earlier : c.replace-earlier.result.items ≡ c.args.draft.now.statements.items = search rules in
     let none : c.replace-earlier.new.dest.items ≡ [] = search rules in
     let opening = rw c.in-Some.is at c.in_ok-head.ensures.named in
-    let opens = opens_at (ap names_in c.in_ok-otherwise.ensures.scope) opening c.in_ok-otherwise.ensures.named c.in_ok-binding.ensures.named in
+    let opens = opens_at (ap names_in c.in_ok-otherwise.ensures.scope) opening c.in_ok-otherwise.ensures.named (c.in_ok-binding.ensures.named c.args.before.now) in
     opened_extended c.args.statement.now c.args.draft.now draft c.in_ok-binding.flow opened opens refl earlier c.in_ok-push-2.ensures.items none
 
 pub statement-returns-in_ok-lowered-in-Try-clause-named : goal.statement-returns-in_ok-lowered-in-Try-clause-named
@@ -290,7 +303,9 @@ statement-returns-in-None-clause-named t c =
 pub statement-returns-in-Some-clause-named : goal.statement-returns-in-Some-clause-named
 statement-returns-in-Some-clause-named t c =
     let form : c.args.form.now ≡ T.Act c.in-Act.action (Some c.in-Some.otherwise) = c.in-Act.is ∙ ap (T.Act c.in-Act.action) c.in-Some.is in
-    rw form (ok_more c.handled.result _ _ c.handled.ensures.named (λ l h plain. handled_statement (c.in_ok-lowered-in-Act.ensures.named plain) c.deref.ensures.value h))
+    let acted = c.in_ok-lowered-in-Act in
+    let handled = subst (λ n. IfOk c.handled.result (λ l. IsHandled c.args.before.now n acted.lowered.0 c.deref.result.now l.0)) (ap names_in acted.ensures.scope) c.handled.ensures.named in
+    rw form (ok_more c.handled.result _ _ handled (λ l h plain. handled_statement (acted.ensures.named plain) c.deref.ensures.value h))
 
 pub refusal-returns-in_default-otherwise-clause-named : goal.refusal-returns-in_default-otherwise-clause-named
 refusal-returns-in_default-otherwise-clause-named t c = λ action o form. no_else (c.in-Act.is ∙ ap (T.Act c.in-Act.field-0) c.in_default-otherwise.is)
@@ -308,27 +323,197 @@ handled-returns-clause-entering t c =
 pub first_block-returns-clause-entering : goal.first_block-returns-clause-entering
 first_block-returns-clause-entering t c = λ entrance. entering_as (c.in_ok-inside.ensures.entered entrance) refl c.in_ok-first.ensures.entering
 
-pub turns-repeated-requires-clause-before : goal.turns-repeated-requires-clause-before
-turns-repeated-requires-clause-before t c =
-    let scope : View = view_of c.args.self.now.scope in
-    let d = c.descended.ensures in
-    turns_begin scope c.args.held c.forgetting-start.result c.args.repetition c.args.body.now c.descended.result c.in_ok-body.body c.requires.at.names c.requires.repetition
-    (λ n le. d.beyond c.requires.at.names n le) (λ names parts n k lt are. d.nodes names parts n k lt are)
-    (subst (λ n. IsBlock n c.args.body.now c.in_ok-body.body) c.in_ok-inside.ensures.named c.in_ok-body.ensures.named) c.forgetting-start.ensures.entered c.forgetting-start.ensures.passed
-
-pub turns-repeated-requires-clause-entering : goal.turns-repeated-requires-clause-entering
-turns-repeated-requires-clause-entering t c =
-    let inside = c.in_ok-inside.ensures in
-    entering_as (ap₂ (λ e p. record { entered = e; passed = p }) inside.entered inside.passed) c.in_ok-flow.ensures.entered c.in_ok-body.ensures.entering
-
-pub turns-repeated-requires-clause-once : goal.turns-repeated-requires-clause-once
-turns-repeated-requires-clause-once t c = c.in_ok-flow.ensures.once
-
-pub turns-repeated-requires-clause-block : goal.turns-repeated-requires-clause-block
-turns-repeated-requires-clause-block t c = block_is_no_walk c.in_ok-body.ensures.named
-
 pub refusal-returns-clause-block : goal.refusal-returns-clause-block
 refusal-returns-clause-block t c = block_is_no_break c.in_ok-statement.ensures.named
 
 pub statement-chosen-requires-clause-block : goal.statement-chosen-requires-clause-block
 statement-chosen-requires-clause-block t c = block_is_no_break c.in_ok-second-in-If.ensures.named
+
+-- ---- parts
+
+pub acted-returns-in-Use-clause-named : goal.acted-returns-in-Use-clause-named
+acted-returns-in-Use-clause-named t c = rw c.in-Use.is (ok_more c.used.result _ _ c.used.ensures.named (λ l h plain. used_action c.in-Use.arguments c.deref.ensures.value h))
+
+pub acted-returns-in_default-clause-named : goal.acted-returns-in_default-clause-named
+acted-returns-in_default-clause-named t c =
+    ok_more c.action.result _ _ c.action.ensures.named (λ l h plain. by_itself (h plain (no_use c.args.action.now c.in_default.not-Use)))
+
+pub used-given-requires : goal.used-given-requires
+used-given-requires t c =
+    let scope = c.args.self.now.scope in
+    let outer : c.replace-outer.result ≡ scope = c.replace-outer.ensures.value ∙ c.enter_part.ensures in
+    let inner : c.replace-outer.new.dest ≡ c.in_ok-inner.inner = c.replace-outer.ensures.after in
+    let names : names_of c.in_ok-inner.inner ≡ inside (names_of scope) = c.in_ok-inner.ensures.named ∙ ap (λ (s : Scope). inside (names_of s)) c.enter_part.ensures in
+    let values : c.in_ok-inner.inner.values ≡ scope.values = ap (λ (n : Names). n.values) names in
+    let nodes : c.in_ok-inner.inner.nodes ≡ scope.nodes = ap (λ (n : Names). n.nodes) names in (
+      falls_in_part t c.args.before.now _ c.in_ok-part.index c.in_ok-part.part.now c.deref.result.now c.deref-2.result.now c.decreases c.in_ok-part.ensures.part (search rules) c.deref.ensures.value
+          c.deref-2.ensures.value,
+      (
+        rw inner (record { names = c.in_ok-inner.ensures.in_use; nodes = subst (λ m. AreFree m (nodes_of c.args.held)) (sym nodes) c.requires.nodes }),
+        (rw outer c.requires.names, (rw (outer, inner) (omega arith), (rw (outer, inner) (sym nodes), rw inner (λ i n e. absurd (c.in_ok-inner.ensures.nodes i n e))))),
+      ),
+    )
+
+pub used-returns-clause-named : goal.used-returns-clause-named
+used-returns-clause-named t c =
+    let scope = c.args.self.now.scope in
+    let outer : c.replace-outer.result ≡ scope = c.replace-outer.ensures.value ∙ c.enter_part.ensures in
+    let inner : c.replace-outer.new.dest ≡ c.in_ok-inner.inner = c.replace-outer.ensures.after in
+    let names : names_of c.in_ok-inner.inner ≡ inside (names_of scope) = c.in_ok-inner.ensures.named ∙ ap (λ (s : Scope). inside (names_of s)) c.enter_part.ensures in
+    record {
+      index = c.in_ok-part.index;
+      part = c.in_ok-part.part.now;
+      index_is = c.in_ok-part.ensures.index;
+      part_is = c.in_ok-part.ensures.part;
+      given = given_at (search rules) (ap names_of outer) (ap names_of inner ∙ names) c.deref-2.ensures.value c.deref.ensures.value c.in_ok-lowered.ensures.given;
+      nests = rw outer at c.in_ok-check_nesting.ensures;
+    }
+
+pub used-returns-clause-lowered : goal.used-returns-clause-lowered
+used-returns-clause-lowered t c =
+    let scope = c.args.self.now.scope in
+    let inner : c.replace-outer.new.dest ≡ c.in_ok-inner.inner = c.replace-outer.ensures.after in
+    let names : names_of c.replace-outer.new.dest ≡ inside (names_of scope) =
+    ap names_of inner ∙ c.in_ok-inner.ensures.named ∙ ap (λ (s : Scope). inside (names_of s)) c.enter_part.ensures in
+    lowered_in_loops (view_of c.replace-outer.new.dest) (view_of scope) c.args.held (ap (λ (n : Names). n.values) names) (ap (λ (n : Names). n.nodes) names) (ap (λ (n : Names). n.loops) names) c.in_ok-lowered.ensures.lowered
+
+pub given-given-requires : goal.given-given-requires
+given-given-requires t c =
+    let more = c.in_ok-named-in-Node.ensures in
+    let shorter = ap length c.in-Some.ensures.cases.0 in
+    (omega (arith, shorter, c.decreases), (more.at, (c.requires.outer, (omega (arith, more.values, c.requires.values), (c.requires.nodes ∙ sym more.nodes, more.named)))))
+
+pub given-given-requires-in-Value : goal.given-given-requires-in-Value
+given-given-requires-in-Value t c =
+    let more = c.in_ok-register-in-Value.ensures in
+    let shorter = ap length c.in-Some.ensures.cases.0 in (
+      omega (arith, shorter, c.decreases),
+      (more.at, (c.requires.outer, (omega (arith, more.values, c.requires.values), (c.requires.nodes ∙ sym more.nodes, λ i n e. c.requires.named i n (more.named i n e))))),
+    )
+
+pub given-returns-in_default-clause-given : goal.given-returns-in_default-clause-given
+given-returns-in_default-clause-given t c = ok_more c.block.result _ _ c.block.ensures.named (λ l h. given_none c.in_default.ensures.cases (search rules) h)
+
+pub given-returns-in_ok-named-in-Node-clause-given : goal.given-returns-in_ok-named-in-Node-clause-given
+given-returns-in_ok-named-in-Node-clause-given t c =
+    ok_more c.given.result _ _ c.given.ensures.given (λ l h. given_node c.in-Some.ensures.cases.0 c.in-Node.is c.in-Some-split_first.ensures.cases.0 c.in_ok-named-in-Node.ensures.given h)
+
+pub given-returns-in_ok-named-in-Node-clause-lowered : goal.given-returns-in_ok-named-in-Node-clause-lowered
+given-returns-in_ok-named-in-Node-clause-lowered t c =
+    let more = c.in_ok-named-in-Node.ensures in
+    ok_more c.given.result _ _ c.given.ensures.lowered (λ l h. lowered_as (view_of c.give_node.new.self.scope) (view_of c.args.self.now.scope) c.args.held more.values more.nodes more.loops h)
+
+pub given-returns-in_ok-body-in-Value-clause-given : goal.given-returns-in_ok-body-in-Value-clause-given
+given-returns-in_ok-body-in-Value-clause-given t c =
+    let more = c.in_ok-register-in-Value.ensures in
+    ok_more c.let_in.result _ _ c.let_in.ensures.named (λ l h. given_value c.in-Some.ensures.cases.0 c.in-Value.is c.in-Some-split_first.ensures.cases.0 more.given more.register c.in_ok-body-in-Value.ensures.given h)
+
+pub given-returns-in_ok-body-in-Value-clause-lowered : goal.given-returns-in_ok-body-in-Value-clause-lowered
+given-returns-in_ok-body-in-Value-clause-lowered t c =
+    let scope : View = view_of c.args.self.now.scope in
+    let more = c.in_ok-register-in-Value.ensures in
+    let body = lowered_as (view_of c.give_value.new.self.scope) (record scope { values = scope.values + 1 }) c.args.held more.values more.nodes more.loops c.in_ok-body-in-Value.ensures.lowered in
+    both_ok c.let_in.result _ _ _ c.let_in.ensures.named c.let_in.ensures.flow
+    (λ l h f. computed_lowered scope.values c.in_ok-register-in-Value.register scope c.args.held more.register h more.readable (omega arith) body f)
+
+pub given-returns-in_ok-body-in-Value-clause-entering : goal.given-returns-in_ok-body-in-Value-clause-entering
+given-returns-in_ok-body-in-Value-clause-entering t c = both_ok c.let_in.result _ _ _ c.let_in.ensures.named c.let_in.ensures.entering (λ l h f. computed_entering h c.in_ok-body-in-Value.ensures.entering f)
+
+-- ---- loops
+
+pub turns-turn-requires : goal.turns-turn-requires
+turns-turn-requires t c =
+    let scope : View = view_of c.args.self.now.scope in
+    let same = c.forgetting-guess.ensures.nodes in
+    (omega (arith, c.decreases), (at_as scope c.args.held c.forgetting-guess.result same c.requires.at, (same_repetition scope c.args.held c.forgetting-guess.result c.args.repetition same c.requires.repetition, c.requires.depth)))
+
+pub turns-turn-requires-2 : goal.turns-turn-requires-2
+turns-turn-requires-2 t c =
+    let scope : View = view_of c.args.self.now.scope in
+    let same = c.forgetting-start.ensures.nodes in
+    let back = sym c.in_ok-first.ensures.scope in (
+      omega (arith, c.decreases),
+      (
+        subst (λ v. IsAt v c.forgetting-start.result) back (at_as scope c.args.held c.forgetting-start.result same c.requires.at),
+        (
+          subst (λ v. IsRepetition v c.forgetting-start.result c.args.repetition) back (same_repetition scope c.args.held c.forgetting-start.result c.args.repetition same c.requires.repetition),
+          subst (λ (v : View). v.loops < MAX_DEPTH) back c.requires.depth,
+        ),
+      ),
+    )
+
+pub turns-repeated-requires-clause-at : goal.turns-repeated-requires-clause-at
+turns-repeated-requires-clause-at t c = let back = sym c.in_ok-first.ensures.scope in subst (λ v. IsAt v c.args.held) back c.requires.at
+
+pub turns-repeated-requires-clause-start : goal.turns-repeated-requires-clause-start
+turns-repeated-requires-clause-start t c = c.forgetting-start.ensures.nodes
+
+pub turns-repeated-requires-clause-repetition : goal.turns-repeated-requires-clause-repetition
+turns-repeated-requires-clause-repetition t c = let back = sym c.in_ok-first.ensures.scope in subst (λ v. IsRepetition v c.args.held c.args.repetition) back c.requires.repetition
+
+pub turns-repeated-requires-clause-before : goal.turns-repeated-requires-clause-before
+turns-repeated-requires-clause-before t c =
+    turns_begin c.args.held c.forgetting-start.result c.args.repetition c.passed_down.result c.in_ok-first.first.0 c.passed_down.ensures c.forgetting-start.ensures.entered c.forgetting-start.ensures.passed
+
+pub turns-repeated-requires-clause-entering : goal.turns-repeated-requires-clause-entering
+turns-repeated-requires-clause-entering t c =
+    let same = same_before c.forgetting-guess.result c.forgetting-start.result c.args.held c.forgetting-guess.ensures.entered c.forgetting-start.ensures.entered (sym c.if-start-guess.true) in
+    entering_as (ap (before_body c.args.repetition) same) refl c.in_ok-first.ensures.entering
+
+pub turns-repeated-requires-clause-once : goal.turns-repeated-requires-clause-once
+turns-repeated-requires-clause-once t c =
+    let same = same_before c.forgetting-guess.result c.forgetting-start.result c.args.held c.forgetting-guess.ensures.entered c.forgetting-start.ensures.entered (sym c.if-start-guess.true) in
+    subst (KeepsOut (entered_of c.in_ok-first.first.1).after) same c.in_ok-first.ensures.once
+
+pub turns-repeated-requires-clause-block : goal.turns-repeated-requires-clause-block
+turns-repeated-requires-clause-block t c = block_is_no_walk c.in_ok-first.ensures.named
+
+pub turns-repeated-requires-clause-turn : goal.turns-repeated-requires-clause-turn
+turns-repeated-requires-clause-turn t c = turn_as (view_of c.args.self.now.scope) (view_of c.turn.new.self.scope) c.forgetting-guess.result c.args.held c.in_ok-first.ensures.scope c.forgetting-guess.ensures.nodes c.in_ok-first.ensures.turn
+
+pub turns-repeated-requires-2-clause-at : goal.turns-repeated-requires-2-clause-at
+turns-repeated-requires-2-clause-at t c = let back = sym (c.in_ok-again.ensures.scope ∙ c.in_ok-first.ensures.scope) in subst (λ v. IsAt v c.args.held) back c.requires.at
+
+pub turns-repeated-requires-2-clause-start : goal.turns-repeated-requires-2-clause-start
+turns-repeated-requires-2-clause-start t c = c.forgetting-start.ensures.nodes
+
+pub turns-repeated-requires-2-clause-repetition : goal.turns-repeated-requires-2-clause-repetition
+turns-repeated-requires-2-clause-repetition t c = let back = sym (c.in_ok-again.ensures.scope ∙ c.in_ok-first.ensures.scope) in subst (λ v. IsRepetition v c.args.held c.args.repetition) back c.requires.repetition
+
+pub turns-repeated-requires-2-clause-before : goal.turns-repeated-requires-2-clause-before
+turns-repeated-requires-2-clause-before t c =
+    let named = subst (λ (v : View). IsBlock c.args.before.now (names_within (names_in v) c.args.repetition) c.args.body.now c.in_ok-again.again.0) c.in_ok-first.ensures.scope c.in_ok-again.ensures.named in
+    turns_begin c.args.held c.forgetting-start.result c.args.repetition c.passed_down.result c.in_ok-again.again.0
+    (λ n. c.passed_down.ensures n ∙ same_turn c.args.repetition n (block_once c.in_ok-first.ensures.named named)) c.forgetting-start.ensures.entered c.forgetting-start.ensures.passed
+
+pub turns-repeated-requires-2-clause-entering : goal.turns-repeated-requires-2-clause-entering
+turns-repeated-requires-2-clause-entering t c = c.in_ok-again.ensures.entering
+
+pub turns-repeated-requires-2-clause-once : goal.turns-repeated-requires-2-clause-once
+turns-repeated-requires-2-clause-once t c = c.in_ok-again.ensures.once
+
+pub turns-repeated-requires-2-clause-block : goal.turns-repeated-requires-2-clause-block
+turns-repeated-requires-2-clause-block t c = block_is_no_walk c.in_ok-again.ensures.named
+
+pub turns-repeated-requires-2-clause-turn : goal.turns-repeated-requires-2-clause-turn
+turns-repeated-requires-2-clause-turn t c = turn_as (view_of c.turn.new.self.scope) (view_of c.turn-2.new.self.scope) c.forgetting-start.result c.args.held c.in_ok-again.ensures.scope c.forgetting-start.ensures.nodes c.in_ok-again.ensures.turn
+
+pub turns-returns-then-start-guess-clause-scope : goal.turns-returns-then-start-guess-clause-scope
+turns-returns-then-start-guess-clause-scope t c = on_ok c.repeated.result _ c.in_ok-first.ensures.scope
+
+pub turns-returns-then-start-guess-clause-named : goal.turns-returns-then-start-guess-clause-named
+turns-returns-then-start-guess-clause-named t c = ok_more c.repeated.result _ _ c.repeated.ensures.named (λ l h. record { body = c.in_ok-first.first.0; body_is = c.in_ok-first.ensures.named; whole_is = h })
+
+pub turns-returns-then-start-guess-clause-lowered : goal.turns-returns-then-start-guess-clause-lowered
+turns-returns-then-start-guess-clause-lowered t c = ok_more c.repeated.result _ _ c.repeated.ensures.lowered (λ l h. subst (λ v. IsLowered v c.args.held l.0 l.1) c.in_ok-first.ensures.scope h)
+
+pub turns-returns-clause-scope : goal.turns-returns-clause-scope
+turns-returns-clause-scope t c = on_ok c.repeated-2.result _ (c.in_ok-again.ensures.scope ∙ c.in_ok-first.ensures.scope)
+
+pub turns-returns-clause-named : goal.turns-returns-clause-named
+turns-returns-clause-named t c =
+    let named = subst (λ (v : View). IsBlock c.args.before.now (names_within (names_in v) c.args.repetition) c.args.body.now c.in_ok-again.again.0) c.in_ok-first.ensures.scope c.in_ok-again.ensures.named in
+    ok_more c.repeated-2.result _ _ c.repeated-2.ensures.named (λ l h. record { body = c.in_ok-again.again.0; body_is = named; whole_is = h })
+
+pub turns-returns-clause-lowered : goal.turns-returns-clause-lowered
+turns-returns-clause-lowered t c = ok_more c.repeated-2.result _ _ c.repeated-2.ensures.lowered (λ l h. subst (λ v. IsLowered v c.args.held l.0 l.1) (c.in_ok-again.ensures.scope ∙ c.in_ok-first.ensures.scope) h)

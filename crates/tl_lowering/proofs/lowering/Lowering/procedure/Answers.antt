@@ -20,7 +20,7 @@ returns-clause-named c =
       | in-None w ↦
           ap (λ (v : Vec ℕ Global). v.items) w.name-is ∙ w.new-name.ensures.items ∙ sym (spelling_none c.args.names.now.keys c.args.procedure.now.name.symbol.0 (sym w.in-None.ensures.key))
     ] in
-    let old = with_procedure (names_of c.args.self.now.scope) c.args.procedure.now.name in
+    let old = with_procedure (names_of c.args.self.now.scope) c.args.procedure.now.name (length c.args.before.now) in
     let arguments = c.args.procedure.now.arguments.items in
     let named : names_of c.declare_arguments.new.self.scope ≡ with_values old arguments =
     c.in_ok-declare_arguments.ensures.named ∙ ap₂ with_values c.in_ok-declare_procedure.ensures.named c.deref.ensures.value in
@@ -30,7 +30,7 @@ returns-clause-named c =
       offset = refl;
       arity = omega (arith, many, c.requires.values);
       arguments = subst (AreNew old) c.deref.ensures.value (subst (λ n. AreNew n c.deref.result.now) c.in_ok-declare_procedure.ensures.named c.in_ok-declare_arguments.ensures.fresh);
-      body = subst (λ n. IsBody n c.args.procedure.now c.in_ok-body.body) named c.in_ok-body.ensures.named;
+      body = subst (λ n. IsBody c.args.before.now n c.args.procedure.now c.in_ok-body.body) named c.in_ok-body.ensures.named;
     }
 
 pub body-requires : goal.body-requires

@@ -9,10 +9,10 @@ use Rattle.tl_lowering.specs.Sound.{IsInOrder}
 use Rattle.tl_lowering.proofs.TextLemmas.{AreSoFar}
 use Rattle.tl_lowering.proofs.lowering.Lowering.program.Given as goal
 
-abbrev pub invariant-loop-declaration : goal.invariant-loop-declaration
-invariant-loop-declaration l =
+abbrev pub invariant-loop-index : goal.invariant-loop-index
+invariant-loop-index l =
     record {
-      named : AreSoFar (spellings l.names.keys) (names_of l.initial.self.scope) (take l.declaration-index l.declarations) l.procedures.items (names_of l.self.scope);
+      named : AreSoFar (spellings l.names.keys) (names_of l.initial.self.scope) (take l.index l.declarations) l.procedures.items (names_of l.self.scope);
       bare : IsBare (view_of l.self.scope);
       procedures : All (λ (p : Procedure). IsWord p.name.items → IsInOrder p) l.procedures.items;
     }

@@ -8,7 +8,7 @@ invariant-loop-self l =
     record {
       meanings : forget (drop k l.self.local.items) l.self.meanings.items ≡ forget (drop k old.local.items) old.meanings.items;
       fields : l.self.fields.items ≡ old.fields.items;
-      procedures : l.self.is_procedure.items ≡ old.is_procedure.items;
+      procedures : l.self.procedures.items ≡ old.procedures.items;
       local : take k l.self.local.items ≡ take k old.local.items;
       loops : l.self.loops ≡ old.loops;
     }

@@ -27,7 +27,10 @@ returns-clause-names c =
     let now7 : c.as_slice-7.result.now ≡ codes "while" = search rules in
     let with7 : spellings c.insert-7.new.self.keys ≡ codes "at" ∷ codes "each" ∷ codes "most" ∷ codes "of" ∷ codes "to" ∷ codes "atomic" ∷ codes "while" ∷ [] =
     inserted_last c.insert-6.new.self.keys c.insert-7.new.self.keys c.as_slice-7.result (codes "while") (codes "at" ∷ codes "each" ∷ codes "most" ∷ codes "of" ∷ codes "to" ∷ codes "atomic" ∷ []) with6 now7 refl c.in_ok-insert-7.ensures.keys in
-    with7
+    let now8 : c.as_slice-8.result.now ≡ codes "part" = search rules in
+    let with8 : spellings c.insert-8.new.self.keys ≡ codes "at" ∷ codes "each" ∷ codes "most" ∷ codes "of" ∷ codes "to" ∷ codes "atomic" ∷ codes "while" ∷ codes "part" ∷ [] =
+    inserted_last c.insert-7.new.self.keys c.insert-8.new.self.keys c.as_slice-8.result (codes "part") (codes "at" ∷ codes "each" ∷ codes "most" ∷ codes "of" ∷ codes "to" ∷ codes "atomic" ∷ codes "while" ∷ []) with7 now8 refl c.in_ok-insert-8.ensures.keys in
+    with8
 
 pub returns-clause-distinct : goal.returns-clause-distinct
-returns-clause-distinct c = distinct_spellings c.insert-7.new.self.keys c.in_ok-insert-7.ensures.unique
+returns-clause-distinct c = distinct_spellings c.insert-8.new.self.keys c.in_ok-insert-8.ensures.unique

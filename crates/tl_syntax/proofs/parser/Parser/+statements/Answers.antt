@@ -1,10 +1,10 @@
-use Rattle.std.proofs.Common.{rules, refl, sym, ◌∙◌}
+use Rattle.std.proofs.Common.{rules, sym, ◌∙◌}
 use Rattle.std.proofs.lemmas.Result.{IfOk-weaker}
 use Rattle.tl_syntax.specs.declared.token.TokenKind.TheVariants as K
 use Rattle.tl_syntax.specs.Statements.{IsBlock, IsOther, block, statement, act, try, if, if_else, repeat, repeat_at_most, for_each, block_alone, while, other_block}
 use Rattle.tl_syntax.specs.declared.parsed.Otherwise.{Otherwise, roll-Otherwise, out-roll-Otherwise}
 use Rattle.tl_syntax.proofs.KindLemmas.{same_kind}
-use Rattle.tl_syntax.proofs.StatementLemmas.{no_statements, next_statement, act_tail, other_only, two_pushed, tail_block, tail_leaving}
+use Rattle.tl_syntax.proofs.StatementLemmas.{no_statements, next_statement, act_tail, other_only, tail_block, tail_leaving}
 use Rattle.tl_syntax.proofs.parser.Parser.+statements.Goals as goal
 
 pub attempt-returns : goal.attempt-returns
@@ -72,7 +72,4 @@ form-returns-in_ok-body-in-LeftBrace t c = block_alone c.in_ok-body-in-LeftBrace
 
 pub conditional_loop-returns : goal.conditional_loop-returns
 conditional_loop-returns t c =
-    rw c.in_ok-levels.ensures
-    (while c.in_ok-body.body c.push.new.self c.in_ok-start.ensures c.in_ok-condition.ensures c.in_ok-at.ensures c.in_ok-at-2.ensures c.in_ok-count.ensures c.in_ok-body.ensures
-    (rw c.offset-offset.ensures at c.in_ok-repetition.ensures) (rw c.offset-offset.ensures at c.in_ok-check.ensures)
-    (two_pushed c.in_ok-push.ensures.items c.in_ok-all.ensures refl c.offset-offset.ensures refl))
+    rw c.in_ok-levels.ensures (while c.in_ok-body.body c.in_ok-all.all c.in_ok-start.ensures c.in_ok-head.ensures c.in_ok-body.ensures (rw c.offset-offset.ensures at c.in_ok-all.ensures))
