@@ -1,5 +1,5 @@
 -- A core with more procedures keeps its calls.
-use Rattle.std.proofs.Common.{◌≡◌, ℕ, List, [], ◌∷◌, ◌++◌, length, map, subst, Option, Result, Ok, Err, OnOk, OnErr, sym, ◌∙◌, ap, arith}
+use Rattle.std.proofs.Common.{◌≡◌, ℕ, List, [], ◌++◌, length, map, subst, Option, Result, Ok, Err, OnOk, OnErr, refl, sym, ◌∙◌, ap, arith}
 use Rattle.std.proofs.lemmas.List.{get_or_append_left, length-append, append-nil}
 use Rattle.tl_tree.specs.Trees.{TreeValue}
 use Rattle.tl_procedures.specs.declared.fault.NamingFault.{NamingFault}
@@ -10,6 +10,7 @@ use Rattle.tl_procedures.specs.Names.{Named, no_procedure}
 use Rattle.tl_machine.specs.Turns.{TurnValue}
 use Rattle.tl_core.specs.Cores.{CoreValue, CoreState}
 use Rattle.tl_core.specs.Kept.{IsKept, IsCore, IsWholeCore}
+use Rattle.tl_core.proofs.Rooms.{had_room_then}
 use Rattle.tl_core.proofs.StoredCalls.{seen_are}
 
 -- the procedure of a stored call is one that existed before
@@ -37,6 +38,7 @@ keeps_core v more now kept holders open_count reserved h =
     record {
       sound = h.sound;
       reached = h.reached;
+      had_room = had_room_then v (record v { procedures = v.procedures ++ more }) refl (omega arith) (length v.calls) (omega arith) (omega arith) (λ c known. refl) v.past (let e = h.counted in omega arith) h.sound.legal.in_turn h.had_room;
       counted = h.counted;
       few = h.few;
       calls = h.calls;

@@ -28,14 +28,16 @@ use Rattle.tl_core.specs.declared.call.Progress.TheVariants.{Open}
 use Rattle.tl_core.specs.declared.interleaving.TheConstants.{MAX_OPEN}
 use Rattle.tl_core.specs.Stored.{Kept, seen_call, seen_turn, AreStored}
 use Rattle.tl_core.proofs.StoredCalls.{more_at, seen_are, turns_are, earlier_turn, stored_more}
-use Rattle.tl_core.specs.Cores.{CoreValue, no_call, call_of, code_of, world_of, total, open_calls, owed_to, places}
+use Rattle.tl_core.specs.Cores.{CoreValue, no_call, call_of, code_of, world_of, total, open_calls, owed_to, places, room}
 use Rattle.std.specs.Option.{option_map_or}
 use Rattle.tl_procedures.specs.Names.{number_of}
 use Rattle.tl_core.specs.Entries.{procedure_at, with_call_of, after_admission as core_after}
 use Rattle.tl_core.specs.Begun.{Begins}
+use Rattle.tl_core.specs.Reached.{EachHadRoom}
 use Rattle.tl_core.specs.Kept.{IsCore, IsWholeCore, IsKept, call_value}
 use Rattle.tl_machine.proofs.Along.{along_start}
 use Rattle.tl_core.proofs.Sums.{total-same}
+use Rattle.tl_core.proofs.Rooms.{room_admitted}
 use Rattle.tl_core.proofs.AfterAction.{open_in}
 
 last_of : {X : Type 0} → (xs : List X) (x other : X) → get_or (xs ++ x ∷ []) (length xs) other ≡ x
@@ -65,7 +67,8 @@ module _ (v : CoreValue) (now : TreeValue) (kept : List Kept) (holders : List (O
     (turn : IsTurn k.turn.code.instrs v.parents k.turn.call)
     (left : (t : Records) → run_left k.turn.code.instrs v.parents k.turn.call t ≡ alone k.turn.code.instrs v.parents k.args t)
     (steps : k.turn.call.steps ≡ 0) (reply : reply_so_far k.turn.call ≡ []) (none : k.reply ≡ None)
-    (places_are : k.places ≡ places k.turn.code.instrs (length v.parents) - 1) (few : length v.calls < 4096) where
+    (places_are : k.places ≡ places k.turn.code.instrs (length v.parents) - 1) (few : length v.calls < 4096)
+    (few_open : open_calls v < MAX_OPEN) (enough : places k.turn.code.instrs (length v.parents) ≤ room v) where
   c : ℕ
   c = length v.calls
 
@@ -115,6 +118,9 @@ module _ (v : CoreValue) (now : TreeValue) (kept : List Kept) (holders : List (O
 
   reached_then : Reached v.parents v.opening (world_of then_)
   reached_then = subst (Reached v.parents v.opening) (sym world_then) (Admits (world_of v) does h.reached is_like)
+
+  had_room_then : EachHadRoom then_ new_past
+  had_room_then = room_admitted v (call_value k) h.counted h.sound.legal.in_turn (record { few = few; few_open = few_open; enough = enough }) h.had_room
 
   -- ---- the calls that were there
 
@@ -199,6 +205,7 @@ module _ (v : CoreValue) (now : TreeValue) (kept : List Kept) (holders : List (O
       (record {
         sound = sound_then;
         reached = reached_then;
+        had_room = had_room_then;
         counted = let e = h.counted in omega arith;
         few = omega arith;
         calls = sym calls;
@@ -231,13 +238,13 @@ one_used c history = record history { past = event.Admit c ∷ history.past; res
 
 -- the same for a call that was begun
 module _ (v : CoreValue) (now : TreeValue) (calls : List Call) (slots : List OpenCall) (holders : List (Option ℕ)) (reserved capacity : ℕ) (w : IsWholeCore v now calls slots holders reserved capacity)
-    (code : CodeValue) (parents : List ℕ) (number : ℕ) (given args : List ℤ) (turn : TurnValue) (room : ℕ) (b : Begins code parents given args turn)
+    (code : CodeValue) (parents : List ℕ) (number : ℕ) (given args : List ℤ) (turn : TurnValue) (needs : ℕ) (b : Begins code parents given args turn)
     (same_shape : parents ≡ v.parents) (same_code : code ≡ (procedure_at v number).code) (known : number < length v.procedures) (arity : length given ≡ (procedure_at v number).code.arity)
-    (room_is : room ≡ places (procedure_at v number).code.instrs (length v.parents)) (few : length v.calls < 4096) (few_open : open_calls v < MAX_OPEN)
+    (needs_is : needs ≡ places (procedure_at v number).code.instrs (length v.parents)) (few : length v.calls < 4096) (few_open : open_calls v < MAX_OPEN) (has_places : needs ≤ room v)
     (s : Call) (procedure : s.procedure ≡ number) (args_are : s.args.items ≡ args) (progress : s.progress ≡ Open (length slots))
-    (o : OpenCall) (o_is : o ≡ record { call = length calls; places = room - 1; turn = turn }) where
+    (o : OpenCall) (o_is : o ≡ record { call = length calls; places = needs - 1; turn = turn }) where
   abbrev new_call : Kept
-  new_call = record { procedure = number; args = args; turn = turn; reply = None; places = room - 1 }
+  new_call = record { procedure = number; args = args; turn = turn; reply = None; places = needs - 1 }
 
   code_is : (procedure_at v number).code ≡ turn.code
   code_is = sym (b.code ∙ same_code)
@@ -281,17 +288,18 @@ module _ (v : CoreValue) (now : TreeValue) (calls : List Call) (slots : List Ope
       ∙ ap (λ n. option_map_or (λ p. with_call_of v p given) n v) (sym found)
 
   pub admitted_begun : (calls2 : List Call) → calls2 ≡ calls ++ s ∷ [] → (slots2 : List OpenCall) → slots2 ≡ slots ++ o ∷ []
-      → (history history2 : Stored) → history ≡ record { past = v.past; limit = v.limit; reserved = reserved + room }
+      → (history history2 : Stored) → history ≡ record { past = v.past; limit = v.limit; reserved = reserved + needs }
       → history2 ≡ record history { past = event.Admit (length v.calls) ∷ history.past; reserved = history.reserved - 1 }
       → (capacity2 : ℕ) → MAX_OPEN ≤ capacity2
       → IsWholeCore (record v { calls = map (seen_call v.procedures slots2) calls2; past = history2.past; limit = history2.limit }) now calls2 slots2 holders history2.reserved capacity2
   admitted_begun calls2 calls_are slots2 slots_are history history2 reserved_is appended capacity2 enough =
       let shape : turn.parents ≡ v.parents = b.shape ∙ same_shape in
       let fits : length args ≡ turn.code.arity = ap length b.args ∙ arity ∙ ap (λ z. z.arity) code_is in
-      let places_are : room - 1 ≡ places turn.code.instrs (length v.parents) - 1 = ap (λ n. n - 1) room_is ∙ ap (λ z. places z.instrs (length v.parents) - 1) code_is in
-      let some : 1 ≤ room = let r = room_is in omega arith in
-      let more : reserved + room - 1 ≡ reserved + (room - 1) = omega arith in
-      let history_is : history2 ≡ record { past = event.Admit (length v.calls) ∷ v.past; limit = v.limit; reserved = reserved + (room - 1) } =
+      let places_are : needs - 1 ≡ places turn.code.instrs (length v.parents) - 1 = ap (λ n. n - 1) needs_is ∙ ap (λ z. places z.instrs (length v.parents) - 1) code_is in
+      let fits_in : places turn.code.instrs (length v.parents) ≤ room v = subst (λ n. n ≤ room v) (needs_is ∙ ap (λ z. places z.instrs (length v.parents)) code_is) has_places in
+      let some : 1 ≤ needs = let r = needs_is in omega arith in
+      let more : reserved + needs - 1 ≡ reserved + (needs - 1) = omega arith in
+      let history_is : history2 ≡ record { past = event.Admit (length v.calls) ∷ v.past; limit = v.limit; reserved = reserved + (needs - 1) } =
       appended ∙ ap (λ z. one_used (length v.calls) z) reserved_is ∙ (λ i. record { past = event.Admit (length v.calls) ∷ v.past; limit = v.limit; reserved = more i }) in
       let kept2 : List Kept = w.kept ++ new_call ∷ [] in
       let one_more : length slots2 ≡ length slots + 1 = ap length slots_are ∙ length-append slots (o ∷ []) in
@@ -299,7 +307,7 @@ module _ (v : CoreValue) (now : TreeValue) (calls : List Call) (slots : List Ope
       admitted v now w.kept holders (length slots) reserved w.core new_call shape known code_is b.valid b.accepted fits
       (subst (λ ps. IsTurn turn.code.instrs ps turn.call) shape b.is_turn)
       (subst (λ ps. (t : Records) → run_left turn.code.instrs ps turn.call t ≡ alone turn.code.instrs ps args t) shape b.left)
-      b.steps b.reply refl places_are few kept2 refl (length slots2) one_more history2 history_is in
+      b.steps b.reply refl places_are few few_open fits_in kept2 refl (length slots2) one_more history2 history_is in
       record {
         kept = kept2;
         stored = stored_begun calls2 calls_are slots2 slots_are;

@@ -18,6 +18,7 @@ use Rattle.tl_core.specs.Entries.{one_more}
 use Rattle.tl_machine.specs.Along.{IsAlong}
 use Rattle.tl_core.specs.Kept.{IsCore, IsKept, call_value}
 use Rattle.tl_core.proofs.Sums.{total-other}
+use Rattle.tl_core.proofs.Rooms.{room_after}
 use Rattle.tl_core.proofs.StoredCalls.{slice_get-set_same, slice_get-set_other, same_item}
 use Rattle.tl_core.proofs.ActionEvents.{part_after, part_of_others, done_of_others}
 use Rattle.tl_core.proofs.CallInWorld.{keep, call_is, inside, after, sound_after, reached_after, same_code}
@@ -129,6 +130,7 @@ module _ (v : CoreValue) (now : TreeValue) (kept : List Kept) (holders : List (O
       (record {
         sound = sound_after v now kept holders open_count reserved h c k at a may;
         reached = reached_after v now kept holders open_count reserved h c k at a may;
+        had_room = room_after v c a in_list h.counted h.sound.legal.in_turn h.had_room;
         counted = length-set v.calls c (one_more (call_of v c)) ∙ h.counted ∙ sym (admits-past_after c did_ v.past);
         few = let e = length-set v.calls c (one_more (call_of v c)) in let f = h.few in omega arith;
         calls = sym calls;

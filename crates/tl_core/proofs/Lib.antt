@@ -1,4 +1,5 @@
 pub mod Sums
+pub mod Rooms
 pub mod ActionEvents
 pub mod StoredCalls
 pub mod WorldAfter

@@ -25,6 +25,7 @@ opened tree whole procedures limit holders holders_are =
     record {
       sound = sound_opening tree.parents tree.records (world_of v).meanings whole.shape whole.count;
       reached = Opens (world_of v).meanings;
+      had_room = tt;
       counted = refl;
       few = omega arith;
       calls = refl;

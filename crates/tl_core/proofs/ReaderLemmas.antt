@@ -24,6 +24,7 @@ use Rattle.tl_core.specs.Stored.{Kept}
 use Rattle.tl_core.specs.Cores.{CoreValue, call_of, code_of, world_of, done_by}
 use Rattle.tl_core.specs.Entries.{procedure_at}
 use Rattle.tl_core.specs.Kept.{IsCore, call_value}
+use Rattle.tl_core.specs.Reached.{IsFit}
 use Rattle.tl_machine.proofs.Along.{onto, taken-onto, length-onto}
 use Rattle.tl_core.proofs.StoredCalls.{some_at, same_item}
 use Rattle.tl_core.proofs.CallInWorld.{keep, call_is, rest, whole, ended, admitted, found_tree, found_size}
@@ -119,6 +120,16 @@ module _ (v : CoreValue) (now : TreeValue) (kept : List Kept) (holders : List (O
       let long = calls_long in
       let e = h.counted in
       some_at kept c (omega arith)
+
+  pub fit_call : (c : ℕ) → c < length v.calls → IsFit v c
+  fit_call c lt =
+      let k = kept_at c (let e = h.counted in omega arith) in
+      let call = call_is v now kept holders open_count reserved h c k.0 k.1 in
+      record {
+        known = subst (λ z. z.procedure < length v.procedures) (sym call) (request_known c k.0 k.1);
+        code = sym (request_code c k.0 k.1) ∙ ap (λ z. (procedure_at v z.procedure).code) (sym call);
+        arity = ap (λ z. length z.args) call ∙ request_arity c k.0 k.1;
+      }
 
   module _ (c : ℕ) (lt : c < admits v.past) where
     -- what the call does alone on the tree with the records that it found

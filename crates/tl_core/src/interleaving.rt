@@ -8,6 +8,7 @@ ghost use Rattle.tl_tree_locking.specs.History.{admits, IsOpen, AllDone};
 ghost use Rattle.tl_tree_locking.specs.Obeys.{Obeys};
 ghost use Rattle.tl_tree_locking.specs.World.{Legal, IsSound, Reached};
 ghost use Rattle.tl_core.specs.Cores.{world_of, call_of, code_of, opened, opened_after, IsSealFault, kept_turn, done_by, IsTurnOf};
+ghost use Rattle.tl_core.specs.Reached.{IsReached};
 ghost use Rattle.tl_machine.specs.Runs.{emits_of};
 ghost use Rattle.tl_machine.specs.Turns.{TurnValue};
 ghost use Rattle.tl_core.specs.declared.fault.CoreFault.TheVariants as fault;
@@ -159,5 +160,15 @@ impl Core {
         ensures emits { (c : ℕ) → c < admits self.now.seen.past → length (emits_of (done_by self.now.seen c)) ≤ emit_bound (code_of self.now.seen c) }
     {
         let _ = &self.history;
+    }
+
+    /// How every core came to its value, for proofs: by procedures with names of their own, by admissions for which there
+    /// was room, and by steps.
+    pub fn lemma_is_reached(&self)
+        ensures { IsReached self.now.seen }
+    {
+        // The procedures' names are their own, and the history is within its limit.
+        let _fact = self.procedures.len();
+        let _fact = self.history.limit();
     }
 }

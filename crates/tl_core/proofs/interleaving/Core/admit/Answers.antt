@@ -10,7 +10,7 @@ invariant_of-self-2 c =
     let long = length-map c.self.inside.calls.items (seen_call c.self.inside.procedures c.self.inside.slots.items) in
     let number : c.len-call.result ≡ length c.self.inside.calls.items = omega arith in
     let slot : c.len-slot.result ≡ length c.self.inside.slots.items = omega arith in
-    admitted_begun _ _ _ _ _ _ _ c.self.invariant _ _ c.in_ok-procedure.procedure _ _ _ c.in_ok-procedure.places c.begin.ensures (c.in_ok-shape.ensures ∙ c.shape.ensures.shape) (c.in_ok-proc.ensures ∙ c.get.ensures) (search rules) (search rules) (search rules) (search rules) (search rules)
+    admitted_begun _ _ _ _ _ _ _ c.self.invariant _ _ c.in_ok-procedure.procedure _ _ _ c.in_ok-procedure.places c.begin.ensures (c.in_ok-shape.ensures ∙ c.shape.ensures.shape) (c.in_ok-proc.ensures ∙ c.get.ensures) (search rules) (search rules) (search rules) (search rules) (search rules) (search rules)
     (record { procedure = c.in_ok-procedure.procedure; args = c.kept.result; progress = Open c.len-slot.result }) refl c.kept.ensures (ap Open slot)
     (record { call = c.len-call.result; places = c.in_ok-procedure.places - 1; turn = c.begin.result }) (λ i. record { call = number i; places = c.in_ok-procedure.places - 1; turn = c.begin.result })
     c.push_reserved.new.self.items (search rules) c.push_reserved-2.new.self.items (search rules) c.reserve-2.new.self c.append.new.self (search rules) (search rules)
@@ -25,11 +25,11 @@ returns-clause-ok c =
     record {
       number = rw (← c.self.view_is) (omega arith);
       free = c.in_ok-procedure.ensures.free;
-      after_it = rw (← c.self.view_is) (after_begun _ _ _ _ _ _ _ c.self.invariant _ _ c.in_ok-procedure.procedure _ _ _ c.in_ok-procedure.places c.begin.ensures (c.in_ok-shape.ensures ∙ c.shape.ensures.shape) (c.in_ok-proc.ensures ∙ c.get.ensures) (search rules) (search rules) (search rules) (search rules) (search rules)
+      after_it = rw (← c.self.view_is) (after_begun _ _ _ _ _ _ _ c.self.invariant _ _ c.in_ok-procedure.procedure _ _ _ c.in_ok-procedure.places c.begin.ensures (c.in_ok-shape.ensures ∙ c.shape.ensures.shape) (c.in_ok-proc.ensures ∙ c.get.ensures) (search rules) (search rules) (search rules) (search rules) (search rules) (search rules)
           (record { procedure = c.in_ok-procedure.procedure; args = c.kept.result; progress = Open c.len-slot.result }) refl c.kept.ensures (ap Open slot)
           (record { call = c.len-call.result; places = c.in_ok-procedure.places - 1; turn = c.begin.result }) (λ i. record { call = number i; places = c.in_ok-procedure.places - 1; turn = c.begin.result })
           c.push_reserved.new.self.items (search rules) c.push_reserved-2.new.self.items (search rules) c.append.new.self (search rules) (search rules) c.args.name.now found);
-      turns = rw (← c.self.view_is) (turns_begun _ _ _ _ _ _ _ c.self.invariant _ _ c.in_ok-procedure.procedure _ _ _ c.in_ok-procedure.places c.begin.ensures (c.in_ok-shape.ensures ∙ c.shape.ensures.shape) (c.in_ok-proc.ensures ∙ c.get.ensures) (search rules) (search rules) (search rules) (search rules) (search rules)
+      turns = rw (← c.self.view_is) (turns_begun _ _ _ _ _ _ _ c.self.invariant _ _ c.in_ok-procedure.procedure _ _ _ c.in_ok-procedure.places c.begin.ensures (c.in_ok-shape.ensures ∙ c.shape.ensures.shape) (c.in_ok-proc.ensures ∙ c.get.ensures) (search rules) (search rules) (search rules) (search rules) (search rules) (search rules)
           (record { procedure = c.in_ok-procedure.procedure; args = c.kept.result; progress = Open c.len-slot.result }) refl c.kept.ensures (ap Open slot)
           (record { call = c.len-call.result; places = c.in_ok-procedure.places - 1; turn = c.begin.result }) (λ i. record { call = number i; places = c.in_ok-procedure.places - 1; turn = c.begin.result })
           c.push_reserved.new.self.items (search rules) c.push_reserved-2.new.self.items (search rules));
