@@ -10,7 +10,7 @@ use Rattle.tl_tree_locking.specs.declared.event.Event.TheVariants.{Admit, Lock, 
 use Rattle.tl_tree_locking.specs.Actions.{shared_actions, taken}
 use Rattle.tl_tree_locking.specs.Alone.{Outcome}
 use Rattle.tl_tree_locking.specs.History.{caller, admits, part_of}
-use Rattle.tl_tree_locking.specs.World.{World, alone_of, MayTake, as_found, past_after, Reached, Opens, Admits, Moves}
+use Rattle.tl_tree_locking.specs.World.{World, alone_of, next_of, MayTake, as_found, past_after, Reached, Opens, Admits, Moves}
 use Rattle.tl_tree_locking.proofs.Alone.{taken-next}
 use Rattle.tl_tree_locking.proofs.ReachedWorlds.{reached_sound}
 
@@ -28,7 +28,7 @@ step_shared A.Plain done = omega arith
 abbrev count : List Action → ℕ → ℕ
 count actions k = length (shared_actions (taken k actions []))
 
-some_at : {X : Type 0} (xs : List X) (i : ℕ) → i < length xs → (x : X) × (slice_get xs i ≡ Some x)
+pub some_at : {X : Type 0} (xs : List X) (i : ℕ) → i < length xs → (x : X) × (slice_get xs i ≡ Some x)
 some_at [] i lt = absurd (omega arith)
 some_at (x ∷ xs) zero lt = (x, refl)
 some_at (x ∷ xs) (suc i) lt = some_at xs i (omega arith)
@@ -49,7 +49,7 @@ count_grows actions k (suc m) le lt = elim (cases_eq k (suc m)) [
 ]
 
 -- the action is a lock, a free or an end
-abbrev IsShared : Action → Type 0
+abbrev pub IsShared : Action → Type 0
 IsShared a = (done : List Action) → length (shared_actions (a ∷ done)) ≡ suc (length (shared_actions done))
 
 count_more : (actions : List Action) (k m : ℕ) (a : Action) → slice_get actions k ≡ Some a → IsShared a → k < m → m ≤ length actions → count actions k < count actions m
@@ -61,7 +61,7 @@ count_more actions k m a at shared lt le =
 longer : {X : Type 0} (x : X) (xs : List X) → xs ≡ x ∷ xs → ⊥
 longer x xs e = let l : length xs ≡ suc (length xs) = ap length e in omega arith
 
-shared_of : (w : World) (c : ℕ) (a : Action) (e : Event) (p : List Event) → past_after c (as_found w a) p ≡ e ∷ p → IsShared a
+pub shared_of : (w : World) (c : ℕ) (a : Action) (e : Event) (p : List Event) → past_after c (as_found w a) p ≡ e ∷ p → IsShared a
 shared_of w c (A.Lock x found) e p is = λ done. refl
 shared_of w c (A.Free x left) e p is = λ done. refl
 shared_of w c A.End e p is = λ done. refl
@@ -74,18 +74,18 @@ shared_of w c A.Plain e p is = absurd (longer e p is)
 
 module _ (parents : List ℕ) (opening : Records) where
   -- a world with this history in which this event was next
-  record Behind (m : ℕ → Records → Outcome) (e : Event) (q : List Event) : Type 0 where
+  pub record Behind (m : ℕ → Records → Outcome) (e : Event) (q : List Event) : Type 0 where
     pub was : World
     pub reached : Reached parents opening was
     pub past_is : was.past ≡ q
     pub meanings : (d : ℕ) → d < admits q → was.meanings d ≡ m d
     pub how : (e ≡ Admit (admits q)) ⊎ ((next : Action) × MayTake was (caller e) next × (past_after (caller e) (as_found was next) q ≡ e ∷ q))
 
-  abbrev Back : (ℕ → Records → Outcome) → List Event → Type 0
+  abbrev pub Back : (ℕ → Records → Outcome) → List Event → Type 0
   Back m [] = Unit {0}
   Back m (e ∷ q) = Behind m e q
 
-  back : (w : World) → Reached parents opening w → Back w.meanings w.past
+  pub back : (w : World) → Reached parents opening w → Back w.meanings w.past
   back w (Opens meanings) = tt
   back w' (Admits w alone reached is_alone) = record {
     was = w;
@@ -105,20 +105,20 @@ module _ (parents : List ℕ) (opening : Records) where
   -- ---- one event
 
   module _ (tree : IsTree parents) (size : length opening ≡ length parents) where
-    -- if two worlds have the same history, and a call may take a shared action in both, it is the same action
-    same_next : (v w : World) → Reached parents opening v → Reached parents opening w → v.past ≡ w.past → (c : ℕ) → v.meanings c ≡ w.meanings c
-        → (a b : Action) → MayTake v c a → MayTake w c b → IsShared a → IsShared b → a ≡ b
-    same_next v w rv rw' past c meaning a b may_a may_b shared_a shared_b =
+    -- if two worlds have the same history, and a call's next action is a shared one in both, it is the same action
+    pub same_next : (v w : World) → Reached parents opening v → Reached parents opening w → v.past ≡ w.past → (c : ℕ) → v.meanings c ≡ w.meanings c
+        → (a b : Action) → c < admits v.past → next_of v c ≡ Some a → c < admits w.past → next_of w c ≡ Some b → IsShared a → IsShared b → a ≡ b
+    same_next v w rv rw' past c meaning a b known_a next_a known_b next_b shared_a shared_b =
         let ov = reached_sound parents opening tree size v rv in
         let ow = reached_sound parents opening tree size w rw' in
         let actions = (alone_of (w.meanings c) w.opening w.past c).actions in
         let same : (alone_of (v.meanings c) v.opening v.past c).actions ≡ actions =
         ap (λ m. (alone_of m v.opening v.past c).actions) meaning ∙ ap (λ o. (alone_of (w.meanings c) o v.past c).actions) (ov.opening_is ∙ sym ow.opening_is)
         ∙ ap (λ p. (alone_of (w.meanings c) w.opening p c).actions) past in
-        let gv = ov.sound.legal.genuine c may_a.is_open.0 in
-        let gw = ow.sound.legal.genuine c may_b.is_open.0 in
-        let at_a : slice_get actions (v.counts c) ≡ Some a = ap (λ l. slice_get l (v.counts c)) (sym same) ∙ may_a.is_next in
-        let at_b : slice_get actions (w.counts c) ≡ Some b = may_b.is_next in
+        let gv = ov.sound.legal.genuine c known_a in
+        let gw = ow.sound.legal.genuine c known_b in
+        let at_a : slice_get actions (v.counts c) ≡ Some a = ap (λ l. slice_get l (v.counts c)) (sym same) ∙ next_a in
+        let at_b : slice_get actions (w.counts c) ≡ Some b = next_b in
         let parts : count actions (v.counts c) ≡ count actions (w.counts c) =
         ap length (ap (λ l. shared_actions (taken (v.counts c) l [])) (sym same) ∙ sym gv.is_part ∙ ap (part_of c) past ∙ gw.is_part) in
         let within_a : v.counts c ≤ length actions = subst (λ l. v.counts c ≤ length l) same gv.within in
@@ -165,7 +165,7 @@ module _ (parents : List ℕ) (opening : Records) where
             let known_p : caller e < admits p = (let k = may_a.is_open.0 in let was = ap admits bv.past_is in omega arith) in
             let known_q : caller e < admits q = omega (arith, count_same) in
             let may_b' : MayTake bw.was (caller e) b = subst (λ c. MayTake bw.was c b) (sym callers) may_b in
-            let same = same_next bv.was bw.was bv.reached bw.reached pasts (caller e) (agree (caller e) known_p known_q) a b may_a may_b'
+            let same = same_next bv.was bw.was bv.reached bw.reached pasts (caller e) (agree (caller e) known_p known_q) a b may_a.is_open.0 may_a.is_next may_b'.is_open.0 may_b'.is_next
             (shared_of bv.was (caller e) a e p is_a) (shared_of bw.was (caller f) b f q is_b) in
             let opens : bv.was.opening ≡ bw.was.opening = (reached_sound parents opening tree size bv.was bv.reached).opening_is ∙ sym (reached_sound parents opening tree size bw.was bw.reached).opening_is in
             sym is_a ∙ ap (λ x. past_after (caller e) x p) (found_again bv.was bw.was a pasts opens ∙ ap (as_found bw.was) same)

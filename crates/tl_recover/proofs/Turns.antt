@@ -66,7 +66,7 @@ local_past c (did.Write x f n) past h = refl
 local_past c (did.Emit n) past h = refl
 local_past c did.Plain past h = refl
 
-past_goes : (v w : CoreValue) (c : ℕ) (local : List Action) → EachLocal local → Goes v c local w → w.past ≡ v.past
+pub past_goes : (v w : CoreValue) (c : ℕ) (local : List Action) → EachLocal local → Goes v c local w → w.past ≡ v.past
 past_goes v w c [] each goes = sym (ap (λ u. u.past) goes)
 past_goes v w c (a ∷ local) each goes = past_goes (after_step v c (Ok (Moved a))) w c local each.1 goes.1 ∙ local_past c a v.past each.0
 
