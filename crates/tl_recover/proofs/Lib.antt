@@ -1,3 +1,3 @@
 mod Turns
 mod SameTurns
-mod Retaken
+pub mod Retaken

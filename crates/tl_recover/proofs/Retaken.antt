@@ -54,7 +54,7 @@ split_at (e ∷ past) (t ∷ later) c earlier is =
     let tail : map caller past ≡ later ++ c ∷ earlier = cc in
     one_later e past c earlier (split_at past later c earlier tail)
 
-admits_later : (later past : List Event) → admits past ≤ admits (later ++ past)
+pub admits_later : (later past : List Event) → admits past ≤ admits (later ++ past)
 admits_later [] past = omega arith
 admits_later (Admit c ∷ later) past = let rest = admits_later later past in omega arith
 admits_later (Lock x c found ∷ later) past = admits_later later past

@@ -5,3 +5,4 @@ mod StoredLemmas
 mod ReplyLemmas
 mod ChangeLemmas
 mod ClosingLemmas
+mod AgainLemmas

@@ -51,7 +51,7 @@ later_turns before past all more turns taken ended = ap (map caller) ended ∙ m
 pub goes_on_again : (u v w : CoreValue) → GoesOn u v → GoesOn v w → GoesOn u w
 goes_on_again u v w p q = record { parents = q.parents ∙ p.parents; opening = q.opening ∙ p.opening; procedures = q.procedures ∙ p.procedures; limit = q.limit ∙ p.limit }
 
-fits_none : (v : CoreValue) (requests : List Request) → v.calls ≡ [] → Fits v requests
+pub fits_none : (v : CoreValue) (requests : List Request) → v.calls ≡ [] → Fits v requests
 fits_none v requests none = let l = ap length none in record { few = omega arith; each = λ c r known at. absurd (omega arith) }
 
 pub rebuilt : (s : Stored) (v w : CoreValue) (requests : List Request) (turns : List ℕ) → IsOpened s v

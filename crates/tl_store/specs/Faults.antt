@@ -1,8 +1,8 @@
 -- The faults of a store, as numbers.
-use Rattle.std.specs.Prelude.{ℕ, List, [], ◌∷◌}
+use Rattle.std.specs.Prelude.{◌≡◌, ℕ, List, [], ◌∷◌}
 use Rattle.sqlite_trees.specs.declared.error.StoreError.{StoreError}
 use Rattle.sqlite_trees.specs.declared.error.StoreError.TheVariants as name
-use Rattle.tl_recover.specs.Faults.{numbers_of as turn_numbers_of}
+use Rattle.tl_recover.specs.Faults.{numbers_of as turn_numbers_of, out_of_memory}
 use Rattle.tl_store.specs.declared.fault.StoreFault.{StoreFault}
 use Rattle.tl_store.specs.declared.fault.StoreFault.TheVariants.{BadRow, Turn, WrongReply, DiskFailed, DiskFull, Damaged, Memory}
 
@@ -15,6 +15,16 @@ numbers_of DiskFailed = 1011 ∷ []
 numbers_of DiskFull = 1012 ∷ []
 numbers_of Damaged = 1013 ∷ []
 numbers_of Memory = 1090 ∷ []
+
+-- memory was refused, for the store or for an admission
+abbrev pub IsOutOfMemory : StoreFault → Type 0
+IsOutOfMemory Memory = Unit {0}
+IsOutOfMemory (Turn fault) = fault ≡ out_of_memory
+IsOutOfMemory (BadRow table) = ⊥
+IsOutOfMemory (WrongReply call) = ⊥
+IsOutOfMemory DiskFailed = ⊥
+IsOutOfMemory DiskFull = ⊥
+IsOutOfMemory Damaged = ⊥
 
 -- the fault for a failure of the database
 abbrev pub fault_of_name : StoreError → StoreFault

@@ -5,11 +5,12 @@ use Rattle.tl_tree_locking.specs.World.{reply_of}
 use Rattle.tl_procedures.specs.Names.{number_of}
 use Rattle.tl_core.specs.Cores.{CoreValue, call_of, world_of}
 use Rattle.tl_core.specs.Entries.{procedure_at}
+use Rattle.tl_json.specs.Procedures.{AreAccepted}
 use Rattle.tl_ledger.specs.Contents.{Contents}
 use Rattle.tl_ledger.specs.declared.rows.CallRow.{CallRow}
 use Rattle.tl_ledger.specs.declared.rows.ReplyRow.{ReplyRow}
 use Rattle.tl_store.specs.declared.stored.Stored.{Stored}
-use Rattle.tl_store.specs.Rows.{numbers_in, parent_in, fields_in, procedure_form, named_form, AreNumbered, turn_bytes, all_turn_bytes}
+use Rattle.tl_store.specs.Rows.{numbers_in, parent_in, fields_in, procedure_form, named_form, AreNumbered, turn_bytes, all_turn_bytes, IsTurnRow}
 use Rattle.tl_store.specs.Stored.{AreStored}
 
 -- call n is of the row's procedure with its arguments
@@ -51,6 +52,21 @@ pub record IsRebuilt (s : Stored) (v : CoreValue) : Type 0 where
   pub past : map caller v.past ≡ later ++ reverse turns
   pub replies : All (IsReplyOf v (pos s.marks.seals)) s.replies.items
   pub at_rest : AllDone v.past
+
+-- The rows are those of this core: of its tree, its procedures, its calls and the turns that they took, and replies of its
+-- calls. Its procedures are of accepted codes, as those of every core are.
+pub record AreOfCore (s : Stored) (v : CoreValue) : Type 0 where
+  pub parents : map parent_in s.nodes.items ≡ map pos v.parents
+  pub records : map fields_in s.records.items ≡ v.opening
+  pub procedures : map procedure_form s.procedures.items ≡ map named_form v.procedures
+  pub accepted : AreAccepted v.procedures
+  pub epoch : All (λ r. r.epoch ≡ pos s.marks.seals) s.calls.items
+  pub numbered : AreNumbered s.calls.items
+  pub many : length s.calls.items ≡ length v.calls
+  pub calls : (n : ℕ) (row : CallRow) → slice_get s.calls.items n ≡ Some row → IsCallOf v n row
+  pub turn_rows : All (IsTurnRow (pos s.marks.seals)) s.turns.items
+  pub turns : all_turn_bytes s.turns.items ≡ turn_bytes (reverse (map caller v.past))
+  pub replies : All (IsReplyOf v (pos s.marks.seals)) s.replies.items
 
 -- the core is rebuilt from the rows that a store with these contents has after its last seal
 pub record IsRecovered (c : Contents) (v : CoreValue) : Type 0 where

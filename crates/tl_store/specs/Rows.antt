@@ -42,6 +42,11 @@ call_form row = (string_bytes row.procedure, numbers_in (string_bytes row.argume
 abbrev pub request_form : Request → List ℕ × Option (List ℤ)
 request_form r = (string_bytes r.name, Some r.args.items)
 
+-- the arguments are a list of integers
+pub record HasArguments (row : CallRow) : Type 0 where
+  pub args : List ℤ
+  pub read_as : numbers_in (string_bytes row.arguments) ≡ Some args
+
 -- the calls are numbered from 0 in order
 abbrev pub AreNumbered : List CallRow → Type 0
 AreNumbered calls = (n : ℕ) → n < length calls → get_or (map (λ r. r.number) calls) n (pos 0) ≡ pos n
@@ -54,6 +59,12 @@ call_bytes call = call / 256 % 256 ∷ call % 256 ∷ []
 
 abbrev pub turn_bytes : List ℕ → List ℕ
 turn_bytes turns = flat_map call_bytes turns
+
+-- the row is of this epoch, and has two bytes for each of some turns
+pub record IsTurnRow (epoch : ℤ) (row : TurnRow) : Type 0 where
+  pub epoch_is : row.epoch ≡ epoch
+  pub turns : List ℕ
+  pub bytes : row.calls.items ≡ turn_bytes turns
 
 -- the turns of all rows, one row after another
 abbrev pub all_turn_bytes : List TurnRow → List ℕ

@@ -1,7 +1,8 @@
 // The calls that were admitted.
 
-ghost use Rattle.std.specs.Prelude.{◌≡◌, Some, All, pos, map, option_map, option_copied, string_bytes, IsTrue, IfOk};
-ghost use Rattle.tl_store.specs.Rows.{call_form, request_form, AreNumbered};
+ghost use Rattle.std.specs.Prelude.{◌≡◌, Some, All, pos, map, option_map, option_copied, string_bytes, ◌↔◌, IsTrue, IfOk, IfErr};
+ghost use Rattle.tl_store.specs.declared.fault.StoreFault.TheVariants.{Memory};
+ghost use Rattle.tl_store.specs.Rows.{call_form, request_form, HasArguments, AreNumbered};
 
 use crate::fault::StoreFault;
 use crate::numbers::{is_epoch, numbers_of_text, text_of_numbers};
@@ -39,7 +40,8 @@ pub fn call_row(
 
 // Whether the call has that number.
 fn is_at(call: &CallRow, number: usize) -> bool
-    ensures { IsTrue result → call.now.number ≡ pos number }
+    ensures same { IsTrue result → call.now.number ≡ pos number }
+    ensures told { call.now.number ≡ pos number → IsTrue result }
 {
     match usize::try_from(call.number) {
         Ok(stored) => stored == number,
@@ -49,7 +51,7 @@ fn is_at(call: &CallRow, number: usize) -> bool
 
 // Whether the calls are numbered from 0 in their order.
 fn are_numbered(calls: &[CallRow]) -> bool
-    ensures { IsTrue result → AreNumbered calls.now }
+    ensures { IsTrue result ↔ AreNumbered calls.now }
 {
     for number in 0..calls.len() {
         if !is_at(&calls[number], number) {
@@ -61,7 +63,8 @@ fn are_numbered(calls: &[CallRow]) -> bool
 
 // The request that a row stores.
 fn request_of(alloc: Global, call: &CallRow) -> Result<Request, StoreFault>
-    ensures { IfOk result (λ r. call_form call.now ≡ request_form r) }
+    ensures form { IfOk result (λ r. call_form call.now ≡ request_form r) }
+    ensures again { HasArguments call.now → IfErr result (λ e. e ≡ Memory) }
 {
     let Some(args) = numbers_of_text(alloc, &call.arguments)? else {
         return Err(StoreFault::BadRow { table: CALL });
@@ -70,14 +73,27 @@ fn request_of(alloc: Global, call: &CallRow) -> Result<Request, StoreFault>
     Ok(Request { name, args })
 }
 
+// Whether the rows are of that epoch.
+fn are_of_epoch(calls: &[CallRow], epoch: u64) -> bool
+    ensures { IsTrue result ↔ All (λ r. r.epoch ≡ pos epoch) calls.now }
+{
+    for call in calls {
+        if !is_epoch(call.epoch, epoch) {
+            return false;
+        }
+    }
+    true
+}
+
 /// The requests of these rows, in their order. 1003 and the table if a row has another epoch or another number than its place, or its arguments
 /// are no list of numbers.
 pub fn requests_of(alloc: Global, epoch: u64, calls: &[CallRow]) -> Result<Vec<Request>, StoreFault>
     ensures epoch { IfOk result (λ _. All (λ r. r.epoch ≡ pos epoch) calls.now) }
     ensures numbered { IfOk result (λ _. AreNumbered calls.now) }
     ensures requests { IfOk result (λ v. map call_form calls.now ≡ map request_form v.items) }
+    ensures again { All (λ r. r.epoch ≡ pos epoch) calls.now → AreNumbered calls.now → All HasArguments calls.now → IfErr result (λ e. e ≡ Memory) }
 {
-    if !calls.iter().all(|call| is_epoch(call.epoch, epoch)) || !are_numbered(calls) {
+    if !are_of_epoch(calls, epoch) || !are_numbered(calls) {
         return Err(StoreFault::BadRow { table: CALL });
     }
     let mut requests = Vec::new(alloc);

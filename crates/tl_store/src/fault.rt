@@ -1,7 +1,7 @@
 // Why a store isn't recovered.
 
 ghost use Rattle.std.specs.Prelude.{◌≡◌};
-ghost use Rattle.tl_store.specs.declared.fault.StoreFault.TheVariants.{Memory};
+ghost use Rattle.tl_store.specs.declared.fault.StoreFault.TheVariants.{Memory, Turn};
 ghost use Rattle.tl_store.specs.Faults.{numbers_of, fault_of_name};
 
 use arrayvec::ArrayVec;
@@ -82,6 +82,8 @@ impl From<ReadFault> for StoreFault {
 }
 
 impl From<RecoverFault> for StoreFault {
+    ghost from_gives = { λ fault e. e ≡ Turn fault };
+
     fn from(fault: RecoverFault) -> StoreFault {
         StoreFault::Turn(fault)
     }

@@ -30,7 +30,8 @@ pub(crate) fn numbers_of_text(alloc: Global, text: &str) -> Result<Option<Vec<i6
 
 /// Whether a row's epoch is that one. A row holds it as a number with a sign.
 pub(crate) fn is_epoch(stored: i64, epoch: u64) -> bool
-    ensures { IsTrue result → stored ≡ pos epoch }
+    ensures same { IsTrue result → stored ≡ pos epoch }
+    ensures told { stored ≡ pos epoch → IsTrue result }
 {
     match u64::try_from(stored) {
         Ok(stored) => stored == epoch,

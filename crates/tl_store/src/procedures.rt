@@ -1,7 +1,12 @@
 // The procedures.
 
-ghost use Rattle.std.specs.Prelude.{◌≡◌, ◌∷◌, ◌++◌, [], map, IfOk, OnOk};
+ghost use Rattle.std.specs.Prelude.{◌≡◌, ◌∷◌, ◌++◌, List, [], map, None, IfOk, OnOk, IfErr, MatchResult};
+ghost use Rattle.tl_instr.specs.Codes.{CodeValue, IsCode};
 ghost use Rattle.tl_instr.specs.Spelling.{Spelled, spelling};
+ghost use Rattle.tl_verify.specs.Acceptable.{Acceptable};
+ghost use Rattle.tl_procedures.specs.Names.{Named, naming_refusal, AreFreeAfter};
+ghost use Rattle.tl_json.specs.Procedures.{AreAccepted};
+ghost use Rattle.tl_store.specs.declared.fault.StoreFault.TheVariants as fault;
 ghost use Rattle.tl_store.specs.Rows.{procedure_form, named_form};
 
 use crate::fault::StoreFault;
@@ -27,7 +32,8 @@ pub fn procedure_row(
 
 // The procedure of a container.
 fn procedure_of(alloc: Global, container: &[u8]) -> Result<Proc, StoreFault>
-    ensures { IfOk result (λ p. container.now ≡ spelling p) }
+    ensures code { IfOk result (λ p. container.now ≡ spelling p) }
+    ensures again { (code : CodeValue) → IsCode code → Acceptable code.instrs → container.now ≡ spelling code → MatchResult result (λ p. p ≡ code) (λ e. e ≡ fault.Memory) }
 {
     let code = match decode(alloc, container) {
         Ok(code) => code,
@@ -43,7 +49,10 @@ fn procedure_of(alloc: Global, container: &[u8]) -> Result<Proc, StoreFault>
 
 // Adds the procedure of a row.
 fn add(alloc: Global, procedures: &mut Procedures, row: &ProcedureRow) -> Result<(), StoreFault>
-    ensures { OnOk result (map named_form procedures.new ≡ map named_form procedures.old ++ procedure_form row.now ∷ []) }
+    ensures added { OnOk result (map named_form procedures.new ≡ map named_form procedures.old ++ procedure_form row.now ∷ []) }
+    ensures again { (p : Named) → IsCode p.code → Acceptable p.code.instrs → procedure_form row.now ≡ named_form p → naming_refusal procedures.old p.name ≡ None
+        → IfErr result (λ e. e ≡ fault.Memory) }
+    ensures same { (p : Named) → IsCode p.code → Acceptable p.code.instrs → procedure_form row.now ≡ named_form p → OnOk result (procedures.new ≡ procedures.old ++ p ∷ []) }
 {
     let procedure = procedure_of(alloc, &row.container)?;
     match procedures.add(alloc, &row.name, procedure) {
@@ -56,7 +65,9 @@ fn add(alloc: Global, procedures: &mut Procedures, row: &ProcedureRow) -> Result
 /// The procedures of these rows under their names, the first with the number 0. 1003 and the table if a container isn't that of an accepted code, or
 /// a name is none or comes twice.
 pub fn procedures_of(alloc: Global, rows: &[ProcedureRow]) -> Result<Procedures, StoreFault>
-    ensures { IfOk result (λ procedures. map procedure_form rows.now ≡ map named_form procedures) }
+    ensures forms { IfOk result (λ procedures. map procedure_form rows.now ≡ map named_form procedures) }
+    ensures again { (those : List Named) → AreFreeAfter [] those → AreAccepted those → map procedure_form rows.now ≡ map named_form those
+        → MatchResult result (λ procedures. procedures ≡ those) (λ e. e ≡ fault.Memory) }
 {
     let mut procedures = Procedures::new(alloc);
     for row in rows {

@@ -1,11 +1,16 @@
 // A core that is made again.
 
-ghost use Rattle.std.specs.Prelude.{◌≡◌, ◌++◌, ℕ, List, pos, map, reverse, All, IfOk, OnOk};
+ghost use Rattle.std.specs.Prelude.{◌≡◌, ◌++◌, ℕ, List, pos, map, reverse, All, IfOk, OnOk, IfErr, MatchResult};
 ghost use Rattle.tl_tree_locking.specs.History.{caller, AllDone};
-ghost use Rattle.tl_recover.specs.Redriven.{Fits, GoesOn};
+ghost use Rattle.tl_history.specs.declared.history.TheConstants.{MAX_EVENTS};
+ghost use Rattle.tl_core.specs.Cores.{CoreValue};
+ghost use Rattle.tl_core.specs.Reached.{IsReached};
+ghost use Rattle.tl_recover.specs.Redriven.{Fits, GoesOn, AreTurnsTo};
 ghost use Rattle.sqlite_trees.specs.View.{IsClean};
 ghost use Rattle.tl_ledger.specs.Contents.{Contents, Holds, AreTables};
-ghost use Rattle.tl_store.specs.Recovered.{IsOpened, IsReplyOf, IsRebuilt, IsRecovered};
+ghost use Rattle.tl_store.specs.declared.fault.StoreFault.TheVariants.{Memory};
+ghost use Rattle.tl_store.specs.Faults.{IsOutOfMemory};
+ghost use Rattle.tl_store.specs.Recovered.{IsOpened, IsReplyOf, IsRebuilt, IsRecovered, AreOfCore};
 
 use crate::calls::requests_of;
 use crate::fault::StoreFault;
@@ -34,7 +39,10 @@ pub struct Recovered {
 
 // The core of the stored tree and procedures, before any call.
 fn opened(alloc: Global, stored: &Stored) -> Result<Core, StoreFault>
-    ensures { IfOk result (λ core. IsOpened stored.now core.seen) }
+    ensures opened { IfOk result (λ core. IsOpened stored.now core.seen) }
+    ensures limit { IfOk result (λ core. core.seen.limit ≡ MAX_EVENTS) }
+    ensures again { (v : CoreValue) → IsReached v → AreOfCore stored.now v
+        → MatchResult result (λ core. (core.seen.parents ≡ v.parents) × (core.seen.procedures ≡ v.procedures)) (λ e. e ≡ Memory) }
 {
     let procedures = procedures_of(alloc, stored.procedures.as_slice())?;
     let tree = tree_of(alloc, stored.nodes.as_slice(), stored.records.as_slice())?;
@@ -57,21 +65,27 @@ fn drive(
     ensures goes_on { OnOk result (GoesOn core.old.seen core.new.seen) }
     ensures done { OnOk result (AllDone core.new.seen.past) }
     ensures replies { OnOk result (All (IsReplyOf core.new.seen (pos stored.now.marks.seals)) stored.now.replies.items) }
+    ensures again { (v : CoreValue) → AreTurnsTo v core.old.seen requests.now turns.now → All (IsReplyOf v (pos stored.now.marks.seals)) stored.now.replies.items
+        → IfErr result IsOutOfMemory }
 {
     redrive(alloc, core, requests, turns)?;
     if !finish(core) {
         // No run comes that far.
         return Err(StoreFault::Memory);
     }
+    // Nothing came to the calls that had ended before.
+    core.lemma_is_reached();
     check_replies(alloc, core, stored.marks.seals, stored.replies.as_slice())?;
     Ok(())
 }
 
 /// Makes the core again that the rows are of, and lets its calls end. Its calls are those that are stored, in the order of their turns; each stored
 /// reply is that of its call. 1003 and the table if a row has another form; 1004 or 1005 and the turn, or the core's refusal of a call, if the calls
-/// can't take the stored turns; 1006 and the call if a stored reply isn't that of the call; 1090 if memory is refused.
+/// can't take the stored turns; 1006 and the call if a stored reply isn't that of the call; 1090 if memory is refused. If the rows are those of a core,
+/// only memory can be refused.
 pub fn rebuild(alloc: Global, stored: &Stored) -> Result<Recovered, StoreFault>
-    ensures { IfOk result (λ r. IsRebuilt stored.now r.core.seen) }
+    ensures rebuilt { IfOk result (λ r. IsRebuilt stored.now r.core.seen) }
+    ensures again { (v : CoreValue) → IsReached v → AreOfCore stored.now v → IfErr result IsOutOfMemory }
 {
     let requests = requests_of(alloc, stored.marks.seals, stored.calls.as_slice())?;
     let turns = turns_of(alloc, stored.marks.seals, stored.turns.as_slice())?;

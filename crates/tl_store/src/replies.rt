@@ -1,9 +1,10 @@
 // The replies that were given.
 
-ghost use Rattle.std.specs.Prelude.{◌≡◌, ◌<◌, pos, true, Some, All, length, IsTrue, IfOk, OnOk, string_bytes};
+ghost use Rattle.std.specs.Prelude.{◌≡◌, ◌<◌, pos, true, Some, All, length, IsTrue, IfOk, OnOk, IfErr, string_bytes};
 ghost use Rattle.tl_tree_locking.specs.History.{is_done};
 ghost use Rattle.tl_tree_locking.specs.World.{reply_of};
 ghost use Rattle.tl_core.specs.Cores.{world_of};
+ghost use Rattle.tl_store.specs.declared.fault.StoreFault.TheVariants.{Memory};
 ghost use Rattle.tl_store.specs.Rows.{numbers_in};
 ghost use Rattle.tl_store.specs.Recovered.{IsReplyOf};
 
@@ -32,6 +33,7 @@ fn has_replied(core: &Core, call: u32, values: &[i64]) -> bool
     ensures known { IsTrue result → call < length core.now.seen.calls }
     ensures done { IsTrue result → is_done call core.now.seen.past ≡ true }
     ensures reply { IsTrue result → reply_of (world_of core.now.seen) call ≡ values.now }
+    ensures told { call < length core.now.seen.calls → is_done call core.now.seen.past ≡ true → reply_of (world_of core.now.seen) call ≡ values.now → IsTrue result }
 {
     if call as usize >= core.calls() {
         return false;
@@ -44,8 +46,11 @@ fn has_replied(core: &Core, call: u32, values: &[i64]) -> bool
 
 // Checks that the row is that of the reply of a call of the core.
 fn check_reply(alloc: Global, core: &Core, epoch: u64, row: &ReplyRow) -> Result<(), StoreFault>
-    ensures { OnOk result (IsReplyOf core.now.seen (pos epoch) row.now) }
+    ensures right { OnOk result (IsReplyOf core.now.seen (pos epoch) row.now) }
+    ensures again { IsReplyOf core.now.seen (pos epoch) row.now → IfErr result (λ e. e ≡ Memory) }
 {
+    // There are at most 4,096 calls.
+    let _fact = core.calls();
     let Ok(call) = u32::try_from(row.call) else {
         return Err(StoreFault::BadRow { table: REPLY });
     };
@@ -69,7 +74,8 @@ pub(crate) fn check_replies(
     epoch: u64,
     rows: &[ReplyRow],
 ) -> Result<(), StoreFault>
-    ensures { OnOk result (All (IsReplyOf core.now.seen (pos epoch)) rows.now) }
+    ensures right { OnOk result (All (IsReplyOf core.now.seen (pos epoch)) rows.now) }
+    ensures again { All (IsReplyOf core.now.seen (pos epoch)) rows.now → IfErr result (λ e. e ≡ Memory) }
 {
     for row in rows {
         check_reply(alloc, core, epoch, row)?;

@@ -1,6 +1,8 @@
 // The nodes and their records.
 
-ghost use Rattle.std.specs.Prelude.{◌≡◌, All, pos, map, length, IfOk};
+ghost use Rattle.std.specs.Prelude.{◌≡◌, ℕ, List, All, pos, map, length, IfOk, MatchResult};
+ghost use Rattle.tl_tree.specs.Shape.{IsTree};
+ghost use Rattle.tl_store.specs.declared.fault.StoreFault.TheVariants.{Memory};
 ghost use Rattle.tl_store.specs.Rows.{parent_in, fields_in};
 
 use crate::fault::StoreFault;
@@ -67,6 +69,8 @@ fn records_of(alloc: Global, rows: &[RecordRow]) -> Result<Vec<Record>, AllocErr
 pub fn tree_of(alloc: Global, nodes: &[NodeRow], records: &[RecordRow]) -> Result<Tree, StoreFault>
     ensures parents { IfOk result (λ t. map pos t.parents ≡ map parent_in nodes.now) }
     ensures records { IfOk result (λ t. t.records ≡ map fields_in records.now) }
+    ensures again { (parents : List ℕ) → IsTree parents → map parent_in nodes.now ≡ map pos parents → length records.now ≡ length parents
+        → MatchResult result (λ t. t.parents ≡ parents) (λ e. e ≡ Memory) }
 {
     let parents = parents_of(alloc, nodes)?;
     let shape = match Shape::new(alloc, &parents, u16::MAX) {

@@ -2,8 +2,8 @@ use Rattle.std.proofs.Common.{rules, ◌≡◌, ◌∙◌, ap, sym, Some, IsTrue
 use Rattle.tl_store.specs.Rows.{numbers_in}
 use Rattle.tl_store.proofs.replies.check_reply.Goals as goal
 
-pub returns : goal.returns
-returns c =
+pub returns-clause-right : goal.returns-clause-right
+returns-clause-right c =
     let same : IsTrue c.has_replied.result = search rules in
     let read : numbers_in (string_bytes c.args.row.now.reply) ≡ Some c.in-Some.values.items = search rules in record {
       epoch_is = search rules;
