@@ -26,6 +26,16 @@ IsOutOfMemory DiskFailed = ⊥
 IsOutOfMemory DiskFull = ⊥
 IsOutOfMemory Damaged = ⊥
 
+-- the disk failed, memory was refused, or rows have another form: a fault of reading, whatever the rows say
+abbrev pub IsReadFault : StoreFault → Type 0
+IsReadFault (BadRow table) = Unit {0}
+IsReadFault DiskFailed = Unit {0}
+IsReadFault DiskFull = Unit {0}
+IsReadFault Damaged = Unit {0}
+IsReadFault Memory = Unit {0}
+IsReadFault (Turn fault) = ⊥
+IsReadFault (WrongReply call) = ⊥
+
 -- the fault for a failure of the database
 abbrev pub fault_of_name : StoreError → StoreFault
 fault_of_name name.OutOfMemory = Memory

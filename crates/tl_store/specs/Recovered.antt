@@ -68,6 +68,10 @@ pub record AreOfCore (s : Stored) (v : CoreValue) : Type 0 where
   pub turns : all_turn_bytes s.turns.items ≡ turn_bytes (reverse (map caller v.past))
   pub replies : All (IsReplyOf v (pos s.marks.seals)) s.replies.items
 
+-- the rows that a store with these contents has after its last seal are those of this core
+abbrev pub IsStoreOf : Contents → CoreValue → Type 0
+IsStoreOf c v = (rows : Stored) → AreStored c rows → AreOfCore rows v
+
 -- the core is rebuilt from the rows that a store with these contents has after its last seal
 pub record IsRecovered (c : Contents) (v : CoreValue) : Type 0 where
   pub rows : Stored

@@ -2,7 +2,7 @@
 
 ghost use Rattle.std.specs.Prelude.{◌≡◌};
 ghost use Rattle.tl_store.specs.declared.fault.StoreFault.TheVariants.{Memory, Turn};
-ghost use Rattle.tl_store.specs.Faults.{numbers_of, fault_of_name};
+ghost use Rattle.tl_store.specs.Faults.{numbers_of, fault_of_name, IsReadFault};
 
 use arrayvec::ArrayVec;
 use sqlite_trees::error::StoreError;
@@ -73,6 +73,8 @@ impl StoreFault {
 }
 
 impl From<ReadFault> for StoreFault {
+    ghost from_gives = { λ _ e. IsReadFault e };
+
     fn from(fault: ReadFault) -> StoreFault {
         match fault {
             ReadFault::Store(name) => StoreFault::of_disk(name),

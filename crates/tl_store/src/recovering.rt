@@ -1,6 +1,6 @@
 // A core that is made again.
 
-ghost use Rattle.std.specs.Prelude.{◌≡◌, ◌++◌, ℕ, List, pos, map, reverse, All, IfOk, OnOk, IfErr, MatchResult};
+ghost use Rattle.std.specs.Prelude.{◌≡◌, ◌⊎◌, ◌++◌, ℕ, List, pos, map, reverse, All, IfOk, OnOk, IfErr, MatchResult};
 ghost use Rattle.tl_tree_locking.specs.History.{caller, AllDone};
 ghost use Rattle.tl_history.specs.declared.history.TheConstants.{MAX_EVENTS};
 ghost use Rattle.tl_core.specs.Cores.{CoreValue};
@@ -9,8 +9,8 @@ ghost use Rattle.tl_recover.specs.Redriven.{Fits, GoesOn, AreTurnsTo};
 ghost use Rattle.sqlite_trees.specs.View.{IsClean};
 ghost use Rattle.tl_ledger.specs.Contents.{Contents, Holds, AreTables};
 ghost use Rattle.tl_store.specs.declared.fault.StoreFault.TheVariants.{Memory};
-ghost use Rattle.tl_store.specs.Faults.{IsOutOfMemory};
-ghost use Rattle.tl_store.specs.Recovered.{IsOpened, IsReplyOf, IsRebuilt, IsRecovered, AreOfCore};
+ghost use Rattle.tl_store.specs.Faults.{IsOutOfMemory, IsReadFault};
+ghost use Rattle.tl_store.specs.Recovered.{IsOpened, IsReplyOf, IsRebuilt, IsRecovered, AreOfCore, IsStoreOf};
 
 use crate::calls::requests_of;
 use crate::fault::StoreFault;
@@ -106,10 +106,13 @@ pub fn rebuild(alloc: Global, stored: &Stored) -> Result<Recovered, StoreFault>
     }
 }
 
-/// Makes the core again that a store holds behind its last seal, and lets its calls end. Faults as of `read_stored` and `rebuild`.
+/// Makes the core again that a store holds behind its last seal, and lets its calls end. Faults as of `read_stored` and `rebuild`. If the rows there are
+/// those of a core, only the disk can fail, memory be refused, or a row have another form.
 pub fn recover<S: Store>(alloc: Global, store: &mut S) -> Result<Recovered, StoreFault>
     requires { IsClean (S.Store.view store.old) → AreTables (S.Store.view store.old) }
-    ensures { IfOk result (λ r. IsClean (S.Store.view store.new) → (c : Contents) → Holds (S.Store.view store.old).trees c → IsRecovered c r.core.seen) }
+    ensures recovered { IfOk result (λ r. IsClean (S.Store.view store.new) → (c : Contents) → Holds (S.Store.view store.old).trees c → IsRecovered c r.core.seen) }
+    ensures again { IfErr result (λ e. IsClean (S.Store.view store.new) → (c : Contents) (v : CoreValue) → Holds (S.Store.view store.old).trees c → IsReached v → IsStoreOf c v
+        → IsReadFault e ⊎ IsOutOfMemory e) }
 {
     let stored = read_stored(alloc, store)?;
     rebuild(alloc, &stored)

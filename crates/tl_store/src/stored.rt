@@ -1,8 +1,9 @@
 // The rows of a store that make a core again.
 
-ghost use Rattle.std.specs.Prelude.{◌≡◌, ◌≤◌, IsTrue, IfOk, IfSome, OnOk};
+ghost use Rattle.std.specs.Prelude.{◌≡◌, ◌≤◌, IsTrue, IfOk, IfErr, IfSome, OnOk};
 ghost use Rattle.sqlite_trees.specs.View.{IsClean, IsQuiet, KeepsSchema};
 ghost use Rattle.tl_ledger.specs.Contents.{OnlyReads, Contents, Holds, AreTables};
+ghost use Rattle.tl_store.specs.Faults.{IsReadFault};
 ghost use Rattle.tl_store.specs.Stored.{AreStored, AreBehind, IsLastSeal, counts};
 
 use crate::fault::StoreFault;
@@ -56,6 +57,7 @@ fn last_seal<S: Store>(alloc: Global, store: &mut S) -> Result<Sealed, StoreFaul
     ensures reads { OnOk result (IsClean (S.Store.view store.new) → OnlyReads (S.Store.view store.old) (S.Store.view store.new)) }
     ensures schema { KeepsSchema (S.Store.view store.old) (S.Store.view store.new) }
     ensures quiet { IsQuiet S.Store.view S.Store.faults S.Store.recovers S.Store.is_shielded store.old store.new }
+    ensures fault { IfErr result IsReadFault }
 {
     let last: Option<(u64, SealRow)> = read_last(alloc, store, SEAL)?;
     let Some((_, seal)) = last else {
@@ -99,6 +101,7 @@ fn read_behind<S: Store>(
     ensures reads { OnOk result (IsClean (S.Store.view store.new) → OnlyReads (S.Store.view store.old) (S.Store.view store.new)) }
     ensures schema { KeepsSchema (S.Store.view store.old) (S.Store.view store.new) }
     ensures quiet { IsQuiet S.Store.view S.Store.faults S.Store.recovers S.Store.is_shielded store.old store.new }
+    ensures fault { IfErr result IsReadFault }
 {
     Ok(Behind {
         calls: read_from(alloc, store, CALL, sealed.calls)?,
@@ -115,6 +118,7 @@ pub fn read_stored<S: Store>(alloc: Global, store: &mut S) -> Result<Stored, Sto
     ensures reads { OnOk result (IsClean (S.Store.view store.new) → OnlyReads (S.Store.view store.old) (S.Store.view store.new)) }
     ensures schema { KeepsSchema (S.Store.view store.old) (S.Store.view store.new) }
     ensures quiet { IsQuiet S.Store.view S.Store.faults S.Store.recovers S.Store.is_shielded store.old store.new }
+    ensures fault { IfErr result IsReadFault }
 {
     let marks = marks_of(alloc, store)?;
     let sealed = last_seal(alloc, store)?;

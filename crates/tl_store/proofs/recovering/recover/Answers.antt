@@ -1,8 +1,30 @@
+use Rattle.std.proofs.Common.{◌⊎◌, Result, Ok, Err, IfErr, inr}
 use Rattle.std.proofs.lemmas.Result.{IfOk-weaker}
+use Rattle.sqlite_trees.specs.Tree.{Trees}
+use Rattle.sqlite_trees.specs.View.{IsClean}
+use Rattle.tl_core.specs.Cores.{CoreValue}
+use Rattle.tl_core.specs.Reached.{IsReached}
+use Rattle.tl_ledger.specs.Contents.{Contents, Holds}
+use Rattle.tl_store.specs.declared.fault.StoreFault.{StoreFault}
+use Rattle.tl_store.specs.declared.stored.Stored.{Stored}
+use Rattle.tl_store.specs.Faults.{IsReadFault, IsOutOfMemory}
+use Rattle.tl_store.specs.Stored.{AreStored}
+use Rattle.tl_store.specs.Recovered.{AreOfCore, IsStoreOf}
 use Rattle.tl_store.proofs.recovering.recover.Goals as goal
 
-pub returns : goal.returns
-returns g c =
+pub returns-clause-recovered : goal.returns-clause-recovered
+returns-clause-recovered g c =
     IfOk-weaker c.rebuild.result _ _
     (λ r is clean contents holds. record { rows = c.in_ok-stored.stored; stored = c.in_ok-stored.ensures.stored clean contents holds; rebuilt = is })
     c.rebuild.ensures.rebuilt
+
+-- the rows that were read are those of the core
+read_again : {X : Type 0} (result : Result X StoreFault) (rows : Stored) → ((v : CoreValue) → IsReached v → AreOfCore rows v → IfErr result IsOutOfMemory)
+    → (clean : Type 0) (db : Trees) → (clean → (c : Contents) → Holds db c → AreStored c rows)
+    → IfErr result (λ e. clean → (c : Contents) (v : CoreValue) → Holds db c → IsReached v → IsStoreOf c v → IsReadFault e ⊎ IsOutOfMemory e)
+read_again (Ok x) rows again clean db stored = tt
+read_again (Err e) rows again clean db stored = λ is_clean c v holds reached of. inr (again v reached (of rows (stored is_clean c holds)))
+
+pub returns-clause-again : goal.returns-clause-again
+returns-clause-again g c =
+    read_again c.rebuild.result c.in_ok-stored.stored c.rebuild.ensures.again (IsClean (g.S.Store.view c.read_stored.new.store)) (g.S.Store.view c.args.store.now).trees c.in_ok-stored.ensures.stored
