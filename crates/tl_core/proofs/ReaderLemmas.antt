@@ -23,6 +23,7 @@ use Rattle.tl_machine.proofs.StartLemmas.{few_steps, few_locks, few_values}
 use Rattle.tl_core.specs.Stored.{Kept}
 use Rattle.tl_core.specs.Cores.{CoreValue, call_of, code_of, world_of, done_by}
 use Rattle.tl_core.specs.Entries.{procedure_at}
+use Rattle.tl_verify.specs.Acceptable.{Acceptable}
 use Rattle.tl_core.specs.Kept.{IsCore, call_value}
 use Rattle.tl_core.specs.Reached.{IsFit}
 use Rattle.tl_machine.proofs.Along.{onto, taken-onto, length-onto}
@@ -128,6 +129,7 @@ module _ (v : CoreValue) (now : TreeValue) (kept : List Kept) (holders : List (O
       record {
         known = subst (λ z. z.procedure < length v.procedures) (sym call) (request_known c k.0 k.1);
         code = sym (request_code c k.0 k.1) ∙ ap (λ z. (procedure_at v z.procedure).code) (sym call);
+        accepted = subst (λ z. Acceptable z.code.instrs) (sym call) (keep v now kept holders open_count reserved h c k.0 k.1).accepted;
         arity = ap (λ z. length z.args) call ∙ request_arity c k.0 k.1;
       }
 

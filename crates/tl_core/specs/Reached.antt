@@ -3,6 +3,7 @@ use Rattle.std.specs.Prelude.{◌≡◌, ℕ, ◌<◌, ◌≤◌, List, [], ◌�
 use Rattle.tl_history.specs.declared.history.TheConstants.{MAX_CALLS, MAX_EVENTS}
 use Rattle.tl_core.specs.declared.interleaving.TheConstants.{MAX_OPEN}
 use Rattle.tl_instr.specs.declared.instr.Instr.{Instr}
+use Rattle.tl_verify.specs.Acceptable.{Acceptable}
 use Rattle.tl_tree_locking.specs.declared.event.Event.{Event}
 use Rattle.tl_tree_locking.specs.declared.event.Event.TheVariants.{Admit, Lock, Free, Done}
 use Rattle.tl_tree_locking.specs.History.{admits}
@@ -30,10 +31,11 @@ EachHadRoom v (Lock x c found ∷ past) = EachHadRoom v past
 EachHadRoom v (Free x c left ∷ past) = EachHadRoom v past
 EachHadRoom v (Done c ∷ past) = EachHadRoom v past
 
--- call c is of one of the procedures, and has as many arguments as that takes
+-- call c is of one of the procedures, whose code is accepted, and has as many arguments as that takes
 pub record IsFit (v : CoreValue) (c : ℕ) : Type 0 where
   pub known : (call_of v c).procedure < length v.procedures
   pub code : (call_of v c).code ≡ (procedure_at v (call_of v c).procedure).code
+  pub accepted : Acceptable (code_of v c)
   pub arity : length (call_of v c).args ≡ (call_of v c).code.arity
 
 -- A core comes to this value from one without calls, by procedures that may be added, by admissions of calls that fit and

@@ -1,3 +1,4 @@
 mod Turns
 mod SameTurns
 pub mod Retaken
+mod Finished

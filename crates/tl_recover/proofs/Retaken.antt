@@ -117,7 +117,7 @@ abbrev pub IsMoved : Stepped → Type 0
 IsMoved (Moved a) = Unit {0}
 IsMoved s = ⊥
 
-not_blocked : (w : World) (a : Action) (holder : Option ℕ) → ((x : ℕ) (found : Record) (d : ℕ) → a ≡ did.Lock x found → holder ≡ Some d → ⊥) → IsMoved (stepped_by w a holder)
+pub not_blocked : (w : World) (a : Action) (holder : Option ℕ) → ((x : ℕ) (found : Record) (d : ℕ) → a ≡ did.Lock x found → holder ≡ Some d → ⊥) → IsMoved (stepped_by w a holder)
 not_blocked w (did.Lock x found) (Some d) free = free x found d refl refl
 not_blocked w (did.Lock x found) None free = tt
 not_blocked w (did.Free x left) holder free = tt

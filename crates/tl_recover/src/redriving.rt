@@ -1,6 +1,6 @@
 // The turns of a core, taken again.
 
-ghost use Rattle.std.specs.Prelude.{◌≡◌, ℕ, ◌∷◌, ◌++◌, List, map, reverse, true, OnOk, IfErr};
+ghost use Rattle.std.specs.Prelude.{◌≡◌, ℕ, ◌∷◌, ◌++◌, List, map, reverse, OnOk, IfErr};
 ghost use Rattle.tl_tree_locking.specs.declared.event.Event.{Event};
 ghost use Rattle.tl_tree_locking.specs.History.{caller, AllDone};
 ghost use Rattle.tl_procedures.specs.declared.request.Request.{Request as Asked};
@@ -77,20 +77,25 @@ pub fn redrive(
     Ok(())
 }
 
-/// Runs the calls that are open to their ends. False if they haven't ended after 2^64 turns; no run comes that far.
-pub fn finish(core: &mut Core) -> bool
-    ensures done { result ≡ true → AllDone core.new.seen.past }
+/// Runs the calls that are open to their ends.
+pub fn finish(core: &mut Core)
+    ensures done { AllDone core.new.seen.past }
     ensures begins { (more : List Event) × (core.new.seen.past ≡ more ++ core.old.seen.past) }
     ensures fits { (requests : List Asked) → Fits core.old.seen requests → Fits core.new.seen requests }
     ensures goes_on { GoesOn core.old.seen core.new.seen }
 {
     for _ in 0..u64::MAX {
         let Some(call) = core.some_enabled() else {
-            return true;
+            return;
         };
+        core.lemma_is_reached();
         let Ok(_) = core.proceed(call) else {
-            return false;
+            // It was admitted.
+            unreachable!()
         };
     }
-    false
+    // Each turn executes an instruction, and all budgets together are less than that.
+    core.lemma_is_reached();
+    core.lemma_is_sound();
+    unreachable!()
 }
