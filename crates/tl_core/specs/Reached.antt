@@ -38,8 +38,8 @@ pub record IsFit (v : CoreValue) (c : ℕ) : Type 0 where
   pub accepted : Acceptable (code_of v c)
   pub arity : length (call_of v c).args ≡ (call_of v c).code.arity
 
--- A core comes to this value from one without calls, by procedures that may be added, by admissions of calls that fit and
--- for which there is room, and by steps of the calls. The value of every core is such a one.
+-- What is so of the value of every core. Admissions and steps led to its world. It is within the limits, its procedures
+-- have names of their own, its calls fit, and for each of them there was room when it was admitted.
 pub record IsReached (v : CoreValue) : Type 0 where
   pub sound : IsSound (world_of v)
   pub reached : Reached v.parents v.opening (world_of v)
