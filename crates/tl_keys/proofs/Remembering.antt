@@ -1,0 +1,43 @@
+-- What is remembered after one call more.
+use Rattle.std.proofs.Common.{◌≡◌, ◌≢◌, ◌⊎◌, ◌∙◌, ℕ, List, Some, None, inl, inr, sym, ap, subst, false, bytes_eq}
+use Rattle.std.specs.Option.{option_or}
+use Rattle.std.proofs.lemmas.Bool.{cases_Bool, both_ways}
+use Rattle.std.proofs.lemmas.Slice.Eq.{bytes_eq-Decides}
+use Rattle.tl_keys.specs.declared.index.KeyIndex.{KeyIndex}
+use Rattle.tl_keys.specs.Kept.{KeptValue}
+use Rattle.tl_keys.specs.Keys.{recent_at, earlier_at, recall, AllUnder, Stays, Ages, Remembers}
+
+then_stays : (old mid new : KeyIndex) (other : List ℕ) → Stays old mid other ⊎ Ages old mid other → Stays mid new other → Stays old new other ⊎ Ages old new other
+then_stays old mid new other (inl stays) more = inl (more.0 ∙ stays.0, more.1 ∙ stays.1)
+then_stays old mid new other (inr ages) more = inr (ages.0, more.0 ∙ ages.1, more.1 ∙ ages.2)
+
+pub remembers : (old mid new : KeyIndex) (key : List ℕ) (kept : KeptValue) → ((other : List ℕ) → Stays old mid other ⊎ Ages old mid other) → recent_at new key ≡ Some kept
+    → ((other : List ℕ) → other ≢ key → Stays mid new other) → Remembers old new key kept
+remembers old mid new key kept room here others = record { here = here; others = λ other differs. then_stays old mid new other (room other) (others other differs) }
+
+-- ---- what holds of all that is remembered
+
+-- what is remembered of another key was remembered before
+before : (old new : KeyIndex) (other : List ℕ) (kept : KeptValue) → Stays old new other ⊎ Ages old new other → recall new other ≡ Some kept → recall old other ≡ Some kept
+before old new other kept (inl stays) found = sym (ap (λ r. option_or r (earlier_at new other)) stays.0 ∙ ap (option_or (recent_at old other)) stays.1) ∙ found
+before old new other kept (inr ages) found =
+    let there : recent_at old other ≡ Some kept = sym (ap (λ r. option_or r (earlier_at new other)) ages.1 ∙ ages.2) ∙ found in
+    ap (λ r. option_or r (earlier_at old other)) there
+
+differs : (other key : List ℕ) → bytes_eq other key ≡ false → other ≢ key
+differs other key h e = both_ways (bytes_eq other key) h ((bytes_eq-Decides other key).1 e)
+
+pub all_more : (P : List ℕ → KeptValue → Type 0) (old new : KeyIndex) (key : List ℕ) (kept : KeptValue) → AllUnder P old → P key kept → Remembers old new key kept → AllUnder P new
+all_more P old new key kept all one now other found is = elim (cases_Bool (bytes_eq other key)) [
+  | inl h ↦
+      let same : other ≡ key = (bytes_eq-Decides other key).0 h in
+      let there : recall new key ≡ Some kept = ap (λ r. option_or r (earlier_at new key)) now.here in
+      let both : Some kept ≡ Some found = sym there ∙ ap (recall new) (sym same) ∙ is in
+      let it : kept ≡ found = cc in
+      subst (λ k. P k found) (sym same) (subst (P key) it one)
+  | inr h ↦ all other found (before old new other found (now.others other (differs other key h)) is)
+]
+
+-- nothing is remembered
+pub all_none : (P : List ℕ → KeptValue → Type 0) (i : KeyIndex) → ((key : List ℕ) → recall i key ≡ None) → AllUnder P i
+all_none P i none key kept is = let both : None ≡ Some kept = sym (none key) ∙ is in cc
