@@ -69,4 +69,5 @@ export const FAULTS = {
   902: { meaning: "the line has more than 65,536 bytes; it is passed over", advice: "leave out comments and indentation of a text, or send a batch of fewer calls" },
   903: { meaning: "the line isn't UTF-8", advice: "send UTF-8" },
   990: { meaning: "memory was refused for a line, a batch or the program itself; nothing was done", advice: "try again with more memory" },
+  1015: { meaning: "the call has a key, and the server keeps no store, so it would forget the key at its end", advice: "start the server with `--store`, or ask without a key" },
 };

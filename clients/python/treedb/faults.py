@@ -78,4 +78,5 @@ FAULTS: dict[int, Fault] = {
     902: Fault('the line has more than 65,536 bytes; it is passed over', 'leave out comments and indentation of a text, or send a batch of fewer calls'),
     903: Fault("the line isn't UTF-8", 'send UTF-8'),
     990: Fault('memory was refused for a line, a batch or the program itself; nothing was done', 'try again with more memory'),
+    1015: Fault('the call has a key, and the server keeps no store, so it would forget the key at its end', 'start the server with `--store`, or ask without a key'),
 }

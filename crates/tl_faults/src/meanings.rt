@@ -31,7 +31,7 @@ pub fn meaning_of(number: u16) -> Option<Meaning> {
         691..=801 => runs::from_701_to_801(number),
         802..=990 => runs::from_803_to_990(number),
         991..=1014 => stores::from_1001_to_1014(number),
-        1015..=1090 => stores::from_1090_to_1090(number),
+        1015..=1090 => stores::from_1015_to_1090(number),
         _ => None,
     }
 }

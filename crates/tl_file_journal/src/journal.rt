@@ -10,7 +10,7 @@ use std::alloc::Global;
 use std::sync::Wait;
 use tl_file_snapshot::{SnapshotFault, write_snapshot};
 use tl_journal::{JournalParts, LedgerJournal};
-use tl_server::{CopyRefusal, Journal, NoJournal, Unstored};
+use tl_server::{Claim, CopyRefusal, Journal, NoJournal, Unstored};
 use tl_store::StoreFault;
 use tl_workers::Engine;
 
@@ -63,6 +63,21 @@ impl Journal for FileJournal {
 
     fn close(&self, rt: &impl Wait, alloc: Global, engine: &Engine, base: u32) {
         self.ledger.close(rt, alloc, engine, base);
+    }
+
+    fn claim(
+        &self,
+        rt: &impl Wait,
+        alloc: Global,
+        engine: &Engine,
+        session: u32,
+        key: &str,
+    ) -> Claim {
+        self.ledger.claim(rt, alloc, engine, session, key)
+    }
+
+    fn release(&self, rt: &impl Wait, alloc: Global, engine: &Engine, session: u32) {
+        self.ledger.release(rt, alloc, engine, session);
     }
 
     fn grow(&self, rt: &impl Wait, alloc: Global, parents: &[i64], epoch: u32) {

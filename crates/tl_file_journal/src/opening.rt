@@ -22,7 +22,7 @@ use tl_generations::Succession;
 use tl_journal::LedgerJournal;
 use tl_procedures::Procedures;
 use tl_store::StoreFault;
-use tl_store_commands::{Beginning, Retaken, make_store, reopen_store};
+use tl_store_commands::{Beginning, Retaken, make_store, remember_keys, reopen_store};
 use tl_store_file::{Blank, Found, Rested};
 use tl_tree::Tree;
 use tl_workers::Engine;
@@ -44,7 +44,7 @@ pub struct Stored<J> {
     pub retaken: Option<Retaken>,
 }
 
-// An engine on the core that a server begins with, and the journal of the ledger.
+// An engine on the core that a server begins with, and the journal of the ledger, which knows what came of its calls that had a key.
 fn opening_of<S: Store + Drop>(
     alloc: Global,
     begun: Beginning<S>,
@@ -52,6 +52,7 @@ fn opening_of<S: Store + Drop>(
     ensures { (result ≢ Err NoTree) × (result ≢ Err HasTree) }
 {
     let Beginning { ledger, core } = begun;
+    let (ledger, keys) = remember_keys(alloc, ledger)?;
     let known = core.procedures().copy(alloc)?;
     let records = Vec::from_slice(alloc, core.opening().records())?;
     let succession = Succession::new(alloc, &core)?;
@@ -61,7 +62,7 @@ fn opening_of<S: Store + Drop>(
     };
     Ok(Opening {
         engine: engine.that_seals(),
-        journal: LedgerJournal::new(alloc, ledger, records, known.len()),
+        journal: LedgerJournal::new(alloc, ledger, records, known.len(), keys),
         succession,
         known,
     })

@@ -1,4 +1,5 @@
 pub mod Changes
+pub mod Claims
 pub mod Desks
 pub mod Rows
 pub mod Pendings

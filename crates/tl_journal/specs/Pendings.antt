@@ -15,6 +15,7 @@ use Rattle.tl_ledger.specs.declared.rows.SealRow.{SealRow}
 use Rattle.tl_ledger.specs.declared.committing.Marks.{Marks}
 use Rattle.tl_journal.specs.declared.pending.Pending.{Pending}
 use Rattle.tl_journal.specs.Changes.{Leads}
+use Rattle.tl_journal.specs.Claims.{ClaimValue, key_of, Learns}
 use Rattle.tl_journal.specs.Rows.{procedure_form, named_form, call_form, call_key, turn_bytes, turn_form, reply_form}
 
 -- ---- numbers, limited to the range of their type; no store has as many rows as that
@@ -42,13 +43,14 @@ pub record Admitted : Type 0 where
 abbrev pub admitted_in : CallRow → Admitted
 admitted_in row = record { epoch = row.epoch; number = row.number; asks = call_form row; key = call_key row }
 
-abbrev pub admitted_at : ℤ → ℕ → Asked → Admitted
-admitted_at epoch number a = record { epoch = epoch; number = column number; asks = (a.name, Some a.args); key = None }
+-- a call has the key that its session has claimed
+abbrev pub admitted_at : List ClaimValue → ℤ → ℕ → Asked → Admitted
+admitted_at claims epoch number a = record { epoch = epoch; number = column number; asks = (a.name, Some a.args); key = key_of claims a.session }
 
 -- the calls of an epoch, numbered from `first` on
-abbrev pub admitted_from : ℤ → ℕ → List Asked → List Admitted
-admitted_from epoch first [] = []
-admitted_from epoch first (a ∷ others) = admitted_at epoch first a ∷ admitted_from epoch (first + 1) others
+abbrev pub admitted_from : List ClaimValue → ℤ → ℕ → List Asked → List Admitted
+admitted_from claims epoch first [] = []
+admitted_from claims epoch first (a ∷ others) = admitted_at claims epoch first a ∷ admitted_from claims epoch (first + 1) others
 
 -- the turns in one row; no row if there are no turns
 abbrev pub turn_forms : ℤ → List ℕ → List (ℤ × List ℕ)
@@ -69,7 +71,7 @@ abbrev pub counted : EpochNews → Marks → Marks
 counted came rows = record {
   nodes = rows.nodes;
   procedures = more rows.procedures (length came.procedures.items);
-  calls = more rows.calls (length came.requests.items);
+  calls = more rows.calls (length came.calls.items);
   turns = more rows.turns (min (length came.turns.items) 1);
   replies = more rows.replies (length came.answers.items);
   seals = rows.seals;
@@ -86,18 +88,20 @@ Seals (Some now) rows old new =
     × ((changes : List ChangedRecord) × Leads old.records.items now changes × (new.news.records.items ≡ old.news.records.items ++ changes))
     × (new.records.items ≡ now) × (new.rows ≡ record rows { seals = more rows.seals 1 })
 
--- The news of an epoch was added: its procedures, its calls from the first one on, its turns and its replies; if it is
--- over, also its seal and the records that changed. The epoch's number in the store is the number of seals before its
--- own.
+-- The news of an epoch was added: its procedures, its calls from the first one on, each with the key that its session has claimed, its turns and its
+-- replies, which are remembered under such keys; if it is over, also its seal and the records that changed. The epoch's number in the store is the
+-- number of seals before its own.
 pub record Adds (came : EpochNews) (old new : Pending) : Type 0 where
   pub nodes : new.news.nodes.items ≡ old.news.nodes.items
   pub procedures : map procedure_form new.news.procedures.items ≡ map procedure_form old.news.procedures.items ++ map new_form came.procedures.items
   pub calls : map admitted_in new.news.calls.items
-      ≡ map admitted_in old.news.calls.items ++ admitted_from (column old.rows.seals) came.first_call (map asked came.requests.items)
+      ≡ map admitted_in old.news.calls.items ++ admitted_from old.claims.items (column old.rows.seals) came.first_call (map asked came.calls.items)
   pub turns : map turn_form new.news.turns.items ≡ map turn_form old.news.turns.items ++ turn_forms (column old.rows.seals) came.turns.items
   pub replies : map reply_form new.news.replies.items
       ≡ map reply_form old.news.replies.items ++ map (answer_form (column old.rows.seals)) came.answers.items
   pub seal : Seals (option_map (λ v. v.items) came.records) (counted came old.rows) old new
+  pub learns : Learns old.claims.items (column old.rows.seals) came.answers.items old.index new.index
+  pub claims : new.claims ≡ old.claims
   pub mark : new.mark ≡ old.mark
   pub lost : new.is_lost ≡ old.is_lost
 
@@ -132,5 +136,7 @@ pub record Grows (parents : List ℤ) (old new : Pending) : Type 0 where
   pub news : new.news ≡ record old.news { nodes = new.news.nodes }
   pub records : new.records.items ≡ old.records.items ++ replicate (length parents) (replicate field_count (pos 0))
   pub rows : new.rows ≡ record old.rows { nodes = more old.rows.nodes (length parents) }
+  pub claims : new.claims ≡ old.claims
+  pub index : new.index ≡ old.index
   pub mark : new.mark ≡ old.mark
   pub lost : new.is_lost ≡ old.is_lost

@@ -1,6 +1,7 @@
 // Who stores what engines do: leader and followers.
 
-ghost use Rattle.std.specs.Prelude.{◌≡◌, false, IfSome};
+ghost use Rattle.std.specs.Prelude.{◌≡◌, ◌≢◌, false, IfSome};
+ghost use Rattle.tl_server.specs.declared.journal.Claim.TheVariants.{NoStore};
 
 use crate::desk::Desk;
 use crate::pending::Pending;
@@ -8,9 +9,10 @@ use sqlite_trees::error::StoreError;
 use sqlite_trees::store::Store;
 use std::alloc::Global;
 use std::sync::{Condvar, Mutex, Wait};
+use tl_keys::KeyIndex;
 use tl_ledger::{Ledger, Marks, News};
 use tl_news::news_since;
-use tl_server::{CopyRefusal, Journal, Unstored};
+use tl_server::{Claim, CopyRefusal, Journal, Unstored};
 use tl_tree::Record;
 use tl_workers::Engine;
 
@@ -27,6 +29,8 @@ pub struct LedgerJournal<S: Store> {
     desk: Mutex<Desk<S>>,
     // Notified after the ledger was put back.
     moved: Condvar,
+    // Notified after a session let go of a key.
+    released: Condvar,
 }
 
 /// What a journal leaves.
@@ -42,19 +46,21 @@ pub struct JournalParts<S: Store> {
 
 impl<S: Store + Drop> LedgerJournal<S> {
     /// A journal over a ledger that isn't shut, before an engine that has no calls yet and so many procedures; all of those are stored. These
-    /// are the records of its tree, which are stored too.
+    /// are the records of its tree, which are stored too, and so is what came of calls that had a key.
     pub fn new(
         alloc: Global,
         ledger: Ledger<S>,
         records: Vec<Record>,
         procedures: usize,
+        keys: KeyIndex,
     ) -> LedgerJournal<S>
         requires { ledger.is_shut ≡ false }
     {
         LedgerJournal {
-            pending: Mutex::new(Pending::new(alloc, ledger.marks, records, procedures)),
+            pending: Mutex::new(Pending::new(alloc, ledger.marks, records, procedures, keys)),
             desk: Mutex::new(Desk::new(ledger)),
             moved: Condvar::new(),
+            released: Condvar::new(),
         }
     }
 
@@ -72,6 +78,7 @@ impl<S: Store + Drop> LedgerJournal<S> {
             pending,
             desk,
             moved: _,
+            released: _,
         } = self;
         let pending = pending.into_inner().into_news();
         match desk.into_inner().into_ledger() {
@@ -114,16 +121,7 @@ impl<S: Store + Drop> LedgerJournal<S> {
 
     // Takes over what came of the engine's table.
     fn read(&self, rt: &impl Wait, alloc: Global, engine: &Engine, is_over: bool) {
-        let mut pending = self.pending.lock(rt);
-        let mark = pending.mark();
-        let read = engine.look(rt, |table| news_since(alloc, table, &mark, is_over));
-        let taken = match read {
-            Ok(came) => pending.add(alloc, came),
-            Err(refused) => Err(refused),
-        };
-        if taken.is_err() {
-            pending.lose();
-        }
+        take_over(rt, alloc, engine, is_over, &mut *self.pending.lock(rt));
     }
 
     // How many rows there are once all that came up to now is stored. `None` if some of it was lost.
@@ -161,6 +159,44 @@ impl<S: Store + Drop> LedgerJournal<S> {
     }
 }
 
+// Takes over what came of the engine's table.
+fn take_over(rt: &impl Wait, alloc: Global, engine: &Engine, is_over: bool, pending: &mut Pending) {
+    let mark = pending.mark();
+    let read = engine.look(rt, |table| news_since(alloc, table, &mark, is_over));
+    let taken = match read {
+        Ok(came) => pending.add(alloc, came),
+        Err(refused) => Err(refused),
+    };
+    if taken.is_err() {
+        pending.lose();
+    }
+}
+
+// What came of the call that had the key; if none had it, the session claims it. What the session has asked for before is taken over first, so that
+// none of that gets the key.
+fn claim_of(
+    rt: &impl Wait,
+    alloc: Global,
+    engine: &Engine,
+    pending: &mut Pending,
+    session: u32,
+    key: &str,
+) -> Claim
+    ensures { result ≢ NoStore }
+{
+    match pending.find(alloc, key) {
+        Ok(Some(kept)) => return Claim::Taken(kept),
+        Ok(None) => {}
+        Err(_) => return Claim::Memory,
+    }
+    take_over(rt, alloc, engine, false, pending);
+    // What was lost may have had the key.
+    if pending.wanted().is_none() || pending.claim(alloc, session, key).is_err() {
+        return Claim::Memory;
+    }
+    Claim::Granted
+}
+
 impl<S: Store + Drop> Journal for LedgerJournal<S> {
     ghost use Rattle.std.specs.Prelude.{true};
 
@@ -176,6 +212,32 @@ impl<S: Store + Drop> Journal for LedgerJournal<S> {
 
     fn close(&self, rt: &impl Wait, alloc: Global, engine: &Engine, _base: u32) {
         self.read(rt, alloc, engine, true);
+    }
+
+    fn claim(
+        &self,
+        rt: &impl Wait,
+        alloc: Global,
+        engine: &Engine,
+        session: u32,
+        key: &str,
+    ) -> Claim {
+        let mut pending = self.pending.lock(rt);
+        for _ in rt.forever() {
+            if !pending.is_claimed(key) {
+                return claim_of(rt, alloc, engine, &mut *pending, session, key);
+            }
+            pending = self.released.wait(rt, pending);
+        }
+        unreachable!()
+    }
+
+    fn release(&self, rt: &impl Wait, alloc: Global, engine: &Engine, session: u32) {
+        let mut pending = self.pending.lock(rt);
+        take_over(rt, alloc, engine, false, &mut *pending);
+        pending.release(session);
+        drop(pending);
+        self.released.notify_all();
     }
 
     fn grow(&self, rt: &impl Wait, _alloc: Global, parents: &[i64], _epoch: u32) {

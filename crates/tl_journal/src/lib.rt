@@ -3,6 +3,7 @@
 #![tactic(auto)]
 
 mod changes;
+mod claims;
 mod desk;
 mod journal;
 mod pending;

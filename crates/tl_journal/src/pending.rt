@@ -1,22 +1,26 @@
 // What came and isn't stored yet.
 
-ghost use Rattle.std.specs.Prelude.{◌≡◌, ◌++◌, pos, List, map, replicate, true, false, Some, None, if◌then◌else◌, IfOk, OnOk};
+ghost use Rattle.std.specs.Prelude.{◌≡◌, ◌↔◌, ◌++◌, ◌∷◌, [], ◌==◌, Any, not, filter, IsTrue, option_map, option_copied, string_bytes, pos, List, map, replicate, true, false, Some, None, if◌then◌else◌, IfOk, OnOk};
 ghost use Rattle.tl_width.specs.Fields.{field_count};
 ghost use Rattle.tl_ledger.specs.declared.rows.ChangedRecord.{ChangedRecord};
+ghost use Rattle.tl_keys.specs.Keys.{recall};
 ghost use Rattle.tl_news.specs.News.{asked};
+ghost use Rattle.tl_journal.specs.Claims.{key_of, LearnsUnder, Learns, kept_of};
 ghost use Rattle.tl_journal.specs.Changes.{Leads};
 ghost use Rattle.tl_journal.specs.Rows.{procedure_form, turn_form, reply_form};
 ghost use Rattle.tl_journal.specs.Pendings.{column, more, counted, seal_after, new_form, admitted_in, admitted_at, admitted_from, turn_forms, answer_form, node_of, start, Adds, AddsAll, Grows, IsEmpty};
 
 use crate::changes::changed;
+use crate::claims;
+use crate::claims::{Claimed, key_of};
 use crate::rows::{call_row, procedure_row, reply_row, turn_row};
 use std::alloc::{AllocError, Global};
 use std::mem;
+use tl_keys::{Kept, KeyIndex};
 use tl_ledger::{
     CallRow, ChangedRecord, Marks, News, NodeRow, ProcedureRow, ReplyRow, SealRow, TurnRow,
 };
-use tl_news::{Answer, EpochNews, Mark, NewProcedure, TableNews};
-use tl_procedures::Request;
+use tl_news::{Answer, EpochNews, Mark, NewCall, NewProcedure, TableNews};
 use tl_tree::{FIELD_COUNT, Record};
 
 /// No news.
@@ -58,7 +62,7 @@ fn counted(rows: &Marks, came: &EpochNews) -> Marks
     Marks {
         nodes: rows.nodes,
         procedures: more(rows.procedures, came.procedures.len()),
-        calls: more(rows.calls, came.requests.len()),
+        calls: more(rows.calls, came.calls.len()),
         turns: more(rows.turns, came.turns.len().min(1)),
         replies: more(rows.replies, came.answers.len()),
         seals: rows.seals,
@@ -91,24 +95,19 @@ fn push_procedures(
     Ok(())
 }
 
-// The row of a call without a key, which has that number.
-fn request_row(
+// The row of a call, which has that number, and the key that its session has claimed.
+fn new_row(
     alloc: Global,
+    claims: &[Claimed],
     epoch: i64,
     number: u64,
-    request: &Request,
+    call: &NewCall,
 ) -> Result<CallRow, AllocError>
-    ensures { IfOk result (λ row. admitted_in row ≡ admitted_at epoch number (asked request.now)) }
+    ensures { IfOk result (λ row. admitted_in row ≡ admitted_at claims.now epoch number (asked call.now)) }
 {
-    let name = request.name.as_str();
-    call_row(
-        alloc,
-        epoch,
-        column(number),
-        name,
-        request.args.as_slice(),
-        None,
-    )
+    let (name, args) = (call.request.name.as_str(), call.request.args.as_slice());
+    let key = key_of(claims, call.session);
+    call_row(alloc, epoch, column(number), name, args, key)
 }
 
 // Adds the rows of calls, numbered from the first one on.
@@ -116,15 +115,16 @@ fn request_row(
 fn push_calls(
     alloc: Global,
     rows: &mut Vec<CallRow>,
+    claims: &[Claimed],
     epoch: i64,
     first: usize,
-    requests: &[Request],
+    calls: &[NewCall],
 ) -> Result<(), AllocError>
-    ensures { OnOk result (map admitted_in rows.new.items ≡ map admitted_in rows.old.items ++ admitted_from epoch first (map asked requests.now)) }
+    ensures { OnOk result (map admitted_in rows.new.items ≡ map admitted_in rows.old.items ++ admitted_from claims.now epoch first (map asked calls.now)) }
 {
-    for index in 0..requests.len() {
+    for index in 0..calls.len() {
         let number = more(first as u64, index);
-        rows.push(request_row(alloc, epoch, number, &requests[index])?)?;
+        rows.push(new_row(alloc, claims, epoch, number, &calls[index])?)?;
     }
     Ok(())
 }
@@ -157,6 +157,41 @@ fn push_replies(
     for answer in answers {
         let call = i64::from(answer.call);
         rows.push(reply_row(alloc, epoch, call, answer.reply.values())?)?;
+    }
+    Ok(())
+}
+
+// Remembers what came of a call under the key that its session has claimed, if it has claimed one.
+fn learn_one(
+    alloc: Global,
+    index: &mut KeyIndex,
+    claims: &[Claimed],
+    epoch: i64,
+    answer: &Answer,
+) -> Result<(), AllocError>
+    ensures { OnOk result (LearnsUnder (key_of claims.now answer.now.session) (kept_of epoch answer.now) index.old index.new) }
+{
+    let Some(key) = key_of(claims, answer.session) else {
+        return Ok(());
+    };
+    let key = String::from_str(alloc, key)?;
+    let kept = Kept::new(alloc, epoch, i64::from(answer.call), answer.reply.values())?;
+    index.remember(alloc, key, kept)
+}
+
+// Remembers what came of these calls under the keys that their sessions have claimed.
+#[tactic(auto, using(crate::proofs::AddedLemmas::learns_next))]
+fn learn(
+    alloc: Global,
+    index: &mut KeyIndex,
+    claims: &[Claimed],
+    epoch: i64,
+    answers: &[Answer],
+) -> Result<(), AllocError>
+    ensures { OnOk result (Learns claims.now epoch answers.now index.old index.new) }
+{
+    for answer in answers {
+        learn_one(alloc, index, claims, epoch, answer)?;
     }
     Ok(())
 }
@@ -207,26 +242,36 @@ pub(crate) struct Pending {
     rows: Marks,
     // The records at the last seal, these news among them.
     records: Vec<Record>,
+    // A session whose call with a key is under way has claimed the key. It asks for one call only until it lets go of the key, so all that comes
+    // meanwhile of a call of its is of that one.
+    claims: Vec<Claimed>,
+    // What came of calls that had a key. All of it is stored, or among these news.
+    index: KeyIndex,
     // Memory was refused for something that came, so not all of it is here.
     is_lost: bool,
 }
 
 impl Pending {
-    /// Nothing, where so many rows are stored, these are the records at the last seal, and the engine's table begins with so many procedures.
+    /// Nothing, where so many rows are stored, these are the records at the last seal, the engine's table begins with so many procedures, and this came
+    /// of calls that had a key.
     pub(crate) fn new(
         alloc: Global,
         rows: Marks,
         records: Vec<Record>,
         procedures: usize,
+        index: KeyIndex,
     ) -> Pending
         ensures news { IsEmpty result.news }
-        ensures others { result ≡ record { mark = start procedures; news = result.news; rows = rows; records = records; is_lost = false } }
+        ensures claims { result.claims.items ≡ [] }
+        ensures others { result ≡ record { mark = start procedures; news = result.news; rows = rows; records = records; claims = result.claims; index = index; is_lost = false } }
     {
         Pending {
             mark: Mark::start(procedures),
             news: no_news(alloc),
             rows,
             records,
+            claims: Vec::new(alloc),
+            index,
             is_lost: false,
         }
     }
@@ -264,6 +309,39 @@ impl Pending {
         Some(mem::replace(&mut self.news, no_news(alloc)))
     }
 
+    /// Whether a session has claimed the key.
+    pub(crate) fn is_claimed(&self, key: &str) -> bool
+        ensures { IsTrue result ↔ Any (λ c. c.key ≡ key.now) self.now.claims.items }
+    {
+        claims::is_claimed(self.claims.as_slice(), key)
+    }
+
+    /// What came of the call that had the key, if one had it.
+    pub(crate) fn find(&self, alloc: Global, key: &str) -> Result<Option<Kept>, AllocError>
+        ensures { IfOk result (λ found. found ≡ recall self.now.index key.now) }
+    {
+        match self.index.find(key) {
+            Some(kept) => Ok(Some(kept.copy(alloc)?)),
+            None => Ok(None),
+        }
+    }
+
+    /// The session claims the key for the call that it asks for next: whatever else it has asked for was taken over.
+    pub(crate) fn claim(&mut self, alloc: Global, session: u32, key: &str) -> Result<(), AllocError>
+        ensures claimed { OnOk result (self.new.claims.items ≡ self.old.claims.items ++ record { session = session; key = key.now } ∷ []) }
+        ensures others { self.new ≡ record self.old { claims = self.new.claims } }
+    {
+        claims::claim(alloc, &mut self.claims, session, key)
+    }
+
+    /// The session lets go of the key that it has claimed.
+    pub(crate) fn release(&mut self, session: u32)
+        ensures released { self.new.claims.items ≡ filter (λ c. not (c.session == session)) self.old.claims.items }
+        ensures others { self.new ≡ record self.old { claims = self.new.claims } }
+    {
+        claims::release(&mut self.claims, session);
+    }
+
     /// Takes over what came of an engine's table. If memory is refused, only part of it may have been taken over.
     pub(crate) fn add(&mut self, alloc: Global, came: TableNews) -> Result<(), AllocError>
         ensures { OnOk result ((last : Pending) × AddsAll came.epochs.items self.old last × (self.new ≡ record last { mark = came.mark })) }
@@ -296,19 +374,22 @@ impl Pending {
             epoch: _,
             procedures,
             first_call,
-            requests,
+            calls,
             turns,
             answers,
             records,
         } = came;
+        let claims = self.claims.as_slice();
+        learn(alloc, &mut self.index, claims, epoch, answers.as_slice())?;
         let news = &mut self.news;
         push_procedures(alloc, &mut news.procedures, procedures.as_slice())?;
         push_calls(
             alloc,
             &mut news.calls,
+            claims,
             epoch,
             first_call,
-            requests.as_slice(),
+            calls.as_slice(),
         )?;
         push_turns(alloc, &mut news.turns, epoch, turns.as_slice())?;
         push_replies(alloc, &mut news.replies, epoch, answers.as_slice())?;
@@ -343,6 +424,8 @@ impl Pending {
             news,
             rows: _,
             records: _,
+            claims: _,
+            index: _,
             is_lost: _,
         } = self;
         news

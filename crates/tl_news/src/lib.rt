@@ -1,4 +1,4 @@
-//! What a table's calls did since it was read last: the new procedures, the requests, the turns and the replies, and the records at the end
+//! What a table's calls did since it was read last: the new procedures, the calls, the turns and the replies, and the records at the end
 //! of each epoch.
 #![tactic(auto)]
 
@@ -7,5 +7,5 @@ mod news;
 mod reading;
 
 pub use mark::{Mark, Place};
-pub use news::{Answer, EpochNews, NewProcedure, TableNews};
+pub use news::{Answer, EpochNews, NewCall, NewProcedure, TableNews};
 pub use reading::news_since;

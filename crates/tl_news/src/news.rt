@@ -14,10 +14,18 @@ pub struct NewProcedure {
     pub procedure: Arc<Proc>,
 }
 
-/// A call that is done, by its number in its epoch, and its reply.
+/// A call that was admitted: the session that asked for it, and its request.
+#[derive(Debug, Drop)]
+pub struct NewCall {
+    pub session: u32,
+    pub request: Request,
+}
+
+/// A call that is done, by its number in its epoch: the session that asked for it, and its reply.
 #[derive(Debug, Drop)]
 pub struct Answer {
     pub call: u32,
+    pub session: u32,
     pub reply: Reply,
 }
 
@@ -29,8 +37,8 @@ pub struct EpochNews {
     pub procedures: Vec<NewProcedure>,
     /// The number of the first of these calls.
     pub first_call: usize,
-    /// The requests of the calls that were admitted, in the order of their numbers.
-    pub requests: Vec<Request>,
+    /// The calls that were admitted, in the order of their numbers.
+    pub calls: Vec<NewCall>,
     /// By event, the earliest first: the call that took that turn.
     pub turns: Vec<u32>,
     /// In the order of their ends.

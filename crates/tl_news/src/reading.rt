@@ -3,10 +3,10 @@
 ghost use Rattle.std.specs.Prelude.{◌≡◌, ◌<◌, All, map, drop, length, reverse, option_map, if◌then◌else◌, Some, None, IfOk};
 ghost use Rattle.std.specs.List.{filter_map};
 ghost use Rattle.tl_tree_locking.specs.History.{caller, records_now};
-ghost use Rattle.tl_news.specs.News.{named, asked, news_value, events_from, request_of, answer_at, IsEnd, news_behind, news_since, mark_after};
+ghost use Rattle.tl_news.specs.News.{named, asked, news_value, events_from, calls_of, answer_at, IsEnd, news_behind, news_since, mark_after};
 
 use crate::mark::{Mark, Place};
-use crate::news::{Answer, EpochNews, NewProcedure, TableNews};
+use crate::news::{Answer, EpochNews, NewCall, NewProcedure, TableNews};
 use std::alloc::{AllocError, Global};
 use std::sync::Arc;
 use tl_core::Core;
@@ -51,16 +51,26 @@ fn procedures_behind(
     Ok(found)
 }
 
-// The requests of the calls behind the first ones.
-fn requests_behind(alloc: Global, core: &Core, first: usize) -> Result<Vec<Request>, AllocError>
-    ensures { IfOk result (λ v. map asked v.items ≡ map (request_of core.now.seen) (drop first core.now.seen.calls)) }
+// The calls behind the first ones, with the sessions of all calls.
+fn calls_behind(
+    alloc: Global,
+    core: &Core,
+    owners: &[u32],
+    first: usize,
+) -> Result<Vec<NewCall>, AllocError>
+    requires { length owners.now ≡ length core.now.seen.calls }
+    ensures { IfOk result (λ v. map asked v.items ≡ calls_of core.now.seen (drop first owners.now) (drop first core.now.seen.calls)) }
 {
     let mut found = Vec::new(alloc);
     for call in first..core.calls() {
         let (procedure, args) = core.request(call as u32);
-        found.push(Request {
+        let request = Request {
             name: String::from_str(alloc, core.name(procedure))?,
             args: Vec::from_slice(alloc, args)?,
+        };
+        found.push(NewCall {
+            session: owners[call],
+            request,
         })?;
     }
     Ok(found)
@@ -86,14 +96,16 @@ fn turns(alloc: Global, events: &[Event]) -> Result<Vec<u32>, AllocError>
 }
 
 // The reply of a call, at its end.
-fn answer(core: &Core, event: &Event) -> Option<Answer>
-    requires { IsEnd core.now.seen event.now }
-    ensures { result ≡ answer_at core.now.seen event.now }
+fn answer(core: &Core, owners: &[u32], event: &Event) -> Option<Answer>
+    requires end { IsEnd core.now.seen event.now }
+    requires each { length owners.now ≡ length core.now.seen.calls }
+    ensures { result ≡ answer_at core.now.seen owners.now event.now }
 {
     match *event {
         Event::Done { call } => match core.reply(call) {
             Some(reply) => Some(Answer {
                 call,
+                session: owners[call as usize],
                 reply: reply.copy(),
             }),
             // A call that has ended has its reply.
@@ -104,13 +116,19 @@ fn answer(core: &Core, event: &Event) -> Option<Answer>
 }
 
 // The replies of the calls whose ends are among these events.
-fn answers(alloc: Global, core: &Core, events: &[Event]) -> Result<Vec<Answer>, AllocError>
-    requires { All (IsEnd core.now.seen) events.now }
-    ensures { IfOk result (λ v. v.items ≡ filter_map (answer_at core.now.seen) events.now) }
+fn answers(
+    alloc: Global,
+    core: &Core,
+    owners: &[u32],
+    events: &[Event],
+) -> Result<Vec<Answer>, AllocError>
+    requires ends { All (IsEnd core.now.seen) events.now }
+    requires each { length owners.now ≡ length core.now.seen.calls }
+    ensures { IfOk result (λ v. v.items ≡ filter_map (answer_at core.now.seen owners.now) events.now) }
 {
     let mut found = Vec::new(alloc);
     for event in events {
-        if let Some(answer) = answer(core, event) {
+        if let Some(answer) = answer(core, owners, event) {
             found.push(answer)?;
         }
     }
@@ -127,24 +145,26 @@ fn records_if(alloc: Global, core: &Core, is_over: bool) -> Result<Option<Vec<Re
     Ok(Some(Vec::from_slice(alloc, core.tree().records())?))
 }
 
-// What came of the epoch with this number behind the place.
+// What came of the epoch with this number behind the place, with the sessions of its calls.
 fn epoch_news(
     alloc: Global,
     number: u32,
     core: &Core,
+    owners: &[u32],
     place: &Place,
     is_over: bool,
 ) -> Result<EpochNews, AllocError>
-    ensures { IfOk result (λ n. news_value n ≡ news_behind place.now number core.now.seen is_over) }
+    requires { length owners.now ≡ length core.now.seen.calls }
+    ensures { IfOk result (λ n. news_value n ≡ news_behind place.now number core.now.seen owners.now is_over) }
 {
     let events = events_behind(core, place.events);
     Ok(EpochNews {
         epoch: number,
         procedures: procedures_behind(alloc, core.procedures(), place.procedures)?,
         first_call: place.calls,
-        requests: requests_behind(alloc, core, place.calls)?,
+        calls: calls_behind(alloc, core, owners, place.calls)?,
         turns: turns(alloc, events)?,
-        answers: answers(alloc, core, events)?,
+        answers: answers(alloc, core, owners, events)?,
         records: records_if(alloc, core, is_over)?,
     })
 }
@@ -181,10 +201,12 @@ pub fn news_since(
     let mut place = mark.place;
     let unread = behind(table.sealed(), mark.epochs);
     for closed in unread {
-        epochs.push(epoch_news(alloc, closed.number(), closed.core(), &place, true)?)?;
-        place = Place::start_after(closed.core());
+        let (number, core, owners) = (closed.number(), closed.core(), closed.owners());
+        epochs.push(epoch_news(alloc, number, core, owners, &place, true)?)?;
+        place = Place::start_after(core);
     }
-    epochs.push(epoch_news(alloc, table.epoch(), table.core(), &place, is_over)?)?;
+    let (number, core, owners) = (table.epoch(), table.core(), table.owners());
+    epochs.push(epoch_news(alloc, number, core, owners, &place, is_over)?)?;
     Ok(TableNews {
         epochs,
         mark: end_mark(table, is_over),

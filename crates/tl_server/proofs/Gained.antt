@@ -13,8 +13,8 @@ use Rattle.tl_workers.specs.Refusals.{AreCallRefusals}
 use Rattle.tl_server.specs.declared.fault.LineFault.{LineFault}
 use Rattle.tl_server.specs.Answers.{line_text, error_text, batch_text}
 use Rattle.tl_server.specs.Faults.{numbers_of}
-use Rattle.tl_server.specs.Requests.{LineValue, Registers, RegistersText, Calls, Batches, Grows, Seals, Closes, IsRequest, IsLineFault}
-use Rattle.tl_server.specs.Served.{Ways, CallOutcome, AnswersRequest, AnswersLine, IsAnswer}
+use Rattle.tl_server.specs.Requests.{LineValue, Registers, RegistersText, Calls, CallsOnce, Batches, Grows, Seals, Closes, IsRequest, IsLineFault}
+use Rattle.tl_server.specs.Served.{Ways, Keying, KnowsNoKeys, KeepsNoKeys, KeepsKeys, CallOutcome, IsCallAnswer, IsKeptAnswer, IsOnceAnswer, AnswersRequest, AnswersLine, IsAnswer}
 use Rattle.tl_server.specs.Runs.{AllGot, GainsWholeCalls}
 use Rattle.tl_server.proofs.Goings.{Laws}
 
@@ -65,6 +65,14 @@ call_whole : (seals : Bool) (q : List ℕ × List ℤ) (gained : List Did) (answ
 call_whole seals q gained (Ok r) h = subst AllGot (sym h.1) (one_call q.0 q.1 r)
 call_whole seals q gained (Err e) h = nothing gained h.0
 
+once_whole : (keys : Keying) (seals : Bool) (q : List ℕ × List ℤ) (gained : List Did) (out : List ℕ) → IsOnceAnswer keys seals q gained out → AllGot gained
+once_whole KnowsNoKeys seals q gained out h = nothing gained h.0
+once_whole KeepsNoKeys seals q gained out h = nothing gained h.0
+once_whole KeepsKeys seals q gained out h = ⊎_elim
+    (λ (called : IsCallAnswer seals q gained out). call_whole seals q gained called.0 called.1)
+    (λ (kept : IsKeptAnswer gained out). nothing gained kept.0)
+    h
+
 -- ---- a batch
 
 no_asked : (answers : List (Result Receipt Refusal)) (a : Asking) → Contains (gots_of answers) (Asked a) → ⊥
@@ -96,6 +104,7 @@ request_whole : (ways : Ways) (may_seal : ℕ → Type 0) (r : LineValue) (gaine
 request_whole ways may_seal (Registers name text) gained out h = nothing gained h.0
 request_whole ways may_seal (RegistersText text) gained out h = nothing gained h.0
 request_whole ways may_seal (Calls name args) gained out h = call_whole ways.seals (name, args) gained h.0 h.1
+request_whole ways may_seal (CallsOnce name args key) gained out h = once_whole ways.keys ways.seals (name, args) gained out h
 request_whole ways may_seal (Batches calls workers) gained out h = ⊎_elim
     (λ (refused : (gained ≡ []) × (out ≡ line_text (error_text (990 ∷ [])))). nothing gained refused.0)
     (λ (b : (answers : List (Result Receipt Refusal)) × AnswersEach h.0 answers × AreCallRefusals ways.seals answers × (gained ≡ asked_of h.0 answers ++ gots_of answers) × (out ≡ line_text (batch_text answers))).

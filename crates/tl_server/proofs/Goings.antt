@@ -10,7 +10,7 @@ use Rattle.tl_server.specs.declared.request.TheConstants.{MAX_LINE}
 use Rattle.tl_server.specs.declared.reader.Came.TheVariants.{Whole, Rest, End}
 use Rattle.tl_server.specs.declared.fault.LineFault.{LineFault}
 use Rattle.tl_server.specs.declared.fault.LineFault.TheVariants as fault
-use Rattle.tl_server.specs.Requests.{LineValue, Registers, RegistersText, Calls, Batches, Grows, Seals, Closes, IsRequest, IsLineFault}
+use Rattle.tl_server.specs.Requests.{LineValue, Registers, RegistersText, Calls, CallsOnce, Batches, Grows, Seals, Closes, IsRequest, IsLineFault}
 use Rattle.tl_server.specs.Served.{Ways, SealOutcome, Answered, AnswersRequest, AnswersLine, ClosesLine, IsAnswer, AnsweredAll}
 use Rattle.tl_server.specs.Lines.{with_lfs, HasNoLf, NoLfs, lines_of, onto_first}
 use Rattle.tl_server.specs.Devices.{Adds, AddsPart}
@@ -125,6 +125,7 @@ pub may_line : (ways : Ways) (may may' : ℕ → Type 0) (r : LineValue) (g : Li
 may_line ways may may' (Registers name text) g o h a = a
 may_line ways may may' (RegistersText text) g o h a = a
 may_line ways may may' (Calls name args) g o h a = a
+may_line ways may may' (CallsOnce name args key) g o h a = a
 may_line ways may may' (Batches calls workers) g o h a = a
 may_line ways may may' (Grows parents) g o h a = a
 may_line ways may may' Seals g o h a = (a.0, (a.1.0, may_seal_too ways.seals may may' a.1.0 h a.1.1, a.1.2))

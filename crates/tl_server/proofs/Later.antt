@@ -14,19 +14,22 @@ use Rattle.tl_workers.specs.declared.session.Did.{Did}
 use Rattle.tl_workers.specs.declared.session.Did.TheVariants.{Asked, Got}
 use Rattle.tl_workers.specs.Kept.{asking, AnswersEach, asked_of, gots_of}
 use Rattle.tl_workers.specs.Refusals.{AreCallRefusals, numbers_of}
-use Rattle.tl_server.specs.Answers.{line_text, error_text, one_text, batch_text, register_text, text_register_text, growth_text, seal_text}
-use Rattle.tl_server.specs.Requests.{LineValue, Registers, RegistersText, Calls, Batches, Grows, Seals, Closes, line_view}
+use Rattle.tl_keys.specs.Kept.{KeptValue}
+use Rattle.tl_server.specs.declared.fault.KeyFault.TheVariants.{NoStore}
+use Rattle.tl_server.specs.Faults.{key_numbers_of}
+use Rattle.tl_server.specs.Answers.{line_text, error_text, one_text, kept_text, batch_text, register_text, text_register_text, growth_text, seal_text}
+use Rattle.tl_server.specs.Requests.{LineValue, Registers, RegistersText, Calls, CallsOnce, Batches, Grows, Seals, Closes, line_view}
 use Rattle.tl_server.specs.declared.request.LineRequest.{LineRequest}
-use Rattle.tl_server.specs.declared.request.LineRequest.TheVariants.{Register, RegisterText, Call, Batch, Grow, Seal, Close}
+use Rattle.tl_server.specs.declared.request.LineRequest.TheVariants.{Register, RegisterText, Call, CallOnce, Batch, Grow, Seal, Close}
 use Rattle.tl_server.specs.Gaining.{later_all}
 use Rattle.tl_server.specs.declared.outcome.Done.{Done}
-use Rattle.tl_server.specs.Served.{Ways, TextReader, TextReading, NoTexts, ReadBy, IsTextAnswer, CallOutcome, SealOutcome, IsSealable, IsBatchAnswer, IsGrowthAnswer, AnswersRequest}
-use Rattle.tl_server.specs.declared.outcome.RequestOutcome.TheVariants.{Registered, RegisteredAll, Called, Batched, Grown, Unknown, Sealed}
+use Rattle.tl_server.specs.Served.{Ways, TextReader, TextReading, NoTexts, ReadBy, Keying, KnowsNoKeys, KeepsNoKeys, KeepsKeys, IsOnceAnswer, IsTextAnswer, CallOutcome, SealOutcome, IsSealable, IsBatchAnswer, IsGrowthAnswer, AnswersRequest}
+use Rattle.tl_server.specs.declared.outcome.RequestOutcome.TheVariants.{Registered, RegisteredAll, Called, Recalled, KeyRefused, Batched, Grown, Unknown, Sealed}
 use Rattle.tl_server.specs.declared.outcome.RequestOutcome.{RequestOutcome}
 use Rattle.tl_server.specs.declared.texts.NamedBounds.{NamedBounds}
 use Rattle.tl_server.specs.declared.texts.TextFault.{TextFault}
 use Rattle.tl_server.proofs.Goings.{may_line}
-use Rattle.tl_server.specs.Outcomes.{BatchOutcome, IsProvided, IsUnknown, IsRegisteredText, IsGrowth, outcome_text, CameOf, later, later_answer, later_seal, later_did, IsSealableAt, GoesOnFrom}
+use Rattle.tl_server.specs.Outcomes.{BatchOutcome, IsProvided, IsUnknown, IsRegisteredText, IsCalledOrRecalled, IsKeyRefused, IsCalledOnce, IsGrowth, outcome_text, CameOf, later, later_answer, later_seal, later_did, IsSealableAt, GoesOnFrom}
 
 map_both : {A B C : Type 0} (f : B → C) (g : A → B) (xs : List A) → map (λ a. f (g a)) xs ≡ map f (map g xs)
 map_both f g [] = refl
@@ -98,11 +101,43 @@ text_unknown : (reads : TextReading) (text : List ℕ) (own : List Did) (base : 
 text_unknown (ReadBy reader) text own base w = absurd w
 text_unknown NoTexts text own base w = (ap (map (later_did base)) w, refl)
 
+-- of a call with a key there is no other outcome than that of the call, what came of the one that had the key, or that the key is refused or not known
+no_once : (keys : Keying) (seals : Bool) (q : List ℕ × List ℤ) (own : List Did) (o : RequestOutcome) → (IsUnknown own o → ⊥) → (IsKeyRefused own o → ⊥) → (IsCalledOrRecalled seals q own o → ⊥)
+    → IsCalledOnce keys seals q own o → ⊥
+no_once KnowsNoKeys seals q own o unknown refused called w = unknown w
+no_once KeepsNoKeys seals q own o unknown refused called w = refused w
+no_once KeepsKeys seals q own o unknown refused called w = called w
+
+called_once : (keys : Keying) (seals : Bool) (q : List ℕ × List ℤ) (own : List Did) (base : ℕ) (a : Result Receipt Refusal) → IsCalledOnce keys seals q own (Called a)
+    → IsOnceAnswer keys seals q (map (later_did base) own) (line_text (one_text (later_answer base a)))
+called_once KnowsNoKeys seals q own base a w = absurd w
+called_once KeepsNoKeys seals q own base a w = absurd w
+called_once KeepsKeys seals q own base a w = inl (later_answer base a, call_later seals base q own a w, refl)
+
+recalled_once : (keys : Keying) (seals : Bool) (q : List ℕ × List ℤ) (own : List Did) (base : ℕ) (kept : KeptValue) → IsCalledOnce keys seals q own (Recalled kept)
+    → IsOnceAnswer keys seals q (map (later_did base) own) (line_text (kept_text kept))
+recalled_once KnowsNoKeys seals q own base kept w = absurd w
+recalled_once KeepsNoKeys seals q own base kept w = absurd w
+recalled_once KeepsKeys seals q own base kept w = inr (ap (map (later_did base)) w, (kept, refl))
+
+refused_once : (keys : Keying) (seals : Bool) (q : List ℕ × List ℤ) (own : List Did) (base : ℕ) → IsCalledOnce keys seals q own (KeyRefused NoStore)
+    → IsOnceAnswer keys seals q (map (later_did base) own) (line_text (error_text (key_numbers_of NoStore)))
+refused_once KnowsNoKeys seals q own base w = absurd w
+refused_once KeepsNoKeys seals q own base w = (ap (map (later_did base)) w, refl)
+refused_once KeepsKeys seals q own base w = absurd w
+
+unknown_once : (keys : Keying) (seals : Bool) (q : List ℕ × List ℤ) (own : List Did) (base : ℕ) → IsCalledOnce keys seals q own Unknown
+    → IsOnceAnswer keys seals q (map (later_did base) own) (line_text (error_text (901 ∷ [])))
+unknown_once KnowsNoKeys seals q own base w = (ap (map (later_did base)) w, refl)
+unknown_once KeepsNoKeys seals q own base w = absurd w
+unknown_once KeepsKeys seals q own base w = absurd w
+
 registered : (ways : Ways) (r : LineValue) (own : List Did) (base : ℕ) (a : Result Bounds RegisterFault) → CameOf ways r own (Registered a)
     → AnswersRequest ways (IsSealableAt base) r (map (later_did base) own) (line_text (register_text a))
 registered ways (Registers name text) own base a w = (ap (map (later_did base)) w.0, (a, w.1, refl))
 registered ways (RegistersText text) own base a w = absurd (neither ways.reads text own (Registered a) (λ reader v. v) (λ v. v) w)
 registered ways (Calls name args) own base a w = absurd w
+registered ways (CallsOnce name args key) own base a w = absurd (no_once ways.keys ways.seals (name, args) own (Registered a) (λ v. v) (λ v. v) (λ v. v) w)
 registered ways (Batches calls workers) own base a w = absurd w
 registered ways (Grows parents) own base a w = absurd w
 registered ways Seals own base a w = absurd w
@@ -113,6 +148,7 @@ registered_all : (ways : Ways) (r : LineValue) (own : List Did) (base : ℕ) (a 
 registered_all ways (Registers name text) own base a w = absurd w
 registered_all ways (RegistersText text) own base a w = text_registered ways.reads text own base a w
 registered_all ways (Calls name args) own base a w = absurd w
+registered_all ways (CallsOnce name args key) own base a w = absurd (no_once ways.keys ways.seals (name, args) own (RegisteredAll a) (λ v. v) (λ v. v) (λ v. v) w)
 registered_all ways (Batches calls workers) own base a w = absurd w
 registered_all ways (Grows parents) own base a w = absurd w
 registered_all ways Seals own base a w = absurd w
@@ -123,16 +159,40 @@ called : (ways : Ways) (r : LineValue) (own : List Did) (base : ℕ) (a : Result
 called ways (Registers name text) own base a w = absurd w
 called ways (RegistersText text) own base a w = absurd (neither ways.reads text own (Called a) (λ reader v. v) (λ v. v) w)
 called ways (Calls name args) own base a w = (later_answer base a, call_later ways.seals base (name, args) own a w, refl)
+called ways (CallsOnce name args key) own base a w = called_once ways.keys ways.seals (name, args) own base a w
 called ways (Batches calls workers) own base a w = absurd w
 called ways (Grows parents) own base a w = absurd w
 called ways Seals own base a w = absurd w
 called ways Closes own base a w = absurd w
+
+recalled : (ways : Ways) (r : LineValue) (own : List Did) (base : ℕ) (kept : KeptValue) → CameOf ways r own (Recalled kept)
+    → AnswersRequest ways (IsSealableAt base) r (map (later_did base) own) (line_text (kept_text kept))
+recalled ways (Registers name text) own base kept w = absurd w
+recalled ways (RegistersText text) own base kept w = absurd (neither ways.reads text own (Recalled kept) (λ reader v. v) (λ v. v) w)
+recalled ways (Calls name args) own base kept w = absurd w
+recalled ways (CallsOnce name args key) own base kept w = recalled_once ways.keys ways.seals (name, args) own base kept w
+recalled ways (Batches calls workers) own base kept w = absurd w
+recalled ways (Grows parents) own base kept w = absurd w
+recalled ways Seals own base kept w = absurd w
+recalled ways Closes own base kept w = absurd w
+
+key_refused : (ways : Ways) (r : LineValue) (own : List Did) (base : ℕ) → CameOf ways r own (KeyRefused NoStore)
+    → AnswersRequest ways (IsSealableAt base) r (map (later_did base) own) (line_text (error_text (key_numbers_of NoStore)))
+key_refused ways (Registers name text) own base w = absurd w
+key_refused ways (RegistersText text) own base w = absurd (neither ways.reads text own (KeyRefused NoStore) (λ reader v. v) (λ v. v) w)
+key_refused ways (Calls name args) own base w = absurd w
+key_refused ways (CallsOnce name args key) own base w = refused_once ways.keys ways.seals (name, args) own base w
+key_refused ways (Batches calls workers) own base w = absurd w
+key_refused ways (Grows parents) own base w = absurd w
+key_refused ways Seals own base w = absurd w
+key_refused ways Closes own base w = absurd w
 
 batched : (ways : Ways) (r : LineValue) (own : List Did) (base : ℕ) (v : Vec (Result Receipt Refusal) Global) → CameOf ways r own (Batched (Ok v))
     → AnswersRequest ways (IsSealableAt base) r (map (later_did base) own) (line_text (batch_text (map (later_answer base) v.items)))
 batched ways (Registers name text) own base v w = absurd w
 batched ways (RegistersText text) own base v w = absurd (neither ways.reads text own (Batched (Ok v)) (λ reader v. v) (λ v. v) w)
 batched ways (Calls name args) own base v w = absurd w
+batched ways (CallsOnce name args key) own base v w = absurd (no_once ways.keys ways.seals (name, args) own (Batched (Ok v)) (λ v. v) (λ v. v) (λ v. v) w)
 batched ways (Batches calls workers) own base v w = (w.0, w.1, batch_later ways.seals base w.0 own v w.2)
 batched ways (Grows parents) own base v w = absurd w
 batched ways Seals own base v w = absurd w
@@ -143,6 +203,7 @@ unbatched : (ways : Ways) (r : LineValue) (own : List Did) (base : ℕ) (e : Ref
 unbatched ways (Registers name text) own base e w = absurd w
 unbatched ways (RegistersText text) own base e w = absurd (neither ways.reads text own (Batched (Err e)) (λ reader v. v) (λ v. v) w)
 unbatched ways (Calls name args) own base e w = absurd w
+unbatched ways (CallsOnce name args key) own base e w = absurd (no_once ways.keys ways.seals (name, args) own (Batched (Err e)) (λ v. v) (λ v. v) (λ v. v) w)
 unbatched ways (Batches calls workers) own base e w =
     (w.0, w.1, inl (ap (map (later_did base)) w.2.0, ap (λ f. line_text (error_text (numbers_of f))) w.2.1))
 unbatched ways (Grows parents) own base e w = absurd w
@@ -154,6 +215,7 @@ sealed : (ways : Ways) (r : LineValue) (own : List Did) (base : ℕ) (a : Result
 sealed ways (Registers name text) own base a w = absurd w
 sealed ways (RegistersText text) own base a w = absurd (neither ways.reads text own (Sealed a) (λ reader v. v) (λ v. v) w)
 sealed ways (Calls name args) own base a w = absurd w
+sealed ways (CallsOnce name args key) own base a w = absurd (no_once ways.keys ways.seals (name, args) own (Sealed a) (λ v. v) (λ v. v) (λ v. v) w)
 sealed ways (Batches calls workers) own base a w = absurd w
 sealed ways (Grows parents) own base a w = absurd w
 sealed ways Seals own base a w = (ap (map (later_did base)) w.0, (later_seal base a, seal_later ways.seals base a w.1, refl))
@@ -164,6 +226,7 @@ grown : (ways : Ways) (r : LineValue) (own : List Did) (base : ℕ) (a : Result 
 grown ways (Registers name text) own base a w = absurd w
 grown ways (RegistersText text) own base a w = absurd (neither ways.reads text own (Grown a) (λ reader v. v) (λ v. v) w)
 grown ways (Calls name args) own base a w = absurd w
+grown ways (CallsOnce name args key) own base a w = absurd (no_once ways.keys ways.seals (name, args) own (Grown a) (λ v. v) (λ v. v) (λ v. v) w)
 grown ways (Batches calls workers) own base a w = absurd w
 grown ways (Grows parents) own base a w =
     (ap (map (later_did base)) w.1, subst (λ b. IsGrowthAnswer b parents (line_text (growth_text a))) (sym w.0) (a, w.2, w.3, refl))
@@ -175,6 +238,7 @@ unknown : (ways : Ways) (r : LineValue) (own : List Did) (base : ℕ) → CameOf
 unknown ways (Registers name text) own base w = absurd w
 unknown ways (RegistersText text) own base w = text_unknown ways.reads text own base w
 unknown ways (Calls name args) own base w = absurd w
+unknown ways (CallsOnce name args key) own base w = unknown_once ways.keys ways.seals (name, args) own base w
 unknown ways (Batches calls workers) own base w = absurd w
 unknown ways (Grows parents) own base w =
     (ap (map (later_did base)) w.1, subst (λ b. IsGrowthAnswer b parents (line_text (error_text (901 ∷ [])))) (sym w.0) refl)
@@ -186,6 +250,8 @@ answered : (ways : Ways) (r : LineValue) (own : List Did) (base : ℕ) (o : Requ
 answered ways r own base (Registered a) w = registered ways r own base a w
 answered ways r own base (RegisteredAll a) w = registered_all ways r own base a w
 answered ways r own base (Called a) w = called ways r own base a w
+answered ways r own base (Recalled kept) w = recalled ways r own base kept w
+answered ways r own base (KeyRefused NoStore) w = key_refused ways r own base w
 answered ways r own base (Batched (Ok v)) w = batched ways r own base v w
 answered ways r own base (Batched (Err e)) w = unbatched ways r own base e w
 answered ways r own base (Grown a) w = grown ways r own base a w
@@ -200,31 +266,33 @@ answered_for ways may r own base o came sealable =
     (λ n is. subst may (sym is.2) (sealable is.0 is.1)) (answered ways r own base o came)
 
 -- what an engine does for a request other than growth doesn't depend on whether nodes can be appended
-pub grows_too : (seals grows : Bool) (reads : TextReading) (r : LineValue) (own : List Did) (o : RequestOutcome) → ((parents : List ℤ) → r ≡ Grows parents → grows ≡ false)
-    → CameOf (record { seals = seals; grows = false; reads = reads }) r own o → CameOf (record { seals = seals; grows = grows; reads = reads }) r own o
-grows_too seals grows reads (Registers name text) own o other w = w
-grows_too seals grows reads (RegistersText text) own o other w = w
-grows_too seals grows reads (Calls name args) own o other w = w
-grows_too seals grows reads (Batches calls workers) own o other w = w
-grows_too seals grows reads (Grows parents) own o other w = subst (λ b. IsGrowth b parents own o) (sym (other parents refl)) w
-grows_too seals grows reads Seals own o other w = w
-grows_too seals grows reads Closes own o other w = w
+pub grows_too : (seals grows : Bool) (reads : TextReading) (keys : Keying) (r : LineValue) (own : List Did) (o : RequestOutcome) → ((parents : List ℤ) → r ≡ Grows parents → grows ≡ false)
+    → CameOf (record { seals = seals; grows = false; reads = reads; keys = keys }) r own o → CameOf (record { seals = seals; grows = grows; reads = reads; keys = keys }) r own o
+grows_too seals grows reads keys (Registers name text) own o other w = w
+grows_too seals grows reads keys (RegistersText text) own o other w = w
+grows_too seals grows reads keys (Calls name args) own o other w = w
+grows_too seals grows reads keys (CallsOnce name args key) own o other w = w
+grows_too seals grows reads keys (Batches calls workers) own o other w = w
+grows_too seals grows reads keys (Grows parents) own o other w = subst (λ b. IsGrowth b parents own o) (sym (other parents refl)) w
+grows_too seals grows reads keys Seals own o other w = w
+grows_too seals grows reads keys Closes own o other w = w
 
 -- the same for a relay that uses one of its engines
-pub performed : (grows : Bool) (reads : TextReading) (r : LineValue) (old new : ℕ) (o : Option Done) → ((parents : List ℤ) → r ≡ Grows parents → grows ≡ false)
-    → IfSome o (λ d. (own : List Did) × CameOf (record { seals = true; grows = false; reads = reads }) r own d.outcome) → IfSome o (λ d. (old ≤ d.base) × (new ≡ d.base))
-    → IfSome o (λ d. (own : List Did) × CameOf (record { seals = true; grows = grows; reads = reads }) r own d.outcome × GoesOnFrom old new (map (later_did d.base) own))
-performed grows reads r old new None other came later = tt
-performed grows reads r old new (Some d) other came later =
+pub performed : (grows : Bool) (reads : TextReading) (keys : Keying) (r : LineValue) (old new : ℕ) (o : Option Done) → ((parents : List ℤ) → r ≡ Grows parents → grows ≡ false)
+    → IfSome o (λ d. (own : List Did) × CameOf (record { seals = true; grows = false; reads = reads; keys = keys }) r own d.outcome) → IfSome o (λ d. (old ≤ d.base) × (new ≡ d.base))
+    → IfSome o (λ d. (own : List Did) × CameOf (record { seals = true; grows = grows; reads = reads; keys = keys }) r own d.outcome × GoesOnFrom old new (map (later_did d.base) own))
+performed grows reads keys r old new None other came later = tt
+performed grows reads keys r old new (Some d) other came later =
     let (own, done) = came in
     let from = later.0 in
-    (own, grows_too true grows reads r own d.outcome other done, (omega (arith, from, later.1), later_all old d.base own from))
+    (own, grows_too true grows reads keys r own d.outcome other done, (omega (arith, from, later.1), later_all old d.base own from))
 
 -- a request of another kind doesn't append nodes
 pub no_growth : (q : LineRequest) → ((parents : Vec ℤ Global) → q ≡ Grow parents → ⊥) → (parents : List ℤ) → line_view q ≡ Grows parents → ⊥
 no_growth (Register p) other parents is = cc
 no_growth (RegisterText text) other parents is = cc
 no_growth (Call q) other parents is = cc
+no_growth (CallOnce q) other parents is = cc
 no_growth (Batch b) other parents is = cc
 no_growth (Grow ps) other parents is = other ps refl
 no_growth Seal other parents is = cc

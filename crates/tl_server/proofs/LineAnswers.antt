@@ -1,22 +1,25 @@
 -- The answer to a line.
-use Rattle.std.proofs.Common.{◌≡◌, ◌≢◌, ◌+◌, ◌<◌, ◌⊎◌, ◌++◌, List, ℕ, [], refl, inl, inr, Bool, true}
-use Rattle.std.specs.Prelude.{Result, Ok, Err, IfOk, IfErr, Vec}
+use Rattle.std.proofs.Common.{◌≡◌, ◌≢◌, ◌+◌, ◌<◌, ◌⊎◌, ◌++◌, List, ℕ, ℤ, [], refl, sym, ◌∙◌, inl, inr, Bool, true, false}
+use Rattle.std.specs.Prelude.{◌↔◌, Result, Ok, Err, IfOk, IfErr, Vec}
 use Rattle.std.specs.declared.alloc.Global.{Global}
 use Rattle.tl_procedures.specs.declared.request.Request.{Request}
 use Rattle.tl_table.specs.declared.receipt.Receipt.{Receipt}
 use Rattle.tl_workers.specs.declared.refusal.Refusal.TheVariants as refusal
-use Rattle.tl_workers.specs.Kept.{SessionValue, Gains, AnswersEach, asked_of, gots_of}
-use Rattle.tl_server.specs.Outcomes.{BatchOutcome}
+use Rattle.tl_workers.specs.Kept.{SessionValue, Gains, AnswersEach, asked_of, call_of, gots_of}
+use Rattle.tl_server.specs.Outcomes.{BatchOutcome, IsCalledOnce}
+use Rattle.tl_server.specs.declared.outcome.RequestOutcome.TheVariants.{Called}
+use Rattle.tl_server.specs.declared.journal.Claim.{Claim}
+use Rattle.tl_server.specs.declared.journal.Claim.TheVariants.{Granted, NoStore}
 use Rattle.tl_workers.specs.declared.refusal.Refusal.{Refusal}
 use Rattle.tl_table.specs.declared.epoch.TheConstants.{MAX_EPOCHS}
-use Rattle.tl_workers.specs.Refusals.{AreCallRefusals, IsSealRefused, IsRestedSealRefused}
+use Rattle.tl_workers.specs.Refusals.{IsCallRefusal, AreCallRefusals, IsSealRefused, IsRestedSealRefused}
 use Rattle.tl_server.specs.declared.fault.LineFault.{LineFault}
 use Rattle.tl_server.specs.declared.fault.LineFault.TheVariants as fault
 use Rattle.tl_server.specs.Faults.{numbers_of}
 use Rattle.tl_workers.specs.declared.session.Did.{Did}
 use Rattle.tl_server.specs.Requests.{LineValue, IsRequest, IsLineFault}
 use Rattle.tl_server.specs.Answers.{line_text, error_text}
-use Rattle.tl_server.specs.Served.{Ways, AnswersLine, AnswersRequest, IsRefused, IsSealable, SealOutcome}
+use Rattle.tl_server.specs.Served.{keying, Ways, AnswersLine, AnswersRequest, IsRefused, IsSealable, SealOutcome}
 
 -- a line that isn't read as a request
 pub faulted : (ways : Ways) (may_seal : ℕ → Type 0) (line : List ℕ) (f : LineFault) → (f ≢ fault.Memory → IsLineFault line f) → AnswersLine ways may_seal line [] (line_text (error_text (numbers_of f)))
@@ -30,6 +33,13 @@ pub seal_outcome : (seals : Bool) (answer : Result ℕ Refusal) → IfOk answer 
     → SealOutcome seals IsSealable answer
 seal_outcome seals (Ok epoch) few h rested = few
 seal_outcome seals (Err e) few h rested = (h, rested)
+
+-- the call that was run since its key was free
+pub granted : (storing : Bool) (claim : Claim) (seals : Bool) (q : List ℕ × List ℤ) (answer : Result Receipt Refusal) → ((claim ≡ NoStore) ↔ (storing ≡ false)) → claim ≡ Granted
+    → IfOk answer (λ r. r.args.items ≡ q.1) → IfErr answer (IsCallRefusal seals) → (own : List Did) × IsCalledOnce (keying storing) seals q own (Called answer)
+granted true claim seals q (Ok r) none is args refused = (call_of q.0 q.1 r, (args, refl))
+granted true claim seals q (Err e) none is args refused = ([], (refl, refused))
+granted false claim seals q answer none is args refused = let both : Granted ≡ NoStore = sym is ∙ none.1 refl in absurd cc
 
 -- the answer to a request is the answer to a line that contains it
 pub asked_line : (ways : Ways) (may_seal : ℕ → Type 0) (line : List ℕ) (r : LineValue) (gained : List Did) (out : List ℕ) → IsRequest line r → (IsRefused gained out ⊎ AnswersRequest ways may_seal r gained out)

@@ -1,4 +1,4 @@
--- Texts of procedures.
+-- Texts of procedures, and keys.
 use Rattle.std.proofs.Common.{◌≡◌, ◌<◌, ◌+◌, ◌∙◌, ℕ, List, [], ◌∷◌, ◌++◌, Bool, false, length, take, get_or, refl, sym, ap, subst}
 use Rattle.std.proofs.lemmas.List.{take_more}
 use Rattle.std.specs.Prelude.{String, string_bytes}
@@ -7,13 +7,14 @@ use Rattle.tl_verify.specs.Procedure.{AreBounds}
 use Rattle.tl_procedures.specs.Names.{Named}
 use Rattle.tl_workers.specs.declared.session.Did.{Did}
 use Rattle.tl_server.specs.Requests.{line_view}
+use Rattle.tl_server.specs.declared.request.KeyedCall.{KeyedCall}
 use Rattle.tl_server.specs.declared.request.LineRequest.{LineRequest}
-use Rattle.tl_server.specs.declared.request.LineRequest.TheVariants.{Register, RegisterText, Call, Batch, Grow, Seal, Close}
+use Rattle.tl_server.specs.declared.request.LineRequest.TheVariants.{Register, RegisterText, Call, CallOnce, Batch, Grow, Seal, Close}
 use Rattle.tl_server.specs.declared.outcome.RequestOutcome.{RequestOutcome}
 use Rattle.tl_server.specs.declared.texts.NamedBounds.{NamedBounds}
 use Rattle.tl_server.specs.declared.texts.TextFault.{TextFault}
 use Rattle.tl_server.specs.declared.texts.TextFault.TheVariants as fault
-use Rattle.tl_server.specs.Served.{TextReader, TextReading, NoTexts, AreBoundsOf, IsUnreadable, IsTextFault}
+use Rattle.tl_server.specs.Served.{TextReader, TextReading, NoTexts, Keying, KnowsNoKeys, AreBoundsOf, IsUnreadable, IsTextFault}
 use Rattle.tl_server.specs.Outcomes.{CameOf}
 
 -- those of one more procedure
@@ -36,13 +37,15 @@ unreadable reader text (fault.Text numbers) is = is
 unreadable reader text (fault.Name f) is = absurd is
 unreadable reader text fault.Memory is = tt
 
--- what an engine does for a request other than the registration of a text doesn't depend on who reads texts
-pub reads_too : (seals : Bool) (reads : TextReading) (q : LineRequest) (own : List Did) (o : RequestOutcome) → ((text : String Global) → q ≡ RegisterText text → ⊥)
-    → CameOf (record { seals = seals; grows = false; reads = NoTexts }) (line_view q) own o → CameOf (record { seals = seals; grows = false; reads = reads }) (line_view q) own o
-reads_too seals reads (Register p) own o other came = came
-reads_too seals reads (RegisterText text) own o other came = absurd (other text refl)
-reads_too seals reads (Call q) own o other came = came
-reads_too seals reads (Batch b) own o other came = came
-reads_too seals reads (Grow parents) own o other came = came
-reads_too seals reads Seal own o other came = came
-reads_too seals reads Close own o other came = came
+-- what an engine does for a request other than the registration of a text and a call with a key doesn't depend on who reads texts and keeps keys
+pub reads_too : (seals : Bool) (reads : TextReading) (keys : Keying) (q : LineRequest) (own : List Did) (o : RequestOutcome) → ((text : String Global) → q ≡ RegisterText text → ⊥)
+    → ((call : KeyedCall) → q ≡ CallOnce call → ⊥)
+    → CameOf (record { seals = seals; grows = false; reads = NoTexts; keys = KnowsNoKeys }) (line_view q) own o → CameOf (record { seals = seals; grows = false; reads = reads; keys = keys }) (line_view q) own o
+reads_too seals reads keys (Register p) own o other once came = came
+reads_too seals reads keys (RegisterText text) own o other once came = absurd (other text refl)
+reads_too seals reads keys (Call q) own o other once came = came
+reads_too seals reads keys (CallOnce q) own o other once came = absurd (once q refl)
+reads_too seals reads keys (Batch b) own o other once came = came
+reads_too seals reads keys (Grow parents) own o other once came = came
+reads_too seals reads keys Seal own o other once came = came
+reads_too seals reads keys Close own o other once came = came

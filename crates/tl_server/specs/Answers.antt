@@ -1,11 +1,12 @@
 -- The texts of answers.
-use Rattle.std.specs.Prelude.{ℕ, ◌==◌, List, [], ◌++◌, codes, decimal, string_bytes, Result, Ok, Err, Vec, if◌then◌else◌}
+use Rattle.std.specs.Prelude.{ℕ, ℤ, ◌==◌, List, [], ◌++◌, codes, decimal, string_bytes, Result, Ok, Err, Vec, if◌then◌else◌}
 use Rattle.std.specs.declared.alloc.Global.{Global}
 use Rattle.std.specs.Fmt.{signed_decimal}
 use Rattle.tl_tree.specs.Writing.{list_text}
 use Rattle.tl_table.specs.declared.receipt.Receipt.{Receipt}
 use Rattle.tl_budget.specs.declared.limits.Bounds.{Bounds}
 use Rattle.tl_json.specs.declared.fault.RegisterFault.{RegisterFault}
+use Rattle.tl_keys.specs.Kept.{KeptValue}
 use Rattle.tl_json.specs.Faults.{numbers_of as register_numbers_of}
 use Rattle.tl_generations.specs.declared.growth.GrowthFault.{GrowthFault}
 use Rattle.tl_generations.specs.Growth.{numbers_of as growth_numbers_of}
@@ -30,6 +31,16 @@ epoch_text epoch = if epoch == 0 then [] else codes ",\"epoch\":" ++ decimal epo
 abbrev pub call_text : Receipt → List ℕ
 call_text r =
     codes "{\"call\":" ++ decimal r.call ++ epoch_text r.epoch ++ codes ",\"reply\":" ++ list_text signed_decimal r.reply.items ++ codes "}"
+
+-- a call that had its key before: its number, its reply, and the number of its epoch in the store
+abbrev pub head_text : ℤ → List ℕ
+head_text call = codes "{\"call\":" ++ signed_decimal call ++ codes ",\"reply\":"
+
+abbrev pub stored_text : ℤ → List ℕ
+stored_text epoch = codes ",\"stored\":" ++ signed_decimal epoch ++ codes "}"
+
+abbrev pub kept_text : KeptValue → List ℕ
+kept_text k = head_text k.call ++ list_text signed_decimal k.reply ++ stored_text k.epoch
 
 abbrev pub error_text : List ℕ → List ℕ
 error_text numbers = codes "{\"error\":" ++ list_text decimal numbers ++ codes "}"

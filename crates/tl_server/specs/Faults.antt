@@ -3,6 +3,8 @@ use Rattle.std.specs.Prelude.{ℕ, List, [], ◌∷◌}
 use Rattle.tl_procedures.specs.Faults.{numbers_of as name_numbers_of}
 use Rattle.tl_server.specs.declared.texts.TextFault.{TextFault}
 use Rattle.tl_server.specs.declared.texts.TextFault.TheVariants as text
+use Rattle.tl_server.specs.declared.fault.KeyFault.{KeyFault}
+use Rattle.tl_server.specs.declared.fault.KeyFault.TheVariants.{NoStore}
 use Rattle.tl_server.specs.declared.fault.ServeFault.{ServeFault}
 use Rattle.tl_server.specs.declared.fault.ServeFault.TheVariants as serve
 use Rattle.tl_server.specs.declared.fault.ListenFault.{ListenFault}
@@ -18,6 +20,10 @@ numbers_of NotRequest = 901 ∷ []
 numbers_of TooLong = 902 ∷ []
 numbers_of NotUtf8 = 903 ∷ []
 numbers_of Memory = 990 ∷ []
+
+-- the number of the reason why a call with a key isn't run
+abbrev pub key_numbers_of : KeyFault → List ℕ
+key_numbers_of NoStore = 1015 ∷ []
 
 -- the numbers of the reason why the procedures of a text aren't registered
 abbrev pub text_numbers_of : TextFault → List ℕ

@@ -11,20 +11,22 @@ use Rattle.tl_workers.specs.declared.session.Did.{Did}
 use Rattle.tl_workers.specs.declared.session.Did.TheVariants.{Asked, Got}
 use Rattle.tl_workers.specs.Kept.{AnswersEach, asked_of, gots_of}
 use Rattle.tl_workers.specs.Refusals.{AreCallRefusals}
-use Rattle.tl_server.specs.Requests.{LineValue, Registers, RegistersText, Calls, Batches, Grows, Seals, Closes}
+use Rattle.tl_server.specs.Requests.{LineValue, Registers, RegistersText, Calls, CallsOnce, Batches, Grows, Seals, Closes}
 use Rattle.tl_workers.specs.Refusals.{numbers_of as refusal_numbers_of}
 use Rattle.tl_server.specs.declared.fault.LineFault.TheVariants.{NotRequest}
-use Rattle.tl_server.specs.Faults.{numbers_of}
-use Rattle.tl_server.specs.Answers.{one_text, error_text, batch_text, register_text, text_register_text, growth_text, seal_text}
-use Rattle.tl_server.specs.Served.{Ways, TextReader, TextReading, NoTexts, ReadBy, RegisterOutcome, TextOutcome, CallOutcome, GrowthOutcome, SealOutcome, IsSealable}
+use Rattle.tl_server.specs.declared.fault.KeyFault.TheVariants.{NoStore}
+use Rattle.tl_server.specs.Faults.{numbers_of, key_numbers_of}
+use Rattle.tl_server.specs.Answers.{one_text, kept_text, error_text, batch_text, register_text, text_register_text, growth_text, seal_text}
+use Rattle.tl_server.specs.Served.{Ways, TextReader, TextReading, NoTexts, ReadBy, Keying, KnowsNoKeys, KeepsNoKeys, KeepsKeys, RegisterOutcome, TextOutcome, CallOutcome, GrowthOutcome, SealOutcome, IsSealable}
 use Rattle.tl_server.specs.declared.outcome.RequestOutcome.{RequestOutcome}
-use Rattle.tl_server.specs.declared.outcome.RequestOutcome.TheVariants.{Registered, RegisteredAll, Called, Batched, Grown, Unknown, Sealed}
+use Rattle.tl_server.specs.declared.outcome.RequestOutcome.TheVariants.{Registered, RegisteredAll, Called, Recalled, KeyRefused, Batched, Grown, Unknown, Sealed}
 
 -- a request that an engine carries out
 abbrev pub IsAsked : LineValue → Type 0
 IsAsked (Registers name text) = Unit {0}
 IsAsked (RegistersText text) = Unit {0}
 IsAsked (Calls name args) = Unit {0}
+IsAsked (CallsOnce name args key) = Unit {0}
 IsAsked (Batches calls workers) = Unit {0}
 IsAsked (Grows parents) = Unit {0}
 IsAsked Seals = Unit {0}
@@ -54,6 +56,22 @@ abbrev pub IsCalled : Bool → List ℕ → List ℤ → List Did → RequestOut
 IsCalled seals name args gained (Called answer) = CallOutcome seals (name, args) gained answer
 IsCalled seals name args gained _ = ⊥
 
+-- the call of a request with a key, or what came of the one that had the key before
+abbrev pub IsCalledOrRecalled : Bool → List ℕ × List ℤ → List Did → RequestOutcome → Type 0
+IsCalledOrRecalled seals q gained (Called answer) = CallOutcome seals q gained answer
+IsCalledOrRecalled seals q gained (Recalled kept) = gained ≡ []
+IsCalledOrRecalled seals q gained _ = ⊥
+
+-- the key is refused, since nothing is stored
+abbrev pub IsKeyRefused : List Did → RequestOutcome → Type 0
+IsKeyRefused gained (KeyRefused NoStore) = gained ≡ []
+IsKeyRefused gained _ = ⊥
+
+abbrev pub IsCalledOnce : Keying → Bool → List ℕ × List ℤ → List Did → RequestOutcome → Type 0
+IsCalledOnce KnowsNoKeys seals q gained outcome = IsUnknown gained outcome
+IsCalledOnce KeepsNoKeys seals q gained outcome = IsKeyRefused gained outcome
+IsCalledOnce KeepsKeys seals q gained outcome = IsCalledOrRecalled seals q gained outcome
+
 -- an answer to each request, or a refusal for lack of memory
 abbrev pub BatchOutcome : Bool → List Request → List Did → Result (Vec (Result Receipt Refusal) Global) Refusal → Type 0
 BatchOutcome seals requests gained (Ok v) =
@@ -77,6 +95,7 @@ abbrev pub CameOf : Ways → LineValue → List Did → RequestOutcome → Type 
 CameOf ways (Registers name text) gained outcome = IsRegistered name text gained outcome
 CameOf ways (RegistersText text) gained outcome = IsRegisteredText ways.reads text gained outcome
 CameOf ways (Calls name args) gained outcome = IsCalled ways.seals name args gained outcome
+CameOf ways (CallsOnce name args key) gained outcome = IsCalledOnce ways.keys ways.seals (name, args) gained outcome
 CameOf ways (Batches calls workers) gained outcome = IsBatched ways.seals calls gained outcome
 CameOf ways (Grows parents) gained outcome = IsGrowth ways.grows parents gained outcome
 CameOf ways Seals gained outcome = IsSealed ways.seals gained outcome
@@ -106,6 +125,8 @@ abbrev pub outcome_text : ℕ → RequestOutcome → List ℕ
 outcome_text base (Registered answer) = register_text answer
 outcome_text base (RegisteredAll answer) = text_register_text answer
 outcome_text base (Called answer) = one_text (later_answer base answer)
+outcome_text base (Recalled kept) = kept_text kept
+outcome_text base (KeyRefused fault) = error_text (key_numbers_of fault)
 outcome_text base (Batched answer) = batch_answer_text base answer
 outcome_text base (Grown answer) = growth_text answer
 outcome_text base Unknown = error_text (numbers_of NotRequest)

@@ -9,18 +9,19 @@ use Rattle.tl_tree.specs.Reading.{both, integer_of, integers_of}
 use Rattle.tl_json.specs.Lists.{each_of}
 use Rattle.tl_json.specs.Requests.{request_form, request_of}
 use Rattle.tl_workers.specs.declared.batch.TheConstants.{MAX_REQUESTS, MAX_WORKERS}
-use Rattle.tl_server.specs.declared.request.TheConstants.{MAX_LINE}
+use Rattle.tl_server.specs.declared.request.TheConstants.{MAX_LINE, MAX_KEY}
 use Rattle.tl_server.specs.declared.request.LineRequest.{LineRequest}
-use Rattle.tl_server.specs.declared.request.LineRequest.TheVariants.{Register, RegisterText, Call, Batch, Grow, Seal, Close}
+use Rattle.tl_server.specs.declared.request.LineRequest.TheVariants.{Register, RegisterText, Call, CallOnce, Batch, Grow, Seal, Close}
 use Rattle.tl_server.specs.declared.fault.LineFault.{LineFault}
 use Rattle.tl_server.specs.declared.fault.LineFault.TheVariants as fault
 
--- the name and the text of a procedure; the text of several procedures; the name and the arguments of a call; several calls and their number of threads;
+-- the name and the text of a procedure; the text of several procedures; the name and the arguments of a call, and maybe its key; several calls and their number of threads;
 -- the parents of nodes to append to the tree; the seal of an epoch; or the end of the connection
 pub data LineValue : Type 0 where
   Registers : List ℕ → List ℕ → LineValue
   RegistersText : List ℕ → LineValue
   Calls : List ℕ → List ℤ → LineValue
+  CallsOnce : List ℕ → List ℤ → List ℕ → LineValue
   Batches : List (List ℕ × List ℤ) → ℕ → LineValue
   Grows : List ℤ → LineValue
   Seals : LineValue
@@ -30,12 +31,13 @@ abbrev pub line_view : LineRequest → LineValue
 line_view (Register p) = Registers (string_bytes p.name) (string_bytes p.text)
 line_view (RegisterText text) = RegistersText (string_bytes text)
 line_view (Call q) = Calls (string_bytes q.name) q.args.items
+line_view (CallOnce q) = CallsOnce (string_bytes q.request.name) q.request.args.items (string_bytes q.key)
 line_view (Batch b) = Batches (map request_form b.requests.items) b.workers
 line_view (Grow parents) = Grows parents.items
 line_view Seal = Seals
 line_view Close = Closes
 
--- ---- the seven forms
+-- ---- the eight forms
 
 -- the value is an object with `count` members
 abbrev pub has_members : ℕ → Data → Bool
@@ -53,10 +55,19 @@ register_of d = if has_members 3 d
     then option_map (λ x. Registers x.0 x.1) (both (text_at (codes "name") d) (text_at (codes "asm") d))
     else register_text_of d
 
+-- the name and the arguments of a call
+abbrev pub request_at : Data → Option (List ℕ × List ℤ)
+request_at d = both (text_at (codes "proc") d) (option_and_then integers_of (get (codes "args") d))
+
+-- a key of 1 to 64 bytes
+abbrev pub key_of : Data → Option (List ℕ)
+key_of d = option_and_then (λ key. if nat_lt 0 (length key) && nat_le (length key) MAX_KEY then Some key else None) (text_at (codes "key") d)
+
+abbrev pub call_once_of : Data → Option LineValue
+call_once_of d = if has_members 4 d then option_map (λ x. CallsOnce x.1.0 x.1.1 x.0) (both (key_of d) (request_at d)) else None
+
 abbrev pub call_of : Data → Option LineValue
-call_of d = if has_members 3 d
-    then option_map (λ x. Calls x.0 x.1) (both (text_at (codes "proc") d) (option_and_then integers_of (get (codes "args") d)))
-    else None
+call_of d = if has_members 3 d then option_map (λ x. Calls x.0 x.1) (request_at d) else call_once_of d
 
 -- a number of workers, from 1 to 16
 abbrev pub workers_of : ℤ → Option ℕ

@@ -28,9 +28,11 @@ use Rattle.tl_server.specs.declared.texts.TextFault.{TextFault}
 use Rattle.tl_server.specs.declared.texts.TextFault.TheVariants as fault
 use Rattle.tl_server.specs.declared.fault.LineFault.{LineFault}
 use Rattle.tl_server.specs.declared.fault.LineFault.TheVariants.{NotRequest}
-use Rattle.tl_server.specs.Faults.{numbers_of}
-use Rattle.tl_server.specs.Requests.{LineValue, Registers, RegistersText, Calls, Batches, Grows, Seals, Closes, IsRequest, IsLineFault}
-use Rattle.tl_server.specs.Answers.{one_text, error_text, batch_text, register_text, text_register_text, growth_text, seal_text, closed_text, line_text}
+use Rattle.tl_server.specs.declared.fault.KeyFault.TheVariants.{NoStore}
+use Rattle.tl_server.specs.Faults.{numbers_of, key_numbers_of}
+use Rattle.tl_server.specs.Requests.{LineValue, Registers, RegistersText, Calls, CallsOnce, Batches, Grows, Seals, Closes, IsRequest, IsLineFault}
+use Rattle.tl_keys.specs.Kept.{KeptValue}
+use Rattle.tl_server.specs.Answers.{one_text, kept_text, error_text, batch_text, register_text, text_register_text, growth_text, seal_text, closed_text, line_text}
 
 -- ---- a registration
 
@@ -96,6 +98,31 @@ CallOutcome seals q gained (Err e) = (gained ≡ []) × IsCallRefusal seals e
 abbrev pub IsCallAnswer : Bool → List ℕ × List ℤ → List Did → List ℕ → Type 0
 IsCallAnswer seals q gained out = (answer : Result Receipt Refusal) × CallOutcome seals q gained answer × (out ≡ line_text (one_text answer))
 
+-- ---- calls with a key
+
+-- what is done about keys: their lines aren't known, or they are refused since nothing is stored, or they are kept
+pub data Keying : Type 0 where
+  KnowsNoKeys : Keying
+  KeepsNoKeys : Keying
+  KeepsKeys : Keying
+
+-- keys are kept where calls are stored
+abbrev pub keying : Bool → Keying
+keying true = KeepsKeys
+keying false = KeepsNoKeys
+
+-- a call had the key: this is what came of it, and nothing was done
+abbrev pub IsKeptAnswer : List Did → List ℕ → Type 0
+IsKeptAnswer gained out = (gained ≡ []) × ((kept : KeptValue) × (out ≡ line_text (kept_text kept)))
+
+-- a call's name and arguments, and the answer if it has a key
+abbrev pub IsOnceAnswer : Keying → Bool → List ℕ × List ℤ → List Did → List ℕ → Type 0
+IsOnceAnswer KnowsNoKeys seals q gained out = (gained ≡ []) × (out ≡ line_text (error_text (numbers_of NotRequest)))
+IsOnceAnswer KeepsNoKeys seals q gained out = (gained ≡ []) × (out ≡ line_text (error_text (key_numbers_of NoStore)))
+IsOnceAnswer KeepsKeys seals q gained out = IsCallAnswer seals q gained out ⊎ IsKeptAnswer gained out
+
+-- ---- many calls
+
 -- a refusal for lack of memory: nothing was done
 abbrev pub IsRefused : List Did → List ℕ → Type 0
 IsRefused gained out = (gained ≡ []) × (out ≡ line_text (error_text (990 ∷ [])))
@@ -134,12 +161,13 @@ IsGrowthAnswer false parents out = out ≡ line_text (error_text (numbers_of Not
 
 -- ---- lines, where the epochs with such numbers may be sealed
 
--- what the server can do: whether its engines seal their epochs by themselves, whether nodes can be appended to its tree, and who reads
--- texts of procedures
+-- what the server can do: whether its engines seal their epochs by themselves, whether nodes can be appended to its tree, who reads
+-- texts of procedures, and what is done about keys
 pub record Ways : Type 1 where
   pub seals : Bool
   pub grows : Bool
   pub reads : TextReading
+  pub keys : Keying
 
 -- the answer to a request after which reading goes on, and what the session gained by it
 abbrev pub AnswersRequest : Ways → (ℕ → Type 0) → LineValue → List Did → List ℕ → Type 0
@@ -147,6 +175,7 @@ AnswersRequest ways may_seal (Registers name text) gained out =
     (gained ≡ []) × ((answer : Result Bounds RegisterFault) × RegisterOutcome (name, text) answer × (out ≡ line_text (register_text answer)))
 AnswersRequest ways may_seal (RegistersText text) gained out = (gained ≡ []) × IsTextAnswer ways.reads text out
 AnswersRequest ways may_seal (Calls name args) gained out = IsCallAnswer ways.seals (name, args) gained out
+AnswersRequest ways may_seal (CallsOnce name args key) gained out = IsOnceAnswer ways.keys ways.seals (name, args) gained out
 AnswersRequest ways may_seal (Batches calls workers) gained out = (requests : List Request) × (map request_form requests ≡ calls) × IsBatchAnswer ways.seals requests gained out
 AnswersRequest ways may_seal (Grows parents) gained out = (gained ≡ []) × IsGrowthAnswer ways.grows parents out
 AnswersRequest ways may_seal Seals gained out = (gained ≡ []) × ((answer : Result ℕ Refusal) × SealOutcome ways.seals may_seal answer × (out ≡ line_text (seal_text answer)))

@@ -5,7 +5,7 @@ ghost use Rattle.std.specs.Fmt.{signed_decimal};
 ghost use Rattle.tl_tree.specs.Writing.{list_text};
 ghost use Rattle.tl_server.specs.Sending.{sending, Writes};
 ghost use Rattle.tl_server.specs.Outcomes.{later, later_answer};
-ghost use Rattle.tl_server.specs.Answers.{comma_before, epoch_text, call_text, error_text, one_text, batch_text, closed_text, line_text};
+ghost use Rattle.tl_server.specs.Answers.{comma_before, epoch_text, head_text, stored_text, call_text, error_text, one_text, batch_text, closed_text, line_text};
 
 use crate::device::Sink;
 use crate::outbox::Outbox;
@@ -14,6 +14,7 @@ use itoa::{Buffer, Integer};
 use tl_budget::Bounds;
 use tl_generations::GrowthFault;
 use tl_json::RegisterFault;
+use tl_keys::Kept;
 use tl_table::Receipt;
 use tl_workers::Refusal;
 
@@ -90,6 +91,19 @@ impl Part for Result<Receipt, Refusal> {
             Ok(receipt) => put_call(outbox, sink, base, receipt),
             Err(refusal) => put_error(outbox, sink, refusal.numbers().as_slice()),
         }
+    }
+}
+
+/// `{"call":c,"reply":[..],"stored":e}`
+impl Part for Kept {
+    ghost use Rattle.tl_server.specs.Answers.{kept_text};
+
+    ghost text = { λ _ kept. kept_text kept };
+
+    fn put<K: Sink>(&self, outbox: &mut Outbox, sink: &mut K, base: u32) {
+        put_head(outbox, sink, self.call());
+        put_list(outbox, sink, base, self.reply());
+        put_stored(outbox, sink, self.epoch());
     }
 }
 
@@ -213,6 +227,24 @@ fn put_epoch<K: Sink>(outbox: &mut Outbox, sink: &mut K, epoch: u64)
     }
     outbox.put(sink, b",\"epoch\":");
     put_number(outbox, sink, epoch);
+}
+
+// `{"call":c,"reply":`
+fn put_head<K: Sink>(outbox: &mut Outbox, sink: &mut K, call: i64)
+    ensures { Writes (sending (K.output sink.old) (K.failures sink.old) outbox.old) (sending (K.output sink.new) (K.failures sink.new) outbox.new) (head_text call) }
+{
+    outbox.put(sink, b"{\"call\":");
+    put_number(outbox, sink, call);
+    outbox.put(sink, b",\"reply\":");
+}
+
+// `,"stored":e}`
+fn put_stored<K: Sink>(outbox: &mut Outbox, sink: &mut K, epoch: i64)
+    ensures { Writes (sending (K.output sink.old) (K.failures sink.old) outbox.old) (sending (K.output sink.new) (K.failures sink.new) outbox.new) (stored_text epoch) }
+{
+    outbox.put(sink, b",\"stored\":");
+    put_number(outbox, sink, epoch);
+    outbox.put(sink, b"}");
 }
 
 // `{"call":c,"reply":[..]}`, with the epoch in between from the second one on

@@ -51,6 +51,29 @@ impl From<AllocError> for LineFault {
     }
 }
 
+/// Why a call with a key isn't run.
+#[derive(Clone, Copy, Debug, PartialEq, Eq, Error)]
+pub enum KeyFault {
+    /// 1015: the server keeps no store, so it would forget the key at its end.
+    #[error("the server keeps no store, and so no keys")]
+    NoStore,
+}
+
+impl KeyFault {
+    ghost use Rattle.tl_server.specs.Faults.{key_numbers_of};
+
+    /// The fault's number.
+    pub fn numbers(&self) -> ArrayVec<u64, 3>
+        ensures { result.items ≡ key_numbers_of self.now }
+    {
+        let mut numbers = ArrayVec::new();
+        numbers.push(match self {
+            KeyFault::NoStore => 1015,
+        });
+        numbers
+    }
+}
+
 /// Why a server stops.
 #[derive(Clone, Copy, Debug, PartialEq, Eq, Error)]
 pub enum ServeFault {

@@ -6,12 +6,13 @@ ghost use Rattle.tl_server.specs.Sending.{sending, Writes};
 
 use crate::answer::{put_error_line, put_line};
 use crate::device::Sink;
-use crate::fault::LineFault;
+use crate::fault::{KeyFault, LineFault};
 use crate::outbox::Outbox;
 use crate::texts::{NamedBounds, TextFault};
 use tl_budget::Bounds;
 use tl_generations::GrowthFault;
 use tl_json::RegisterFault;
+use tl_keys::Kept;
 use tl_table::Receipt;
 use tl_workers::Refusal;
 
@@ -24,6 +25,10 @@ pub enum RequestOutcome {
     RegisteredAll(Result<Vec<NamedBounds>, TextFault>),
     /// Of a call.
     Called(Result<Receipt, Refusal>),
+    /// Of a call whose key another had before: what came of that one.
+    Recalled(Kept),
+    /// Of a call whose key isn't kept.
+    KeyRefused(KeyFault),
     /// Of many calls.
     Batched(Result<Vec<Result<Receipt, Refusal>>, Refusal>),
     /// Of a growth: the number of the first new node.
@@ -52,6 +57,10 @@ pub(crate) fn put_outcome<K: Sink>(outbox: &mut Outbox, sink: &mut K, done: &Don
         RequestOutcome::Registered(answer) => put_line(outbox, sink, base, answer),
         RequestOutcome::RegisteredAll(answer) => put_line(outbox, sink, base, answer),
         RequestOutcome::Called(answer) => put_line(outbox, sink, base, answer),
+        RequestOutcome::Recalled(kept) => put_line(outbox, sink, base, kept),
+        RequestOutcome::KeyRefused(fault) => {
+            put_error_line(outbox, sink, fault.numbers().as_slice())
+        }
         RequestOutcome::Batched(answers) => put_line(outbox, sink, base, answers),
         RequestOutcome::Grown(answer) => put_line(outbox, sink, base, answer),
         RequestOutcome::Unknown => {

@@ -7,10 +7,11 @@ ghost use Rattle.tl_server.specs.Requests.{line_view};
 ghost use Rattle.tl_generations.specs.Growth.{IsGrowthFault};
 ghost use Rattle.tl_generations.specs.declared.growth.GrowthFault.TheVariants as growth;
 ghost use Rattle.tl_server.specs.Outcomes.{IsAsked, CameOf};
-ghost use Rattle.tl_server.specs.Served.{GrowthOutcome, ReadBy};
+ghost use Rattle.tl_server.specs.Served.{GrowthOutcome, ReadBy, keying};
 
 use crate::copying::CopyRefusal;
 use crate::journal::{Journal, Unstored};
+use crate::once::call_once;
 use crate::outcome::{Done, RequestOutcome};
 use crate::request::LineRequest;
 use crate::seats::Seats;
@@ -92,21 +93,23 @@ impl Place {
     }
 }
 
-// Does what a request asks for, in a session of the engine, for which K reads texts.
-fn act_or_read<K: Texts, R: Threads + Wait + Sync>(
+// Does what a request asks for, in a session of the engine, for which K reads texts and the journal keeps keys.
+fn act_or_read<K: Texts, J: Journal, R: Threads + Wait + Sync>(
     rt: &R,
     alloc: Global,
     engine: &Engine,
+    journal: &J,
     session: &mut Session,
     request: &LineRequest,
 ) -> RequestOutcome
     requires { IsAsked (line_view request.now) }
-    ensures { (own : List Did) × CameOf (record { seals = engine.now.seals; grows = false; reads = ReadBy (record { has = K.has; lacks = K.lacks }) }) (line_view request.now) own result }
+    ensures { (own : List Did) × CameOf (record { seals = engine.now.seals; grows = false; reads = ReadBy (record { has = K.has; lacks = K.lacks }); keys = keying (J.is_storing journal.now) }) (line_view request.now) own result }
 {
     match request {
         LineRequest::RegisterText(text) => {
             RequestOutcome::RegisteredAll(register_text::<K>(rt, alloc, engine, text))
         }
+        LineRequest::CallOnce(call) => call_once(rt, alloc, engine, journal, session, call),
         request => act(rt, alloc, engine, session, request),
     }
 }
@@ -151,17 +154,18 @@ impl Stage {
     }
 
     // Does what a request asks for, if an engine has room for it.
-    fn perform<K: Texts, R: Threads + Wait + Sync>(
+    fn perform<K: Texts, J: Journal, R: Threads + Wait + Sync>(
         &self,
         rt: &R,
         alloc: Global,
         seats: &Mutex<Seats>,
+        journal: &J,
         epochs: u32,
         place: &mut Place,
         request: &LineRequest,
     ) -> Result<Done, Pause>
         requires { IsAsked (line_view request.now) }
-        ensures came { IfOk result (λ d. (own : List Did) × CameOf (record { seals = true; grows = false; reads = ReadBy (record { has = K.has; lacks = K.lacks }) }) (line_view request.now) own d.outcome) }
+        ensures came { IfOk result (λ d. (own : List Did) × CameOf (record { seals = true; grows = false; reads = ReadBy (record { has = K.has; lacks = K.lacks }); keys = keying (J.is_storing journal.now) }) (line_view request.now) own d.outcome) }
         ensures later { IfOk result (λ d. (place.old ≤ d.base) × (place.new ≡ d.base)) }
         ensures same { OnErr result (place.new ≡ place.old) }
     {
@@ -177,7 +181,7 @@ impl Stage {
         }
         let (seat, session) = self.session(rt, alloc, seats, engine, place)?;
         let mut session = session;
-        let outcome = act_or_read::<K, R>(rt, alloc, engine, &mut session, request);
+        let outcome = act_or_read::<K, J, R>(rt, alloc, engine, journal, &mut session, request);
         seats.lock(rt).put(seat, session);
         *place = Place {
             base: self.base,
@@ -399,12 +403,13 @@ impl<K: Keeper + Texts, J: Journal> Relay<K, J> {
         request: &LineRequest,
     ) -> Result<Done, Pause>
         requires { IsAsked (line_view request.now) }
-        ensures came { IfOk result (λ d. (own : List Did) × CameOf (record { seals = true; grows = false; reads = ReadBy (record { has = K.has; lacks = K.lacks }) }) (line_view request.now) own d.outcome) }
+        ensures came { IfOk result (λ d. (own : List Did) × CameOf (record { seals = true; grows = false; reads = ReadBy (record { has = K.has; lacks = K.lacks }); keys = keying (J.is_storing self.now.journal) }) (line_view request.now) own d.outcome) }
         ensures later { IfOk result (λ d. (place.old ≤ d.base) × (place.new ≡ d.base)) }
         ensures same { OnErr result (place.new ≡ place.old) }
     {
         let stage = self.stage.read(rt);
-        stage.perform::<K, R>(rt, alloc, &self.seats, self.epochs, place, request)
+        let (seats, journal) = (&self.seats, &self.journal);
+        stage.perform::<K, J, R>(rt, alloc, seats, journal, self.epochs, place, request)
     }
 
     // Lets the next engine take over as soon as no line is at work: from the one with so many epochs before it, if it is still there,
@@ -442,7 +447,7 @@ impl<K: Keeper + Texts, J: Journal> Relay<K, J> {
         request: &LineRequest,
     ) -> Option<Done>
         requires { IsAsked (line_view request.now) }
-        ensures came { IfSome result (λ d. (own : List Did) × CameOf (record { seals = true; grows = false; reads = ReadBy (record { has = K.has; lacks = K.lacks }) }) (line_view request.now) own d.outcome) }
+        ensures came { IfSome result (λ d. (own : List Did) × CameOf (record { seals = true; grows = false; reads = ReadBy (record { has = K.has; lacks = K.lacks }); keys = keying (J.is_storing self.now.journal) }) (line_view request.now) own d.outcome) }
         ensures later { IfSome result (λ d. (place.old ≤ d.base) × (place.new ≡ d.base)) }
         ensures same { result ≡ None → place.new ≡ place.old }
     {
@@ -515,13 +520,13 @@ impl<K: Keeper + Texts, J: Journal> Service for Relay<K, J> {
     type Visitor = Place;
 
     ghost use Rattle.std.specs.Prelude.{◌≤◌, true};
-    ghost use Rattle.tl_server.specs.Served.{ReadBy};
+    ghost use Rattle.tl_server.specs.Served.{ReadBy, keying};
     ghost use Rattle.tl_server.specs.Outcomes.{GoesOnFrom};
     ghost use Rattle.tl_server.specs.Gaining.{goes_on_nothing, goes_on_both, seals_from};
 
     ghost gains = { GoesOnFrom };
 
-    ghost ways = { λ r. record { seals = true; grows = r.grows; reads = ReadBy (record { has = K.has; lacks = K.lacks }) } };
+    ghost ways = { λ r. record { seals = true; grows = r.grows; reads = ReadBy (record { has = K.has; lacks = K.lacks }); keys = keying (J.is_storing r.journal) } };
 
     ghost may_seal = { λ base n. base ≤ n };
 

@@ -3,8 +3,9 @@
 ghost use Rattle.std.specs.Prelude.{◌≡◌, ◌≢◌, ◌≤◌, option_map, option_and_then, IfOk, IfErr, IfSome};
 ghost use Rattle.tl_workers.specs.declared.batch.TheConstants.{MAX_REQUESTS, MAX_WORKERS};
 ghost use Rattle.serde_json.specs.View.{view};
+ghost use Rattle.tl_json.specs.Requests.{request_form};
 ghost use Rattle.tl_tree.specs.Reading.{integer_of, integers_of};
-ghost use Rattle.tl_server.specs.Requests.{line_view, text_at, has_members, register_text_of, register_of, call_of, workers_of, batch_of, grow_of, request_with, line_request_of, IsRequest, IsLineFault};
+ghost use Rattle.tl_server.specs.Requests.{line_view, text_at, has_members, register_text_of, register_of, request_at, key_of, call_once_of, call_of, workers_of, batch_of, grow_of, request_with, line_request_of, IsRequest, IsLineFault};
 
 use crate::batch::BatchRequest;
 use crate::fault::LineFault;
@@ -18,6 +19,16 @@ use tl_workers::{MAX_REQUESTS, MAX_WORKERS};
 /// How many bytes a line has at most, without its LF.
 pub const MAX_LINE: usize = 65_536;
 
+/// How many bytes a key has at most.
+pub const MAX_KEY: usize = 64;
+
+/// A call, and its client's key for it.
+#[derive(Debug, Drop)]
+pub struct KeyedCall {
+    pub request: Request,
+    pub key: String,
+}
+
 /// What a line asks for.
 #[derive(Debug, Drop)]
 pub enum LineRequest {
@@ -27,6 +38,8 @@ pub enum LineRequest {
     RegisterText(String),
     /// To run a call.
     Call(Request),
+    /// To run a call unless one had its key, and to say what came of the one that had it.
+    CallOnce(KeyedCall),
     /// To run many calls.
     Batch(BatchRequest),
     /// To append nodes of these parents to the tree, of which there is at least one.
@@ -86,13 +99,10 @@ fn register_of_value(alloc: Global, value: &Value) -> Result<Option<LineRequest>
     })))
 }
 
-// `{"args":args,"op":"call","proc":name}`
-fn call_of_value(alloc: Global, value: &Value) -> Result<Option<LineRequest>, AllocError>
-    ensures { IfOk result (λ found. option_map line_view found ≡ call_of (view value.now)) }
+// The name and the arguments of a call.
+fn request_at(alloc: Global, value: &Value) -> Result<Option<Request>, AllocError>
+    ensures { IfOk result (λ found. option_map request_form found ≡ request_at (view value.now)) }
 {
-    if !has_members(value, 3) {
-        return Ok(None);
-    }
     let Some(name) = text_at(value, "proc") else {
         return Ok(None);
     };
@@ -103,7 +113,48 @@ fn call_of_value(alloc: Global, value: &Value) -> Result<Option<LineRequest>, Al
         return Ok(None);
     };
     let name = String::from_str(alloc, name)?;
-    Ok(Some(LineRequest::Call(Request { name, args })))
+    Ok(Some(Request { name, args }))
+}
+
+// A key of 1 to 64 bytes.
+fn key_at<'v>(value: &'v Value) -> Option<&'v str>
+    ensures { option_map (λ s. s.now) result ≡ key_of (view value.now) }
+{
+    let key = text_at(value, "key")?;
+    if key.is_empty() || key.len() > MAX_KEY {
+        return None;
+    }
+    Some(key)
+}
+
+// `{"args":args,"key":key,"op":"call","proc":name}`
+fn call_once_of_value(alloc: Global, value: &Value) -> Result<Option<LineRequest>, AllocError>
+    ensures { IfOk result (λ found. option_map line_view found ≡ call_once_of (view value.now)) }
+{
+    if !has_members(value, 4) {
+        return Ok(None);
+    }
+    let Some(key) = key_at(value) else {
+        return Ok(None);
+    };
+    let Some(request) = request_at(alloc, value)? else {
+        return Ok(None);
+    };
+    let key = String::from_str(alloc, key)?;
+    Ok(Some(LineRequest::CallOnce(KeyedCall { request, key })))
+}
+
+// `{"args":args,"op":"call","proc":name}`, or the form with a key
+fn call_of_value(alloc: Global, value: &Value) -> Result<Option<LineRequest>, AllocError>
+    ensures { IfOk result (λ found. option_map line_view found ≡ call_of (view value.now)) }
+{
+    if !has_members(value, 3) {
+        return call_once_of_value(alloc, value);
+    }
+    match request_at(alloc, value)? {
+        Some(request) => Ok(Some(LineRequest::Call(request))),
+        None => Ok(None),
+    }
 }
 
 // A number of workers, 1 to 16.
@@ -201,7 +252,7 @@ fn request_of_value(alloc: Global, value: &Value) -> Result<Option<LineRequest>,
 
 /// What a line, without its LF, asks for. It is a JSON object with the members shown and no others:
 /// `{"asm":text,"name":name,"op":"register"}`, `{"op":"register","text":text}`, `{"args":args,"op":"call","proc":name}`,
-/// `{"calls":[[name,args],..],"op":"batch","workers":w}` with 1 to 256 calls and 1 to 16 workers,
+/// `{"args":args,"key":key,"op":"call","proc":name}` with a key of 1 to 64 bytes, `{"calls":[[name,args],..],"op":"batch","workers":w}` with 1 to 256 calls and 1 to 16 workers,
 /// `{"op":"grow","parents":parents}` with one parent at least, `{"op":"seal"}`, or `{"op":"close"}`. The arguments and the parents are
 /// lists of signed 64-bit integers.
 ///

@@ -7,7 +7,7 @@ ghost use Rattle.tl_json.specs.Procedures.{procedure_form};
 ghost use Rattle.tl_workers.specs.Kept.{Gains};
 ghost use Rattle.tl_server.specs.Requests.{line_view};
 ghost use Rattle.tl_server.specs.Outcomes.{IsAsked, CameOf, later_did};
-ghost use Rattle.tl_server.specs.Served.{Ways, RegisterOutcome, IsSealable, NoTexts};
+ghost use Rattle.tl_server.specs.Served.{Ways, RegisterOutcome, IsSealable, NoTexts, KnowsNoKeys};
 
 use crate::outcome::{Done, RequestOutcome};
 use crate::request::LineRequest;
@@ -26,8 +26,8 @@ pub trait Service {
     // What the visitor asked for and got between two moments.
     ghost gains: { Self.Visitor → Self.Visitor → List Did → Type 0 };
 
-    // What it can do: whether its engines seal their epochs by themselves, whether nodes can be appended to its tree, and who reads texts
-    // of procedures.
+    // What it can do: whether its engines seal their epochs by themselves, whether nodes can be appended to its tree, who reads texts
+    // of procedures, and what is done about keys.
     ghost ways: { Self → Ways };
 
     // Which epochs may be sealed from this moment on, by their numbers.
@@ -70,7 +70,8 @@ fn register(
     Ok(bounds)
 }
 
-/// Does what a request asks for, in a session of the engine, which reads no texts. Nodes can't be appended to an engine's tree. Nothing is written.
+/// Does what a request asks for, in a session of the engine, which reads no texts and knows no keys. Nodes can't be appended to an engine's tree. Nothing is
+/// written.
 pub(crate) fn act<R: Threads + Wait + Sync>(
     rt: &R,
     alloc: Global,
@@ -79,7 +80,7 @@ pub(crate) fn act<R: Threads + Wait + Sync>(
     request: &LineRequest,
 ) -> RequestOutcome
     requires { IsAsked (line_view request.now) }
-    ensures { (own : List Did) × Gains session.old session.new own × CameOf (record { seals = engine.now.seals; grows = false; reads = NoTexts }) (line_view request.now) own result }
+    ensures { (own : List Did) × Gains session.old session.new own × CameOf (record { seals = engine.now.seals; grows = false; reads = NoTexts; keys = KnowsNoKeys }) (line_view request.now) own result }
 {
     match request {
         LineRequest::Register(written) => {
@@ -93,7 +94,9 @@ pub(crate) fn act<R: Threads + Wait + Sync>(
             let (requests, workers) = (&batch.requests, batch.workers);
             RequestOutcome::Batched(engine.batch(rt, alloc, session, requests, workers, &NoGate))
         }
-        LineRequest::RegisterText(_) | LineRequest::Grow(_) => RequestOutcome::Unknown,
+        LineRequest::RegisterText(_) | LineRequest::CallOnce(_) | LineRequest::Grow(_) => {
+            RequestOutcome::Unknown
+        }
         LineRequest::Seal => RequestOutcome::Sealed(engine.seal(rt, alloc)),
         LineRequest::Close => unreachable!(),
     }
@@ -105,12 +108,12 @@ impl Service for Engine {
 
     ghost use Rattle.std.specs.Prelude.{false};
     ghost use Rattle.tl_workers.specs.Kept.{Gains};
-    ghost use Rattle.tl_server.specs.Served.{IsSealable, NoTexts};
+    ghost use Rattle.tl_server.specs.Served.{IsSealable, NoTexts, KnowsNoKeys};
     ghost use Rattle.tl_server.specs.Gaining.{gains_nothing, gains_both};
 
     ghost gains = { Gains };
 
-    ghost ways = { λ e. record { seals = e.seals; grows = false; reads = NoTexts } };
+    ghost ways = { λ e. record { seals = e.seals; grows = false; reads = NoTexts; keys = KnowsNoKeys } };
 
     ghost may_seal = { λ _ n. IsSealable n };
 

@@ -62,6 +62,8 @@ fn receipts(outcome: &RequestOutcome) -> u64
             answers.iter().filter(|answer| answer.is_ok()).count() as u64
         }
         RequestOutcome::Batched(Err(_))
+        | RequestOutcome::Recalled(_)
+        | RequestOutcome::KeyRefused(_)
         | RequestOutcome::Registered(_)
         | RequestOutcome::RegisteredAll(_)
         | RequestOutcome::Sealed(_)
@@ -79,6 +81,8 @@ fn registered(outcome: &RequestOutcome) -> u64
         RequestOutcome::RegisteredAll(Ok(all)) => all.len() as u64,
         RequestOutcome::RegisteredAll(Err(_))
         | RequestOutcome::Called(_)
+        | RequestOutcome::Recalled(_)
+        | RequestOutcome::KeyRefused(_)
         | RequestOutcome::Batched(_)
         | RequestOutcome::Sealed(_)
         | RequestOutcome::Grown(_)

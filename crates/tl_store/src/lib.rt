@@ -16,6 +16,7 @@ mod turns;
 pub use calls::{call_row, requests_of};
 pub use closing::closing_news;
 pub use fault::StoreFault;
+pub use numbers::numbers_of_text;
 pub use procedures::{procedure_row, procedures_of};
 pub use recovering::{Recovered, rebuild, recover};
 pub use replies::reply_row;

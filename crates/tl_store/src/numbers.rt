@@ -19,7 +19,7 @@ pub(crate) fn text_of_numbers(alloc: Global, numbers: &[i64]) -> Result<String, 
 }
 
 /// The numbers of a text that is such a list.
-pub(crate) fn numbers_of_text(alloc: Global, text: &str) -> Result<Option<Vec<i64>>, AllocError>
+pub fn numbers_of_text(alloc: Global, text: &str) -> Result<Option<Vec<i64>>, AllocError>
     ensures { IfOk result (λ found. option_map (λ v. v.items) found ≡ numbers_in text.now) }
 {
     match parse_text(alloc, text)? {

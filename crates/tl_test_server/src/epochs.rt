@@ -18,7 +18,7 @@ const CALL: &[u8] = b"{\"args\":[6,3],\"op\":\"call\",\"proc\":\"quo\"}\n";
 const SEAL: &[u8] = b"{\"op\":\"seal\"}\n";
 
 /// Lines, and their answers.
-const ROWS: [(&[u8], &[u8]); 8] = [
+const ROWS: [(&[u8], &[u8]); 9] = [
     (QUO, b"{\"bounds\":{\"emits\":1,\"locks\":0,\"steps\":3}}\n"),
     (CALL, b"{\"call\":0,\"reply\":[2]}\n"),
     (SEAL, b"{\"sealed\":0}\n"),
@@ -29,6 +29,10 @@ const ROWS: [(&[u8], &[u8]); 8] = [
     ),
     (SEAL, b"{\"sealed\":1}\n"),
     (b"{\"epoch\":0,\"op\":\"seal\"}\n", b"{\"error\":[901]}\n"),
+    (
+        b"{\"args\":[6,3],\"key\":\"one\",\"op\":\"call\",\"proc\":\"quo\"}\n",
+        b"{\"error\":[901]}\n",
+    ),
     (b"{\"op\":\"close\"}\n", b"{\"closed\":true}\n"),
 ];
 
@@ -44,7 +48,7 @@ fn a_seal_is_a_line(rt: HostRuntime) -> Result<(), Fail> {
     let mut sink = Written::new(&rt, rt.alloc(), 1000, u32::MAX);
     let served = served(&rt, rt.alloc(), &mut source, &mut sink)?;
     assert_eq!(rt; sink.text.as_slice(), answers.as_slice());
-    assert_eq!(rt; served, Ok(8));
+    assert_eq!(rt; served, Ok(9));
     Ok(())
 }
 

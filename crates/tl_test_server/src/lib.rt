@@ -7,6 +7,8 @@ mod device;
 mod epochs;
 #[cfg(test)]
 mod failing;
+#[cfg(test)]
+mod keys;
 mod limits;
 #[cfg(test)]
 mod lines;

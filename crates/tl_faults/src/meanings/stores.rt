@@ -92,8 +92,14 @@ pub fn from_1001_to_1014(number: u16) -> Option<Meaning> {
     }
 }
 
-pub fn from_1090_to_1090(number: u16) -> Option<Meaning> {
+pub fn from_1015_to_1090(number: u16) -> Option<Meaning> {
     match number {
+        1015 => Some(Meaning {
+            parts: "",
+            name: "no keys",
+            when: "the call has a key, and the server keeps no store, so it would forget the key at its end",
+            advice: "start the server with `--store`, or ask without a key",
+        }),
         1090 => Some(Meaning {
             parts: "",
             name: "memory, store",

@@ -5,4 +5,4 @@ use Rattle.tl_news.proofs.reading.answers.Given as goal
 
 abbrev pub invariant-loop-event : goal.invariant-loop-event
 invariant-loop-event l =
-    l.found.items ++ filter_map (answer_at l.core.seen) (drop l.event-index l.events) ≡ filter_map (answer_at l.core.seen) l.events
+    l.found.items ++ filter_map (answer_at l.core.seen l.owners) (drop l.event-index l.events) ≡ filter_map (answer_at l.core.seen l.owners) l.events

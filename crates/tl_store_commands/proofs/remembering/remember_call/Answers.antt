@@ -1,0 +1,17 @@
+use Rattle.std.proofs.Common.{rules, ◌≡◌, Some, option_map, string_bytes}
+use Rattle.tl_keys.specs.Kept.{KeptValue}
+use Rattle.tl_store.specs.Rows.{numbers_in}
+use Rattle.tl_store_commands.proofs.RememberingLemmas.{one_more}
+use Rattle.tl_store_commands.proofs.remembering.remember_call.Goals as goal
+
+pub returns : goal.returns
+returns c = λ contents is_call is_reply all.
+    let call = c.args.call.now in
+    let reply = c.args.reply.now in
+    let key = string_bytes c.in_ok-clone.field-0 in
+    let values = c.in-Some-2.reply.items in
+    let has_key : option_map string_bytes call.key ≡ Some key = search rules in
+    let numbers : Some values ≡ numbers_in (string_bytes reply.reply) = search rules in
+    let kept : KeptValue = record { epoch = call.epoch; call = call.number; reply = values } in
+    let is : c.in_ok-kept.kept ≡ kept = search rules in
+    one_more contents c.args.index.now c.remember.new.self call reply key values c.in_ok-kept.kept c.requires has_key numbers is c.in_ok-remember.ensures is_call is_reply all

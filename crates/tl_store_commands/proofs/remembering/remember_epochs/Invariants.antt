@@ -1,0 +1,15 @@
+use Rattle.std.proofs.Common.{◌≤◌}
+use Rattle.sqlite_trees.specs.View.{IsClean, KeepsSchema, doubt}
+use Rattle.tl_ledger.specs.Contents.{Contents, Holds, OnlyReads}
+use Rattle.tl_ledger.specs.News.{IsMarked}
+use Rattle.tl_keys.specs.Keys.{AllUnder}
+use Rattle.tl_store_commands.specs.Remembering.{IsStoredUnder}
+use Rattle.tl_store_commands.proofs.remembering.remember_epochs.Given as goal
+
+-- all that is remembered of the epochs so far is in the store
+abbrev pub invariant-loop-epoch : goal.invariant-loop-epoch
+invariant-loop-epoch g l =
+    (IsClean (g.S.Store.view l.store) → (c : Contents) → Holds (g.S.Store.view l.fn.store).trees c → IsMarked c l.marks → AllUnder (IsStoredUnder c) l.index)
+    × (IsClean (g.S.Store.view l.store) → OnlyReads (g.S.Store.view l.fn.store) (g.S.Store.view l.store))
+    × KeepsSchema (g.S.Store.view l.fn.store) (g.S.Store.view l.store)
+    × (doubt (g.S.Store.view l.fn.store).is_clean ≤ doubt (g.S.Store.view l.store).is_clean)

@@ -1,0 +1,245 @@
+// What came of a store's calls that had a key.
+
+ghost use Rattle.std.specs.Prelude.{◌≡◌, ◌≤◌, List, All, Contains, None, Some, false, length, option_map, string_bytes, IsTrue, IfOk, IfSome, OnOk};
+ghost use Rattle.sqlite_trees.specs.View.{IsClean, KeepsSchema, doubt};
+ghost use Rattle.sqlite_value.specs.Order.{Row as Columns};
+ghost use Rattle.tl_ledger.specs.declared.schema.TheConstants.{CALL, REPLY};
+ghost use Rattle.tl_ledger.specs.Contents.{Contents, Holds, AreTables, OnlyReads};
+ghost use Rattle.tl_ledger.specs.News.{IsMarked, call_columns, reply_columns};
+ghost use Rattle.tl_ledger.specs.Rows.{rows_from};
+ghost use Rattle.tl_keys.specs.Keys.{recall, AllUnder};
+ghost use Rattle.tl_store_commands.specs.Remembering.{IsReplyTo, IsStoredUnder};
+
+use sqlite_trees::store::{Shape, Store};
+use std::alloc::Global;
+use tl_keys::{Kept, KeyIndex};
+use tl_ledger::{
+    CALL, CallRow, Ledger, Marks, REPLY, ReadEntry, ReplyRow, SEAL, SealRow, read_all, read_some,
+};
+use tl_store::{StoreFault, numbers_of_text};
+
+// Among how many of the last calls of a store those that had a key are looked for.
+const RECALLED: u64 = 1 << 20;
+
+// How many calls are open at once at most, so that a reply stands no more than so many places earlier than its call.
+const OPEN: usize = 64;
+
+// Whether it is the reply to that call.
+fn is_reply_to(call: &CallRow, reply: &ReplyRow) -> bool
+    ensures { IsTrue result → IsReplyTo call.now reply.now }
+{
+    reply.epoch == call.epoch && reply.call == call.number
+}
+
+// The reply to that call.
+fn reply_among<'r>(replies: &'r [ReplyRow], call: &CallRow) -> Option<&'r ReplyRow>
+    ensures { IfSome result (λ reply. IsReplyTo call.now reply.now × Contains replies.now reply.now) }
+{
+    for reply in replies {
+        if is_reply_to(call, reply) {
+            return Some(reply);
+        }
+    }
+    None
+}
+
+// The reply to that call, which probably stands behind that place.
+fn reply_to<'r>(replies: &'r [ReplyRow], place: usize, call: &CallRow) -> Option<&'r ReplyRow>
+    ensures { IfSome result (λ reply. IsReplyTo call.now reply.now × Contains replies.now reply.now) }
+{
+    match reply_among(&replies[place.min(replies.len())..], call) {
+        Some(reply) => Some(reply),
+        None => reply_among(replies, call),
+    }
+}
+
+// Remembers what came of a call, if it had a key.
+#[tactic(auto, using(crate::proofs::RememberingLemmas::one_more))]
+fn remember_call(
+    alloc: Global,
+    index: &mut KeyIndex,
+    call: &CallRow,
+    reply: &ReplyRow,
+) -> Result<(), StoreFault>
+    requires { IsReplyTo call.now reply.now }
+    ensures { OnOk result ((c : Contents) → Contains (c CALL) (call_columns call.now) → Contains (c REPLY) (reply_columns reply.now)
+        → AllUnder (IsStoredUnder c) index.old → AllUnder (IsStoredUnder c) index.new) }
+{
+    let Some(key) = &call.key else {
+        return Ok(());
+    };
+    let Some(reply) = numbers_of_text(alloc, &reply.reply)? else {
+        return Err(StoreFault::BadRow { table: REPLY });
+    };
+    let kept = Kept::new(alloc, call.epoch, call.number, reply.as_slice())?;
+    index.remember(alloc, key.clone()?, kept)?;
+    Ok(())
+}
+
+// Remembers what came of a call, if it had a key and one of these replies is its own, which probably stands behind that place.
+fn remember_one(
+    alloc: Global,
+    index: &mut KeyIndex,
+    call: &CallRow,
+    replies: &[ReplyRow],
+    place: usize,
+) -> Result<(), StoreFault>
+    ensures { OnOk result ((c : Contents) → Contains (c CALL) (call_columns call.now) → All (λ reply. Contains (c REPLY) (reply_columns reply)) replies.now
+        → AllUnder (IsStoredUnder c) index.old → AllUnder (IsStoredUnder c) index.new) }
+{
+    match reply_to(replies, place, call) {
+        Some(reply) => remember_call(alloc, index, call, reply),
+        None => Ok(()),
+    }
+}
+
+// Remembers what came of these calls, as far as they had a key and one of these replies is theirs.
+fn remember_calls(
+    alloc: Global,
+    index: &mut KeyIndex,
+    calls: &[CallRow],
+    replies: &[ReplyRow],
+) -> Result<(), StoreFault>
+    ensures { OnOk result ((c : Contents) → All (λ call. Contains (c CALL) (call_columns call)) calls.now → All (λ reply. Contains (c REPLY) (reply_columns reply)) replies.now
+        → AllUnder (IsStoredUnder c) index.old → AllUnder (IsStoredUnder c) index.new) }
+{
+    for number in 0..calls.len() {
+        let place = number.saturating_sub(OPEN);
+        remember_one(alloc, index, &calls[number], replies, place)?;
+    }
+    Ok(())
+}
+
+// Reads so many rows of a table that has at least as many.
+fn read_part<S: Store, T: ReadEntry + Drop>(
+    alloc: Global,
+    store: &mut S,
+    table: u32,
+    first: u64,
+    last: u64,
+) -> Result<Vec<T>, StoreFault>
+    requires table { IsClean (S.Store.view store.old) → (S.Store.view store.old).shape table ≡ Shape.Table }
+    requires order { first ≤ last }
+    ensures rows { IfOk result (λ items. IsClean (S.Store.view store.new) → (columns : List Columns) → (S.Store.view store.old).trees table ≡ rows_from 0 columns
+        → last ≤ length columns → All (λ item. Contains columns (T.Entry.columns item)) items.items) }
+    ensures reads { OnOk result (IsClean (S.Store.view store.new) → OnlyReads (S.Store.view store.old) (S.Store.view store.new)) }
+    ensures schema { KeepsSchema (S.Store.view store.old) (S.Store.view store.new) }
+    ensures clean { doubt (S.Store.view store.old).is_clean ≤ doubt (S.Store.view store.new).is_clean }
+{
+    Ok(read_some(alloc, store, table, first, last)?)
+}
+
+// How many rows of calls and of replies there were at some time.
+#[derive(Clone, Copy, Debug, PartialEq, Eq)]
+struct Counts {
+    calls: u64,
+    replies: u64,
+}
+
+// How many there were when this epoch began; none before the first seal. `None` if there is no such epoch, or if the seal before it has no such counts.
+fn counts_before(seals: &[SealRow], epoch: usize) -> Option<Counts> {
+    if epoch == 0 {
+        return Some(Counts {
+            calls: 0,
+            replies: 0,
+        });
+    }
+    let seal = seals.get(epoch - 1)?;
+    Some(Counts {
+        calls: u64::try_from(seal.calls).ok()?,
+        replies: u64::try_from(seal.replies).ok()?,
+    })
+}
+
+// The counts at both ends of an epoch. `None` if there are no such rows.
+fn counts_of(marks: &Marks, seals: &[SealRow], epoch: usize) -> Option<(Counts, Counts)>
+    ensures { IfSome result (λ r. (r.0.calls ≤ r.1.calls) × (r.0.replies ≤ r.1.replies) × (r.1.calls ≤ marks.now.calls) × (r.1.replies ≤ marks.now.replies)) }
+{
+    let first = counts_before(seals, epoch)?;
+    let last = counts_before(seals, epoch.saturating_add(1))?;
+    let is_right = first.calls <= last.calls
+        && first.replies <= last.replies
+        && last.calls <= marks.calls
+        && last.replies <= marks.replies;
+    if is_right { Some((first, last)) } else { None }
+}
+
+// Remembers what came of the calls of an epoch that had a key.
+fn remember_epoch<S: Store>(
+    alloc: Global,
+    store: &mut S,
+    marks: &Marks,
+    seals: &[SealRow],
+    epoch: usize,
+    index: &mut KeyIndex,
+) -> Result<(), StoreFault>
+    requires { IsClean (S.Store.view store.old) → AreTables (S.Store.view store.old) }
+    ensures keys { OnOk result (IsClean (S.Store.view store.new) → (c : Contents) → Holds (S.Store.view store.old).trees c → IsMarked c marks.now
+        → AllUnder (IsStoredUnder c) index.old → AllUnder (IsStoredUnder c) index.new) }
+    ensures reads { OnOk result (IsClean (S.Store.view store.new) → OnlyReads (S.Store.view store.old) (S.Store.view store.new)) }
+    ensures schema { KeepsSchema (S.Store.view store.old) (S.Store.view store.new) }
+    ensures clean { doubt (S.Store.view store.old).is_clean ≤ doubt (S.Store.view store.new).is_clean }
+{
+    let Some((first, last)) = counts_of(marks, seals, epoch) else {
+        return Err(StoreFault::BadRow { table: SEAL });
+    };
+    let calls: Vec<CallRow> = read_part(alloc, store, CALL, first.calls, last.calls)?;
+    if calls.iter().all(|call| call.key.is_none()) {
+        return Ok(());
+    }
+    let replies: Vec<ReplyRow> = read_part(alloc, store, REPLY, first.replies, last.replies)?;
+    remember_calls(alloc, index, calls.as_slice(), replies.as_slice())
+}
+
+// The first epoch of which no call is earlier than the last ones that are looked at.
+fn first_recalled(marks: &Marks, seals: &[SealRow]) -> usize {
+    let earliest = marks.calls.saturating_sub(RECALLED);
+    for epoch in 0..seals.len() {
+        if let Some(counts) = counts_before(seals, epoch) {
+            if counts.calls >= earliest {
+                return epoch;
+            }
+        }
+    }
+    seals.len()
+}
+
+// Remembers what came of the calls of sealed epochs that had a key, the earliest first.
+fn remember_epochs<S: Store>(
+    alloc: Global,
+    store: &mut S,
+    marks: &Marks,
+) -> Result<KeyIndex, StoreFault>
+    requires { IsClean (S.Store.view store.old) → AreTables (S.Store.view store.old) }
+    ensures keys { IfOk result (λ index. IsClean (S.Store.view store.new) → (c : Contents) → Holds (S.Store.view store.old).trees c → IsMarked c marks.now
+        → AllUnder (IsStoredUnder c) index) }
+    ensures reads { OnOk result (IsClean (S.Store.view store.new) → OnlyReads (S.Store.view store.old) (S.Store.view store.new)) }
+    ensures schema { KeepsSchema (S.Store.view store.old) (S.Store.view store.new) }
+    ensures clean { doubt (S.Store.view store.old).is_clean ≤ doubt (S.Store.view store.new).is_clean }
+{
+    let seals: Vec<SealRow> = read_all(alloc, store, SEAL)?;
+    let mut index = KeyIndex::new(alloc);
+    for epoch in first_recalled(marks, seals.as_slice())..seals.len() {
+        remember_epoch(alloc, store, marks, seals.as_slice(), epoch, &mut index)?;
+    }
+    Ok(index)
+}
+
+/// The same ledger, over a store all of whose epochs are sealed, and what came of the calls that had a key, as far as these are among the last
+/// 1,048,576 calls. 1003 and the table if a row has another form; 1011 to 1013 if the disk fails; 1090 if memory is refused.
+pub fn remember_keys<S: Store + Drop>(
+    alloc: Global,
+    ledger: Ledger<S>,
+) -> Result<(Ledger<S>, KeyIndex), StoreFault>
+    requires { ledger.is_shut ≡ false }
+    ensures keys { IfOk result (λ r. IsClean (S.Store.view r.0.store) → (c : Contents) → Holds (S.Store.view ledger.store).committed c → IsMarked c ledger.marks
+        → AllUnder (IsStoredUnder c) r.1) }
+    ensures ledger { IfOk result (λ r. (r.0.is_shut ≡ false) × (r.0.marks ≡ ledger.marks)) }
+    ensures same { IfOk result (λ r. IsClean (S.Store.view r.0.store) → (S.Store.view r.0.store).committed ≡ (S.Store.view ledger.store).committed) }
+    ensures clean { IfOk result (λ r. doubt (S.Store.view ledger.store).is_clean ≤ doubt (S.Store.view r.0.store).is_clean) }
+{
+    let marks = ledger.marks;
+    let mut store = ledger.store;
+    let index = remember_epochs(alloc, &mut store, &marks)?;
+    Ok((Ledger::new(alloc, store, marks), index))
+}
