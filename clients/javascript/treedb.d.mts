@@ -15,6 +15,13 @@ export interface Answer {
   readonly epoch: number;
 }
 
+/** What came of the call that had the key before. `stored` is the number of its epoch in the server's store, which counts them through all starts. */
+export interface Recalled {
+  readonly call: number;
+  readonly reply: bigint[];
+  readonly stored: number;
+}
+
 /** A call of a batch: its procedure, and its arguments. */
 export type Call = readonly [procedure: string, ...args: Integer[]];
 
@@ -77,6 +84,8 @@ export class Client {
   registerFile(path: string | URL, name?: string): Promise<Record<string, Bounds>>;
   /** Runs a call to its end. */
   call(procedure: string, ...args: Integer[]): Promise<Answer>;
+  /** Runs a call once, however often it is asked for with this key, a text of 1 to 64 bytes. */
+  callOnce(key: string, procedure: string, ...args: Integer[]): Promise<Answer | Recalled>;
   /** Runs 1 to 256 calls, on 1 to 16 threads at once. */
   batch(calls: Iterable<Call>, workers?: number): Promise<Batch>;
   /** The record of a node, eight BigInts. */

@@ -87,11 +87,20 @@ const READER_TEXT = ["version 2", "arity 1", "first n0 v0 else L18", ...[..."012
 const NAME_TAKEN = 611;
 // How many calls a batch has at most.
 const MAX_BATCH = 256;
+// How many bytes of UTF-8 a key has at most.
+const MAX_KEY = 64;
 
 // Requests are written by hand, since JSON.stringify takes no BigInt. A text stays a text, and only an exact integer of 64 bits is a number.
 function text(value) {
   if (typeof value !== "string") throw new TypeError(`${String(value)} is no text`);
   return JSON.stringify(value);
+}
+
+function keyText(key) {
+  const written = text(key);
+  const { length } = new TextEncoder().encode(key);
+  if (length === 0 || length > MAX_KEY) throw new RangeError(`${written} isn't of 1 to ${MAX_KEY} bytes`);
+  return written;
 }
 
 function integer(value) {
@@ -111,7 +120,8 @@ function answerOf(line) {
 
 const utf8 = new TextDecoder("utf-8", { fatal: true });
 
-const callOf = ({ call, reply, epoch = 0 }) => ({ call, reply: reply.map(BigInt), epoch });
+// A call whose key another had before says the number of its epoch in the store, and no other.
+const callOf = ({ call, reply, stored, epoch = 0 }) => (stored === undefined ? { call, reply: reply.map(BigInt), epoch } : { call, reply: reply.map(BigInt), stored });
 
 export class Client {
   #socket;
@@ -187,6 +197,15 @@ export class Client {
   /** Runs a call to its end. Answers `{ call, reply, epoch }`. */
   async call(procedure, ...args) {
     return callOf(await this.#ask(`{"op":"call","proc":${text(procedure)},"args":${integers(args)}}`));
+  }
+
+  /**
+   * Runs a call once, however often it is asked for with this key, a text of 1 to 64 bytes that no other call has: also after a `Disconnected` or a `TimedOut`, on a
+   * new connection, and after the server's next start. Answers `{ call, reply, epoch }`, or, where that was done before, `{ call, reply, stored }` with the number of
+   * the epoch in the server's store. A server without a store refuses it with 1015.
+   */
+  async callOnce(key, procedure, ...args) {
+    return callOf(await this.#ask(`{"op":"call","proc":${text(procedure)},"args":${integers(args)},"key":${keyText(key)}}`));
   }
 
   /** Runs 1 to 256 calls, given as [procedure, argument, ..], on 1 to 16 threads at once. Answers a `Batch`; a refused call is a `Refused` in it. */

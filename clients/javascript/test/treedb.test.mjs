@@ -48,6 +48,18 @@ test("numbers are exact in both directions", async () => {
   assert.equal(lines[0], '{"op":"call","proc":"add","args":[9007199254740993,-1,0]}');
 });
 
+test("a call with a key", async () => {
+  const [, lines] = await serving(inTurn({ call: 4, epoch: 5, reply: [6] }, { call: 4, reply: [6], stored: 7 }), async (to) => {
+    const db = await Client.connect(to);
+    assert.deepEqual(await db.callOnce("é", "add", 6), { call: 4, reply: [6n], epoch: 5 });
+    assert.deepEqual(await db.callOnce("é", "add", 6), { call: 4, reply: [6n], stored: 7 });
+    for (const key of ["", "x".repeat(65), "é".repeat(33)]) await assert.rejects(db.callOnce(key, "add", 6), RangeError);
+    for (const key of [1, undefined, null]) await assert.rejects(db.callOnce(key, "add", 6), TypeError);
+    await db.close();
+  });
+  assert.deepEqual(lines.slice(0, -1), Array(2).fill('{"op":"call","proc":"add","args":[6],"key":"é"}'));
+});
+
 test("a text stays a text", async () => {
   const names = ["\u00005", "5", '"', "\\", "é\n", "12345678901234567890"];
   const [, lines] = await serving(() => ({ bounds: {} }), async (to) => {

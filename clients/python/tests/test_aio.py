@@ -6,7 +6,7 @@ import tempfile
 import threading
 import unittest
 
-from treedb import Answer, AsyncClient, Bounds, Disconnected, MissingNode, Names, Refused, TimedOut
+from treedb import Answer, AsyncClient, Bounds, Disconnected, MissingNode, Names, Recalled, Refused, TimedOut
 
 from .fake import END, answers, echo, serving
 
@@ -17,6 +17,12 @@ class Async(unittest.IsolatedAsyncioTestCase):
             async with await AsyncClient.connect("127.0.0.1", server.port) as db:
                 self.assertEqual(await db.call("add", 1, 2), Answer(0, [1, 2]))
                 self.assertEqual((await db.batch([("add", 3), ("add", 4)])).replies(), [[3], [4]])
+
+    async def test_a_key(self):
+        with serving(answers({"call": 0, "reply": [1], "stored": 3})) as server:
+            async with await AsyncClient.connect(port=server.port) as db:
+                self.assertIsInstance(await db.call("add", 1, key="once"), Recalled)
+        self.assertEqual(server.heard[0], {"op": "call", "proc": "add", "args": [1], "key": "once"})
 
     async def test_requests_go_out_before_answers_come(self):
         """The server answers nothing until it has heard a hundred requests."""

@@ -9,7 +9,7 @@ from unittest import mock
 
 import treedb
 import treedb.client
-from treedb import Answer, Batch, Bounds, Client, Disconnected, Error, Exhausted, MissingNode, Names, Refused, TimedOut
+from treedb import Answer, Batch, Bounds, Client, Disconnected, Error, Exhausted, MissingNode, Names, Recalled, Refused, TimedOut
 
 from .fake import END, answers, echo, serving
 
@@ -62,6 +62,19 @@ class Requests(unittest.TestCase):
             self.assertEqual(db.seal(), 7)
         self.assertEqual(server.heard, [{"op": "register", "name": "é", "asm": "arity 0\nret\n"},
                                         {"op": "call", "proc": "add", "args": [2**63 - 1, -(2**63)]}, {"op": "seal"}, {"op": "close"}])
+
+    def test_a_key(self):
+        with serving(answers({"call": 4, "epoch": 5, "reply": [6]}, {"call": 4, "reply": [6], "stored": 7}, {"error": [1015]})) as server, Client(port=server.port) as db:
+            first, again = db.call("add", 6, key="é"), db.call("add", 6, key="é")
+            self.assertEqual((first, again), (Answer(4, [6], 5), Answer(4, [6], 7)))
+            self.assertEqual((type(first), type(again)), (Answer, Recalled))
+            with self.assertRaisesRegex(Refused, "store"):
+                db.call("add", 6, key="x" * 64)
+            for key, kind in (("", ValueError), ("x" * 65, ValueError), ("é" * 33, ValueError), (b"x", TypeError), (1, TypeError)):
+                with self.assertRaises(kind):
+                    db.call("add", 6, key=key)
+        self.assertEqual(server.heard[:2], [{"op": "call", "proc": "add", "args": [6], "key": "é"}] * 2)
+        self.assertEqual(len(server.heard), 4)
 
     def test_arguments_are_integers_of_64_bits(self):
         with serving(echo) as server, Client(port=server.port) as db:

@@ -13,6 +13,8 @@
 What a server refuses or breaks off is an `Error`. A refusal raises `Refused`, which has the numbers and says what they mean and what to do; within a batch it
 stands in the place of the answer. The connection stays open after a refusal. `Disconnected` is a `ConnectionError`, `TimedOut` a `TimeoutError`.
 
+After one of these nobody knows whether a call was done. `call(.., key=..)` can be asked again: a server with a store runs it once.
+
 A server without `--connections` seals its epochs by itself. One with it leaves that to its clients: `Client(.., seals=True)` seals where it has to be
 done, until `Exhausted` says that the server has no epoch left. `docs/use/server.md` has the lines that go to and fro, so that a client in another
 language can do the same; `docs/use/faults.md` has all numbers.
@@ -24,10 +26,10 @@ from .control import Status, snapshot, status, stop
 from .errors import Disconnected, Error, Exhausted, MissingNode, Refused, TimedOut
 from .faults import FAULTS
 from .names import Names
-from .protocol import Answer, Batch, Bounds
+from .protocol import Answer, Batch, Bounds, Recalled
 from .stores import write_names
 from .texts import script
 
-__all__ = ["FAULTS", "Answer", "AsyncClient", "Batch", "Bounds", "Client", "Disconnected", "Error", "Exhausted", "MissingNode", "Names", "Refused", "Status",
-           "TimedOut", "script", "snapshot", "status", "stop", "write_names"]
+__all__ = ["FAULTS", "Answer", "AsyncClient", "Batch", "Bounds", "Client", "Disconnected", "Error", "Exhausted", "MissingNode", "Names", "Recalled",
+           "Refused", "Status", "TimedOut", "script", "snapshot", "status", "stop", "write_names"]
 __version__ = "0.1.0"

@@ -72,9 +72,9 @@ class AsyncClient:
         """Registers the procedures of a file, as `Client.register_file` does."""
         return await self._register(await _in_thread(file_request, path, name))
 
-    async def call(self, procedure: str, *arguments: int) -> Answer:
-        """Runs a call to its end, and returns its `Answer`."""
-        return call_in(await self._ask(call_request(procedure, arguments)))
+    async def call(self, procedure: str, *arguments: int, key: str | None = None) -> Answer:
+        """Runs a call to its end, and returns its `Answer`. With a `key` it is run once, as by `Client.call`."""
+        return call_in(await self._ask(call_request(procedure, arguments, key)))
 
     async def batch(self, calls: Iterable[Call], workers: int = 1) -> Batch:
         """Runs 1 to 256 calls, given as (procedure, argument, ..), on 1 to 16 threads at once, as `Client.batch` does."""

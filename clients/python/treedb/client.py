@@ -63,9 +63,13 @@ class Client:
         """
         return self._register(file_request(path, name))
 
-    def call(self, procedure: str, *arguments: int) -> Answer:
-        """Runs a call to its end, and returns its `Answer`."""
-        request = call_request(procedure, arguments)
+    def call(self, procedure: str, *arguments: int, key: str | None = None) -> Answer:
+        """Runs a call to its end, and returns its `Answer`.
+
+        With a `key`, a text of 1 to 64 bytes that no other call has, it can be asked for again after a `Disconnected` or a `TimedOut`, on a new connection and after
+        the server's next start: the call is run once. Where that was done before, the answer is a `Recalled`. A server without a store refuses it with 1015.
+        """
+        request = call_request(procedure, arguments, key)
         began = time.monotonic()
         while True:
             try:

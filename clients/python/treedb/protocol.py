@@ -16,6 +16,8 @@ READER_TEXT = "version 2\narity 1\nfirst n0 v0 else L18\n" + "".join(f"get v1 n0
 NAME_TAKEN = 611
 # How many calls a batch has at most.
 MAX_BATCH = 256
+# How many bytes of UTF-8 a key has at most.
+MAX_KEY = 64
 # Refusals that name the place of a fault in a text: by its line, or by the position of its instruction.
 BY_LINE = {251, 252, 253}
 BY_POSITION = {301, 302, 303, 304, 401, 402, 403, 404, 405, 406, 407, 408, 409}
@@ -38,6 +40,12 @@ class Answer(NamedTuple):
     call: int
     reply: list[int]
     epoch: int = 0
+
+
+class Recalled(Answer):
+    """What came of the call that had the key before. `epoch` is the number of its epoch in the server's store, which counts them through all starts."""
+
+    __slots__ = ()
 
 
 # What became of a call of a batch.
@@ -91,8 +99,9 @@ def text_request(text: str) -> dict[str, Any]:
     return {"op": "register", "text": text}
 
 
-def call_request(procedure: str, arguments: Iterable[Any]) -> dict[str, Any]:
-    return {"op": "call", "proc": procedure, "args": arguments_of(arguments)}
+def call_request(procedure: str, arguments: Iterable[Any], key: str | None = None) -> dict[str, Any]:
+    request = {"op": "call", "proc": procedure, "args": arguments_of(arguments)}
+    return request if key is None else {**request, "key": _key_of(key)}
 
 
 def wanted(calls: Iterable[Call]) -> list[tuple[str, list[int]]]:
@@ -116,6 +125,8 @@ def registered_in(request: dict[str, Any], answer: dict[str, Any]) -> dict[str, 
 
 
 def call_in(answer: dict[str, Any]) -> Answer:
+    if "stored" in answer:
+        return Recalled(answer["call"], answer["reply"], answer["stored"])
     return Answer(answer["call"], answer["reply"], answer.get("epoch", 0))
 
 
@@ -149,6 +160,15 @@ def _line(text: str, numbers: list[int]) -> int | None:
     said = [line.partition(";")[0].split() for line in text.split("\n")]
     instructions = [number for number, words in enumerate(said, 1) if words and words[0] not in ("version", "arity") and not words[0].endswith(":")]
     return instructions[numbers[1]] if numbers[1] < len(instructions) else None
+
+
+def _key_of(key: str) -> str:
+    """A key as the server takes it. Anything else is a `TypeError` or a `ValueError`."""
+    if not isinstance(key, str):
+        raise TypeError(f"{key!r} is no text")
+    if not 0 < len(key.encode()) <= MAX_KEY:
+        raise ValueError(f"{key!r} isn't of 1 to {MAX_KEY} bytes")
+    return key
 
 
 def _bounds(told: dict[str, int]) -> Bounds:
