@@ -167,6 +167,21 @@ def test_a_client_that_seals_on_a_server_that_lasts(tests, server):
     tests.same("the tree", left(it.end())[0][0], 5 + 4_821)
 
 
+def test_keys(tests, server):
+    it = server("--store", "things.db", connections=None)
+    with treedb.Client(port=it.port, timeout=60) as db:
+        db.register("add", ADD)
+        first, again = db.call("add", 0, 1, key="one"), db.call("add", 0, 1, key="one")
+        tests.same("a call, and the same again", (first, again, type(first), type(again)), (treedb.Answer(0, [6]), treedb.Recalled(0, [6], 0), treedb.Answer, treedb.Recalled))
+    it.process.kill()
+    it.process.communicate()
+    it = server("--store", "things.db", connections=None, tree=None)
+    with treedb.Client(port=it.port, timeout=60) as db:
+        tests.same("after the next start", (db.call("add", 0, 1, key="one"), db.call("add", 0, 1, key="two")), (treedb.Recalled(0, [6], 0), treedb.Answer(0, [7])))
+    with treedb.Client(port=server(connections=None).port, timeout=60) as db, raises(treedb.Refused, r"\[1015\].*no store"):
+        db.call("add", 0, 1, key="one")
+
+
 def test_unix_sockets(tests, server):
     async def run(path):
         async with await treedb.AsyncClient.connect(path=path, timeout=60) as db:

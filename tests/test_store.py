@@ -332,7 +332,8 @@ def test_questions(tests):
     name = "asked.db"
     with made(tests, name) as server:
         peer = Peer(server.port)
-        for line in (ADD, call(0, 3), json.dumps({"op": "grow", "parents": [0, 1]}), call(1, 4), call(2, 5)):
+        keyed = json.dumps({**json.loads(call(1, 4)), "key": "order 17"})
+        for line in (ADD, call(0, 3), json.dumps({"op": "grow", "parents": [0, 1]}), keyed, call(2, 5)):
             peer.ask(line)
         peer.close()
         server.stop()
@@ -342,7 +343,7 @@ def test_questions(tests):
     named = subprocess.run([sys.executable, "-m", "treedb", "name", name, "names.json"], cwd=tests.folder, env=environment, capture_output=True, text=True, check=False)
     tests.check("names in a store", (named.returncode, named.stdout) == (0, "3 names\n"), named)
     views, *questions = re.search("```sql\n(.*?)```", (TOP / "docs/use/store.md").read_text(), re.DOTALL)[1].split("\n-- ")
-    wanted = [[], [("add", 3)], [(1, 0, 4)], [("north/aisle 1", 5)]]
+    wanted = [[], [("add", 3)], [(1, 0, 4)], [(1, 0, "[4]")], [("north/aisle 1", 5)]]
     with contextlib.closing(sqlite3.connect(tests.path(name))) as base:
         base.executescript(views)
         found = [base.execute(question.partition("\n")[2]).fetchall() for question in questions]
