@@ -61,3 +61,11 @@ impl SourceFault {
         )
     }
 }
+
+/// The first file of several that is refused: its number, counted from 0, and why.
+#[derive(Clone, Copy, Debug, PartialEq, Eq, Error)]
+#[error("{fault}")]
+pub struct RefusedFile {
+    pub number: usize,
+    pub fault: SourceFault,
+}

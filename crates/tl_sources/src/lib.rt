@@ -2,7 +2,9 @@
 #![tactic(auto)]
 
 mod fault;
+mod given;
 mod source;
 
-pub use fault::SourceFault;
+pub use fault::{RefusedFile, SourceFault};
+pub use given::{Given, all_given};
 pub use source::{Source, procedure_of, procedures_of};
